@@ -1,0 +1,4 @@
+mod AsciiLaws
+pub mod BlockLaws
+mod Digits
+mod SixbitLaws

@@ -1,1 +1,5 @@
+pub mod Ascii
+pub mod Blocks
+pub mod Dates
+pub mod Sixbit
 pub mod Words

@@ -1,12 +1,22 @@
 //! Words, names, dates and bytes of the machine.
 #![tactic(auto)]
 
+mod ascii;
+mod block;
+mod date;
 mod error;
 mod moment;
 mod names;
+mod sixbit;
+#[cfg(test)]
+mod tests;
 mod word;
 
+pub use ascii::{pack_ascii, unpack_ascii};
+pub use block::{BLOCK_BYTES, block_from_bytes, block_to_bytes};
+pub use date::{Day, date_of, day_of};
 pub use error::WordError;
 pub use moment::Moment;
 pub use names::{FileName, Ppn};
+pub use sixbit::{sixbit_of, text_of};
 pub use word::{BLOCK_WORDS, Block, Half, Word};

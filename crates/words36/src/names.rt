@@ -1,5 +1,5 @@
-ghost use Rattle.std.specs.Prelude.{◌≡◌, ◌<◌, ◌^◌, ◌↔◌, IsSome, IfSome};
-ghost use Rattle.words36.specs.Words.{left, right, join, IsPpn};
+ghost use Rattle.std.specs.Prelude.{◌≡◌, ◌<◌, ◌^◌, ◌↔◌, Some, IsSome, IfSome};
+ghost use Rattle.words36.specs.Words.{left, right, join, IsPpn, ppn_text};
 
 use crate::{Half, Word};
 use std::fmt;
@@ -73,6 +73,8 @@ impl Ppn {
 }
 
 impl fmt::Display for Ppn {
+    ghost output = { λ p. Some (ppn_text p) };
+
     fn fmt<W: fmt::Write>(&self, f: &mut fmt::Formatter<W>) -> fmt::Result {
         let project = self.project().bits();
         let programmer = self.programmer().bits();

@@ -40,6 +40,14 @@ impl Half {
         }
     }
 
+    /// The half word of a number that has at most 18 bits.
+    pub fn from_bits(bits: u32) -> Half
+        requires { bits < 2 ^ 18 }
+        ensures { result ≡ bits }
+    {
+        Half { bits }
+    }
+
     /// The number that the half word is.
     pub fn bits(self) -> u32
         ensures value { result ≡ self }
@@ -81,6 +89,14 @@ impl Word {
         } else {
             None
         }
+    }
+
+    /// The word of a number that has at most 36 bits.
+    pub fn from_bits(bits: u64) -> Word
+        requires { bits < 2 ^ 36 }
+        ensures { result ≡ bits }
+    {
+        Word { bits }
     }
 
     /// The number that the word is.

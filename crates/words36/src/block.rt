@@ -1,0 +1,56 @@
+ghost use Rattle.std.specs.Prelude.{◌≡◌, ◌+◌, ◌<◌, ◌≤◌, ◌^◌, ◌↔◌, ◌++◌, ℕ, List, Ok, IfOk, IfErr, IfSome, IsSome, IsErrOf, length, take, drop};
+ghost use Rattle.words36.specs.Blocks.{IsBlock, IsFirstBadWord, block_bytes, word_bytes, number_at};
+
+use crate::{BLOCK_WORDS, Block, Word, WordError};
+use byteorder::{BigEndian, ByteOrder};
+
+/// How many bytes of an image a block takes.
+pub const BLOCK_BYTES: usize = 8 * BLOCK_WORDS;
+
+/// The bytes of a block: eight to a word, the most significant first.
+pub fn block_to_bytes(block: &Block) -> [u8; BLOCK_BYTES]
+    ensures { result ≡ block_bytes block.now }
+{
+    let mut bytes = [0; BLOCK_BYTES];
+    for place in 0..BLOCK_WORDS {
+        put_word(&mut bytes, 8 * place, block[place]);
+    }
+    bytes
+}
+
+/// The block that has these bytes.
+///
+/// # Errors
+///
+/// `BadWord` with the place, counted from 0, of the first word whose top 28 bits aren't zero.
+pub fn block_from_bytes(bytes: &[u8; BLOCK_BYTES]) -> Result<Block, WordError>
+    ensures read { IfOk result (λ words. block_bytes words ≡ bytes.now) }
+    ensures of_block { (words : List ℕ) → IsBlock words → block_bytes words ≡ bytes.now → result ≡ Ok words }
+    ensures bad { (place : ℕ) → (IsErrOf result (WordError.BadWord place) ↔ IsFirstBadWord bytes.now place) }
+    ensures refused { IfErr result (λ error. (place : ℕ) × (error ≡ WordError.BadWord place)) }
+{
+    let mut block = [Word::ZERO; BLOCK_WORDS];
+    for place in 0..BLOCK_WORDS {
+        block[place] = word_at(bytes, place).ok_or(WordError::BadWord(place))?;
+    }
+    Ok(block)
+}
+
+/// Puts the eight bytes of a word at a place of an image's bytes.
+fn put_word(bytes: &mut [u8], at: usize, word: Word)
+    requires { at + 8 ≤ length bytes.old }
+    ensures { bytes.new ≡ take at bytes.old ++ (word_bytes word ++ drop (at + 8) bytes.old) }
+{
+    BigEndian::write_u64(&mut bytes[at..at + 8], word.bits());
+}
+
+/// The word at a place, counted from 0 in words.
+fn word_at(bytes: &[u8; BLOCK_BYTES], place: usize) -> Option<Word>
+    requires { place < 128 }
+    ensures value { IfSome result (λ word. word ≡ number_at bytes.now place) }
+    ensures fits { IsSome result ↔ (number_at bytes.now place < 2 ^ 36) }
+{
+    let mut group = [0; 8];
+    group.copy_from_slice(&bytes[8 * place..8 * place + 8]);
+    Word::new(u64::from_be_bytes(group))
+}
