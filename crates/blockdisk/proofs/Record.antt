@@ -1,0 +1,96 @@
+-- How the record of a disk in memory goes on: one more call leaves the moments before it as they were.
+use Rattle.std.proofs.Common.{◌≡◌, ◌⊎◌, inl, inr, ⊎_elim, ℕ, ◌+◌, ◌<◌, ◌≤◌, Bool, true, false, List, [], ◌∷◌, ◌++◌, length, get_or, slice_set, replicate, Option, Some, None, refl, sym, ◌∙◌, ap, subst, arith, length-append}
+use Rattle.std.proofs.lemmas.Bool.{cases_lt}
+use Rattle.std.proofs.lemmas.List.{take_all, take-append-le, get_or-set_same, get_or-set_other, get_or-replicate, get_or_past, length-replicate}
+use Rattle.std.proofs.Math.ListN.{length-set}
+use Rattle.blockdisk.specs.Disk.{Contents, MayLeave, Passes, Writes, Syncs}
+use Rattle.blockdisk.specs.Memory.{Memory, Moment, after_call, after_calls, moment_at, Leaves, moment_now, memory_state, IsReplayed, written, synced}
+use Rattle.blockdisk.specs.declared.memory.DiskCall.{DiskCall}
+use Rattle.blockdisk.specs.declared.memory.DiskCall.TheVariants.{Write, Sync}
+
+after_append : (m : Moment) (xs ys : List DiskCall) → after_calls m (xs ++ ys) ≡ after_calls (after_calls m xs) ys
+after_append m [] ys = refl
+after_append m (x ∷ xs) ys = after_append (after_call m x) xs ys
+
+one_longer : (calls : List DiskCall) (call : DiskCall) → length (calls ++ call ∷ []) ≡ length calls + 1
+one_longer calls call = omega (arith, length-append calls (call ∷ []))
+
+-- m with one more call in its record, which made these blocks of it
+abbrev further : Memory → DiskCall → List (Option (List ℕ)) → List Bool → Memory
+further m call blocks opened = record m { blocks = blocks; calls = m.calls ++ call ∷ []; opened = opened }
+
+abbrev at_first : Memory → Moment
+at_first m = record { blocks = m.first; opened = replicate (length m.first) false }
+
+module _ (m : Memory) (call : DiskCall) (blocks : List (Option (List ℕ))) (opened : List Bool) where
+  before : (k : ℕ) → k ≤ length m.calls → moment_at (further m call blocks opened) k ≡ moment_at m k
+  before k le = ap (λ (calls : List DiskCall). after_calls (at_first m) calls) (take-append-le k m.calls (call ∷ []) le)
+
+  after : moment_at (further m call blocks opened) (length (m.calls ++ call ∷ [])) ≡ after_call (moment_at m (length m.calls)) call
+  after =
+      ap (λ (calls : List DiskCall). after_calls (at_first m) calls) (take_all (length (m.calls ++ call ∷ [])) (m.calls ++ call ∷ []) (omega arith))
+      ∙ after_append (at_first m) m.calls (call ∷ [])
+      ∙ ap (λ (calls : List DiskCall). after_call (after_calls (at_first m) calls) call) (sym (take_all (length m.calls) m.calls (omega arith)))
+
+  -- while there is room, the last moment of the record is now
+  now_is : IsReplayed m → length m.calls < m.room → moment_at m (length m.calls) ≡ moment_now m
+  now_is is room = λ i. record { blocks = is.blocks i; opened = is.opened room i }
+
+  pub passes_further : IsReplayed m → length m.calls < m.room → Passes (memory_state m) (memory_state (further m call blocks opened)) (MayLeave (memory_state (further m call blocks opened)))
+  passes_further is room = record {
+    later = omega (arith, one_longer m.calls call);
+    nothing_else = λ t c le left. ⊎_elim (λ had. inl (past t c had.0 had.1 had.2 had.3 (cases_lt had.0 (length m.calls)))) (λ here. inr here) left;
+    new_since = λ t u c le le' left. ⊎_elim (λ had. inl (past t c had.0 had.1 had.2 had.3 (cases_lt had.0 (length m.calls)))) (λ here. inr (inr here)) left;
+    keeps = λ t c le left. ⊎_elim
+        (λ had. inl (had.0, had.1, omega (arith, one_longer m.calls call, had.2), subst (λ (n : Moment). Leaves n c) (sym (before had.0 (omega (arith, had.2)))) had.3))
+        (λ here. inl (length m.calls, le, omega (arith, one_longer m.calls call), subst (λ (n : Moment). Leaves n c) (sym (before (length m.calls) (omega arith) ∙ now_is is room)) here)) left;
+  }
+    where
+      past : (t : ℕ) (c : Contents) (k : ℕ) → t ≤ k → k < length (m.calls ++ call ∷ []) → Leaves (moment_at (further m call blocks opened) k) c → (k < length m.calls) ⊎ (length m.calls ≤ k) → (memory_state m).left_since t c
+      past t c k since below leaves (inl earlier) = inl (k, since, earlier, subst (λ (n : Moment). Leaves n c) (before k (omega arith)) leaves)
+      past t c k since below leaves (inr last) =
+          let here : k ≡ length m.calls = omega (arith, one_longer m.calls call) in
+          inr (subst (λ (n : Moment). Leaves n c) (before k (omega arith) ∙ ap (moment_at m) here ∙ now_is is room) leaves)
+
+pub writes_written : (m : Memory) (n : ℕ) (words : List ℕ) → n < length m.blocks → IsReplayed m → length m.calls < m.room → Writes n (memory_state m) (memory_state (written m n words))
+writes_written m n words inside is room = record {
+  contents = λ k other. get_or-set_other m.blocks n k (Some words) None other;
+  opened = get_or-set_same m.opened n true false (omega (arith, is.same_size));
+  is_open = λ k other. get_or-set_other m.opened n k true false other;
+  time = passes_further m (Write n words) (slice_set m.blocks n (Some words)) (slice_set m.opened n true) is room;
+}
+
+all_closed : (n k : ℕ) → (k < n) ⊎ (n ≤ k) → get_or (replicate n false) k false ≡ false
+all_closed n k (inl less) = get_or-replicate n k false false less
+all_closed n k (inr past) = get_or_past (replicate n false) k false (omega (arith, length-replicate n false))
+
+pub syncs_synced : (m : Memory) → IsReplayed m → length m.calls < m.room → Syncs (memory_state m) (memory_state (synced m))
+syncs_synced m is room = record {
+  contents = λ k. refl;
+  closed = λ k. all_closed (length m.opened) k (cases_lt k (length m.opened));
+  time = passes_further m Sync m.blocks (replicate (length m.opened) false) is room;
+}
+
+pub replayed_written : (m : Memory) (n : ℕ) (words : List ℕ) → IsReplayed m → length m.calls < m.room → IsReplayed (written m n words)
+replayed_written m n words is room =
+    let last = after m (Write n words) (slice_set m.blocks n (Some words)) (slice_set m.opened n true) in
+    let now = now_is m (Write n words) m.blocks m.opened is room in record {
+      same_size = length-set m.opened n true ∙ is.same_size ∙ sym (length-set m.blocks n (Some words));
+      first_size = is.first_size ∙ sym (length-set m.blocks n (Some words));
+      blocks = ap (λ (w : Moment). w.blocks) last ∙ ap (λ (w : Moment). (after_call w (Write n words)).blocks) now;
+      opened = λ more. ap (λ (w : Moment). w.opened) last ∙ ap (λ (w : Moment). (after_call w (Write n words)).opened) now;
+      fits = omega (arith, one_longer m.calls (Write n words));
+      few = omega (arith, is.few, length-set m.blocks n (Some words));
+    }
+
+pub replayed_synced : (m : Memory) → IsReplayed m → length m.calls < m.room → IsReplayed (synced m)
+replayed_synced m is room =
+    let last = after m Sync m.blocks (replicate (length m.opened) false) in
+    let now = now_is m Sync m.blocks m.opened is room in record {
+      same_size = length-replicate (length m.opened) false ∙ is.same_size;
+      first_size = is.first_size;
+      blocks = ap (λ (w : Moment). w.blocks) last ∙ ap (λ (w : Moment). (after_call w Sync).blocks) now;
+      opened = λ more. ap (λ (w : Moment). w.opened) last ∙ ap (λ (w : Moment). (after_call w Sync).opened) now;
+      fits = omega (arith, one_longer m.calls Sync);
+      few = is.few;
+    }

@@ -1,0 +1,210 @@
+-- How stretches of calls of a disk follow each other. The layers above cite these laws and look into
+-- no clock: a stretch begins by `touches_start` or `leaves_start`, goes on by one line a call, and ends
+-- in `touches_leaves` or `leaves_on`.
+use Rattle.std.specs.Prelude.{◌≡◌, ◌⊎◌, ◌≤◌, ℕ, false, if◌then◌else◌, ◌==◌, Result, Ok, Err, OnOk, OnErr}
+use Rattle.std.proofs.Common.{inl, inr, ⊎_elim, refl, sym, ◌∙◌, arith, subst}
+use Rattle.std.proofs.lemmas.Bool.{cases_eq}
+use Rattle.std.proofs.lemmas.Bool.Decides.{nat_tests}
+use Rattle.blockdisk.specs.Disk.{Contents, DiskState, MayLeave, NoneOpen, Passes, SameDisk, Keeps, Writes, Syncs, Near, Touches, Still, LeavesOnly, Between}
+
+-- contents that agree at each block are equal
+pub same_contents : (c d : Contents) → ((n : ℕ) → d n ≡ c n) → d ≡ c
+same_contents c d same = λ i n. same n i
+
+pub same_disk_start : (s : DiskState) → SameDisk s s
+same_disk_start s = record { size = refl; honest = λ h. h; was_honest = λ h. h }
+
+pub same_disk_on : (s s' s'' : DiskState) → SameDisk s s' → SameDisk s' s'' → SameDisk s s''
+same_disk_on s s' s'' first second = record {
+  size = second.size ∙ first.size;
+  honest = λ h. second.honest (first.honest h);
+  was_honest = λ h. first.was_honest (second.was_honest h);
+}
+
+-- Time
+
+pub passes_start : (s : DiskState) (P : Contents → Type 0) → Passes s s P
+passes_start s P = record { later = omega arith; nothing_else = λ t c le left. inl left; new_since = λ t u c le le' left. inl left; keeps = λ t c le left. left }
+
+pub passes_on : (s s' s'' : DiskState) (P Q : Contents → Type 0) → Passes s s' P → Passes s' s'' Q → ((c : Contents) → Q c → P c) → Passes s s'' P
+passes_on s s' s'' P Q first second weaker = record {
+  later = omega (arith, first.later, second.later);
+  nothing_else = λ t c le left. ⊎_elim (first.nothing_else t c le) (λ new. inr (weaker c new)) (second.nothing_else t c (omega (arith, le, first.later)) left);
+  new_since = λ t u c le le' left. ⊎_elim
+      (λ was. ⊎_elim (λ before. inl before) (λ new. inr (second.keeps u c (omega (arith, le', first.later)) new)) (first.new_since t u c le le' was))
+      (λ new. inr new) (second.new_since t u c (omega (arith, le, first.later)) (omega (arith, le', first.later)) left);
+  keeps = λ t c le left. second.keeps t c (omega (arith, le, first.later)) (first.keeps t c le left);
+}
+
+pub passes_weaker : (s s' : DiskState) (P Q : Contents → Type 0) → Passes s s' P → ((c : Contents) → P c → Q c) → Passes s s' Q
+passes_weaker s s' P Q passes weaker = record {
+  later = passes.later;
+  nothing_else = λ t c le left. ⊎_elim (λ was. inl was) (λ new. inr (weaker c new)) (passes.nothing_else t c le left);
+  new_since = passes.new_since;
+  keeps = passes.keeps;
+}
+
+-- Nothing written
+
+pub still_start : (s : DiskState) → Still s s
+still_start s = record { contents = λ n. refl; crash = λ c left. left; time = passes_start s (MayLeave s) }
+
+pub still_on : (s s' s'' : DiskState) → Still s s' → Still s' s'' → Still s s''
+still_on s s' s'' first second = record {
+  contents = λ n. second.contents n ∙ first.contents n;
+  crash = λ c left. first.crash c (second.crash c left);
+  time = passes_on s s' s'' (MayLeave s) (MayLeave s') first.time second.time first.crash;
+}
+
+-- a read, or a sync that failed
+pub keeps_still : (s s' : DiskState) → Keeps s s' → Still s s'
+keeps_still s s' keeps = record {
+  contents = keeps.contents;
+  crash = crash;
+  time = passes_weaker s s' (MayLeave s') (MayLeave s) keeps.time crash;
+}
+  where
+    crash : (c : Contents) → MayLeave s' c → MayLeave s c
+    crash c left n closed = left n (keeps.is_open n ∙ closed) ∙ keeps.contents n
+
+-- a sync that succeeded
+pub syncs_still : (s s' : DiskState) → Syncs s s' → Still s s'
+syncs_still s s' syncs = record {
+  contents = syncs.contents;
+  crash = crash;
+  time = passes_weaker s s' (MayLeave s') (MayLeave s) syncs.time crash;
+}
+  where
+    crash : (c : Contents) → MayLeave s' c → MayLeave s c
+    crash c left n closed = left n (syncs.closed n) ∙ syncs.contents n
+
+-- a sync, whatever it answered
+pub sync_still : {E : Type 0} (answer : Result (Unit {0}) E) (s s' : DiskState) → OnOk answer (Syncs s s') → OnErr answer (Keeps s s') → Still s s'
+sync_still (Ok done) s s' syncs keeps = syncs_still s s' syncs
+sync_still (Err fault) s s' syncs keeps = keeps_still s s' keeps
+
+pub keeps_none_open : (s s' : DiskState) → NoneOpen s → Keeps s s' → NoneOpen s'
+keeps_none_open s s' none keeps n = keeps.is_open n ∙ none n
+
+-- Only these blocks written
+
+pub near_self : (In : ℕ → Type 0) (s : DiskState) (c : Contents) → MayLeave s c → Near In s c
+near_self In s c left = (c, left, λ n out. refl)
+
+pub near_wider : (In Out : ℕ → Type 0) (s : DiskState) → ((n : ℕ) → In n → Out n) → (c : Contents) → Near In s c → Near Out s c
+near_wider In Out s wider c near = (near.0, near.1, λ n out. near.2 n (λ is. out (wider n is)))
+
+pub near_on : (In : ℕ → Type 0) (s s' : DiskState) → Touches In s s' → (c : Contents) → Near In s' c → Near In s c
+near_on In s s' t c near =
+    let from = t.crash near.0 near.1 in
+    (from.0, from.1, λ n out. near.2 n out ∙ from.2 n out)
+
+pub touches_start : (In : ℕ → Type 0) (s : DiskState) → Touches In s s
+touches_start In s = record { contents = λ n out. refl; crash = near_self In s; time = passes_start s (Near In s) }
+
+pub touches_on : (In : ℕ → Type 0) (s s' s'' : DiskState) → Touches In s s' → Touches In s' s'' → Touches In s s''
+touches_on In s s' s'' first second = record {
+  contents = λ n out. second.contents n out ∙ first.contents n out;
+  crash = λ c left. near_on In s s' first c (second.crash c left);
+  time = passes_on s s' s'' (Near In s) (Near In s') first.time second.time (near_on In s s' first);
+}
+
+pub touches_wider : (In Out : ℕ → Type 0) (s s' : DiskState) → ((n : ℕ) → In n → Out n) → Touches In s s' → Touches Out s s'
+touches_wider In Out s s' wider t = record {
+  contents = λ n out. t.contents n (λ is. out (wider n is));
+  crash = λ c left. near_wider In Out s wider c (t.crash c left);
+  time = passes_weaker s s' (Near In s) (Near Out s) t.time (near_wider In Out s wider);
+}
+
+pub still_touches : (In : ℕ → Type 0) (s s' : DiskState) → Still s s' → Touches In s s'
+still_touches In s s' still = record {
+  contents = λ n out. still.contents n;
+  crash = λ c left. near_self In s c (still.crash c left);
+  time = passes_weaker s s' (MayLeave s) (Near In s) still.time (near_self In s);
+}
+
+-- a write to one of these blocks, whatever it answered
+pub writes_touches : (In : ℕ → Type 0) (n : ℕ) (s s' : DiskState) → In n → Writes n s s' → Touches In s s'
+writes_touches In n s s' within writes = record {
+  contents = λ m out. writes.contents m (λ here. out (inside m here));
+  crash = near;
+  time = passes_weaker s s' (MayLeave s') (Near In s) writes.time near;
+}
+  where
+    inside : (m : ℕ) → m ≡ n → In m
+    inside m here = subst In (sym here) within
+
+    -- a crash after the write is one before it, but for block n
+    before : Contents → Contents
+    before c m = if m == n then s.contents m else c m
+
+    at_before : (c : Contents) → MayLeave s' c → (m : ℕ) → s.is_open m ≡ false → (m ≡ n) ⊎ (m ≡ n → ⊥) → before c m ≡ s.contents m
+    at_before c left m closed (inl here) = grind (arith, nat_tests)
+    at_before c left m closed (inr other) =
+        let kept : c m ≡ s.contents m = left m (writes.is_open m other ∙ closed) ∙ writes.contents m other in
+        grind (arith, nat_tests)
+
+    elsewhere : (c : Contents) (m : ℕ) → (m ≡ n → ⊥) → c m ≡ before c m
+    elsewhere c m other = grind (arith, nat_tests)
+
+    near : (c : Contents) → MayLeave s' c → Near In s c
+    near c left = (before c, λ m closed. at_before c left m closed (cases_eq m n), λ m out. elsewhere c m (λ here. out (inside m here)))
+
+-- one more call of a stretch: a write to one of its blocks
+pub touches_write : (In : ℕ → Type 0) (n : ℕ) (s s' s'' : DiskState) → In n → Touches In s s' → Writes n s' s'' → Touches In s s''
+touches_write In n s s' s'' within first writes = touches_on In s s' s'' first (writes_touches In n s' s'' within writes)
+
+-- a read, or a sync
+pub touches_still : (In : ℕ → Type 0) (s s' s'' : DiskState) → Touches In s s' → Still s' s'' → Touches In s s''
+touches_still In s s' s'' first still = touches_on In s s' s'' first (still_touches In s' s'' still)
+
+-- Each moment
+
+pub leaves_start : (s : DiskState) (P : Contents → Type 0) → ((c : Contents) → s.left_since s.clock c → MayLeave s c) → ((c : Contents) → MayLeave s c → P c) → LeavesOnly s s P
+leaves_start s P only_now here = record { now = here; since = λ c left. here c (only_now c left); time = passes_start s P }
+
+-- what a stretch leaves that wrote only these blocks
+pub touches_leaves : (In : ℕ → Type 0) (s s' : DiskState) (P : Contents → Type 0) → ((c : Contents) → s.left_since s.clock c → MayLeave s c) → Touches In s s'
+    → ((c : Contents) → Near In s c → P c) → LeavesOnly s s' P
+touches_leaves In s s' P only_now t near = record {
+  now = λ c left. near c (t.crash c left);
+  since = λ c left. ⊎_elim (λ was. near c (near_self In s c (only_now c was))) (near c) (t.time.nothing_else s.clock c (omega arith) left);
+  time = passes_weaker s s' (Near In s) P t.time near;
+}
+
+-- what a stretch leaves that wrote nothing
+pub leaves_still : (s s' : DiskState) (P : Contents → Type 0) → ((c : Contents) → s.left_since s.clock c → MayLeave s c) → Still s s' → ((c : Contents) → MayLeave s c → P c) → LeavesOnly s s' P
+leaves_still s s' P only_now still here = record {
+  now = λ c left. here c (still.crash c left);
+  since = λ c left. ⊎_elim (λ was. here c (only_now c was)) (here c) (still.time.nothing_else s.clock c (omega arith) left);
+  time = passes_weaker s s' (MayLeave s) P still.time here;
+}
+
+-- one stretch after another
+pub leaves_on : (s s' s'' : DiskState) (P Q : Contents → Type 0) → LeavesOnly s s' P → LeavesOnly s' s'' Q → ((c : Contents) → Q c → P c) → LeavesOnly s s'' P
+leaves_on s s' s'' P Q first second weaker = record {
+  now = λ c left. weaker c (second.now c left);
+  since = λ c left. ⊎_elim (first.since c) (weaker c) (second.time.nothing_else s.clock c first.time.later left);
+  time = passes_on s s' s'' P Q first.time second.time weaker;
+}
+
+pub leaves_weaker : (s s' : DiskState) (P Q : Contents → Type 0) → LeavesOnly s s' P → ((c : Contents) → P c → Q c) → LeavesOnly s s' Q
+leaves_weaker s s' P Q leaves weaker = record {
+  now = λ c left. weaker c (leaves.now c left);
+  since = λ c left. weaker c (leaves.since c left);
+  time = passes_weaker s s' P Q leaves.time weaker;
+}
+
+-- what a crash left between two moments goes on to be all that it left there
+pub between_on : (s s' : DiskState) (P Q : Contents → Type 0) (t u : ℕ) → t ≤ s.clock → u ≤ s.clock → Passes s s' Q → Between s t u P → Between s' t u P
+between_on s s' P Q t u le le' passes between c left = ⊎_elim
+    (λ was. ⊎_elim (λ later. inl (passes.keeps u c le' later)) (λ here. inr here) (between c was))
+    (λ new. inl new) (passes.new_since t u c le le' left)
+
+-- what a stretch leaves is what a crash left between its beginning and its end, or its end on
+pub leaves_between : (s s' : DiskState) (P : Contents → Type 0) (t : ℕ) → LeavesOnly s s' P → Between s' s.clock t P
+leaves_between s s' P t leaves c left = inr (leaves.since c left)
+
+-- after a sync a crash leaves what a read gives
+pub none_open_leaves : (s : DiskState) → NoneOpen s → (c : Contents) → MayLeave s c → c ≡ s.contents
+none_open_leaves s none c left = same_contents s.contents c (λ n. left n (none n))

@@ -1,0 +1,54 @@
+ghost use Rattle.std.specs.Prelude.{◌≡◌, ◌≢◌, ◌<◌, ◌⊎◌, Some, OnOk, IsErrOf};
+ghost use Rattle.blockdisk.specs.Copies.{OneIsWhole, BothAreNew};
+ghost use Rattle.blockdisk.specs.Disk.{NoneOpen, SameDisk, Touches, LeavesOnly, one_more};
+ghost use Rattle.blockdisk.specs.declared.fault.Fault.TheVariants.{Device, Damaged};
+
+use crate::{Disk, Fault};
+use words36::Block;
+
+/// Writes a block and waits until it is on the disk. No block is open then.
+///
+/// # Errors
+///
+/// `Device` where the device failed; the block may then hold anything.
+pub fn write_through<D: Disk>(disk: &mut D, n: u32, block: &Block) -> Result<(), Fault>
+    requires { n < (D.state disk.old).size }
+    ensures put { (D.state disk.old).honest → OnOk result ((D.state disk.new).contents n ≡ Some block.now) }
+    ensures settled { (D.state disk.old).honest → OnOk result (NoneOpen (D.state disk.new)) }
+    ensures touched { (D.state disk.old).honest → Touches (λ m. m ≡ n) (D.state disk.old) (D.state disk.new) }
+    ensures same { SameDisk (D.state disk.old) (D.state disk.new) }
+    ensures device { IsErrOf result Damaged → ⊥ }
+    ensures failed { IsErrOf result Device → (D.state disk.new).failures ≡ one_more (D.state disk.old).failures }
+    ensures served { OnOk result ((D.state disk.new).failures ≡ (D.state disk.old).failures) }
+{
+    disk.write(n, block)?;
+    disk.sync()
+}
+
+/// Writes the same block to two places, the second only when the first is on the disk: a crash at any
+/// moment finds the second copy as it was or the first one new.
+///
+/// # Errors
+///
+/// `Device` where the device failed; one of the copies may then hold anything.
+pub fn write_copies<D: Disk>(
+    disk: &mut D,
+    first: u32,
+    second: u32,
+    block: &Block,
+) -> Result<(), Fault>
+    requires first_inside { first < (D.state disk.old).size }
+    requires second_inside { second < (D.state disk.old).size }
+    requires apart { first ≢ second }
+    ensures new { (D.state disk.old).honest → OnOk result (BothAreNew first second block.now (D.state disk.old).contents (D.state disk.new).contents) }
+    ensures settled { (D.state disk.old).honest → OnOk result (NoneOpen (D.state disk.new)) }
+    ensures leaves { (D.state disk.old).honest → NoneOpen (D.state disk.old)
+        → LeavesOnly (D.state disk.old) (D.state disk.new) (OneIsWhole first second block.now (D.state disk.old).contents) }
+    ensures same { SameDisk (D.state disk.old) (D.state disk.new) }
+    ensures device { IsErrOf result Damaged → ⊥ }
+    ensures failed { IsErrOf result Device → (D.state disk.new).failures ≡ one_more (D.state disk.old).failures }
+    ensures served { OnOk result ((D.state disk.new).failures ≡ (D.state disk.old).failures) }
+{
+    write_through(disk, first, block)?;
+    write_through(disk, second, block)
+}

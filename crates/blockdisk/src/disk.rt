@@ -1,0 +1,74 @@
+ghost use Rattle.std.specs.Prelude.{◌≡◌, ◌<◌, ◌≤◌, ℕ, Some, None, IfOk, OnOk, OnErr, IsErrOf};
+ghost use Rattle.blockdisk.specs.declared.fault.Fault.TheVariants.{Device, Damaged};
+ghost use Rattle.blockdisk.specs.Disk.{Contents, DiskState, MayLeave, SameDisk, Keeps, Writes, Syncs, one_more};
+
+use crate::Fault;
+use words36::Block;
+
+/// A disk of a fixed number of blocks of 128 words, counted from 0.
+///
+/// Between two syncs a block that was written may after a crash hold anything, or be damaged; the
+/// other blocks stay. What is said of a disk that is `honest` is its promise, kept while nobody else
+/// writes it and it returns what was written; the rest holds on every disk.
+pub trait Disk {
+    ghost state: { Self → DiskState };
+
+    /// The number of blocks.
+    fn blocks(&self) -> u32
+        ensures { result ≡ (state self.now).size };
+
+    /// The words of a block.
+    ///
+    /// # Errors
+    ///
+    /// `Device` where the device failed, `Damaged` exactly where the block holds no words.
+    fn read(&mut self, n: u32) -> Result<Block, Fault>
+        requires { n < (state self.old).size }
+        ensures words { (state self.old).honest → IfOk result (λ block. (state self.old).contents n ≡ Some block) }
+        ensures damaged { (state self.old).honest → IsErrOf result Damaged → (state self.old).contents n ≡ None }
+        ensures keeps { (state self.old).honest → Keeps (state self.old) (state self.new) }
+        ensures same { SameDisk (state self.old) (state self.new) }
+        ensures failed { IsErrOf result Device → (state self.new).failures ≡ one_more (state self.old).failures }
+        ensures served { (IsErrOf result Device → ⊥) → (state self.new).failures ≡ (state self.old).failures };
+
+    /// Writes a block. It is open from then on, whatever the answer, until a sync succeeds.
+    ///
+    /// # Errors
+    ///
+    /// `Device` where the device failed; the block may then hold anything.
+    fn write(&mut self, n: u32, block: &Block) -> Result<(), Fault>
+        requires { n < (state self.old).size }
+        ensures put { (state self.old).honest → OnOk result ((state self.new).contents n ≡ Some block.now) }
+        ensures moves { (state self.old).honest → OnOk result ((state self.old).clock < (state self.new).clock) }
+        ensures writes { (state self.old).honest → Writes n (state self.old) (state self.new) }
+        ensures same { SameDisk (state self.old) (state self.new) }
+        ensures device { IsErrOf result Damaged → ⊥ }
+        ensures failed { IsErrOf result Device → (state self.new).failures ≡ one_more (state self.old).failures }
+        ensures served { OnOk result ((state self.new).failures ≡ (state self.old).failures) };
+
+    /// Waits until all that was written is on the disk. No block is open then.
+    ///
+    /// # Errors
+    ///
+    /// `Device` where the device failed; the open blocks stay open.
+    fn sync(&mut self) -> Result<(), Fault>
+        ensures syncs { (state self.old).honest → OnOk result (Syncs (state self.old) (state self.new)) }
+        ensures moves { (state self.old).honest → OnOk result ((state self.old).clock < (state self.new).clock) }
+        ensures keeps { (state self.old).honest → OnErr result (Keeps (state self.old) (state self.new)) }
+        ensures same { SameDisk (state self.old) (state self.new) }
+        ensures device { IsErrOf result Damaged → ⊥ }
+        ensures failed { IsErrOf result Device → (state self.new).failures ≡ one_more (state self.old).failures }
+        ensures served { OnOk result ((state self.new).failures ≡ (state self.old).failures) };
+
+    /// This moment is one of those since an earlier one.
+    ghost counts_now: { (disk : Self) (t : ℕ) (c : Contents) → (state disk).honest → t ≤ (state disk).clock
+        → MayLeave (state disk) c → (state disk).left_since t c };
+
+    /// Since this moment there is no other.
+    ghost only_now: { (disk : Self) (c : Contents) → (state disk).honest → (state disk).left_since (state disk).clock c
+        → MayLeave (state disk) c };
+
+    /// What was left since a moment was left since each earlier one.
+    ghost reaches_back: { (disk : Self) (t u : ℕ) (c : Contents) → (state disk).honest → t ≤ u
+        → (state disk).left_since u c → (state disk).left_since t c };
+}

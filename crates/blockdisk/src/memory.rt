@@ -1,0 +1,194 @@
+ghost use Rattle.std.specs.Prelude.{◌≡◌, ◌<◌, ◌≤◌, ◌+◌, ℕ, Some, None, IfOk, IfErr, OnOk, OnErr, IsErrOf, length, replicate};
+ghost use Rattle.std.proofs.Common.{inr};
+ghost use Rattle.blockdisk.specs.declared.fault.Fault.TheVariants.{Device, Damaged};
+ghost use Rattle.blockdisk.specs.Disk.{Writes, Syncs};
+ghost use Rattle.blockdisk.specs.Memory.{held, memory_state, written, write_refused, synced, sync_refused};
+ghost use Rattle.blockdisk.specs.MemoryLaws.{only_now, reaches_back};
+
+use crate::{Disk, Fault, NoMemory};
+use std::alloc::{AllocError, Global};
+use std::marker::Model;
+use words36::{BLOCK_WORDS, Block, Word};
+
+/// A call of a disk in memory, as it is recorded.
+#[derive(Clone, Copy)]
+pub enum DiskCall {
+    /// These words were written to this block.
+    Write(u32, Block),
+    /// A sync succeeded.
+    Sync,
+}
+
+/// A disk in memory, always honest. It records its writes and syncs, and has room for so many of
+/// them: from then on each answers `Device`.
+#[derive(Drop)]
+pub struct MemDisk {
+    blocks: Vec<Option<Block>>,
+    first: Vec<Option<Block>>,
+    calls: Vec<DiskCall>,
+    opened: Vec<bool>,
+    none_open: bool,
+    room: usize,
+    failures: u64,
+}
+
+impl Model for MemDisk {
+    ghost use Rattle.std.specs.Prelude.{◌≡◌, ◌≤◌, true, false, length, replicate, vec_capacity};
+    ghost use Rattle.blockdisk.specs.Memory.{Memory, IsReplayed};
+
+    ghost Value = { Memory };
+
+    ghost view = { λ m. record { blocks = m.blocks.items; first = m.first.items; calls = m.calls.items; opened = m.opened.items; room = m.room; failures = m.failures } };
+
+    ghost invariant = { λ m. (m.room ≤ vec_capacity m.calls)
+        × (m.none_open ≡ true → m.opened.items ≡ replicate (length m.opened.items) false)
+        × IsReplayed (record { blocks = m.blocks.items; first = m.first.items; calls = m.calls.items; opened = m.opened.items; room = m.room; failures = m.failures }) };
+}
+
+impl MemDisk {
+    ghost use Rattle.std.specs.Prelude.{◌≡◌, ◌<◌, Some, None, IfOk, length};
+    ghost use Rattle.blockdisk.specs.Memory.{zeroed, loaded, begun_anew};
+
+    /// A disk of so many blocks of zeros, with room to record so many writes and syncs.
+    ///
+    /// # Errors
+    ///
+    /// `NoMemory` where the blocks, a second copy of them or the record find no room.
+    pub fn new(alloc: Global, blocks: u32, calls: usize) -> Result<Self, NoMemory>
+        ensures { IfOk result (λ disk. disk ≡ zeroed blocks calls) }
+    {
+        let size = blocks as usize;
+        Ok(MemDisk {
+            blocks: zero_blocks(alloc, size)?,
+            first: zero_blocks(alloc, size)?,
+            calls: Vec::with_capacity(alloc, calls)?,
+            opened: vec![in alloc; false; size]?,
+            none_open: true,
+            room: calls,
+            failures: 0,
+        })
+    }
+
+    /// Puts these words into a block, as if they had been there from the beginning: nothing is
+    /// recorded then, and no block is open. On a disk with nothing recorded it touches one block.
+    pub fn load(&mut self, n: u32, block: &Block)
+        requires { n < length self.old.blocks }
+        ensures { self.new ≡ loaded self.old n (Some block.now) }
+    {
+        self.forget_calls();
+        self.blocks[n as usize] = Some(*block);
+        self.first[n as usize] = Some(*block);
+    }
+
+    /// Damages a block, as if it had been so from the beginning: nothing is recorded then, and no
+    /// block is open. On a disk with nothing recorded it touches one block.
+    pub fn damage(&mut self, n: u32)
+        requires { n < length self.old.blocks }
+        ensures { self.new ≡ loaded self.old n None }
+    {
+        self.forget_calls();
+        self.blocks[n as usize] = None;
+        self.first[n as usize] = None;
+    }
+
+    /// Takes the blocks as they are for what they were from the beginning.
+    fn forget_calls(&mut self)
+        ensures { self.new ≡ begun_anew self.old }
+    {
+        if !self.calls.is_empty() {
+            copy_blocks(&self.blocks, &mut self.first);
+            self.calls.clear();
+        }
+        if !self.none_open {
+            self.opened.fill(false);
+            self.none_open = true;
+        }
+    }
+}
+
+/// Makes one list of blocks the same as another.
+fn copy_blocks(from: &Vec<Option<Block>>, to: &mut Vec<Option<Block>>)
+    requires { length to.old.items ≡ length from.now.items }
+    ensures items { to.new.items ≡ from.now.items }
+{
+    let from = from.as_slice();
+    to.as_mut_slice().copy_from_slice(from);
+}
+
+/// So many blocks of zeros.
+fn zero_blocks(alloc: Global, size: usize) -> Result<Vec<Option<Block>>, AllocError>
+    ensures { IfOk result (λ blocks. blocks.items ≡ replicate size (Some (replicate 128 0))) }
+{
+    let mut blocks = Vec::with_capacity(alloc, size)?;
+    for _made in 0..size {
+        blocks.push(Some([Word::ZERO; BLOCK_WORDS]))?;
+    }
+    Ok(blocks)
+}
+
+impl Disk for MemDisk {
+    ghost state = { memory_state };
+
+    ghost counts_now = { λ m t c h le left. inr left };
+
+    ghost only_now = { λ m c h left. only_now m c left };
+
+    ghost reaches_back = { λ m t u c h le left. reaches_back m t u c le left };
+
+    fn blocks(&self) -> u32 {
+        self.blocks.len() as u32
+    }
+
+    fn read(&mut self, n: u32) -> Result<Block, Fault>
+        requires { n < length self.old.blocks }
+        ensures words { IfOk result (λ block. held self.old.blocks n ≡ Some block) }
+        ensures damaged { OnErr result (held self.old.blocks n ≡ None) }
+        ensures never_device { IsErrOf result Device → ⊥ }
+        ensures unchanged { self.new ≡ self.old }
+    {
+        match self.blocks[n as usize] {
+            Some(block) => Ok(block),
+            None => Err(Fault::Damaged),
+        }
+    }
+
+    fn write(&mut self, n: u32, block: &Block) -> Result<(), Fault>
+        requires { n < length self.old.blocks }
+        ensures written { OnOk result (self.new ≡ written self.old n block.now) }
+        ensures refused { OnErr result (self.new ≡ write_refused self.old n) }
+        ensures full { OnErr result (length self.old.calls ≡ self.old.room) }
+        ensures device { IfErr result (λ fault. fault ≡ Device) }
+        ensures writes { Writes n (memory_state self.old) (memory_state self.new) }
+    {
+        self.opened[n as usize] = true;
+        self.none_open = false;
+        if self.calls.len() >= self.room {
+            self.failures = self.failures.saturating_add(1);
+            return Err(Fault::Device); // the block is open all the same
+        }
+        self.blocks[n as usize] = Some(*block);
+        match self.calls.push(DiskCall::Write(n, *block)) {
+            Ok(()) => Ok(()),
+            Err(_) => unreachable!(),
+        }
+    }
+
+    fn sync(&mut self) -> Result<(), Fault>
+        ensures synced { OnOk result (self.new ≡ synced self.old) }
+        ensures refused { OnErr result (self.new ≡ sync_refused self.old) }
+        ensures full { OnErr result (length self.old.calls ≡ self.old.room) }
+        ensures device { IfErr result (λ fault. fault ≡ Device) }
+        ensures syncs { OnOk result (Syncs (memory_state self.old) (memory_state self.new)) }
+    {
+        if self.calls.len() >= self.room {
+            self.failures = self.failures.saturating_add(1);
+            return Err(Fault::Device); // the open blocks stay open
+        }
+        self.opened.fill(false); // what was written is on the disk now
+        self.none_open = true;
+        match self.calls.push(DiskCall::Sync) {
+            Ok(()) => Ok(()),
+            Err(_) => unreachable!(),
+        }
+    }
+}
