@@ -1,0 +1,5 @@
+use Rattle.meaning.proofs.RoomSteps.{room_stays}
+use Rattle.meaning.proofs.machine.room_is_not_overdrawn.Goals as goal
+
+pub returns : goal.returns
+returns c = room_stays

@@ -1,0 +1,11 @@
+use Rattle.meaning.proofs.Reading.{directory_whole, directory_reaches, map_stands}
+use Rattle.meaning.proofs.starts.reading_finds_the_map.Goals as goal
+
+pub returns-clause-directory : goal.returns-clause-directory
+returns-clause-directory c = directory_whole
+
+pub returns-clause-reaches : goal.returns-clause-reaches
+returns-clause-reaches c = directory_reaches
+
+pub returns-clause-map : goal.returns-clause-map
+returns-clause-map c = map_stands

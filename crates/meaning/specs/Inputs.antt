@@ -1,0 +1,75 @@
+-- IN and USETI, in dump mode.
+use Rattle.std.specs.Prelude.{ℕ, ◌+◌, ◌==◌, Bool, true, false, is_none, if◌then◌else◌, List, [], ◌∷◌, length, min, Option, Some, None}
+use Rattle.meaning.specs.Costs.{blocks_of}
+use Rattle.meaning.specs.Splices.{words_from}
+use Rattle.meaning.specs.Cores.{after_writes, dealt}
+use Rattle.meaning.specs.CommandLists.{dump_list, word_count}
+use Rattle.meaning.specs.Jobs.{Input, Output, Channel, Job, with_channel, block_too_large, end_of_file}
+use Rattle.meaning.specs.Outcomes.{settled, clean, reports, stopped_in}
+use Rattle.meaning.specs.declared.area.Area.{Area}
+use Rattle.meaning.specs.declared.call.Reply.{Reply}
+use Rattle.meaning.specs.declared.call.Reply.TheVariants.{Done, Refused, AddressCheck}
+
+-- what a channel reads: what it has written, while its output side is open, else the version that it looked up
+abbrev pub body_read : Input → Option Output → List ℕ
+body_read i None = i.version.file.body
+body_read i (Some o) = o.pending.body
+
+-- its words from the next block on
+abbrev pub words_ahead : Option Input → Option Output → List ℕ
+words_ahead None output = []
+words_ahead (Some i) output = words_from (body_read i output) i.next
+
+abbrev pub is_empty : List ℕ → Bool
+is_empty [] = true
+is_empty (w ∷ ws) = false
+
+-- a list that names no words is done even where the body has none
+abbrev pub dump_in_answer : Channel → Option (List Area) → Reply
+dump_in_answer c None = AddressCheck
+dump_in_answer c (Some []) = Done
+dump_in_answer c (Some (area ∷ areas)) = if is_empty (words_ahead c.input c.output) then reports c end_of_file else Done
+
+abbrev pub in_answer : Job → Channel → ℕ → Reply
+in_answer job c a = if is_none c.input then Refused 5 else dump_in_answer c (dump_list job.core a)
+
+abbrev pub areas_or_none : Option (List Area) → List Area
+areas_or_none None = []
+areas_or_none (Some areas) = areas
+
+-- the areas that the command list at an address names
+abbrev pub areas_at : Job → ℕ → List Area
+areas_at job a = areas_or_none (dump_list job.core a)
+
+abbrev pub words_moved : Job → Channel → ℕ → ℕ
+words_moved job c a = min (word_count (areas_at job a)) (length (words_ahead c.input c.output))
+
+abbrev pub core_filled : Job → Channel → ℕ → List ℕ
+core_filled job c a = after_writes job.core (dealt (areas_at job a) (words_ahead c.input c.output))
+
+abbrev pub moved_on : Option Input → ℕ → Option Input
+moved_on None blocks = None
+moved_on (Some i) blocks = Some (record i { next = i.next + blocks })
+
+abbrev pub in_done : Job → ℕ → Channel → ℕ → Job
+in_done job number c a =
+    with_channel (record job { core = core_filled job c a }) number (Some (record (clean c) { input = moved_on c.input (blocks_of (words_moved job c a)) }))
+
+-- It reads and changes its own job's record alone.
+abbrev pub reads : Job → ℕ → Channel → ℕ → Reply × Job
+reads job number c a = settled (in_answer job c a) (in_done job number c a) (stopped_in job number c)
+
+-- USETI
+
+abbrev pub useti_answer : Channel → ℕ → Reply
+useti_answer c n = if is_none c.input then Refused 5 else if n == 0 then reports c block_too_large else Done
+
+abbrev pub input_at : Option Input → ℕ → Option Input
+input_at None n = None
+input_at (Some i) n = Some (record i { next = n })
+
+abbrev pub useti_done : Channel → ℕ → Channel
+useti_done c n = record (clean c) { input = input_at c.input n }
+
+abbrev pub useti : Job → ℕ → Channel → ℕ → Reply × Job
+useti job number c n = settled (useti_answer c n) (with_channel job number (Some (useti_done c n))) (stopped_in job number c)

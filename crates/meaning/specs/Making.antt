@@ -1,0 +1,37 @@
+-- MakeDir makes a directory, by two words at an address: whose it is, and its protection in bits 0 to 8.
+use Rattle.std.specs.Prelude.{ℕ, ◌+◌, ◌==◌, ◌||◌, not, Bool, is_some, if◌then◌else◌, slice_index}
+use Rattle.words36.specs.Words.{left, right}
+use Rattle.meaning.specs.Maps.{get, insert, empty, size}
+use Rattle.meaning.specs.Files.{Directory, Files}
+use Rattle.meaning.specs.Published.{Version}
+use Rattle.meaning.specs.Rights.{system}
+use Rattle.meaning.specs.Cores.{lies_outside}
+use Rattle.meaning.specs.Jobs.{Job, State}
+use Rattle.meaning.specs.Room.{Pack, exceeds_room, growth}
+use Rattle.meaning.specs.Entering.{protection_or}
+use Rattle.meaning.specs.Outcomes.{settled, refused_at}
+use Rattle.meaning.specs.declared.call.Reply.{Reply}
+use Rattle.meaning.specs.declared.call.Reply.TheVariants.{Done, Refused, AddressCheck}
+
+abbrev pub owner_at : Job → ℕ → ℕ
+owner_at job e = slice_index job.core e
+
+-- neither [1,2] nor the one whose directory it is
+abbrev pub is_stranger : Job → ℕ → Bool
+is_stranger job owner = not ((job.ppn == system) || (job.ppn == owner))
+
+abbrev pub make_answer : Pack → State → Job → ℕ → ℕ → Reply
+make_answer pack s job e owner =
+    if lies_outside job.core e 2 then AddressCheck
+    else if (left owner == 0) || (right owner == 0) then Refused 1
+    else if is_stranger job owner then Refused 2
+    else if is_some (get s.files owner) then Refused 4
+    else if exceeds_room pack s (1 + growth (size s.files)) then Refused 0o14
+    else Done
+
+abbrev pub directory_made : Job → ℕ → Directory Version
+directory_made job e = record { protection = protection_or (slice_index job.core (e + 1)) 0o775; quota = 0; files = empty }
+
+abbrev pub makes : Pack → State → Job → ℕ → Reply × (Job × Files Version)
+makes pack s job e =
+    settled (make_answer pack s job e (owner_at job e)) (job, insert s.files (owner_at job e) (directory_made job e)) (λ reply. (refused_at job e reply, s.files))

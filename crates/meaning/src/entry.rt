@@ -1,0 +1,14 @@
+use words36::FileName;
+
+/// A line of the list of a directory.
+#[derive(Clone, Copy, Debug, PartialEq, Eq)]
+pub struct Entry {
+    /// The file's name and extension.
+    pub name: FileName,
+    /// Its protection: three octal digits.
+    pub protection: u32,
+    /// The day when it was written.
+    pub date: u32,
+    /// How many blocks its words take.
+    pub blocks: u32,
+}
