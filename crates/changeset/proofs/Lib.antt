@@ -1,0 +1,4 @@
+mod PutLists
+mod Moments
+mod Reading
+mod Redoing

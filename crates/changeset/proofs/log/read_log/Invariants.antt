@@ -1,0 +1,19 @@
+use Rattle.std.proofs.Common.{◌≡◌, length}
+use Rattle.std.specs.List.{AllByRecursion}
+use Rattle.blockdisk.specs.Disk.{SameDisk}
+use Rattle.meaning.specs.Log.{IsTarget, targets}
+use Rattle.changeset.specs.Puts.{AreDistinct}
+use Rattle.changeset.specs.Reads.{OnlyReads}
+use Rattle.changeset.proofs.Reading.{IsFront}
+use Rattle.changeset.proofs.log.read_log.Given as goal
+
+abbrev pub invariant-loop-i : goal.invariant-loop-i
+invariant-loop-i g l = record {
+  count : length l.puts.items ≡ l.i;
+  same : SameDisk (g.D.Disk.state l.fn.disk) (g.D.Disk.state l.disk);
+  served : (g.D.Disk.state l.disk).failures ≡ (g.D.Disk.state l.fn.disk).failures;
+  reads : (g.D.Disk.state l.fn.disk).honest → OnlyReads (g.D.Disk.state l.fn.disk) (g.D.Disk.state l.disk);
+  distinct : AreDistinct l.puts.items;
+  in_range : AllByRecursion (IsTarget l.size) (targets l.puts.items);
+  front : (g.D.Disk.state l.fn.disk).honest → IsFront (g.D.Disk.state l.fn.disk).contents l.header l.puts.items;
+}

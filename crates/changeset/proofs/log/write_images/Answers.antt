@@ -1,0 +1,34 @@
+use Rattle.std.proofs.Common.{◌+◌, ◌<◌, ◌≤◌, length, refl, ◌∙◌, arith}
+use Rattle.blockdisk.specs.Laws.{same_disk_start, same_disk_on, touches_start, touches_write}
+use Rattle.meaning.specs.Regions.{log_start}
+use Rattle.changeset.proofs.PutLists.{images_more}
+use Rattle.changeset.proofs.log.write_images.Goals as goal
+
+pub loop-i-init : goal.loop-i-init
+loop-i-init g c = record {
+  same = same_disk_start (g.D.Disk.state c.args.disk.now);
+  served = refl;
+  touched = λ h. touches_start (λ n. (log_start ≤ n) × (n < log_start + length c.args.puts.now)) (g.D.Disk.state c.args.disk.now);
+  images = λ h. tt;
+}
+
+pub returns-in_err-write-clause-touched : goal.returns-in_err-write-clause-touched
+returns-in_err-write-clause-touched g c h =
+    touches_write (λ n. (log_start ≤ n) × (n < log_start + length c.args.puts.now)) (log_start + c.loop-i.i) (g.D.Disk.state c.args.disk.now) (g.D.Disk.state c.loop-i.disk) (g.D.Disk.state c.write.new.self)
+    (omega arith, omega (arith, c.loop-i-test.true)) (c.loop-i.invariant.touched h) (c.write.ensures.writes (c.loop-i.invariant.same.honest h))
+
+pub loop-i-preserved : goal.loop-i-preserved
+loop-i-preserved g c =
+    let s = g.D.Disk.state c.args.disk.now in
+    let now = g.D.Disk.state c.loop-i.disk in
+    let new = g.D.Disk.state c.write.new.self in
+    record {
+      same = same_disk_on s now new c.loop-i.invariant.same c.write.ensures.same;
+      served = c.in_ok-write.ensures.served ∙ c.loop-i.invariant.served;
+      touched = λ h. touches_write (λ n. (log_start ≤ n) × (n < log_start + length c.args.puts.now)) (log_start + c.loop-i.i) s now new
+          (omega arith, omega (arith, c.loop-i-test.true)) (c.loop-i.invariant.touched h) (c.write.ensures.writes (c.loop-i.invariant.same.honest h));
+      images = λ h.
+          let still_honest = c.loop-i.invariant.same.honest h in
+          images_more c.args.puts.now c.loop-i.i c.index-puts-i.result c.loop-i-test.true c.index-puts-i.is now.contents new.contents log_start (log_start + c.loop-i.i) refl
+          (c.loop-i.invariant.images h) (c.write.ensures.writes still_honest).contents (c.in_ok-write.ensures.put still_honest);
+    }

@@ -1,0 +1,47 @@
+use Rattle.std.proofs.Common.{ℕ, ◌+◌, ◌<◌, ◌≤◌, length, Some, ◌∙◌, ap, arith}
+use Rattle.std.proofs.lemmas.Result.{on_ok_weaker}
+use Rattle.blockdisk.specs.Disk.{DiskState, Touches, Syncs}
+use Rattle.blockdisk.specs.Laws.{touches_wider, touches_write, touches_still, sync_still}
+use Rattle.meaning.specs.Regions.{log_start, log_images}
+use Rattle.changeset.specs.Crashes.{IsInLog}
+use Rattle.changeset.proofs.PutLists.{images_same}
+use Rattle.changeset.proofs.log.write_log.Goals as goal
+
+-- the images lie in the log
+images_touched : (s s' : DiskState) (count : ℕ) → count ≤ log_images s.size → Touches (λ n. (log_start ≤ n) × (n < log_start + count)) s s' → Touches (IsInLog s.size) s s'
+images_touched s s' count few = touches_wider (λ n. (log_start ≤ n) × (n < log_start + count)) (IsInLog s.size) s s' (λ n is. (let low = is.0 in omega arith, let high = is.1 in omega arith))
+
+pub returns-in_err-write-clause-touched : goal.returns-in_err-write-clause-touched
+returns-in_err-write-clause-touched g c h =
+    let s = g.D.Disk.state c.args.disk.now in
+    let imaged = g.D.Disk.state c.write_images.new.disk in
+    touches_write (IsInLog s.size) 4 s imaged (g.D.Disk.state c.write.new.self) (omega arith, omega arith)
+    (images_touched s imaged (length c.args.puts.now) c.requires.few (c.write_images.ensures.touched h)) (c.write.ensures.writes (c.write_images.ensures.same.honest h))
+
+pub returns-clause-touched : goal.returns-clause-touched
+returns-clause-touched g c h =
+    let s = g.D.Disk.state c.args.disk.now in
+    let imaged = g.D.Disk.state c.write_images.new.disk in
+    let written = g.D.Disk.state c.write.new.self in
+    let end = g.D.Disk.state c.sync.new.self in
+    let honest = c.write_images.ensures.same.honest h in
+    let still_honest = c.write.ensures.same.honest honest in
+    touches_still (IsInLog s.size) s written end
+    (touches_write (IsInLog s.size) 4 s imaged written (omega arith, omega arith)
+    (images_touched s imaged (length c.args.puts.now) c.requires.few (c.write_images.ensures.touched h)) (c.write.ensures.writes honest))
+    (sync_still c.sync.result written end (c.sync.ensures.syncs still_honest) (c.sync.ensures.keeps still_honest))
+
+pub returns-clause-logged : goal.returns-clause-logged
+returns-clause-logged g c h =
+    let honest = c.write_images.ensures.same.honest h in
+    let imaged = g.D.Disk.state c.write_images.new.disk in
+    let end = g.D.Disk.state c.sync.new.self in
+    on_ok_weaker c.sync.result (λ (syncs : Syncs (g.D.Disk.state c.write.new.self) end). record {
+      header = syncs.contents 4 ∙ c.in_ok-write.ensures.put honest ∙ ap Some c.header_of-header.ensures;
+      some = c.requires.some;
+      few = c.requires.few;
+      distinct = c.requires.distinct;
+      in_range = c.requires.in_range;
+      images = images_same imaged.contents end.contents log_start c.args.puts.now (c.in_ok-write_images.ensures.images h)
+          (λ n low high. syncs.contents n ∙ (c.write.ensures.writes honest).contents n (λ is. omega arith));
+    }) (c.sync.ensures.syncs (c.write.ensures.same.honest honest))

@@ -1,0 +1,39 @@
+use Rattle.std.proofs.Common.{◌<◌, refl, ◌∙◌, arith}
+use Rattle.blockdisk.specs.Laws.{same_disk_start, same_disk_on, touches_start, touches_write}
+use Rattle.changeset.specs.Puts.{IsPutIn}
+use Rattle.changeset.proofs.PutLists.{all_at, placed_more, put_in}
+use Rattle.changeset.proofs.order.write_places.Goals as goal
+
+pub loop-put-init : goal.loop-put-init
+loop-put-init g c = record {
+  same = same_disk_start (g.D.Disk.state c.args.disk.now);
+  served = refl;
+  touched = λ h. touches_start (IsPutIn c.args.puts.now) (g.D.Disk.state c.args.disk.now);
+  placed = λ h n. refl;
+}
+
+pub write-requires : goal.write-requires
+write-requires g c =
+    let inside : c.put-item.result.block < (g.D.Disk.state c.args.disk.now).size = all_at (λ n. n < (g.D.Disk.state c.args.disk.now).size) c.args.puts.now c.loop-put.put-index c.put-item.result c.loop-put-test.true c.put-item.is c.requires.in_range in
+    omega (arith, c.loop-put.invariant.same.size)
+
+pub returns-in_err-write-clause-touched : goal.returns-in_err-write-clause-touched
+returns-in_err-write-clause-touched g c h =
+    touches_write (IsPutIn c.args.puts.now) c.put-item.result.block (g.D.Disk.state c.args.disk.now) (g.D.Disk.state c.loop-put.disk) (g.D.Disk.state c.write.new.self)
+    (put_in c.args.puts.now c.loop-put.put-index c.put-item.result c.loop-put-test.true c.put-item.is) (c.loop-put.invariant.touched h) (c.write.ensures.writes (c.loop-put.invariant.same.honest h))
+
+pub loop-put-preserved : goal.loop-put-preserved
+loop-put-preserved g c =
+    let s = g.D.Disk.state c.args.disk.now in
+    let now = g.D.Disk.state c.loop-put.disk in
+    let new = g.D.Disk.state c.write.new.self in
+    record {
+      same = same_disk_on s now new c.loop-put.invariant.same c.write.ensures.same;
+      served = c.in_ok-write.ensures.served ∙ c.loop-put.invariant.served;
+      touched = λ h. touches_write (IsPutIn c.args.puts.now) c.put-item.result.block s now new
+          (put_in c.args.puts.now c.loop-put.put-index c.put-item.result c.loop-put-test.true c.put-item.is) (c.loop-put.invariant.touched h) (c.write.ensures.writes (c.loop-put.invariant.same.honest h));
+      placed = λ h.
+          let still_honest = c.loop-put.invariant.same.honest h in
+          placed_more c.args.puts.now c.loop-put.put-index c.put-item.result c.loop-put-test.true c.put-item.is c.requires.distinct s.contents now.contents new.contents
+          (c.loop-put.invariant.placed h) (c.write.ensures.writes still_honest).contents (c.in_ok-write.ensures.put still_honest);
+    }

@@ -1,0 +1,13 @@
+use Rattle.std.proofs.Common.{◌≡◌, ℕ, take}
+use Rattle.blockdisk.specs.Disk.{Touches, SameDisk}
+use Rattle.meaning.specs.Log.{with_puts}
+use Rattle.changeset.specs.Puts.{IsPutIn}
+use Rattle.changeset.proofs.order.write_places.Given as goal
+
+abbrev pub invariant-loop-put : goal.invariant-loop-put
+invariant-loop-put g l = record {
+  same : SameDisk (g.D.Disk.state l.initial.disk) (g.D.Disk.state l.disk);
+  served : (g.D.Disk.state l.disk).failures ≡ (g.D.Disk.state l.initial.disk).failures;
+  touched : (g.D.Disk.state l.initial.disk).honest → Touches (IsPutIn l.puts) (g.D.Disk.state l.initial.disk) (g.D.Disk.state l.disk);
+  placed : (g.D.Disk.state l.initial.disk).honest → (n : ℕ) → (g.D.Disk.state l.disk).contents n ≡ with_puts (take l.put-index l.puts) (g.D.Disk.state l.initial.disk).contents n;
+}

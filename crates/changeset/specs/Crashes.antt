@@ -1,0 +1,64 @@
+-- What a crash may leave of a change of several blocks, and of recovery after it. Contents are
+-- compared by what they settle to: with a closed gate themselves, with an open one what the log makes
+-- of them. Gate and log are no part of what is compared.
+use Rattle.std.specs.Prelude.{◌≡◌, ◌⊎◌, ◌<◌, ◌≤◌, ℕ, List}
+use Rattle.blockdisk.specs.Disk.{Contents, DiskState, MayLeave, SameOutside}
+use Rattle.meaning.specs.declared.put.Put.{Put}
+use Rattle.meaning.specs.Regions.{table_start}
+use Rattle.meaning.specs.Log.{IsGateOpen, IsLog, IsSettled, with_puts}
+
+-- the sets of blocks that are written
+
+abbrev pub IsGate : ℕ → Type 0
+IsGate n = n ≡ 3
+
+-- the log's header or one of its images
+abbrev pub IsInLog : ℕ → ℕ → Type 0
+IsInLog size n = (4 ≤ n) × (n < table_start size)
+
+abbrev pub IsGateOrLog : ℕ → ℕ → Type 0
+IsGateOrLog size n = (3 ≤ n) × (n < table_start size)
+
+-- whatever a crash may leave has its gate closed
+abbrev pub IsShut : DiskState → Type 0
+IsShut s = (c : Contents) → MayLeave s c → IsGateOpen s.size c → ⊥
+
+-- Contents c settle, and to these but for gate and log.
+pub record SettlesAs (size : ℕ) (wanted c : Contents) : Type 0 where
+  pub settled : Contents
+  pub is_settled : IsSettled size c settled
+  pub same : SameOutside (IsGateOrLog size) wanted settled
+
+-- a crash during a commit: none of the puts is made, or all are
+abbrev pub AllOrNone : List Put → DiskState → Contents → Type 0
+AllOrNone puts s c = ((d : Contents) × MayLeave s d × SettlesAs s.size d c) ⊎ SettlesAs s.size (with_puts puts s.contents) c
+
+-- where d settles, c settles to the same
+abbrev pub SettlesLike : ℕ → Contents → Contents → Type 0
+SettlesLike size d c = (settled : Contents) → IsSettled size d settled → SettlesAs size settled c
+
+-- a crash during recovery: it settles like something that a crash could leave at s
+abbrev pub SettlesLikeBefore : DiskState → Contents → Type 0
+SettlesLikeBefore s c = (d : Contents) × MayLeave s d × SettlesLike s.size d c
+
+-- The gate is open and the log good: these puts are to be made.
+pub record ArePending (size : ℕ) (c : Contents) (puts : List Put) : Type 0 where
+  pub gate : IsGateOpen size c
+  pub log : IsLog size c puts
+
+-- nothing settles: the gate is open, and the log isn't good
+abbrev pub IsLost : ℕ → Contents → Type 0
+IsLost size c = (settled : Contents) → IsSettled size c settled → ⊥
+
+-- The contents are now those that settled before, with the gate closed.
+pub record IsRecovered (size : ℕ) (before now : Contents) : Type 0 where
+  pub settled : Contents
+  pub is_settled : IsSettled size before settled
+  pub others : SameOutside IsGate settled now
+  pub gate : IsGateOpen size now → ⊥
+
+-- From moment t of the stretch from s to s' on, a crash left only what has P.
+pub record LeavesFrom (t : ℕ) (s s' : DiskState) (P : Contents → Type 0) : Type 0 where
+  pub late : s.clock ≤ t
+  pub early : t ≤ s'.clock
+  pub since : (c : Contents) → s'.left_since t c → P c

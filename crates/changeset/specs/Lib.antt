@@ -1,0 +1,5 @@
+pub mod Puts
+pub mod Crashes
+pub mod Reads
+pub mod Rest
+pub mod PutLaws

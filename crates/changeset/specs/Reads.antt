@@ -1,0 +1,17 @@
+-- Reading the log, put by put.
+use Rattle.std.specs.Prelude.{◌≡◌, ℕ, ◌+◌, List, get_or}
+use Rattle.blockdisk.specs.Disk.{DiskState, Still}
+use Rattle.meaning.specs.declared.put.Put.{Put}
+use Rattle.meaning.specs.Maps.{times}
+use Rattle.meaning.specs.Log.{IsTarget, targets}
+
+-- The header names this block at place i of the log, a target that none of the puts before is for.
+pub record IsNextTarget (size : ℕ) (header : List ℕ) (before : List Put) (i block : ℕ) : Type 0 where
+  pub named : get_or header (i + 2) 0 ≡ block
+  pub in_range : IsTarget size block
+  pub fresh : times block (targets before) ≡ 0
+
+-- Nothing was written, and the same blocks are open.
+pub record OnlyReads (s s' : DiskState) : Type 0 where
+  pub still : Still s s'
+  pub is_open : (n : ℕ) → s'.is_open n ≡ s.is_open n

@@ -1,0 +1,73 @@
+ghost use Rattle.std.specs.Prelude.{◌≡◌, ◌<◌, ◌↔◌, IsTrue, IfOk, OnOk, IsErrOf, Some, replicate};
+ghost use Rattle.blockdisk.specs.Disk.{Keeps, Touches, NoneOpen, SameDisk, one_more};
+ghost use Rattle.blockdisk.specs.declared.fault.Fault.TheVariants.{Device, Damaged};
+ghost use Rattle.changeset.specs.Crashes.{IsGate};
+ghost use Rattle.meaning.specs.Log.{open_gate};
+
+use crate::log::word_of;
+use blockdisk::{Disk, Fault, write_through};
+use words36::{BLOCK_WORDS, Word};
+
+/// The block that tells whether the log counts.
+const GATE: u32 = 3;
+
+/// Each word of an open gate.
+const OPEN_WORD: u64 = 0o252525252525;
+
+/// Whether the gate has the words of an open one. A damaged gate is closed.
+///
+/// # Errors
+///
+/// `Device` where the device failed.
+pub fn has_open_words<D: Disk>(disk: &mut D) -> Result<bool, Fault>
+    requires { 3 < (D.state disk.old).size }
+    ensures answer { (D.state disk.old).honest → IfOk result (λ is_open. IsTrue is_open ↔ ((D.state disk.old).contents 3 ≡ Some open_gate)) }
+    ensures keeps { (D.state disk.old).honest → Keeps (D.state disk.old) (D.state disk.new) }
+    ensures same { SameDisk (D.state disk.old) (D.state disk.new) }
+    ensures device { IsErrOf result Damaged → ⊥ }
+    ensures failed { IsErrOf result Device → (D.state disk.new).failures ≡ one_more (D.state disk.old).failures }
+    ensures served { OnOk result ((D.state disk.new).failures ≡ (D.state disk.old).failures) }
+{
+    let open = [word_of(OPEN_WORD); BLOCK_WORDS];
+    match disk.read(GATE) {
+        Ok(words) => Ok(words == open),
+        Err(Fault::Damaged) => Ok(false),
+        Err(Fault::Device) => Err(Fault::Device),
+    }
+}
+
+/// Opens the gate, by one write of its own.
+///
+/// # Errors
+///
+/// `Device` where the device failed.
+pub fn open_gate<D: Disk>(disk: &mut D) -> Result<(), Fault>
+    requires { 3 < (D.state disk.old).size }
+    ensures gate { (D.state disk.old).honest → OnOk result ((D.state disk.new).contents 3 ≡ Some open_gate) }
+    ensures settled { (D.state disk.old).honest → OnOk result (NoneOpen (D.state disk.new)) }
+    ensures touched { (D.state disk.old).honest → Touches IsGate (D.state disk.old) (D.state disk.new) }
+    ensures same { SameDisk (D.state disk.old) (D.state disk.new) }
+    ensures device { IsErrOf result Damaged → ⊥ }
+    ensures failed { IsErrOf result Device → (D.state disk.new).failures ≡ one_more (D.state disk.old).failures }
+    ensures served { OnOk result ((D.state disk.new).failures ≡ (D.state disk.old).failures) }
+{
+    write_through(disk, GATE, &[word_of(OPEN_WORD); BLOCK_WORDS])
+}
+
+/// Closes the gate.
+///
+/// # Errors
+///
+/// `Device` where the device failed.
+pub fn close_gate<D: Disk>(disk: &mut D) -> Result<(), Fault>
+    requires { 3 < (D.state disk.old).size }
+    ensures gate { (D.state disk.old).honest → OnOk result ((D.state disk.new).contents 3 ≡ Some (replicate 128 0)) }
+    ensures settled { (D.state disk.old).honest → OnOk result (NoneOpen (D.state disk.new)) }
+    ensures touched { (D.state disk.old).honest → Touches IsGate (D.state disk.old) (D.state disk.new) }
+    ensures same { SameDisk (D.state disk.old) (D.state disk.new) }
+    ensures device { IsErrOf result Damaged → ⊥ }
+    ensures failed { IsErrOf result Device → (D.state disk.new).failures ≡ one_more (D.state disk.old).failures }
+    ensures served { OnOk result ((D.state disk.new).failures ≡ (D.state disk.old).failures) }
+{
+    write_through(disk, GATE, &[Word::ZERO; BLOCK_WORDS])
+}

@@ -1,0 +1,182 @@
+ghost use Rattle.std.specs.Prelude.{ℕ, List, ◌≡◌, ◌⊎◌, ◌+◌, ◌<◌, ◌≤◌, ◌^◌, ◌↔◌, IsTrue, IfOk, OnOk, IsErrOf, Some, length};
+ghost use Rattle.std.specs.List.{AllByRecursion};
+ghost use Rattle.blockdisk.specs.Disk.{Touches, NoneOpen, SameDisk, one_more};
+ghost use Rattle.blockdisk.specs.declared.fault.Fault.TheVariants.{Device, Damaged};
+ghost use Rattle.changeset.specs.Crashes.{IsInLog};
+ghost use Rattle.changeset.specs.Reads.{IsNextTarget, OnlyReads};
+ghost use Rattle.changeset.specs.Puts.{most_puts, AreDistinct};
+ghost use Rattle.changeset.specs.declared.error.LogError.TheVariants.{Device as Failed, TooMany, BadLog};
+ghost use Rattle.meaning.specs.Log.{IsLog, IsTarget, AreImages, log_header, targets};
+ghost use Rattle.meaning.specs.Regions.{IsVolumeSize, log_images, log_start};
+ghost use Rattle.meaning.specs.declared.put.Put.{Put};
+
+use crate::change_set::place_of;
+use crate::{LogError, MAX_PUTS};
+use arrayvec::ArrayVec;
+use blockdisk::{Disk, Fault};
+use meaning::Put;
+use words36::{BLOCK_WORDS, Block, Word};
+
+/// The block of the log's header.
+const HEADER: u32 = 4;
+
+/// The first of the log's images.
+const IMAGES: u32 = 5;
+
+/// The first word of a log's header: LOG in SIXBIT.
+const LOG_WORD: u64 = 0o545747000000;
+
+/// How many blocks of the disk a block of the allocation table stands for.
+const BLOCKS_IN_TABLE: u32 = 4608;
+
+/// How many images the log has room for beside one of each block of the allocation table.
+const OTHER_IMAGES: u32 = 8;
+
+/// The word of a number.
+pub fn word_of(number: u64) -> Word
+    requires { number < 2 ^ 36 }
+    ensures { result ≡ number }
+{
+    match Word::new(number) {
+        Some(word) => word,
+        None => unreachable!(),
+    }
+}
+
+/// How many images the log of a disk of this many blocks has room for.
+pub fn log_images(size: u32) -> u32
+    requires { size ≤ 131072 }
+    ensures { result ≡ log_images size }
+{
+    size.div_ceil(BLOCKS_IN_TABLE) + OTHER_IMAGES
+}
+
+/// The header of a log of these puts.
+fn header_of(puts: &[Put]) -> Block
+    requires { length puts.now ≤ most_puts }
+    ensures { result ≡ log_header puts.now }
+{
+    let mut words = [Word::ZERO; BLOCK_WORDS];
+    words[0] = word_of(LOG_WORD);
+    words[1] = word_of(puts.len() as u64);
+    for (i, put) in puts.iter().enumerate() {
+        words[i + 2] = word_of(put.block as u64);
+    }
+    words
+}
+
+/// Writes the log of these puts, and waits until it is on the disk.
+///
+/// # Errors
+///
+/// `Device` where the device failed; the log may then hold anything.
+pub fn write_log<D: Disk>(disk: &mut D, puts: &[Put]) -> Result<(), Fault>
+    requires volume { IsVolumeSize (D.state disk.old).size }
+    requires some { 0 < length puts.now }
+    requires few { length puts.now ≤ log_images (D.state disk.old).size }
+    requires distinct { AreDistinct puts.now }
+    requires in_range { AllByRecursion (IsTarget (D.state disk.old).size) (targets puts.now) }
+    ensures logged { (D.state disk.old).honest → OnOk result (IsLog (D.state disk.old).size (D.state disk.new).contents puts.now) }
+    ensures settled { (D.state disk.old).honest → OnOk result (NoneOpen (D.state disk.new)) }
+    ensures touched { (D.state disk.old).honest → Touches (IsInLog (D.state disk.old).size) (D.state disk.old) (D.state disk.new) }
+    ensures same { SameDisk (D.state disk.old) (D.state disk.new) }
+    ensures device { IsErrOf result Damaged → ⊥ }
+    ensures failed { IsErrOf result Device → (D.state disk.new).failures ≡ one_more (D.state disk.old).failures }
+    ensures served { OnOk result ((D.state disk.new).failures ≡ (D.state disk.old).failures) }
+{
+    let header = header_of(puts);
+    write_images(disk, puts)?;
+    disk.write(HEADER, &header)?;
+    disk.sync()
+}
+
+/// Writes the words of each put into the log.
+fn write_images<D: Disk>(disk: &mut D, puts: &[Put]) -> Result<(), Fault>
+    requires few { length puts.now ≤ most_puts }
+    requires room { log_start + length puts.now ≤ (D.state disk.old).size }
+    ensures images { (D.state disk.old).honest → OnOk result (AreImages (D.state disk.new).contents log_start puts.now) }
+    ensures touched { (D.state disk.old).honest → Touches (λ n. (log_start ≤ n) × (n < log_start + length puts.now)) (D.state disk.old) (D.state disk.new) }
+    ensures same { SameDisk (D.state disk.old) (D.state disk.new) }
+    ensures device { IsErrOf result Damaged → ⊥ }
+    ensures failed { IsErrOf result Device → (D.state disk.new).failures ≡ one_more (D.state disk.old).failures }
+    ensures served { OnOk result ((D.state disk.new).failures ≡ (D.state disk.old).failures) }
+{
+    for (i, put) in puts.iter().enumerate() {
+        disk.write(IMAGES + i as u32, &put.words)?;
+    }
+    Ok(())
+}
+
+/// The puts of the log.
+///
+/// # Errors
+///
+/// `BadLog` where the log isn't good, `Device` where the device failed.
+pub fn read_log<D: Disk>(disk: &mut D, size: u32) -> Result<ArrayVec<Put, MAX_PUTS>, LogError>
+    requires size { size ≡ (D.state disk.old).size }
+    requires volume { IsVolumeSize size }
+    ensures log { (D.state disk.old).honest → IfOk result (λ puts. IsLog size (D.state disk.old).contents puts.items) }
+    ensures bad { (D.state disk.old).honest → IsErrOf result BadLog → (puts : List Put) → IsLog size (D.state disk.old).contents puts → ⊥ }
+    ensures distinct { IfOk result (λ puts. AreDistinct puts.items) }
+    ensures in_range { IfOk result (λ puts. AllByRecursion (IsTarget size) (targets puts.items)) }
+    ensures reads { (D.state disk.old).honest → OnlyReads (D.state disk.old) (D.state disk.new) }
+    ensures same { SameDisk (D.state disk.old) (D.state disk.new) }
+    ensures many { IsErrOf result TooMany → ⊥ }
+    ensures failed { IsErrOf result Failed → (D.state disk.new).failures ≡ one_more (D.state disk.old).failures }
+    ensures served { (IsErrOf result Failed → ⊥) → (D.state disk.new).failures ≡ (D.state disk.old).failures }
+{
+    let header = disk.read(HEADER)?;
+    let count = header[1].bits();
+    if count == 0 || count > log_images(size) as u64 {
+        return Err(LogError::BadLog);
+    }
+    let mut puts = ArrayVec::new();
+    for i in 0..count as u32 {
+        puts.push(read_put(disk, size, &header, i, puts.as_slice())?);
+    }
+    if header_of(puts.as_slice()) != header {
+        return Err(LogError::BadLog); // not LOG, or words behind the last target
+    }
+    Ok(puts)
+}
+
+/// The put at this place of the log, behind those before.
+fn read_put<D: Disk>(
+    disk: &mut D,
+    size: u32,
+    header: &Block,
+    i: u32,
+    before: &[Put],
+) -> Result<Put, LogError>
+    requires size { size ≡ (D.state disk.old).size }
+    requires volume { IsVolumeSize size }
+    requires few { i < log_images size }
+    ensures target { IfOk result (λ put. IsNextTarget size header.now before.now i put.block) }
+    ensures image { (D.state disk.old).honest → IfOk result (λ put. (D.state disk.old).contents (log_start + i) ≡ Some put.words) }
+    ensures bad { (D.state disk.old).honest → IsErrOf result BadLog → (put : Put) → IsNextTarget size header.now before.now i put.block
+        → (D.state disk.old).contents (log_start + i) ≡ Some put.words → ⊥ }
+    ensures reads { (D.state disk.old).honest → OnlyReads (D.state disk.old) (D.state disk.new) }
+    ensures same { SameDisk (D.state disk.old) (D.state disk.new) }
+    ensures many { IsErrOf result TooMany → ⊥ }
+    ensures failed { IsErrOf result Failed → (D.state disk.new).failures ≡ one_more (D.state disk.old).failures }
+    ensures served { (IsErrOf result Failed → ⊥) → (D.state disk.new).failures ≡ (D.state disk.old).failures }
+{
+    let block = header[i as usize + 2].bits();
+    if !is_target(size, block) || place_of(before, block as u32).is_some() {
+        return Err(LogError::BadLog);
+    }
+    let words = disk.read(IMAGES + i)?;
+    Ok(Put {
+        block: block as u32,
+        words,
+    })
+}
+
+/// Whether a change may write this block.
+fn is_target(size: u32, block: u64) -> bool
+    requires { IsVolumeSize size }
+    ensures { IsTrue result ↔ IsTarget size block }
+{
+    let behind_log = (IMAGES + log_images(size)) as u64;
+    block == 1 || block == 2 || (behind_log..size as u64).contains(&block)
+}

@@ -1,0 +1,106 @@
+ghost use Rattle.std.specs.Prelude.{ℕ, List, ◌≡◌, ◌⊎◌, ◌<◌, ◌≤◌, IfOk, OnOk, IsErrOf, Some, None, IfSome, IfNone};
+ghost use Rattle.std.specs.List.{AllByRecursion};
+ghost use Rattle.blockdisk.specs.Disk.{Keeps, Still, NoneOpen, SameDisk, LeavesOnly, one_more};
+ghost use Rattle.changeset.specs.Crashes.{SettlesLike, SettlesLikeBefore, IsLost, ArePending, IsRecovered, LeavesFrom};
+ghost use Rattle.changeset.specs.Reads.{OnlyReads};
+ghost use Rattle.changeset.specs.Puts.{AreDistinct};
+ghost use Rattle.changeset.specs.declared.error.LogError.TheVariants.{Device, TooMany, BadLog};
+ghost use Rattle.meaning.specs.Log.{IsGateOpen, IsTarget, targets};
+ghost use Rattle.meaning.specs.Regions.{IsVolumeSize};
+ghost use Rattle.meaning.specs.declared.put.Put.{Put};
+
+use crate::gate::has_open_words;
+use crate::log::read_log;
+use crate::order::redo;
+use crate::{LogError, MAX_PUTS};
+use arrayvec::ArrayVec;
+use blockdisk::Disk;
+use meaning::Put;
+
+/// How many blocks a volume has at least.
+const SMALLEST_VOLUME: u32 = 64;
+
+/// How many blocks a volume has at most.
+const LARGEST_VOLUME: u32 = 131072;
+
+/// Makes the puts of a log whose gate a crash left open, and closes the gate. It may be stopped itself at
+/// any moment, and a second recovery changes nothing. On a disk that is no volume it only syncs.
+///
+/// # Errors
+///
+/// `BadLog` where the gate is open and the log isn't good, with nothing written; `Device` where the
+/// device failed.
+pub fn recover<D: Disk>(disk: &mut D) -> Result<(), LogError>
+    // A crash at any moment leaves what settles like something that a crash could leave before.
+    ensures crash { (D.state disk.old).honest → LeavesOnly (D.state disk.old) (D.state disk.new) (SettlesLikeBefore (D.state disk.old)) }
+
+    // Where the first sync failed nothing else was done; from its end on a crash leaves what settles like
+    // the contents read before.
+    ensures synced { (D.state disk.old).honest → (IsErrOf result Device × Keeps (D.state disk.old) (D.state disk.new))
+        ⊎ ((t : ℕ) × LeavesFrom t (D.state disk.old) (D.state disk.new) (SettlesLike (D.state disk.old).size (D.state disk.old).contents)) }
+
+    // At Ok the contents are the settled ones, with the gate closed.
+    ensures recovered { (D.state disk.old).honest → OnOk result (IsRecovered (D.state disk.old).size (D.state disk.old).contents (D.state disk.new).contents) }
+    ensures settled { (D.state disk.old).honest → OnOk result (NoneOpen (D.state disk.new)) }
+
+    // The log is bad only where nothing settles. Nothing is written but where the gate is open and the
+    // log good.
+    ensures bad { (D.state disk.old).honest → IsErrOf result BadLog → IsLost (D.state disk.old).size (D.state disk.old).contents }
+    ensures untouched { (D.state disk.old).honest → ((puts : List Put) → ArePending (D.state disk.old).size (D.state disk.old).contents puts → ⊥) → Still (D.state disk.old) (D.state disk.new) }
+
+    // On every disk.
+    ensures many { IsErrOf result TooMany → ⊥ }
+    ensures same { SameDisk (D.state disk.old) (D.state disk.new) }
+    ensures failed { IsErrOf result Device → (D.state disk.new).failures ≡ one_more (D.state disk.old).failures }
+    ensures served { (IsErrOf result Device → ⊥) → (D.state disk.new).failures ≡ (D.state disk.old).failures }
+{
+    disk.sync()?; // what is read from here on is what a crash leaves
+    recover_synced(disk)
+}
+
+/// Recovers a disk that has no open block.
+fn recover_synced<D: Disk>(disk: &mut D) -> Result<(), LogError>
+    ensures crash { (D.state disk.old).honest → NoneOpen (D.state disk.old)
+        → LeavesOnly (D.state disk.old) (D.state disk.new) (SettlesLike (D.state disk.old).size (D.state disk.old).contents) }
+    ensures recovered { (D.state disk.old).honest → OnOk result (IsRecovered (D.state disk.old).size (D.state disk.old).contents (D.state disk.new).contents) }
+    ensures settled { (D.state disk.old).honest → NoneOpen (D.state disk.old) → OnOk result (NoneOpen (D.state disk.new)) }
+    ensures bad { (D.state disk.old).honest → IsErrOf result BadLog → IsLost (D.state disk.old).size (D.state disk.old).contents }
+    ensures untouched { (D.state disk.old).honest → ((puts : List Put) → ArePending (D.state disk.old).size (D.state disk.old).contents puts → ⊥) → Still (D.state disk.old) (D.state disk.new) }
+    ensures many { IsErrOf result TooMany → ⊥ }
+    ensures same { SameDisk (D.state disk.old) (D.state disk.new) }
+    ensures failed { IsErrOf result Device → (D.state disk.new).failures ≡ one_more (D.state disk.old).failures }
+    ensures served { (IsErrOf result Device → ⊥) → (D.state disk.new).failures ≡ (D.state disk.old).failures }
+{
+    match pending_puts(disk)? {
+        Some(puts) => {
+            redo(disk, puts.as_slice())?;
+            Ok(())
+        }
+        None => Ok(()),
+    }
+}
+
+/// The puts of the log, where the gate is open.
+///
+/// # Errors
+///
+/// `BadLog` where the gate is open and the log isn't good, `Device` where the device failed.
+fn pending_puts<D: Disk>(disk: &mut D) -> Result<Option<ArrayVec<Put, MAX_PUTS>>, LogError>
+    ensures closed { (D.state disk.old).honest → IfOk result (λ found. IfNone found (IsGateOpen (D.state disk.old).size (D.state disk.old).contents → ⊥)) }
+    ensures pending { (D.state disk.old).honest → IfOk result (λ found. IfSome found (λ puts. ArePending (D.state disk.old).size (D.state disk.old).contents puts.items)) }
+    ensures volume { IfOk result (λ found. IfSome found (λ puts. IsVolumeSize (D.state disk.old).size)) }
+    ensures distinct { IfOk result (λ found. IfSome found (λ puts. AreDistinct puts.items)) }
+    ensures in_range { IfOk result (λ found. IfSome found (λ puts. AllByRecursion (IsTarget (D.state disk.old).size) (targets puts.items))) }
+    ensures bad { (D.state disk.old).honest → IsErrOf result BadLog → IsLost (D.state disk.old).size (D.state disk.old).contents }
+    ensures reads { (D.state disk.old).honest → OnlyReads (D.state disk.old) (D.state disk.new) }
+    ensures many { IsErrOf result TooMany → ⊥ }
+    ensures same { SameDisk (D.state disk.old) (D.state disk.new) }
+    ensures failed { IsErrOf result Device → (D.state disk.new).failures ≡ one_more (D.state disk.old).failures }
+    ensures served { (IsErrOf result Device → ⊥) → (D.state disk.new).failures ≡ (D.state disk.old).failures }
+{
+    let size = disk.blocks();
+    if !(SMALLEST_VOLUME..=LARGEST_VOLUME).contains(&size) || !has_open_words(disk)? {
+        return Ok(None);
+    }
+    Ok(Some(read_log(disk, size)?))
+}
