@@ -1,0 +1,54 @@
+ghost use Rattle.std.specs.Prelude.{◌≡◌, ◌<◌, ◌↔◌, false, true, IfOk, IsTrue, length, replicate, slice_set};
+ghost use Rattle.alloctab.specs.Lists.{flag_at};
+
+use blockdisk::NoMemory;
+use std::alloc::Global;
+use std::marker::Model;
+
+/// The blocks that a check of a disk has reached: a truth value for each block.
+#[derive(Drop)]
+pub struct Reached {
+    marks: Vec<bool>,
+}
+
+impl Model for Reached {
+    ghost use Rattle.std.specs.Prelude.{Bool, List};
+
+    ghost Value = { List Bool };
+
+    ghost view = { λ r. r.marks.items };
+}
+
+impl Reached {
+    /// None of so many blocks.
+    ///
+    /// # Errors
+    ///
+    /// `NoMemory` where the marks find no room.
+    pub fn new(alloc: Global, size: u32) -> Result<Self, NoMemory>
+        ensures { IfOk result (λ reached. reached ≡ replicate size false) }
+    {
+        Ok(Reached {
+            marks: vec![in alloc; false; size as usize]?,
+        })
+    }
+
+    /// Marks a block, and says whether it wasn't marked before.
+    pub fn mark(&mut self, n: u32) -> bool
+        requires { n < length self.old }
+        ensures first { IsTrue result ↔ (flag_at self.old n ≡ false) }
+        ensures marked { self.new ≡ slice_set self.old n true }
+    {
+        let is_new = !self.is_marked(n);
+        self.marks[n as usize] = true;
+        is_new
+    }
+
+    /// Whether a block is marked.
+    pub fn is_marked(&self, n: u32) -> bool
+        requires { n < length self.now }
+        ensures { result ≡ flag_at self.now n }
+    {
+        self.marks[n as usize]
+    }
+}

@@ -1,0 +1,236 @@
+ghost use Rattle.std.specs.Prelude.{◌≡◌, ◌<◌, ◌≤◌, ◌+◌, ◌-◌, ◌^◌, ◌↔◌, ◌⊎◌, ◌∷◌, [], ℕ, true, false, replicate, Some, IfOk, IsErrOf, IsTrue, IsSome, IfSome, IfNone, length};
+ghost use Rattle.std.specs.List.{AllByRecursion};
+ghost use Rattle.blockdisk.specs.Disk.{Contents, SameDisk, Still, one_more};
+ghost use Rattle.meaning.specs.Maps.{times};
+ghost use Rattle.meaning.specs.Log.{targets, with_puts, IsTarget};
+ghost use Rattle.meaning.specs.Regions.{IsVolumeSize, table_blocks, table_start};
+ghost use Rattle.changeset.specs.Puts.{IsPutIn};
+ghost use Rattle.alloctab.specs.TableState.{IsTable, IsFree, bit, holds, IsChanged, space, used_in_space, changed_blocks, with_bit, with_held};
+ghost use Rattle.alloctab.specs.TableBlocks.{table_words};
+ghost use Rattle.alloctab.specs.Reading.{IsTableOf, IsBadTableBlock};
+ghost use Rattle.alloctab.specs.Changes.{IsChangedBlock, SpellsTable};
+ghost use Rattle.alloctab.specs.Reached.{IsWrongBlock, wanted_bit};
+ghost use Rattle.alloctab.specs.declared.error.TableError.TheVariants.{TableWrong, NoMemory, Device};
+
+use crate::blocks::put_changed;
+use crate::layout::{TABLE_BLOCK_BITS, space_start, table_blocks, table_start};
+use crate::load::read_table;
+use crate::{Reached, TableError};
+use blockdisk::Disk;
+use changeset::{ChangeSet, MAX_PUTS};
+use std::alloc::Global;
+use std::marker::Model;
+
+/// The allocation table of a disk in core: which blocks are in use on the disk, which are held in
+/// core, how many are booked, and which table blocks changed.
+#[derive(Drop)]
+pub struct Table {
+    size: u32,
+    bits: Vec<bool>,
+    held: Vec<u32>,
+    booked: u64,
+    changed: Vec<bool>,
+}
+
+impl Model for Table {
+    ghost use Rattle.alloctab.specs.TableState.{TableState, IsTable};
+
+    ghost Value = { TableState };
+
+    ghost view = { λ t. record { size = t.size; bits = t.bits.items; held = t.held.items; booked = t.booked; changed = t.changed.items } };
+
+    ghost invariant = { λ t. IsTable (record { size = t.size; bits = t.bits.items; held = t.held.items; booked = t.booked; changed = t.changed.items }) };
+}
+
+impl Table {
+    /// Reads the table of a disk. Nothing is held or booked then.
+    ///
+    /// # Errors
+    ///
+    /// `TableWrong` with a table block that is damaged, or that has a bit set for a block past the end
+    /// of the disk; `Device` where the device failed; `NoMemory` where the table finds no room.
+    pub fn load<D: Disk>(alloc: Global, disk: &mut D) -> Result<Self, TableError>
+        requires { IsVolumeSize (D.state disk.old).size }
+        ensures size { IfOk result (λ table. table.size ≡ (D.state disk.old).size) }
+        ensures sound { IfOk result (λ table. IsTable table) }
+        ensures unheld { IfOk result (λ table. table.held ≡ replicate table.size 0) }
+        ensures unbooked { IfOk result (λ table. table.booked ≡ 0) }
+        ensures unchanged { IfOk result (λ table. table.changed ≡ replicate (table_blocks table.size) false) }
+
+        ensures read { (D.state disk.old).honest → IfOk result (λ table. IsTableOf (D.state disk.old).size (D.state disk.old).contents (bit table)) }
+        ensures wrong { (D.state disk.old).honest → (n : ℕ) → IsErrOf result (TableWrong n) → IsBadTableBlock (D.state disk.old).size (D.state disk.old).contents n }
+
+        ensures still { (D.state disk.old).honest → Still (D.state disk.old) (D.state disk.new) }
+        ensures same { SameDisk (D.state disk.old) (D.state disk.new) }
+        ensures failed { IsErrOf result Device → (D.state disk.new).failures ≡ one_more (D.state disk.old).failures }
+        ensures untouched { IsErrOf result NoMemory → disk.new ≡ disk.old }
+        ensures served { (IsErrOf result Device → ⊥) → (D.state disk.new).failures ≡ (D.state disk.old).failures }
+    {
+        let size = disk.blocks();
+        // Memory first, so that a refused growth leaves the disk alone.
+        let mut bits = vec![in alloc; false; size as usize]?;
+        let held = vec![in alloc; 0; size as usize]?;
+        let changed = vec![in alloc; false; table_blocks(size) as usize]?;
+        read_table(disk, bits.as_mut_slice())?;
+        Ok(Table {
+            size,
+            bits,
+            held,
+            booked: 0,
+            changed,
+        })
+    }
+
+    /// Whether a block is neither set nor held.
+    pub fn is_free(&self, n: u32) -> bool
+        requires { n < self.now.size }
+        ensures free { IsTrue result ↔ IsFree self.now n }
+        ensures sound { IsTable self.now }
+    {
+        !self.bits[n as usize] && self.held[n as usize] == 0
+    }
+
+    /// Whether there is room to book so many blocks more.
+    pub fn can_book(&self, n: u32) -> bool
+        ensures { IsTrue result ↔ (self.now.booked + n ≤ space self.now.size) }
+    {
+        let space = u64::from(self.size - space_start(self.size));
+        self.booked <= space && u64::from(n) <= space - self.booked
+    }
+
+    /// Books so many blocks more.
+    pub fn book(&mut self, n: u32)
+        requires { self.old.booked + n < 2 ^ 64 }
+        ensures { self.new ≡ record self.old { booked = self.old.booked + n } }
+    {
+        self.booked += u64::from(n);
+    }
+
+    /// Takes back the booking of so many blocks.
+    pub fn unbook(&mut self, n: u32)
+        requires { n ≤ self.old.booked }
+        ensures { self.new ≡ record self.old { booked = self.old.booked - n } }
+    {
+        self.booked -= u64::from(n);
+    }
+
+    /// How many blocks are booked.
+    pub fn booked(&self) -> u64
+        ensures value { result ≡ self.now.booked }
+        ensures sound { IsTable self.now }
+    {
+        self.booked
+    }
+
+    /// Holds the lowest block that is neither set nor held, where there is one. There is one as long as
+    /// fewer blocks of the free space are set or held than are booked, and no more are booked than it
+    /// has.
+    pub fn take(&mut self) -> Option<u32>
+        ensures free { IfSome result (λ n. (n < self.old.size) × IsFree self.old n) }
+        ensures lowest { IfSome result (λ n. (m : ℕ) → m < n → IsFree self.old m → ⊥) }
+        ensures held { IfSome result (λ n. self.new ≡ with_held self.old n (holds self.old n + 1)) }
+        ensures none { IfNone result ((m : ℕ) → m < self.old.size → IsFree self.old m → ⊥) }
+        ensures unchanged { IfNone result (self.new ≡ self.old) }
+        ensures booked { used_in_space self.old < self.old.booked → self.old.booked ≤ space self.old.size → IsSome result }
+    {
+        let n = self.lowest_free()?;
+        self.hold(n);
+        Some(n)
+    }
+
+    /// The lowest block that is neither set nor held.
+    fn lowest_free(&self) -> Option<u32>
+        ensures free { IfSome result (λ n. (n < self.now.size) × IsFree self.now n) }
+        ensures lowest { IfSome result (λ n. (m : ℕ) → m < n → IsFree self.now m → ⊥) }
+        ensures none { IfNone result ((m : ℕ) → m < self.now.size → IsFree self.now m → ⊥) }
+        ensures sound { IsTable self.now }
+    {
+        for n in 0..self.size {
+            if self.is_free(n) {
+                return Some(n);
+            }
+        }
+        None
+    }
+
+    /// Holds a block once more.
+    pub fn hold(&mut self, n: u32)
+        requires inside { n < self.old.size }
+        requires fits { holds self.old n + 1 < 2 ^ 32 }
+        ensures { self.new ≡ with_held self.old n (holds self.old n + 1) }
+    {
+        self.held[n as usize] += 1;
+    }
+
+    /// Holds a block once less.
+    pub fn unhold(&mut self, n: u32)
+        requires inside { n < self.old.size }
+        requires held { 0 < holds self.old n }
+        ensures { self.new ≡ with_held self.old n (holds self.old n - 1) }
+    {
+        self.held[n as usize] -= 1;
+    }
+
+    /// Sets the bit of a block. Its table block counts as changed.
+    pub fn set(&mut self, n: u32)
+        requires { n < self.old.size }
+        ensures bits { self.new ≡ with_bit self.old n true }
+        ensures taken { bit self.old n ≡ 0 → (m : ℕ) → bit self.new m ≡ bit self.old m + times m (n ∷ []) }
+    {
+        self.put_bit(n, true);
+    }
+
+    /// Clears the bit of a block. Its table block counts as changed.
+    pub fn clear(&mut self, n: u32)
+        requires { n < self.old.size }
+        ensures bits { self.new ≡ with_bit self.old n false }
+        ensures freed { bit self.old n ≡ 1 → (m : ℕ) → bit self.new m + times m (n ∷ []) ≡ bit self.old m }
+    {
+        self.put_bit(n, false);
+    }
+
+    /// Gives a block this bit, whether it was so before or not.
+    fn put_bit(&mut self, n: u32, is_set: bool)
+        requires { n < self.old.size }
+        ensures bits { self.new ≡ with_bit self.old n is_set }
+        ensures sound { IsTable self.old }
+    {
+        self.bits[n as usize] = is_set;
+        self.changed[n as usize / TABLE_BLOCK_BITS] = true;
+    }
+
+    /// Puts each table block of which a bit was set or cleared since the last call. Where a disk with
+    /// the puts so far spells the bits but for those blocks, it spells all bits with the new puts.
+    pub fn changes(&mut self, set: &mut ChangeSet)
+        requires { length set.old + changed_blocks self.old ≤ MAX_PUTS }
+        ensures done { self.new ≡ record self.old { changed = replicate (table_blocks self.old.size) false } }
+
+        ensures put { (c : Contents) (i : ℕ) → IsChanged self.old i → with_puts set.new c (table_start self.old.size + i) ≡ Some (table_words (bit self.old) i) }
+        ensures others { (c : Contents) (n : ℕ) → (IsChangedBlock self.old n → ⊥) → with_puts set.new c n ≡ with_puts set.old c n }
+        ensures targets { (n : ℕ) → (IsPutIn set.new n ↔ (IsPutIn set.old n ⊎ IsChangedBlock self.old n)) }
+        ensures few { length set.new ≤ length set.old + changed_blocks self.old }
+        ensures in_range { AllByRecursion (IsTarget self.old.size) (targets set.old) → AllByRecursion (IsTarget self.old.size) (targets set.new) }
+
+        ensures spells { (c : Contents) → SpellsTable self.old (with_puts set.old c) (with_puts set.new c) }
+    {
+        put_changed(&self.bits, &self.changed, table_start(self.size), set);
+        self.changed.fill(false);
+    }
+
+    /// A table block with a bit that isn't as it is to be, where there is one. The bits of the fixed
+    /// regions and those of the marked blocks are to be set and all others clear; no bit is right for a
+    /// block that is both.
+    pub fn wrong_block(&self, reached: &Reached) -> Option<u32>
+        requires { length reached.now ≡ self.now.size }
+        ensures wrong { IfSome result (λ b. IsWrongBlock self.now reached.now b) }
+        ensures right { IfNone result ((n : ℕ) → bit self.now n ≡ wanted_bit self.now.size reached.now n) }
+    {
+        for k in 0..self.size {
+            let wanted = u32::from(k < space_start(self.size)) + u32::from(reached.is_marked(k));
+            if u32::from(self.bits[k as usize]) != wanted {
+                return Some(table_start(self.size) + k / TABLE_BLOCK_BITS as u32);
+            }
+        }
+        None
+    }
+}

@@ -1,0 +1,215 @@
+use crate::layout::{table_blocks, table_start};
+use crate::{Reached, Table, TableError};
+use blockdisk::{Disk, Fault, MemDisk, NoMemory};
+use changeset::ChangeSet;
+use std::process::Abort;
+use std::test::Fail;
+use words36::{BLOCK_WORDS, Block, Word};
+
+/// The words of a table block that begins with these two.
+fn table_words(first: u64, second: u64) -> Block {
+    let mut words = [Word::ZERO; BLOCK_WORDS];
+    words[0] = Word::new(first).unwrap_or(Word::ZERO);
+    words[1] = Word::new(second).unwrap_or(Word::ZERO);
+    words
+}
+
+/// Gives a disk of 64 blocks a table that begins with these words.
+fn load_table(rt: &impl Abort, disk: &mut MemDisk, first: u64, second: u64) {
+    assert!(rt; disk.blocks() == 64);
+    disk.load(14, &table_words(first, second));
+    assert!(rt; disk.blocks() == 64);
+}
+
+#[test]
+fn the_table_of_a_small_disk(rt: HostRuntime) -> Result<(), Fail> {
+    let mut disk = MemDisk::new(rt.alloc(), 64, 0)?;
+    load_table(&rt, &mut disk, 0o777777400000, 0);
+    assert_eq!(rt; disk.blocks(), 64);
+    let mut table = Table::load(rt.alloc(), &mut disk)?;
+    assert_eq!(rt; table.is_free(18), false);
+    assert_eq!(rt; table.is_free(19), true);
+    table.set(20);
+    table.clear(18);
+    let mut set = ChangeSet::new();
+    table.changes(&mut set);
+    let puts = set.puts();
+    assert!(rt; puts.len() == 1);
+    assert_eq!(rt; puts[0].block, 14);
+    assert!(rt; puts[0].words == table_words(0o777777100000, 0));
+    table.changes(&mut set);
+    assert_eq!(rt; set.puts().len(), 1);
+    Ok(())
+}
+
+#[test]
+fn the_last_block_of_each_table(rt: HostRuntime) -> Result<(), Fail> {
+    for (size, blocks) in [(64, 1), (4608, 1), (4609, 2), (131072, 29)] {
+        let mut disk = MemDisk::new(rt.alloc(), size, 0)?;
+        assert!(rt; disk.blocks() == size);
+        assert!(rt; 64 <= size && size <= 131072);
+        assert_eq!(rt; table_blocks(size), blocks);
+        let mut table = Table::load(rt.alloc(), &mut disk)?;
+        assert_eq!(rt; table.is_free(size - 1), true);
+        table.set(size - 1);
+        let mut set = ChangeSet::new();
+        table.changes(&mut set);
+        let puts = set.puts();
+        assert!(rt; puts.len() == 1);
+        assert_eq!(rt; puts[0].block, table_start(size) + blocks - 1);
+    }
+    Ok(())
+}
+
+#[test]
+fn a_damaged_table_block(rt: HostRuntime) -> Result<(), Fail> {
+    let mut disk = MemDisk::new(rt.alloc(), 64, 0)?;
+    assert!(rt; disk.blocks() == 64);
+    disk.damage(14);
+    assert!(rt; disk.blocks() == 64);
+    let answer = Table::load(rt.alloc(), &mut disk).err();
+    assert_eq!(rt; answer, Some(TableError::TableWrong(14)));
+    Ok(())
+}
+
+#[test]
+fn a_bit_past_the_end(rt: HostRuntime) -> Result<(), Fail> {
+    let mut disk = MemDisk::new(rt.alloc(), 64, 0)?;
+    for (second, wanted) in [(0o400, None), (0o200, Some(TableError::TableWrong(14)))] {
+        load_table(&rt, &mut disk, 0o777777400000, second);
+        assert!(rt; disk.blocks() == 64);
+        let answer = Table::load(rt.alloc(), &mut disk).err();
+        assert_eq!(rt; answer, wanted);
+    }
+    Ok(())
+}
+
+#[test]
+fn blocks_are_held_and_booked(rt: HostRuntime) -> Result<(), Fail> {
+    let mut disk = MemDisk::new(rt.alloc(), 64, 0)?;
+    load_table(&rt, &mut disk, 0o777777400000, 0);
+    assert!(rt; disk.blocks() == 64);
+    let mut table = Table::load(rt.alloc(), &mut disk)?;
+    assert!(rt; table.is_free(19));
+    table.hold(19);
+    assert_eq!(rt; table.take(), Some(20));
+    assert!(rt; !table.is_free(20));
+    assert!(rt; !table.is_free(19));
+    table.unhold(19);
+    assert!(rt; table.is_free(19));
+    assert_eq!(rt; table.take(), Some(19));
+    assert!(rt; table.can_book(49) && !table.can_book(50));
+    table.book(40);
+    assert!(rt; table.can_book(9) && !table.can_book(10));
+    assert!(rt; table.booked() == 40);
+    table.unbook(30);
+    assert_eq!(rt; table.booked(), 10);
+    Ok(())
+}
+
+#[test]
+fn what_is_reached_is_set(rt: HostRuntime) -> Result<(), Fail> {
+    let mut disk = MemDisk::new(rt.alloc(), 64, 0)?;
+    load_table(&rt, &mut disk, 0o777777400000, 0);
+    assert!(rt; disk.blocks() == 64);
+    let table = Table::load(rt.alloc(), &mut disk)?;
+    let mut reached = Reached::new(rt.alloc(), 64)?;
+    for n in 15..18 {
+        assert!(rt; reached.mark(n));
+    }
+    assert!(rt; !reached.mark(17));
+    assert_eq!(rt; table.wrong_block(&reached), Some(14));
+    assert!(rt; reached.mark(18));
+    assert_eq!(rt; table.wrong_block(&reached), None);
+    assert!(rt; reached.is_marked(18) && !reached.is_marked(19));
+    assert!(rt; reached.mark(3));
+    assert_eq!(rt; table.wrong_block(&reached), Some(14));
+    Ok(())
+}
+
+/// A disk that fails from its next read on but so many. It is called dishonest, so that nothing is asked
+/// of it but its count of failures.
+#[derive(Drop)]
+struct FailingDisk {
+    disk: MemDisk,
+    reads: u32,
+    failures: u64,
+}
+
+impl Disk for FailingDisk {
+    ghost use Rattle.blockdisk.specs.Memory.{memory_state};
+
+    ghost state = { λ failing. record (memory_state failing.disk) { honest = ⊥; failures = failing.failures } };
+
+    ghost counts_now = { λ failing t c honest. absurd honest };
+
+    ghost only_now = { λ failing c honest. absurd honest };
+
+    ghost reaches_back = { λ failing t u c honest. absurd honest };
+
+    fn blocks(&self) -> u32 {
+        self.disk.blocks()
+    }
+
+    fn read(&mut self, n: u32) -> Result<Block, Fault> {
+        if self.reads == 0 {
+            self.failures = self.failures.saturating_add(1);
+            return Err(Fault::Device);
+        }
+        self.reads -= 1;
+        match self.disk.read(n) {
+            Err(Fault::Device) => {
+                self.failures = self.failures.saturating_add(1);
+                Err(Fault::Device)
+            }
+            answer => answer,
+        }
+    }
+
+    fn write(&mut self, _n: u32, _block: &Block) -> Result<(), Fault> {
+        self.failures = self.failures.saturating_add(1);
+        Err(Fault::Device)
+    }
+
+    fn sync(&mut self) -> Result<(), Fault> {
+        self.failures = self.failures.saturating_add(1);
+        Err(Fault::Device)
+    }
+}
+
+#[test]
+fn a_read_that_fails(rt: HostRuntime) -> Result<(), Fail> {
+    for reads in 0..3 {
+        let mut failing = FailingDisk {
+            disk: MemDisk::new(rt.alloc(), 4609, 0)?,
+            reads,
+            failures: 0,
+        };
+        assert!(rt; failing.blocks() == 4609);
+        let answer = Table::load(rt.alloc(), &mut failing).err();
+        if reads < 2 {
+            assert_eq!(rt; answer, Some(TableError::Device));
+            assert_eq!(rt; failing.failures, 1);
+        } else {
+            assert_eq!(rt; answer, None);
+        }
+    }
+    Ok(())
+}
+
+/// Run with each allocation refused in turn: the answer is `NoMemory`, and the next call succeeds.
+#[test]
+fn each_allocation_refused(rt: HostRuntime) {
+    let Ok(mut disk) = MemDisk::new(rt.alloc(), 64, 0) else {
+        return;
+    };
+    assert!(rt; disk.blocks() == 64);
+    if let Err(error) = Table::load(rt.alloc(), &mut disk) {
+        assert_eq!(rt; error, TableError::NoMemory);
+        assert!(rt; disk.blocks() == 64);
+        assert!(rt; Table::load(rt.alloc(), &mut disk).is_ok());
+    }
+    if let Err(error) = Reached::new(rt.alloc(), 64) {
+        assert_eq!(rt; error, NoMemory);
+    }
+}
