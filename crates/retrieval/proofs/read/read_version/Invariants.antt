@@ -1,0 +1,23 @@
+use Rattle.std.proofs.Common.{◌≡◌, ◌<◌, ◌≤◌, ◌-◌, length}
+use Rattle.std.specs.List.{AllByRecursion}
+use Rattle.meaning.specs.Faults.{InSpace}
+use Rattle.blockdisk.specs.Disk.{SameDisk, Keeps}
+use Rattle.meaning.specs.Costs.{blocks_of}
+use Rattle.retrieval.specs.Reading.{IsReadTo}
+use Rattle.retrieval.proofs.read.read_version.Given as goal
+
+abbrev pub invariant-loop-next : goal.invariant-loop-next
+invariant-loop-next g l = record {
+  same : SameDisk (g.D.Disk.state l.fn.disk) (g.D.Disk.state l.disk);
+  served : (g.D.Disk.state l.disk).failures ≡ (g.D.Disk.state l.fn.disk).failures;
+  keeps : (g.D.Disk.state l.fn.disk).honest → Keeps (g.D.Disk.state l.fn.disk) (g.D.Disk.state l.disk);
+  next_inside : 0 < l.next → InSpace l.size l.next;
+  blocks_inside : AllByRecursion (InSpace l.size) l.version.blocks;
+  ribs_inside : AllByRecursion (InSpace l.size) l.version.ribs;
+  words : l.version.words ≤ 2097152;
+  room : length l.version.blocks ≤ blocks_of l.version.words;
+  read : (g.D.Disk.state l.fn.disk).honest → IsReadTo l.size (g.D.Disk.state l.fn.disk).contents l.at l.prime l.version l.next;
+}
+
+abbrev pub decreases-loop-next : goal.decreases-loop-next
+decreases-loop-next g l = blocks_of l.version.words - length l.version.blocks

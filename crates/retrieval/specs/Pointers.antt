@@ -1,0 +1,21 @@
+-- Pointers, as they stand in words.
+use Rattle.std.specs.Prelude.{◌≡◌, ℕ, ◌-◌, List, map, length, take, drop, replicate}
+use Rattle.std.specs.List.{AllByRecursion}
+use Rattle.words36.specs.Words.{left, right}
+use Rattle.meaning.specs.Retrieval.{Run, IsRun}
+
+-- the run of a pointer: the count left, the first block right
+abbrev pub run_of : ℕ → Run
+run_of word = (left word, right word)
+
+abbrev pub runs_of : List ℕ → List Run
+runs_of words = map run_of words
+
+-- So many of the words are pointers, and those behind them are zero.
+pub record ArePointers (words : List ℕ) (count : ℕ) : Type 0 where
+  pub runs : AllByRecursion IsRun (runs_of (take count words))
+  pub zeros : drop count words ≡ replicate (length words - count) 0
+
+-- a run of its own for each block
+abbrev pub one_each : List ℕ → List Run
+one_each blocks = map (λ n. (1, n)) blocks

@@ -1,0 +1,39 @@
+ghost use Rattle.std.specs.Prelude.{◌≡◌};
+
+use blockdisk::NoMemory;
+use std::alloc::AllocError;
+use thiserror::Error;
+
+/// Why a version wasn't read.
+#[derive(Clone, Copy, Debug, PartialEq, Eq, Error)]
+pub enum RetrievalError {
+    /// This block, the prime block or an extension, is damaged or not as it should be.
+    #[error("bad retrieval block {0}")]
+    BadRetrieval(u32),
+    /// The device failed.
+    #[error("device fault")]
+    Device,
+    /// A growth was refused.
+    #[error("out of memory")]
+    NoMemory,
+}
+
+impl From<AllocError> for RetrievalError {
+    ghost use Rattle.retrieval.specs.declared.error.RetrievalError.TheVariants.{NoMemory};
+
+    ghost from_gives = { λ refused error. error ≡ NoMemory };
+
+    fn from(_refused: AllocError) -> RetrievalError {
+        RetrievalError::NoMemory
+    }
+}
+
+impl From<NoMemory> for RetrievalError {
+    ghost use Rattle.retrieval.specs.declared.error.RetrievalError.TheVariants.{NoMemory};
+
+    ghost from_gives = { λ refused error. error ≡ NoMemory };
+
+    fn from(_refused: NoMemory) -> RetrievalError {
+        RetrievalError::NoMemory
+    }
+}

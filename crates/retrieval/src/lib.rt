@@ -1,0 +1,41 @@
+//! Versions of files on the disk: what their prime blocks say, and where their data lie. What the layer
+//! keeps:
+//!
+//! 1. On an honest disk `read_version` answers a version that stands there, all of whose data blocks and
+//!    extensions lie in the free space; or it names a retrieval block that is not as it should be, and
+//!    that never where a version stands there as it should. (`ok`, `bad`, `whole`)
+//! 2. On every disk, honest or not, it returns, and the blocks that it answers lie in the free space, as
+//!    many as the length asks for. (`blocks_inside`, `ribs_inside`, `counted`, `few`)
+//! 3. It writes nothing, and answers `Device` exactly with one more failure of the disk. (`keeps`,
+//!    `failed`, `served`)
+//! 4. `prime_block` spells the prime block of a version, a pointer of its own to each data block.
+//! 5. A `Prime` has a protection below 1000 (octal) and a date that fits the twelve bits of layout 1; a
+//!    `Mode` is one of the six data modes of files.
+//! 6. Memory is taken for the lists of blocks alone, and a `Version` whose growth is refused stays as it
+//!    was.
+#![tactic(auto)]
+
+mod build;
+mod error;
+mod head;
+mod mode;
+mod parse;
+mod pointers;
+mod prime;
+mod read;
+mod runs;
+mod space;
+#[cfg(test)]
+mod tests;
+mod version;
+mod write;
+#[cfg(test)]
+mod write_tests;
+
+pub use build::prime_block;
+pub use error::RetrievalError;
+pub use mode::Mode;
+pub use prime::Prime;
+pub use read::read_version;
+pub use version::Version;
+pub use write::write_version;

@@ -1,0 +1,41 @@
+ghost use Rattle.std.specs.Prelude.{◌≡◌, ℕ, List, IfSome, IfNone, take, drop};
+ghost use Rattle.meaning.specs.Retrieval.{Prime as PrimeRecord, Run};
+ghost use Rattle.retrieval.specs.Primes.{with_length};
+ghost use Rattle.retrieval.specs.Pointers.{runs_of};
+ghost use Rattle.retrieval.specs.Spelling.{SpellsPrime, SpellsExtension};
+
+use crate::head::{ExtensionHead, PrimeHead, extension_head, prime_head};
+use crate::pointers::are_pointers;
+use words36::Block;
+
+/// How many words of a prime block stand before its pointers.
+pub const PRIME_HEAD: usize = 16;
+
+/// How many words of an extension stand before its pointers.
+pub const EXTENSION_HEAD: usize = 2;
+
+/// What a prime block says before its pointers, or `None` where its words aren't those of a prime block.
+pub fn parse_prime(block: &Block) -> Option<PrimeHead>
+    ensures some { IfSome result (λ h. SpellsPrime block.now (with_length h.prime h.length) (runs_of (take h.count (drop 16 block.now))) h.next) }
+    ensures none { IfNone result ((p : PrimeRecord) (runs : List Run) (next : ℕ) → SpellsPrime block.now p runs next → ⊥) }
+{
+    let words = &block[..];
+    let head = prime_head(block)?;
+    if !are_pointers(&words[PRIME_HEAD..], head.count) {
+        return None;
+    }
+    Some(head)
+}
+
+/// What an extension says before its pointers, or `None` where its words aren't those of an extension.
+pub fn parse_extension(block: &Block) -> Option<ExtensionHead>
+    ensures some { IfSome result (λ h. SpellsExtension block.now (runs_of (take h.count (drop 2 block.now))) h.next) }
+    ensures none { IfNone result ((runs : List Run) (next : ℕ) → SpellsExtension block.now runs next → ⊥) }
+{
+    let words = &block[..];
+    let head = extension_head(block)?;
+    if !are_pointers(&words[EXTENSION_HEAD..], head.count) {
+        return None;
+    }
+    Some(head)
+}

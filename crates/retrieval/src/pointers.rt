@@ -1,0 +1,47 @@
+ghost use Rattle.std.specs.Prelude.{◌≡◌, ◌≤◌, ◌↔◌, IsTrue, length, replicate};
+ghost use Rattle.std.specs.List.{AllByRecursion};
+ghost use Rattle.meaning.specs.Retrieval.{IsRun};
+ghost use Rattle.retrieval.specs.Pointers.{run_of, runs_of, ArePointers};
+
+use words36::Word;
+
+/// Whether a word is a pointer: its left half, the count, isn't zero.
+fn is_pointer(word: Word) -> bool
+    ensures { IsTrue result ↔ IsRun (run_of word) }
+{
+    let count = word.left().bits();
+    let _first = word.right().bits();
+    count != 0
+}
+
+/// Whether each of the words is a pointer.
+fn are_runs(words: &[Word]) -> bool
+    ensures { IsTrue result ↔ AllByRecursion IsRun (runs_of words.now) }
+{
+    for word in words {
+        if !is_pointer(*word) {
+            return false;
+        }
+    }
+    true
+}
+
+/// Whether all words are zero.
+pub fn are_zeros(words: &[Word]) -> bool
+    ensures { IsTrue result ↔ (words.now ≡ replicate (length words.now) 0) }
+{
+    for word in words {
+        if word.bits() != 0 {
+            return false;
+        }
+    }
+    true
+}
+
+/// Whether so many of the words are pointers, and those behind them zero.
+pub fn are_pointers(words: &[Word], count: usize) -> bool
+    requires { count ≤ length words.now }
+    ensures { IsTrue result ↔ ArePointers words.now count }
+{
+    are_runs(&words[..count]) && are_zeros(&words[count..])
+}

@@ -1,0 +1,167 @@
+ghost use Rattle.std.specs.Prelude.{◌≡◌, ◌*◌, ◌<◌, ◌≤◌, ◌⊎◌, ℕ, List, IsTrue, Some, None, IfSome, IfNone, IfOk, OnOk, IsErrOf, length};
+ghost use Rattle.std.specs.List.{AllByRecursion};
+ghost use Rattle.blockdisk.specs.Disk.{Keeps, SameDisk, one_more};
+ghost use Rattle.meaning.specs.Costs.{blocks_of};
+ghost use Rattle.meaning.specs.Regions.{IsVolumeSize};
+ghost use Rattle.meaning.specs.Retrieval.{Prime as PrimeRecord, most_blocks};
+ghost use Rattle.meaning.specs.Faults.{InSpace, IsBadVersion};
+ghost use Rattle.retrieval.specs.Reading.{IsBadPrime, IsBadExtension, Overfills, IsStarted, Extends, IsVersionAt, IsWholeVersion};
+ghost use Rattle.retrieval.specs.declared.error.RetrievalError.TheVariants.{BadRetrieval, Device, NoMemory};
+
+use crate::head::{EXTENSION_POINTERS, PRIME_POINTERS};
+use crate::parse::{EXTENSION_HEAD, PRIME_HEAD, parse_extension, parse_prime};
+use crate::runs::{RunError, push_runs};
+use crate::space::is_in_space;
+use crate::{Prime, RetrievalError, Version};
+use blockdisk::{Disk, Fault};
+use std::alloc::Global;
+use words36::{BLOCK_WORDS, Block};
+
+/// Reads a retrieval block.
+fn read_block<D: Disk>(disk: &mut D, n: u32) -> Result<Block, RetrievalError>
+    requires { n < (D.state disk.old).size }
+    ensures words { (D.state disk.old).honest → IfOk result (λ block. (D.state disk.old).contents n ≡ Some block) }
+    ensures bad { (D.state disk.old).honest → (k : ℕ) → IsErrOf result (BadRetrieval k) → (k ≡ n) × ((D.state disk.old).contents n ≡ None) }
+    ensures memory { IsErrOf result NoMemory → ⊥ }
+    ensures keeps { (D.state disk.old).honest → Keeps (D.state disk.old) (D.state disk.new) }
+    ensures same { SameDisk (D.state disk.old) (D.state disk.new) }
+    ensures failed { IsErrOf result Device → (D.state disk.new).failures ≡ one_more (D.state disk.old).failures }
+    ensures served { (IsErrOf result Device → ⊥) → (D.state disk.new).failures ≡ (D.state disk.old).failures }
+{
+    match disk.read(n) {
+        Ok(block) => Ok(block),
+        Err(Fault::Damaged) => Err(RetrievalError::BadRetrieval(n)),
+        Err(Fault::Device) => Err(RetrievalError::Device),
+    }
+}
+
+/// How many blocks so many words take.
+fn blocks_of(words: u32) -> u32
+    requires { words ≤ 2097152 }
+    ensures value { result ≡ blocks_of words }
+    ensures few { result ≤ 16384 }
+{
+    words.div_ceil(BLOCK_WORDS as u32)
+}
+
+/// The next retrieval block, or 0 where there is none; `None` where one is named that must not be.
+fn follow(next: u64, full: bool, size: u32) -> Option<u32>
+    requires { IsVolumeSize size }
+    ensures some { IfSome result (λ n. n ≡ next) }
+    ensures full { IfSome result (λ n. 0 < n → IsTrue full) }
+    ensures inside { IfSome result (λ n. 0 < n → InSpace size n) }
+    ensures named { IfNone result (0 < next) }
+    ensures none { IfNone result (IsTrue full → InSpace size next → ⊥) }
+{
+    if next == 0 {
+        return Some(0);
+    }
+    if full && is_in_space(size, next) {
+        Some(next as u32)
+    } else {
+        None
+    }
+}
+
+/// The version as its prime block has it, with the first extension, or 0.
+fn start_version(
+    alloc: Global,
+    block: &Block,
+    at: u32,
+    size: u32,
+) -> Result<(Prime, Version, u32), RetrievalError>
+    requires { IsVolumeSize size }
+    ensures ok { IfOk result (λ started. IsStarted size block.now started.0 started.1 started.2) }
+    ensures bad { (k : ℕ) → IsErrOf result (BadRetrieval k) → (k ≡ at) × IsBadPrime size block.now }
+    ensures device { IsErrOf result Device → ⊥ }
+{
+    let words = &block[..];
+    let Some(head) = parse_prime(block) else {
+        return Err(RetrievalError::BadRetrieval(at));
+    };
+    let full = head.count as u64 == PRIME_POINTERS;
+    let Some(next) = follow(head.next, full, size) else {
+        return Err(RetrievalError::BadRetrieval(at));
+    };
+    let mut version = Version::new(alloc);
+    version.set_length(head.length);
+    let pointers = &words[PRIME_HEAD..PRIME_HEAD + head.count];
+    match push_runs(pointers, size, blocks_of(head.length), &mut version) {
+        Ok(()) => Ok((head.prime, version, next)),
+        Err(RunError::Outside) => Err(RetrievalError::BadRetrieval(at)),
+        Err(RunError::TooMany) => Err(RetrievalError::BadRetrieval(at)),
+        Err(RunError::NoMemory) => Err(RetrievalError::NoMemory),
+    }
+}
+
+/// Adds the extension `n` to the version at a prime block; gives the next, or 0.
+fn extend_version(
+    block: &Block,
+    n: u32,
+    at: u32,
+    size: u32,
+    version: &mut Version,
+) -> Result<u32, RetrievalError>
+    requires volume { IsVolumeSize size }
+    requires words { version.old.words ≤ 2097152 }
+    requires room { length version.old.blocks ≤ blocks_of version.old.words }
+    ensures ok { IfOk result (λ next. Extends size block.now n next version.old version.new) }
+    ensures bad { (k : ℕ) → IsErrOf result (BadRetrieval k) → ((k ≡ n) × IsBadExtension size block.now) ⊎ ((k ≡ at) × Overfills block.now version.old) }
+    ensures device { IsErrOf result Device → ⊥ }
+{
+    let words = &block[..];
+    let Some(head) = parse_extension(block) else {
+        return Err(RetrievalError::BadRetrieval(n));
+    };
+    let full = head.count as u32 == EXTENSION_POINTERS;
+    let Some(next) = follow(head.next, full, size) else {
+        return Err(RetrievalError::BadRetrieval(n));
+    };
+    let pointers = &words[EXTENSION_HEAD..EXTENSION_HEAD + head.count];
+    match push_runs(pointers, size, blocks_of(version.length()), version) {
+        Ok(()) => (),
+        Err(RunError::Outside) => return Err(RetrievalError::BadRetrieval(n)),
+        Err(RunError::TooMany) => return Err(RetrievalError::BadRetrieval(at)),
+        Err(RunError::NoMemory) => return Err(RetrievalError::NoMemory),
+    }
+    version.push_rib(n)?;
+    Ok(next)
+}
+
+/// Reads a version: its prime block and the extensions of that. The data blocks aren't read.
+///
+/// # Errors
+///
+/// `BadRetrieval` with the prime block or an extension that is damaged or not as it should be; `Device`
+/// where the device failed; `NoMemory` where the lists of blocks find no room.
+pub fn read_version<D: Disk>(
+    alloc: Global,
+    disk: &mut D,
+    at: u32,
+) -> Result<(Prime, Version), RetrievalError>
+    requires volume { IsVolumeSize (D.state disk.old).size }
+    requires inside { at < (D.state disk.old).size }
+    ensures ok { (D.state disk.old).honest → IfOk result (λ read. IsVersionAt (D.state disk.old).size (D.state disk.old).contents at read.0 read.1) }
+    ensures bad { (D.state disk.old).honest → (k : ℕ) → IsErrOf result (BadRetrieval k) → IsBadVersion (D.state disk.old).size (D.state disk.old).contents 1 at k }
+    ensures whole { (D.state disk.old).honest → (p : PrimeRecord) (ribs blocks : List ℕ) → IsWholeVersion (D.state disk.old).size (D.state disk.old).contents at p ribs blocks → (k : ℕ) → IsErrOf result (BadRetrieval k) → ⊥ }
+    ensures blocks_inside { IfOk result (λ read. AllByRecursion (InSpace (D.state disk.old).size) read.1.blocks) }
+    ensures ribs_inside { IfOk result (λ read. AllByRecursion (InSpace (D.state disk.old).size) read.1.ribs) }
+    ensures counted { IfOk result (λ read. length read.1.blocks ≡ blocks_of read.1.words) }
+    ensures few { IfOk result (λ read. read.1.words ≤ most_blocks * 128) }
+    ensures keeps { (D.state disk.old).honest → Keeps (D.state disk.old) (D.state disk.new) }
+    ensures same { SameDisk (D.state disk.old) (D.state disk.new) }
+    ensures failed { IsErrOf result Device → (D.state disk.new).failures ≡ one_more (D.state disk.old).failures }
+    ensures served { (IsErrOf result Device → ⊥) → (D.state disk.new).failures ≡ (D.state disk.old).failures }
+{
+    let size = disk.blocks();
+    let block = read_block(disk, at)?;
+    let (prime, mut version, mut next) = start_version(alloc, &block, at, size)?;
+    while next != 0 {
+        let block = read_block(disk, next)?;
+        next = extend_version(&block, next, at, size, &mut version)?;
+    }
+    if version.blocks().len() as u32 != blocks_of(version.length()) {
+        return Err(RetrievalError::BadRetrieval(at));
+    }
+    Ok((prime, version))
+}

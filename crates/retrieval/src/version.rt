@@ -1,0 +1,138 @@
+ghost use Rattle.std.specs.Prelude.{◌≡◌, ◌<◌, ◌++◌, ◌∷◌, [], slice_set, slice_get, length, Some, IfOk, OnOk, OnErr};
+ghost use Rattle.retrieval.specs.Versions.{VersionState};
+
+use blockdisk::NoMemory;
+use std::alloc::Global;
+use std::marker::Model;
+
+/// Where a version of a file lies: its length in words, its data blocks in order, and its ribs, the
+/// extensions of its prime block.
+#[derive(Drop)]
+pub struct Version {
+    length: u32,
+    blocks: Vec<u32>,
+    ribs: Vec<u32>,
+}
+
+impl Model for Version {
+    ghost use Rattle.retrieval.specs.Versions.{VersionState};
+
+    ghost Value = { VersionState };
+
+    ghost view = { λ v. record { words = v.length; blocks = v.blocks.items; ribs = v.ribs.items } };
+}
+
+impl Version {
+    /// A version of no words and no blocks. It takes no memory yet.
+    pub fn new(alloc: Global) -> Self
+        ensures { result ≡ record { words = 0; blocks = []; ribs = [] } }
+    {
+        Version {
+            length: 0,
+            blocks: Vec::new(alloc),
+            ribs: Vec::new(alloc),
+        }
+    }
+
+    /// The length in words.
+    pub fn length(&self) -> u32
+        ensures { result ≡ self.now.words }
+    {
+        self.length
+    }
+
+    /// Sets the length in words; the blocks stay.
+    pub fn set_length(&mut self, words: u32)
+        ensures { self.new ≡ record self.old { words = words } }
+    {
+        self.length = words;
+    }
+
+    /// The data blocks, in order.
+    pub fn blocks(&self) -> &[u32]
+        ensures { result.now ≡ self.now.blocks }
+    {
+        self.blocks.as_slice()
+    }
+
+    /// The extensions of the prime block, in order.
+    pub fn ribs(&self) -> &[u32]
+        ensures { result.now ≡ self.now.ribs }
+    {
+        self.ribs.as_slice()
+    }
+
+    /// The data block at a place, counted from 0, or `None` past the last.
+    pub fn block(&self, i: usize) -> Option<u32>
+        ensures { result ≡ slice_get self.now.blocks i }
+    {
+        self.blocks.get(i).copied()
+    }
+
+    /// Puts another block at a place.
+    ///
+    /// # Errors
+    ///
+    /// `NoMemory` where there is no memory; nothing changes then. A list of blocks never needs any; a list
+    /// of runs can.
+    pub fn set_block(&mut self, i: usize, n: u32) -> Result<(), NoMemory>
+        requires { i < length self.old.blocks }
+        ensures ok { OnOk result (self.new ≡ record self.old { blocks = slice_set self.old.blocks i n }) }
+        ensures err { OnErr result (self.new ≡ self.old) }
+    {
+        self.blocks[i] = n;
+        Ok(())
+    }
+
+    /// Adds a data block behind the last.
+    ///
+    /// # Errors
+    ///
+    /// `NoMemory` where there is no memory; nothing changes then.
+    pub fn push(&mut self, n: u32) -> Result<(), NoMemory>
+        ensures ok { OnOk result (self.new ≡ record self.old { blocks = self.old.blocks ++ n ∷ [] }) }
+        ensures err { OnErr result (self.new ≡ self.old) }
+    {
+        match self.blocks.push(n) {
+            Ok(()) => Ok(()),
+            Err(_) => Err(NoMemory),
+        }
+    }
+
+    /// Adds a rib behind the last.
+    ///
+    /// # Errors
+    ///
+    /// `NoMemory` where there is no memory; nothing changes then.
+    pub fn push_rib(&mut self, n: u32) -> Result<(), NoMemory>
+        ensures ok { OnOk result (self.new ≡ record self.old { ribs = self.old.ribs ++ n ∷ [] }) }
+        ensures err { OnErr result (self.new ≡ self.old) }
+    {
+        match self.ribs.push(n) {
+            Ok(()) => Ok(()),
+            Err(_) => Err(NoMemory),
+        }
+    }
+
+    /// Puts other ribs in the place of all.
+    pub(crate) fn set_ribs(&mut self, ribs: Vec<u32>)
+        ensures { self.new ≡ record self.old { ribs = ribs.items } }
+    {
+        self.ribs = ribs;
+    }
+
+    /// An equal version.
+    ///
+    /// # Errors
+    ///
+    /// `NoMemory` where there is no memory.
+    pub fn copy(&self) -> Result<Version, NoMemory>
+        ensures { IfOk result (λ version. version ≡ self.now) }
+    {
+        Ok(Version {
+            length: self.length,
+            blocks: self.blocks.clone()?,
+            ribs: self.ribs.clone()?,
+        })
+    }
+}

@@ -1,0 +1,199 @@
+ghost use Rattle.std.specs.Prelude.{◌≡◌, ◌+◌, ◌-◌, ◌/◌, ◌<◌, ◌≤◌, ◌^◌, ◌∷◌, ℕ, map, length, Some, OnOk, IfOk, IsErrOf};
+ghost use Rattle.std.specs.List.{AllByRecursion};
+ghost use Rattle.blockdisk.specs.Disk.{SameDisk, Touches, one_more};
+ghost use Rattle.blockdisk.specs.declared.fault.Fault.TheVariants.{Device as DeviceFault, Damaged};
+ghost use Rattle.meaning.specs.Blocks.{head_or_zero};
+ghost use Rattle.meaning.specs.Costs.{blocks_of};
+ghost use Rattle.meaning.specs.Faults.{InSpace};
+ghost use Rattle.meaning.specs.Maps.{times};
+ghost use Rattle.meaning.specs.Regions.{IsVolumeSize};
+ghost use Rattle.meaning.specs.Retrieval.{extension_block, AreExtensions, IsRetrieved};
+ghost use Rattle.alloctab.specs.TableState.{IsTable, IsFree, holds, space, used_in_space, with_held};
+ghost use Rattle.retrieval.specs.Pointers.{one_each};
+ghost use Rattle.retrieval.specs.Primes.{with_length};
+ghost use Rattle.retrieval.specs.declared.error.RetrievalError.TheVariants.{BadRetrieval, Device, NoMemory};
+ghost use Rattle.retrieval.specs.Writing.{rib_count, Takes, AreApart, IsFixed, extensions_of};
+
+use crate::build::{pointer_to, prime_block};
+use crate::head::{EXTENSION_HALF, EXTENSION_POINTERS, PRIME_POINTERS};
+use crate::parse::EXTENSION_HEAD;
+use crate::{Prime, RetrievalError, Version};
+use alloctab::Table;
+use blockdisk::{Disk, Fault};
+use std::alloc::Global;
+use words36::{BLOCK_WORDS, Block, Half, Word};
+
+/// The words of an extension: a pointer of its own to each of the blocks, and the next extension, or 0.
+fn extension_of(blocks: &[u32], next: u32) -> Block
+    requires few { length blocks.now ≤ 126 }
+    requires fit { AllByRecursion (λ n. n < 2 ^ 18) blocks.now }
+    ensures { result ≡ extension_block (one_each blocks.now) next }
+{
+    let mut words = [Word::ZERO; BLOCK_WORDS];
+    words[0] = Word::from_halves(
+        Half::from_bits(EXTENSION_HALF),
+        Half::from_bits(blocks.len() as u32),
+    );
+    words[1] = Word::from_bits(u64::from(next));
+    for (i, n) in blocks.iter().enumerate() {
+        words[EXTENSION_HEAD + i] = pointer_to(*n);
+    }
+    words
+}
+
+/// The first of the ribs, or 0 where there is none.
+fn first_of(ribs: &[u32]) -> u32
+    ensures { result ≡ head_or_zero ribs.now }
+{
+    match ribs.first() {
+        Some(rib) => *rib,
+        None => 0,
+    }
+}
+
+/// Writes the ribs with the pointers to these blocks, the last rib first.
+///
+/// # Errors
+///
+/// `Device` where the device failed; the ribs may then hold anything.
+fn write_ribs<D: Disk>(disk: &mut D, ribs: &[u32], blocks: &[u32]) -> Result<(), Fault>
+    requires inside { AllByRecursion (λ n. n < (D.state disk.old).size) ribs.now }
+    requires apart { AreApart ribs.now }
+    requires count { length ribs.now ≡ (length blocks.now + 125) / 126 }
+    requires fit { AllByRecursion (λ n. n < 2 ^ 18) blocks.now }
+    ensures written { (D.state disk.old).honest → OnOk result (AreExtensions (D.state disk.new).contents (extensions_of ribs.now blocks.now)) }
+    ensures touched { (D.state disk.old).honest → Touches (λ n. 0 < times n ribs.now) (D.state disk.old) (D.state disk.new) }
+    ensures same { SameDisk (D.state disk.old) (D.state disk.new) }
+    ensures device { IsErrOf result Damaged → ⊥ }
+    ensures failed { IsErrOf result DeviceFault → (D.state disk.new).failures ≡ one_more (D.state disk.old).failures }
+    ensures served { OnOk result ((D.state disk.new).failures ≡ (D.state disk.old).failures) }
+{
+    let Some((rib, further)) = ribs.split_first() else {
+        return Ok(());
+    };
+    let here = blocks.len().min(EXTENSION_POINTERS as usize);
+    write_ribs(disk, further, &blocks[here..])?;
+    let words = extension_of(&blocks[..here], first_of(further));
+    disk.write(*rib, &words)
+}
+
+/// Takes a free block. There is one, since fewer are used than are booked.
+fn take_block(table: &mut Table) -> u32
+    requires used { used_in_space table.old < table.old.booked }
+    requires room { table.old.booked ≤ space table.old.size }
+    ensures free { (result < table.old.size) × IsFree table.old result }
+    ensures held { table.new ≡ with_held table.old result (holds table.old result + 1) }
+{
+    match table.take() {
+        Some(n) => n,
+        None => unreachable!(),
+    }
+}
+
+/// Takes free blocks, one after the other.
+fn take_blocks(table: &mut Table, blocks: &mut [u32])
+    requires sound { IsTable table.old }
+    requires fixed { IsFixed table.old }
+    requires used { used_in_space table.old + length blocks.old ≤ table.old.booked }
+    requires room { table.old.booked ≤ space table.old.size }
+    ensures taken { Takes table.old blocks.new table.new }
+    ensures length { length blocks.new ≡ length blocks.old }
+{
+    for i in 0..blocks.len() {
+        blocks[i] = take_block(table);
+    }
+}
+
+/// How many ribs so many blocks ask for.
+fn rib_count(blocks: usize) -> usize
+    ensures { result ≡ rib_count blocks }
+{
+    let others = blocks.saturating_sub(PRIME_POINTERS as usize);
+    others.div_ceil(EXTENSION_POINTERS as usize)
+}
+
+/// Writes the ribs of a version, and its prime block last.
+///
+/// # Errors
+///
+/// `Device` where the device failed; the blocks may then hold anything.
+fn write_blocks<D: Disk>(
+    disk: &mut D,
+    at: u32,
+    prime: &Prime,
+    version: &Version,
+) -> Result<(), Fault>
+    requires inside { AllByRecursion (λ n. n < (D.state disk.old).size) (at ∷ version.now.ribs) }
+    requires apart { AreApart (at ∷ version.now.ribs) }
+    requires nonzero { times 0 version.now.ribs ≡ 0 }
+    requires count { length version.now.ribs ≡ rib_count (length version.now.blocks) }
+    requires words { version.now.words ≤ 2097152 }
+    requires enough { length version.now.blocks ≡ blocks_of version.now.words }
+    requires fit { AllByRecursion (λ n. n < 2 ^ 18) version.now.blocks }
+    ensures written { (D.state disk.old).honest → OnOk result (IsRetrieved 1 (D.state disk.new).contents (with_length prime.now version.now.words) at version.now.ribs version.now.blocks) }
+    ensures touched { (D.state disk.old).honest → Touches (λ n. 0 < times n (at ∷ version.now.ribs)) (D.state disk.old) (D.state disk.new) }
+    ensures same { SameDisk (D.state disk.old) (D.state disk.new) }
+    ensures device { IsErrOf result Damaged → ⊥ }
+    ensures failed { IsErrOf result DeviceFault → (D.state disk.new).failures ≡ one_more (D.state disk.old).failures }
+    ensures served { OnOk result ((D.state disk.new).failures ≡ (D.state disk.old).failures) }
+{
+    let blocks = version.blocks();
+    let here = blocks.len().min(PRIME_POINTERS as usize);
+    write_ribs(disk, version.ribs(), &blocks[here..])?;
+    let words = prime_block(prime, version);
+    disk.write(at, &words)
+}
+
+/// Writes the retrieval blocks of a version: takes a prime block and the ribs that its blocks ask for from
+/// the table and writes them, by quiet writes alone. Answers the prime block.
+///
+/// # Errors
+///
+/// `NoMemory` where the list of ribs finds no room, with nothing done; `Device` where the device failed,
+/// with the blocks taken and holding anything.
+pub fn write_version<D: Disk>(
+    alloc: Global,
+    disk: &mut D,
+    table: &mut Table,
+    prime: &Prime,
+    version: &mut Version,
+) -> Result<u32, RetrievalError>
+    requires volume { IsVolumeSize (D.state disk.old).size }
+    requires size { table.old.size ≡ (D.state disk.old).size }
+    requires words { version.old.words ≤ 2097152 }
+    requires enough { length version.old.blocks ≡ blocks_of version.old.words }
+    requires blocks { AllByRecursion (λ n. n < 2 ^ 18) version.old.blocks }
+    requires fixed { IsFixed table.old }
+    requires booked { used_in_space table.old + (1 + rib_count (length version.old.blocks)) ≤ table.old.booked }
+    requires room { table.old.booked ≤ space table.old.size }
+
+    // What was written is read back.
+    ensures written { (D.state disk.old).honest → IfOk result (λ n. IsRetrieved 1 (D.state disk.new).contents (with_length prime.now version.new.words) n version.new.ribs version.new.blocks) }
+    ensures kept { version.new ≡ record version.old { ribs = version.new.ribs } }
+    ensures count { OnOk result (length version.new.ribs ≡ rib_count (length version.new.blocks)) }
+
+    // The blocks taken were free, one after the other, also where the device failed.
+    ensures taken { IfOk result (λ n. Takes table.old (n ∷ version.new.ribs) table.new) }
+    ensures left { IsErrOf result Device → (n : ℕ) × Takes table.old (n ∷ version.new.ribs) table.new }
+
+    // Nothing but blocks that were free is written, whatever the answer.
+    ensures touched { (D.state disk.old).honest → Touches (λ n. IsFree table.old n × InSpace (D.state disk.old).size n) (D.state disk.old) (D.state disk.new) }
+    ensures memory { IsErrOf result NoMemory → (table.new ≡ table.old) × (version.new ≡ version.old) × (disk.new ≡ disk.old) }
+    ensures bad { (k : ℕ) → IsErrOf result (BadRetrieval k) → ⊥ }
+
+    // On every disk.
+    ensures same { SameDisk (D.state disk.old) (D.state disk.new) }
+    ensures failed { IsErrOf result Device → (D.state disk.new).failures ≡ one_more (D.state disk.old).failures }
+    ensures served { (IsErrOf result Device → ⊥) → (D.state disk.new).failures ≡ (D.state disk.old).failures }
+{
+    // Memory first, so that a refused growth leaves everything alone.
+    let mut ribs = vec![in alloc; 0; rib_count(version.blocks().len())]?;
+    let _booked = table.booked(); // which says that the table is sound
+    let at = take_block(table);
+    take_blocks(table, ribs.as_mut_slice());
+    version.set_ribs(ribs);
+    match write_blocks(disk, at, prime, version) {
+        Ok(()) => Ok(at),
+        Err(_) => Err(RetrievalError::Device),
+    }
+}
