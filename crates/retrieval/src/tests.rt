@@ -127,6 +127,11 @@ fn lengths_and_blocks(rt: HostRuntime) {
         answer(&rt, rt.alloc(), &rib(384, 0, &[(3, 30)]), &none),
         Ok(3)
     );
+}
+
+#[test]
+fn versions_with_an_extension(rt: HostRuntime) {
+    let none = [Word::ZERO; BLOCK_WORDS];
     let all = [(1, 100); 112];
     assert_eq!(rt;
         answer(&rt, rt.alloc(), &rib(112 * 128, 0, &all), &none),
@@ -194,7 +199,7 @@ fn prime_blocks_are_built_again(rt: HostRuntime) {
 }
 
 #[test]
-fn bad_prime_blocks(rt: HostRuntime) {
+fn bad_first_words(rt: HostRuntime) {
     let none = [Word::ZERO; BLOCK_WORDS];
     let bad: Result<usize, RetrievalError> = Err(RetrievalError::BadRetrieval(20));
     assert_eq!(rt; answer(&rt, rt.alloc(), &none, &none), bad);
@@ -220,6 +225,12 @@ fn bad_prime_blocks(rt: HostRuntime) {
     let mut late = rib(2, 0, &[(1, 30)]);
     late[3] = word(0o057002637777); // a minute before midnight
     assert_eq!(rt; answer(&rt, rt.alloc(), &late, &none), Ok(1));
+}
+
+#[test]
+fn bad_pointers(rt: HostRuntime) {
+    let none = [Word::ZERO; BLOCK_WORDS];
+    let bad: Result<usize, RetrievalError> = Err(RetrievalError::BadRetrieval(20));
     assert_eq!(rt; answer(&rt, rt.alloc(), &rib(2, 0, &[(1, 14)]), &none), bad);
     assert_eq!(rt;
         answer(&rt, rt.alloc(), &rib(2, 0, &[(1, 1024)]), &none),
@@ -235,6 +246,12 @@ fn bad_prime_blocks(rt: HostRuntime) {
     );
     assert_eq!(rt; answer(&rt, rt.alloc(), &rib(2, 0, &[]), &none), bad);
     assert_eq!(rt; answer(&rt, rt.alloc(), &rib(2, 0, &[(2, 30)]), &none), bad);
+}
+
+#[test]
+fn bad_extensions_of_prime_blocks(rt: HostRuntime) {
+    let none = [Word::ZERO; BLOCK_WORDS];
+    let bad: Result<usize, RetrievalError> = Err(RetrievalError::BadRetrieval(20));
     let all = [(1, 100); 112];
     assert_eq!(rt;
         answer(&rt, rt.alloc(), &rib(113 * 128, 14, &all), &none),
