@@ -11,7 +11,9 @@
 //! 4. `prime_block` spells the prime block of a version, a pointer of its own to each data block.
 //! 5. A `Prime` has a protection below 1000 (octal) and a date that fits the twelve bits of layout 1; a
 //!    `Mode` is one of the six data modes of files.
-//! 6. Memory is taken for the lists of blocks alone, and a `Version` whose growth is refused stays as it
+//! 6. `write_version` writes no block but the prime block and the ribs that it took from the table, each
+//!    free then; at Ok the version stands there. (`written`, `taken`, `touched`)
+//! 7. Memory is taken for the lists of blocks alone, and a `Version` whose growth is refused stays as it
 //!    was.
 #![tactic(auto)]
 
