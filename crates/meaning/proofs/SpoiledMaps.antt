@@ -36,7 +36,7 @@ copy_map : HasMap 64 v1_untouched_copy v1_map
 copy_map = record {
   volume = v1_has_map.volume;
   mapped = record {
-    home = inr (λ other copy. some_none (sym copy.words), record { words = refl; layout = inl refl; master_from = lit≤ tt; master_below = lit< tt });
+    home = inr (λ other copy. some_none (sym copy.words), record { words = refl; layout = refl; master_from = lit≤ tt; master_below = lit< tt });
     master = directory_kept master_words IsMasterEntry v1 v1_untouched_copy v1_map.chain _ v1_has_map.mapped.master (λ n h. kept n (omega arith));
     directories = λ ppn d is. whole_kept 1 v1 v1_untouched_copy ppn d (v1_has_map.mapped.directories ppn d is) (λ n h. kept n (let q = directory_part v1_map ppn d is n in omega arith));
   };

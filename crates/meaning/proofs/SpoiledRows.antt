@@ -58,7 +58,7 @@ abbrev pub foo_place : Place
 foo_place = place_of owner foo_txt
 
 pub home_stands : (c : Contents) → c 1 ≡ Some home_words → IsHome 64 c (record { layout = 1; master = 15 })
-home_stands c home = inl (record { words = home; layout = inl refl; master_from = lit≤ tt; master_below = lit< tt })
+home_stands c home = inl (record { words = home; layout = refl; master_from = lit≤ tt; master_below = lit< tt })
 
 at_master : (c : Contents) → c 1 ≡ Some home_words → IsMasterWalk 64 c 1 [] 15
 at_master c home = record { master = 15; home = home_stands c home; walk = refl }
@@ -118,7 +118,7 @@ no_third : (c : Contents) (n : ℕ) → c n ≡ Some third_home → (home : Home
 no_third c n is home copy =
     let same : third_home ≡ home_block 64 home = some_same (sym is ∙ copy.words) in
     let third : 3 ≡ home.layout = ap (λ words. get_or words 1 0) same in
-    ⊎_elim (λ one. absurd (omega arith)) (λ two. absurd (omega arith)) copy.layout
+    absurd (let one : home.layout ≡ 1 = copy.layout in omega arith)
 
 pub bad_home : HasFault 64 v1_bad_home BadHome
 bad_home = settled_fault v1_bad_home BadHome refl (record {

@@ -1,6 +1,5 @@
 -- The home blocks. Blocks 1 and 2 are copies; a copy is valid where every word of it is right, and the
--- first valid copy counts. It names the layout, which is 1 or 2, and the first block of the master
--- directory.
+-- first valid copy counts. It names the layout and the first block of the master directory.
 use Rattle.std.specs.Prelude.{◌≡◌, ℕ, ◌<◌, ◌≤◌, ◌⊎◌, List, ◌∷◌, replicate, Some}
 use Rattle.blockdisk.specs.Disk.{Contents}
 use Rattle.meaning.specs.Regions.{table_blocks, log_images, space_start}
@@ -14,13 +13,18 @@ pub record Home : Type 0 where
   -- the first block of the master directory
   pub master : ℕ
 
+-- The layouts that an image may have. What a layout says of dates and quotas is a parameter of the other
+-- definitions, so that a second one is one more case here.
+abbrev pub IsLayout : ℕ → Type 0
+IsLayout layout = layout ≡ 1
+
 abbrev pub home_block : ℕ → Home → List ℕ
 home_block size home = filser_word ∷ home.layout ∷ size ∷ table_blocks size ∷ log_images size ∷ home.master ∷ replicate 122 0
 
 -- The copy in block n is valid, and says this.
 pub record IsHomeCopy (size : ℕ) (contents : Contents) (n : ℕ) (home : Home) : Type 0 where
   pub words : contents n ≡ Some (home_block size home)
-  pub layout : (home.layout ≡ 1) ⊎ (home.layout ≡ 2)
+  pub layout : IsLayout home.layout
   pub master_from : space_start size ≤ home.master
   pub master_below : home.master < size
 
