@@ -7,7 +7,7 @@ use Rattle.meaning.specs.Home.{IsHome}
 use Rattle.meaning.specs.Table.{fixed}
 use Rattle.meaning.specs.Directories.{numbers}
 use Rattle.meaning.specs.Stands.{StoredFile, reaches_in_file, reaches_in_directory, reaches, place_of, entry_of, IsVersion, IsWhole}
-use Rattle.meaning.specs.Readings.{FoundDirectoryIsWhole, FoundDirectoryReaches, found_map, FoundMapStands}
+use Rattle.meaning.specs.Readings.{FoundDirectoryIsWhole, FoundDirectoryReaches, found_map, FoundMapIsMapped, FoundMapReaches, FoundMapStands}
 use Rattle.meaning.proofs.MapLists.{mapped-from_entries, each_in_map, EachOnce-from_map}
 use Rattle.meaning.proofs.MapSums.{sum-from_entries}
 use Rattle.meaning.proofs.Names.{name_total, name_exact}
@@ -32,26 +32,32 @@ directory_whole layout contents ppn protection quota nodes files small limit cha
 pub directory_reaches : FoundDirectoryReaches
 directory_reaches n protection quota nodes files u = ap (λ k. times n (numbers nodes) + k) (sum-from_entries name_total name_exact (reaches_in_file n) files u)
 
+pub map_mapped : FoundMapIsMapped
+map_mapped size layout contents nodes directories home chain are whole = record {
+  home = subst (λ first. IsHome size contents (record { layout = layout; master = first })) (sym (head-numbers nodes)) home;
+  master = record {
+    nodes = nodes;
+    spelled = chain.spelled;
+    filled = chain.filled;
+    blocks_are = refl;
+    are_entries = chain.are_entries;
+    each_once = chain.each_once;
+    map_is = ap from_entries (sym are) ∙ sym (mapped-from_entries nat_cmp_total nat_cmp-IsAntisymmetric entry_of directories);
+  };
+  directories = each_in_map nat_cmp_total nat_cmp-IsAntisymmetric (λ ppn d. IsWhole layout contents ppn d) directories whole;
+}
+
+pub map_reaches : FoundMapReaches
+map_reaches n layout nodes directories once = ap (λ k. times n (numbers nodes) + k) (sum-from_entries nat_cmp_total nat_cmp-IsAntisymmetric (reaches_in_directory n) directories once)
+
 pub map_stands : FoundMapStands
 map_stands size layout contents nodes directories volume home chain are whole table outside bits =
     let once = EachOnce-from_map nat_cmp entry_of directories (subst (EachOnce nat_cmp) (sym are) chain.each_once) in
     let reached : (n : ℕ) → reaches n (found_map layout nodes directories) ≡ times n (numbers nodes) + total (λ e. reaches_in_directory n e.1) directories =
-    λ n. ap (λ k. times n (numbers nodes) + k) (sum-from_entries nat_cmp_total nat_cmp-IsAntisymmetric (reaches_in_directory n) directories once) in
+    λ n. map_reaches n layout nodes directories once in
     record {
       volume = volume;
-      mapped = record {
-        home = subst (λ first. IsHome size contents (record { layout = layout; master = first })) (sym (head-numbers nodes)) home;
-        master = record {
-          nodes = nodes;
-          spelled = chain.spelled;
-          filled = chain.filled;
-          blocks_are = refl;
-          are_entries = chain.are_entries;
-          each_once = chain.each_once;
-          map_is = ap from_entries (sym are) ∙ sym (mapped-from_entries nat_cmp_total nat_cmp-IsAntisymmetric entry_of directories);
-        };
-        directories = each_in_map nat_cmp_total nat_cmp-IsAntisymmetric (λ ppn d. IsWhole layout contents ppn d) directories whole;
-      };
+      mapped = map_mapped size layout contents nodes directories home chain are whole;
       marked = record {
         undamaged = table;
         inside = λ n h. reached n ∙ outside n h;

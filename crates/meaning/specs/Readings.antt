@@ -12,7 +12,7 @@ use Rattle.meaning.specs.Regions.{IsVolumeSize, table_blocks, table_start}
 use Rattle.meaning.specs.Home.{IsHome}
 use Rattle.meaning.specs.Table.{table_bit, fixed}
 use Rattle.meaning.specs.Directories.{Node, numbers, first_of, items, IsSpelled, IsFilled, MasterEntry, master_words, IsMasterEntry, FileEntry, file_words, IsFileEntry}
-use Rattle.meaning.specs.Stands.{StoredFile, StoredDirectory, DiskMap, reaches_in_file, reaches_in_directory, quota_limit, place_of, entry_of, IsVersion, IsWhole, HasMap}
+use Rattle.meaning.specs.Stands.{StoredFile, StoredDirectory, DiskMap, reaches_in_file, reaches_in_directory, quota_limit, place_of, entry_of, IsVersion, IsWhole, reaches, IsMapped, HasMap}
 
 -- A chain was walked to its end, and is as it should be.
 pub record IsChainRead {K V : Type 0} (R : K → K → Ordering) (words : K × V → List ℕ) (IsEntry : K × V → Type 0) (contents : Contents) (nodes : List (Node (K × V))) : Type 0 where
@@ -40,6 +40,20 @@ FoundDirectoryReaches =
 -- the map that was found
 abbrev pub found_map : ℕ → List (Node MasterEntry) → List (ℕ × StoredDirectory) → DiskMap
 found_map layout nodes directories = record { layout = layout; chain = numbers nodes; directories = from_entries directories }
+
+-- it is spelled in the contents
+abbrev pub FoundMapIsMapped : Type 0
+FoundMapIsMapped =
+    (size layout : ℕ) (contents : Contents) (nodes : List (Node MasterEntry)) (directories : List (ℕ × StoredDirectory))
+    → IsHome size contents (record { layout = layout; master = first_of nodes }) → IsChainRead nat_cmp master_words IsMasterEntry contents nodes
+    → map (λ e. (e.0, entry_of e.1)) directories ≡ items nodes → AllByRecursion (λ e. IsWhole layout contents e.0 e.1) directories
+    → IsMapped size contents (found_map layout nodes directories)
+
+-- and how often it reaches a block is what a count over what was found gives
+abbrev pub FoundMapReaches : Type 0
+FoundMapReaches =
+    (n layout : ℕ) (nodes : List (Node MasterEntry)) (directories : List (ℕ × StoredDirectory)) → EachOnce nat_cmp directories
+    → reaches n (found_map layout nodes directories) ≡ times n (numbers nodes) + total (λ e. reaches_in_directory n e.1) directories
 
 -- with a table that agrees with the count over what was found, the contents have it
 abbrev pub FoundMapStands : Type 0

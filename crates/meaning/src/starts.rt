@@ -2,7 +2,7 @@ ghost use Rattle.std.specs.Prelude.{ℕ};
 ghost use Rattle.blockdisk.specs.Disk.{Contents};
 ghost use Rattle.meaning.specs.Faults.{StartFault, HasFault};
 ghost use Rattle.meaning.specs.Files.{File, Files};
-ghost use Rattle.meaning.specs.Readings.{FoundDirectoryIsWhole, FoundDirectoryReaches, FoundMapStands};
+ghost use Rattle.meaning.specs.Readings.{FoundDirectoryIsWhole, FoundDirectoryReaches, FoundMapIsMapped, FoundMapReaches, FoundMapStands};
 ghost use Rattle.meaning.specs.Stands.{Stands};
 
 /// Contents in which a fault stands stand for no files.
@@ -14,5 +14,7 @@ pub fn faults_exclude()
 pub fn reading_finds_the_map()
     ensures directory { FoundDirectoryIsWhole }
     ensures reaches { FoundDirectoryReaches }
+    ensures mapped { FoundMapIsMapped }
+    ensures map_reaches { FoundMapReaches }
     ensures map { FoundMapStands }
 {}
