@@ -1,4 +1,5 @@
 ghost use Rattle.std.specs.Prelude.{◌≡◌, ◌+◌, ◌<◌, ◌≤◌, ◌^◌, ◌↔◌, ◌++◌, ℕ, List, Ok, IfOk, IfErr, IfSome, IsSome, IsErrOf, length, take, drop};
+ghost use Rattle.words36.specs.Words.{IsWord};
 ghost use Rattle.words36.specs.Blocks.{IsBlock, IsFirstBadWord, block_bytes, word_bytes, number_at};
 
 use crate::{BLOCK_WORDS, Block, Word, WordError};
@@ -9,7 +10,8 @@ pub const BLOCK_BYTES: usize = 8 * BLOCK_WORDS;
 
 /// The bytes of a block: eight to a word, the most significant first.
 pub fn block_to_bytes(block: &Block) -> [u8; BLOCK_BYTES]
-    ensures { result ≡ block_bytes block.now }
+    ensures bytes { result ≡ block_bytes block.now }
+    ensures words { IsBlock block.now }
 {
     let mut bytes = [0; BLOCK_BYTES];
     for place in 0..BLOCK_WORDS {
@@ -25,6 +27,7 @@ pub fn block_to_bytes(block: &Block) -> [u8; BLOCK_BYTES]
 /// `BadWord` with the place, counted from 0, of the first word whose top 28 bits aren't zero.
 pub fn block_from_bytes(bytes: &[u8; BLOCK_BYTES]) -> Result<Block, WordError>
     ensures read { IfOk result (λ words. block_bytes words ≡ bytes.now) }
+    ensures words { IfOk result IsBlock }
     ensures of_block { (words : List ℕ) → IsBlock words → block_bytes words ≡ bytes.now → result ≡ Ok words }
     ensures bad { (place : ℕ) → (IsErrOf result (WordError.BadWord place) ↔ IsFirstBadWord bytes.now place) }
     ensures refused { IfErr result (λ error. (place : ℕ) × (error ≡ WordError.BadWord place)) }
@@ -39,7 +42,8 @@ pub fn block_from_bytes(bytes: &[u8; BLOCK_BYTES]) -> Result<Block, WordError>
 /// Puts the eight bytes of a word at a place of an image's bytes.
 fn put_word(bytes: &mut [u8], at: usize, word: Word)
     requires { at + 8 ≤ length bytes.old }
-    ensures { bytes.new ≡ take at bytes.old ++ (word_bytes word ++ drop (at + 8) bytes.old) }
+    ensures put { bytes.new ≡ take at bytes.old ++ (word_bytes word ++ drop (at + 8) bytes.old) }
+    ensures fits { IsWord word }
 {
     BigEndian::write_u64(&mut bytes[at..at + 8], word.bits());
 }
