@@ -1,5 +1,5 @@
 -- Sums over output sides, and what is booked, where a job's record changes.
-use Rattle.std.proofs.Common.{◌≡◌, ℕ, zero, suc, ◌+◌, ◌≤◌, Bool, true, false, List, [], ◌∷◌, ◌++◌, Option, Some, None, refl, sym, ap, subst, ◌∙◌, ◌⊎◌, inl, inr, arith}
+use Rattle.std.proofs.Common.{◌≡◌, ℕ, zero, suc, ◌+◌, ◌≤◌, Bool, true, false, List, [], ◌∷◌, ◌++◌, length, Option, Some, None, refl, sym, ap, subst, ◌∙◌, ◌⊎◌, inl, inr, arith}
 use Rattle.std.specs.List.{AllByRecursion, cons_option}
 use Rattle.std.specs.Prelude.{slice_set, flat_map, filter_map, ◌==◌, ◌||◌}
 use Rattle.std.proofs.lemmas.Bool.{eq-eqb}
@@ -9,10 +9,12 @@ use Rattle.meaning.specs.Published.{Version}
 use Rattle.meaning.specs.Jobs.{Channel, Job, Output, State, slot, channel_at, job_at, with_channel, all_closed}
 use Rattle.meaning.specs.Room.{output_of, outputs_of, outputs, distinct_cost, current, held, has_serial}
 use Rattle.meaning.specs.Runs.{IsFresh}
-use Rattle.meaning.specs.Sound.{Exists, IsSound}
+use Rattle.meaning.specs.Sound.{Exists, AreAlike, IsSound}
 use Rattle.meaning.proofs.MapSums.{total-append}
 use Rattle.meaning.proofs.SlotLaws.{none_some}
 use Rattle.meaning.proofs.SideLaws.{none_passes, version_of_all, all_versions}
+use Rattle.meaning.specs.Costs.{version_cost}
+use Rattle.meaning.proofs.SoundLaws.{Known}
 use Rattle.meaning.proofs.CostLaws.{cost, Fits, distinct_le, distinct_more}
 
 -- Sums over lists of slots.
@@ -131,11 +133,18 @@ module _ (s s' : State) (sound : IsSound s) where
           let h = version_of_all s (λ v. (v.serial == w.serial) ≡ false) (none_passes (λ v. v.serial == w.serial) (current s ++ held s) e) w there in
           let wrong = sym h ∙ eq-eqb w.serial w.serial refl in cc
 
-  same_cost : (w : Version) → Exists s w → AllByRecursion (λ y. y.serial ≡ w.serial → cost y ≡ cost w) (current s ++ held s)
-  same_cost w there = all_versions s (λ y. y.serial ≡ w.serial → cost y ≡ cost w) (λ y is e. ap cost (sound.serials y w is there e))
+  cost_alike : (v w : Version) → AreAlike v w → cost v ≡ cost w
+  cost_alike v w a = ap (λ body. version_cost (length body)) a.body
 
-  pub costs_kept : ((w : Version) → Exists s' w → Exists s w) → distinct_cost (current s' ++ held s') ≤ distinct_cost (current s ++ held s)
-  costs_kept was = distinct_le (current s' ++ held s') (current s ++ held s) (all_versions s' (Fits (current s ++ held s)) (λ w there. (serial_there w (was w there), same_cost w (was w there))))
+  same_cost : (w : Version) → Known s w → AllByRecursion (λ y. y.serial ≡ w.serial → cost y ≡ cost w) (current s ++ held s)
+  same_cost w at = all_versions s (λ y. y.serial ≡ w.serial → cost y ≡ cost w)
+      (λ y is e. cost_alike y at.0 (sound.serials y at.0 is at.1 (e ∙ sym at.2)) ∙ cost_alike at.0 w at.3)
+
+  serial_known : (w : Version) → Known s w → has_serial w.serial (current s ++ held s) ≡ true
+  serial_known w at = subst (λ k. has_serial k (current s ++ held s) ≡ true) at.2 (serial_there at.0 at.1)
+
+  pub costs_kept : ((w : Version) → Exists s' w → Known s w) → distinct_cost (current s' ++ held s') ≤ distinct_cost (current s ++ held s)
+  costs_kept was = distinct_le (current s' ++ held s') (current s ++ held s) (all_versions s' (Fits (current s ++ held s)) (λ w there. (serial_known w (was w there), same_cost w (was w there))))
 
   module _ (v : Version) (fresh : IsFresh s v.serial) where
     another : (w : Version) → Exists s w → w.serial ≡ v.serial → ⊥
@@ -143,8 +152,8 @@ module _ (s s' : State) (sound : IsSound s) where
         let h = version_of_all s (λ u. (u.serial == v.serial) ≡ false) (none_passes (λ u. u.serial == v.serial) (current s ++ held s) fresh) w there in
         let wrong = sym h ∙ eq-eqb w.serial v.serial e in cc
 
-    fits_new : (w : Version) → Exists s w ⊎ (w ≡ v) → Fits (v ∷ (current s ++ held s)) w
-    fits_new w (inl there) = (passes (v.serial == w.serial) (serial_there w there), ((λ e. absurd (another w there (sym e))), same_cost w there))
+    fits_new : (w : Version) → Known s w ⊎ (w ≡ v) → Fits (v ∷ (current s ++ held s)) w
+    fits_new w (inl at) = (passes (v.serial == w.serial) (serial_known w at), ((λ e. absurd (another at.0 at.1 (at.2 ∙ sym e))), same_cost w at))
       where
         passes : (a : Bool) {b : Bool} → b ≡ true → (a || b) ≡ true
         passes true e = refl
@@ -157,7 +166,7 @@ module _ (s s' : State) (sound : IsSound s) where
         first : (v : Version) (vs : List Version) → has_serial v.serial (v ∷ vs) ≡ true
         first v vs = let e = eq-eqb v.serial v.serial refl in rw e refl
 
-    pub costs_new : ((w : Version) → Exists s' w → Exists s w ⊎ (w ≡ v)) → distinct_cost (current s' ++ held s') ≤ cost v + distinct_cost (current s ++ held s)
+    pub costs_new : ((w : Version) → Exists s' w → Known s w ⊎ (w ≡ v)) → distinct_cost (current s' ++ held s') ≤ cost v + distinct_cost (current s ++ held s)
     costs_new was =
         let a = distinct_le (current s' ++ held s') (v ∷ (current s ++ held s)) (all_versions s' (Fits (v ∷ (current s ++ held s))) (λ w there. fits_new w (was w there))) in
         let b = distinct_more v (current s ++ held s) in

@@ -116,10 +116,10 @@ listed = refl
 -- What comes before a row: a job that isn't there, a channel that isn't open, a mode that isn't served.
 refusals : parts small 1000 fresh (
     (Examine 1 0 ∷ ready_with 0 ten_twenty 0o1000 ++ ready_with 0o101 ten_twenty 0o1000 ++ ready_with 1 ten_twenty 0o777)
-    ∷ (ready 1 ++ by 1 (Open 1 0o200) ∷ by 1 (Open 0o20 0o200) ∷ by 1 (Getsts 2) ∷ Deposit 1 0o200 0o14 ∷ by 1 (Open 2 0o200) ∷ by 1 (Getsts 2) ∷ by 1 (Releas 1) ∷ by 1 (Getsts 1) ∷ Examine 1 0o1000 ∷ [])
+    ∷ (ready 1 ++ by 1 (Open 1 0o200) ∷ by 1 (Open 0o20 0o200) ∷ by 1 (Getsts 2) ∷ Deposit 1 0o200 0o15 ∷ by 1 (Open 2 0o200) ∷ by 1 (Getsts 2) ∷ by 1 (Releas 1) ∷ by 1 (Getsts 1) ∷ Examine 1 0o1000 ∷ [])
     ∷ [])
     ≡ (NoJob ∷ NoJob ∷ NoJob ∷ NoJob ∷ [], pos 47)
-    ∷ (Done ∷ Refused 5 ∷ NoChannel ∷ NoChannel ∷ Stopped 0o400014 ∷ NoChannel ∷ Done ∷ NoChannel ∷ AddressCheck ∷ [], pos 47)
+    ∷ (Done ∷ Refused 5 ∷ NoChannel ∷ NoChannel ∷ Stopped 0o400015 ∷ NoChannel ∷ Done ∷ NoChannel ∷ AddressCheck ∷ [], pos 47)
     ∷ []
 unfolding empty insert get remove entries size dump_list areas_from
 refusals = refl

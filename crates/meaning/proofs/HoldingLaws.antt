@@ -8,19 +8,20 @@ use Rattle.meaning.specs.Splices.{words_from}
 use Rattle.meaning.specs.Cores.{lies_outside}
 use Rattle.meaning.specs.Jobs.{Channel, Job, Input, Output, State, channel_at, job_at, with_job, with_channel, improper_mode}
 use Rattle.meaning.specs.Room.{Pack}
-use Rattle.meaning.specs.Outcomes.{settled, stopped_in, refused_at}
-use Rattle.meaning.specs.Opening.{opens, open_done, mode_at, device_at, disk, dump_mode}
+use Rattle.meaning.specs.Outcomes.{settled, clean, stopped_in, refused_at}
+use Rattle.meaning.specs.Opening.{opens, open_done, mode_at, device_at, disk, is_mode, misses_headers, ring_answer, sets_up}
 use Rattle.meaning.specs.Looking.{lookup, lookup_answer, looked_up, place_at}
 use Rattle.meaning.specs.Entering.{enter, enter_answer}
 use Rattle.meaning.specs.Inputs.{words_ahead, moved_on, input_at, reads, useti}
-use Rattle.meaning.specs.Outputs.{put_on, output_at, puts, useto}
-use Rattle.meaning.specs.Closing.{closes, releases}
-use Rattle.meaning.specs.Making.{makes, make_answer, owner_at}
+use Rattle.meaning.specs.Outputs.{Outgoing, outgoing, put_on, put_done, out_answer, out_done, output_at, puts, useto}
+use Rattle.meaning.specs.Closing.{close_answer, closes, releases}
+use Rattle.meaning.specs.Renaming.{renames, rename_answer}
+use Rattle.meaning.specs.Making.{makes, make_answer, removes, remove_answer, owner_at}
 use Rattle.meaning.specs.Sessions.{deposit_answer, deposit_done, examine_answer}
 use Rattle.meaning.specs.Step.{step, last_date, on_job, deposit, call_of, on_channel, of_job, of_files}
 use Rattle.meaning.specs.Holding.{SparesCall, SparesEvent, version_read, held_on, held_in, held_for, held_at}
 use Rattle.meaning.specs.declared.call.Call.{Call}
-use Rattle.meaning.specs.declared.call.Call.TheVariants.{Open, Lookup, Enter, In, Out, Useti, Useto, Close, Releas, Getsts, Reset, MakeDir}
+use Rattle.meaning.specs.declared.call.Call.TheVariants.{Open, Inbuf, Outbuf, Lookup, Enter, Rename, In, Out, Useti, Useto, Close, Releas, Getsts, Reset, MakeDir, DeleteDir}
 use Rattle.meaning.specs.declared.call.Event.{Event}
 use Rattle.meaning.specs.declared.call.Event.TheVariants.{Login, Deposit, Examine, Call as Calls}
 use Rattle.meaning.specs.declared.call.Reply.{Reply}
@@ -84,7 +85,15 @@ in_held : (job : Job) (k : ℕ) (c : Channel) (a ch : ℕ) → channel_at job k 
 in_held job k c a ch e = row_held job _ k c _ ch _ e (same_read c.output c.input _)
 
 out_held : (pack : Pack) (s : State) (job : Job) (k : ℕ) (c : Channel) (a ch : ℕ) → channel_at job k ≡ Some c → held_in (puts pack s job k c a).1 ch ≡ held_in job ch
-out_held pack s job k c a ch e = row_held job _ k c _ ch _ e (same_put c.output c.input _)
+out_held pack s job k c a ch e =
+    settled_held (λ j. j) job ch (out_answer pack s job c a) (out_done job k c a) (stopped_in job k c) (by_found (outgoing job c a)) (stopped_held job k c ch e)
+  where
+    by_found : (found : Option Outgoing) → held_in (put_done job k c found) ch ≡ held_in job ch
+    by_found None = refl
+    by_found (Some found) = slot-set_shown held_on job.channels k ch _ c e (same_put c.output c.input found.words)
+
+ring_held : (job : Job) (k : ℕ) (c : Channel) (header n ch : ℕ) → channel_at job k ≡ Some c → held_in (sets_up job k c header n).1 ch ≡ held_in job ch
+ring_held job k c header n ch e = settled_held (λ j. j) job ch (ring_answer job c header n) _ (λ r. job) (slot-set_shown held_on job.channels k ch (clean c) c e refl) (λ r. refl)
 
 -- another channel's slot
 other_held : (job : Job) (core : List ℕ) (k ch : ℕ) (x : Option Channel) → ch ≢ k → held_in (with_channel (record job { core = core }) k x) ch ≡ held_in job ch
@@ -105,13 +114,28 @@ enter_held pack s job k c e ch moment apart =
 make_held : (pack : Pack) (s : State) (job : Job) (e ch : ℕ) → held_in (makes pack s job e).1.0 ch ≡ held_in job ch
 make_held pack s job e ch = settled_held (λ (x : Job × Files Version). x.0) job ch (make_answer pack s job e (owner_at job e)) _ (λ r. (refused_at job e r, s.files)) refl (refused_held job e ch)
 
+rename_held : (pack : Pack) (s : State) (job : Job) (k : ℕ) (c : Channel) (e ch : ℕ) → ch ≢ k → held_in (renames pack s job k c e).1.0 ch ≡ held_in job ch
+rename_held pack s job k c e ch apart =
+    settled_held (λ (x : Job × Files Version). x.0) job ch (rename_answer pack s job c e) _ (λ r. (refused_at job e r, s.files)) (other_held job job.core k ch _ apart) (refused_held job e ch)
+
+remove_held : (s : State) (job : Job) (e ch : ℕ) → held_in (removes s job e).1.0 ch ≡ held_in job ch
+remove_held s job e ch = settled_held (λ (x : Job × Files Version). x.0) job ch (remove_answer s job e (owner_at job e)) _ (λ r. (refused_at job e r, s.files)) refl (refused_held job e ch)
+
+close_held : (pack : Pack) (serial : ℕ) (s : State) (job : Job) (k : ℕ) (c : Channel) (bits ch : ℕ) → channel_at job k ≡ Some c → ch ≢ k → held_in (closes pack serial s job k c bits).1.0 ch ≡ held_in job ch
+close_held pack serial s job k c bits ch f apart =
+    settled_held (λ (x : Job × Files Version). x.0) job ch (close_answer pack s job c bits) _ (λ r. (stopped_in job k c r, s.files)) (other_held job job.core k ch _ apart) (stopped_held job k c ch f)
+
+release_held : (pack : Pack) (serial : ℕ) (s : State) (job : Job) (k : ℕ) (c : Channel) (ch : ℕ) → channel_at job k ≡ Some c → ch ≢ k → held_in (releases pack serial s job k c).1.0 ch ≡ held_in job ch
+release_held pack serial s job k c ch f apart =
+    settled_held (λ (x : Job × Files Version). x.0) job ch (close_answer pack s job c 0) _ (λ r. (stopped_in job k c r, s.files)) (other_held job job.core k ch _ apart) (stopped_held job k c ch f)
+
 -- OPEN takes a closed channel, so another one than a channel that reads.
 
 abbrev open_with : Job → ℕ → Option Channel → Reply
 open_with job a o =
-    if lies_outside job.core a 3 then AddressCheck
+    if lies_outside job.core a 3 || misses_headers job.core a then AddressCheck
     else if is_some o then Refused 5
-    else if not (device_at job.core a == disk) || not (mode_at job.core a == dump_mode) then Stopped (improper_mode + mode_at job.core a)
+    else if not (device_at job.core a == disk) || not (is_mode (mode_at job.core a)) then Stopped (improper_mode + mode_at job.core a)
     else Done
 
 refused_open : (job : Job) (ch : ℕ) (done : Job) (b : Bool) → held_in (settled (if b then AddressCheck else Refused 5) done (λ r. job)).1 ch ≡ held_in job ch
@@ -148,17 +172,21 @@ open_on_held s n job k a ch false e h = refl
 call_held : (pack : Pack) (serial : ℕ) (s : State) (n : ℕ) (job : Job) (call : Call) (moment : Moment) (ch : ℕ) (v : Version)
     → job_at s n ≡ Some job → held_in job ch ≡ Some v → SparesCall ch call → held_at (call_of pack serial s n job call moment).1 n ch ≡ held_at s n ch
 call_held pack serial s n job (Open k a) moment ch v e h spared = open_on_held s n job k a ch (nat_le k 15) e (open_held job k a ch v h (channel_at job k) refl)
+call_held pack serial s n job (Inbuf k x) moment ch v e h spared = channel_held s n ch _ (channel_at job k) (λ c f. of_job_held s n job (sets_up job k c c.input_header x) ch e (ring_held job k c c.input_header x ch f))
+call_held pack serial s n job (Outbuf k x) moment ch v e h spared = channel_held s n ch _ (channel_at job k) (λ c f. of_job_held s n job (sets_up job k c c.output_header x) ch e (ring_held job k c c.output_header x ch f))
 call_held pack serial s n job (Lookup k a) moment ch v e h spared = channel_held s n ch _ (channel_at job k) (λ c f. of_job_held s n job (lookup pack s job k c a) ch e (lookup_held pack s job k c a ch spared))
 call_held pack serial s n job (Enter k a) moment ch v e h spared = channel_held s n ch _ (channel_at job k) (λ c f. of_job_held s n job (enter pack s job k c a moment) ch e (enter_held pack s job k c a ch moment spared))
+call_held pack serial s n job (Rename k a) moment ch v e h spared = channel_held s n ch _ (channel_at job k) (λ c f. of_files_held s n job (renames pack s job k c a) ch e (rename_held pack s job k c a ch spared))
 call_held pack serial s n job (In k a) moment ch v e h spared = channel_held s n ch _ (channel_at job k) (λ c f. of_job_held s n job (reads job k c a) ch e (in_held job k c a ch f))
 call_held pack serial s n job (Out k a) moment ch v e h spared = channel_held s n ch _ (channel_at job k) (λ c f. of_job_held s n job (puts pack s job k c a) ch e (out_held pack s job k c a ch f))
 call_held pack serial s n job (Useti k a) moment ch v e h spared = channel_held s n ch _ (channel_at job k) (λ c f. of_job_held s n job (useti job k c a) ch e (useti_held job k c a ch f))
 call_held pack serial s n job (Useto k a) moment ch v e h spared = channel_held s n ch _ (channel_at job k) (λ c f. of_job_held s n job (useto job k c a) ch e (useto_held job k c a ch f))
-call_held pack serial s n job (Close k a) moment ch v e h spared = channel_held s n ch _ (channel_at job k) (λ c f. of_files_held s n job (closes serial s job k c a) ch e (other_held job job.core k ch _ spared))
-call_held pack serial s n job (Releas k) moment ch v e h spared = channel_held s n ch _ (channel_at job k) (λ c f. of_files_held s n job (releases serial s job k c) ch e (other_held job job.core k ch _ spared))
+call_held pack serial s n job (Close k a) moment ch v e h spared = channel_held s n ch _ (channel_at job k) (λ c f. of_files_held s n job (closes pack serial s job k c a) ch e (close_held pack serial s job k c a ch f spared))
+call_held pack serial s n job (Releas k) moment ch v e h spared = channel_held s n ch _ (channel_at job k) (λ c f. of_files_held s n job (releases pack serial s job k c) ch e (release_held pack serial s job k c ch f spared))
 call_held pack serial s n job (Getsts k) moment ch v e h spared = channel_held s n ch _ (channel_at job k) (λ c f. refl)
 call_held pack serial s n job Reset moment ch v e h spared = absurd spared
 call_held pack serial s n job (MakeDir a) moment ch v e h spared = of_files_held s n job (makes pack s job a) ch e (make_held pack s job a ch)
+call_held pack serial s n job (DeleteDir a) moment ch v e h spared = of_files_held s n job (removes s job a) ch e (remove_held s job a ch)
 
 job_there : (o : Option Job) (ch : ℕ) (v : Version) → held_for ch o ≡ Some v → (job : Job) × (o ≡ Some job) × (held_in job ch ≡ Some v)
 job_there None ch v e = let wrong = e in cc

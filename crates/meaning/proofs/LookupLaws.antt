@@ -6,11 +6,11 @@ use Rattle.meaning.specs.Files.{Place}
 use Rattle.meaning.specs.Published.{Version, file_at}
 use Rattle.meaning.specs.Splices.{words_from}
 use Rattle.meaning.specs.Rights.{may_look}
-use Rattle.meaning.specs.Cores.{lies_outside, after_writes, dealt}
+use Rattle.meaning.specs.Cores.{lies_outside}
 use Rattle.meaning.specs.Jobs.{Channel, Job, Input, Output, State, channel_at, job_at}
 use Rattle.meaning.specs.Room.{Pack}
 use Rattle.meaning.specs.Looking.{lookup, lookup_answer, lookup_done, looked_up, place_at, has_no_directory, is_absent, directory_digit_at}
-use Rattle.meaning.specs.Inputs.{in_answer, in_done, core_filled, areas_at, words_ahead, reads}
+use Rattle.meaning.specs.Inputs.{in_answer, in_done, core_filled, words_ahead, reads}
 use Rattle.meaning.specs.Outcomes.{stopped_in, refused_at}
 use Rattle.meaning.specs.Step.{step, last_date, on_job, on_channel, of_job}
 use Rattle.meaning.specs.Runs.{Service, Serving, Broken, Answers, Run}
@@ -133,7 +133,7 @@ lookup_finds pack serial s n ch e moment =
 -- An IN that is done.
 
 abbrev Filled : Job → Channel → ℕ → Reply × Job → Type 0
-Filled job c a r = r.0 ≡ Done → r.1.core ≡ core_filled job c a
+Filled job c a r = r.0 ≡ Done → r.1.core ≡ core_filled job c a (words_ahead c.input c.output)
 
 row_fills : (job : Job) (ch : ℕ) (c : Channel) (a : ℕ) → Filled job c a (reads job ch c a)
 row_fills job ch c a = settled_by (Filled job c a) (in_answer job c a) (in_done job ch c a) (stopped_in job ch c) (λ is done. refl) (λ differs done. absurd (differs done))
@@ -162,7 +162,7 @@ moves_on_channel s n job ch a v there (Some c) f h done =
       channel_is = f;
       side_is = side.1;
       after_is = slot-set_same s.jobs n (reads job ch c a).1 job there;
-      core_is = row_fills job ch c a done ∙ ap (λ ws. after_writes job.core (dealt (areas_at job a) ws)) words;
+      core_is = row_fills job ch c a done ∙ ap (core_filled job c a) words;
     }
 
 moves_on_job : (s : State) (n ch a : ℕ) (v : Version) (o : Option Job) → job_at s n ≡ o → held_for ch o ≡ Some v

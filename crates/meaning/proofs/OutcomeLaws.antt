@@ -20,6 +20,21 @@ settled_by P Device done other d o = o (λ e. cc)
 settled_by P Failed done other d o = o (λ e. cc)
 settled_by P DateRange done other d o = o (λ e. cc)
 
+-- two outcomes of one answer
+pub settled_both : {A : Type 0} (P : Reply × A → Reply × A → Type 0) (reply : Reply) (one two : A) (other : Reply → A)
+    → P (Done, one) (Done, two) → ((r : Reply) → P (r, other r) (r, other r)) → P (settled reply one other) (settled reply two other)
+settled_both P Done one two other d o = d
+settled_both P (Value w) one two other d o = o (Value w)
+settled_both P (Refused w) one two other d o = o (Refused w)
+settled_both P (Stopped w) one two other d o = o (Stopped w)
+settled_both P NoChannel one two other d o = o NoChannel
+settled_both P AddressCheck one two other d o = o AddressCheck
+settled_both P NoJob one two other d o = o NoJob
+settled_both P NoMemory one two other d o = o NoMemory
+settled_both P Device one two other d o = o Device
+settled_both P Failed one two other d o = o Failed
+settled_both P DateRange one two other d o = o DateRange
+
 -- by whether it gives a channel a status
 pub stopped_by : (P : Job → Type 0) (job : Job) (number : ℕ) (c : Channel) (reply : Reply)
     → P job → ((status : ℕ) → P (with_channel job number (Some (record c { status = status })))) → P (stopped_in job number c reply)

@@ -7,9 +7,6 @@ use Rattle.std.proofs.lemmas.Bool.Decides.{nat_tests}
 use Rattle.words36.specs.Words.{left}
 use Rattle.meaning.specs.Cores.{joined, lies_outside}
 use Rattle.meaning.specs.CommandLists.{word_count, area_of, next_command, areas_from, limited, dump_list}
-use Rattle.meaning.specs.Jobs.{Job}
-use Rattle.meaning.specs.Inputs.{areas_at, areas_or_none}
-use Rattle.meaning.specs.Outputs.{words_put}
 use Rattle.meaning.specs.declared.area.Area.{Area}
 use Rattle.meaning.proofs.MapLaws.{some_same}
 
@@ -60,10 +57,7 @@ listed_in_core : (core : List ℕ) (o : Option (List Area)) (areas : List Area) 
 listed_in_core core None areas h e = let wrong = e in cc
 listed_in_core core (Some more) areas h e = h areas (of_limited (nat_lt 131072 (word_count more)) more areas e)
 
-pub length-words_put : (job : Job) (a : ℕ) → length (words_put job a) ≡ word_count (areas_at job a)
+-- The words of a command list are as many as it names.
+pub length-listed : (core : List ℕ) (a : ℕ) (areas : List Area) → dump_list core a ≡ Some areas → length (joined core areas) ≡ word_count areas
 unfolding dump_list
-length-words_put job a = at (dump_list job.core a) refl
-  where
-    at : (o : Option (List Area)) → dump_list job.core a ≡ o → length (joined job.core (areas_or_none o)) ≡ word_count (areas_or_none o)
-    at None e = refl
-    at (Some areas) e = length-joined job.core areas (listed_in_core job.core (areas_from job.core 512 a) areas (λ more f. all_in_core job.core 512 a more f) e)
+length-listed core a areas e = length-joined core areas (listed_in_core core (areas_from core 512 a) areas (λ more f. all_in_core core 512 a more f) e)

@@ -1,5 +1,5 @@
 -- A call that is done lowers the room at most to 0.
-use Rattle.std.proofs.Common.{◌≡◌, ◌≢◌, ℕ, ◌+◌, ◌≤◌, if◌then◌else◌, length, Some, sym, ap, subst, arith}
+use Rattle.std.proofs.Common.{◌≡◌, ◌≢◌, ℕ, ◌+◌, ◌≤◌, if◌then◌else◌, length, Some, sym, ap, subst, ◌∙◌, arith}
 use Rattle.std.specs.Prelude.{◌==◌, ◌&&◌}
 use Rattle.std.specs.Cmp.{nat_cmp_total}
 use Rattle.std.specs.FinMap.{nat_cmp-IsAntisymmetric}
@@ -75,3 +75,22 @@ module _ (s s' : State) where
       let z = size-insert_over nat_cmp_total nat_cmp-IsAntisymmetric s.files k new d is in
       subst (λ fs. directory_cost (size fs) + sum_entries (one_directory s') fs ≤ directories_cost s) (sym files)
       (subst (λ q. directory_cost q + sum_entries (one_directory s') (insert s.files k new) ≤ directories_cost s) (sym z) (omega (arith, a, b, r, l, m)))
+
+  more : (a b : ℕ) → a ≤ b + 1 → directory_cost a ≤ directory_cost b + growth b
+  more a b h = omega (arith, h)
+
+  -- a directory gets an entry more
+  pub directories_more : (k : ℕ) (d new : Directory Version) → get s.files k ≡ Some d → s'.files ≡ insert s.files k new
+      → size new.files + pending_creations s' k ≤ size d.files + pending_creations s k + 1 → ((ppn : ℕ) → ppn ≢ k → pending_creations s' ppn ≤ pending_creations s ppn)
+      → directories_cost s' ≤ directories_cost s + growth (size d.files + pending_creations s k)
+  directories_more k d new is files few less =
+      let a = sum_entries-remove nat_cmp_total nat_cmp-IsAntisymmetric (one_directory s) s.files k d is in
+      let b = sum_entries-remove nat_cmp_total nat_cmp-IsAntisymmetric (one_directory s') (insert s.files k new) k new (get-insert_same nat_cmp_total s.files k new) in
+      let r : sum_entries (one_directory s') (remove (insert s.files k new) k) ≡ sum_entries (one_directory s') (remove s.files k) = ap (sum_entries (one_directory s')) (remove-insert_same nat_cmp_total nat_cmp-IsAntisymmetric s.files k new) in
+      let l = others_le s.files k less in
+      let m = more (size new.files + pending_creations s' k) (size d.files + pending_creations s k) few in
+      let all = grown (growth (size d.files + pending_creations s k)) (one_directory s k d) (one_directory s' k new)
+      (sum_entries (one_directory s) (remove s.files k)) (sum_entries (one_directory s') (remove s.files k)) (sum_entries (one_directory s) s.files) (sum_entries (one_directory s') (insert s.files k new)) a (b ∙ ap (λ q. one_directory s' k new + q) r) l m in
+      let z = size-insert_over nat_cmp_total nat_cmp-IsAntisymmetric s.files k new d is in
+      subst (λ fs. directory_cost (size fs) + sum_entries (one_directory s') fs ≤ directories_cost s + growth (size d.files + pending_creations s k)) (sym files)
+      (subst (λ q. directory_cost q + sum_entries (one_directory s') (insert s.files k new) ≤ directories_cost s + growth (size d.files + pending_creations s k)) (sym z) (omega (arith, all)))

@@ -6,13 +6,15 @@ use Rattle.std.specs.FinMap.{nat_cmp-IsAntisymmetric}
 use Rattle.meaning.specs.Maps.{get, insert, map_values}
 use Rattle.meaning.specs.Files.{File, Files, Directory, Place, map_directory}
 use Rattle.meaning.specs.Published.{Version, without_serials, with_file_in}
-use Rattle.meaning.specs.Closing.{published, publishes, files_with}
+use Rattle.meaning.specs.Outcomes.{settled, stopped_in}
+use Rattle.meaning.specs.Closing.{published, publishes, files_with, files_closed, output_put, close_answer}
+use Rattle.meaning.proofs.OutcomeLaws.{settled_both}
 use Rattle.words36.specs.declared.moment.Moment.{Moment}
 use Rattle.meaning.specs.Jobs.{Channel, Job, Output, State, channel_at, job_at}
 use Rattle.meaning.specs.Room.{Pack}
-use Rattle.meaning.specs.Step.{step, last_date, on_job, on_channel, call_of}
+use Rattle.meaning.specs.Step.{step, last_date, on_job, on_channel, of_files, call_of}
 use Rattle.meaning.specs.declared.call.Call.{Call}
-use Rattle.meaning.specs.declared.call.Call.TheVariants.{Open, Lookup, Enter, In, Out, Useti, Useto, Close, Releas, Getsts, Reset, MakeDir}
+use Rattle.meaning.specs.declared.call.Call.TheVariants.{Open, Inbuf, Outbuf, Lookup, Enter, Rename, In, Out, Useti, Useto, Close, Releas, Getsts, Reset, MakeDir, DeleteDir}
 use Rattle.meaning.specs.declared.call.Event.{Event}
 use Rattle.meaning.specs.declared.call.Event.TheVariants.{Login, Deposit, Examine, Call as Calls}
 use Rattle.meaning.specs.declared.call.Reply.{Reply}
@@ -26,17 +28,21 @@ same_on_channel s row other (Some c) h = h c
 
 same_call : (pack : Pack) (a b : ℕ) (s : State) (n : ℕ) (job : Job) (call : Call) (moment : Moment) → (call_of pack a s n job call moment).0 ≡ (call_of pack b s n job call moment).0
 same_call pack a b s n job (Open ch x) moment = refl
+same_call pack a b s n job (Inbuf ch k) moment = refl
+same_call pack a b s n job (Outbuf ch k) moment = refl
 same_call pack a b s n job (Lookup ch e) moment = refl
 same_call pack a b s n job (Enter ch e) moment = refl
+same_call pack a b s n job (Rename ch e) moment = refl
 same_call pack a b s n job (In ch x) moment = refl
 same_call pack a b s n job (Out ch x) moment = refl
 same_call pack a b s n job (Useti ch k) moment = refl
 same_call pack a b s n job (Useto ch k) moment = refl
-same_call pack a b s n job (Close ch bits) moment = same_on_channel s _ _ (channel_at job ch) (λ c. refl)
-same_call pack a b s n job (Releas ch) moment = same_on_channel s _ _ (channel_at job ch) (λ c. refl)
+same_call pack a b s n job (Close ch bits) moment = same_on_channel s _ _ (channel_at job ch) (λ c. settled_both (λ x y. x.0 ≡ y.0) (close_answer pack s job c bits) _ _ _ refl (λ r. refl))
+same_call pack a b s n job (Releas ch) moment = same_on_channel s _ _ (channel_at job ch) (λ c. settled_both (λ x y. x.0 ≡ y.0) (close_answer pack s job c 0) _ _ _ refl (λ r. refl))
 same_call pack a b s n job (Getsts ch) moment = refl
 same_call pack a b s n job Reset moment = refl
 same_call pack a b s n job (MakeDir e) moment = refl
+same_call pack a b s n job (DeleteDir e) moment = refl
 
 same_job : (s : State) (row other : Job → Reply × State) (o : Option Job) → ((job : Job) → (row job).0 ≡ (other job).0) → (on_job s o row).0 ≡ (on_job s o other).0
 same_job s row other None h = refl
@@ -78,23 +84,34 @@ closed_same files a b false o = refl
 abbrev SameFiles : Reply × State → Reply × State → Type 0
 SameFiles x y = without_serials x.1.files ≡ without_serials y.1.files
 
+closed_files : (pack : Pack) (a b : ℕ) (s : State) (n : ℕ) (job : Job) (ch : ℕ) (c : Channel) (bits : ℕ) (one two : Job)
+    → SameFiles (of_files s n (settled (close_answer pack s job c bits) (one, files_closed a s.files job c bits) (λ r. (stopped_in job ch c r, s.files))))
+    (of_files s n (settled (close_answer pack s job c bits) (two, files_closed b s.files job c bits) (λ r. (stopped_in job ch c r, s.files))))
+closed_files pack a b s n job ch c bits one two =
+    settled_both {A = Job × Files Version} (λ x y. without_serials x.1.1 ≡ without_serials y.1.1) (close_answer pack s job c bits) (one, files_closed a s.files job c bits) (two, files_closed b s.files job c bits)
+    (λ r. (stopped_in job ch c r, s.files)) (closed_same s.files a b (publishes c bits) (output_put job c)) (λ r. refl)
+
 files_on_channel : (s : State) (row other : Channel → Reply × State) (o : Option Channel) → ((c : Channel) → SameFiles (row c) (other c)) → SameFiles (on_channel s o row) (on_channel s o other)
 files_on_channel s row other None h = refl
 files_on_channel s row other (Some c) h = h c
 
 files_call : (pack : Pack) (a b : ℕ) (s : State) (n : ℕ) (job : Job) (call : Call) (moment : Moment) → SameFiles (call_of pack a s n job call moment) (call_of pack b s n job call moment)
 files_call pack a b s n job (Open ch x) moment = refl
+files_call pack a b s n job (Inbuf ch k) moment = refl
+files_call pack a b s n job (Outbuf ch k) moment = refl
 files_call pack a b s n job (Lookup ch e) moment = refl
 files_call pack a b s n job (Enter ch e) moment = refl
+files_call pack a b s n job (Rename ch e) moment = refl
 files_call pack a b s n job (In ch x) moment = refl
 files_call pack a b s n job (Out ch x) moment = refl
 files_call pack a b s n job (Useti ch k) moment = refl
 files_call pack a b s n job (Useto ch k) moment = refl
-files_call pack a b s n job (Close ch bits) moment = files_on_channel s _ _ (channel_at job ch) (λ c. closed_same s.files a b (publishes c bits) c.output)
-files_call pack a b s n job (Releas ch) moment = files_on_channel s _ _ (channel_at job ch) (λ c. closed_same s.files a b (publishes c 0) c.output)
+files_call pack a b s n job (Close ch bits) moment = files_on_channel s _ _ (channel_at job ch) (λ c. closed_files pack a b s n job ch c bits _ _)
+files_call pack a b s n job (Releas ch) moment = files_on_channel s _ _ (channel_at job ch) (λ c. closed_files pack a b s n job ch c 0 _ _)
 files_call pack a b s n job (Getsts ch) moment = refl
 files_call pack a b s n job Reset moment = refl
 files_call pack a b s n job (MakeDir e) moment = refl
+files_call pack a b s n job (DeleteDir e) moment = refl
 
 files_job : (s : State) (row other : Job → Reply × State) (o : Option Job) → ((job : Job) → SameFiles (row job) (other job)) → SameFiles (on_job s o row) (on_job s o other)
 files_job s row other None h = refl

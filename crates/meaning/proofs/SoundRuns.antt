@@ -14,7 +14,8 @@ use Rattle.meaning.specs.declared.call.Reply.{Reply}
 use Rattle.meaning.proofs.LookupLaws.{serving_same, not_broken, broken_stays}
 use Rattle.meaning.proofs.SlotLaws.{slot-empty}
 use Rattle.meaning.proofs.SideLaws.{none_passes, version_of_all}
-use Rattle.meaning.proofs.SoundSteps.{sound_step}
+use Rattle.meaning.proofs.SoundLaws.{alike_same}
+use Rattle.meaning.proofs.SoundEvents.{sound_step}
 
 -- Versions that all have serials of their own.
 
@@ -57,7 +58,7 @@ start_sound found s start =
       single = λ n m ch k o p h g e. let wrong = ap (output_for ch) (sym (no_job s start.jobs n)) ∙ h in cc;
       housed = λ n ch o h. let wrong = ap (output_for ch) (sym (no_job s start.jobs n)) ∙ h in cc;
       present = λ n ch o h e. let wrong = ap (output_for ch) (sym (no_job s start.jobs n)) ∙ h in cc;
-      serials = λ v w a b e. version_of_all s (λ w. v.serial ≡ w.serial → v ≡ w) (version_of_all s (Only (current s ++ held s)) (each_only (current s ++ held s) distinct) v a) w b e;
+      serials = λ v w a b e. alike_same (version_of_all s (λ w. v.serial ≡ w.serial → v ≡ w) (version_of_all s (Only (current s ++ held s)) (each_only (current s ++ held s) distinct) v a) w b e);
     }
   where
     append_none : (vs : List Version) → vs ++ [] ≡ vs

@@ -11,7 +11,7 @@ use Rattle.meaning.specs.Inputs.{reads}
 use Rattle.meaning.specs.Outcomes.{settled}
 use Rattle.meaning.specs.Step.{step, job_of, last_date, on_job, on_channel, of_job, of_files, call_of}
 use Rattle.meaning.specs.declared.call.Call.{Call}
-use Rattle.meaning.specs.declared.call.Call.TheVariants.{Open, Lookup, Enter, In, Out, Useti, Useto, Close, Releas, Getsts, Reset, MakeDir}
+use Rattle.meaning.specs.declared.call.Call.TheVariants.{Open, Inbuf, Outbuf, Lookup, Enter, Rename, In, Out, Useti, Useto, Close, Releas, Getsts, Reset, MakeDir, DeleteDir}
 use Rattle.meaning.specs.declared.call.Event.{Event}
 use Rattle.meaning.specs.declared.call.Event.TheVariants.{Login, Deposit, Examine, Call as Calls}
 use Rattle.meaning.specs.declared.call.Reply.{Reply}
@@ -82,17 +82,21 @@ keeps_open s false n r differs = refl
 
 keeps_call : (pack : Pack) (serial : ℕ) (s : State) (n : ℕ) (job : Job) (call : Call) (moment : Moment) → Keeps s (call_of pack serial s n job call moment)
 keeps_call pack serial s n job (Open ch a) moment = keeps_open s (nat_le ch 15) n _
+keeps_call pack serial s n job (Inbuf ch k) moment = keeps_on_channel s _ (channel_at job ch) (λ c differs. refl)
+keeps_call pack serial s n job (Outbuf ch k) moment = keeps_on_channel s _ (channel_at job ch) (λ c differs. refl)
 keeps_call pack serial s n job (Lookup ch a) moment = keeps_on_channel s _ (channel_at job ch) (λ c differs. refl)
 keeps_call pack serial s n job (Enter ch a) moment = keeps_on_channel s _ (channel_at job ch) (λ c differs. refl)
+keeps_call pack serial s n job (Rename ch e) moment = keeps_on_channel s _ (channel_at job ch) (λ c. keeps_of_files s n _ _ _ (λ r. refl))
 keeps_call pack serial s n job (In ch a) moment = keeps_on_channel s _ (channel_at job ch) (λ c differs. refl)
 keeps_call pack serial s n job (Out ch a) moment = keeps_on_channel s _ (channel_at job ch) (λ c differs. refl)
 keeps_call pack serial s n job (Useti ch a) moment = keeps_on_channel s _ (channel_at job ch) (λ c differs. refl)
 keeps_call pack serial s n job (Useto ch a) moment = keeps_on_channel s _ (channel_at job ch) (λ c differs. refl)
-keeps_call pack serial s n job (Close ch a) moment = keeps_on_channel s _ (channel_at job ch) (λ c differs. absurd (differs refl))
-keeps_call pack serial s n job (Releas ch) moment = keeps_on_channel s _ (channel_at job ch) (λ c differs. absurd (differs refl))
+keeps_call pack serial s n job (Close ch a) moment = keeps_on_channel s _ (channel_at job ch) (λ c. keeps_of_files s n _ _ _ (λ r. refl))
+keeps_call pack serial s n job (Releas ch) moment = keeps_on_channel s _ (channel_at job ch) (λ c. keeps_of_files s n _ _ _ (λ r. refl))
 keeps_call pack serial s n job (Getsts ch) moment = keeps_on_channel s _ (channel_at job ch) (λ c differs. refl)
 keeps_call pack serial s n job Reset moment = λ differs. refl
 keeps_call pack serial s n job (MakeDir e) moment = keeps_of_files s n _ _ _ (λ r. refl)
+keeps_call pack serial s n job (DeleteDir e) moment = keeps_of_files s n _ _ _ (λ r. refl)
 
 keeps_on_job : (s : State) (row : Job → Reply × State) (job : Option Job) → ((job : Job) → Keeps s (row job)) → Keeps s (on_job s job row)
 keeps_on_job s row None h differs = refl
@@ -131,8 +135,11 @@ module _ (pack : Pack) (serial : ℕ) (s : State) (n m : ℕ) (apart : m ≢ n) 
 
   spares_call : (job : Job) (call : Call) (moment : Moment) → Spares m s (call_of pack serial s n job call moment)
   spares_call job (Open ch a) moment = spares_if m s (nat_le ch 15) _ _ (spares_with _) refl
+  spares_call job (Inbuf ch k) moment = spares_channel m s _ (channel_at job ch) (λ c. spares_with _)
+  spares_call job (Outbuf ch k) moment = spares_channel m s _ (channel_at job ch) (λ c. spares_with _)
   spares_call job (Lookup ch a) moment = spares_channel m s _ (channel_at job ch) (λ c. spares_with _)
   spares_call job (Enter ch a) moment = spares_channel m s _ (channel_at job ch) (λ c. spares_with _)
+  spares_call job (Rename ch e) moment = spares_channel m s _ (channel_at job ch) (λ c. spares_with _)
   spares_call job (In ch a) moment = spares_channel m s _ (channel_at job ch) (λ c. spares_with _)
   spares_call job (Out ch a) moment = spares_channel m s _ (channel_at job ch) (λ c. spares_with _)
   spares_call job (Useti ch a) moment = spares_channel m s _ (channel_at job ch) (λ c. spares_with _)
@@ -142,6 +149,7 @@ module _ (pack : Pack) (serial : ℕ) (s : State) (n m : ℕ) (apart : m ≢ n) 
   spares_call job (Getsts ch) moment = spares_channel m s _ (channel_at job ch) (λ c. refl)
   spares_call job Reset moment = spares_with _
   spares_call job (MakeDir e) moment = spares_with _
+  spares_call job (DeleteDir e) moment = spares_with _
 
   pub spares_call_event : (call : Call) (moment : Moment) → Spares m s (step pack serial s (Calls n call moment))
   spares_call_event call moment =

@@ -12,7 +12,7 @@ use Rattle.meaning.specs.Outcomes.{settled, stopped_in, refused_at}
 use Rattle.meaning.specs.Step.{step, last_date, on_job, on_channel, of_job, of_files, call_of}
 use Rattle.meaning.specs.Undone.{stopped_on, job_undone, call_undone, undone}
 use Rattle.meaning.specs.declared.call.Call.{Call}
-use Rattle.meaning.specs.declared.call.Call.TheVariants.{Open, Lookup, Enter, In, Out, Useti, Useto, Close, Releas, Getsts, Reset, MakeDir}
+use Rattle.meaning.specs.declared.call.Call.TheVariants.{Open, Inbuf, Outbuf, Lookup, Enter, Rename, In, Out, Useti, Useto, Close, Releas, Getsts, Reset, MakeDir, DeleteDir}
 use Rattle.meaning.specs.declared.call.Event.{Event}
 use Rattle.meaning.specs.declared.call.Event.TheVariants.{Login, Deposit, Examine, Call as Calls}
 use Rattle.meaning.specs.declared.call.Reply.{Reply}
@@ -49,6 +49,11 @@ module _ (s : State) (n : ℕ) (job : Job) (there : job_at s n ≡ Some job) whe
   stops ch c reply done e differs =
       of_job_leaves reply done (stopped_in job ch c) differs ∙ ap (λ o. with_job s n (stopped_on job ch o (settled reply done (stopped_in job ch c)).0)) (sym e)
 
+  stops_files : (ch : ℕ) (c : Channel) (reply : Reply) (done : Job × Files Version) → channel_at job ch ≡ Some c
+      → Leaves (λ r. with_job s n (stopped_on job ch (channel_at job ch) r)) (of_files s n (settled reply done (λ r. (stopped_in job ch c r, s.files))))
+  stops_files ch c reply done e differs =
+      of_files_leaves reply done (stopped_in job ch c) differs ∙ ap (λ o. with_job s n (stopped_on job ch o (settled reply done (λ r. (stopped_in job ch c r, s.files))).0)) (sym e)
+
   -- two answers that name no status
   no_channel : (ch : ℕ) (o : Option Channel) → stopped_on job ch o NoChannel ≡ job
   no_channel ch None = refl
@@ -64,31 +69,39 @@ module _ (s : State) (n : ℕ) (job : Job) (there : job_at s n ≡ Some job) whe
 
   call_leaves : (pack : Pack) (serial : ℕ) (call : Call) (moment : Moment) → Leaves (λ r. with_job s n (job_undone job call r)) (call_of pack serial s n job call moment)
   call_leaves pack serial (Open ch a) moment = opens_leaves ch (nat_le ch 15) _ _
+  call_leaves pack serial (Inbuf ch k) moment = on_channel_leaves (λ r. job) _ (channel_at job ch) refl (λ c f. of_job_leaves _ _ (λ r. job))
+  call_leaves pack serial (Outbuf ch k) moment = on_channel_leaves (λ r. job) _ (channel_at job ch) refl (λ c f. of_job_leaves _ _ (λ r. job))
   call_leaves pack serial (Lookup ch e) moment = on_channel_leaves (refused_at job e) _ (channel_at job ch) refl (λ c f. of_job_leaves _ _ (refused_at job e))
   call_leaves pack serial (Enter ch e) moment = on_channel_leaves (refused_at job e) _ (channel_at job ch) refl (λ c f. of_job_leaves _ _ (refused_at job e))
+  call_leaves pack serial (Rename ch e) moment = on_channel_leaves (refused_at job e) _ (channel_at job ch) refl (λ c f. of_files_leaves _ _ (refused_at job e))
   call_leaves pack serial (In ch a) moment = on_channel_leaves (stopped_on job ch (channel_at job ch)) _ (channel_at job ch) (no_channel ch (channel_at job ch)) (λ c f. stops ch c _ _ f)
   call_leaves pack serial (Out ch a) moment = on_channel_leaves (stopped_on job ch (channel_at job ch)) _ (channel_at job ch) (no_channel ch (channel_at job ch)) (λ c f. stops ch c _ _ f)
   call_leaves pack serial (Useti ch k) moment = on_channel_leaves (stopped_on job ch (channel_at job ch)) _ (channel_at job ch) (no_channel ch (channel_at job ch)) (λ c f. stops ch c _ _ f)
   call_leaves pack serial (Useto ch k) moment = on_channel_leaves (stopped_on job ch (channel_at job ch)) _ (channel_at job ch) (no_channel ch (channel_at job ch)) (λ c f. stops ch c _ _ f)
-  call_leaves pack serial (Close ch bits) moment = on_channel_leaves (λ r. job) _ (channel_at job ch) refl (λ c f differs. absurd (differs refl))
-  call_leaves pack serial (Releas ch) moment = on_channel_leaves (λ r. job) _ (channel_at job ch) refl (λ c f differs. absurd (differs refl))
+  call_leaves pack serial (Close ch bits) moment = on_channel_leaves (stopped_on job ch (channel_at job ch)) _ (channel_at job ch) (no_channel ch (channel_at job ch)) (λ c f. stops_files ch c _ _ f)
+  call_leaves pack serial (Releas ch) moment = on_channel_leaves (stopped_on job ch (channel_at job ch)) _ (channel_at job ch) (no_channel ch (channel_at job ch)) (λ c f. stops_files ch c _ _ f)
   call_leaves pack serial (Getsts ch) moment = on_channel_leaves (λ r. job) _ (channel_at job ch) refl (λ c f differs. put_back)
   call_leaves pack serial Reset moment = λ differs. absurd (differs refl)
   call_leaves pack serial (MakeDir e) moment = of_files_leaves _ _ (refused_at job e)
+  call_leaves pack serial (DeleteDir e) moment = of_files_leaves _ _ (refused_at job e)
 
   out_of_time : (call : Call) → job_undone job call DateRange ≡ job
   out_of_time (Open ch a) = refl
+  out_of_time (Inbuf ch k) = refl
+  out_of_time (Outbuf ch k) = refl
   out_of_time (Lookup ch e) = refl
   out_of_time (Enter ch e) = refl
+  out_of_time (Rename ch e) = refl
   out_of_time (In ch a) = late ch (channel_at job ch)
   out_of_time (Out ch a) = late ch (channel_at job ch)
   out_of_time (Useti ch k) = late ch (channel_at job ch)
   out_of_time (Useto ch k) = late ch (channel_at job ch)
-  out_of_time (Close ch bits) = refl
-  out_of_time (Releas ch) = refl
+  out_of_time (Close ch bits) = late ch (channel_at job ch)
+  out_of_time (Releas ch) = late ch (channel_at job ch)
   out_of_time (Getsts ch) = refl
   out_of_time Reset = refl
   out_of_time (MakeDir e) = refl
+  out_of_time (DeleteDir e) = refl
 
 -- Any event.
 
@@ -141,17 +154,21 @@ refused_sides job e reply = refused_by (λ j. SameSides j job) job e reply (λ c
 
 undone_sides : (job : Job) (call : Call) (reply : Reply) → SameSides (job_undone job call reply) job
 undone_sides job (Open ch a) reply = (refl, refl)
+undone_sides job (Inbuf ch k) reply = (refl, refl)
+undone_sides job (Outbuf ch k) reply = (refl, refl)
 undone_sides job (Lookup ch e) reply = refused_sides job e reply
 undone_sides job (Enter ch e) reply = refused_sides job e reply
+undone_sides job (Rename ch e) reply = refused_sides job e reply
 undone_sides job (In ch a) reply = stopped_sides job ch (channel_at job ch) refl reply
 undone_sides job (Out ch a) reply = stopped_sides job ch (channel_at job ch) refl reply
 undone_sides job (Useti ch k) reply = stopped_sides job ch (channel_at job ch) refl reply
 undone_sides job (Useto ch k) reply = stopped_sides job ch (channel_at job ch) refl reply
-undone_sides job (Close ch bits) reply = (refl, refl)
-undone_sides job (Releas ch) reply = (refl, refl)
+undone_sides job (Close ch bits) reply = stopped_sides job ch (channel_at job ch) refl reply
+undone_sides job (Releas ch) reply = stopped_sides job ch (channel_at job ch) refl reply
 undone_sides job (Getsts ch) reply = (refl, refl)
 undone_sides job Reset reply = (refl, refl)
 undone_sides job (MakeDir e) reply = refused_sides job e reply
+undone_sides job (DeleteDir e) reply = refused_sides job e reply
 
 call_undone_booked : (s : State) (n : ℕ) (o : Option Job) (call : Call) (reply : Reply) → job_at s n ≡ o → booked (call_undone s n o call reply) ≡ booked s
 call_undone_booked s n None call reply e = refl

@@ -3,6 +3,13 @@ use Rattle.std.specs.Prelude.{ℕ, ◌+◌, nat_lt, Bool, List, [], ◌∷◌, �
 use Rattle.words36.specs.Words.{left, join}
 use Rattle.meaning.specs.declared.area.Area.{Area}
 
+-- the job word whose right half says where the next ring of buffers goes, and where the first one does
+abbrev pub first_free : ℕ
+first_free = 0o121
+
+abbrev pub rings_begin : ℕ
+rings_begin = 0o140
+
 -- not all of so many words from an address on are there
 abbrev pub lies_outside : List ℕ → ℕ → ℕ → Bool
 lies_outside core address count = nat_lt (length core) (address + count)

@@ -1,14 +1,15 @@
--- ENTER, which begins a new file or one that will supersede a file. On a channel that has looked a file up
--- it is to update that file, and this isn't served so far.
+-- ENTER, which opens a file for writing: a new one, one that will supersede a file, or, on a channel that
+-- has looked a file up, that file itself.
 use Rattle.std.specs.Prelude.{ℕ, ◌+◌, ◌/◌, ◌^◌, ◌==◌, ◌||◌, not, is_some, if◌then◌else◌, [], Option, Some, None, slice_index}
 use Rattle.words36.specs.declared.moment.Moment.{Moment}
 use Rattle.meaning.specs.Files.{File, Place}
 use Rattle.meaning.specs.Published.{Version, file_at}
 use Rattle.meaning.specs.Rights.{may_look, may_create, may_supersede}
 use Rattle.meaning.specs.Cores.{lies_outside}
-use Rattle.meaning.specs.Jobs.{Create, Supersede, Output, Channel, Job, State, with_channel}
+use Rattle.meaning.specs.Jobs.{Create, Supersede, Input, Output, Channel, Job, State, with_channel}
 use Rattle.meaning.specs.Room.{Pack, is_claimed, entry_count, exceeds_room, has_no_room, growth}
 use Rattle.meaning.specs.Looking.{place_at, has_no_directory, is_absent, directory_digit_at, digit_at, with_attributes}
+use Rattle.meaning.specs.Updating.{is_elsewhere, update_answer, output_updating, input_updating}
 use Rattle.meaning.specs.Outcomes.{settled, clean, refused_at}
 use Rattle.meaning.specs.declared.call.Reply.{Reply}
 use Rattle.meaning.specs.declared.call.Reply.TheVariants.{Done, Refused, AddressCheck}
@@ -29,14 +30,18 @@ supersede_answer pack s job place =
     else if has_no_room pack s then Refused 0o14
     else Done
 
+-- by whether the channel has looked a file up
+abbrev pub begin_answer : Pack → State → Job → Option Input → Place → Reply
+begin_answer pack s job None place = if is_absent s place then create_answer pack s job place else supersede_answer pack s job place
+begin_answer pack s job (Some i) place = update_answer pack s job place
+
 abbrev pub enter_answer : Pack → State → Job → Channel → ℕ → Place → Reply
 enter_answer pack s job c e place =
     if lies_outside job.core e 4 then AddressCheck
-    else if is_some c.output || is_some c.input then Refused 5
+    else if is_some c.output || is_elsewhere c.input place then Refused 5
     else if has_no_directory s place then Refused 1
     else if place.name.name == 0 then Refused 0
-    else if is_absent s place then create_answer pack s job place
-    else supersede_answer pack s job place
+    else begin_answer pack s job c.input place
 
 -- the protection in bits 0 to 8 of a word, or another where they are 0
 abbrev pub protection_or : ℕ → ℕ → ℕ
@@ -45,18 +50,22 @@ protection_or word default = if word / 2 ^ 27 == 0 then default else word / 2 ^ 
 abbrev pub new_file : ℕ → Channel → Moment → File
 new_file protection c moment = record { protection = protection; mode = c.mode; time = moment.minute; date = moment.date; body = [] }
 
--- the output side that an ENTER opens, by the version that is current: a new file's protection is the one
--- given, a superseding one's that of the old file
-abbrev pub output_opened : Job → Channel → ℕ → Moment → Place → Option Version → Output
-output_opened job c e moment place None = record { place = place; kind = Create; pending = new_file (protection_or (slice_index job.core (e + 2)) 0o057) c moment; next = 1 }
-output_opened job c e moment place (Some v) = record { place = place; kind = Supersede; pending = new_file v.file.protection c moment; next = 1 }
+-- The output side that an ENTER opens, by the version that is current: a new file's protection is the one
+-- given, a superseding one's that of the old file. `digit` is the job's for that version.
+abbrev pub output_opened : Job → Channel → ℕ → Moment → Place → ℕ → Option Input → Option Version → Output
+output_opened job c e moment place digit input None =
+    record { place = place; kind = Create; pending = new_file (protection_or (slice_index job.core (e + 2)) 0o057) c moment; next = 1 }
+output_opened job c e moment place digit None (Some v) = record { place = place; kind = Supersede; pending = new_file v.file.protection c moment; next = 1 }
+output_opened job c e moment place digit (Some i) (Some v) = output_updating digit place v
 
-abbrev pub entered : Pack → Job → ℕ → Channel → ℕ → Output → Job
-entered pack job number c e o =
-    with_channel (record job { core = with_attributes pack.layout job.core e o.pending }) number (Some (record (clean c) { output = Some o }))
+abbrev pub entered : Pack → Job → ℕ → Channel → ℕ → Option Input → Output → Job
+entered pack job number c e input o =
+    with_channel (record job { core = with_attributes pack.layout job.core e o.pending }) number (Some (record (clean c) { input = input; output = Some o }))
 
 abbrev pub enter_done : Pack → State → Job → ℕ → Channel → ℕ → Moment → Place → Job
-enter_done pack s job number c e moment place = entered pack job number c e (output_opened job c e moment place (file_at s.files place))
+enter_done pack s job number c e moment place =
+    entered pack job number c e (input_updating c.input (file_at s.files place))
+    (output_opened job c e moment place (digit_at s job place) c.input (file_at s.files place))
 
 abbrev pub enter : Pack → State → Job → ℕ → Channel → ℕ → Moment → Reply × Job
 enter pack s job number c e moment =

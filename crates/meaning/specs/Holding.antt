@@ -2,20 +2,22 @@
 use Rattle.std.specs.Prelude.{◌≡◌, ◌≢◌, ◌⊎◌, ℕ, List, [], ◌∷◌, Option, Some, None, option_map}
 use Rattle.meaning.specs.Published.{Version, file_at}
 use Rattle.meaning.specs.Splices.{words_from}
-use Rattle.meaning.specs.Cores.{after_writes, dealt}
 use Rattle.meaning.specs.Jobs.{Input, Output, Channel, Job, State, channel_at, job_at}
 use Rattle.meaning.specs.Looking.{place_at}
-use Rattle.meaning.specs.Inputs.{areas_at}
+use Rattle.meaning.specs.Inputs.{core_filled}
 use Rattle.meaning.specs.declared.call.Call.{Call}
-use Rattle.meaning.specs.declared.call.Call.TheVariants.{Open, Lookup, Enter, In, Out, Useti, Useto, Close, Releas, Getsts, Reset, MakeDir}
+use Rattle.meaning.specs.declared.call.Call.TheVariants.{Open, Inbuf, Outbuf, Lookup, Enter, Rename, In, Out, Useti, Useto, Close, Releas, Getsts, Reset, MakeDir, DeleteDir}
 use Rattle.meaning.specs.declared.call.Event.{Event}
 use Rattle.meaning.specs.declared.call.Event.TheVariants.{Login, Deposit, Examine, Call as Calls}
 
 -- a call of the job itself that leaves the channel its input side
 abbrev pub SparesCall : ℕ → Call → Type 0
 SparesCall ch (Open k a) = Unit {0}
+SparesCall ch (Inbuf k n) = Unit {0}
+SparesCall ch (Outbuf k n) = Unit {0}
 SparesCall ch (Lookup k e) = ch ≢ k
 SparesCall ch (Enter k e) = ch ≢ k
+SparesCall ch (Rename k e) = ch ≢ k
 SparesCall ch (In k a) = Unit {0}
 SparesCall ch (Out k a) = Unit {0}
 SparesCall ch (Useti k n) = Unit {0}
@@ -25,6 +27,7 @@ SparesCall ch (Releas k) = ch ≢ k
 SparesCall ch (Getsts k) = Unit {0}
 SparesCall ch Reset = ⊥
 SparesCall ch (MakeDir e) = Unit {0}
+SparesCall ch (DeleteDir e) = Unit {0}
 
 -- any event of another job, and an event of the job n itself that leaves channel ch its input side
 abbrev pub SparesEvent : ℕ → ℕ → Event → Type 0
@@ -61,8 +64,8 @@ held_at s n ch = held_for ch (job_at s n)
 abbrev pub FoundBy : State → ℕ → ℕ → Version → Type 0
 FoundBy s n e v = (job : Job) × (job_at s n ≡ Some job) × (file_at s.files (place_at job e) ≡ Some v)
 
--- From s to u an IN of job n on channel ch moved words of this version by the command list at a: those from
--- the channel's next block on.
+-- From s to u an IN of job n on channel ch moved words of this version, by the command list at a or by the
+-- input side's ring: those from the channel's next block on.
 pub record MovesWordsOf (s u : State) (n ch a : ℕ) (v : Version) : Type 0 where
   pub job : Job
   pub channel : Channel
@@ -72,4 +75,4 @@ pub record MovesWordsOf (s u : State) (n ch a : ℕ) (v : Version) : Type 0 wher
   pub channel_is : channel_at job ch ≡ Some channel
   pub side_is : channel.input ≡ Some side
   pub after_is : job_at u n ≡ Some after
-  pub core_is : after.core ≡ after_writes job.core (dealt (areas_at job a) (words_from v.file.body side.next))
+  pub core_is : after.core ≡ core_filled job channel a (words_from v.file.body side.next)

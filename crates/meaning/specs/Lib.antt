@@ -23,12 +23,15 @@ pub mod Rights
 pub mod Splices
 pub mod Cores
 pub mod CommandLists
+pub mod Rings
 pub mod Jobs
 pub mod Room
 pub mod Outcomes
 pub mod Opening
 pub mod Looking
+pub mod Updating
 pub mod Entering
+pub mod Renaming
 pub mod Inputs
 pub mod Outputs
 pub mod Closing
@@ -41,4 +44,10 @@ pub mod Holding
 pub mod Undone
 pub mod Sound
 pub mod Codes
-pub mod Updating
+pub mod Lines
+pub mod Spellings
+pub mod Commands
+pub mod Scripts
+pub mod Texts
+pub mod Conducts
+pub mod Talks

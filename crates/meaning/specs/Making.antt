@@ -1,13 +1,14 @@
 -- MakeDir makes a directory, by two words at an address: whose it is, and its protection in bits 0 to 8.
-use Rattle.std.specs.Prelude.{ℕ, ◌+◌, ◌==◌, ◌||◌, not, Bool, is_some, if◌then◌else◌, slice_index}
+-- DeleteDir removes an empty one: it takes whose it is, and a second word for a refusal's code.
+use Rattle.std.specs.Prelude.{ℕ, ◌+◌, ◌==◌, ◌||◌, not, Bool, is_some, is_none, if◌then◌else◌, slice_index}
 use Rattle.words36.specs.Words.{left, right}
-use Rattle.meaning.specs.Maps.{get, insert, empty, size}
+use Rattle.meaning.specs.Maps.{get, insert, remove, empty, size}
 use Rattle.meaning.specs.Files.{Directory, Files}
 use Rattle.meaning.specs.Published.{Version}
 use Rattle.meaning.specs.Rights.{system}
 use Rattle.meaning.specs.Cores.{lies_outside}
 use Rattle.meaning.specs.Jobs.{Job, State}
-use Rattle.meaning.specs.Room.{Pack, exceeds_room, growth}
+use Rattle.meaning.specs.Room.{Pack, entry_count, exceeds_room, growth}
 use Rattle.meaning.specs.Entering.{protection_or}
 use Rattle.meaning.specs.Outcomes.{settled, refused_at}
 use Rattle.meaning.specs.declared.call.Reply.{Reply}
@@ -35,3 +36,16 @@ directory_made job e = record { protection = protection_or (slice_index job.core
 abbrev pub makes : Pack → State → Job → ℕ → Reply × (Job × Files Version)
 makes pack s job e =
     settled (make_answer pack s job e (owner_at job e)) (job, insert s.files (owner_at job e) (directory_made job e)) (λ reply. (refused_at job e reply, s.files))
+
+-- an entry is in the way, and so is a file that is being created
+abbrev pub remove_answer : State → Job → ℕ → ℕ → Reply
+remove_answer s job e owner =
+    if lies_outside job.core e 2 then AddressCheck
+    else if is_none (get s.files owner) then Refused 1
+    else if is_stranger job owner then Refused 2
+    else if not (entry_count s owner == 0) then Refused 0o22
+    else Done
+
+abbrev pub removes : State → Job → ℕ → Reply × (Job × Files Version)
+removes s job e =
+    settled (remove_answer s job e (owner_at job e)) (job, remove s.files (owner_at job e)) (λ reply. (refused_at job e reply, s.files))

@@ -1,14 +1,14 @@
--- OUT and USETO, in dump mode.
-use Rattle.std.specs.Prelude.{ℕ, ◌+◌, ◌-◌, ◌*◌, ◌==◌, ◌&&◌, ◌||◌, nat_lt, nat_le, not, Bool, false, is_none, if◌then◌else◌, List, length, Option, Some, None}
+-- OUT and USETO.
+use Rattle.std.specs.Prelude.{ℕ, ◌+◌, ◌-◌, ◌*◌, ◌==◌, ◌&&◌, ◌||◌, nat_lt, nat_le, not, Bool, false, is_none, if◌then◌else◌, List, length, Option, Some, None, option_map}
 use Rattle.meaning.specs.Costs.{blocks_of, version_cost}
 use Rattle.meaning.specs.Splices.{splice, length_after}
-use Rattle.meaning.specs.Cores.{joined}
-use Rattle.meaning.specs.CommandLists.{dump_list, word_count}
+use Rattle.meaning.specs.Cores.{after_writes, joined}
+use Rattle.meaning.specs.CommandLists.{dump_list}
+use Rattle.meaning.specs.Rings.{is_buffered, byte_size, out_ready, ring_words, out_writes}
 use Rattle.meaning.specs.Jobs.{Kind, Create, Supersede, Update, Append, Output, Channel, Job, State, with_channel, block_too_large}
 use Rattle.meaning.specs.Room.{Pack, exceeds_room}
-use Rattle.meaning.specs.Inputs.{areas_at}
+use Rattle.meaning.specs.Inputs.{lacks_header}
 use Rattle.meaning.specs.Outcomes.{settled, clean, reports, stopped_in}
-use Rattle.meaning.specs.declared.area.Area.{Area}
 use Rattle.meaning.specs.declared.call.Reply.{Reply}
 use Rattle.meaning.specs.declared.call.Reply.TheVariants.{Done, Refused, AddressCheck}
 
@@ -36,24 +36,44 @@ finds_no_place pack s o count =
     || exceeds_room pack s (rise o count)
     || is_before_end o.kind o.next)
 
-abbrev pub put_answer : Pack → State → Channel → Option Output → Option (List Area) → Reply
-put_answer pack s c None areas = Refused 5
-put_answer pack s c (Some o) None = AddressCheck
-put_answer pack s c (Some o) (Some areas) = if finds_no_place pack s o (word_count areas) then reports c block_too_large else Done
+-- what an OUT finds in core: the words to be put, and the core that it leaves
+pub record Outgoing : Type 0 where
+  pub words : List ℕ
+  pub core : List ℕ
+
+abbrev pub ring_out : Channel → List ℕ → Outgoing
+ring_out c ready = record { words = ring_words ready c.output_header; core = after_writes ready (out_writes ready c.output_header (byte_size c.mode)) }
+
+-- by the command list at an address, or by the output side's ring. None is AddressCheck.
+abbrev pub outgoing : Job → Channel → ℕ → Option Outgoing
+outgoing job c a =
+    if is_buffered c.mode then option_map (ring_out c) (out_ready job.core c.output_header (byte_size c.mode))
+    else option_map (λ areas. record { words = joined job.core areas; core = job.core }) (dump_list job.core a)
+
+abbrev pub place_answer : Pack → State → Channel → Output → List ℕ → Reply
+place_answer pack s c o words = if finds_no_place pack s o (length words) then reports c block_too_large else Done
+
+abbrev pub found_answer : Pack → State → Channel → Output → Option Outgoing → Reply
+found_answer pack s c o None = AddressCheck
+found_answer pack s c o (Some found) = place_answer pack s c o found.words
+
+abbrev pub put_answer : Pack → State → Channel → Option Output → Option Outgoing → Reply
+put_answer pack s c None found = Refused 5
+put_answer pack s c (Some o) found = if lacks_header c.mode c.output_header then Refused 5 else found_answer pack s c o found
 
 abbrev pub out_answer : Pack → State → Job → Channel → ℕ → Reply
-out_answer pack s job c a = put_answer pack s c c.output (dump_list job.core a)
-
--- the words that the command list at an address names, joined
-abbrev pub words_put : Job → ℕ → List ℕ
-words_put job a = joined job.core (areas_at job a)
+out_answer pack s job c a = put_answer pack s c c.output (outgoing job c a)
 
 abbrev pub put_on : Option Output → List ℕ → Option Output
 put_on None words = None
 put_on (Some o) words = Some (record o { pending = record o.pending { body = splice o.pending.body o.next words }; next = o.next + blocks_of (length words) })
 
+abbrev pub put_done : Job → ℕ → Channel → Option Outgoing → Job
+put_done job number c None = job
+put_done job number c (Some found) = with_channel (record job { core = found.core }) number (Some (record (clean c) { output = put_on c.output found.words }))
+
 abbrev pub out_done : Job → ℕ → Channel → ℕ → Job
-out_done job number c a = with_channel job number (Some (record (clean c) { output = put_on c.output (words_put job a) }))
+out_done job number c a = put_done job number c (outgoing job c a)
 
 abbrev pub puts : Pack → State → Job → ℕ → Channel → ℕ → Reply × Job
 puts pack s job number c a = settled (out_answer pack s job c a) (out_done job number c a) (stopped_in job number c)

@@ -2,7 +2,7 @@
 -- A serial is not shown: it stays with a version that a rename moves, and is chosen anew at each start.
 use Rattle.std.specs.Prelude.{ℕ, ◌+◌, ◌*◌, ◌^◌, ◌%◌, ◌==◌, ◌&&◌, Bool, Option, Some, None}
 use Rattle.words36.specs.declared.names.FileName.{FileName}
-use Rattle.meaning.specs.Maps.{get, insert}
+use Rattle.meaning.specs.Maps.{get, insert, remove}
 use Rattle.meaning.specs.Files.{File, Directory, Files, Place, map_files}
 
 pub record Version : Type 0 where
@@ -32,6 +32,17 @@ with_file_in (Some d) files place v = insert files place.ppn (record d { files =
 -- the files with this version at a place whose directory there is
 abbrev pub with_file : Files Version → Place → Version → Files Version
 with_file files place v = with_file_in (get files place.ppn) files place v
+
+abbrev pub without_file_in : Option (Directory Version) → Files Version → Place → Files Version
+without_file_in None files place = files
+without_file_in (Some d) files place = insert files place.ppn (record d { files = remove d.files place.name })
+
+-- the files with none at a place
+abbrev pub without_file : Files Version → Place → Files Version
+without_file files place = without_file_in (get files place.ppn) files place
+
+abbrev pub with_protection : Version → ℕ → Version
+with_protection v protection = record v { file = record v.file { protection = protection } }
 
 -- protection, mode, time and the low twelve bits of the date in one word
 abbrev pub attributes : File → ℕ

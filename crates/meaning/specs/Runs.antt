@@ -9,7 +9,7 @@ use Rattle.meaning.specs.Sessions.{list}
 use Rattle.meaning.specs.Step.{step}
 use Rattle.meaning.specs.declared.entry.Entry.{Entry}
 use Rattle.meaning.specs.declared.call.Call.{Call}
-use Rattle.meaning.specs.declared.call.Call.TheVariants.{Open, Lookup, Enter, In, Out, Useti, Useto, Close, Releas, Getsts, Reset, MakeDir}
+use Rattle.meaning.specs.declared.call.Call.TheVariants.{Open, Inbuf, Outbuf, Lookup, Enter, Rename, In, Out, Useti, Useto, Close, Releas, Getsts, Reset, MakeDir, DeleteDir}
 use Rattle.meaning.specs.declared.call.Event.{Event}
 use Rattle.meaning.specs.declared.call.Event.TheVariants.{Login, Deposit, Examine, Call as Calls}
 use Rattle.meaning.specs.declared.call.Reply.{Reply}
@@ -22,6 +22,13 @@ IsFresh s serial = IsFalse (has_serial serial (current s ++ held s))
 -- The machine may give this reply and go on to this state.
 abbrev pub Steps : Pack → State → Event → Reply → State → Type 0
 Steps pack s event reply after = (serial : ℕ) × IsFresh s serial × (step pack serial s event ≡ (reply, after))
+
+-- The same of a list of events: none met want of memory or a fault of the disk.
+abbrev pub StepsAll : Pack → State → List Event → List Reply → State → Type 0
+StepsAll pack s [] [] after = after ≡ s
+StepsAll pack s (event ∷ events) (reply ∷ replies) after = (mid : State) × Steps pack s event reply mid × StepsAll pack mid events replies after
+StepsAll pack s [] (reply ∷ replies) after = ⊥
+StepsAll pack s (event ∷ events) [] after = ⊥
 
 -- What asks neither for memory nor for the disk.
 
@@ -50,8 +57,11 @@ publishes_on (Some c) bits = publishes c bits
 -- the calls that need neither at all
 abbrev pub is_light : State → ℕ → Call → Bool
 is_light s n (Open ch a) = true
+is_light s n (Inbuf ch k) = true
+is_light s n (Outbuf ch k) = true
 is_light s n (Lookup ch e) = false
 is_light s n (Enter ch e) = false
+is_light s n (Rename ch e) = false
 is_light s n (In ch a) = false
 is_light s n (Out ch a) = false
 is_light s n (Useti ch k) = true
@@ -61,6 +71,7 @@ is_light s n (Releas ch) = not (publishes_on (channel_of (job_at s n) ch) 0)
 is_light s n (Getsts ch) = true
 is_light s n Reset = true
 is_light s n (MakeDir e) = false
+is_light s n (DeleteDir e) = false
 
 abbrev pub takes_memory : State → Event → Bool
 takes_memory s (Login n ppn words) = true

@@ -6,18 +6,11 @@ use Rattle.meaning.specs.Files.{Directory}
 use Rattle.meaning.specs.Costs.{blocks_of}
 use Rattle.meaning.specs.Published.{Version}
 use Rattle.meaning.specs.Rights.{may_look, directory_digit}
-use Rattle.meaning.specs.Cores.{with_right}
+use Rattle.meaning.specs.Cores.{first_free, rings_begin, with_right}
 use Rattle.meaning.specs.Jobs.{Job, State, job_at, all_closed}
 use Rattle.meaning.specs.declared.entry.Entry.{Entry}
 use Rattle.meaning.specs.declared.call.Reply.{Reply}
 use Rattle.meaning.specs.declared.call.Reply.TheVariants.{Done, Value, Refused, AddressCheck, NoJob}
-
--- the job word whose right half says where the next ring of buffers goes, and where the first one does
-abbrev pub first_free : ℕ
-first_free = 0o121
-
-abbrev pub rings_begin : ℕ
-rings_begin = 0o140
 
 abbrev pub is_job_number : ℕ → Bool
 is_job_number n = not (n == 0) && nat_le n 64

@@ -5,17 +5,18 @@ use Rattle.meaning.specs.Files.{Files}
 use Rattle.meaning.specs.Published.{Version}
 use Rattle.meaning.specs.Jobs.{Channel, Job, State, channel_at, job_at, with_job}
 use Rattle.meaning.specs.Room.{Pack}
-use Rattle.meaning.specs.Opening.{opens}
+use Rattle.meaning.specs.Opening.{opens, sets_up}
 use Rattle.meaning.specs.Looking.{lookup}
 use Rattle.meaning.specs.Entering.{enter}
 use Rattle.meaning.specs.Inputs.{reads, useti}
 use Rattle.meaning.specs.Outputs.{puts, useto}
 use Rattle.meaning.specs.Closing.{closes, releases}
-use Rattle.meaning.specs.Making.{makes}
+use Rattle.meaning.specs.Renaming.{renames}
+use Rattle.meaning.specs.Making.{makes, removes}
 use Rattle.meaning.specs.Sessions.{login_answer, new_job, deposit_answer, deposit_done, examine_answer, resets}
 use Rattle.meaning.specs.Outcomes.{settled}
 use Rattle.meaning.specs.declared.call.Call.{Call}
-use Rattle.meaning.specs.declared.call.Call.TheVariants.{Open, Lookup, Enter, In, Out, Useti, Useto, Close, Releas, Getsts, Reset, MakeDir}
+use Rattle.meaning.specs.declared.call.Call.TheVariants.{Open, Inbuf, Outbuf, Lookup, Enter, Rename, In, Out, Useti, Useto, Close, Releas, Getsts, Reset, MakeDir, DeleteDir}
 use Rattle.meaning.specs.declared.call.Event.{Event}
 use Rattle.meaning.specs.declared.call.Event.TheVariants.{Login, Deposit, Examine, Call as Calls}
 use Rattle.meaning.specs.declared.call.Reply.{Reply}
@@ -48,17 +49,21 @@ open_on s n job ch a = if nat_le ch 15 then of_job s n (opens job ch a) else (No
 -- a call of a job that is logged in, a line for each row of the table
 abbrev pub call_of : Pack → ℕ → State → ℕ → Job → Call → Moment → Reply × State
 call_of pack serial s n job (Open ch a) moment = open_on s n job ch a
+call_of pack serial s n job (Inbuf ch k) moment = on_channel s (channel_at job ch) (λ c. of_job s n (sets_up job ch c c.input_header k))
+call_of pack serial s n job (Outbuf ch k) moment = on_channel s (channel_at job ch) (λ c. of_job s n (sets_up job ch c c.output_header k))
 call_of pack serial s n job (Lookup ch e) moment = on_channel s (channel_at job ch) (λ c. of_job s n (lookup pack s job ch c e))
 call_of pack serial s n job (Enter ch e) moment = on_channel s (channel_at job ch) (λ c. of_job s n (enter pack s job ch c e moment))
+call_of pack serial s n job (Rename ch e) moment = on_channel s (channel_at job ch) (λ c. of_files s n (renames pack s job ch c e))
 call_of pack serial s n job (In ch a) moment = on_channel s (channel_at job ch) (λ c. of_job s n (reads job ch c a))
 call_of pack serial s n job (Out ch a) moment = on_channel s (channel_at job ch) (λ c. of_job s n (puts pack s job ch c a))
 call_of pack serial s n job (Useti ch k) moment = on_channel s (channel_at job ch) (λ c. of_job s n (useti job ch c k))
 call_of pack serial s n job (Useto ch k) moment = on_channel s (channel_at job ch) (λ c. of_job s n (useto job ch c k))
-call_of pack serial s n job (Close ch bits) moment = on_channel s (channel_at job ch) (λ c. of_files s n (closes serial s job ch c bits))
-call_of pack serial s n job (Releas ch) moment = on_channel s (channel_at job ch) (λ c. of_files s n (releases serial s job ch c))
+call_of pack serial s n job (Close ch bits) moment = on_channel s (channel_at job ch) (λ c. of_files s n (closes pack serial s job ch c bits))
+call_of pack serial s n job (Releas ch) moment = on_channel s (channel_at job ch) (λ c. of_files s n (releases pack serial s job ch c))
 call_of pack serial s n job (Getsts ch) moment = on_channel s (channel_at job ch) (λ c. (Value c.status, s))
 call_of pack serial s n job Reset moment = of_job s n (resets job)
 call_of pack serial s n job (MakeDir e) moment = of_files s n (makes pack s job e)
+call_of pack serial s n job (DeleteDir e) moment = of_files s n (removes s job e)
 
 -- an event of a job, which has to be logged in
 abbrev pub on_job : State → Option Job → (Job → Reply × State) → Reply × State

@@ -4,7 +4,7 @@ use Rattle.std.specs.Prelude.{ℕ, Option, Some, None}
 use Rattle.meaning.specs.Jobs.{Channel, Job, State, channel_at, job_at, with_job}
 use Rattle.meaning.specs.Outcomes.{stopped_in, refused_at}
 use Rattle.meaning.specs.declared.call.Call.{Call}
-use Rattle.meaning.specs.declared.call.Call.TheVariants.{Open, Lookup, Enter, In, Out, Useti, Useto, Close, Releas, Getsts, Reset, MakeDir}
+use Rattle.meaning.specs.declared.call.Call.TheVariants.{Open, Inbuf, Outbuf, Lookup, Enter, Rename, In, Out, Useti, Useto, Close, Releas, Getsts, Reset, MakeDir, DeleteDir}
 use Rattle.meaning.specs.declared.call.Event.{Event}
 use Rattle.meaning.specs.declared.call.Event.TheVariants.{Login, Deposit, Examine, Call as Calls}
 use Rattle.meaning.specs.declared.call.Reply.{Reply}
@@ -15,17 +15,21 @@ stopped_on job number (Some c) reply = stopped_in job number c reply
 
 abbrev pub job_undone : Job → Call → Reply → Job
 job_undone job (Open ch a) reply = job
+job_undone job (Inbuf ch n) reply = job
+job_undone job (Outbuf ch n) reply = job
 job_undone job (Lookup ch e) reply = refused_at job e reply
 job_undone job (Enter ch e) reply = refused_at job e reply
+job_undone job (Rename ch e) reply = refused_at job e reply
 job_undone job (In ch a) reply = stopped_on job ch (channel_at job ch) reply
 job_undone job (Out ch a) reply = stopped_on job ch (channel_at job ch) reply
 job_undone job (Useti ch n) reply = stopped_on job ch (channel_at job ch) reply
 job_undone job (Useto ch n) reply = stopped_on job ch (channel_at job ch) reply
-job_undone job (Close ch bits) reply = job
-job_undone job (Releas ch) reply = job
+job_undone job (Close ch bits) reply = stopped_on job ch (channel_at job ch) reply
+job_undone job (Releas ch) reply = stopped_on job ch (channel_at job ch) reply
 job_undone job (Getsts ch) reply = job
 job_undone job Reset reply = job
 job_undone job (MakeDir e) reply = refused_at job e reply
+job_undone job (DeleteDir e) reply = refused_at job e reply
 
 abbrev pub call_undone : State → ℕ → Option Job → Call → Reply → State
 call_undone s n None call reply = s

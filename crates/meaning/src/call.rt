@@ -6,13 +6,19 @@ use words36::{Moment, Ppn, Word};
 pub enum Call {
     /// Opens a channel: the address of its three words.
     Open(u32, u32),
+    /// Sets up a ring for input: a channel, and how many buffers, where 0 means 2.
+    Inbuf(u32, u32),
+    /// Sets up a ring for output: a channel, and how many buffers, where 0 means 2.
+    Outbuf(u32, u32),
     /// Looks a file up for reading: a channel, and the address of its four words.
     Lookup(u32, u32),
     /// Opens a file for writing: a channel, and the address of its four words.
     Enter(u32, u32),
-    /// Reads: a channel, and the address of a command list.
+    /// Renames or deletes the file that was looked up: a channel, and the address of its four words.
+    Rename(u32, u32),
+    /// Reads: a channel, and in dump mode the address of a command list.
     In(u32, u32),
-    /// Writes: a channel, and the address of a command list.
+    /// Writes: a channel, and in dump mode the address of a command list.
     Out(u32, u32),
     /// Names the block that is read next: a channel and the block, counted from 1.
     Useti(u32, u32),
@@ -28,6 +34,8 @@ pub enum Call {
     Reset,
     /// Makes a directory: the address of two words.
     MakeDir(u32),
+    /// Removes an empty directory: the address of two words.
+    DeleteDir(u32),
 }
 
 /// What happens to the service.

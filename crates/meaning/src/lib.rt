@@ -9,6 +9,7 @@ mod area;
 mod call;
 mod changes;
 mod code;
+mod command;
 mod edits;
 mod entry;
 mod laws;
@@ -19,6 +20,7 @@ mod quiet;
 mod spoiled;
 mod starts;
 mod status;
+mod texts;
 
 pub use act::Act;
 pub use area::Area;
@@ -29,6 +31,7 @@ pub use changes::{
     versions_are_published, versions_are_superseded,
 };
 pub use code::ErrorCode;
+pub use command::{Command, Spec};
 pub use edits::{directory_edits, master_edits};
 pub use entry::Entry;
 pub use laws::{
@@ -36,8 +39,10 @@ pub use laws::{
     one_meaning, quiet_writes, vectors_stand, versions_are_kept, versions_fit_their_cost,
 };
 pub use machine::{
-    jobs_are_apart, moments_go_on, reading_holds_still, room_is_not_overdrawn, runs_go_on,
-    serials_are_not_seen, splices_put_words, states_are_sound, undone_changes_nothing,
+    jobs_are_apart, moments_go_on, readers_keep_versions, reading_holds_still,
+    reading_takes_no_room, renames_move_one_version, room_is_not_overdrawn, runs_go_on,
+    runs_tell_no_serials, serials_are_not_seen, splices_put_words, states_are_sound,
+    undone_changes_nothing,
 };
 pub use maps::{list_laws, map_laws, sum_laws};
 pub use put::Put;
@@ -45,3 +50,4 @@ pub use quiet::quiet_stretch;
 pub use spoiled::spoiled_images;
 pub use starts::{faults_exclude, reading_finds_the_map};
 pub use status::IoStatus;
+pub use texts::{lines_have_one_reading, served_acts_are_acts, texts_are_functions};

@@ -1,19 +1,22 @@
-ghost use Rattle.std.specs.Prelude.{◌≡◌, ◌≢◌, ◌<◌, ◌≤◌, ◌+◌, ◌++◌, ◌∷◌, [], ◌⊎◌, ℕ, List, length, pos, slice_index};
+ghost use Rattle.std.specs.Prelude.{◌≡◌, ◌≢◌, ◌<◌, ◌≤◌, ◌+◌, ◌++◌, ◌∷◌, [], ◌⊎◌, ℕ, List, length, pos, slice_index, true, false, Some, None};
 ghost use Rattle.words36.specs.declared.moment.Moment.{Moment};
 ghost use Rattle.meaning.specs.declared.call.Event.{Event};
 ghost use Rattle.meaning.specs.declared.call.Event.TheVariants.{Call as Calls};
-ghost use Rattle.meaning.specs.declared.call.Call.TheVariants.{Lookup, In};
+ghost use Rattle.meaning.specs.declared.call.Call.TheVariants.{Lookup, Rename, In, DeleteDir};
 ghost use Rattle.meaning.specs.declared.call.Reply.{Reply};
-ghost use Rattle.meaning.specs.declared.call.Reply.TheVariants.{Done, Failed};
+ghost use Rattle.meaning.specs.declared.call.Reply.TheVariants.{Done, Refused, Failed};
 ghost use Rattle.blockdisk.specs.Disk.{Contents, MayLeave, LeavesOnly};
 ghost use Rattle.meaning.specs.Crashes.{StandsForState, StandsForEither, RunsOn};
-ghost use Rattle.meaning.specs.Files.{File, Files};
+ghost use Rattle.meaning.specs.Files.{File, Files, Place};
 ghost use Rattle.meaning.specs.Holding.{SpareAll, FoundBy, MovesWordsOf};
-ghost use Rattle.meaning.specs.Jobs.{State, job_at};
-ghost use Rattle.meaning.specs.Published.{Version, without_serials};
+ghost use Rattle.meaning.specs.Jobs.{Channel, Input, Job, State, channel_at, job_at};
+ghost use Rattle.meaning.specs.Looking.{place_at};
+ghost use Rattle.meaning.specs.Published.{Version, file_at, with_protection, without_serials};
+ghost use Rattle.meaning.specs.Renaming.{deletes_at, protection_at};
 ghost use Rattle.meaning.specs.Room.{Pack, booked, room};
-ghost use Rattle.meaning.specs.Runs.{Service, Serving, Broken, Answers, IsFresh, IsStart, Run};
-ghost use Rattle.meaning.specs.Sound.{IsSound};
+ghost use Rattle.meaning.specs.Runs.{Service, Serving, Broken, Answers, IsFresh, IsStart, Run, StepsAll};
+ghost use Rattle.meaning.specs.Sessions.{list};
+ghost use Rattle.meaning.specs.Sound.{holds_at, IsSound};
 ghost use Rattle.meaning.specs.Splices.{splice, length_after, block_start};
 ghost use Rattle.meaning.specs.Step.{step, job_of};
 ghost use Rattle.meaning.specs.Undone.{undone};
@@ -73,10 +76,50 @@ pub fn room_is_not_overdrawn()
         → booked s < booked (step pack serial s event).1 → (k : ℕ) × (room pack (step pack serial s event).1 ≡ pos k) }
 {}
 
+/// Who reads a version keeps it where others rename, delete and remove: a RENAME closes the input side of its
+/// own channel alone, the removal of a directory none; and a RENAME that is refused leaves all files.
+pub fn readers_keep_versions()
+    ensures renamed { (pack : Pack) (serial : ℕ) (s : State) (n ch e : ℕ) (moment : Moment) (m k : ℕ) → (m ≢ n) ⊎ (k ≢ ch)
+        → holds_at (step pack serial s (Calls n (Rename ch e) moment)).1 m k ≡ holds_at s m k }
+    ensures removed { (pack : Pack) (serial : ℕ) (s : State) (n e : ℕ) (moment : Moment) (m k : ℕ)
+        → holds_at (step pack serial s (Calls n (DeleteDir e) moment)).1 m k ≡ holds_at s m k }
+    ensures refused { (pack : Pack) (serial : ℕ) (s : State) (n ch e : ℕ) (moment : Moment) (code : ℕ) → (step pack serial s (Calls n (Rename ch e) moment)).0 ≡ Refused code
+        → (step pack serial s (Calls n (Rename ch e) moment)).1.files ≡ s.files }
+{}
+
+/// A RENAME that is done moves one version and no other: it stands at the new place with the protection given, or
+/// nowhere, and all other places have what they had.
+pub fn renames_move_one_version()
+    ensures moved { (pack : Pack) (serial : ℕ) (s : State) (n ch e : ℕ) (moment : Moment) (job : Job) (c : Channel) (i : Input) → job_at s n ≡ Some job → channel_at job ch ≡ Some c → c.input ≡ Some i
+        → (v : Version) → (step pack serial s (Calls n (Rename ch e) moment)).0 ≡ Done → file_at s.files i.place ≡ Some v → deletes_at job e ≡ false
+        → file_at (step pack serial s (Calls n (Rename ch e) moment)).1.files (place_at job e) ≡ Some (with_protection v (protection_at job e)) }
+    ensures gone { (pack : Pack) (serial : ℕ) (s : State) (n ch e : ℕ) (moment : Moment) (job : Job) (c : Channel) (i : Input) → job_at s n ≡ Some job → channel_at job ch ≡ Some c → c.input ≡ Some i
+        → (step pack serial s (Calls n (Rename ch e) moment)).0 ≡ Done → deletes_at job e ≡ true
+        → file_at (step pack serial s (Calls n (Rename ch e) moment)).1.files i.place ≡ None }
+    ensures left { (pack : Pack) (serial : ℕ) (s : State) (n ch e : ℕ) (moment : Moment) (job : Job) (c : Channel) (i : Input) → job_at s n ≡ Some job → channel_at job ch ≡ Some c → c.input ≡ Some i
+        → (v : Version) → (step pack serial s (Calls n (Rename ch e) moment)).0 ≡ Done → file_at s.files i.place ≡ Some v → deletes_at job e ≡ false → i.place ≢ place_at job e
+        → file_at (step pack serial s (Calls n (Rename ch e) moment)).1.files i.place ≡ None }
+    ensures untouched { (pack : Pack) (serial : ℕ) (s : State) (n ch e : ℕ) (moment : Moment) (job : Job) (c : Channel) (i : Input) → job_at s n ≡ Some job → channel_at job ch ≡ Some c → c.input ≡ Some i
+        → (v : Version) → (step pack serial s (Calls n (Rename ch e) moment)).0 ≡ Done → file_at s.files i.place ≡ Some v → (q : Place) → q ≢ i.place → q ≢ place_at job e
+        → file_at (step pack serial s (Calls n (Rename ch e) moment)).1.files q ≡ file_at s.files q }
+{}
+
+/// An IN never changes the room.
+pub fn reading_takes_no_room()
+    ensures { (pack : Pack) (serial : ℕ) (s : State) (n ch a : ℕ) (moment : Moment) → room pack (step pack serial s (Calls n (In ch a) moment)).1 ≡ room pack s }
+{}
+
 /// No reply tells which serial an event chose, nor do the files without serials.
 pub fn serials_are_not_seen()
     ensures files { (pack : Pack) (a b : ℕ) (s : State) (event : Event) → without_serials (step pack a s event).1.files ≡ without_serials (step pack b s event).1.files }
     ensures reply { (pack : Pack) (a b : ℕ) (s : State) (event : Event) → (step pack a s event).0 ≡ (step pack b s event).0 }
+{}
+
+/// Nor do the replies of a whole run, nor what its end shows: from one state, whatever serials were chosen,
+/// the replies to the same events are the same, and so are the files, the lists of directories and the room.
+pub fn runs_tell_no_serials()
+    ensures { (pack : Pack) (s t u : State) (events : List Event) (one other : List Reply) → StepsAll pack s events one t → StepsAll pack s events other u
+        → (one ≡ other) × (without_serials t.files ≡ without_serials u.files) × ((n owner : ℕ) → list t n owner ≡ list u n owner) × (room pack t ≡ room pack u) }
 {}
 
 /// The moments of a run go on by one event, from one state of a disk to another, with what a crash leaves

@@ -1,4 +1,4 @@
-use Rattle.meaning.proofs.RoomSteps.{room_stays}
+use Rattle.meaning.proofs.RoomEvents.{room_stays}
 use Rattle.meaning.proofs.machine.room_is_not_overdrawn.Goals as goal
 
 pub returns : goal.returns

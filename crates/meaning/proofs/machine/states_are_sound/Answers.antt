@@ -1,4 +1,4 @@
-use Rattle.meaning.proofs.SoundSteps.{sound_step}
+use Rattle.meaning.proofs.SoundEvents.{sound_step}
 use Rattle.meaning.proofs.SoundRuns.{started_run_sound}
 use Rattle.meaning.proofs.machine.states_are_sound.Goals as goal
 

@@ -1,0 +1,5 @@
+use Rattle.meaning.proofs.TalkLaws.{served_went}
+use Rattle.meaning.proofs.texts.served_acts_are_acts.Goals as goal
+
+pub returns : goal.returns
+returns c = served_went

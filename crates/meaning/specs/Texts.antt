@@ -1,0 +1,141 @@
+-- What a session prints.
+use Rattle.std.specs.Prelude.{ℕ, ◌+◌, ◌-◌, ◌/◌, ◌%◌, ◌^◌, ◌==◌, ◌||◌, Bool, true, false, if◌then◌else◌, List, [], ◌∷◌, ◌++◌, length, replicate, flat_map, codes, Result, Ok, Err}
+use Rattle.std.specs.Fmt.{decimal}
+use Rattle.words36.specs.Words.{ppn_text}
+use Rattle.words36.specs.Sixbit.{characters}
+use Rattle.words36.specs.Ascii.{unpacked}
+use Rattle.meaning.specs.Maps.{total}
+use Rattle.meaning.specs.Lines.{feed}
+use Rattle.meaning.specs.declared.entry.Entry.{Entry}
+use Rattle.meaning.specs.declared.call.Reply.{Reply}
+use Rattle.meaning.specs.declared.call.Reply.TheVariants.{Done, Value, Refused, Stopped, NoChannel, AddressCheck, NoJob, NoMemory, Device, Failed, DateRange}
+
+-- A text, and what is counted of its lines: whether one was refused, and whether one met a fault of the disk or
+-- came after it.
+pub record Spoken : Type 0 where
+  pub text : List ℕ
+  pub refused : Bool
+  pub broke : Bool
+
+abbrev pub joined : Spoken → Spoken → Spoken
+joined a b = record { text = a.text ++ b.text; refused = a.refused || b.refused; broke = a.broke || b.broke }
+
+abbrev pub silent : Spoken
+silent = record { text = []; refused = false; broke = false }
+
+abbrev pub prints : List ℕ → Spoken
+prints text = record { text = text; refused = false; broke = false }
+
+abbrev pub line : List ℕ → List ℕ
+line text = text ++ feed ∷ []
+
+abbrev pub complains : List ℕ → Spoken
+complains text = record { text = line text; refused = true; broke = false }
+
+-- Refusals.
+
+abbrev pub code_text : ℕ → List ℕ
+code_text code =
+    if code == 0 then codes "?File not found"
+    else if code == 1 then codes "?No such directory"
+    else if code == 2 then codes "?Protection failure"
+    else if code == 3 then codes "?File being modified"
+    else if code == 4 then codes "?File name already exists"
+    else if code == 0o14 then codes "?No room"
+    else if code == 0o22 then codes "?Directory not empty"
+    else codes "?Illegal sequence"
+
+-- A line meets no NoChannel and no AddressCheck, since its channels and addresses are there.
+abbrev pub refusal : Reply → List ℕ
+refusal Done = codes "?Illegal sequence"
+refusal (Value word) = codes "?Illegal sequence"
+refusal (Refused code) = code_text code
+refusal (Stopped status) = codes "?No room"
+refusal NoChannel = codes "?Illegal sequence"
+refusal AddressCheck = codes "?Illegal sequence"
+refusal NoJob = codes "?Not logged in"
+refusal NoMemory = codes "?No memory"
+refusal Device = codes "?Device fault"
+refusal Failed = codes "?Service stopped"
+refusal DateRange = codes "?Date out of range"
+
+abbrev pub is_broken : Reply → Bool
+is_broken Done = false
+is_broken (Value word) = false
+is_broken (Refused code) = false
+is_broken (Stopped status) = false
+is_broken NoChannel = false
+is_broken AddressCheck = false
+is_broken NoJob = false
+is_broken NoMemory = false
+is_broken Device = true
+is_broken Failed = true
+is_broken DateRange = false
+
+abbrev pub refuses : Reply → Spoken
+refuses reply = record { text = line (refusal reply); refused = true; broke = is_broken reply }
+
+-- What is printed of what is done.
+
+abbrev pub greeting : ℕ → List ℕ
+greeting owner = line (codes "Job 1 " ++ ppn_text owner)
+
+-- the characters of words without nulls
+abbrev pub not_null : ℕ → List ℕ
+not_null c = if c == 0 then [] else c ∷ []
+
+abbrev pub typed : List ℕ → List ℕ
+typed words = flat_map not_null (unpacked words)
+
+-- The list of a directory.
+
+-- a text right in so many places
+abbrev pub right_in : ℕ → List ℕ → List ℕ
+right_in places text = replicate (places - length text) 32 ++ text
+
+-- a number of three octal digits
+abbrev pub three_digits : ℕ → List ℕ
+three_digits n = (n / 64 % 8 + 48) ∷ (n / 8 % 8 + 48) ∷ (n % 8 + 48) ∷ []
+
+-- the three characters of an extension
+abbrev pub extension_text : ℕ → List ℕ
+extension_text ext = (ext / 64 ^ 2 % 64 + 32) ∷ (ext / 64 % 64 + 32) ∷ (ext % 64 + 32) ∷ []
+
+abbrev pub month_text : ℕ → List ℕ
+month_text month =
+    if month == 0 then codes "Jan"
+    else if month == 1 then codes "Feb"
+    else if month == 2 then codes "Mar"
+    else if month == 3 then codes "Apr"
+    else if month == 4 then codes "May"
+    else if month == 5 then codes "Jun"
+    else if month == 6 then codes "Jul"
+    else if month == 7 then codes "Aug"
+    else if month == 8 then codes "Sep"
+    else if month == 9 then codes "Oct"
+    else if month == 10 then codes "Nov"
+    else codes "Dec"
+
+-- a day: each month has 31 numbers
+abbrev pub day_text : ℕ → List ℕ
+day_text date = right_in 2 (decimal (date % 31 + 1)) ++ codes "-" ++ month_text (date / 31 % 12) ++ codes "-" ++ decimal (date / 372 + 1964)
+
+unfoldable pub entry_text : Entry → List ℕ
+entry_text e =
+    line (characters e.name.name ++ codes " " ++ extension_text e.name.ext ++ codes " " ++ right_in 5 (decimal e.blocks)
+    ++ codes "  <" ++ three_digits e.protection ++ codes ">  " ++ day_text e.date)
+
+abbrev pub blocks_in : List Entry → ℕ
+blocks_in entries = total (λ e. e.blocks) entries
+
+abbrev pub total_text : ℕ → List Entry → List ℕ
+total_text owner [] = line (codes "No files " ++ ppn_text owner)
+total_text owner (e ∷ es) =
+    line (codes "Total " ++ decimal (blocks_in (e ∷ es)) ++ codes " blocks in " ++ decimal (length (e ∷ es)) ++ codes " files " ++ ppn_text owner)
+
+unfoldable pub listing : ℕ → List Entry → List ℕ
+listing owner entries = flat_map entry_text entries ++ total_text owner entries
+
+abbrev pub list_said : ℕ → Result (List Entry) Reply → Spoken
+list_said owner (Ok entries) = prints (listing owner entries)
+list_said owner (Err reply) = refuses reply

@@ -1,0 +1,31 @@
+use words36::{FileName, Ppn};
+
+/// How a line of a session names a file.
+#[derive(Clone, Copy, Debug, PartialEq, Eq)]
+pub struct Spec {
+    /// The file's name and extension.
+    pub name: FileName,
+    /// Whose directory it is in: none is the job's own.
+    pub owner: Option<Ppn>,
+}
+
+/// What a line of a session says.
+#[derive(Clone, Copy, Debug, PartialEq, Eq)]
+pub enum Command {
+    /// Job 1 logs in.
+    Login(Ppn),
+    /// Lists a directory, or without a number the job's own.
+    Directory(Option<Ppn>),
+    /// Copies a file: the new one, and the one that is copied.
+    Copy(Spec, Spec),
+    /// Renames a file: its new name, and the old one. Its protection stays.
+    Rename(Spec, Spec),
+    /// Deletes a file.
+    Delete(Spec),
+    /// Types a file's characters.
+    TypeOut(Spec),
+    /// Gives a file another protection: three octal digits.
+    Protect(Spec, u32),
+    /// Makes a directory, with a protection, where 0 means the usual one.
+    MakeDir(Ppn, u32),
+}
