@@ -1,5 +1,6 @@
 ghost use Rattle.std.specs.Prelude.{◌≡◌, ◌<◌, ℕ, OnOk, IsErrOf, length};
-ghost use Rattle.blockdisk.specs.Disk.{SameDisk, Still, one_more};
+ghost use Rattle.blockdisk.specs.Disk.{SameDisk, one_more};
+ghost use Rattle.changeset.specs.Reads.{OnlyReads};
 ghost use Rattle.meaning.specs.Regions.{IsVolumeSize, table_blocks};
 ghost use Rattle.alloctab.specs.Lists.{digit_at};
 ghost use Rattle.alloctab.specs.Reading.{IsTableOf, IsBadTableBlock, ReadsBits};
@@ -17,7 +18,7 @@ fn read_bits<D: Disk>(disk: &mut D, i: u32, bits: &mut [bool]) -> Result<(), Tab
     requires in_table { i < table_blocks (D.state disk.old).size }
     ensures read { (D.state disk.old).honest → OnOk result (ReadsBits (D.state disk.old).size (D.state disk.old).contents i bits.old bits.new) }
     ensures wrong { (D.state disk.old).honest → (n : ℕ) → IsErrOf result (TableWrong n) → IsBadTableBlock (D.state disk.old).size (D.state disk.old).contents n }
-    ensures still { (D.state disk.old).honest → Still (D.state disk.old) (D.state disk.new) }
+    ensures reads { (D.state disk.old).honest → OnlyReads (D.state disk.old) (D.state disk.new) }
     ensures same { SameDisk (D.state disk.old) (D.state disk.new) }
     ensures memory { IsErrOf result NoMemory → ⊥ }
     ensures failed { IsErrOf result Device → (D.state disk.new).failures ≡ one_more (D.state disk.old).failures }
@@ -42,7 +43,7 @@ pub fn read_table<D: Disk>(disk: &mut D, bits: &mut [bool]) -> Result<(), TableE
     requires long { length bits.old ≡ (D.state disk.old).size }
     ensures read { (D.state disk.old).honest → OnOk result (IsTableOf (D.state disk.old).size (D.state disk.old).contents (digit_at bits.new)) }
     ensures wrong { (D.state disk.old).honest → (n : ℕ) → IsErrOf result (TableWrong n) → IsBadTableBlock (D.state disk.old).size (D.state disk.old).contents n }
-    ensures still { (D.state disk.old).honest → Still (D.state disk.old) (D.state disk.new) }
+    ensures reads { (D.state disk.old).honest → OnlyReads (D.state disk.old) (D.state disk.new) }
     ensures same { SameDisk (D.state disk.old) (D.state disk.new) }
     ensures memory { IsErrOf result NoMemory → ⊥ }
     ensures failed { IsErrOf result Device → (D.state disk.new).failures ≡ one_more (D.state disk.old).failures }

@@ -1,10 +1,11 @@
 ghost use Rattle.std.specs.Prelude.{◌≡◌, ◌<◌, ◌≤◌, ◌+◌, ◌-◌, ◌^◌, ◌↔◌, ◌⊎◌, ◌∷◌, [], ℕ, true, false, replicate, Some, IfOk, IsErrOf, IsTrue, IsSome, IfSome, IfNone, length};
 ghost use Rattle.std.specs.List.{AllByRecursion};
-ghost use Rattle.blockdisk.specs.Disk.{Contents, SameDisk, Still, one_more};
+ghost use Rattle.blockdisk.specs.Disk.{Contents, SameDisk, one_more};
 ghost use Rattle.meaning.specs.Maps.{times};
 ghost use Rattle.meaning.specs.Log.{targets, with_puts, IsTarget};
 ghost use Rattle.meaning.specs.Regions.{IsVolumeSize, table_blocks, table_start};
 ghost use Rattle.changeset.specs.Puts.{IsPutIn};
+ghost use Rattle.changeset.specs.Reads.{OnlyReads};
 ghost use Rattle.alloctab.specs.TableState.{IsTable, IsFree, bit, holds, IsChanged, space, used_in_space, changed_blocks, with_bit, with_held};
 ghost use Rattle.alloctab.specs.TableBlocks.{table_words};
 ghost use Rattle.alloctab.specs.Reading.{IsTableOf, IsBadTableBlock};
@@ -60,7 +61,7 @@ impl Table {
         ensures read { (D.state disk.old).honest → IfOk result (λ table. IsTableOf (D.state disk.old).size (D.state disk.old).contents (bit table)) }
         ensures wrong { (D.state disk.old).honest → (n : ℕ) → IsErrOf result (TableWrong n) → IsBadTableBlock (D.state disk.old).size (D.state disk.old).contents n }
 
-        ensures still { (D.state disk.old).honest → Still (D.state disk.old) (D.state disk.new) }
+        ensures reads { (D.state disk.old).honest → OnlyReads (D.state disk.old) (D.state disk.new) }
         ensures same { SameDisk (D.state disk.old) (D.state disk.new) }
         ensures failed { IsErrOf result Device → (D.state disk.new).failures ≡ one_more (D.state disk.old).failures }
         ensures untouched { IsErrOf result NoMemory → disk.new ≡ disk.old }

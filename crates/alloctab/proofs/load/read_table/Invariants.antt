@@ -1,5 +1,6 @@
 use Rattle.std.proofs.Common.{◌≡◌}
-use Rattle.blockdisk.specs.Disk.{SameDisk, Still}
+use Rattle.blockdisk.specs.Disk.{SameDisk}
+use Rattle.changeset.specs.Reads.{OnlyReads}
 use Rattle.alloctab.specs.Lists.{digit_at}
 use Rattle.alloctab.proofs.TableReading.{IsTableBelow}
 use Rattle.alloctab.proofs.load.read_table.Given as goal
@@ -8,6 +9,6 @@ abbrev pub invariant-loop-i : goal.invariant-loop-i
 invariant-loop-i g l = record {
   same : SameDisk (g.D.Disk.state l.fn.disk) (g.D.Disk.state l.disk);
   served : (g.D.Disk.state l.disk).failures ≡ (g.D.Disk.state l.fn.disk).failures;
-  still : (g.D.Disk.state l.fn.disk).honest → Still (g.D.Disk.state l.fn.disk) (g.D.Disk.state l.disk);
+  reads : (g.D.Disk.state l.fn.disk).honest → OnlyReads (g.D.Disk.state l.fn.disk) (g.D.Disk.state l.disk);
   read : (g.D.Disk.state l.fn.disk).honest → IsTableBelow l.i (g.D.Disk.state l.fn.disk).size (g.D.Disk.state l.fn.disk).contents (digit_at l.bits);
 }
