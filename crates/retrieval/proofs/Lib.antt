@@ -6,3 +6,4 @@ pub mod Readings
 pub mod Writing
 pub mod Building
 pub mod Taking
+pub mod Whole

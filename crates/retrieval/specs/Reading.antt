@@ -85,6 +85,12 @@ pub record IsVersionAt (size : ℕ) (contents : Contents) (at : ℕ) (prime : Pr
   pub ppn_fits : IsPpn prime.ppn
   pub ext_fits : prime.file.ext < 262144
 
+-- What was read is this prime block's text, with these ribs and these data blocks.
+pub record IsReadAs (p : Prime) (ribs blocks : List ℕ) (prime : PrimeValue) (v : VersionState) : Type 0 where
+  pub prime_is : with_length prime v.words ≡ p
+  pub ribs_are : v.ribs ≡ ribs
+  pub blocks_are : v.blocks ≡ blocks
+
 -- A version stands at this prime block as it should: its blocks lie in the free space, and its place fits.
 pub record IsWholeVersion (size : ℕ) (contents : Contents) (at : ℕ) (p : Prime) (ribs blocks : List ℕ) : Type 0 where
   pub retrieved : IsRetrieved 1 contents p at ribs blocks

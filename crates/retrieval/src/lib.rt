@@ -3,7 +3,8 @@
 //!
 //! 1. On an honest disk `read_version` answers a version that stands there, all of whose data blocks and
 //!    extensions lie in the free space; or it names a retrieval block that is not as it should be, and
-//!    that never where a version stands there as it should. (`ok`, `bad`, `whole`)
+//!    that never where a version stands there as it should. What it answers is what the contents have
+//!    there. (`ok`, `bad`, `whole`, `reads`)
 //! 2. On every disk, honest or not, it returns, and the blocks that it answers lie in the free space, as
 //!    many as the length asks for. (`blocks_inside`, `ribs_inside`, `counted`, `few`)
 //! 3. It writes nothing, and answers `Device` exactly with one more failure of the disk. (`keeps`,
@@ -11,8 +12,10 @@
 //! 4. `prime_block` spells the prime block of a version, a pointer of its own to each data block.
 //! 5. A `Prime` has a protection below 1000 (octal) and a date that fits the twelve bits of layout 1; a
 //!    `Mode` is one of the six data modes of files.
-//! 6. `write_version` writes no block but the prime block and the ribs that it took from the table, each
-//!    free then; at Ok the version stands there. (`written`, `taken`, `touched`)
+//! 6. `write_version` writes no block but the prime block and the ribs that it took from the table, all
+//!    different, in the free space and free before; at Ok the version stands there, and it is read back
+//!    where its data blocks lie in the free space. (`written`, `read_back`, `taken`, `own`, `apart`,
+//!    `touched`)
 //! 7. Memory is taken for the lists of blocks alone, and a `Version` whose growth is refused stays as it
 //!    was.
 #![tactic(auto)]

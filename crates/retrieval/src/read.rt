@@ -1,11 +1,11 @@
-ghost use Rattle.std.specs.Prelude.{◌≡◌, ◌*◌, ◌<◌, ◌≤◌, ◌⊎◌, ℕ, List, IsTrue, Some, None, IfSome, IfNone, IfOk, OnOk, IsErrOf, length};
+ghost use Rattle.std.specs.Prelude.{◌≡◌, ◌*◌, ◌<◌, ◌≤◌, ◌^◌, ◌⊎◌, ℕ, List, IsTrue, Some, None, IfSome, IfNone, IfOk, OnOk, IsErrOf, length};
 ghost use Rattle.std.specs.List.{AllByRecursion};
 ghost use Rattle.blockdisk.specs.Disk.{Keeps, SameDisk, one_more};
 ghost use Rattle.meaning.specs.Costs.{blocks_of};
 ghost use Rattle.meaning.specs.Regions.{IsVolumeSize};
-ghost use Rattle.meaning.specs.Retrieval.{Prime as PrimeRecord, most_blocks};
+ghost use Rattle.meaning.specs.Retrieval.{Prime as PrimeRecord, IsRetrieved, most_blocks};
 ghost use Rattle.meaning.specs.Faults.{InSpace, IsBadVersion};
-ghost use Rattle.retrieval.specs.Reading.{IsBadPrime, IsBadExtension, Overfills, IsStarted, Extends, IsVersionAt, IsWholeVersion};
+ghost use Rattle.retrieval.specs.Reading.{IsBadPrime, IsBadExtension, Overfills, IsStarted, Extends, IsVersionAt, IsReadAs, IsWholeVersion};
 ghost use Rattle.retrieval.specs.declared.error.RetrievalError.TheVariants.{BadRetrieval, Device, NoMemory};
 
 use crate::head::{EXTENSION_POINTERS, PRIME_POINTERS};
@@ -144,6 +144,7 @@ pub fn read_version<D: Disk>(
     ensures ok { (D.state disk.old).honest → IfOk result (λ read. IsVersionAt (D.state disk.old).size (D.state disk.old).contents at read.0 read.1) }
     ensures bad { (D.state disk.old).honest → (k : ℕ) → IsErrOf result (BadRetrieval k) → IsBadVersion (D.state disk.old).size (D.state disk.old).contents 1 at k }
     ensures whole { (D.state disk.old).honest → (p : PrimeRecord) (ribs blocks : List ℕ) → IsWholeVersion (D.state disk.old).size (D.state disk.old).contents at p ribs blocks → (k : ℕ) → IsErrOf result (BadRetrieval k) → ⊥ }
+    ensures reads { (D.state disk.old).honest → (p : PrimeRecord) (ribs blocks : List ℕ) → IsRetrieved 1 (D.state disk.old).contents p at ribs blocks → p.place.name.ext < 2 ^ 18 → IfOk result (λ read. IsReadAs p ribs blocks read.0 read.1) }
     ensures blocks_inside { IfOk result (λ read. AllByRecursion (InSpace (D.state disk.old).size) read.1.blocks) }
     ensures ribs_inside { IfOk result (λ read. AllByRecursion (InSpace (D.state disk.old).size) read.1.ribs) }
     ensures counted { IfOk result (λ read. length read.1.blocks ≡ blocks_of read.1.words) }

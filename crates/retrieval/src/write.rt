@@ -11,6 +11,7 @@ ghost use Rattle.meaning.specs.Retrieval.{extension_block, AreExtensions, IsRetr
 ghost use Rattle.alloctab.specs.TableState.{IsTable, IsFree, holds, space, used_in_space, with_held};
 ghost use Rattle.retrieval.specs.Pointers.{one_each};
 ghost use Rattle.retrieval.specs.Primes.{with_length};
+ghost use Rattle.retrieval.specs.Reading.{IsWholeVersion};
 ghost use Rattle.retrieval.specs.declared.error.RetrievalError.TheVariants.{BadRetrieval, Device, NoMemory};
 ghost use Rattle.retrieval.specs.Writing.{rib_count, Takes, AreApart, IsFixed, extensions_of};
 
@@ -167,13 +168,16 @@ pub fn write_version<D: Disk>(
     requires booked { used_in_space table.old + (1 + rib_count (length version.old.blocks)) ≤ table.old.booked }
     requires room { table.old.booked ≤ space table.old.size }
 
-    // What was written is read back.
+    // What was written stands there, and is read back: `whole` and `reads` of `read_version`.
     ensures written { (D.state disk.old).honest → IfOk result (λ n. IsRetrieved 1 (D.state disk.new).contents (with_length prime.now version.new.words) n version.new.ribs version.new.blocks) }
+    ensures read_back { (D.state disk.old).honest → AllByRecursion (InSpace (D.state disk.old).size) version.old.blocks → IfOk result (λ n. IsWholeVersion (D.state disk.new).size (D.state disk.new).contents n (with_length prime.now version.new.words) version.new.ribs version.new.blocks) }
     ensures kept { version.new ≡ record version.old { ribs = version.new.ribs } }
     ensures count { OnOk result (length version.new.ribs ≡ rib_count (length version.new.blocks)) }
 
     // The blocks taken were free, one after the other, also where the device failed.
     ensures taken { IfOk result (λ n. Takes table.old (n ∷ version.new.ribs) table.new) }
+    ensures own { IfOk result (λ n. AllByRecursion (λ k. IsFree table.old k × InSpace (D.state disk.old).size k) (n ∷ version.new.ribs)) }
+    ensures apart { IfOk result (λ n. AreApart (n ∷ version.new.ribs)) }
     ensures left { IsErrOf result Device → (n : ℕ) × Takes table.old (n ∷ version.new.ribs) table.new }
 
     // Nothing but blocks that were free is written, whatever the answer.
@@ -189,6 +193,7 @@ pub fn write_version<D: Disk>(
     // Memory first, so that a refused growth leaves everything alone.
     let mut ribs = vec![in alloc; 0; rib_count(version.blocks().len())]?;
     let _booked = table.booked(); // which says that the table is sound
+    let _place = (prime.ppn.word(), prime.file.ext.bits()); // which say that the place fits its words
     let at = take_block(table);
     take_blocks(table, ribs.as_mut_slice());
     version.set_ribs(ribs);

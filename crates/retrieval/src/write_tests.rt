@@ -1,11 +1,16 @@
-ghost use Rattle.std.specs.Prelude.{◌≡◌, ◌+◌, ◌*◌, ◌<◌, ◌≤◌, ◌^◌, IfOk, length};
+ghost use Rattle.std.specs.Prelude.{◌≡◌, ◌+◌, ◌*◌, ◌<◌, ◌≤◌, ◌^◌, ℕ, IfOk, IsErrOf, length};
 ghost use Rattle.std.specs.List.{AllByRecursion};
-ghost use Rattle.alloctab.specs.TableState.{used_in_space};
+ghost use Rattle.alloctab.specs.TableState.{space, used_in_space};
+ghost use Rattle.meaning.specs.Costs.{blocks_of};
+ghost use Rattle.meaning.specs.Faults.{InSpace};
 ghost use Rattle.meaning.specs.Regions.{IsVolumeSize};
-ghost use Rattle.retrieval.specs.Writing.{IsFixed};
+ghost use Rattle.retrieval.specs.Primes.{with_length};
+ghost use Rattle.retrieval.specs.Reading.{IsReadAs};
+ghost use Rattle.retrieval.specs.Writing.{IsFixed, rib_count};
+ghost use Rattle.retrieval.specs.declared.error.RetrievalError.TheVariants.{BadRetrieval};
 
 use crate::{Mode, Prime, RetrievalError, Version, read_version, write_version};
-use alloctab::{Reached, Table};
+use alloctab::{Reached, Table, TableError};
 use blockdisk::{Disk, MemDisk, NoMemory};
 use std::alloc::Global;
 use std::process::Abort;
@@ -30,13 +35,23 @@ fn foo(rt: &impl Abort) -> Prime {
     Prime::new(file, ppn, 0o057, Mode::Dump, moment).expect(rt, "a prime block")
 }
 
+/// A disk on which the fixed regions alone are in use, and that has room for so many writes.
+fn disk_of(rt: &impl Abort, alloc: Global, writes: usize) -> Result<MemDisk, NoMemory> {
+    let mut disk = MemDisk::new(alloc, SIZE, writes)?;
+    let mut table_block = [Word::ZERO; BLOCK_WORDS];
+    table_block[0] = word(0o777770000000);
+    assert!(rt; 14 < disk.blocks());
+    disk.load(14, &table_block);
+    Ok(disk)
+}
+
 /// A table of which the fixed regions alone are in use, with so many blocks booked.
 fn table_of<D: Disk>(
     rt: &impl Abort,
     alloc: Global,
     disk: &mut D,
     count: u32,
-) -> Result<Table, Fail>
+) -> Result<Table, TableError>
     requires { IsVolumeSize (D.state disk.old).size }
     ensures size { IfOk result (λ table. table.size ≡ (D.state disk.old).size) }
     ensures kept { (D.state disk.new).size ≡ (D.state disk.old).size }
@@ -46,7 +61,9 @@ fn table_of<D: Disk>(
 {
     let size = disk.blocks();
     let mut table = Table::load(alloc, disk)?;
-    let reached = Reached::new(alloc, size)?;
+    let Ok(reached) = Reached::new(alloc, size) else {
+        return Err(TableError::NoMemory);
+    };
     assert!(rt; table.wrong_block(&reached).is_none());
     table.book(count);
     Ok(table)
@@ -58,6 +75,7 @@ fn version_of(alloc: Global, count: u32) -> Result<Version, NoMemory>
     ensures words { IfOk result (λ version. version.words ≡ count * 128) }
     ensures blocks { IfOk result (λ version. length version.blocks ≡ count) }
     ensures fit { IfOk result (λ version. AllByRecursion (λ n. n < 2 ^ 18) version.blocks) }
+    ensures inside { IfOk result (λ version. AllByRecursion (InSpace 1024) version.blocks) }
 {
     let mut version = Version::new(alloc);
     version.set_length(count * 128);
@@ -67,22 +85,45 @@ fn version_of(alloc: Global, count: u32) -> Result<Version, NoMemory>
     Ok(version)
 }
 
+/// A version that was written is read back, by the two contracts alone.
+fn write_and_read<D: Disk>(
+    alloc: Global,
+    disk: &mut D,
+    table: &mut Table,
+    prime: &Prime,
+    version: &mut Version,
+) -> Result<(Prime, Version), RetrievalError>
+    requires volume { IsVolumeSize (D.state disk.old).size }
+    requires size { table.old.size ≡ (D.state disk.old).size }
+    requires words { version.old.words ≤ 2097152 }
+    requires enough { length version.old.blocks ≡ blocks_of version.old.words }
+    requires blocks { AllByRecursion (λ n. n < 2 ^ 18) version.old.blocks }
+    requires inside { AllByRecursion (InSpace (D.state disk.old).size) version.old.blocks }
+    requires fixed { IsFixed table.old }
+    requires booked { used_in_space table.old + (1 + rib_count (length version.old.blocks)) ≤ table.old.booked }
+    requires room { table.old.booked ≤ space table.old.size }
+    ensures read { (D.state disk.old).honest → IfOk result (λ read. IsReadAs (with_length prime.now version.old.words) version.new.ribs version.old.blocks read.0 read.1) }
+    ensures good { (D.state disk.old).honest → (k : ℕ) → IsErrOf result (BadRetrieval k) → ⊥ }
+{
+    let at = write_version(alloc, disk, table, prime, version)?;
+    read_version(alloc, disk, at)
+}
+
 #[test]
 fn versions_written_and_read_back(rt: HostRuntime) -> Result<(), Fail> {
     for (count, ribs) in [(0u32, 0u32), (1, 0), (112, 0), (113, 1), (238, 1), (239, 2)] {
-        let mut disk = MemDisk::new(rt.alloc(), SIZE, 8)?;
-        let mut table_block = [Word::ZERO; BLOCK_WORDS];
-        table_block[0] = word(0o777770000000);
-        assert!(rt; 14 < disk.blocks());
-        disk.load(14, &table_block);
+        let mut disk = disk_of(&rt, rt.alloc(), 8)?;
         assert!(rt; disk.blocks() == SIZE);
         assert!(rt; count <= 239 && ribs == count.saturating_sub(112).div_ceil(126));
         let mut table = table_of(&rt, rt.alloc(), &mut disk, count + 1 + ribs)?;
         let mut version = version_of(rt.alloc(), count)?;
-        let at = write_version(rt.alloc(), &mut disk, &mut table, &foo(&rt), &mut version)?;
-        assert_eq!(rt; at, 15);
-        assert!(rt; at < disk.blocks());
-        let (prime, read) = read_version(rt.alloc(), &mut disk, at)?;
+        let (prime, read) = write_and_read(
+            rt.alloc(),
+            &mut disk,
+            &mut table,
+            &foo(&rt),
+            &mut version,
+        )?;
         assert!(rt; prime == foo(&rt));
         assert_eq!(rt; read.length(), count * 128);
         assert!(rt; read.blocks() == version.blocks());
@@ -96,11 +137,7 @@ fn versions_written_and_read_back(rt: HostRuntime) -> Result<(), Fail> {
 #[test]
 fn each_write_may_fail(rt: HostRuntime) -> Result<(), Fail> {
     for calls in 0..3 {
-        let mut disk = MemDisk::new(rt.alloc(), SIZE, calls)?;
-        let mut table_block = [Word::ZERO; BLOCK_WORDS];
-        table_block[0] = word(0o777770000000);
-        assert!(rt; 14 < disk.blocks());
-        disk.load(14, &table_block);
+        let mut disk = disk_of(&rt, rt.alloc(), calls)?;
         assert!(rt; disk.blocks() == SIZE);
         let mut table = table_of(&rt, rt.alloc(), &mut disk, 115)?;
         let mut version = version_of(rt.alloc(), 113)?;
@@ -109,6 +146,31 @@ fn each_write_may_fail(rt: HostRuntime) -> Result<(), Fail> {
             assert_eq!(rt; answer, Err(RetrievalError::Device));
         } else {
             assert_eq!(rt; answer, Ok(15));
+        }
+    }
+    Ok(())
+}
+
+/// Run with each allocation refused in turn: the answer is `NoMemory`, the version has no ribs, and the
+/// first free block is still there to be taken.
+#[test]
+fn each_allocation_of_a_write_refused(rt: HostRuntime) -> Result<(), Fail> {
+    let Ok(mut disk) = disk_of(&rt, rt.alloc(), 8) else {
+        return Ok(());
+    };
+    assert!(rt; disk.blocks() == SIZE);
+    let Ok(mut table) = table_of(&rt, rt.alloc(), &mut disk, 115) else {
+        return Ok(());
+    };
+    let Ok(mut version) = version_of(rt.alloc(), 113) else {
+        return Ok(());
+    };
+    match write_version(rt.alloc(), &mut disk, &mut table, &foo(&rt), &mut version) {
+        Ok(at) => assert_eq!(rt; at, 15),
+        Err(error) => {
+            assert_eq!(rt; error, RetrievalError::NoMemory);
+            assert!(rt; version.blocks().len() == 113 && version.ribs().is_empty());
+            assert_eq!(rt; table.take(), Some(15));
         }
     }
     Ok(())

@@ -9,6 +9,7 @@ use Rattle.retrieval.specs.Reading.{IsReadTo, IsVersionAt}
 use Rattle.retrieval.specs.declared.error.RetrievalError.TheVariants.{BadRetrieval}
 use Rattle.retrieval.proofs.RunLists.{handed_on}
 use Rattle.retrieval.proofs.Readings.{keeps_on, read_started, read_more, damaged_extension, bad_extension, bad_overfilled, read_whole, bad_count, damaged_prime, bad_prime, extended_longer, none_wrong, extended_blocks, extended_ribs, falls, bad_of}
+use Rattle.retrieval.proofs.Whole.{read_as}
 use Rattle.retrieval.proofs.read.read_version.Goals as goal
 
 pub returns-in_err-block-clause-bad : goal.returns-in_err-block-clause-bad
@@ -124,6 +125,11 @@ returns-clause-ok g c h =
     let enough : length c.loop-next.version.blocks ≡ blocks_of c.loop-next.version.words = sym (ap length c.blocks-2.ensures) ∙ c.if-blocks-blocks_of.false ∙ c.blocks_of.ensures.value ∙ ap blocks_of c.length.ensures in
     subst (λ (n : ℕ). IsVersionAt n s.contents c.args.at c.in_ok-prime.prime c.loop-next.version) c.blocks-size.ensures
     (read_whole size s.contents c.args.at c.in_ok-prime.prime c.loop-next.version end enough)
+
+pub returns-clause-reads : goal.returns-clause-reads
+returns-clause-reads g c h p ribs blocks is ext =
+    let s = g.D.Disk.state c.args.disk.now in
+    read_as s.size s.contents c.args.at c.in_ok-prime.prime c.loop-next.version p ribs blocks (returns-clause-ok g c h) is ext
 
 pub returns-clause-blocks_inside : goal.returns-clause-blocks_inside
 returns-clause-blocks_inside g c = subst (λ (n : ℕ). AllByRecursion (InSpace n) c.loop-next.version.blocks) c.blocks-size.ensures c.loop-next.invariant.blocks_inside

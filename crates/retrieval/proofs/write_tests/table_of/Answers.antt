@@ -41,6 +41,6 @@ unused t reached size held none right = sum_zero (λ j. used t (space_start t.si
 pub returns-clause-unused : goal.returns-clause-unused
 returns-clause-unused g c =
     let t = c.in_ok-table.table in
-    let reached = c.in_ok-reached.reached in
+    let reached = c.in-Ok.reached in
     let right : (n : ℕ) → bit t n ≡ wanted_bit t.size reached n = search rules in
-    ap used_in_space c.book.ensures ∙ unused t reached c.blocks-size.result c.in_ok-table.ensures.unheld c.in_ok-reached.ensures right
+    ap used_in_space c.book.ensures ∙ unused t reached c.blocks-size.result c.in_ok-table.ensures.unheld c.in-Ok.ensures right

@@ -1,5 +1,6 @@
 use Rattle.std.proofs.Common.{◌≡◌, ◌<◌, ◌*◌, ◌^◌, length}
 use Rattle.std.specs.List.{AllByRecursion}
+use Rattle.meaning.specs.Faults.{InSpace}
 use Rattle.retrieval.proofs.write_tests.version_of.Given as goal
 
 abbrev pub invariant-loop-i : goal.invariant-loop-i
@@ -7,4 +8,5 @@ invariant-loop-i l = record {
   words : l.version.words ≡ l.count * 128;
   blocks : length l.version.blocks ≡ l.i;
   fit : AllByRecursion (λ n. n < 2 ^ 18) l.version.blocks;
+  inside : AllByRecursion (InSpace 1024) l.version.blocks;
 }
