@@ -1,0 +1,12 @@
+mod Parsing
+mod Images
+mod BlockReading
+mod EntryReading
+mod ChainReading
+mod Finding
+mod Windows
+mod ChainPuts
+mod Editing
+mod EditedEntries
+mod Steps
+mod Listing

@@ -1,0 +1,17 @@
+use Rattle.std.proofs.Common.{◌≡◌, map}
+use Rattle.blockdisk.specs.Disk.{SameDisk}
+use Rattle.changeset.specs.Reads.{OnlyReads}
+use Rattle.directory.proofs.ChainReading.{IsLoading, unmarked}
+use Rattle.directory.proofs.chain.Chain.load.Given as goal
+
+abbrev pub invariant-loop-next : goal.invariant-loop-next
+invariant-loop-next g l = record {
+  same : SameDisk (g.D.Disk.state l.fn.disk) (g.D.Disk.state l.disk);
+  served : (g.D.Disk.state l.disk).failures ≡ (g.D.Disk.state l.fn.disk).failures;
+  reads : (g.D.Disk.state l.fn.disk).honest → OnlyReads (g.D.Disk.state l.fn.disk) (g.D.Disk.state l.disk);
+  loading : IsLoading g.E.Entry.order g.E.Entry.words_of g.E.Entry.IsEntry g.E.Entry.target l.size (g.D.Disk.state l.fn.disk).honest (g.D.Disk.state l.fn.disk).contents
+      l.fn.reached l.reached l.fn.first l.blocks.items (map g.E.Entry.view l.entries.items) l.next;
+}
+
+abbrev pub decreases-loop-next : goal.decreases-loop-next
+decreases-loop-next g l = unmarked l.reached

@@ -1,0 +1,89 @@
+ghost use Rattle.std.specs.Prelude.{◌≡◌, ◌≤◌, ◌^◌, ℕ, List, IfOk, IfSome, IfNone, IsErrOf};
+ghost use Rattle.std.specs.declared.cmp.Ordering.{Ordering};
+ghost use Rattle.std.specs.Cmp.{IsTotalOrder};
+ghost use Rattle.std.specs.FinMap.{IsAntisymmetric};
+ghost use Rattle.meaning.proofs.Lists.{TellsApart};
+ghost use Rattle.directory.specs.declared.entry.EntryFault.TheVariants.{Malformed, Outside};
+
+use std::cmp::Ordering;
+use words36::Word;
+
+/// Why three words are no entry.
+#[derive(Clone, Copy, Debug, PartialEq, Eq)]
+pub enum EntryFault {
+    /// They aren't an entry's.
+    Malformed,
+    /// They are an entry's that names a block past any disk, 2^32 or more.
+    Outside,
+}
+
+/// An entry of a directory: three words on the disk, one of them the number of a block. No key comes
+/// twice in a directory.
+pub trait Entry: Copy {
+    /// What an entry is found by.
+    type Key: Copy;
+
+    // What stands at a key.
+    ghost Held: { Type 0 };
+
+    // The order of the keys.
+    ghost order: { Self.Key → Self.Key → Ordering };
+
+    // The entry as a key and what stands there.
+    ghost view: { Self → Self.Key × Held };
+
+    // The words of an entry on the disk.
+    ghost words_of: { Self.Key × Held → List ℕ };
+
+    // The entry is as it should be.
+    ghost IsEntry: { Self.Key × Held → Type 0 };
+
+    // The block that an entry names.
+    ghost target: { Self.Key × Held → ℕ };
+
+    /// The three words on the disk.
+    fn words(&self) -> [Word; 3]
+        ensures value { result ≡ words_of (view self.now) }
+        ensures good { IsEntry (view self.now) };
+
+    /// The entry that has these words.
+    ///
+    /// # Errors
+    ///
+    /// `Malformed` where the words aren't those of an entry as it should be, `Outside` where they are and
+    /// the block that it names has a number of 2^32 or more.
+    fn parse(words: [Word; 3]) -> Result<Self, EntryFault>
+        ensures value { IfOk result (λ entry. words_of (view entry) ≡ words) }
+        ensures good { IfOk result (λ entry. IsEntry (view entry)) }
+        ensures malformed { IsErrOf result Malformed → (e : Self.Key × Held) → IsEntry e → words_of e ≡ words → ⊥ }
+        ensures outside { IsErrOf result Outside → (e : Self.Key × Held) × IsEntry e × (words_of e ≡ words) × (2 ^ 32 ≤ target e) };
+
+    /// The number of the block that the entry names.
+    fn target(&self) -> u32
+        ensures { result ≡ target (view self.now) };
+
+    /// The key.
+    fn key(&self) -> Self::Key
+        ensures { result ≡ (view self.now).0 };
+
+    /// How the entry's key compares with another.
+    fn cmp_key(&self, key: &Self::Key) -> Ordering
+        ensures { result ≡ order (view self.now).0 key.now };
+
+    // The order is total.
+    ghost total: { IsTotalOrder order };
+
+    // Only equal keys tie in it.
+    ghost exact: { IsAntisymmetric order };
+
+    // An entry has three words, and no two have the same.
+    ghost apart: { TellsApart words_of };
+}
+
+/// The number of a block that a word is, or `None` for 2^32 or more.
+pub(crate) fn block_number(word: Word) -> Option<u32>
+    ensures value { IfSome result (λ n. n ≡ word) }
+    ensures none { IfNone result (2 ^ 32 ≤ word) }
+{
+    u32::try_from(word.bits()).ok()
+}

@@ -1,0 +1,32 @@
+ghost use Rattle.std.specs.Prelude.{◌≡◌, ◌*◌, ◌↔◌, IfSome, IfNone, IsTrue, None, length, map};
+ghost use Rattle.std.specs.FinMap.Entries.{find};
+ghost use Rattle.directory.specs.Chains.{IsChain, viewed};
+ghost use Rattle.directory.specs.Edits.{StandsAt};
+
+use crate::image::BLOCK_ENTRIES;
+use crate::{Chain, Entry};
+
+impl<E: Entry> Chain<E> {
+    /// The place of the entry with this key, counted from 0 in the order of the disk, or `None` where there is
+    /// no such entry.
+    pub fn find(&self, key: &E::Key) -> Option<usize>
+        ensures found { IfSome result (λ i. (v : E.Held) × StandsAt E.order (map E.view self.now.entries) key.now v i) }
+        ensures none { IfNone result (find E.order key.now (map E.view self.now.entries) ≡ None) }
+        ensures sound { IsChain E.order E.IsEntry (viewed E.view self.now) }
+    {
+        for (i, entry) in self.entries.iter().enumerate() {
+            if entry.cmp_key(key).is_eq() {
+                return Some(i);
+            }
+        }
+        None
+    }
+
+    /// Whether the last block is full, so that an entry with a new key takes one block more.
+    pub fn needs_block(&self) -> bool
+        ensures { IsTrue result ↔ (length self.now.entries ≡ 42 * length self.now.blocks) }
+    {
+        let count = self.entries.len();
+        count != 0 && count % BLOCK_ENTRIES == 0
+    }
+}

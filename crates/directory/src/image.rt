@@ -1,0 +1,37 @@
+ghost use Rattle.std.specs.Prelude.{◌≡◌, ◌+◌, ◌*◌, ◌≤◌, ◌++◌, map, take, drop, length};
+ghost use Rattle.meaning.specs.Directories.{directory_block};
+
+use crate::Entry;
+use words36::{BLOCK_WORDS, Block, Word};
+
+/// How many entries a block of a chain has room for.
+pub const BLOCK_ENTRIES: usize = 42;
+
+/// How many words an entry has.
+pub const ENTRY_WORDS: usize = 3;
+
+/// How many words of a block stand before its entries.
+pub const BLOCK_HEAD: usize = 2;
+
+/// Puts the words of an entry at a place of a block, counted in words.
+fn put_words(block: &mut Block, at: usize, words: &[Word; 3])
+    requires { at + 3 ≤ 128 }
+    ensures { block.new ≡ take at block.old ++ (words.now ++ drop (at + 3) block.old) }
+{
+    let place = &mut block[..];
+    place[at..at + ENTRY_WORDS].copy_from_slice(words);
+}
+
+/// The block of a chain with these entries and this block after it, or 0.
+pub fn block_image<E: Entry>(entries: &[E], next: u32) -> Block
+    requires { length entries.now ≤ 42 }
+    ensures { result ≡ directory_block E.words_of next (map E.view entries.now) }
+{
+    let mut block = [Word::ZERO; BLOCK_WORDS];
+    block[0] = Word::from_bits(u64::from(next));
+    block[1] = Word::from_bits(entries.len() as u64);
+    for (i, entry) in entries.iter().enumerate() {
+        put_words(&mut block, BLOCK_HEAD + ENTRY_WORDS * i, &entry.words());
+    }
+    block
+}

@@ -1,0 +1,236 @@
+ghost use Rattle.std.specs.Prelude.{◌≡◌, ◌<◌, ◌≤◌, ◌↔◌, ◌++◌, ◌∷◌, [], ℕ, List, IsTrue, true, false, Some, None, IfOk, OnOk, IsErrOf, length, map, slice_set};
+ghost use Rattle.std.specs.List.{AllByRecursion};
+ghost use Rattle.std.specs.FinMap.Entries.{find};
+ghost use Rattle.blockdisk.specs.Disk.{SameDisk, one_more};
+ghost use Rattle.meaning.specs.Maps.{times, EachOnce};
+ghost use Rattle.meaning.specs.Regions.{IsVolumeSize};
+ghost use Rattle.meaning.specs.Faults.{InSpace};
+ghost use Rattle.changeset.specs.Reads.{OnlyReads};
+ghost use Rattle.alloctab.specs.Lists.{flag_at};
+ghost use Rattle.directory.specs.Loading.{SpellsBlock, AreGood, IsBadWords, IsBadAt, Adds, ReadsOn};
+ghost use Rattle.directory.specs.declared.error.DirectoryError.TheVariants.{BadDirectory, BlockTwice, Device, NoMemory};
+ghost use Rattle.directory.specs.declared.load.AddError.TheVariants.{Outside, Again};
+
+use crate::image::BLOCK_ENTRIES;
+use crate::parse::{entry_words, is_directory_block};
+use crate::space::{follow, is_in_space};
+use crate::{Chain, DirectoryError, Entry};
+use alloctab::Reached;
+use blockdisk::{Disk, Fault};
+use std::alloc::Global;
+use words36::{Block, Word};
+
+/// Why the entries of a block weren't added to those before.
+#[derive(Clone, Copy)]
+enum AddError {
+    /// One names a block outside the free space.
+    Outside,
+    /// The key of one is there already.
+    Again,
+    /// A growth was refused.
+    NoMemory,
+}
+
+/// Whether none of the entries has the key.
+fn is_new<E: Entry>(entries: &[E], key: &E::Key) -> bool
+    ensures { IsTrue result ↔ (find E.order key.now (map E.view entries.now) ≡ None) }
+{
+    for entry in entries {
+        if entry.cmp_key(key).is_eq() {
+            return false;
+        }
+    }
+    true
+}
+
+/// Adds the entry that has these words.
+fn push_entry<E: Entry>(words: [Word; 3], size: u32, entries: &mut Vec<E>) -> Result<(), AddError>
+    requires volume { IsVolumeSize size }
+    requires good { AreGood E.order E.IsEntry E.target size (map E.view entries.old.items) }
+    ensures ok { OnOk result ((e : E.Key × E.Held) → E.words_of e ≡ words → map E.view entries.new.items ≡ map E.view entries.old.items ++ e ∷ []) }
+    ensures good { OnOk result (AreGood E.order E.IsEntry E.target size (map E.view entries.new.items)) }
+    ensures outside { IsErrOf result Outside → (e : E.Key × E.Held) → E.IsEntry e → E.words_of e ≡ words → InSpace size (E.target e) → ⊥ }
+    ensures again { IsErrOf result Again → (e : E.Key × E.Held) → E.words_of e ≡ words → find E.order e.0 (map E.view entries.old.items) ≡ None → ⊥ }
+{
+    let Ok(entry) = E::parse(words) else {
+        return Err(AddError::Outside);
+    };
+    if !is_in_space(size, u64::from(entry.target())) {
+        return Err(AddError::Outside);
+    }
+    if !is_new(entries, &entry.key()) {
+        return Err(AddError::Again);
+    }
+    match entries.push(entry) {
+        Ok(()) => Ok(()),
+        Err(_) => Err(AddError::NoMemory),
+    }
+}
+
+/// Adds the entries of a block, so many.
+fn push_entries<E: Entry>(
+    block: &Block,
+    count: usize,
+    size: u32,
+    entries: &mut Vec<E>,
+) -> Result<(), AddError>
+    requires volume { IsVolumeSize size }
+    requires few { count ≤ 42 }
+    requires good { AreGood E.order E.IsEntry E.target size (map E.view entries.old.items) }
+    ensures ok { OnOk result ((next : ℕ) (es : List (E.Key × E.Held)) → SpellsBlock E.words_of E.IsEntry block.now next es → length es ≡ count → map E.view entries.new.items ≡ map E.view entries.old.items ++ es) }
+    ensures good { OnOk result (AreGood E.order E.IsEntry E.target size (map E.view entries.new.items)) }
+    ensures outside { IsErrOf result Outside → (next : ℕ) (es : List (E.Key × E.Held)) → SpellsBlock E.words_of E.IsEntry block.now next es → length es ≡ count → AllByRecursion (λ e. InSpace size (E.target e)) es → ⊥ }
+    ensures again { IsErrOf result Again → (next : ℕ) (es : List (E.Key × E.Held)) → SpellsBlock E.words_of E.IsEntry block.now next es → length es ≡ count → EachOnce E.order (map E.view entries.old.items ++ es) → ⊥ }
+{
+    for i in 0..count {
+        push_entry(entry_words(block, i), size, entries)?;
+    }
+    Ok(())
+}
+
+/// Adds the entries of block `n`; gives the next block of the chain, or 0.
+fn add_block<E: Entry>(
+    block: &Block,
+    n: u32,
+    size: u32,
+    entries: &mut Vec<E>,
+) -> Result<u32, DirectoryError>
+    requires volume { IsVolumeSize size }
+    requires good { AreGood E.order E.IsEntry E.target size (map E.view entries.old.items) }
+    ensures ok { IfOk result (λ next. Adds E.order E.words_of E.IsEntry E.target size block.now next (map E.view entries.old.items) (map E.view entries.new.items)) }
+    ensures bad { (k : ℕ) → IsErrOf result (BadDirectory k) → (k ≡ n) × IsBadWords E.order E.words_of E.IsEntry E.target size block.now (map E.view entries.old.items) }
+    ensures twice { (k : ℕ) → IsErrOf result (BlockTwice k) → ⊥ }
+    ensures device { IsErrOf result Device → ⊥ }
+{
+    if !is_directory_block::<E>(block) {
+        return Err(DirectoryError::BadDirectory(n));
+    }
+    let count = block[1].bits() as usize;
+    let full = count == BLOCK_ENTRIES;
+    let Some(next) = follow(block[0].bits(), full, size) else {
+        return Err(DirectoryError::BadDirectory(n));
+    };
+    let is_first = entries.as_slice().is_empty();
+    if count == 0 && !is_first {
+        return Err(DirectoryError::BadDirectory(n));
+    }
+    match push_entries(block, count, size, entries) {
+        Ok(()) => Ok(next),
+        Err(AddError::Outside) => Err(DirectoryError::BadDirectory(n)),
+        Err(AddError::Again) => Err(DirectoryError::BadDirectory(n)),
+        Err(AddError::NoMemory) => Err(DirectoryError::NoMemory),
+    }
+}
+
+/// Reads a block of a chain.
+fn read_block<D: Disk>(disk: &mut D, n: u32) -> Result<Block, DirectoryError>
+    requires { n < (D.state disk.old).size }
+    ensures words { (D.state disk.old).honest → IfOk result (λ block. (D.state disk.old).contents n ≡ Some block) }
+    ensures bad { (D.state disk.old).honest → (k : ℕ) → IsErrOf result (BadDirectory k) → (k ≡ n) × ((D.state disk.old).contents n ≡ None) }
+    ensures twice { (k : ℕ) → IsErrOf result (BlockTwice k) → ⊥ }
+    ensures memory { IsErrOf result NoMemory → ⊥ }
+    ensures reads { (D.state disk.old).honest → OnlyReads (D.state disk.old) (D.state disk.new) }
+    ensures same { SameDisk (D.state disk.old) (D.state disk.new) }
+    ensures failed { IsErrOf result Device → (D.state disk.new).failures ≡ one_more (D.state disk.old).failures }
+    ensures served { (IsErrOf result Device → ⊥) → (D.state disk.new).failures ≡ (D.state disk.old).failures }
+{
+    match disk.read(n) {
+        Ok(block) => Ok(block),
+        Err(Fault::Damaged) => Err(DirectoryError::BadDirectory(n)),
+        Err(Fault::Device) => Err(DirectoryError::Device),
+    }
+}
+
+/// Goes on to block `n` of a chain: marks it, reads it, and adds it and its entries to those before. Gives
+/// the next block, or 0.
+fn read_on<E: Entry, D: Disk>(
+    disk: &mut D,
+    n: u32,
+    size: u32,
+    reached: &mut Reached,
+    blocks: &mut Vec<u32>,
+    entries: &mut Vec<E>,
+) -> Result<u32, DirectoryError>
+    requires size { size ≡ (D.state disk.old).size }
+    requires volume { IsVolumeSize size }
+    requires inside { n < size }
+    requires marks { length reached.old ≡ size }
+    requires good { AreGood E.order E.IsEntry E.target size (map E.view entries.old.items) }
+    ensures ok { IfOk result (λ next. ReadsOn E.order E.words_of E.IsEntry E.target size (D.state disk.old).honest (D.state disk.old).contents n next (map E.view entries.old.items) (map E.view entries.new.items)) }
+    ensures blocks { IfOk result (λ next. blocks.new.items ≡ blocks.old.items ++ n ∷ []) }
+    ensures fresh { IfOk result (λ next. flag_at reached.old n ≡ false) }
+    ensures marked { reached.new ≡ slice_set reached.old n true }
+    ensures bad { (D.state disk.old).honest → (k : ℕ) → IsErrOf result (BadDirectory k) → (k ≡ n) × IsBadAt E.order E.words_of E.IsEntry E.target size (D.state disk.old).contents n (map E.view entries.old.items) }
+    ensures twice { (k : ℕ) → IsErrOf result (BlockTwice k) → (k ≡ n) × (flag_at reached.old n ≡ true) }
+    ensures reads { (D.state disk.old).honest → OnlyReads (D.state disk.old) (D.state disk.new) }
+    ensures same { SameDisk (D.state disk.old) (D.state disk.new) }
+    ensures failed { IsErrOf result Device → (D.state disk.new).failures ≡ one_more (D.state disk.old).failures }
+    ensures served { (IsErrOf result Device → ⊥) → (D.state disk.new).failures ≡ (D.state disk.old).failures }
+{
+    if !reached.mark(n) {
+        return Err(DirectoryError::BlockTwice(n));
+    }
+    let block = read_block(disk, n)?;
+    match blocks.push(n) {
+        Ok(()) => add_block(&block, n, size, entries),
+        Err(_) => Err(DirectoryError::NoMemory),
+    }
+}
+
+impl<E: Entry> Chain<E> {
+    ghost use Rattle.std.specs.Prelude.{◌+◌};
+    ghost use Rattle.blockdisk.specs.Disk.{SameDisk};
+    ghost use Rattle.meaning.specs.Blocks.{head_or_zero};
+    ghost use Rattle.meaning.specs.Maps.{times};
+    ghost use Rattle.meaning.specs.Directories.{Node};
+    ghost use Rattle.meaning.specs.Walks.{Leads};
+    ghost use Rattle.alloctab.specs.Lists.{digit_at};
+    ghost use Rattle.directory.specs.Chains.{IsChain, IsOn, viewed, nodes_of};
+    ghost use Rattle.directory.specs.Loading.{IsBadChain, IsMetTwice, IsWholeChain};
+
+    /// Reads the chain that begins in block `first`, and marks its blocks. A block that is marked already,
+    /// by this call or before it, ends the walk before it is read: so a loop does.
+    ///
+    /// # Errors
+    ///
+    /// `BadDirectory` with a block that is damaged or not as it should be, `BlockTwice` with a block that
+    /// was marked already; `Device` where the device failed; `NoMemory` where the lists of blocks and
+    /// entries find no room. The blocks that were come to stay marked.
+    pub fn load<D: Disk>(
+        alloc: Global,
+        disk: &mut D,
+        first: u32,
+        reached: &mut Reached,
+    ) -> Result<Self, DirectoryError>
+        requires volume { IsVolumeSize (D.state disk.old).size }
+        requires first { InSpace (D.state disk.old).size first }
+        requires marks { length reached.old ≡ (D.state disk.old).size }
+        ensures on { (D.state disk.old).honest → IfOk result (λ chain. IsOn E.words_of (D.state disk.old).contents (viewed E.view chain)) }
+        ensures walk { (D.state disk.old).honest → IfOk result (λ chain. Leads E.words_of (D.state disk.old).contents first (nodes_of chain.blocks (map E.view chain.entries)) 0) }
+        ensures first { IfOk result (λ chain. head_or_zero chain.blocks ≡ first) }
+        ensures chain { IfOk result (λ chain. IsChain E.order E.IsEntry (viewed E.view chain)) }
+        ensures inside { IfOk result (λ chain. AllByRecursion (InSpace (D.state disk.old).size) chain.blocks) }
+        ensures targets { IfOk result (λ chain. AllByRecursion (λ e. InSpace (D.state disk.old).size (E.target e)) (map E.view chain.entries)) }
+        ensures marked { IfOk result (λ chain. (n : ℕ) → digit_at reached.new n ≡ digit_at reached.old n + times n chain.blocks) }
+        ensures length { length reached.new ≡ length reached.old }
+        ensures bad { (D.state disk.old).honest → (k : ℕ) → IsErrOf result (BadDirectory k) → IsBadChain E.order E.words_of E.IsEntry E.target (D.state disk.old).size (D.state disk.old).contents first k }
+        ensures twice { (D.state disk.old).honest → (k : ℕ) → IsErrOf result (BlockTwice k) → IsMetTwice E.words_of (D.state disk.old).contents reached.old first k }
+        ensures whole { (D.state disk.old).honest → (nodes : List (Node (E.Key × E.Held))) → IsWholeChain E.order E.words_of E.IsEntry E.target (D.state disk.old).size (D.state disk.old).contents reached.old first nodes
+            → (k : ℕ) → IsErrOf result (BadDirectory k) → ⊥ }
+        ensures once { (D.state disk.old).honest → (nodes : List (Node (E.Key × E.Held))) → IsWholeChain E.order E.words_of E.IsEntry E.target (D.state disk.old).size (D.state disk.old).contents reached.old first nodes
+            → (k : ℕ) → IsErrOf result (BlockTwice k) → ⊥ }
+        ensures reads { (D.state disk.old).honest → OnlyReads (D.state disk.old) (D.state disk.new) }
+        ensures same { SameDisk (D.state disk.old) (D.state disk.new) }
+        ensures failed { IsErrOf result Device → (D.state disk.new).failures ≡ one_more (D.state disk.old).failures }
+        ensures served { (IsErrOf result Device → ⊥) → (D.state disk.new).failures ≡ (D.state disk.old).failures }
+    {
+        let size = disk.blocks();
+        let mut blocks = Vec::new(alloc);
+        let mut entries = Vec::new(alloc);
+        let mut next = first;
+        while next != 0 {
+            next = read_on(disk, next, size, reached, &mut blocks, &mut entries)?;
+        }
+        Ok(Chain { blocks, entries })
+    }
+}

@@ -1,0 +1,104 @@
+ghost use Rattle.std.specs.Prelude.{◌≡◌, ◌<◌, ◌↔◌, IsSome, IfSome};
+
+use crate::entry::block_number;
+use crate::{Entry, EntryFault};
+use std::cmp::Ordering;
+use words36::{Ppn, Word};
+
+/// An entry of the master directory: a directory, its protection and where its chain begins.
+#[derive(Clone, Copy, Debug, PartialEq, Eq)]
+pub struct MasterEntry {
+    /// The project-programmer number of the directory.
+    pub ppn: Ppn,
+    /// Three octal digits: owner, project, others.
+    pub protection: u16,
+    /// The number of the first block of the directory's chain.
+    pub first: u32,
+    pub ghost protection_fits: { protection < 512 },
+}
+
+impl MasterEntry {
+    /// The entry of a directory, or `None` for a protection above 777 (octal).
+    pub fn new(ppn: Ppn, protection: u16, first: u32) -> Option<MasterEntry>
+        ensures ppn { IfSome result (λ entry. entry.ppn ≡ ppn) }
+        ensures protection { IfSome result (λ entry. entry.protection ≡ protection) }
+        ensures first { IfSome result (λ entry. entry.first ≡ first) }
+        ensures fits { IsSome result ↔ (protection < 512) }
+    {
+        if protection > 0o777 {
+            return None;
+        }
+        Some(MasterEntry {
+            ppn,
+            protection,
+            first,
+        })
+    }
+}
+
+impl Entry for MasterEntry {
+    ghost use Rattle.std.specs.Prelude.{ℕ};
+    ghost use Rattle.std.specs.Ordering.{nat_cmp};
+    ghost use Rattle.std.specs.Cmp.{nat_cmp_total};
+    ghost use Rattle.std.specs.FinMap.{nat_cmp-IsAntisymmetric};
+    ghost use Rattle.meaning.specs.Directories.{master_words, master_word};
+    ghost use Rattle.meaning.specs.Faults.{IsMasterEntryOf};
+    ghost use Rattle.meaning.proofs.DiskMaps.{master_apart};
+
+    type Key = Ppn;
+
+    ghost Held = { ℕ × ℕ };
+
+    ghost order = { nat_cmp };
+
+    ghost view = { λ e. (e.ppn, (master_word e.protection 0, e.first)) };
+
+    ghost words_of = { master_words };
+
+    ghost IsEntry = { IsMasterEntryOf 1 };
+
+    ghost target = { λ e. e.1.1 };
+
+    fn words(&self) -> [Word; 3] {
+        let (ppn, first) = (self.ppn.word(), u64::from(self.first));
+        let protection = u64::from(self.protection) << 27;
+        [ppn, Word::from_bits(protection), Word::from_bits(first)]
+    }
+
+    fn parse(words: [Word; 3]) -> Result<Self, EntryFault> {
+        let [ppn, protection, first] = words;
+        let Some(ppn) = Ppn::from_word(ppn) else {
+            return Err(EntryFault::Malformed);
+        };
+        if protection.bits() & 0o777_777_777 != 0 {
+            return Err(EntryFault::Malformed);
+        }
+        let Some(first) = block_number(first) else {
+            return Err(EntryFault::Outside);
+        };
+        Ok(MasterEntry {
+            ppn,
+            protection: (protection.bits() >> 27) as u16,
+            first,
+        })
+    }
+
+    fn target(&self) -> u32 {
+        self.first
+    }
+
+    fn key(&self) -> Ppn {
+        self.ppn
+    }
+
+    fn cmp_key(&self, key: &Ppn) -> Ordering {
+        let (own, other) = (self.ppn.word(), key.word());
+        own.bits().cmp(&other.bits())
+    }
+
+    ghost total = { nat_cmp_total };
+
+    ghost exact = { nat_cmp-IsAntisymmetric };
+
+    ghost apart = { master_apart };
+}

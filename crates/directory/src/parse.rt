@@ -1,0 +1,67 @@
+ghost use Rattle.std.specs.Prelude.{◌≡◌, ◌+◌, ◌*◌, ◌<◌, ◌≤◌, ◌↔◌, ℕ, List, IsTrue, length, take, drop, replicate};
+ghost use Rattle.directory.specs.Loading.{SpellsBlock, SpellsEntries};
+
+use crate::image::{BLOCK_ENTRIES, BLOCK_HEAD, ENTRY_WORDS};
+use crate::{Entry, EntryFault};
+use words36::{Block, Word};
+
+/// The words of the entry at a place of a block, counted from 0.
+pub fn entry_words(block: &Block, i: usize) -> [Word; 3]
+    requires { i < 42 }
+    ensures { result ≡ take 3 (drop (2 + 3 * i) block.now) }
+{
+    let at = BLOCK_HEAD + ENTRY_WORDS * i;
+    [block[at], block[at + 1], block[at + 2]]
+}
+
+/// Whether three words are those of an entry, whatever block it names.
+fn is_entry<E: Entry>(words: [Word; 3]) -> bool
+    ensures yes { IsTrue result → (e : E.Key × E.Held) × E.IsEntry e × (E.words_of e ≡ words) }
+    ensures no { (e : E.Key × E.Held) → E.IsEntry e → E.words_of e ≡ words → IsTrue result }
+{
+    match E::parse(words) {
+        Err(EntryFault::Malformed) => false,
+        Err(EntryFault::Outside) => true,
+        Ok(_) => true,
+    }
+}
+
+/// Whether a block has so many entries.
+fn are_entries<E: Entry>(block: &Block, count: usize) -> bool
+    requires { count ≤ 42 }
+    ensures yes { IsTrue result → (es : List (E.Key × E.Held)) × (length es ≡ count) × SpellsEntries E.words_of E.IsEntry (take (3 * count) (drop 2 block.now)) es }
+    ensures no { (es : List (E.Key × E.Held)) → length es ≡ count → SpellsEntries E.words_of E.IsEntry (take (3 * count) (drop 2 block.now)) es → IsTrue result }
+{
+    for i in 0..count {
+        if !is_entry::<E>(entry_words(block, i)) {
+            return false;
+        }
+    }
+    true
+}
+
+/// Whether all words are zero.
+fn are_zeros(words: &[Word]) -> bool
+    ensures { IsTrue result ↔ (words.now ≡ replicate (length words.now) 0) }
+{
+    for word in words {
+        if word.bits() != 0 {
+            return false;
+        }
+    }
+    true
+}
+
+/// Whether the words of a block are those of a directory block.
+pub fn is_directory_block<E: Entry>(block: &Block) -> bool
+    ensures yes { IsTrue result → (next : ℕ) × (es : List (E.Key × E.Held)) × SpellsBlock E.words_of E.IsEntry block.now next es }
+    ensures no { (next : ℕ) (es : List (E.Key × E.Held)) → SpellsBlock E.words_of E.IsEntry block.now next es → IsTrue result }
+{
+    let count = block[1].bits();
+    if count > BLOCK_ENTRIES as u64 {
+        return false;
+    }
+    let words = &block[..];
+    let count = count as usize;
+    are_entries::<E>(block, count) && are_zeros(&words[BLOCK_HEAD + ENTRY_WORDS * count..])
+}
