@@ -1,0 +1,165 @@
+-- What is known in core costs what the files cost, and no more blocks are in use than that.
+use Rattle.std.proofs.Common.{◌≡◌, ℕ, zero, suc, ◌+◌, ◌==◌, if◌then◌else◌, ◌<◌, ◌≤◌, Bool, true, false, List, [], ◌∷◌, length, slice_get, replicate, Some, None, ◌≢◌, refl, sym, ap, subst, ◌∙◌, arith, Ordering, slice_index, ⊎_elim}
+use Rattle.std.proofs.lemmas.Bool.Decides.{nat_tests}
+use Rattle.std.proofs.lemmas.List.{get_or-replicate, get_or_past, length-replicate}
+use Rattle.std.proofs.lemmas.Bool.{cases_lt}
+use Rattle.std.specs.List.{AllByRecursion, AllZip}
+use Rattle.std.specs.Ordering.{nat_cmp, eq_by_cmp}
+use Rattle.std.specs.Cmp.{IsTotalOrder, nat_cmp_total}
+use Rattle.std.specs.FinMap.{IsAntisymmetric, nat_cmp-IsAntisymmetric}
+use Rattle.std.specs.FinMap.Entries.{find}
+use Rattle.blockdisk.specs.Disk.{Contents}
+use Rattle.meaning.specs.Maps.{FinMap, EachOnce, get, remove, size, from_entries, map_values, sum_over, total}
+use Rattle.meaning.specs.Costs.{version_cost, cost_of_blocks, directory_cost, cost_of_files}
+use Rattle.meaning.specs.Costs as costs
+use Rattle.meaning.specs.Counts.{sum_below, size_of_map}
+use Rattle.meaning.specs.Directories.{file_words, IsFileEntry, master_words, IsMasterEntry, FileEntry}
+use Rattle.meaning.specs.Faults.{IsMasterEntryOf}
+use Rattle.meaning.specs.Regions.{IsVolumeSize, space_start}
+use Rattle.meaning.specs.Table.{table_bit, fixed}
+use Rattle.meaning.specs.Stands.{StoredDirectory, DiskMap, directory_of, files_of, entry_of, HasMap}
+use Rattle.meaning.proofs.ChainEdits.{chain_length}
+use Rattle.meaning.proofs.Counting.{set_bits}
+use Rattle.meaning.proofs.MapCosts.{map_costs}
+use Rattle.meaning.proofs.MapLaws.{some_none, apart, get-remove_other}
+use Rattle.meaning.proofs.MapSums.{sum-empty, sum-remove, size-remove, empty_of_size, size-from_entries, size-map_values, sum-map_values}
+use Rattle.meaning.proofs.Names.{name_total, name_exact}
+use Rattle.alloctab.specs.Lists.{digit, flag_at}
+use Rattle.alloctab.specs.TableState.{TableState, bit, holds, used, used_in_space, space}
+use Rattle.directory.specs.Chains.{IsChain}
+use Rattle.volume.specs.Known.{Known, KnownVersion, KnownDirectory, IsKnownFile, IsKnownDirectory, IsKnownMap, IsHeld, IsWholeVersion, IsWholeDirectory, IsWholeMap, cost_of_version, cost_of_directory, cost_of_known}
+
+-- Two lists beside each other, place by place.
+
+pub zip_each : {A B : Type 0} (P : A → B → Type 0) (Q : B → Type 0) (xs : List A) (ys : List B) → length ys ≡ length xs → AllByRecursion Q ys
+    → ((i : ℕ) (x : A) (y : B) → slice_get xs i ≡ Some x → slice_get ys i ≡ Some y → Q y → P x y) → AllZip P xs ys
+zip_each P Q [] [] same all each = tt
+zip_each P Q [] (y ∷ ys) same all each = absurd (omega arith)
+zip_each P Q (x ∷ xs) [] same all each = absurd (omega arith)
+zip_each P Q (x ∷ xs) (y ∷ ys) same all each = (each 0 x y refl refl all.0, zip_each P Q xs ys (omega arith) all.1 (λ i a b at at' q. each (suc i) a b at at' q))
+
+-- A map's sum, by a list of its keys in any order, with a list of what each counts.
+
+abbrev pub Counts : {K V X Y : Type 0} {R : K → K → Ordering} → (X → ℕ) → (Y → ℕ) → FinMap R X → K × V → Y → Type 0
+Counts {X = X} f h m e y = (x : X) × (get m e.0 ≡ Some x) × (f x ≡ h y)
+
+module _ {K V X Y : Type 0} {R : K → K → Ordering} (o : IsTotalOrder R) (exact : IsAntisymmetric R) (f : X → ℕ) (h : Y → ℕ) where
+  still_counts : (m : FinMap R X) (k : K) (es : List (K × V)) (ys : List Y) → find R k es ≡ None → AllZip (Counts f h m) es ys → AllZip (Counts f h (remove m k)) es ys
+  still_counts m k [] [] none zip = tt
+  still_counts m k [] (y ∷ ys) none zip = absurd zip
+  still_counts m k (e ∷ es) [] none zip = absurd zip
+  still_counts m k (e ∷ es) (y ∷ ys) none zip = step (eq_by_cmp R k e.0) refl none (λ rest. still_counts m k es ys rest zip.1)
+    where
+      other : eq_by_cmp R k e.0 ≡ false → e.0 ≢ k
+      other t same = apart o k e.0 t (sym same)
+
+      step : (b : Bool) → eq_by_cmp R k e.0 ≡ b → (if b then Some e.1 else find R k es) ≡ None → (find R k es ≡ None → AllZip (Counts f h (remove m k)) es ys) → AllZip (Counts f h (remove m k)) (e ∷ es) (y ∷ ys)
+      step true t n rest = absurd (some_none n)
+      step false t n rest = ((zip.0.0, get-remove_other o exact m k e.0 (other t) ∙ zip.0.1, zip.0.2), rest n)
+
+  pub sum_counted : (m : FinMap R X) (es : List (K × V)) (ys : List Y) → size m ≡ length es → EachOnce R es → AllZip (Counts f h m) es ys → sum_over f m ≡ total h ys
+  sum_counted m [] [] count once zip = ap (sum_over f) (empty_of_size m count) ∙ sum-empty R f
+  sum_counted m [] (y ∷ ys) count once zip = absurd zip
+  sum_counted m (e ∷ es) [] count once zip = absurd zip
+  sum_counted m (e ∷ es) (y ∷ ys) count once zip =
+      let one = size-remove o exact m e.0 zip.0.0 zip.0.1 in
+      let part = sum-remove o exact f m e.0 zip.0.0 zip.0.1 in
+      let rest = sum_counted (remove m e.0) es ys (omega arith) once.1 (still_counts m e.0 es ys once.0 zip.1) in
+      let here = zip.0.2 in
+      omega arith
+
+module _ {K V X : Type 0} {R : K → K → Ordering} (o : IsTotalOrder R) (exact : IsAntisymmetric R) where
+  pub size_named : (view : X → V) (m : FinMap R X) (es : List (K × V)) → map_values view m ≡ from_entries es → EachOnce R es → size m ≡ length es
+  size_named view m es named once = sym (size-map_values o view m) ∙ ap size named ∙ size-from_entries o exact es once
+
+-- Files, directories, and the whole map.
+
+file_costs : (d : StoredDirectory) (e : FileEntry) (v : KnownVersion) → IsKnownFile d e v → IsWholeVersion v → Counts (λ f. version_cost (length f.file.body)) cost_of_version d.files e v
+file_costs d e v known whole =
+    let words : length known.0.file.body ≡ v.version.words = ap (λ f. f.words) known.2 in
+    (known.0, known.1, ap version_cost words ∙ ap cost_of_blocks (sym whole.counted))
+
+pub directory_costs : (size_of_disk : ℕ) (k : KnownDirectory) (d : StoredDirectory) → IsKnownDirectory k d → IsWholeDirectory size_of_disk k → costs.cost_of_directory (directory_of d) ≡ cost_of_directory k
+directory_costs size_of_disk k d known whole =
+    let once = whole.chain.each_once in
+    let count = size_named name_total name_exact (λ f. f.prime) d.files k.chain.entries known.names once in
+    let zip = zip_each (Counts (λ f. version_cost (length f.file.body)) cost_of_version d.files) IsWholeVersion k.chain.entries k.versions whole.aligned whole.versions
+    (λ i e v at at' is. file_costs d e v (known.each i e v at at') is) in
+    let files = sum_counted name_total name_exact (λ f. version_cost (length f.file.body)) cost_of_version d.files k.chain.entries k.versions count once zip in
+    let same = sum-map_values name_total (λ f. version_cost (length f.body)) (λ f. f.file) d.files in
+    let entries = ap directory_cost (size-map_values name_total (λ f. f.file) d.files ∙ count) in
+    let chain = whole.chain.counted in
+    omega arith
+
+pub cost_is : (size_of_disk : ℕ) (k : Known) (m : DiskMap) → IsKnownMap k m → IsChain nat_cmp (IsMasterEntryOf 1) k.master → length k.directories ≡ length k.master.entries → AllByRecursion (IsWholeDirectory size_of_disk) k.directories
+    → cost_of_known k.master k.directories ≡ cost_of_files (files_of m)
+cost_is size_of_disk k m known chain aligned each =
+    let once = chain.each_once in
+    let count = size_named nat_cmp_total nat_cmp-IsAntisymmetric entry_of m.directories k.master.entries known.names once in
+    let zip = zip_each (Counts (λ d. costs.cost_of_directory (directory_of d)) cost_of_directory m.directories) (IsWholeDirectory size_of_disk) k.master.entries k.directories aligned each
+    (λ i e d at at' is. let found = known.each i e d at at' in (found.0, found.1, directory_costs size_of_disk d found.0 found.2 is)) in
+    let directories = sum_counted nat_cmp_total nat_cmp-IsAntisymmetric (λ d. costs.cost_of_directory (directory_of d)) cost_of_directory m.directories k.master.entries k.directories count once zip in
+    let same = sum-map_values nat_cmp_total costs.cost_of_directory directory_of m.directories in
+    let entries = ap directory_cost (size-map_values nat_cmp_total directory_of m.directories ∙ count) in
+    let counted = chain.counted in
+    omega arith
+
+-- What is in use.
+
+below_along : (f g : ℕ → ℕ) (k : ℕ) → ((n : ℕ) → n < k → f n ≤ g n) → sum_below f k ≤ sum_below g k
+below_along f g zero le = omega arith
+below_along f g (suc k) le = let a = le k (omega arith) in let r = below_along f g k (λ n l. le n (omega arith)) in omega arith
+
+below_parts : (f : ℕ → ℕ) (s k : ℕ) → sum_below f (s + k) ≡ sum_below f s + sum_below (λ i. f (s + i)) k
+below_parts f s zero = let bare : s + 0 ≡ s = omega arith in let e = ap (sum_below f) bare in omega arith
+below_parts f s (suc k) =
+    let one : s + suc k ≡ suc (s + k) = omega arith in
+    let r = below_parts f s k in
+    let e = ap (sum_below f) one in
+    omega arith
+
+used_unheld : (b h : ℕ) → b ≤ 1 → h ≡ 0 → (if b + h == 0 then 0 else 1) ≤ b
+used_unheld zero h few none = grind (arith, nat_tests)
+used_unheld (suc b) h few none = grind (arith, nat_tests)
+
+digit_few : (b : Bool) → digit b ≤ 1
+digit_few true = omega arith
+digit_few false = omega arith
+
+below_zero : (f : ℕ → ℕ) (k : ℕ) → ((n : ℕ) → f n ≡ 0) → sum_below f k ≡ 0
+below_zero f zero none = refl
+below_zero f (suc k) none = let a = none k in let r = below_zero f k none in omega arith
+
+replicate_none : (n i : ℕ) → slice_index (replicate n 0) i ≡ 0
+replicate_none n i = ⊎_elim (λ below. get_or-replicate n i 0 0 below) (λ past. get_or_past (replicate n 0) i 0 (subst (λ (k : ℕ). k ≤ i) (sym (length-replicate {A = ℕ} n 0)) past)) (cases_lt i n)
+
+past_fixed : (size_of_disk i : ℕ) → fixed size_of_disk (space_start size_of_disk + i) ≡ 0
+past_fixed size_of_disk i = grind (arith, nat_tests)
+
+space_inside : (n : ℕ) → IsVolumeSize n → n ≡ space_start n + space n
+space_inside n volume = let small = volume.small in let large = volume.large in omega arith
+
+-- all that is set in the free space is reached
+pub used_reached : (size_of_disk : ℕ) (m : DiskMap) (contents : Contents) (t : TableState) → HasMap size_of_disk contents m → t.size ≡ size_of_disk → ((n : ℕ) → table_bit size_of_disk contents n ≡ bit t n)
+    → t.held ≡ replicate size_of_disk 0 → used_in_space t ≤ size_of_map m
+used_reached n m contents t has sized bits unheld =
+    let s = space_start n in
+    let whole = space_inside n has.volume in
+    let all = set_bits n contents m has in
+    let set = ap (sum_below (table_bit n contents)) whole ∙ below_parts (table_bit n contents) s (space n) in
+    let kept = ap (sum_below (fixed n)) whole ∙ below_parts (fixed n) s (space n) in
+    let none = below_zero (λ i. fixed n (s + i)) (space n) (past_fixed n) in
+    let low = below_along (fixed n) (table_bit n contents) s (λ i l. let e = has.marked.bits i in omega arith) in
+    let high = below_along (λ i. used t (s + i)) (λ i. table_bit n contents (s + i)) (space n)
+    (λ i l. let e = bits (s + i) in
+    let u = used_unheld (bit t (s + i)) (holds t (s + i)) (digit_few (flag_at t.bits (s + i))) (ap (λ l. slice_index l (s + i)) unheld ∙ replicate_none n (s + i)) in omega arith) in
+    let in_space = ap (λ k. sum_below (λ i. used t (space_start k + i)) (space k)) sized in
+    omega arith
+
+pub used_fits : (size_of_disk : ℕ) (k : Known) (m : DiskMap) (contents : Contents) → IsHeld size_of_disk k m contents → IsWholeMap size_of_disk k → used_in_space k.table ≤ k.table.booked
+used_fits size_of_disk k m contents held whole =
+    let reached = used_reached size_of_disk m contents k.table held.stands whole.size_is held.bits whole.unheld in
+    let few = map_costs size_of_disk contents m (chain_length name_total name_exact file_words IsFileEntry contents) (chain_length nat_cmp_total nat_cmp-IsAntisymmetric master_words IsMasterEntry contents) held.stands in
+    let cost = cost_is size_of_disk k m held.known whole.chain whole.aligned whole.each in
+    let booked = whole.booked in
+    omega arith

@@ -1,0 +1,76 @@
+-- What a disk stands for on which a volume was just made.
+use Rattle.std.proofs.Common.{◌≡◌, inl, inr, ⊎_elim, ℕ, ◌+◌, ◌/◌, ◌<◌, ◌≤◌, [], ◌∷◌, Some, IsSome, refl, sym, ◌∙◌, ap, subst, arith, lit≤}
+use Rattle.std.proofs.lemmas.Bool.{cases_eq}
+use Rattle.std.proofs.lemmas.Bool.Decides.{nat_tests}
+use Rattle.blockdisk.specs.Disk.{Contents, DiskState, NoneOpen, Touches}
+use Rattle.blockdisk.specs.Laws.{none_open_leaves, touches_on, touches_wider}
+use Rattle.changeset.specs.Rest.{AtRest}
+use Rattle.meaning.specs.Maps.{empty, entries}
+use Rattle.meaning.specs.Blocks.{head_or_zero}
+use Rattle.meaning.specs.Regions.{IsVolumeSize, table_blocks, table_start, space_start}
+use Rattle.meaning.specs.Log.{open_gate, IsGateOpen}
+use Rattle.meaning.specs.Table.{table_bit}
+use Rattle.meaning.specs.Stands.{HasMap, Stands, files_of}
+use Rattle.meaning.proofs.MapLaws.{some_same}
+use Rattle.meaning.proofs.Reading.{map_stands}
+use Rattle.alloctab.specs.TableBlocks.{table_words}
+use Rattle.alloctab.proofs.WordLaws.{table_words_spell}
+use Rattle.alloctab.proofs.TableReading.{table_bit_at, table_bit_past, in_or_past}
+use Rattle.volume.specs.Homes.{IsInitBlock, IsBare, bare_map, fresh_bit, fresh_words, zero_words}
+use Rattle.volume.proofs.FreshTable.{bit_below_few, fresh_bit_past, fresh_bit_is}
+
+-- Writing it.
+
+pub written_more : (size from n : ℕ) (c d : Contents) → ((m : ℕ) → from ≤ m → m < n → c m ≡ Some (fresh_words size m)) → ((m : ℕ) → (m ≡ n → ⊥) → d m ≡ c m)
+    → d n ≡ Some (fresh_words size n) → (m : ℕ) → from ≤ m → m < n + 1 → d m ≡ Some (fresh_words size m)
+written_more size from n c d before others here m low high = ⊎_elim
+    (λ is. ap d is ∙ here ∙ ap (λ (k : ℕ). Some (fresh_words size k)) (sym is))
+    (λ other. others m other ∙ before m low (omega arith)) (cases_eq m n)
+
+pub first_touched : (s s' : DiskState) → Touches (λ n. (0 ≤ n) × (n < 5)) s s' → Touches (IsInitBlock s.size) s s'
+first_touched s s' = touches_wider (λ n. (0 ≤ n) × (n < 5)) (IsInitBlock s.size) s s' (λ n is. inl (let high = is.1 in omega arith))
+
+pub volume_touched : (s s' s'' : DiskState) (start end : ℕ) → start ≡ table_start s.size → end ≡ space_start s.size + 1 → Touches (λ n. (0 ≤ n) × (n < 5)) s s'
+    → Touches (λ n. (start ≤ n) × (n < end)) s' s'' → Touches (IsInitBlock s.size) s s''
+volume_touched s s' s'' start end at until first second =
+    touches_on (IsInitBlock s.size) s s' s'' (first_touched s s' first)
+    (touches_wider (λ n. (start ≤ n) × (n < end)) (IsInitBlock s.size) s' s'' (λ n is. let low = is.0 in let high = is.1 in inr (omega arith, omega arith)) second)
+
+-- What it holds.
+
+module _ (size : ℕ) (c : Contents) (volume : IsVolumeSize size) (bare : IsBare size c) where
+  table_is_some : (i : ℕ) → i < table_blocks size → IsSome (c (table_start size + i))
+  table_is_some i below = let e = bare.table i below in cc
+
+  bit_is : (n : ℕ) → table_bit size c n ≡ fresh_bit size n
+  bit_is n = ⊎_elim
+      (λ below. table_bit_at size c (table_words (fresh_bit size) (n / 4608)) (n / 4608) n below (bare.table (n / 4608) below) refl
+      ∙ table_words_spell (fresh_bit size) (bit_below_few (space_start size + 1)) (n / 4608) n refl)
+      (λ past. table_bit_past size c n past ∙ sym (fresh_bit_past size n volume past)) (in_or_past (n / 4608) (table_blocks size))
+
+  pub fresh_has_map : HasMap size c (bare_map size)
+  fresh_has_map = map_stands size 1 c ((space_start size, []) ∷ []) [] volume
+      (inl (record { words = bare.home; layout = refl; master_from = omega arith; master_below = let small = volume.small in omega arith }))
+      (record { spelled = (bare.master, tt); filled = lit≤ tt; are_entries = tt; each_once = tt })
+      refl tt table_is_some
+      (λ n past. let small = volume.small in grind (arith, nat_tests))
+      (λ n. bit_is n ∙ fresh_bit_is size n)
+
+  pub fresh_shut : IsGateOpen size c → ⊥
+  fresh_shut is =
+      let words : zero_words ≡ open_gate = some_same (sym bare.gate ∙ is.gate) in
+      let first : head_or_zero zero_words ≡ head_or_zero open_gate = ap head_or_zero words in
+      absurd (omega arith)
+
+  pub no_files : files_of (bare_map size) ≡ empty
+  unfolding empty entries
+  no_files = refl
+
+  pub fresh_stands : Stands size c empty
+  fresh_stands = (c, inl (fresh_shut, λ n. refl), (bare_map size, fresh_has_map, no_files))
+
+pub fresh_rest : (size : ℕ) (s : DiskState) → s.size ≡ size → IsVolumeSize size → IsBare size s.contents → NoneOpen s → AtRest s (λ c. Stands size c empty)
+fresh_rest size s same volume bare none = record {
+  shut = λ c left is. fresh_shut size s.contents volume bare (subst (λ (n : ℕ). IsGateOpen n s.contents) same (subst (IsGateOpen s.size) (none_open_leaves s none c left) is));
+  all = λ c left. subst (λ (d : Contents). Stands size d empty) (sym (none_open_leaves s none c left)) (fresh_stands size s.contents volume bare);
+}

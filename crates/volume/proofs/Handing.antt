@@ -1,0 +1,48 @@
+-- Errors that are handed on.
+use Rattle.std.proofs.Common.{◌≡◌, ℕ, ◌⊎◌, Result, Ok, Err, IfErr, refl, sym, subst}
+use Rattle.blockdisk.specs.Disk.{Contents}
+use Rattle.meaning.specs.Files.{Place}
+use Rattle.meaning.specs.Faults.{IsBadVersion}
+use Rattle.volume.specs.declared.error.VolumeError.{VolumeError}
+use Rattle.volume.specs.declared.error.VolumeError.TheVariants.{NotVolume, BadHome, BadLog, BadDirectory, BadRetrieval, BlockTwice, TableWrong, Device, NoMemory, Failed, BadData}
+use Rattle.volume.specs.FileReading.{IsFileRefusal, IsOtherPlace, IsReachedTwice, IsDamagedData}
+use Rattle.volume.specs.Meets.{FileMeets}
+use Rattle.std.proofs.Common.{Bool, List}
+
+-- what an error has that is handed on
+pub handed : {T U E : Type 0} (P : E → Type 0) (outer : Result T E) (inner : Result U E) (x y : E) → outer ≡ Err x → x ≡ y → inner ≡ Err y → IfErr inner P → IfErr outer P
+handed P outer inner x y is same was met = subst (λ r. IfErr r P) (sym is) (subst P (sym same) (subst (λ r. IfErr r P) was met))
+
+pub error_has : {T E : Type 0} (P : E → Type 0) (result : Result T E) (e : E) → result ≡ Err e → IfErr result P → P e
+error_has P result e is met = subst (λ r. IfErr r P) is met
+
+-- each error of the result has P
+pub each_error : {T E : Type 0} (P : E → Type 0) (result : Result T E) → ((e : E) → result ≡ Err e → P e) → IfErr result P
+each_error P (Ok x) all = tt
+each_error P (Err e) all = all e refl
+
+pub file_met_by : {T : Type 0} (size : ℕ) (contents : Contents) (reached : List Bool) (place : Place) (prime : ℕ) (result : Result T VolumeError) → IfErr result IsFileRefusal
+    → ((k : ℕ) → result ≡ Err (BadRetrieval k) → IsBadVersion size contents 1 prime k ⊎ ((k ≡ prime) × IsOtherPlace contents place prime))
+    → ((k : ℕ) → result ≡ Err (BlockTwice k) → IsReachedTwice contents place prime reached k) → ((k : ℕ) → result ≡ Err (BadData k) → IsDamagedData contents place prime k)
+    → IfErr result (FileMeets size contents reached place prime)
+file_met_by size contents reached place prime result only bad twice damaged = each_error (FileMeets size contents reached place prime) result by_error
+  where
+    by_error : (e : VolumeError) → result ≡ Err e → FileMeets size contents reached place prime e
+    by_error NotVolume is = error_has IsFileRefusal result NotVolume is only
+    by_error BadHome is = error_has IsFileRefusal result BadHome is only
+    by_error BadLog is = error_has IsFileRefusal result BadLog is only
+    by_error (BadDirectory n) is = error_has IsFileRefusal result (BadDirectory n) is only
+    by_error (BadRetrieval n) is = bad n is
+    by_error (BlockTwice n) is = twice n is
+    by_error (TableWrong n) is = error_has IsFileRefusal result (TableWrong n) is only
+    by_error Device is = tt
+    by_error NoMemory is = tt
+    by_error Failed is = error_has IsFileRefusal result Failed is only
+    by_error (BadData n) is = damaged n is
+
+pub met_on : {T E : Type 0} (P Q : E → Type 0) (result : Result T E) → ((e : E) → P e → Q e) → IfErr result P → IfErr result Q
+met_on P Q (Ok x) on met = tt
+met_on P Q (Err e) on met = on e met
+
+pub handed_back : {T U E : Type 0} (outer : Result T E) (inner : Result U E) (x y e : E) → outer ≡ Err x → x ≡ y → inner ≡ Err y → inner ≡ Err e → outer ≡ Err e
+handed_back outer inner x y e is same was inner_is = cc

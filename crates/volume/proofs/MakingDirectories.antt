@@ -1,0 +1,208 @@
+-- What a call that makes a directory says of the disk, from what is known of core and of its calls.
+use Rattle.std.proofs.Common.{◌≡◌, ℕ, ◌+◌, ◌<◌, ◌≤◌, ◌⊎◌, inl, inr, ⊎_elim, Bool, true, false, List, [], ◌∷◌, ◌++◌, length, replicate, Some, None, Err, IsErrOf, refl, sym, ◌∙◌, ap, subst, arith}
+use Rattle.std.proofs.Common.{length-append}
+use Rattle.std.proofs.lemmas.Bool.{cases_eq}
+use Rattle.std.specs.List.{AllByRecursion}
+use Rattle.blockdisk.specs.Disk.{Contents, DiskState, LeavesOnly}
+use Rattle.blockdisk.specs.Laws.{leaves_weaker}
+use Rattle.meaning.specs.declared.put.Put.{Put}
+use Rattle.meaning.specs.Maps.{times, total}
+use Rattle.meaning.specs.Files.{File, Files}
+use Rattle.meaning.specs.Regions.{table_blocks, space_start, log_images}
+use Rattle.meaning.specs.Log.{IsTarget, targets, with_puts}
+use Rattle.meaning.specs.Stands.{DiskMap, files_of}
+use Rattle.meaning.specs.Faults.{InSpace}
+use Rattle.meaning.proofs.MapLaws.{some_none}
+use Rattle.meaning.proofs.MapSums.{times-append}
+use Rattle.meaning.proofs.DiskMaps.{stands_same, bit-le-one, fixed_below}
+use Rattle.meaning.proofs.ChangedFiles.{files_made as files_of_made}
+use Rattle.changeset.specs.Crashes.{IsGateOrLog}
+use Rattle.changeset.specs.Puts.{IsPutIn}
+use Rattle.changeset.specs.PutLaws.{times_head, times_tail, with_puts_here, with_puts_later}
+use Rattle.changeset.specs.Rest.{AtRest, SettlesTo}
+use Rattle.alloctab.specs.TableState.{bit, used_in_space}
+use Rattle.retrieval.specs.Writing.{IsFixed}
+use Rattle.volume.specs.Known.{KnownDirectory, Known, IsHeld, IsWholeDirectory, IsWholeMap, cost_of_directory}
+use Rattle.volume.specs.Making.{LeadsTo, IsAligned, AreUsed, bare_known, map_made, files_made, IsMade}
+use Rattle.volume.specs.Rest.{IsAtRest, IsSound, RestsAt, StandsForEither}
+use Rattle.volume.proofs.Lookups.{all_push, total-push}
+use Rattle.volume.proofs.CostLaws.{used_fits}
+use Rattle.volume.proofs.MakingHeld.{master_reached}
+use Rattle.volume.proofs.MakingLaw.{making_leads, bare_chain, bit_few}
+
+-- Of any event.
+
+pub err_of : {T E : Type 0} (x y : E) → x ≡ y → IsErrOf {T = T} (Err x) y
+err_of x y is = ap (λ e. Err e) is
+
+pub err_on : {T U E : Type 0} (x y : E) → IsErrOf {T = T} (Err x) y → IsErrOf {T = U} (Err x) y
+err_on x y is = let same : x ≡ y = cc in ap (λ e. Err e) same
+
+-- the files of the map are those that the disk is said to stand for
+pub files_are : (s : DiskState) (k : Known) (m : DiskMap) (f : Files File) → AtRest s (IsHeld s.size k m) → RestsAt s f → files_of m ≡ f
+files_are s k m f rest rests = stands_same s.size s.contents (files_of m) f (m, (rest.all s.contents (λ n closed. refl)).stands, refl) (rests.all s.contents (λ n closed. refl))
+
+pub crash_for : (s s' : DiskState) (k k' : Known) (m m' : DiskMap) (f f' : Files File) → files_of m ≡ f → files_of m' ≡ f'
+    → LeavesOnly s s' (λ c. SettlesTo s.size (IsHeld s.size k m) c ⊎ SettlesTo s.size (IsHeld s.size k' m') c) → LeavesOnly s s' (StandsForEither s.size f f')
+crash_for s s' k k' m m' f f' is is' leaves =
+    leaves_weaker s s' (λ c. SettlesTo s.size (IsHeld s.size k m) c ⊎ SettlesTo s.size (IsHeld s.size k' m') c) (StandsForEither s.size f f') leaves
+    (λ c. ⊎_elim (λ old. inl (old.0, old.1, (m, old.2.stands, is))) (λ new. inr (new.0, new.1, (m', new.2.stands, is'))))
+
+pub rest_for : (s s' : DiskState) (k' : Known) (m' : DiskMap) (f' : Files File) → s'.size ≡ s.size → files_of m' ≡ f' → AtRest s' (IsHeld s.size k' m') → RestsAt s' f'
+rest_for s s' k' m' f' size is rest = record {
+  shut = rest.shut;
+  all = λ c left. (m', (subst (λ (b : ℕ). IsHeld b k' m' c) (sym size) (rest.all c left)).stands, is);
+}
+
+pub sound_for : (s s' : DiskState) (k' : Known) (failed : Bool) → s'.size ≡ s.size → IsWholeMap s.size k' → (s'.honest → failed ≡ false → (m' : DiskMap) × AtRest s' (IsHeld s.size k' m')) → IsSound s' k' failed
+sound_for s s' k' failed size whole rest = record {
+  whole = subst (λ (b : ℕ). IsWholeMap b k') (sym size) whole;
+  rest = λ h ok. let r = rest h ok in record { map = r.0; rest = subst (λ (b : ℕ). AtRest s' (IsHeld b k' r.0)) (sym size) r.1 };
+}
+
+-- a sound volume that has failed stays sound, whatever the disk does
+pub sound_failed : (s s' : DiskState) (k' : Known) (failed : Bool) → s'.size ≡ s.size → IsWholeMap s.size k' → failed ≡ true → IsSound s' k' failed
+sound_failed s s' k' failed size whole gone = record { whole = subst (λ (b : ℕ). IsWholeMap b k') (sym size) whole; rest = λ h ok. absurd (apart (sym gone ∙ ok)) }
+  where
+    apart : true ≡ false → ⊥
+    apart e = cc
+
+-- what is put has the same words whatever was there
+put_words : (puts : List Put) (n : ℕ) → IsPutIn puts n → (words : List ℕ) × ((c : Contents) → with_puts puts c n ≡ Some words)
+put_words [] n there = absurd (omega arith)
+put_words (put ∷ puts) n there = by_case (cases_eq n put.block) (put_words puts n)
+  where
+    by_case : (n ≡ put.block) ⊎ (n ≡ put.block → ⊥) → (IsPutIn puts n → (words : List ℕ) × ((c : Contents) → with_puts puts c n ≡ Some words))
+        → (words : List ℕ) × ((c : Contents) → with_puts (put ∷ puts) c n ≡ Some words)
+    by_case (inl is) later = (put.words, λ c. with_puts_here put puts c n is)
+    by_case (inr other) later =
+        let rest = later (let e = times_tail n put.block (targets puts) other in omega arith) in
+        (rest.0, λ c. with_puts_later put puts c n other ∙ rest.1 c)
+
+-- a block that no contents see changed isn't put
+pub not_put : (puts : List Put) (n : ℕ) → ((c : Contents) → with_puts puts c n ≡ c n) → IsPutIn puts n → ⊥
+not_put puts n same there =
+    let words = put_words puts n there in
+    let nowhere : Contents = λ j. None in
+    some_none (sym (words.1 nowhere) ∙ same nowhere)
+
+-- On an honest disk that is at rest there are blocks to take.
+
+pub held_fixed : (size : ℕ) (k : Known) (m : DiskMap) (c : Contents) → k.table.size ≡ size → IsHeld size k m c → IsFixed k.table
+held_fixed size k m c same held n below =
+    let fixed = fixed_below size n (omega arith) in
+    let few = bit-le-one size c n in
+    let is = held.bits n in
+    let sum = held.stands.marked.bits n in
+    omega arith
+
+pub held_used : (size : ℕ) (k : Known) (m : DiskMap) (c : Contents) → IsHeld size k m c → AreUsed k.table k.master.blocks
+held_used size k m c held n there =
+    let most = master_reached k m held.known n in
+    let few = bit-le-one size c n in
+    let is = held.bits n in
+    let sum = held.stands.marked.bits n in
+    omega arith
+
+pub can_take : (s : DiskState) (k : Known) (failed : Bool) → IsSound s k failed → s.honest → failed ≡ false → IsFixed k.table × AreUsed k.table k.master.blocks × (used_in_space k.table ≤ k.table.booked)
+can_take s k failed sound h ok =
+    let rest = sound.rest h ok in
+    let held : IsHeld s.size k rest.map s.contents = rest.rest.all s.contents (λ n closed. refl) in
+    (held_fixed s.size k rest.map s.contents sound.whole.size_is held, held_used s.size k rest.map s.contents held, used_fits s.size k rest.map s.contents held sound.whole)
+
+-- Of the directory that is made.
+
+module _ (size : ℕ) (k k' : Known) (ppn protection first : ℕ) (puts : List Put) (whole : IsWholeMap size k) (made : IsMade size k k' ppn protection first puts) where
+  pub made_inside : AllByRecursion (InSpace size) k'.master.blocks
+  made_inside = subst (AllByRecursion (InSpace size)) (sym made.entered.blocks) (both k.master.blocks whole.inside)
+    where
+      both : (ns : List ℕ) → AllByRecursion (InSpace size) ns → AllByRecursion (InSpace size) (ns ++ made.grown)
+      both [] all = made.inside.1
+      both (n ∷ ns) all = (all.0, both ns all.1)
+
+  pub made_aligned : IsAligned k'
+  made_aligned =
+      let a = ap (λ (l : List KnownDirectory). length l) made.entered.directories ∙ length-append k.directories (bare_known first ∷ []) in
+      let b = ap length made.entered.entries ∙ length-append k.master.entries _ in
+      let e = whole.aligned in
+      omega arith
+
+  bare_whole : IsWholeDirectory size (bare_known first)
+  bare_whole = record { chain = bare_chain first; inside = (made.inside.0, tt); aligned = refl; versions = tt }
+
+  cost_more : length k'.master.blocks + total cost_of_directory k'.directories ≡ length k.master.blocks + total cost_of_directory k.directories + length (first ∷ made.grown)
+  cost_more =
+      let a = ap (λ (l : List ℕ). length l) made.entered.blocks ∙ length-append k.master.blocks made.grown in
+      let b = ap (total cost_of_directory) made.entered.directories ∙ total-push cost_of_directory k.directories (bare_known first) in
+      let one : cost_of_directory (bare_known first) ≡ 1 = refl in
+      omega arith
+
+  pub made_whole : IsWholeMap size k'
+  made_whole = record {
+    volume = whole.volume;
+    size_is = made.taken.size ∙ whole.size_is;
+    chain = made.entered.chain;
+    inside = made_inside;
+    aligned = made_aligned;
+    each = subst (AllByRecursion (IsWholeDirectory size)) (sym made.entered.directories) (all_push (IsWholeDirectory size) k.directories (bare_known first) whole.each bare_whole);
+    unchanged = made.taken.changed ∙ ap (λ (n : ℕ). replicate (table_blocks n) false) whole.size_is;
+    unheld = made.taken.held ∙ whole.unheld;
+    booked = let a = made.taken.booked in let b = whole.booked in let e = cost_more in omega arith;
+  }
+
+  pub puts_in_range : AllByRecursion (IsTarget size) (targets puts)
+  puts_in_range = made.put.in_range (made.entered.put.in_range size made_inside tt)
+
+  pub puts_few : length puts ≤ log_images size
+  puts_few = let a = made.put.few in let b = made.entered.few in omega arith
+
+  pub first_clear : bit k.table first ≡ 0
+  first_clear =
+      let sum = made.taken.bits first in
+      let one = times_head first first made.grown refl in
+      let few = bit_few k'.table first in
+      omega arith
+
+  pub leads : (before : Contents) (m : DiskMap) → protection < 512 → LeadsTo size before first (replicate 128 0) puts k m k' (map_made m k'.master.blocks ppn protection first)
+  leads before m fits c near held zeros = making_leads size k k' m ppn protection first puts whole made fits c held zeros
+
+  -- a block in use is not written, but for those of the master directory
+  pub not_written : (n : ℕ) → space_start size ≤ n → times n k.master.blocks ≡ 0 → bit k.table n ≡ 1 → (n ≡ first) ⊎ (IsGateOrLog size n ⊎ IsPutIn puts n) → ⊥
+  not_written n from none used = ⊎_elim
+      (λ is. let e = ap (bit k.table) is in let clear = first_clear in omega arith)
+      (⊎_elim (λ log. let below = log.1 in omega arith) (not_put puts n (λ c. made.put.others c n (inr from) ∙ made.entered.put.others c n out)))
+    where
+      out : times n k'.master.blocks ≡ 0
+      out =
+          let a = ap (times n) made.entered.blocks ∙ times-append n k.master.blocks made.grown in
+          let b = times-append n (first ∷ []) made.grown in
+          let sum = made.taken.bits n in
+          let few = bit_few k'.table n in
+          omega arith
+
+-- What the write and the commit promise, for this directory.
+module _ (s s' : DiskState) (k k' : Known) (ppn protection first : ℕ) (puts : List Put) (fits : protection < 512) (whole : IsWholeMap s.size k) (made : IsMade s.size k k' ppn protection first puts) (at : IsAtRest s k) where
+  pub made_crash : (f : Files File) → RestsAt s f
+      → ((m m' : DiskMap) → IsAligned k → IsAligned k' → AtRest s (IsHeld s.size k m) → bit k.table first ≡ 0 → LeadsTo s.size s.contents first (replicate 128 0) puts k m k' m'
+      → LeavesOnly s s' (λ c. SettlesTo s.size (IsHeld s.size k m) c ⊎ SettlesTo s.size (IsHeld s.size k' m') c))
+      → LeavesOnly s s' (StandsForEither s.size f (files_made f ppn protection))
+  made_crash f rests event =
+      let next = map_made at.map k'.master.blocks ppn protection first in
+      let same = files_are s k at.map f at.rest rests in
+      crash_for s s' k k' at.map next f (files_made f ppn protection) same (files_of_made at.map k'.master.blocks ppn protection 0 (first ∷ []) ∙ ap (λ (z : Files File). files_made z ppn protection) same)
+      (event at.map next whole.aligned (made_aligned s.size k k' ppn protection first puts whole made) at.rest (first_clear s.size k k' ppn protection first puts whole made) (leads s.size k k' ppn protection first puts whole made s.contents at.map fits))
+
+  pub made_rest : ((m m' : DiskMap) → IsAligned k → IsAligned k' → AtRest s (IsHeld s.size k m) → bit k.table first ≡ 0 → LeadsTo s.size s.contents first (replicate 128 0) puts k m k' m' → AtRest s' (IsHeld s.size k' m'))
+      → AtRest s' (IsHeld s.size k' (map_made at.map k'.master.blocks ppn protection first))
+  made_rest event =
+      event at.map (map_made at.map k'.master.blocks ppn protection first) whole.aligned (made_aligned s.size k k' ppn protection first puts whole made) at.rest (first_clear s.size k k' ppn protection first puts whole made)
+      (leads s.size k k' ppn protection first puts whole made s.contents at.map fits)
+
+  pub made_done : (f : Files File) → RestsAt s f → s'.size ≡ s.size → AtRest s' (IsHeld s.size k' (map_made at.map k'.master.blocks ppn protection first)) → RestsAt s' (files_made f ppn protection)
+  made_done f rests size rest =
+      let same = files_are s k at.map f at.rest rests in
+      rest_for s s' k' (map_made at.map k'.master.blocks ppn protection first) (files_made f ppn protection) size (files_of_made at.map k'.master.blocks ppn protection 0 (first ∷ []) ∙ ap (λ (z : Files File). files_made z ppn protection) same) rest
+
+  pub made_at : s'.size ≡ s.size → ((m m' : DiskMap) → IsAligned k → IsAligned k' → AtRest s (IsHeld s.size k m) → bit k.table first ≡ 0 → LeadsTo s.size s.contents first (replicate 128 0) puts k m k' m' → AtRest s' (IsHeld s.size k' m'))
+      → (m' : DiskMap) × AtRest s' (IsHeld s.size k' m')
+  made_at size event = (map_made at.map k'.master.blocks ppn protection first, made_rest event)

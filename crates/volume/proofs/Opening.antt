@@ -1,0 +1,75 @@
+-- A disk that is opened: what is handed on from its parts.
+use Rattle.std.proofs.Common.{◌≡◌, inl, inr, ⊎_elim, ℕ, ◌≤◌, Bool, false, List, length, Result, Err, IfErr, sym, ap, subst, ◌∙◌, arith}
+use Rattle.std.proofs.lemmas.Bool.Decides.{nat_tests}
+use Rattle.std.proofs.lemmas.List.{get_or_past}
+use Rattle.blockdisk.specs.Disk.{Contents, DiskState, MayLeave, Keeps}
+use Rattle.blockdisk.specs.Laws.{keeps_still, still_on, passes_weaker}
+use Rattle.changeset.specs.Reads.{OnlyReads}
+use Rattle.meaning.specs.Regions.{IsVolumeSize, space_start}
+use Rattle.meaning.specs.Table.{fixed}
+use Rattle.meaning.specs.Faults.{IsWrongTable}
+use Rattle.alloctab.specs.Lists.{digit, digit_at}
+use Rattle.alloctab.specs.Reading.{IsBadTableBlock}
+use Rattle.alloctab.specs.TableState.{TableState}
+use Rattle.alloctab.specs.Reached.{wanted_bit}
+use Rattle.volume.specs.declared.error.VolumeError.{VolumeError}
+use Rattle.volume.specs.declared.error.VolumeError.TheVariants.{NotVolume, BadHome, BadLog, BadDirectory, BadRetrieval, BlockTwice, TableWrong, Device, NoMemory, Failed, BadData}
+use Rattle.volume.specs.Found.{IsWrongFor, IsRightFor}
+use Rattle.volume.specs.Meets.{SettledRefuses, IsTableRefusal}
+use Rattle.volume.proofs.Handing.{error_has, each_error}
+
+pub reads_of : (s s' : DiskState) → Keeps s s' → OnlyReads s s'
+reads_of s s' keeps = record { still = keeps_still s s' keeps; is_open = keeps.is_open }
+
+pub reads_on : (s s' s'' : DiskState) → OnlyReads s s' → OnlyReads s' s'' → OnlyReads s s''
+reads_on s s' s'' first second = record { still = still_on s s' s'' first.still second.still; is_open = λ n. second.is_open n ∙ first.is_open n }
+
+none_past : (size : ℕ) (reached : List Bool) (k : ℕ) → IsVolumeSize size → length reached ≡ size → size ≤ k → wanted_bit size reached k ≡ 0
+none_past size reached k volume long past =
+    let large = volume.large in
+    let small = volume.small in
+    let outside : space_start size ≤ k = omega arith in
+    let unreached : digit_at reached k ≡ 0 = ap digit (get_or_past reached k false (omega arith)) in
+    let unfixed : fixed size k ≡ 0 = grind (arith, nat_tests) in
+    omega arith
+
+-- a table block that is no table's is wrong for any blocks reached
+pub bad_block_wrong : (size : ℕ) (contents : Contents) (reached : List Bool) (n : ℕ) → IsVolumeSize size → length reached ≡ size → IsBadTableBlock size contents n → IsWrongFor size contents reached n
+bad_block_wrong size contents reached n volume long bad = record {
+  i = bad.i;
+  in_table = bad.in_table;
+  block = bad.block;
+  wrong = ⊎_elim (λ d. inl d) (λ set. inr (set.0, set.2, λ is. let none = none_past size reached set.0 volume long set.1 in let one = set.3 in omega arith)) bad.wrong;
+}
+
+pub table_refused : {T : Type 0} (size : ℕ) (contents now : Contents) (reached : List Bool) (result : Result T VolumeError) → now ≡ contents → IfErr result IsTableRefusal
+    → ((n : ℕ) → result ≡ Err (TableWrong n) → IsWrongFor size now reached n) → ((n : ℕ) → IsWrongFor size contents reached n → IsWrongTable size contents n)
+    → IfErr result (SettledRefuses size contents)
+table_refused size contents now reached result same only wrong faulty = each_error (SettledRefuses size contents) result by_error
+  where
+    by_error : (e : VolumeError) → result ≡ Err e → SettledRefuses size contents e
+    by_error NotVolume is = absurd (error_has IsTableRefusal result NotVolume is only)
+    by_error BadHome is = absurd (error_has IsTableRefusal result BadHome is only)
+    by_error BadLog is = error_has IsTableRefusal result BadLog is only
+    by_error (BadDirectory n) is = absurd (error_has IsTableRefusal result (BadDirectory n) is only)
+    by_error (BadRetrieval n) is = absurd (error_has IsTableRefusal result (BadRetrieval n) is only)
+    by_error (BlockTwice n) is = absurd (error_has IsTableRefusal result (BlockTwice n) is only)
+    by_error (TableWrong n) is = faulty n (subst (λ c. IsWrongFor size c reached n) same (wrong n is))
+    by_error Device is = tt
+    by_error NoMemory is = tt
+    by_error Failed is = error_has IsTableRefusal result Failed is only
+    by_error (BadData n) is = absurd (error_has IsTableRefusal result (BadData n) is only)
+
+-- what is right of a table is so of one with the same bits
+pub right_bits : (size : ℕ) (contents : Contents) (reached : List Bool) (t u : TableState) → u.bits ≡ t.bits → IsRightFor size contents reached t → IsRightFor size contents reached u
+right_bits size contents reached t u same right = record {
+  read = record { bits_are = λ n. ap (λ (bits : List Bool). digit_at bits n) same ∙ right.read.bits_are n; undamaged = right.read.undamaged };
+  right = λ n. ap (λ (bits : List Bool). digit_at bits n) same ∙ right.right n;
+}
+
+pub keeps_of : (s s' : DiskState) → OnlyReads s s' → Keeps s s'
+keeps_of s s' reads = record {
+  contents = reads.still.contents;
+  is_open = reads.is_open;
+  time = passes_weaker s s' (MayLeave s) (MayLeave s') reads.still.time (λ c left n closed. left n (sym (reads.is_open n) ∙ closed) ∙ sym (reads.still.contents n));
+}

@@ -1,0 +1,147 @@
+-- A start: recovery, and then reading alone.
+use Rattle.std.proofs.Common.{◌≡◌, ◌⊎◌, inl, inr, ⊎_elim, ℕ, ◌<◌, ◌≤◌, List, [], ◌∷◌, Option, Some, None, Result, Ok, Err, IfOk, refl, sym, ap, subst, ◌∙◌, arith}
+use Rattle.std.proofs.lemmas.Bool.{cases_eq}
+use Rattle.blockdisk.specs.Disk.{Contents, DiskState, MayLeave, NoneOpen, LeavesOnly}
+use Rattle.blockdisk.specs.Laws.{none_open_leaves, leaves_still, leaves_on}
+use Rattle.changeset.specs.Crashes.{IsGate, IsGateOrLog, IsLost, IsRecovered, LeavesFrom, SettlesLike, SettlesLikeBefore}
+use Rattle.changeset.specs.Reads.{OnlyReads}
+use Rattle.changeset.specs.Rest.{AtRest, Ignores, recover_leaves, recover_rest, like_settles}
+use Rattle.meaning.specs.Files.{File, Files}
+use Rattle.meaning.specs.Regions.{IsVolumeSize}
+use Rattle.meaning.specs.Log.{IsGateOpen, open_gate, with_puts}
+use Rattle.meaning.specs.Stands.{DiskMap, SettledStands, Stands}
+use Rattle.meaning.specs.Faults.{IsBadLog, IsSettledFault, HasFault, StartFault}
+use Rattle.meaning.specs.Faults as faults
+use Rattle.meaning.proofs.DiskMaps.{log_ignored}
+use Rattle.meaning.proofs.Settled.{settled_same}
+use Rattle.volume.specs.declared.error.VolumeError.{VolumeError}
+use Rattle.volume.specs.declared.error.VolumeError.TheVariants.{NotVolume, BadHome, BadLog, BadDirectory, BadRetrieval, BlockTwice, TableWrong, Device, NoMemory, Failed, BadData}
+use Rattle.volume.specs.Known.{Known, IsHeld}
+use Rattle.volume.specs.Meets.{SettledRefuses, Refuses}
+use Rattle.volume.specs.Rest.{IsAtRest, RestsAt, StandsLike, StandsLikeBefore}
+
+-- Answers.
+
+pub ok_on : {T E : Type 0} (P Q : T → Type 0) (result : Result T E) → ((x : T) → P x → Q x) → IfOk result P → IfOk result Q
+ok_on P Q (Ok x) on is = on x is
+ok_on P Q (Err e) on is = tt
+
+pub ok_always : {T E : Type 0} (P : Type 0) (result : Result T E) → P → IfOk result (λ x. P)
+ok_always P (Ok x) is = is
+ok_always P (Err e) is = tt
+
+-- Gate and log are no part of what stands.
+
+pub stands_ignores_log : (size : ℕ) (files : Files File) → Ignores (IsGateOrLog size) (λ c. SettledStands size c files)
+stands_ignores_log size files c d same stands = (
+  stands.0,
+  log_ignored size c d stands.0 (λ n place. same n (λ is. let low = is.0 in let high = is.1 in ⊎_elim (λ e. absurd (omega arith)) (⊎_elim (λ e. absurd (omega arith)) (λ le. absurd (omega arith))) place)) stands.1,
+  stands.2,
+)
+
+pub stands_ignores_gate : (size : ℕ) (files : Files File) → Ignores IsGate (λ c. SettledStands size c files)
+stands_ignores_gate size files c d same stands = stands_ignores_log size files c d (λ n out. same n (λ is. out (omega arith, omega arith))) stands
+
+-- Recovery.
+
+pub crash_recovered : (s s' : DiskState) → LeavesOnly s s' (SettlesLikeBefore s) → LeavesOnly s s' (StandsLikeBefore s)
+crash_recovered s s' leaves = recover_leaves s s' (λ (files : Files File) c. SettledStands s.size c files) (stands_ignores_log s.size) leaves
+
+pub from_recovered : (t : ℕ) (s s' : DiskState) → LeavesFrom t s s' (SettlesLike s.size s.contents) → LeavesFrom t s s' (StandsLike s)
+from_recovered t s s' leaves = record {
+  late = leaves.late;
+  early = leaves.early;
+  since = λ c left files stands. like_settles s.size (λ d. SettledStands s.size d files) s.contents c (stands_ignores_log s.size files) (leaves.since c left) stands;
+}
+
+-- Reading behind it.
+
+pub crash_read : (s s' s'' : DiskState) (P : Contents → Type 0) → LeavesOnly s s' P → ((c : Contents) → s'.left_since s'.clock c → MayLeave s' c) → OnlyReads s' s'' → LeavesOnly s s'' P
+crash_read s s' s'' P first only_now reads = leaves_on s s' s'' P (MayLeave s') first (leaves_still s' s'' (MayLeave s') only_now reads.still (λ c left. left)) (λ c left. first.now c left)
+
+pub from_read : (t : ℕ) (s s' s'' : DiskState) (P : Contents → Type 0) → LeavesFrom t s s' P → ((u : ℕ) (c : Contents) → u ≤ s'.clock → MayLeave s' c → s'.left_since u c) → OnlyReads s' s'' → LeavesFrom t s s'' P
+from_read t s s' s'' P first counts reads = record {
+  late = first.late;
+  early = let a = first.early in let b = reads.still.time.later in omega arith;
+  since = λ c left. ⊎_elim (λ old. first.since c old) (λ may. first.since c (counts t c first.early may)) (reads.still.time.nothing_else t c first.early left);
+}
+
+pub rest_read : (s s' : DiskState) (Q : Contents → Type 0) → s'.size ≡ s.size → OnlyReads s s' → AtRest s Q → AtRest s' Q
+rest_read s s' Q size reads rest = record {
+  shut = λ c left is_open. rest.shut c (reads.still.crash c left) (subst (λ (n : ℕ). IsGateOpen n c) size is_open);
+  all = λ c left. rest.all c (reads.still.crash c left);
+}
+
+-- What the contents are known to hold is what all that a crash may leave holds.
+pub rest_known : (s s' s'' : DiskState) (known : Known) (m : DiskMap) → s'.size ≡ s.size → s''.size ≡ s'.size → IsRecovered s.size s.contents s'.contents → NoneOpen s' → OnlyReads s' s'' → IsHeld s'.size known m s'.contents → IsAtRest s'' known
+rest_known s s' s'' known m size size' recovered none reads held = record {
+  map = m;
+  rest = rest_read s' s'' (IsHeld s''.size known m) size' reads (record {
+    shut = λ c left is_open. recovered.gate (subst (IsGateOpen s.size) (none_open_leaves s' none c left) (subst (λ (n : ℕ). IsGateOpen n c) size is_open));
+    all = λ c left. subst (IsHeld s''.size known m) (sym (none_open_leaves s' none c left)) (subst (λ (n : ℕ). IsHeld n known m s'.contents) (sym size') held);
+  });
+}
+
+-- The files are those that the disk stood for.
+pub rest_files : (s s' s'' : DiskState) (files : Files File) → s'.size ≡ s.size → s''.size ≡ s'.size → IsRecovered s.size s.contents s'.contents → NoneOpen s' → OnlyReads s' s'' → Stands s.size s.contents files → RestsAt s'' files
+rest_files s s' s'' files size size' recovered none reads stands =
+    subst (λ (n : ℕ). AtRest s'' (λ c. SettledStands n c files)) (sym (size' ∙ size))
+    (rest_read s' s'' (λ c. SettledStands s.size c files) size' reads
+    (recover_rest s s' (λ c. SettledStands s.size c files) (stands_ignores_gate s.size files) size
+    (λ settled is. subst (λ c. SettledStands s.size c files) (settled_same s.size s.contents stands.0 settled stands.1 is) stands.2) recovered none))
+
+-- Faults.
+
+-- With a closed gate the contents are settled.
+pub closed_refuses : (size : ℕ) (contents : Contents) → (IsGateOpen size contents → ⊥) → (error : VolumeError) → SettledRefuses size contents error → Refuses size contents error
+closed_refuses size contents closed = by_error
+  where
+    fault : (f : StartFault) → IsSettledFault size contents f → HasFault size contents f
+    fault f is = inr (contents, inl (closed, λ n. refl), is)
+
+    by_error : (error : VolumeError) → SettledRefuses size contents error → Refuses size contents error
+    by_error NotVolume is = fault faults.StartFault.NotVolume is
+    by_error BadHome is = fault faults.StartFault.BadHome is
+    by_error BadLog is = fault faults.StartFault.BadLog is
+    by_error (BadDirectory n) is = fault (faults.StartFault.BadDirectory n) is
+    by_error (BadRetrieval n) is = fault (faults.StartFault.BadRetrieval n) is
+    by_error (BlockTwice n) is = fault (faults.StartFault.BlockTwice n) is
+    by_error (TableWrong n) is = fault (faults.StartFault.TableWrong n) is
+    by_error Device is = tt
+    by_error NoMemory is = tt
+    by_error Failed is = is
+    by_error (BadData n) is = fault (faults.StartFault.BadData n) is
+
+lists_apart : (xs ys : List ℕ) → (xs ≡ ys) ⊎ (xs ≡ ys → ⊥)
+lists_apart [] [] = inl refl
+lists_apart [] (y ∷ ys) = inr (λ e. cc)
+lists_apart (x ∷ xs) [] = inr (λ e. cc)
+lists_apart (x ∷ xs) (y ∷ ys) = ⊎_elim (λ heads. ⊎_elim (λ tails. inl (λ i. heads i ∷ tails i)) (λ other. inr (λ e. other (cc))) (lists_apart xs ys)) (λ other. inr (λ e. other (cc))) (cases_eq x y)
+
+-- Where nothing settles, the gate is open.
+lost_gate : (size : ℕ) (contents : Contents) → IsLost size contents → contents 3 ≡ Some open_gate
+lost_gate size contents lost = by_block (contents 3) refl
+  where
+    by_block : (block : Option (List ℕ)) → contents 3 ≡ block → contents 3 ≡ Some open_gate
+    by_block None is = absurd (lost contents (inl (λ o. (let e = o.gate in cc), λ n. refl)))
+    by_block (Some words) is = ⊎_elim
+        (λ same. is ∙ ap Some same)
+        (λ other. absurd (lost contents (inl (λ o. other (let e : Some words ≡ Some open_gate = sym is ∙ o.gate in cc), λ n. refl)))) (lists_apart words open_gate)
+
+low_or_high : (m n : ℕ) → (m ≤ n) ⊎ (n < m)
+low_or_high m n = grind arith
+
+volume_or_not : (size : ℕ) → IsVolumeSize size ⊎ (IsVolumeSize size → ⊥)
+volume_or_not size = ⊎_elim
+    (λ small. ⊎_elim (λ large. inl (record { small = small; large = large })) (λ past. inr (λ v. let l = v.large in absurd (omega arith))) (low_or_high size 131072))
+    (λ low. inr (λ v. let l = v.small in absurd (omega arith))) (low_or_high 64 size)
+
+lost_open : (size : ℕ) (contents : Contents) → IsLost size contents → IsGateOpen size contents
+lost_open size contents lost = ⊎_elim
+    (λ volume. record { volume = volume; gate = lost_gate size contents lost })
+    (λ no. absurd (lost contents (inl (λ is_open. no is_open.volume, λ n. refl)))) (volume_or_not size)
+
+pub lost_refuses : (size : ℕ) (contents : Contents) → IsLost size contents → Refuses size contents BadLog
+lost_refuses size contents lost =
+    let is_open = lost_open size contents lost in
+    inl (record { open_gate = is_open; no_log = λ puts log. lost (with_puts puts contents) (inr (is_open, puts, log, λ n. refl)) }, refl)

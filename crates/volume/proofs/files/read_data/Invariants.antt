@@ -1,0 +1,13 @@
+use Rattle.std.proofs.Common.{◌≡◌, take}
+use Rattle.std.specs.List.{AllByRecursion}
+use Rattle.blockdisk.specs.Disk.{Keeps, SameDisk}
+use Rattle.volume.specs.FileReading.{IsWholeBlock}
+use Rattle.volume.proofs.files.read_data.Given as goal
+
+abbrev pub invariant-loop-block : goal.invariant-loop-block
+invariant-loop-block g l = record {
+  same : SameDisk (g.D.Disk.state l.fn.disk) (g.D.Disk.state l.disk);
+  served : (g.D.Disk.state l.disk).failures ≡ (g.D.Disk.state l.fn.disk).failures;
+  keeps : (g.D.Disk.state l.fn.disk).honest → Keeps (g.D.Disk.state l.fn.disk) (g.D.Disk.state l.disk);
+  whole : (g.D.Disk.state l.fn.disk).honest → AllByRecursion (IsWholeBlock (g.D.Disk.state l.fn.disk).contents) (take l.block-index l.blocks);
+}

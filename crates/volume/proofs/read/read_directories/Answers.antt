@@ -1,0 +1,85 @@
+use Rattle.std.proofs.Common.{◌≡◌, ◌+◌, ℕ, List, [], map, take, drop, length, refl, sym, ap, subst, ◌∙◌}
+use Rattle.std.proofs.lemmas.Result.{err_from_is_err_and}
+use Rattle.std.specs.List.{AllByRecursion}
+use Rattle.blockdisk.specs.Disk.{MayLeave}
+use Rattle.blockdisk.specs.Laws.{same_contents, same_disk_start, same_disk_on, passes_start}
+use Rattle.meaning.specs.Faults.{InSpace}
+use Rattle.meaning.specs.Directories.{MasterEntry}
+use Rattle.alloctab.specs.Lists.{digit_at}
+use Rattle.retrieval.proofs.Readings.{keeps_on}
+use Rattle.volume.specs.declared.error.VolumeError.TheVariants.{Device}
+use Rattle.volume.specs.Cores.{master_view, known_directory}
+use Rattle.volume.specs.Known.{KnownDirectory, IsWholeDirectory}
+use Rattle.volume.specs.Found.{IsOnlySpace, IsAdded, AreDirectoriesRead}
+use Rattle.volume.specs.Meets.{DirectoryMeets, DirectoriesMeet}
+use Rattle.volume.proofs.Handing.{handed, handed_back, met_on}
+use Rattle.volume.proofs.Lookups.{viewed_at, viewed_split}
+use Rattle.volume.proofs.FoundDirectories.{no_directories, directories_go_on, all_added}
+use Rattle.volume.proofs.MetDirectories.{directory_met}
+use Rattle.volume.proofs.read.read_directories.Goals as goal
+
+pub add_directory-requires-clause-inside : goal.add_directory-requires-clause-inside
+add_directory-requires-clause-inside g c =
+    let s = g.D.Disk.state c.args.disk.now in
+    subst (λ (n : ℕ). InSpace n c.entry-item.result.first) (sym c.loop-entry.invariant.same.size)
+    (viewed_at master_view c.args.entries.now c.loop-entry.entry-index c.entry-item.result c.loop-entry-test.true c.entry-item.is (λ (e : MasterEntry). InSpace s.size e.1.1) c.requires.inside)
+
+pub returns-in_err-add_directory-clause-met : goal.returns-in_err-add_directory-clause-met
+returns-in_err-add_directory-clause-met g c h =
+    let s = g.D.Disk.state c.args.disk.now in
+    let now = g.D.Disk.state c.loop-entry.disk in
+    let i = c.loop-entry.entry-index in
+    let e = c.entry-item.result in
+    let p = err_from_is_err_and c.from_residual.result c.from_residual.ensures.1 in
+    let same = same_contents s.contents now.contents (c.loop-entry.invariant.keeps h).contents in
+    let marks = digit_at c.loop-entry.reached in
+    handed (DirectoriesMeet s.size s.contents (digit_at c.args.reached.now) (map master_view c.args.entries.now)) c.from_residual.result c.add_directory.result p.0 c.in_err-add_directory.field-0.0 p.1 p.2 c.in_err-add_directory.was
+    (met_on (DirectoryMeets now.size now.contents marks e.ppn e.first) (DirectoriesMeet s.size s.contents (digit_at c.args.reached.now) (map master_view c.args.entries.now)) c.add_directory.result
+    (λ error met. directory_met s.size s.contents (map master_view c.args.entries.now) (map master_view (take i c.args.entries.now)) (map master_view (drop (i + 1) c.args.entries.now)) (map known_directory c.loop-entry.directories.items)
+    (digit_at c.args.reached.now) marks (master_view e) error (viewed_split master_view c.args.entries.now i e c.loop-entry-test.true c.entry-item.is) c.requires.once (c.loop-entry.invariant.read h)
+    (subst (λ contents. DirectoryMeets s.size contents marks e.ppn e.first error) same (subst (λ (n : ℕ). DirectoryMeets n now.contents marks e.ppn e.first error) c.loop-entry.invariant.same.size met)))
+    (c.add_directory.ensures.met (c.loop-entry.invariant.same.honest h)))
+
+pub returns-in_err-add_directory-clause-keeps : goal.returns-in_err-add_directory-clause-keeps
+returns-in_err-add_directory-clause-keeps g c h =
+    keeps_on (g.D.Disk.state c.args.disk.now) (g.D.Disk.state c.loop-entry.disk) (g.D.Disk.state c.add_directory.new.disk) (c.loop-entry.invariant.keeps h) (c.add_directory.ensures.keeps (c.loop-entry.invariant.same.honest h))
+
+pub returns-in_err-add_directory-clause-served : goal.returns-in_err-add_directory-clause-served
+returns-in_err-add_directory-clause-served g c other =
+    let p = err_from_is_err_and c.from_residual.result c.from_residual.ensures.1 in
+    c.add_directory.ensures.served (λ is. other (handed_back c.from_residual.result c.add_directory.result p.0 c.in_err-add_directory.field-0.0 Device p.1 p.2 c.in_err-add_directory.was is)) ∙ c.loop-entry.invariant.served
+
+pub loop-entry-preserved : goal.loop-entry-preserved
+loop-entry-preserved g c =
+    let s = g.D.Disk.state c.args.disk.now in
+    let now = g.D.Disk.state c.loop-entry.disk in
+    let new = g.D.Disk.state c.add_directory.new.disk in
+    record {
+      same = same_disk_on s now new c.loop-entry.invariant.same c.add_directory.ensures.same;
+      served = c.in_ok-add_directory.ensures.served (λ is. cc) ∙ c.loop-entry.invariant.served;
+      keeps = λ h. keeps_on s now new (c.loop-entry.invariant.keeps h) (c.add_directory.ensures.keeps (c.loop-entry.invariant.same.honest h));
+      marks = c.add_directory.ensures.length ∙ c.loop-entry.invariant.marks;
+      space = λ only. subst (λ (n : ℕ). IsOnlySpace n c.add_directory.new.reached) c.loop-entry.invariant.same.size
+          (c.in_ok-add_directory.ensures.space (subst (λ (n : ℕ). IsOnlySpace n c.loop-entry.reached) (sym c.loop-entry.invariant.same.size) (c.loop-entry.invariant.space only)));
+      aligned = c.in_ok-add_directory.ensures.aligned ∙ ap (λ (n : ℕ). n + 1) c.loop-entry.invariant.aligned;
+      whole = all_added known_directory (IsWholeDirectory s.size) c.loop-entry.directories.items c.add_directory.new.directories.items c.loop-entry.invariant.whole
+          (subst (λ (n : ℕ). IsAdded known_directory c.loop-entry.directories.items c.add_directory.new.directories.items (IsWholeDirectory n)) c.loop-entry.invariant.same.size c.in_ok-add_directory.ensures.whole);
+      read = λ h. directories_go_on known_directory s.contents now.contents master_view c.args.entries.now c.loop-entry.entry-index c.entry-item.result c.loop-entry.directories.items c.add_directory.new.directories.items
+          (digit_at c.args.reached.now) (digit_at c.loop-entry.reached) (digit_at c.add_directory.new.reached) c.loop-entry-test.true c.entry-item.is (same_contents s.contents now.contents (c.loop-entry.invariant.keeps h).contents)
+          (c.loop-entry.invariant.read h) (c.in_ok-add_directory.ensures.read (c.loop-entry.invariant.same.honest h));
+    }
+
+pub loop-entry-init : goal.loop-entry-init
+loop-entry-init g c =
+    let s = g.D.Disk.state c.args.disk.now in
+    let none : map known_directory c.new-directories.result.items ≡ [] = ap (map known_directory) c.new-directories.ensures.items in
+    record {
+      same = same_disk_start s;
+      served = refl;
+      keeps = λ h. record { contents = λ n. refl; is_open = λ n. refl; time = passes_start s (MayLeave s) };
+      marks = refl;
+      space = λ only. only;
+      aligned = ap length c.new-directories.ensures.items;
+      whole = subst (AllByRecursion (IsWholeDirectory s.size)) (sym none) tt;
+      read = λ h. subst (λ (ds : List KnownDirectory). AreDirectoriesRead s.contents [] ds (digit_at c.args.reached.now) (digit_at c.args.reached.now)) (sym none) (no_directories s.contents (digit_at c.args.reached.now));
+    }

@@ -1,0 +1,20 @@
+use Rattle.std.proofs.Common.{◌≡◌, map, take, length}
+use Rattle.std.specs.List.{AllByRecursion}
+use Rattle.blockdisk.specs.Disk.{SameDisk, Keeps}
+use Rattle.alloctab.specs.Lists.{digit_at}
+use Rattle.volume.specs.Cores.{file_view, known_version}
+use Rattle.volume.specs.Known.{IsWholeVersion}
+use Rattle.volume.specs.Found.{IsOnlySpace, AreFilesRead}
+use Rattle.volume.proofs.read.read_files.Given as goal
+
+abbrev pub invariant-loop-entry : goal.invariant-loop-entry
+invariant-loop-entry g l = record {
+  same : SameDisk (g.D.Disk.state l.fn.disk) (g.D.Disk.state l.disk);
+  served : (g.D.Disk.state l.disk).failures ≡ (g.D.Disk.state l.fn.disk).failures;
+  keeps : (g.D.Disk.state l.fn.disk).honest → Keeps (g.D.Disk.state l.fn.disk) (g.D.Disk.state l.disk);
+  marks : length l.reached ≡ length l.fn.reached;
+  whole : AllByRecursion IsWholeVersion (map known_version l.versions.items);
+  space : IsOnlySpace (g.D.Disk.state l.fn.disk).size l.fn.reached → IsOnlySpace (g.D.Disk.state l.fn.disk).size l.reached;
+  aligned : length l.versions.items ≡ l.entry-index;
+  read : (g.D.Disk.state l.fn.disk).honest → AreFilesRead (g.D.Disk.state l.fn.disk).contents l.ppn (map file_view (take l.entry-index l.entries)) (map known_version l.versions.items) (digit_at l.fn.reached) (digit_at l.reached);
+}

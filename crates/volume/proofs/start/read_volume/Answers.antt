@@ -1,0 +1,125 @@
+use Rattle.std.proofs.Common.{◌≡◌, inl, inr, ⊎_elim, ℕ, Err, refl, sym, subst, ◌∙◌}
+use Rattle.blockdisk.specs.Disk.{NoneOpen}
+use Rattle.blockdisk.specs.Laws.{same_contents}
+use Rattle.changeset.specs.Crashes.{IsRecovered}
+use Rattle.changeset.specs.declared.error.LogError.TheVariants.{Device as LogDevice}
+use Rattle.meaning.specs.Log.{with_puts}
+use Rattle.meaning.specs.Stands.{DiskMap}
+use Rattle.volume.specs.declared.error.VolumeError.TheVariants.{BadLog}
+use Rattle.volume.specs.Cores.{known_of}
+use Rattle.volume.specs.Known.{IsHeld}
+use Rattle.volume.specs.Meets.{SettledRefuses, Refuses}
+use Rattle.volume.specs.Rest.{IsAtRest, RestsAt, StandsLike, StandsLikeBefore}
+use Rattle.volume.proofs.Handing.{met_on}
+use Rattle.volume.proofs.Starting.{ok_on, ok_always, crash_recovered, from_recovered, crash_read, from_read, rest_known, rest_files, closed_refuses, lost_refuses}
+use Rattle.volume.proofs.start.read_volume.Goals as goal
+
+pub returns-in-Ok-clause-crash : goal.returns-in-Ok-clause-crash
+returns-in-Ok-clause-crash g c h =
+    let s = g.D.Disk.state c.args.disk.now in
+    let s1 = g.D.Disk.state c.recover.new.disk in
+    let h1 = c.recover.ensures.same.honest h in
+    crash_read s s1 (g.D.Disk.state c.read_map.new.disk) (StandsLikeBefore s) (crash_recovered s s1 (c.recover.ensures.crash h)) (λ d left. g.met.D.Disk.only_now c.recover.new.disk d h1 left) (c.read_map.ensures.reads h1)
+
+pub returns-in-Ok-clause-synced : goal.returns-in-Ok-clause-synced
+returns-in-Ok-clause-synced g c h =
+    let s = g.D.Disk.state c.args.disk.now in
+    let s1 = g.D.Disk.state c.recover.new.disk in
+    let s2 = g.D.Disk.state c.read_map.new.disk in
+    let h1 = c.recover.ensures.same.honest h in
+    let reads = c.read_map.ensures.reads h1 in
+    let recovered : IsRecovered s.size s.contents s1.contents = c.in-Ok.ensures.recovered h in
+    let none : NoneOpen s1 = c.in-Ok.ensures.settled h in
+    ⊎_elim
+    (λ device. absurd (let is : c.recover.result ≡ Err LogDevice = device.0 in let ok = c.in-Ok.is in cc))
+    (λ from. inr (from.0, from_read from.0 s s1 s2 (StandsLike s) (from_recovered from.0 s s1 from.1) (λ u d early left. g.met.D.Disk.counts_now c.recover.new.disk u d h1 early left) reads)) (c.recover.ensures.synced h)
+
+pub returns-in-Ok-clause-rest : goal.returns-in-Ok-clause-rest
+returns-in-Ok-clause-rest g c h =
+    let s = g.D.Disk.state c.args.disk.now in
+    let s1 = g.D.Disk.state c.recover.new.disk in
+    let s2 = g.D.Disk.state c.read_map.new.disk in
+    let h1 = c.recover.ensures.same.honest h in
+    let reads = c.read_map.ensures.reads h1 in
+    let recovered : IsRecovered s.size s.contents s1.contents = c.in-Ok.ensures.recovered h in
+    let none : NoneOpen s1 = c.in-Ok.ensures.settled h in
+    ok_on (λ read. (m : DiskMap) × IsHeld s1.size (known_of read) m s1.contents) (λ read. IsAtRest s2 (known_of read)) c.read_map.result
+    (λ read held. rest_known s s1 s2 (known_of read) held.0 c.recover.ensures.same.size c.read_map.ensures.same.size recovered none reads held.1) (c.read_map.ensures.held h1)
+
+pub returns-in-Ok-clause-files : goal.returns-in-Ok-clause-files
+returns-in-Ok-clause-files g c h files stands =
+    let s = g.D.Disk.state c.args.disk.now in
+    let s1 = g.D.Disk.state c.recover.new.disk in
+    let s2 = g.D.Disk.state c.read_map.new.disk in
+    let h1 = c.recover.ensures.same.honest h in
+    let reads = c.read_map.ensures.reads h1 in
+    let recovered : IsRecovered s.size s.contents s1.contents = c.in-Ok.ensures.recovered h in
+    let none : NoneOpen s1 = c.in-Ok.ensures.settled h in
+    ok_always (RestsAt s2 files) c.read_map.result (rest_files s s1 s2 files c.recover.ensures.same.size c.read_map.ensures.same.size recovered none reads stands)
+
+pub returns-in-Ok-clause-settled : goal.returns-in-Ok-clause-settled
+returns-in-Ok-clause-settled g c h =
+    let s = g.D.Disk.state c.args.disk.now in
+    let s1 = g.D.Disk.state c.recover.new.disk in
+    let s2 = g.D.Disk.state c.read_map.new.disk in
+    let h1 = c.recover.ensures.same.honest h in
+    let reads = c.read_map.ensures.reads h1 in
+    let recovered : IsRecovered s.size s.contents s1.contents = c.in-Ok.ensures.recovered h in
+    let none : NoneOpen s1 = c.in-Ok.ensures.settled h in
+    ok_always (NoneOpen s2) c.read_map.result (λ n. reads.is_open n ∙ none n)
+
+pub returns-in-Ok-clause-refused : goal.returns-in-Ok-clause-refused
+returns-in-Ok-clause-refused g c h =
+    let s = g.D.Disk.state c.args.disk.now in
+    let s1 = g.D.Disk.state c.recover.new.disk in
+    let s2 = g.D.Disk.state c.read_map.new.disk in
+    let h1 = c.recover.ensures.same.honest h in
+    let reads = c.read_map.ensures.reads h1 in
+    let recovered : IsRecovered s.size s.contents s1.contents = c.in-Ok.ensures.recovered h in
+    let none : NoneOpen s1 = c.in-Ok.ensures.settled h in
+    let same : s2.contents ≡ s1.contents = same_contents s1.contents s2.contents reads.still.contents in
+    met_on (SettledRefuses s1.size s1.contents) (Refuses s.size s2.contents) c.read_map.result
+    (λ error met. subst (λ contents. Refuses s.size contents error) (sym same) (closed_refuses s.size s1.contents recovered.gate error (subst (λ (n : ℕ). SettledRefuses n s1.contents error) c.recover.ensures.same.size met)))
+    (c.read_map.ensures.met h1)
+
+pub returns-in-Ok-clause-kept : goal.returns-in-Ok-clause-kept
+returns-in-Ok-clause-kept g c h other =
+    let s = g.D.Disk.state c.args.disk.now in
+    let s1 = g.D.Disk.state c.recover.new.disk in
+    let s2 = g.D.Disk.state c.read_map.new.disk in
+    let h1 = c.recover.ensures.same.honest h in
+    let reads = c.read_map.ensures.reads h1 in
+    let recovered : IsRecovered s.size s.contents s1.contents = c.in-Ok.ensures.recovered h in
+    let none : NoneOpen s1 = c.in-Ok.ensures.settled h in
+    let same : s2.contents ≡ s1.contents = same_contents s1.contents s2.contents reads.still.contents in
+    inr (subst (IsRecovered s.size s.contents) (sym same) recovered)
+
+pub returns-in-Err-BadLog-clause-crash : goal.returns-in-Err-BadLog-clause-crash
+returns-in-Err-BadLog-clause-crash g c h = crash_recovered (g.D.Disk.state c.args.disk.now) (g.D.Disk.state c.recover.new.disk) (c.recover.ensures.crash h)
+
+pub returns-in-Err-Device-clause-crash : goal.returns-in-Err-Device-clause-crash
+returns-in-Err-Device-clause-crash g c h = crash_recovered (g.D.Disk.state c.args.disk.now) (g.D.Disk.state c.recover.new.disk) (c.recover.ensures.crash h)
+
+pub returns-in-Err-BadLog-clause-synced : goal.returns-in-Err-BadLog-clause-synced
+returns-in-Err-BadLog-clause-synced g c h =
+    let s = g.D.Disk.state c.args.disk.now in
+    let s1 = g.D.Disk.state c.recover.new.disk in
+    ⊎_elim
+    (λ device. absurd (let is : c.recover.result ≡ Err LogDevice = device.0 in let bad = c.in-Err-BadLog.is in let which = c.in-Err-BadLog.field-0-is in cc))
+    (λ from. inr (from.0, from_recovered from.0 s s1 from.1)) (c.recover.ensures.synced h)
+
+pub returns-in-Err-BadLog-clause-refused : goal.returns-in-Err-BadLog-clause-refused
+returns-in-Err-BadLog-clause-refused g c h =
+    let s = g.D.Disk.state c.args.disk.now in
+    let s1 = g.D.Disk.state c.recover.new.disk in
+    let lost = c.recover.ensures.bad h (cc) in
+    let still = c.recover.ensures.untouched h (λ puts pending. lost (with_puts puts s.contents) (inr (pending.gate, puts, pending.log, λ n. refl))) in
+    subst (λ contents. Refuses s.size contents BadLog) (sym (same_contents s.contents s1.contents still.contents)) (lost_refuses s.size s.contents lost)
+
+pub returns-in-Err-BadLog-clause-kept : goal.returns-in-Err-BadLog-clause-kept
+returns-in-Err-BadLog-clause-kept g c h other =
+    let s = g.D.Disk.state c.args.disk.now in
+    let s1 = g.D.Disk.state c.recover.new.disk in
+    let lost = c.recover.ensures.bad h (cc) in
+    let still = c.recover.ensures.untouched h (λ puts pending. lost (with_puts puts s.contents) (inr (pending.gate, puts, pending.log, λ n. refl))) in
+    inl still

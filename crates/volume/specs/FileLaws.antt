@@ -1,0 +1,28 @@
+-- What was found of a file is what the file is, but for its words.
+use Rattle.std.specs.Prelude.{◌≡◌, ℕ, ◌∷◌, ◌++◌}
+use Rattle.blockdisk.specs.Disk.{Contents}
+use Rattle.meaning.specs.Maps.{times}
+use Rattle.meaning.specs.Files.{Place}
+use Rattle.meaning.specs.Stands.{reaches_in_file}
+use Rattle.retrieval.specs.Versions.{VersionState}
+use Rattle.retrieval.specs.declared.prime.Prime.{Prime as PrimeValue}
+use Rattle.volume.specs.Facts.{facts_of, known_facts}
+use Rattle.volume.specs.FileReading.{IsFileFound}
+
+pub facts_found : (contents : Contents) (place : Place) (at : ℕ) (prime : PrimeValue) (v : VersionState) → (found : IsFileFound contents place at prime v)
+    → facts_of found.file ≡ known_facts at prime v
+facts_found contents place at prime v found = λ i. record {
+  protection = (found.facts_are i).protection;
+  mode = (found.facts_are i).mode;
+  time = (found.facts_are i).time;
+  date = (found.facts_are i).date;
+  words = (found.facts_are i).words;
+  prime = found.prime_is i;
+  ribs = found.ribs_are i;
+  blocks = found.blocks_are i;
+}
+
+-- It reaches the blocks that were marked.
+pub found_reaches : (contents : Contents) (place : Place) (at : ℕ) (prime : PrimeValue) (v : VersionState) → (found : IsFileFound contents place at prime v)
+    → (n : ℕ) → reaches_in_file n found.file ≡ times n (at ∷ (v.ribs ++ v.blocks))
+found_reaches contents place at prime v found n = λ i. times n (found.prime_is i ∷ (found.ribs_are i ++ found.blocks_are i))

@@ -1,0 +1,77 @@
+-- What reading one file finds, that a name in a directory leads to.
+use Rattle.std.specs.Prelude.{◌≡◌, ℕ, ◌+◌, ◌<◌, ◌≤◌, Bool, List, length, Some, None}
+use Rattle.std.specs.List.{AllByRecursion}
+use Rattle.blockdisk.specs.Disk.{Contents}
+use Rattle.meaning.specs.Maps.{times}
+use Rattle.meaning.specs.Files.{Place}
+use Rattle.meaning.specs.Retrieval.{Prime, Run, IsRun, prime_of, prime_block, IsPrime, IsRetrieved}
+use Rattle.meaning.specs.Stands.{StoredFile, IsVersion}
+use Rattle.meaning.specs.Faults.{ReadFile, times_in_file}
+use Rattle.alloctab.specs.Lists.{digit_at}
+use Rattle.retrieval.specs.Primes.{with_length}
+use Rattle.retrieval.specs.Versions.{VersionState}
+use Rattle.retrieval.specs.declared.prime.Prime.{Prime as PrimeValue}
+use Rattle.volume.specs.declared.error.VolumeError.{VolumeError}
+use Rattle.volume.specs.declared.error.VolumeError.TheVariants.{BadRetrieval, BlockTwice, Device, NoMemory, BadData}
+
+-- Refusals: those of reading a version and its place, those of reading data blocks, and all of a file.
+
+abbrev pub IsVersionRefusal : VolumeError → Type 0
+IsVersionRefusal (BadRetrieval n) = Unit {0}
+IsVersionRefusal Device = Unit {0}
+IsVersionRefusal NoMemory = Unit {0}
+IsVersionRefusal error = ⊥
+
+abbrev pub IsDataRefusal : VolumeError → Type 0
+IsDataRefusal (BadData n) = Unit {0}
+IsDataRefusal Device = Unit {0}
+IsDataRefusal error = ⊥
+
+abbrev pub IsFileRefusal : VolumeError → Type 0
+IsFileRefusal (BadRetrieval n) = Unit {0}
+IsFileRefusal (BlockTwice n) = Unit {0}
+IsFileRefusal (BadData n) = Unit {0}
+IsFileRefusal Device = Unit {0}
+IsFileRefusal NoMemory = Unit {0}
+IsFileRefusal error = ⊥
+
+-- What is found, and what is wrong.
+
+-- The block isn't damaged, and holds 128 words.
+pub record IsWholeBlock (contents : Contents) (n : ℕ) : Type 0 where
+  pub words : List ℕ
+  pub holds : contents n ≡ Some words
+  pub all : length words ≡ 128
+
+-- A file of this place stands at the prime block, and this is what is known of it: what the prime block
+-- says, and where the version lies.
+pub record IsFileFound (contents : Contents) (place : Place) (at : ℕ) (prime : PrimeValue) (v : VersionState) : Type 0 where
+  pub file : StoredFile
+  pub stands : IsVersion 1 contents place file
+  pub prime_is : file.prime ≡ at
+  pub ribs_are : file.extensions ≡ v.ribs
+  pub blocks_are : file.blocks ≡ v.blocks
+  pub facts_are : prime_of place file.file ≡ with_length prime v.words
+
+-- The block is no prime block of this place.
+abbrev pub IsOtherPlace : Contents → Place → ℕ → Type 0
+IsOtherPlace contents place n =
+    (p : Prime) (runs : List Run) (next : ℕ) → contents n ≡ Some (prime_block p runs next) → p.place ≡ place → IsPrime 1 p → length runs ≤ 112 → AllByRecursion IsRun runs → ⊥
+
+-- The retrieval blocks of a file of this place were read, and with its blocks block n is reached twice.
+pub record IsReachedTwice (contents : Contents) (place : Place) (at : ℕ) (reached : List Bool) (n : ℕ) : Type 0 where
+  pub file : ReadFile
+  pub prime_is : file.prime ≡ at
+  pub place_is : file.p.place ≡ place
+  pub retrieved : IsRetrieved 1 contents file.p file.prime file.extensions file.blocks
+  pub twice : 2 ≤ digit_at reached n + times_in_file n file
+
+-- Block n is damaged, and is a data block of a file of this place.
+pub record IsDamagedData (contents : Contents) (place : Place) (at n : ℕ) : Type 0 where
+  pub p : Prime
+  pub extensions : List ℕ
+  pub blocks : List ℕ
+  pub place_is : p.place ≡ place
+  pub retrieved : IsRetrieved 1 contents p at extensions blocks
+  pub inside : 0 < times n blocks
+  pub damaged : contents n ≡ None

@@ -1,0 +1,105 @@
+-- What a reader has found, part by part: beside what is kept in core the words of the files.
+use Rattle.std.specs.Prelude.{◌≡◌, ◌⊎◌, ℕ, ◌+◌, ◌/◌, ◌<◌, Bool, None, List, [], ◌∷◌, ◌++◌, map}
+use Rattle.std.specs.List.{AllByRecursion, AllZip}
+use Rattle.words36.specs.declared.names.FileName.{FileName}
+use Rattle.blockdisk.specs.Disk.{Contents}
+use Rattle.meaning.specs.Maps.{EachOnce, times, total}
+use Rattle.meaning.specs.Files.{name_cmp}
+use Rattle.meaning.specs.Directories.{items, MasterEntry, master_words, FileEntry, file_words}
+use Rattle.meaning.specs.Stands.{StoredFile, StoredDirectory, place_of, entry_of, reaches_in_file, reaches_in_directory, IsVersion, IsWhole}
+use Rattle.meaning.specs.Walks.{Leads}
+use Rattle.meaning.specs.Faults.{InSpace, IsMasterEntryOf, ReadDirectory, times_in_directory, IsFileRead}
+use Rattle.meaning.specs.Regions.{IsVolumeSize, table_blocks, table_start}
+use Rattle.meaning.specs.Blocks.{head_or_zero}
+use Rattle.meaning.specs.Home.{IsHome}
+use Rattle.std.specs.Ordering.{nat_cmp}
+use Rattle.meaning.specs.Table.{table_bit}
+use Rattle.alloctab.specs.Lists.{digit_at}
+use Rattle.alloctab.specs.TableState.{TableState, bit}
+use Rattle.alloctab.specs.Reached.{wanted_bit}
+use Rattle.alloctab.specs.Reading.{IsTableOf}
+use Rattle.directory.specs.Chains.{ChainState, IsChain, IsOn}
+use Rattle.volume.specs.Facts.{facts_of, known_facts}
+use Rattle.volume.specs.Homes.{home_of_master}
+use Rattle.volume.specs.FileReading.{IsFileFound}
+use Rattle.volume.specs.Known.{KnownVersion, KnownDirectory, IsKnownDirectory}
+
+-- what was reached lies in the free space
+abbrev pub IsOnlySpace : ℕ → List Bool → Type 0
+IsOnlySpace size reached = (n : ℕ) → 0 < digit_at reached n → InSpace size n
+
+-- the version in core is that of the file
+abbrev pub IsKnownVersion : FileName × StoredFile → KnownVersion → Type 0
+IsKnownVersion e v = facts_of e.1 ≡ known_facts e.1.prime v.prime v.version
+
+-- What was pushed has P, seen by this view.
+pub record IsAdded {A B : Type 0} (view : A → B) (old new : List A) (P : B → Type 0) : Type 0 where
+  pub added : A
+  pub pushed : new ≡ old ++ added ∷ []
+  pub is : P (view added)
+
+-- The version of an entry was read, and its blocks were marked.
+pub record IsMarkedFile (contents : Contents) (ppn : ℕ) (entry : FileEntry) (marks marks' : ℕ → ℕ) (v : KnownVersion) : Type 0 where
+  pub found : IsFileFound contents (place_of ppn entry.0) entry.1 v.prime v.version
+  pub marked : (n : ℕ) → marks' n ≡ marks n + times n (entry.1 ∷ (v.version.ribs ++ v.version.blocks))
+
+-- The versions of these entries of a directory. `marks` tells how often each block was reached before and
+-- after they were read.
+pub record AreFilesRead (contents : Contents) (ppn : ℕ) (entries : List FileEntry) (versions : List KnownVersion) (marks marks' : ℕ → ℕ) : Type 0 where
+  pub found : List (FileName × StoredFile)
+  pub named : map (λ e. (e.0, e.1.prime)) found ≡ entries
+  pub whole : AllByRecursion (λ e. IsVersion 1 contents (place_of ppn e.0) e.1) found
+  pub known : AllZip IsKnownVersion found versions
+  pub marked : (n : ℕ) → marks' n ≡ marks n + total (λ e. reaches_in_file n e.1) found
+
+-- The chain and the files of a directory that this entry names, as they were read.
+pub record IsEntryRead (contents : Contents) (entry : MasterEntry) (directory : ReadDirectory) : Type 0 where
+  pub walk : Leads file_words contents entry.1.1 directory.nodes directory.last
+  pub once : EachOnce name_cmp directory.files
+  pub files : AllByRecursion (IsFileRead 1 contents entry.0 (items directory.nodes)) directory.files
+
+-- One directory, which this entry of the master directory names.
+pub record IsDirectoryFound (contents : Contents) (entry : MasterEntry) (directory : KnownDirectory) (marks marks' : ℕ → ℕ) : Type 0 where
+  pub found : StoredDirectory
+  pub named : entry_of found ≡ entry.1
+  pub whole : IsWhole 1 contents entry.0 found
+  pub known : IsKnownDirectory directory found
+  pub on : IsOn file_words contents directory.chain
+  pub read : ReadDirectory
+  pub read_is : IsEntryRead contents entry read
+  pub marked : (n : ℕ) → marks' n ≡ marks n + reaches_in_directory n found
+  pub counted : (n : ℕ) → times_in_directory n read ≡ reaches_in_directory n found
+
+-- The directories of these entries.
+pub record AreDirectoriesRead (contents : Contents) (entries : List MasterEntry) (directories : List KnownDirectory) (marks marks' : ℕ → ℕ) : Type 0 where
+  pub found : List (ℕ × StoredDirectory)
+  pub named : map (λ e. (e.0, entry_of e.1)) found ≡ entries
+  pub whole : AllByRecursion (λ e. IsWhole 1 contents e.0 e.1) found
+  pub known : AllZip (λ e d. IsKnownDirectory d e.1) found directories
+  pub on : AllByRecursion (λ d. IsOn file_words contents d.chain) directories
+  pub read : List (MasterEntry × ReadDirectory)
+  pub read_named : map (λ r. r.0) read ≡ entries
+  pub read_are : AllByRecursion (λ r. IsEntryRead contents r.0 r.1) read
+  pub counted : (n : ℕ) → total (λ r. times_in_directory n r.1) read ≡ total (λ e. reaches_in_directory n e.1) found
+  pub marked : (n : ℕ) → marks' n ≡ marks n + total (λ e. reaches_in_directory n e.1) found
+
+-- What was read: the master directory, and the directories that it names.
+pub record IsMapRead (size : ℕ) (contents : Contents) (first : ℕ) (master : ChainState MasterEntry) (directories : List KnownDirectory) (marks : ℕ → ℕ) : Type 0 where
+  pub volume : IsVolumeSize size
+  pub home : IsHome size contents (home_of_master first)
+  pub chain : IsChain nat_cmp (IsMasterEntryOf 1) master
+  pub on : IsOn master_words contents master
+  pub begins : head_or_zero master.blocks ≡ first
+  pub read : AreDirectoriesRead contents master.entries directories (λ n. times n master.blocks) marks
+
+-- Block n of the table is damaged, or has a bit that isn't as the reached blocks ask for.
+pub record IsWrongFor (size : ℕ) (contents : Contents) (reached : List Bool) (n : ℕ) : Type 0 where
+  pub i : ℕ
+  pub in_table : i < table_blocks size
+  pub block : n ≡ table_start size + i
+  pub wrong : (contents n ≡ None) ⊎ ((k : ℕ) × (k / 4608 ≡ i) × (table_bit size contents k ≡ wanted_bit size reached k → ⊥))
+
+-- The table is that of the contents, and as the reached blocks ask for.
+pub record IsRightFor (size : ℕ) (contents : Contents) (reached : List Bool) (table : TableState) : Type 0 where
+  pub read : IsTableOf size contents (bit table)
+  pub right : (n : ℕ) → bit table n ≡ wanted_bit size reached n

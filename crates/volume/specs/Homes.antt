@@ -1,0 +1,76 @@
+-- What a home copy says, and what a volume holds that was just made.
+use Rattle.std.specs.Prelude.{◌≡◌, ◌⊎◌, ℕ, ◌+◌, ◌-◌, ◌<◌, ◌≤◌, ◌==◌, nat_lt, if◌then◌else◌, List, [], ◌∷◌, replicate, Some}
+use Rattle.blockdisk.specs.Disk.{Contents}
+use Rattle.meaning.specs.Regions.{table_blocks, table_start, space_start}
+use Rattle.meaning.specs.Home.{Home, home_block, IsHomeCopy}
+use Rattle.meaning.specs.Faults.{InSpace, HasName}
+use Rattle.meaning.specs.Readings.{found_map}
+use Rattle.meaning.specs.Stands.{DiskMap}
+use Rattle.alloctab.specs.TableBlocks.{table_words}
+use Rattle.volume.specs.declared.home.HomeCopy.{HomeCopy}
+use Rattle.volume.specs.declared.home.HomeCopy.TheVariants.{Valid, Named, Unnamed}
+
+-- Home copies.
+
+-- the home block of layout 1 with this master directory
+abbrev pub home_of_master : ℕ → Home
+home_of_master master = record { layout = 1; master = master }
+
+-- the copy in block n is not valid, whatever it may say
+abbrev pub IsNoCopy : ℕ → Contents → ℕ → Type 0
+IsNoCopy size contents n = (home : Home) → IsHomeCopy size contents n home → ⊥
+
+-- What was found is what the copy in block n says.
+abbrev pub IsFound : ℕ → Contents → ℕ → HomeCopy → Type 0
+IsFound size contents n (Valid master) = IsHomeCopy size contents n (home_of_master master)
+IsFound size contents n Named = HasName contents n × IsNoCopy size contents n
+IsFound size contents n Unnamed = HasName contents n → ⊥
+
+-- a valid copy that was found names a block of the free space
+abbrev pub IsFoundInSpace : ℕ → HomeCopy → Type 0
+IsFoundInSpace size (Valid master) = InSpace size master
+IsFoundInSpace size Named = Unit {0}
+IsFoundInSpace size Unnamed = Unit {0}
+
+-- the same block with these words, whatever its number
+abbrev pub holds_words : List ℕ → Contents
+holds_words words n = Some words
+
+-- A volume that was just made.
+
+-- the blocks that are written
+abbrev pub IsInitBlock : ℕ → ℕ → Type 0
+IsInitBlock size n = (n ≤ 4) ⊎ ((table_start size ≤ n) × (n ≤ space_start size))
+
+-- 1 for the blocks below this one
+abbrev pub bit_below : ℕ → ℕ → ℕ
+bit_below limit n = if nat_lt n limit then 1 else 0
+
+-- the bits of its table: the fixed regions, and the master directory's block behind them
+abbrev pub fresh_bit : ℕ → ℕ → ℕ
+fresh_bit size n = bit_below (space_start size + 1) n
+
+abbrev pub zero_words : List ℕ
+zero_words = replicate 128 0
+
+-- Its blocks, as far as they are written.
+pub record IsBare (size : ℕ) (contents : Contents) : Type 0 where
+  pub first : contents 0 ≡ Some zero_words
+  pub home : contents 1 ≡ Some (home_block size (home_of_master (space_start size)))
+  pub second_home : contents 2 ≡ Some (home_block size (home_of_master (space_start size)))
+  pub gate : contents 3 ≡ Some zero_words
+  pub log_header : contents 4 ≡ Some zero_words
+  pub table : (i : ℕ) → i < table_blocks size → contents (table_start size + i) ≡ Some (table_words (fresh_bit size) i)
+  pub master : contents (space_start size) ≡ Some zero_words
+
+-- its map: a master directory of one empty block
+abbrev pub bare_map : ℕ → DiskMap
+bare_map size = found_map 1 ((space_start size, []) ∷ []) []
+
+-- the words that block n of it gets
+abbrev pub fresh_words : ℕ → ℕ → List ℕ
+fresh_words size n =
+    if n == 1 then home_block size (home_of_master (space_start size)) else
+    if n == 2 then home_block size (home_of_master (space_start size)) else
+    if nat_lt n (table_start size) then zero_words else
+    if nat_lt n (space_start size) then table_words (fresh_bit size) (n - table_start size) else zero_words

@@ -1,0 +1,101 @@
+-- What a volume knows of its disk: the chains of its directories with their entries in the order of the
+-- disk, for each file where its version lies, and the allocation table. A map of the disk says the same,
+-- and besides it the words of the files.
+use Rattle.std.specs.Prelude.{◌≡◌, ℕ, ◌+◌, ◌*◌, ◌≤◌, false, List, length, replicate, slice_get, Some}
+use Rattle.std.specs.List.{AllByRecursion}
+use Rattle.std.specs.Ordering.{nat_cmp}
+use Rattle.blockdisk.specs.Disk.{Contents}
+use Rattle.meaning.specs.Maps.{get, map_values, from_entries, total}
+use Rattle.meaning.specs.Costs.{blocks_of, cost_of_blocks}
+use Rattle.meaning.specs.Files.{name_cmp}
+use Rattle.meaning.specs.Regions.{IsVolumeSize, table_blocks}
+use Rattle.meaning.specs.Table.{table_bit}
+use Rattle.meaning.specs.Directories.{MasterEntry, master_words, FileEntry, file_words, IsFileEntry}
+use Rattle.meaning.specs.Retrieval.{most_blocks}
+use Rattle.meaning.specs.Stands.{StoredFile, StoredDirectory, DiskMap, entry_of, HasMap}
+use Rattle.meaning.specs.Faults.{InSpace, IsMasterEntryOf}
+use Rattle.alloctab.specs.TableState.{TableState, bit}
+use Rattle.directory.specs.Chains.{ChainState, IsChain, IsOn}
+use Rattle.retrieval.specs.Versions.{VersionState}
+use Rattle.retrieval.specs.declared.prime.Prime.{Prime}
+use Rattle.volume.specs.Facts.{facts_of, known_facts}
+
+-- a version in core: what its prime block says, and where it lies
+pub record KnownVersion : Type 0 where
+  pub prime : Prime
+  pub version : VersionState
+
+pub record KnownDirectory : Type 0 where
+  pub chain : ChainState FileEntry
+  -- the version of each entry, in their order
+  pub versions : List KnownVersion
+
+pub record Known : Type 0 where
+  pub master : ChainState MasterEntry
+  -- the directory of each entry, in their order
+  pub directories : List KnownDirectory
+  pub table : TableState
+
+-- Core and map agree.
+
+-- the file of an entry, with its version
+abbrev pub IsKnownFile : StoredDirectory → FileEntry → KnownVersion → Type 0
+IsKnownFile d e v = (f : StoredFile) × (get d.files e.0 ≡ Some f) × (facts_of f ≡ known_facts e.1 v.prime v.version)
+
+-- The directory of the map is the one in core.
+pub record IsKnownDirectory (k : KnownDirectory) (d : StoredDirectory) : Type 0 where
+  pub chain : d.chain ≡ k.chain.blocks
+  pub names : map_values (λ f. f.prime) d.files ≡ from_entries k.chain.entries
+  pub each : (i : ℕ) (e : FileEntry) (v : KnownVersion) → slice_get k.chain.entries i ≡ Some e → slice_get k.versions i ≡ Some v → IsKnownFile d e v
+
+-- The map is the one in core, in layout 1.
+pub record IsKnownMap (k : Known) (m : DiskMap) : Type 0 where
+  pub layout : m.layout ≡ 1
+  pub chain : m.chain ≡ k.master.blocks
+  pub names : map_values entry_of m.directories ≡ from_entries k.master.entries
+  pub each : (i : ℕ) (e : MasterEntry) (d : KnownDirectory) → slice_get k.master.entries i ≡ Some e → slice_get k.directories i ≡ Some d
+      → (s : StoredDirectory) × (get m.directories e.0 ≡ Some s) × IsKnownDirectory d s
+
+-- The contents have this map, and their chains and their table are those in core.
+pub record IsHeld (size : ℕ) (k : Known) (m : DiskMap) (contents : Contents) : Type 0 where
+  pub known : IsKnownMap k m
+  pub stands : HasMap size contents m
+  pub master : IsOn master_words contents k.master
+  pub chains : (i : ℕ) (d : KnownDirectory) → slice_get k.directories i ≡ Some d → IsOn file_words contents d.chain
+  pub bits : (n : ℕ) → table_bit size contents n ≡ bit k.table n
+
+-- What is so in core, whatever the disk does.
+
+-- the number of blocks is that of the length, and no more than a file may have
+pub record IsWholeVersion (v : KnownVersion) : Type 0 where
+  pub counted : length v.version.blocks ≡ blocks_of v.version.words
+  pub few : v.version.words ≤ most_blocks * 128
+
+pub record IsWholeDirectory (size : ℕ) (d : KnownDirectory) : Type 0 where
+  pub chain : IsChain name_cmp IsFileEntry d.chain
+  pub inside : AllByRecursion (InSpace size) d.chain.blocks
+  pub aligned : length d.versions ≡ length d.chain.entries
+  pub versions : AllByRecursion IsWholeVersion d.versions
+
+-- What it costs: each version as much as its blocks ask for, and each chain as many blocks as it has.
+
+abbrev pub cost_of_version : KnownVersion → ℕ
+cost_of_version v = cost_of_blocks (length v.version.blocks)
+
+abbrev pub cost_of_directory : KnownDirectory → ℕ
+cost_of_directory d = length d.chain.blocks + total cost_of_version d.versions
+
+abbrev pub cost_of_known : ChainState MasterEntry → List KnownDirectory → ℕ
+cost_of_known master directories = length master.blocks + total cost_of_directory directories
+
+pub record IsWholeMap (size : ℕ) (k : Known) : Type 0 where
+  pub volume : IsVolumeSize size
+  pub size_is : k.table.size ≡ size
+  pub chain : IsChain nat_cmp (IsMasterEntryOf 1) k.master
+  pub inside : AllByRecursion (InSpace size) k.master.blocks
+  pub aligned : length k.directories ≡ length k.master.entries
+  pub each : AllByRecursion (IsWholeDirectory size) k.directories
+  -- the table has nothing to put, holds nothing, and has booked what the map costs
+  pub unchanged : k.table.changed ≡ replicate (table_blocks size) false
+  pub unheld : k.table.held ≡ replicate size 0
+  pub booked : k.table.booked ≡ cost_of_known k.master k.directories

@@ -1,0 +1,11 @@
+pub mod Facts
+pub mod FileReading
+pub mod FileLaws
+pub mod Homes
+pub mod Known
+pub mod Meets
+pub mod Found
+pub mod Cores
+pub mod Rest
+pub mod Queries
+pub mod Making

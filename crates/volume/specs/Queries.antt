@@ -1,0 +1,78 @@
+-- What the calls answer that only look at the files.
+use Rattle.std.specs.Prelude.{◌≡◌, ℕ, ◌-◌, length, ℤ, pos, ◌-ℤ◌, slice_get, Option, None, Some, Result, Ok, Err}
+use Rattle.words36.specs.declared.names.FileName.{FileName}
+use Rattle.meaning.specs.Costs.{blocks_of, cost_of_files}
+use Rattle.meaning.specs.declared.entry.Entry.{Entry}
+use Rattle.meaning.specs.declared.code.ErrorCode.TheVariants.{NoDirectory, NotFound}
+use Rattle.meaning.specs.Files.{File, Files, Directory, name_cmp}
+use Rattle.meaning.specs.Maps.{get}
+use Rattle.meaning.specs.Regions.{space_start}
+use Rattle.retrieval.specs.Modes.{mode_number}
+use Rattle.directory.specs.Edits.{StandsAt}
+use Rattle.volume.specs.Known.{KnownVersion, KnownDirectory}
+use Rattle.volume.specs.declared.error.CallError.{CallError}
+use Rattle.volume.specs.declared.file_facts.FileFacts.{FileFacts}
+use Rattle.volume.specs.declared.error.CallError.TheVariants.{Refused, Device, NoMemory, Failed}
+
+-- the blocks of the free space less what the files cost: a whole number that may be below 0
+abbrev pub room_of : ℕ → Files File → ℤ
+room_of size files = pos (size - space_start size) -ℤ pos (cost_of_files files)
+
+-- the protection of the directory that there is, or none
+abbrev pub protection_answer : Option (Directory File) → Result ℕ CallError
+protection_answer None = Err (Refused NoDirectory)
+protection_answer (Some d) = Ok d.protection
+
+-- neither the device nor memory is blamed
+abbrev pub IsPlainRefusal : CallError → Type 0
+IsPlainRefusal (Refused code) = Unit {0}
+IsPlainRefusal Device = ⊥
+IsPlainRefusal NoMemory = ⊥
+IsPlainRefusal Failed = Unit {0}
+
+-- These are the facts of the file.
+pub record IsShown (file : File) (facts : FileFacts) : Type 0 where
+  pub protection : facts.protection ≡ file.protection
+  pub mode : mode_number facts.mode ≡ file.mode
+  pub time : facts.moment.minute ≡ file.time
+  pub date : facts.moment.date ≡ file.date
+  pub words : facts.words ≡ length file.body
+  pub blocks : facts.blocks ≡ blocks_of (length file.body)
+
+-- What is answered for a file that there is, or for none.
+abbrev pub IsFileAnswer : Result FileFacts CallError → Option File → Type 0
+IsFileAnswer answer None = answer ≡ Err (Refused NotFound)
+IsFileAnswer answer (Some file) = (facts : FileFacts) × (answer ≡ Ok facts) × IsShown file facts
+
+-- The same for a name in a directory that there is, or in none.
+abbrev pub IsLookAnswer : FileName → Result FileFacts CallError → Option (Directory File) → Type 0
+IsLookAnswer name answer None = answer ≡ Err (Refused NoDirectory)
+IsLookAnswer name answer (Some d) = IsFileAnswer answer (get d.files name)
+
+-- The version of the entry with this name in a directory in core, and its facts.
+pub record IsNamedVersion (d : KnownDirectory) (name : FileName) (facts : FileFacts) : Type 0 where
+  pub place : ℕ
+  pub prime : ℕ
+  pub at : StandsAt name_cmp d.chain.entries name prime place
+  pub version : KnownVersion
+  pub version_at : slice_get d.versions place ≡ Some version
+  pub protection : facts.protection ≡ version.prime.protection
+  pub mode : facts.mode ≡ version.prime.mode
+  pub moment : facts.moment ≡ version.prime.moment
+  pub words : facts.words ≡ version.version.words
+  pub blocks : facts.blocks ≡ blocks_of version.version.words
+
+-- The line of a file in the list of its directory.
+abbrev pub line : FileName × File → Entry
+line e = record { name = e.0; protection = e.1.protection; date = e.1.date; blocks = blocks_of (length e.1.body) }
+
+-- The line of the entry with this name in a directory in core.
+abbrev pub IsLine : KnownDirectory → FileName → Entry → Type 0
+IsLine d name l = (facts : FileFacts) × IsNamedVersion d name facts × (l ≡ record { name = name; protection = facts.protection; date = facts.moment.date; blocks = facts.blocks })
+
+-- What a list is refused by.
+abbrev pub IsListRefusal : CallError → Type 0
+IsListRefusal (Refused code) = code ≡ NoDirectory
+IsListRefusal Device = ⊥
+IsListRefusal NoMemory = Unit {0}
+IsListRefusal Failed = Unit {0}

@@ -1,0 +1,33 @@
+-- What holds of a volume between two calls.
+use Rattle.std.specs.Prelude.{◌≡◌, ◌⊎◌, ℕ, Bool, false}
+use Rattle.blockdisk.specs.Disk.{Contents, DiskState, MayLeave}
+use Rattle.meaning.specs.Files.{File, Files}
+use Rattle.meaning.specs.Stands.{DiskMap, SettledStands, Stands}
+use Rattle.changeset.specs.Rest.{AtRest}
+use Rattle.volume.specs.Known.{Known, IsHeld, IsWholeMap}
+
+-- One map for all that a crash may leave, and the one in core.
+pub record IsAtRest (s : DiskState) (k : Known) : Type 0 where
+  pub map : DiskMap
+  pub rest : AtRest s (IsHeld s.size k map)
+
+-- What is in core is whole, and while the disk is honest and the volume hasn't failed it is the disk's.
+pub record IsSound (s : DiskState) (k : Known) (failed : Bool) : Type 0 where
+  pub whole : IsWholeMap s.size k
+  pub rest : s.honest → failed ≡ false → IsAtRest s k
+
+-- all that a crash may leave has a closed gate and stands for these files
+abbrev pub RestsAt : DiskState → Files File → Type 0
+RestsAt s files = AtRest s (λ c. SettledStands s.size c files)
+
+-- it stands for the one or for the other, whatever its gate
+abbrev pub StandsForEither : ℕ → Files File → Files File → Contents → Type 0
+StandsForEither size f g c = Stands size c f ⊎ Stands size c g
+
+-- it stands for whatever something stood for that a crash could leave at s
+abbrev pub StandsLikeBefore : DiskState → Contents → Type 0
+StandsLikeBefore s c = (d : Contents) × MayLeave s d × ((files : Files File) → Stands s.size d files → Stands s.size c files)
+
+-- it stands for whatever the contents at s stand for
+abbrev pub StandsLike : DiskState → Contents → Type 0
+StandsLike s c = (files : Files File) → Stands s.size s.contents files → Stands s.size c files

@@ -1,0 +1,68 @@
+ghost use Rattle.std.specs.Prelude.{◌≡◌, ℕ, ◌+◌, ◌<◌, ◌≤◌, ◌^◌, length, map};
+ghost use Rattle.std.specs.List.{AllByRecursion};
+ghost use Rattle.std.specs.Ordering.{nat_cmp};
+ghost use Rattle.blockdisk.specs.Disk.{Contents};
+ghost use Rattle.meaning.specs.Costs.{cost_of_blocks, cost_of_files};
+ghost use Rattle.meaning.specs.Faults.{InSpace, IsMasterEntryOf};
+ghost use Rattle.meaning.specs.Regions.{IsVolumeSize};
+ghost use Rattle.meaning.specs.Retrieval.{most_blocks};
+ghost use Rattle.meaning.specs.Stands.{DiskMap, files_of};
+ghost use Rattle.alloctab.specs.TableState.{used_in_space};
+ghost use Rattle.directory.specs.Chains.{IsChain, viewed};
+ghost use Rattle.volume.specs.Cores.{master_view, known_directory};
+ghost use Rattle.volume.specs.Known.{Known, IsKnownMap, IsHeld, IsWholeMap, IsWholeDirectory, cost_of_directory, cost_of_known};
+
+use crate::map::StoredDirectory;
+use alloctab::Table;
+use directory::{Chain, MasterEntry};
+use retrieval::Version;
+
+/// What a version costs, in blocks: its data blocks, a prime retrieval block, and an extension for each
+/// 126 blocks after the first 112.
+pub fn version_cost(version: &Version) -> u32
+    requires { length version.now.blocks ≤ most_blocks }
+    ensures { result ≡ cost_of_blocks (length version.now.blocks) }
+{
+    let blocks = version.blocks().len() as u32;
+    blocks + 1 + blocks.saturating_sub(112).div_ceil(126)
+}
+
+/// Books what a directory costs with all its files.
+fn book_directory(table: &mut Table, directory: &StoredDirectory)
+    requires volume { IsVolumeSize table.old.size }
+    requires whole { IsWholeDirectory table.old.size (known_directory directory.now) }
+    requires fits { table.old.booked + cost_of_directory (known_directory directory.now) < 2 ^ 64 }
+    ensures { table.new ≡ record table.old { booked = table.old.booked + cost_of_directory (known_directory directory.now) } }
+{
+    table.book(directory.chain.blocks().len() as u32);
+    let versions = directory.versions.as_slice();
+    for version in versions {
+        table.book(version_cost(&version.version));
+    }
+}
+
+/// Books what a map of a disk costs: the master directory, the directories and the versions. The table
+/// has nothing booked before.
+pub fn book_map(table: &mut Table, master: &Chain<MasterEntry>, directories: &[StoredDirectory])
+    requires volume { IsVolumeSize table.old.size }
+    requires unbooked { table.old.booked ≡ 0 }
+    requires inside { AllByRecursion (InSpace table.old.size) master.now.blocks }
+    requires aligned { length directories.now ≡ length master.now.entries }
+    requires each { AllByRecursion (IsWholeDirectory table.old.size) (map known_directory directories.now) }
+    ensures { table.new ≡ record table.old { booked = cost_of_known (viewed master_view master.now) (map known_directory directories.now) } }
+{
+    table.book(master.blocks().len() as u32);
+    for directory in directories {
+        book_directory(table, directory);
+    }
+}
+
+/// What is known of a map in core costs what the files of the map cost, and no more blocks of the free
+/// space are in use than are booked.
+pub fn known_maps_are_booked()
+    ensures cost { (size : ℕ) (known : Known) (m : DiskMap) → IsKnownMap known m
+        → IsChain nat_cmp (IsMasterEntryOf 1) known.master → length known.directories ≡ length known.master.entries → AllByRecursion (IsWholeDirectory size) known.directories
+        → cost_of_known known.master known.directories ≡ cost_of_files (files_of m) }
+    ensures used { (size : ℕ) (known : Known) (m : DiskMap) (contents : Contents) → IsHeld size known m contents → IsWholeMap size known
+        → used_in_space known.table ≤ known.table.booked }
+{}

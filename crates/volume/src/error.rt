@@ -1,0 +1,70 @@
+ghost use Rattle.std.specs.Prelude.{◌≡◌};
+
+use blockdisk::NoMemory;
+use meaning::ErrorCode;
+use thiserror::Error;
+
+/// Why a call of a volume failed.
+#[derive(Clone, Copy, Debug, PartialEq, Eq, Error)]
+pub enum VolumeError {
+    /// The disk has a number of blocks that no volume has, or neither home copy has the name.
+    #[error("not a volume")]
+    NotVolume,
+    /// A home copy has the name, and none is valid.
+    #[error("bad home blocks")]
+    BadHome,
+    /// The gate is open, and the log isn't good.
+    #[error("bad log")]
+    BadLog,
+    /// This block of a directory is damaged or not as it should be.
+    #[error("bad directory block {0}")]
+    BadDirectory(u32),
+    /// This prime block or extension is damaged or not as it should be.
+    #[error("bad retrieval block {0}")]
+    BadRetrieval(u32),
+    /// This block is reached twice.
+    #[error("block {0} reached twice")]
+    BlockTwice(u32),
+    /// This block of the allocation table is damaged, or has a bit that isn't as it should be.
+    #[error("wrong block {0} of the allocation table")]
+    TableWrong(u32),
+    /// The device failed.
+    #[error("device fault")]
+    Device,
+    /// A growth was refused.
+    #[error("out of memory")]
+    NoMemory,
+    /// An earlier call met a fault, and the volume is given up.
+    #[error("failed before")]
+    Failed,
+    /// This data block is damaged.
+    #[error("bad data block {0}")]
+    BadData(u32),
+}
+
+impl From<NoMemory> for VolumeError {
+    ghost use Rattle.volume.specs.declared.error.VolumeError.TheVariants.{NoMemory};
+
+    ghost from_gives = { λ refused error. error ≡ NoMemory };
+
+    fn from(_refused: NoMemory) -> VolumeError {
+        VolumeError::NoMemory
+    }
+}
+
+/// Why a call of an opened volume was refused.
+#[derive(Clone, Copy, Debug, PartialEq, Eq, Error)]
+pub enum CallError {
+    /// The call's own answer: nothing was changed.
+    #[error("refused")]
+    Refused(ErrorCode),
+    /// The device failed. The volume has failed then, and answers nothing more.
+    #[error("device fault")]
+    Device,
+    /// A growth was refused: nothing was changed.
+    #[error("out of memory")]
+    NoMemory,
+    /// The volume failed before, or an earlier promise of the disk doesn't hold.
+    #[error("failed before")]
+    Failed,
+}

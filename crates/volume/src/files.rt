@@ -1,0 +1,137 @@
+ghost use Rattle.std.specs.Prelude.{◌≡◌, ◌+◌, ◌*◌, ◌<◌, ◌≤◌, ◌⊎◌, ◌∷◌, ◌++◌, ℕ, None, IfOk, IfErr, OnOk, IsErrOf, length};
+ghost use Rattle.std.specs.List.{AllByRecursion};
+ghost use Rattle.blockdisk.specs.Disk.{Keeps, SameDisk, one_more};
+ghost use Rattle.meaning.specs.Maps.{times};
+ghost use Rattle.meaning.specs.Costs.{blocks_of};
+ghost use Rattle.meaning.specs.Regions.{IsVolumeSize};
+ghost use Rattle.meaning.specs.Retrieval.{most_blocks};
+ghost use Rattle.meaning.specs.Stands.{place_of};
+ghost use Rattle.meaning.specs.Faults.{InSpace, IsBadVersion};
+ghost use Rattle.alloctab.specs.Lists.{digit_at};
+ghost use Rattle.retrieval.specs.Reading.{IsVersionAt};
+ghost use Rattle.volume.specs.FileReading.{IsWholeBlock, IsFileFound, IsOtherPlace, IsReachedTwice, IsDamagedData, IsVersionRefusal, IsDataRefusal, IsFileRefusal};
+ghost use Rattle.volume.specs.declared.error.VolumeError.TheVariants.{BadRetrieval, BlockTwice, Device, NoMemory, BadData};
+
+use crate::VolumeError;
+use crate::marks::mark_version;
+use alloctab::Reached;
+use blockdisk::{Disk, Fault};
+use retrieval::{Prime, RetrievalError, Version, read_version};
+use std::alloc::Global;
+use words36::{FileName, Ppn};
+
+/// What is kept in core of a version of a file.
+#[derive(Drop)]
+pub struct StoredVersion {
+    /// What its prime block says of it, beside the length.
+    pub prime: Prime,
+    /// Its length, and where it lies.
+    pub version: Version,
+}
+
+/// Reads the version of a file, whose prime block has to name the file's place.
+fn read_named<D: Disk>(
+    alloc: Global,
+    disk: &mut D,
+    ppn: Ppn,
+    name: FileName,
+    prime: u32,
+) -> Result<StoredVersion, VolumeError>
+    requires volume { IsVolumeSize (D.state disk.old).size }
+    requires inside { prime < (D.state disk.old).size }
+    ensures ok { (D.state disk.old).honest → IfOk result (λ v. IsVersionAt (D.state disk.old).size (D.state disk.old).contents prime v.prime v.version) }
+    ensures name { IfOk result (λ v. v.prime.file ≡ name) }
+    ensures ppn { IfOk result (λ v. v.prime.ppn ≡ ppn) }
+    ensures blocks_inside { IfOk result (λ v. AllByRecursion (InSpace (D.state disk.old).size) v.version.blocks) }
+    ensures ribs_inside { IfOk result (λ v. AllByRecursion (InSpace (D.state disk.old).size) v.version.ribs) }
+    ensures counted { IfOk result (λ v. length v.version.blocks ≡ blocks_of v.version.words) }
+    ensures few { IfOk result (λ v. v.version.words ≤ most_blocks * 128) }
+    ensures bad_version { (D.state disk.old).honest → (k : ℕ) → IsErrOf result (BadRetrieval k) → IsBadVersion (D.state disk.old).size (D.state disk.old).contents 1 prime k ⊎ ((k ≡ prime) × IsOtherPlace (D.state disk.old).contents (place_of ppn name) prime) }
+    ensures only { IfErr result IsVersionRefusal }
+    ensures keeps { (D.state disk.old).honest → Keeps (D.state disk.old) (D.state disk.new) }
+    ensures same { SameDisk (D.state disk.old) (D.state disk.new) }
+    ensures failed { IsErrOf result Device → (D.state disk.new).failures ≡ one_more (D.state disk.old).failures }
+    ensures served { (IsErrOf result Device → ⊥) → (D.state disk.new).failures ≡ (D.state disk.old).failures }
+{
+    let (facts, version) = match read_version(alloc, disk, prime) {
+        Ok(read) => read,
+        Err(RetrievalError::BadRetrieval(n)) => return Err(VolumeError::BadRetrieval(n)),
+        Err(RetrievalError::Device) => return Err(VolumeError::Device),
+        Err(RetrievalError::NoMemory) => return Err(VolumeError::NoMemory),
+    };
+    if facts.ppn != ppn || facts.file != name {
+        return Err(VolumeError::BadRetrieval(prime));
+    }
+    Ok(StoredVersion {
+        prime: facts,
+        version,
+    })
+}
+
+/// Reads each of these data blocks once.
+fn read_data<D: Disk>(disk: &mut D, blocks: &[u32]) -> Result<(), VolumeError>
+    requires { AllByRecursion (InSpace (D.state disk.old).size) blocks.now }
+    ensures ok { (D.state disk.old).honest → OnOk result (AllByRecursion (IsWholeBlock (D.state disk.old).contents) blocks.now) }
+    ensures damaged { (D.state disk.old).honest → (k : ℕ) → IsErrOf result (BadData k) → (0 < times k blocks.now) × ((D.state disk.old).contents k ≡ None) }
+    ensures only { IfErr result IsDataRefusal }
+    ensures keeps { (D.state disk.old).honest → Keeps (D.state disk.old) (D.state disk.new) }
+    ensures same { SameDisk (D.state disk.old) (D.state disk.new) }
+    ensures failed { IsErrOf result Device → (D.state disk.new).failures ≡ one_more (D.state disk.old).failures }
+    ensures served { (IsErrOf result Device → ⊥) → (D.state disk.new).failures ≡ (D.state disk.old).failures }
+{
+    for &block in blocks {
+        match disk.read(block) {
+            Ok(_) => (),
+            Err(Fault::Damaged) => return Err(VolumeError::BadData(block)),
+            Err(Fault::Device) => return Err(VolumeError::Device),
+        }
+    }
+    Ok(())
+}
+
+/// Reads the file that a directory's entry names, when the volume is opened: its version, and each of its
+/// data blocks once. All its blocks are marked.
+///
+/// # Errors
+///
+/// `BadRetrieval` with a prime block or an extension that is damaged or not as it should be, and with the
+/// prime block where it names another place; `BlockTwice` with a block that was marked already; `BadData`
+/// with a data block that is damaged; `Device` where the device failed; `NoMemory` where the lists of
+/// blocks find no room: no block is marked then.
+pub fn read_file<D: Disk>(
+    alloc: Global,
+    disk: &mut D,
+    ppn: Ppn,
+    name: FileName,
+    prime: u32,
+    reached: &mut Reached,
+) -> Result<StoredVersion, VolumeError>
+    requires volume { IsVolumeSize (D.state disk.old).size }
+    requires inside { InSpace (D.state disk.old).size prime }
+    requires marks { length reached.old ≡ (D.state disk.old).size }
+    ensures ok { (D.state disk.old).honest → IfOk result (λ v. IsFileFound (D.state disk.old).contents (place_of ppn name) prime v.prime v.version) }
+    ensures name { IfOk result (λ v. v.prime.file ≡ name) }
+    ensures ppn { IfOk result (λ v. v.prime.ppn ≡ ppn) }
+    ensures marks { IfOk result (λ v. (n : ℕ) → digit_at reached.new n ≡ digit_at reached.old n + times n (prime ∷ (v.version.ribs ++ v.version.blocks))) }
+    ensures blocks_inside { IfOk result (λ v. AllByRecursion (InSpace (D.state disk.old).size) v.version.blocks) }
+    ensures ribs_inside { IfOk result (λ v. AllByRecursion (InSpace (D.state disk.old).size) v.version.ribs) }
+    ensures counted { IfOk result (λ v. length v.version.blocks ≡ blocks_of v.version.words) }
+    ensures few { IfOk result (λ v. v.version.words ≤ most_blocks * 128) }
+    ensures length { length reached.new ≡ length reached.old }
+    ensures memory { IsErrOf result NoMemory → reached.new ≡ reached.old }
+    ensures bad_version { (D.state disk.old).honest → (k : ℕ) → IsErrOf result (BadRetrieval k) → IsBadVersion (D.state disk.old).size (D.state disk.old).contents 1 prime k ⊎ ((k ≡ prime) × IsOtherPlace (D.state disk.old).contents (place_of ppn name) prime) }
+    ensures twice { (D.state disk.old).honest → (k : ℕ) → IsErrOf result (BlockTwice k) → IsReachedTwice (D.state disk.old).contents (place_of ppn name) prime reached.old k }
+    ensures bad_data { (D.state disk.old).honest → (k : ℕ) → IsErrOf result (BadData k) → IsDamagedData (D.state disk.old).contents (place_of ppn name) prime k }
+    ensures only { IfErr result IsFileRefusal }
+    ensures keeps { (D.state disk.old).honest → Keeps (D.state disk.old) (D.state disk.new) }
+    ensures same { SameDisk (D.state disk.old) (D.state disk.new) }
+    ensures failed { IsErrOf result Device → (D.state disk.new).failures ≡ one_more (D.state disk.old).failures }
+    ensures served { (IsErrOf result Device → ⊥) → (D.state disk.new).failures ≡ (D.state disk.old).failures }
+{
+    let stored = read_named(alloc, disk, ppn, name, prime)?;
+    if let Err(block) = mark_version(reached, prime, &stored.version) {
+        return Err(VolumeError::BlockTwice(block));
+    }
+    read_data(disk, stored.version.blocks())?;
+    Ok(stored)
+}

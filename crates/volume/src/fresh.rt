@@ -1,0 +1,134 @@
+ghost use Rattle.std.specs.Prelude.{◌≡◌, ◌⊎◌, ◌<◌, ◌≤◌, ◌+◌, ◌↔◌, ◌^◌, ℕ, Some, OnOk, IsErrOf};
+ghost use Rattle.blockdisk.specs.Disk.{SameDisk, Touches, NoneOpen, one_more};
+ghost use Rattle.blockdisk.specs.declared.fault.Fault.TheVariants.{Device as Failed, Damaged};
+ghost use Rattle.alloctab.specs.TableBlocks.{number_of, table_words};
+ghost use Rattle.changeset.specs.Rest.{AtRest};
+ghost use Rattle.meaning.specs.Maps.{empty};
+ghost use Rattle.meaning.specs.Regions.{IsVolumeSize};
+ghost use Rattle.meaning.specs.Log.{IsGateOpen};
+ghost use Rattle.meaning.specs.Stands.{HasMap, Stands};
+ghost use Rattle.volume.specs.Homes.{IsInitBlock, IsBare, bare_map, bit_below, fresh_words};
+ghost use Rattle.volume.specs.declared.error.VolumeError.{VolumeError};
+ghost use Rattle.volume.specs.declared.error.VolumeError.TheVariants.{NotVolume, Device};
+
+use crate::VolumeError;
+use crate::home::{HOME_COPIES, home_block};
+use crate::regions::{BLOCKS_IN_TABLE, FIRST_BLOCKS, is_volume_size, space_start, table_start};
+use blockdisk::{Disk, Fault};
+use words36::{BLOCK_WORDS, Block, Word};
+
+/// How many bits a word of the allocation table has.
+const WORD_BITS: u32 = 36;
+
+/// Makes a volume with no directory of a disk of 64 to 131072 blocks. The blocks behind the master
+/// directory's first, and the log's images, stay as they are. A disk whose making was stopped by a crash
+/// may be anything.
+///
+/// # Errors
+///
+/// `NotVolume` where the disk has another number of blocks, with nothing written; `Device` where the
+/// device failed.
+pub fn init<D: Disk>(disk: &mut D) -> Result<(), VolumeError>
+    // The disk is a volume then, and stands for no files: whatever a crash leaves.
+    ensures stands { (D.state disk.old).honest → OnOk result (AtRest (D.state disk.new) (λ c. Stands (D.state disk.old).size c empty)) }
+    ensures map { (D.state disk.old).honest → OnOk result (HasMap (D.state disk.old).size (D.state disk.new).contents (bare_map (D.state disk.old).size)) }
+    ensures settled { (D.state disk.old).honest → OnOk result (NoneOpen (D.state disk.new)) }
+    ensures shut { (D.state disk.old).honest → OnOk result (IsGateOpen (D.state disk.old).size (D.state disk.new).contents → ⊥) }
+
+    // What is written, and where.
+    ensures bare { (D.state disk.old).honest → OnOk result (IsBare (D.state disk.old).size (D.state disk.new).contents) }
+    ensures touched { (D.state disk.old).honest → Touches (IsInitBlock (D.state disk.old).size) (D.state disk.old) (D.state disk.new) }
+
+    // On every disk.
+    ensures range { IsErrOf result NotVolume ↔ (IsVolumeSize (D.state disk.old).size → ⊥) }
+    ensures untouched { IsErrOf result NotVolume → disk.new ≡ disk.old }
+    ensures only { (e : VolumeError) → IsErrOf result e → (e ≡ NotVolume) ⊎ (e ≡ Device) }
+    ensures same { SameDisk (D.state disk.old) (D.state disk.new) }
+    ensures failed { IsErrOf result Device → (D.state disk.new).failures ≡ one_more (D.state disk.old).failures }
+    ensures served { (IsErrOf result Device → ⊥) → (D.state disk.new).failures ≡ (D.state disk.old).failures }
+{
+    if !is_volume_size(disk.blocks()) {
+        return Err(VolumeError::NotVolume);
+    }
+    match write_volume(disk) {
+        Ok(()) => Ok(()),
+        Err(_) => Err(VolumeError::Device),
+    }
+}
+
+/// Writes the blocks of a volume with no directory, and waits until they are on the disk.
+fn write_volume<D: Disk>(disk: &mut D) -> Result<(), Fault>
+    requires { IsVolumeSize (D.state disk.old).size }
+    ensures bare { (D.state disk.old).honest → OnOk result (IsBare (D.state disk.old).size (D.state disk.new).contents) }
+    ensures settled { (D.state disk.old).honest → OnOk result (NoneOpen (D.state disk.new)) }
+    ensures touched { (D.state disk.old).honest → Touches (IsInitBlock (D.state disk.old).size) (D.state disk.old) (D.state disk.new) }
+    ensures same { SameDisk (D.state disk.old) (D.state disk.new) }
+    ensures device { IsErrOf result Damaged → ⊥ }
+    ensures failed { IsErrOf result Failed → (D.state disk.new).failures ≡ one_more (D.state disk.old).failures }
+    ensures served { OnOk result ((D.state disk.new).failures ≡ (D.state disk.old).failures) }
+{
+    let size = disk.blocks();
+    write_fresh(disk, 0, FIRST_BLOCKS)?;
+    write_fresh(disk, table_start(size), space_start(size) + 1)?;
+    disk.sync()
+}
+
+/// Writes the blocks from `from` to before `end` as a volume with no directory has them.
+fn write_fresh<D: Disk>(disk: &mut D, from: u32, end: u32) -> Result<(), Fault>
+    requires volume { IsVolumeSize (D.state disk.old).size }
+    requires inside { end ≤ (D.state disk.old).size }
+    ensures written { (D.state disk.old).honest → OnOk result ((n : ℕ) → from ≤ n → n < end
+        → (D.state disk.new).contents n ≡ Some (fresh_words (D.state disk.old).size n)) }
+    ensures touched { (D.state disk.old).honest → Touches (λ n. (from ≤ n) × (n < end)) (D.state disk.old) (D.state disk.new) }
+    ensures same { SameDisk (D.state disk.old) (D.state disk.new) }
+    ensures device { IsErrOf result Damaged → ⊥ }
+    ensures failed { IsErrOf result Failed → (D.state disk.new).failures ≡ one_more (D.state disk.old).failures }
+    ensures served { OnOk result ((D.state disk.new).failures ≡ (D.state disk.old).failures) }
+{
+    let size = disk.blocks();
+    for n in from..end {
+        disk.write(n, &fresh_block(size, n))?;
+    }
+    Ok(())
+}
+
+/// The words that a block gets when a volume is made.
+fn fresh_block(size: u32, n: u32) -> Block
+    requires volume { IsVolumeSize size }
+    requires inside { n < size }
+    ensures { result ≡ fresh_words size n }
+{
+    let space = space_start(size);
+    if HOME_COPIES.contains(&n) {
+        home_block(size, space)
+    } else if (table_start(size)..space).contains(&n) {
+        table_block(n - table_start(size), space + 1)
+    } else {
+        [Word::ZERO; BLOCK_WORDS]
+    }
+}
+
+/// The words of table block `i`, counted from 0, where the bits of the blocks below `limit` are set.
+fn table_block(i: u32, limit: u32) -> Block
+    requires { i < 32 }
+    ensures { result ≡ table_words (bit_below limit) i }
+{
+    let mut words = [Word::ZERO; BLOCK_WORDS];
+    for place in 0..BLOCK_WORDS {
+        words[place] = table_word(i * BLOCKS_IN_TABLE + place as u32 * WORD_BITS, limit);
+    }
+    words
+}
+
+/// The word of the table whose first bit is that of block `from`, where the bits of the blocks below
+/// `limit` are set.
+fn table_word(from: u32, limit: u32) -> Word
+    requires { from + 36 < 2 ^ 32 }
+    ensures { result ≡ number_of (bit_below limit) from 36 }
+{
+    let mut number = 0;
+    for place in 0..WORD_BITS {
+        number = number * 2 + u64::from(from + place < limit);
+    }
+    Word::from_bits(number)
+}

@@ -1,0 +1,59 @@
+//! A volume: directories and files on a disk of blocks. What the layer keeps:
+//!
+//! 1. `Volume::init` makes a volume with no directory on every disk of 64 to 131072 blocks: at Ok no block
+//!    is open, and whatever a crash leaves from then on stands for no files. It writes the fixed regions but
+//!    for the log's images, and the first block of the master directory. (`stands`, `settled`, `bare`,
+//!    `touched`)
+//! 2. `Volume::open` recovers the disk first and then reads every block that it reaches, each once. Where it
+//!    answers Ok on an honest disk, the contents have the map that is kept in core, the files are those
+//!    that the disk stood for before, the gate is closed and no block is open. (`sound`, `files`,
+//!    `settled`)
+//! 3. Each refusal of `open` names a fault that stands in the disk as it is handed back; but for a fault of
+//!    the device that disk was recovered, or nothing was written. (`refused`, `kept`)
+//! 4. A crash at any moment of `open` leaves what stands for whatever something stood for that a crash could
+//!    leave before it, and from the end of its first sync on for what the contents stood for. (`crash`,
+//!    `synced`)
+//! 5. `blocks`, `room`, `directory`, `look` and `list` answer from core, exactly as the files have it, and
+//!    touch no disk. (`value`, `listed`, `refused`)
+//! 6. A crash at any moment of `make_dir` leaves what stands for the files before it or for those with the
+//!    new directory, and where it answers Ok for the latter alone; each other answer but `Device` leaves disk
+//!    and volume as they were. (`crash`, `done`, `refused`)
+//! 7. `Device` comes exactly with one more failure of the disk, on every disk. (`failed`, `served`)
+//!
+//! Between two calls the volume knows the map of its disk: the chains of its directories with their entries
+//! in the order of the disk, for each entry where its version lies, and the allocation table with what is
+//! booked. `specs/Known.antt` says how that and the contents meet, `specs/Rest.antt` what holds between two
+//! calls.
+#![tactic(auto)]
+
+#[cfg(test)]
+mod call_tests;
+mod cost;
+mod error;
+mod event;
+mod file_facts;
+#[cfg(test)]
+mod file_tests;
+mod files;
+mod fresh;
+mod home;
+#[cfg(test)]
+mod init_tests;
+mod list;
+mod make;
+mod map;
+mod marks;
+mod open;
+#[cfg(test)]
+mod open_tests;
+mod query;
+mod read;
+mod regions;
+mod start;
+
+pub use error::{CallError, VolumeError};
+pub use file_facts::FileFacts;
+pub use files::StoredVersion;
+pub use map::{DiskMap, StoredDirectory, Volume};
+pub use regions::{LARGEST_VOLUME, SMALLEST_VOLUME};
+pub use start::read_volume;

@@ -1,0 +1,97 @@
+ghost use Rattle.std.specs.Prelude.{◌≡◌, ◌↔◌, true, false, length, map, None, Some, IfOk, OnOk, IfErr, IsErrOf, IsTrue};
+ghost use Rattle.std.specs.FinMap.Entries.{find};
+ghost use Rattle.std.specs.List.{AllByRecursion, AllZip};
+ghost use Rattle.meaning.specs.declared.code.ErrorCode.TheVariants.{NoDirectory};
+ghost use Rattle.meaning.specs.Files.{File, Files, Directory, name_cmp};
+ghost use Rattle.meaning.specs.Maps.{entries, from_entries, get};
+ghost use Rattle.volume.specs.Cores.{file_view, known_directory, known_of, known_version};
+ghost use Rattle.volume.specs.Found.{IsAdded};
+ghost use Rattle.volume.specs.Known.{IsWholeVersion};
+ghost use Rattle.volume.specs.Queries.{line, IsLine, IsListRefusal};
+ghost use Rattle.volume.specs.Rest.{IsSound, RestsAt};
+ghost use Rattle.volume.specs.declared.error.CallError.TheVariants.{Refused, NoMemory, Failed};
+
+use crate::CallError;
+use crate::map::{StoredDirectory, Volume};
+use crate::query::{directory_place, named_facts};
+use blockdisk::Disk;
+use directory::FileEntry;
+use meaning::Entry;
+use std::alloc::Global;
+use words36::Ppn;
+
+/// Puts the line of an entry of this directory behind the others.
+///
+/// # Errors
+///
+/// `NoMemory` where it finds no room.
+fn push_line(
+    directory: &StoredDirectory,
+    entry: &FileEntry,
+    lines: &mut Vec<Entry>,
+) -> Result<(), CallError>
+    requires aligned { length directory.now.versions.items ≡ length directory.now.chain.entries }
+    requires whole { AllByRecursion IsWholeVersion (map known_version directory.now.versions.items) }
+    requires there { find name_cmp entry.now.name (map file_view directory.now.chain.entries) ≡ Some entry.now.prime }
+    ensures ok { OnOk result (IsAdded (λ l. l) lines.old.items lines.new.items (IsLine (known_directory directory.now) entry.now.name)) }
+    ensures only { IfErr result (λ e. e ≡ NoMemory) }
+{
+    let facts = named_facts(directory, &entry.name)?;
+    let line = Entry {
+        name: entry.name,
+        protection: u32::from(facts.protection),
+        date: facts.moment.date,
+        blocks: facts.blocks,
+    };
+    if lines.push(line).is_err() {
+        return Err(CallError::NoMemory);
+    }
+    Ok(())
+}
+
+/// The lines of the files of a directory, by name and then by extension, as numbers.
+///
+/// # Errors
+///
+/// `NoMemory` where they find no room.
+fn directory_lines(alloc: Global, directory: &StoredDirectory) -> Result<Vec<Entry>, CallError>
+    requires aligned { length directory.now.versions.items ≡ length directory.now.chain.entries }
+    requires whole { AllByRecursion IsWholeVersion (map known_version directory.now.versions.items) }
+    ensures listed { IfOk result (λ lines. AllZip (λ e l. IsLine (known_directory directory.now) e.0 l) (entries (from_entries {R = name_cmp} (map file_view directory.now.chain.entries))) lines.items) }
+    ensures only { IfErr result (λ e. e ≡ NoMemory) }
+{
+    let Ok(sorted) = directory.chain.list_sorted(alloc) else {
+        return Err(CallError::NoMemory);
+    };
+    let names = sorted.as_slice();
+    let mut lines = Vec::new(alloc);
+    for entry in names {
+        push_line(directory, entry, &mut lines)?;
+    }
+    Ok(lines)
+}
+
+impl<D: Disk> Volume<D> {
+    /// The files of a directory, by name and then by extension, as numbers.
+    ///
+    /// # Errors
+    ///
+    /// `Refused(NoDirectory)` where there is no such directory, `NoMemory` where the list finds no room,
+    /// `Failed` where the volume failed before.
+    pub fn list(&self, alloc: Global, ppn: Ppn) -> Result<Vec<Entry>, CallError>
+        requires sound { IsSound (D.state self.now.disk) (known_of self.now.map) self.now.failed }
+        ensures listed { (D.state self.now.disk).honest → self.now.failed ≡ false → (files : Files File) → RestsAt (D.state self.now.disk) files
+            → IfOk result (λ lines. (d : Directory File) × (get files ppn ≡ Some d) × (lines.items ≡ map line (entries d.files))) }
+        ensures refused { (D.state self.now.disk).honest → self.now.failed ≡ false → (files : Files File) → RestsAt (D.state self.now.disk) files
+            → (IsErrOf result (Refused NoDirectory) ↔ (get files ppn ≡ None)) }
+        ensures failed { IsErrOf result Failed ↔ IsTrue self.now.failed }
+        ensures only { IfErr result IsListRefusal }
+    {
+        if self.failed {
+            return Err(CallError::Failed);
+        }
+        let i = directory_place(&self.map.master, ppn)?;
+        let directory = &self.map.directories[i];
+        directory_lines(alloc, directory)
+    }
+}

@@ -1,0 +1,145 @@
+ghost use Rattle.std.specs.Prelude.{◌≡◌, ◌+◌, ◌<◌, ℕ, false, map, length, replicate, IfOk, IfErr, IsErrOf};
+ghost use Rattle.std.specs.List.{AllByRecursion};
+ghost use Rattle.std.specs.Ordering.{nat_cmp};
+ghost use Rattle.blockdisk.specs.Disk.{SameDisk, one_more};
+ghost use Rattle.changeset.specs.Reads.{OnlyReads};
+ghost use Rattle.meaning.specs.Blocks.{head_or_zero};
+ghost use Rattle.meaning.specs.Directories.{master_words};
+ghost use Rattle.meaning.specs.Home.{IsHome};
+ghost use Rattle.meaning.specs.Maps.{times};
+ghost use Rattle.meaning.specs.Regions.{IsVolumeSize, table_blocks};
+ghost use Rattle.meaning.specs.Stands.{DiskMap as MapValue};
+ghost use Rattle.meaning.specs.Walks.{Leads};
+ghost use Rattle.meaning.specs.Faults.{InSpace, IsMasterEntryOf};
+ghost use Rattle.alloctab.specs.Lists.{digit_at};
+ghost use Rattle.directory.specs.Chains.{nodes_of, IsChain, IsOn, viewed};
+ghost use Rattle.volume.specs.Cores.{master_view, known_directory, known_of};
+ghost use Rattle.volume.specs.Homes.{home_of_master};
+ghost use Rattle.volume.specs.Known.{IsWholeDirectory, IsWholeMap, IsHeld};
+ghost use Rattle.volume.specs.Found.{IsOnlySpace, IsMapRead, IsRightFor, IsWrongFor};
+ghost use Rattle.volume.specs.Meets.{SettledRefuses, IsTableRefusal};
+ghost use Rattle.volume.specs.declared.error.VolumeError.TheVariants.{Device, TableWrong};
+
+use crate::VolumeError;
+use crate::cost::book_map;
+use crate::home::read_home;
+use crate::map::{DiskMap, StoredDirectory};
+use crate::read::read_directories;
+use alloctab::{Reached, Table, TableError};
+use blockdisk::Disk;
+use directory::{Chain, DirectoryError, MasterEntry};
+use std::alloc::Global;
+
+/// Reads the chain of the master directory that begins in block `first`.
+fn load_master<D: Disk>(
+    alloc: Global,
+    disk: &mut D,
+    first: u32,
+    reached: &mut Reached,
+) -> Result<Chain<MasterEntry>, VolumeError>
+    requires volume { IsVolumeSize (D.state disk.old).size }
+    requires inside { InSpace (D.state disk.old).size first }
+    requires marks { length reached.old ≡ (D.state disk.old).size }
+    requires fresh { (n : ℕ) → digit_at reached.old n ≡ 0 }
+    ensures on { (D.state disk.old).honest → IfOk result (λ chain. IsOn master_words (D.state disk.old).contents (viewed master_view chain)) }
+    ensures walk { (D.state disk.old).honest → IfOk result (λ chain. Leads master_words (D.state disk.old).contents first (nodes_of chain.blocks (map master_view chain.entries)) 0) }
+    ensures begins { IfOk result (λ chain. head_or_zero chain.blocks ≡ first) }
+    ensures chain { IfOk result (λ chain. IsChain nat_cmp (IsMasterEntryOf 1) (viewed master_view chain)) }
+    ensures inside { IfOk result (λ chain. AllByRecursion (InSpace (D.state disk.old).size) chain.blocks) }
+    ensures targets { IfOk result (λ chain. AllByRecursion (λ e. InSpace (D.state disk.old).size e.1.1) (map master_view chain.entries)) }
+    ensures marked { IfOk result (λ chain. (n : ℕ) → digit_at reached.new n ≡ times n chain.blocks) }
+    ensures met { (D.state disk.old).honest → IsHome (D.state disk.old).size (D.state disk.old).contents (home_of_master first) → IfErr result (SettledRefuses (D.state disk.old).size (D.state disk.old).contents) }
+    ensures length { length reached.new ≡ length reached.old }
+    ensures reads { (D.state disk.old).honest → OnlyReads (D.state disk.old) (D.state disk.new) }
+    ensures same { SameDisk (D.state disk.old) (D.state disk.new) }
+    ensures failed { IsErrOf result Device → (D.state disk.new).failures ≡ one_more (D.state disk.old).failures }
+    ensures served { (IsErrOf result Device → ⊥) → (D.state disk.new).failures ≡ (D.state disk.old).failures }
+{
+    match Chain::load(alloc, disk, first, reached) {
+        Ok(chain) => Ok(chain),
+        Err(DirectoryError::BadDirectory(n)) => Err(VolumeError::BadDirectory(n)),
+        Err(DirectoryError::BlockTwice(n)) => Err(VolumeError::BlockTwice(n)),
+        Err(DirectoryError::Device) => Err(VolumeError::Device),
+        Err(DirectoryError::NoMemory) => Err(VolumeError::NoMemory),
+    }
+}
+
+/// Reads the master directory, that begins in block `first`, and all that it names.
+fn read_tree<D: Disk>(
+    alloc: Global,
+    disk: &mut D,
+    first: u32,
+    reached: &mut Reached,
+) -> Result<(Chain<MasterEntry>, Vec<StoredDirectory>), VolumeError>
+    requires volume { IsVolumeSize (D.state disk.old).size }
+    requires inside { InSpace (D.state disk.old).size first }
+    requires marks { length reached.old ≡ (D.state disk.old).size }
+    requires fresh { (n : ℕ) → digit_at reached.old n ≡ 0 }
+    ensures read { (D.state disk.old).honest → IsHome (D.state disk.old).size (D.state disk.old).contents (home_of_master first)
+        → IfOk result (λ tree. IsMapRead (D.state disk.old).size (D.state disk.old).contents first (viewed master_view tree.0) (map known_directory tree.1.items) (digit_at reached.new)) }
+    ensures met { (D.state disk.old).honest → IsHome (D.state disk.old).size (D.state disk.old).contents (home_of_master first) → IfErr result (SettledRefuses (D.state disk.old).size (D.state disk.old).contents) }
+    ensures space { IfOk result (λ tree. IsOnlySpace (D.state disk.old).size reached.new) }
+    ensures chain { IfOk result (λ tree. IsChain nat_cmp (IsMasterEntryOf 1) (viewed master_view tree.0)) }
+    ensures inside { IfOk result (λ tree. AllByRecursion (InSpace (D.state disk.old).size) tree.0.blocks) }
+    ensures whole { IfOk result (λ tree. AllByRecursion (IsWholeDirectory (D.state disk.old).size) (map known_directory tree.1.items)) }
+    ensures aligned { IfOk result (λ tree. length tree.1.items ≡ length tree.0.entries) }
+    ensures length { length reached.new ≡ length reached.old }
+    ensures reads { (D.state disk.old).honest → OnlyReads (D.state disk.old) (D.state disk.new) }
+    ensures same { SameDisk (D.state disk.old) (D.state disk.new) }
+    ensures failed { IsErrOf result Device → (D.state disk.new).failures ≡ one_more (D.state disk.old).failures }
+    ensures served { (IsErrOf result Device → ⊥) → (D.state disk.new).failures ≡ (D.state disk.old).failures }
+{
+    let master = load_master(alloc, disk, first, reached)?;
+    let directories = read_directories(alloc, disk, master.entries(), reached)?;
+    Ok((master, directories))
+}
+
+/// Reads the allocation table of a disk of which these blocks are reached.
+fn load_table<D: Disk>(alloc: Global, disk: &mut D, reached: &Reached) -> Result<Table, VolumeError>
+    requires volume { IsVolumeSize (D.state disk.old).size }
+    requires marks { length reached.now ≡ (D.state disk.old).size }
+    ensures right { (D.state disk.old).honest → IfOk result (IsRightFor (D.state disk.old).size (D.state disk.old).contents reached.now) }
+    ensures wrong { (D.state disk.old).honest → (n : ℕ) → IsErrOf result (TableWrong n) → IsWrongFor (D.state disk.old).size (D.state disk.old).contents reached.now n }
+    ensures only { IfErr result IsTableRefusal }
+    ensures size { IfOk result (λ table. table.size ≡ (D.state disk.old).size) }
+    ensures unheld { IfOk result (λ table. table.held ≡ replicate (D.state disk.old).size 0) }
+    ensures unbooked { IfOk result (λ table. table.booked ≡ 0) }
+    ensures unchanged { IfOk result (λ table. table.changed ≡ replicate (table_blocks (D.state disk.old).size) false) }
+    ensures reads { (D.state disk.old).honest → OnlyReads (D.state disk.old) (D.state disk.new) }
+    ensures same { SameDisk (D.state disk.old) (D.state disk.new) }
+    ensures failed { IsErrOf result Device → (D.state disk.new).failures ≡ one_more (D.state disk.old).failures }
+    ensures served { (IsErrOf result Device → ⊥) → (D.state disk.new).failures ≡ (D.state disk.old).failures }
+{
+    let table = match Table::load(alloc, disk) {
+        Ok(table) => table,
+        Err(TableError::TableWrong(n)) => return Err(VolumeError::TableWrong(n)),
+        Err(TableError::Device) => return Err(VolumeError::Device),
+        Err(TableError::NoMemory) => return Err(VolumeError::NoMemory),
+    };
+    if let Some(n) = table.wrong_block(reached) {
+        return Err(VolumeError::TableWrong(n));
+    }
+    Ok(table)
+}
+
+/// Reads all that a disk reaches from its home blocks, each block once, and its allocation table.
+pub fn read_map<D: Disk>(alloc: Global, disk: &mut D) -> Result<DiskMap, VolumeError>
+    ensures held { (D.state disk.old).honest → IfOk result (λ read. (m : MapValue) × IsHeld (D.state disk.old).size (known_of read) m (D.state disk.old).contents) }
+    ensures met { (D.state disk.old).honest → IfErr result (SettledRefuses (D.state disk.old).size (D.state disk.old).contents) }
+    ensures whole { IfOk result (λ read. IsWholeMap (D.state disk.old).size (known_of read)) }
+    ensures reads { (D.state disk.old).honest → OnlyReads (D.state disk.old) (D.state disk.new) }
+    ensures same { SameDisk (D.state disk.old) (D.state disk.new) }
+    ensures failed { IsErrOf result Device → (D.state disk.new).failures ≡ one_more (D.state disk.old).failures }
+    ensures served { (IsErrOf result Device → ⊥) → (D.state disk.new).failures ≡ (D.state disk.old).failures }
+{
+    let first = read_home(disk)?;
+    let mut reached = Reached::new(alloc, disk.blocks())?;
+    let (master, directories) = read_tree(alloc, disk, first, &mut reached)?;
+    let mut table = load_table(alloc, disk, &reached)?;
+    book_map(&mut table, &master, &directories);
+    Ok(DiskMap {
+        master,
+        directories,
+        table,
+    })
+}

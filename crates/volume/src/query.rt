@@ -1,0 +1,133 @@
+ghost use Rattle.std.specs.Prelude.{◌≡◌, ◌↔◌, ◌<◌, ◌^◌, ◌-ℤ◌, pos, ℕ, true, false, length, map, None, IfOk, IfErr, IsErr, IsErrOf, IsTrue};
+ghost use Rattle.std.specs.List.{AllByRecursion};
+ghost use Rattle.std.specs.Ordering.{nat_cmp};
+ghost use Rattle.std.specs.FinMap.Entries.{find};
+ghost use Rattle.meaning.specs.declared.code.ErrorCode.TheVariants.{NoDirectory, NotFound};
+ghost use Rattle.meaning.specs.Files.{File, Files, name_cmp};
+ghost use Rattle.meaning.specs.Maps.{get};
+ghost use Rattle.directory.specs.Edits.{StandsAt};
+ghost use Rattle.volume.specs.Cores.{file_view, master_view, known_of, known_directory, known_version};
+ghost use Rattle.volume.specs.Known.{IsWholeVersion};
+ghost use Rattle.volume.specs.Queries.{room_of, protection_answer, IsPlainRefusal, IsNamedVersion, IsLookAnswer};
+ghost use Rattle.volume.specs.Rest.{IsSound, RestsAt};
+ghost use Rattle.volume.specs.declared.error.CallError.TheVariants.{Refused, Failed};
+
+use crate::CallError;
+use crate::file_facts::FileFacts;
+use crate::map::{StoredDirectory, Volume};
+use crate::regions::space_start;
+use blockdisk::Disk;
+use directory::{Chain, MasterEntry};
+use meaning::ErrorCode;
+use words36::{FileName, Ppn};
+
+/// The place of a directory's entry in the master directory, counted from 0.
+///
+/// # Errors
+///
+/// `Refused(NoDirectory)` where there is none.
+pub fn directory_place(master: &Chain<MasterEntry>, ppn: Ppn) -> Result<usize, CallError>
+    ensures found { IfOk result (λ i. (v : ℕ × ℕ) × StandsAt nat_cmp (map master_view master.now.entries) ppn v i) }
+    ensures none { IsErr result → find nat_cmp ppn (map master_view master.now.entries) ≡ None }
+    ensures only { IfErr result (λ e. e ≡ Refused NoDirectory) }
+{
+    match master.find(&ppn) {
+        Some(i) => Ok(i),
+        None => Err(CallError::Refused(ErrorCode::NoDirectory)),
+    }
+}
+
+/// The facts of the file with this name in a directory.
+///
+/// # Errors
+///
+/// `Refused(NotFound)` where there is none.
+pub fn named_facts(directory: &StoredDirectory, name: &FileName) -> Result<FileFacts, CallError>
+    requires aligned { length directory.now.versions.items ≡ length directory.now.chain.entries }
+    requires whole { AllByRecursion IsWholeVersion (map known_version directory.now.versions.items) }
+    ensures found { IfOk result (IsNamedVersion (known_directory directory.now) name.now) }
+    ensures none { IsErr result → find name_cmp name.now (map file_view directory.now.chain.entries) ≡ None }
+    ensures only { IfErr result (λ e. e ≡ Refused NotFound) }
+{
+    let Some(i) = directory.chain.find(name) else {
+        return Err(CallError::Refused(ErrorCode::NotFound));
+    };
+    let stored = &directory.versions[i];
+    Ok(FileFacts {
+        protection: stored.prime.protection,
+        mode: stored.prime.mode,
+        moment: stored.prime.moment,
+        words: stored.version.length(),
+        blocks: stored.version.blocks().len() as u32,
+    })
+}
+
+/// So many blocks less so many: a number that may be negative.
+fn difference(blocks: u32, less: u64) -> i64
+    requires { less < 2 ^ 63 }
+    ensures { result ≡ pos blocks -ℤ pos less }
+{
+    i64::from(blocks) - less as i64
+}
+
+impl<D: Disk> Volume<D> {
+    /// How many blocks the disk has.
+    pub fn blocks(&self) -> u32
+        ensures { result ≡ (D.state self.now.disk).size }
+    {
+        self.disk.blocks()
+    }
+
+    /// How many blocks are left when all files are booked: the blocks of the free space less what the master
+    /// directory, the directories and the files cost. It may be negative, as on an image that another
+    /// program made with long runs, which cost less there than they are counted here.
+    pub fn room(&self) -> i64
+        requires sound { IsSound (D.state self.now.disk) (known_of self.now.map) self.now.failed }
+        ensures { (D.state self.now.disk).honest → self.now.failed ≡ false → (files : Files File) → RestsAt (D.state self.now.disk) files
+            → result ≡ room_of (D.state self.now.disk).size files }
+    {
+        let size = self.disk.blocks();
+        difference(size - space_start(size), self.map.table.booked())
+    }
+
+    /// The protection of a directory: three octal digits, each a sum of 4 to look names up and 2 to make new
+    /// ones.
+    ///
+    /// # Errors
+    ///
+    /// `Refused(NoDirectory)` where there is none, `Failed` where the volume failed before.
+    pub fn directory(&self, ppn: Ppn) -> Result<u16, CallError>
+        requires sound { IsSound (D.state self.now.disk) (known_of self.now.map) self.now.failed }
+        ensures value { (D.state self.now.disk).honest → self.now.failed ≡ false → (files : Files File) → RestsAt (D.state self.now.disk) files
+            → result ≡ protection_answer (get files ppn) }
+        ensures failed { IsErrOf result Failed ↔ IsTrue self.now.failed }
+        ensures only { IfErr result IsPlainRefusal }
+    {
+        if self.failed {
+            return Err(CallError::Failed);
+        }
+        let i = directory_place(&self.map.master, ppn)?;
+        Ok(self.map.master.entries()[i].protection)
+    }
+
+    /// The facts of a file.
+    ///
+    /// # Errors
+    ///
+    /// `Refused(NoDirectory)` where there is no such directory, `Refused(NotFound)` where it has no such file,
+    /// `Failed` where the volume failed before.
+    pub fn look(&self, ppn: Ppn, name: &FileName) -> Result<FileFacts, CallError>
+        requires sound { IsSound (D.state self.now.disk) (known_of self.now.map) self.now.failed }
+        ensures value { (D.state self.now.disk).honest → self.now.failed ≡ false → (files : Files File) → RestsAt (D.state self.now.disk) files
+            → IsLookAnswer name.now result (get files ppn) }
+        ensures failed { IsErrOf result Failed ↔ IsTrue self.now.failed }
+        ensures only { IfErr result IsPlainRefusal }
+    {
+        if self.failed {
+            return Err(CallError::Failed);
+        }
+        let i = directory_place(&self.map.master, ppn)?;
+        let directory = &self.map.directories[i];
+        named_facts(directory, name)
+    }
+}

@@ -1,0 +1,204 @@
+ghost use Rattle.std.specs.Prelude.{◌≡◌, ◌+◌, ℕ, map, length, IfOk, OnOk, IfErr, IsErrOf};
+ghost use Rattle.std.specs.List.{AllByRecursion};
+ghost use Rattle.blockdisk.specs.Disk.{Keeps, SameDisk, one_more};
+ghost use Rattle.meaning.specs.Blocks.{head_or_zero};
+ghost use Rattle.meaning.specs.Directories.{file_words, IsFileEntry};
+ghost use Rattle.meaning.specs.Files.{name_cmp};
+ghost use Rattle.meaning.specs.Maps.{EachOnce, times};
+ghost use Rattle.meaning.specs.Regions.{IsVolumeSize};
+ghost use Rattle.meaning.specs.Stands.{place_of};
+ghost use Rattle.meaning.specs.Walks.{Leads};
+ghost use Rattle.meaning.specs.Faults.{InSpace};
+ghost use Rattle.std.specs.Ordering.{nat_cmp};
+ghost use Rattle.alloctab.specs.Lists.{digit_at};
+ghost use Rattle.directory.specs.Chains.{nodes_of, IsChain, IsOn, viewed};
+ghost use Rattle.volume.specs.Cores.{file_view, master_view, known_version, known_directory};
+ghost use Rattle.volume.specs.Known.{IsWholeVersion, IsWholeDirectory};
+ghost use Rattle.volume.specs.Found.{IsOnlySpace, IsAdded, IsMarkedFile, AreFilesRead, IsDirectoryFound, AreDirectoriesRead};
+ghost use Rattle.volume.specs.Meets.{FileMeets, FilesMeet, DirectoryMeets, DirectoriesMeet};
+ghost use Rattle.volume.specs.declared.error.VolumeError.TheVariants.{Device};
+
+use crate::VolumeError;
+use crate::files::{StoredVersion, read_file};
+use crate::map::StoredDirectory;
+use alloctab::Reached;
+use blockdisk::Disk;
+use directory::{Chain, DirectoryError, FileEntry, MasterEntry};
+use std::alloc::Global;
+use words36::Ppn;
+
+/// Reads the chain of a directory that begins in block `first`.
+fn load_files<D: Disk>(
+    alloc: Global,
+    disk: &mut D,
+    first: u32,
+    reached: &mut Reached,
+) -> Result<Chain<FileEntry>, VolumeError>
+    requires volume { IsVolumeSize (D.state disk.old).size }
+    requires inside { InSpace (D.state disk.old).size first }
+    requires marks { length reached.old ≡ (D.state disk.old).size }
+    ensures on { (D.state disk.old).honest → IfOk result (λ chain. IsOn file_words (D.state disk.old).contents (viewed file_view chain)) }
+    ensures walk { (D.state disk.old).honest → IfOk result (λ chain. Leads file_words (D.state disk.old).contents first (nodes_of chain.blocks (map file_view chain.entries)) 0) }
+    ensures begins { IfOk result (λ chain. head_or_zero chain.blocks ≡ first) }
+    ensures chain { IfOk result (λ chain. IsChain name_cmp IsFileEntry (viewed file_view chain)) }
+    ensures inside { IfOk result (λ chain. AllByRecursion (InSpace (D.state disk.old).size) chain.blocks) }
+    ensures targets { IfOk result (λ chain. AllByRecursion (λ e. InSpace (D.state disk.old).size e.1) (map file_view chain.entries)) }
+    ensures marked { IfOk result (λ chain. (n : ℕ) → digit_at reached.new n ≡ digit_at reached.old n + times n chain.blocks) }
+    ensures met { (D.state disk.old).honest → (ppn : ℕ) → IfErr result (DirectoryMeets (D.state disk.old).size (D.state disk.old).contents (digit_at reached.old) ppn first) }
+    ensures length { length reached.new ≡ length reached.old }
+    ensures keeps { (D.state disk.old).honest → Keeps (D.state disk.old) (D.state disk.new) }
+    ensures same { SameDisk (D.state disk.old) (D.state disk.new) }
+    ensures failed { IsErrOf result Device → (D.state disk.new).failures ≡ one_more (D.state disk.old).failures }
+    ensures served { (IsErrOf result Device → ⊥) → (D.state disk.new).failures ≡ (D.state disk.old).failures }
+{
+    match Chain::load(alloc, disk, first, reached) {
+        Ok(chain) => Ok(chain),
+        Err(DirectoryError::BadDirectory(n)) => Err(VolumeError::BadDirectory(n)),
+        Err(DirectoryError::BlockTwice(n)) => Err(VolumeError::BlockTwice(n)),
+        Err(DirectoryError::Device) => Err(VolumeError::Device),
+        Err(DirectoryError::NoMemory) => Err(VolumeError::NoMemory),
+    }
+}
+
+/// Reads the file of an entry, and puts its version behind the others.
+fn add_file<D: Disk>(
+    alloc: Global,
+    disk: &mut D,
+    ppn: Ppn,
+    entry: &FileEntry,
+    reached: &mut Reached,
+    versions: &mut Vec<StoredVersion>,
+) -> Result<(), VolumeError>
+    requires volume { IsVolumeSize (D.state disk.old).size }
+    requires inside { InSpace (D.state disk.old).size entry.now.prime }
+    requires marks { length reached.old ≡ (D.state disk.old).size }
+    ensures read { (D.state disk.old).honest → OnOk result (IsAdded known_version versions.old.items versions.new.items (IsMarkedFile (D.state disk.old).contents ppn (file_view entry.now) (digit_at reached.old) (digit_at reached.new))) }
+    ensures met { (D.state disk.old).honest → IfErr result (FileMeets (D.state disk.old).size (D.state disk.old).contents reached.old (place_of ppn entry.now.name) entry.now.prime) }
+    ensures whole { OnOk result (IsAdded known_version versions.old.items versions.new.items IsWholeVersion) }
+    ensures aligned { OnOk result (length versions.new.items ≡ length versions.old.items + 1) }
+    ensures space { IsOnlySpace (D.state disk.old).size reached.old → OnOk result (IsOnlySpace (D.state disk.old).size reached.new) }
+    ensures length { length reached.new ≡ length reached.old }
+    ensures keeps { (D.state disk.old).honest → Keeps (D.state disk.old) (D.state disk.new) }
+    ensures same { SameDisk (D.state disk.old) (D.state disk.new) }
+    ensures failed { IsErrOf result Device → (D.state disk.new).failures ≡ one_more (D.state disk.old).failures }
+    ensures served { (IsErrOf result Device → ⊥) → (D.state disk.new).failures ≡ (D.state disk.old).failures }
+{
+    let version = read_file(alloc, disk, ppn, entry.name, entry.prime, reached)?;
+    if versions.push(version).is_err() {
+        return Err(VolumeError::NoMemory);
+    }
+    Ok(())
+}
+
+/// Reads the files of these entries of a directory, in their order.
+fn read_files<D: Disk>(
+    alloc: Global,
+    disk: &mut D,
+    ppn: Ppn,
+    entries: &[FileEntry],
+    reached: &mut Reached,
+) -> Result<Vec<StoredVersion>, VolumeError>
+    requires volume { IsVolumeSize (D.state disk.old).size }
+    requires inside { AllByRecursion (λ e. InSpace (D.state disk.old).size e.1) (map file_view entries.now) }
+    requires once { EachOnce name_cmp (map file_view entries.now) }
+    requires marks { length reached.old ≡ (D.state disk.old).size }
+    ensures read { (D.state disk.old).honest → IfOk result (λ versions. AreFilesRead (D.state disk.old).contents ppn (map file_view entries.now) (map known_version versions.items) (digit_at reached.old) (digit_at reached.new)) }
+    ensures met { (D.state disk.old).honest → IfErr result (FilesMeet (D.state disk.old).size (D.state disk.old).contents (digit_at reached.old) ppn (map file_view entries.now)) }
+    ensures whole { IfOk result (λ versions. AllByRecursion IsWholeVersion (map known_version versions.items)) }
+    ensures aligned { IfOk result (λ versions. length versions.items ≡ length entries.now) }
+    ensures space { IsOnlySpace (D.state disk.old).size reached.old → IfOk result (λ versions. IsOnlySpace (D.state disk.old).size reached.new) }
+    ensures length { length reached.new ≡ length reached.old }
+    ensures keeps { (D.state disk.old).honest → Keeps (D.state disk.old) (D.state disk.new) }
+    ensures same { SameDisk (D.state disk.old) (D.state disk.new) }
+    ensures failed { IsErrOf result Device → (D.state disk.new).failures ≡ one_more (D.state disk.old).failures }
+    ensures served { (IsErrOf result Device → ⊥) → (D.state disk.new).failures ≡ (D.state disk.old).failures }
+{
+    let mut versions = Vec::new(alloc);
+    for entry in entries {
+        add_file(alloc, disk, ppn, entry, reached, &mut versions)?;
+    }
+    Ok(versions)
+}
+
+/// Reads a directory with all its files.
+fn read_directory<D: Disk>(
+    alloc: Global,
+    disk: &mut D,
+    entry: &MasterEntry,
+    reached: &mut Reached,
+) -> Result<StoredDirectory, VolumeError>
+    requires volume { IsVolumeSize (D.state disk.old).size }
+    requires inside { InSpace (D.state disk.old).size entry.now.first }
+    requires marks { length reached.old ≡ (D.state disk.old).size }
+    ensures read { (D.state disk.old).honest → IfOk result (λ directory. IsDirectoryFound (D.state disk.old).contents (master_view entry.now) (known_directory directory) (digit_at reached.old) (digit_at reached.new)) }
+    ensures met { (D.state disk.old).honest → IfErr result (DirectoryMeets (D.state disk.old).size (D.state disk.old).contents (digit_at reached.old) entry.now.ppn entry.now.first) }
+    ensures whole { IfOk result (λ directory. IsWholeDirectory (D.state disk.old).size (known_directory directory)) }
+    ensures space { IsOnlySpace (D.state disk.old).size reached.old → IfOk result (λ directory. IsOnlySpace (D.state disk.old).size reached.new) }
+    ensures length { length reached.new ≡ length reached.old }
+    ensures keeps { (D.state disk.old).honest → Keeps (D.state disk.old) (D.state disk.new) }
+    ensures same { SameDisk (D.state disk.old) (D.state disk.new) }
+    ensures failed { IsErrOf result Device → (D.state disk.new).failures ≡ one_more (D.state disk.old).failures }
+    ensures served { (IsErrOf result Device → ⊥) → (D.state disk.new).failures ≡ (D.state disk.old).failures }
+{
+    let chain = load_files(alloc, disk, entry.first, reached)?;
+    let versions = read_files(alloc, disk, entry.ppn, chain.entries(), reached)?;
+    Ok(StoredDirectory { chain, versions })
+}
+
+/// Reads the directory of an entry, and puts it behind the others.
+fn add_directory<D: Disk>(
+    alloc: Global,
+    disk: &mut D,
+    entry: &MasterEntry,
+    reached: &mut Reached,
+    directories: &mut Vec<StoredDirectory>,
+) -> Result<(), VolumeError>
+    requires volume { IsVolumeSize (D.state disk.old).size }
+    requires inside { InSpace (D.state disk.old).size entry.now.first }
+    requires marks { length reached.old ≡ (D.state disk.old).size }
+    ensures read { (D.state disk.old).honest → OnOk result (IsAdded known_directory directories.old.items directories.new.items (λ d. IsDirectoryFound (D.state disk.old).contents (master_view entry.now) d (digit_at reached.old) (digit_at reached.new))) }
+    ensures met { (D.state disk.old).honest → IfErr result (DirectoryMeets (D.state disk.old).size (D.state disk.old).contents (digit_at reached.old) entry.now.ppn entry.now.first) }
+    ensures whole { OnOk result (IsAdded known_directory directories.old.items directories.new.items (IsWholeDirectory (D.state disk.old).size)) }
+    ensures aligned { OnOk result (length directories.new.items ≡ length directories.old.items + 1) }
+    ensures space { IsOnlySpace (D.state disk.old).size reached.old → OnOk result (IsOnlySpace (D.state disk.old).size reached.new) }
+    ensures length { length reached.new ≡ length reached.old }
+    ensures keeps { (D.state disk.old).honest → Keeps (D.state disk.old) (D.state disk.new) }
+    ensures same { SameDisk (D.state disk.old) (D.state disk.new) }
+    ensures failed { IsErrOf result Device → (D.state disk.new).failures ≡ one_more (D.state disk.old).failures }
+    ensures served { (IsErrOf result Device → ⊥) → (D.state disk.new).failures ≡ (D.state disk.old).failures }
+{
+    let directory = read_directory(alloc, disk, entry, reached)?;
+    if directories.push(directory).is_err() {
+        return Err(VolumeError::NoMemory);
+    }
+    Ok(())
+}
+
+/// Reads the directories of these entries of the master directory, in their order.
+pub fn read_directories<D: Disk>(
+    alloc: Global,
+    disk: &mut D,
+    entries: &[MasterEntry],
+    reached: &mut Reached,
+) -> Result<Vec<StoredDirectory>, VolumeError>
+    requires volume { IsVolumeSize (D.state disk.old).size }
+    requires inside { AllByRecursion (λ e. InSpace (D.state disk.old).size e.1.1) (map master_view entries.now) }
+    requires once { EachOnce nat_cmp (map master_view entries.now) }
+    requires marks { length reached.old ≡ (D.state disk.old).size }
+    ensures read { (D.state disk.old).honest → IfOk result (λ directories. AreDirectoriesRead (D.state disk.old).contents (map master_view entries.now) (map known_directory directories.items) (digit_at reached.old) (digit_at reached.new)) }
+    ensures met { (D.state disk.old).honest → IfErr result (DirectoriesMeet (D.state disk.old).size (D.state disk.old).contents (digit_at reached.old) (map master_view entries.now)) }
+    ensures whole { IfOk result (λ directories. AllByRecursion (IsWholeDirectory (D.state disk.old).size) (map known_directory directories.items)) }
+    ensures aligned { IfOk result (λ directories. length directories.items ≡ length entries.now) }
+    ensures space { IsOnlySpace (D.state disk.old).size reached.old → IfOk result (λ directories. IsOnlySpace (D.state disk.old).size reached.new) }
+    ensures length { length reached.new ≡ length reached.old }
+    ensures keeps { (D.state disk.old).honest → Keeps (D.state disk.old) (D.state disk.new) }
+    ensures same { SameDisk (D.state disk.old) (D.state disk.new) }
+    ensures failed { IsErrOf result Device → (D.state disk.new).failures ≡ one_more (D.state disk.old).failures }
+    ensures served { (IsErrOf result Device → ⊥) → (D.state disk.new).failures ≡ (D.state disk.old).failures }
+{
+    let mut directories = Vec::new(alloc);
+    for entry in entries {
+        add_directory(alloc, disk, entry, reached, &mut directories)?;
+    }
+    Ok(directories)
+}

@@ -1,0 +1,122 @@
+ghost use Rattle.std.specs.Prelude.{◌≡◌, ◌⊎◌, ◌↔◌, ℕ, false, OnOk, IfOk, IfErr, IsErrOf};
+ghost use Rattle.blockdisk.specs.Disk.{NoneOpen, SameDisk, Still, Touches, LeavesOnly, one_more};
+ghost use Rattle.changeset.specs.Crashes.{IsRecovered, LeavesFrom};
+ghost use Rattle.changeset.specs.Rest.{AtRest};
+ghost use Rattle.meaning.specs.Files.{File, Files};
+ghost use Rattle.meaning.specs.Log.{IsGateOpen};
+ghost use Rattle.meaning.specs.Maps.{empty};
+ghost use Rattle.meaning.specs.Regions.{IsVolumeSize};
+ghost use Rattle.meaning.specs.Stands.{Stands};
+ghost use Rattle.volume.specs.Cores.{known_of};
+ghost use Rattle.volume.specs.Homes.{IsBare, IsInitBlock};
+ghost use Rattle.volume.specs.Known.{IsWholeMap};
+ghost use Rattle.volume.specs.Meets.{Refuses};
+ghost use Rattle.volume.specs.Rest.{IsAtRest, IsSound, RestsAt, StandsLike, StandsLikeBefore};
+ghost use Rattle.volume.specs.declared.error.VolumeError.TheVariants.{NotVolume, Device};
+
+use crate::VolumeError;
+use crate::fresh::init;
+use crate::map::{DiskMap, Volume};
+use crate::open::read_map;
+use blockdisk::Disk;
+use changeset::{LogError, recover};
+use std::alloc::Global;
+
+/// Recovers a disk and reads all that it reaches, each block once, and its allocation table.
+///
+/// # Errors
+///
+/// `BadLog` where the gate is open and the log isn't good, before anything of the homes; else the refusal
+/// of a fault that stands, `Device` where the device failed, `NoMemory` where a growth was refused. A disk
+/// that is refused has at most been recovered.
+pub fn read_volume<D: Disk>(alloc: Global, disk: &mut D) -> Result<DiskMap, VolumeError>
+    // A crash at any moment leaves what stands for whatever something stood for that a crash could leave
+    // before; from the end of the first sync on, for whatever the contents stood for.
+    ensures crash { (D.state disk.old).honest → LeavesOnly (D.state disk.old) (D.state disk.new) (StandsLikeBefore (D.state disk.old)) }
+    ensures synced { (D.state disk.old).honest → IsErrOf result Device ⊎ ((t : ℕ) × LeavesFrom t (D.state disk.old) (D.state disk.new) (StandsLike (D.state disk.old))) }
+
+    // At Ok the map is the disk's, and the disk stands for the files that it stood for before.
+    ensures rest { (D.state disk.old).honest → IfOk result (λ map. IsAtRest (D.state disk.new) (known_of map)) }
+    ensures files { (D.state disk.old).honest → (files : Files File) → Stands (D.state disk.old).size (D.state disk.old).contents files → IfOk result (λ map. RestsAt (D.state disk.new) files) }
+    ensures settled { (D.state disk.old).honest → IfOk result (λ map. NoneOpen (D.state disk.new)) }
+    ensures whole { IfOk result (λ map. IsWholeMap (D.state disk.old).size (known_of map)) }
+
+    // A refusal names a fault that stands; but for Device the disk was recovered, or nothing was written.
+    ensures refused { (D.state disk.old).honest → IfErr result (Refuses (D.state disk.old).size (D.state disk.new).contents) }
+    ensures kept { (D.state disk.old).honest → (IsErrOf result Device → ⊥)
+        → Still (D.state disk.old) (D.state disk.new) ⊎ IsRecovered (D.state disk.old).size (D.state disk.old).contents (D.state disk.new).contents }
+
+    // On every disk.
+    ensures same { SameDisk (D.state disk.old) (D.state disk.new) }
+    ensures failed { IsErrOf result Device → (D.state disk.new).failures ≡ one_more (D.state disk.old).failures }
+    ensures served { (IsErrOf result Device → ⊥) → (D.state disk.new).failures ≡ (D.state disk.old).failures }
+{
+    match recover(disk) {
+        Ok(()) => read_map(alloc, disk),
+        Err(LogError::BadLog) => Err(VolumeError::BadLog),
+        Err(LogError::Device) => Err(VolumeError::Device),
+        Err(LogError::TooMany) => unreachable!(), // a recovery never answers it
+    }
+}
+
+impl<D: Disk> Volume<D> {
+    /// Makes an empty volume on a disk, in layout 1: the fixed regions and the first block of the master
+    /// directory are written, and nothing else. It isn't safe against a stop.
+    ///
+    /// # Errors
+    ///
+    /// `NotVolume` where the disk has not from 64 to 131072 blocks, with nothing written; `Device`.
+    pub fn init(disk: &mut D) -> Result<(), VolumeError>
+        ensures stands { (D.state disk.old).honest → OnOk result (AtRest (D.state disk.new) (λ c. Stands (D.state disk.old).size c empty)) }
+        ensures settled { (D.state disk.old).honest → OnOk result (NoneOpen (D.state disk.new)) }
+        ensures shut { (D.state disk.old).honest → OnOk result (IsGateOpen (D.state disk.old).size (D.state disk.new).contents → ⊥) }
+        ensures bare { (D.state disk.old).honest → OnOk result (IsBare (D.state disk.old).size (D.state disk.new).contents) }
+        ensures touched { (D.state disk.old).honest → Touches (IsInitBlock (D.state disk.old).size) (D.state disk.old) (D.state disk.new) }
+        ensures range { IsErrOf result NotVolume ↔ (IsVolumeSize (D.state disk.old).size → ⊥) }
+        ensures untouched { IsErrOf result NotVolume → disk.new ≡ disk.old }
+        ensures only { IfErr result (λ error. (error ≡ NotVolume) ⊎ (error ≡ Device)) }
+        ensures same { SameDisk (D.state disk.old) (D.state disk.new) }
+        ensures failed { IsErrOf result Device → (D.state disk.new).failures ≡ one_more (D.state disk.old).failures }
+        ensures served { (IsErrOf result Device → ⊥) → (D.state disk.new).failures ≡ (D.state disk.old).failures }
+    {
+        init(disk)
+    }
+
+    /// Opens the volume on a disk: recovers it first, and then reads every block that it reaches.
+    ///
+    /// # Errors
+    ///
+    /// The refusal, with the disk handed back: `NotVolume`, `BadHome`, `BadLog`, `BadDirectory`,
+    /// `BadRetrieval`, `BlockTwice`, `BadData` and `TableWrong` only where that fault stands, the last only
+    /// where no other does; `Device` where the device failed, `NoMemory` where a growth was refused.
+    pub fn open(alloc: Global, disk: D) -> Result<Volume<D>, (VolumeError, D)>
+        ensures sound { IfOk result (λ volume. IsSound (D.state volume.disk) (known_of volume.map) volume.failed) }
+        ensures serves { IfOk result (λ volume. volume.failed ≡ false) }
+        ensures files { (D.state disk).honest → (files : Files File) → Stands (D.state disk).size (D.state disk).contents files → IfOk result (λ volume. RestsAt (D.state volume.disk) files) }
+        ensures settled { (D.state disk).honest → IfOk result (λ volume. NoneOpen (D.state volume.disk)) }
+        ensures crash { (D.state disk).honest → IfOk result (λ volume. LeavesOnly (D.state disk) (D.state volume.disk) (StandsLikeBefore (D.state disk))) }
+        ensures synced { (D.state disk).honest → IfOk result (λ volume. (t : ℕ) × LeavesFrom t (D.state disk) (D.state volume.disk) (StandsLike (D.state disk))) }
+
+        ensures refused { (D.state disk).honest → IfErr result (λ refused. Refuses (D.state disk).size (D.state refused.1).contents refused.0) }
+        ensures kept { (D.state disk).honest → IfErr result (λ refused. (refused.0 ≡ Device → ⊥)
+            → Still (D.state disk) (D.state refused.1) ⊎ IsRecovered (D.state disk).size (D.state disk).contents (D.state refused.1).contents) }
+        ensures crash_refused { (D.state disk).honest → IfErr result (λ refused. LeavesOnly (D.state disk) (D.state refused.1) (StandsLikeBefore (D.state disk))) }
+        ensures synced_refused { (D.state disk).honest → IfErr result (λ refused. (refused.0 ≡ Device) ⊎ ((t : ℕ) × LeavesFrom t (D.state disk) (D.state refused.1) (StandsLike (D.state disk)))) }
+
+        ensures same { IfOk result (λ volume. SameDisk (D.state disk) (D.state volume.disk)) }
+        ensures served { IfOk result (λ volume. (D.state volume.disk).failures ≡ (D.state disk).failures) }
+        ensures same_refused { IfErr result (λ refused. SameDisk (D.state disk) (D.state refused.1)) }
+        ensures failed { IfErr result (λ refused. refused.0 ≡ Device → (D.state refused.1).failures ≡ one_more (D.state disk).failures) }
+        ensures served_refused { IfErr result (λ refused. (refused.0 ≡ Device → ⊥) → (D.state refused.1).failures ≡ (D.state disk).failures) }
+    {
+        let mut disk = disk;
+        match read_volume(alloc, &mut disk) {
+            Ok(map) => Ok(Volume {
+                disk,
+                map,
+                failed: false,
+            }),
+            Err(error) => Err((error, disk)),
+        }
+    }
+}
