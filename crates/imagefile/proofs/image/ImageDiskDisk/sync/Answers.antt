@@ -1,0 +1,13 @@
+use Rattle.std.proofs.Common.{ℕ, Result, Ok, Err, OnOk}
+use Rattle.blockdisk.specs.Disk.{Syncs}
+use Rattle.imagefile.specs.File.{FileState, FileSyncs}
+use Rattle.imagefile.specs.Image.{image_state}
+use Rattle.imagefile.specs.ImageLaws.{image_syncs}
+use Rattle.imagefile.proofs.image.ImageDiskDisk.sync.Goals as goal
+
+on_ok : {E : Type 0} (answer : Result (Unit {0}) E) (blocks : ℕ) (s s' : FileState) → OnOk answer (FileSyncs s s') → OnOk answer (Syncs (image_state blocks s) (image_state blocks s'))
+on_ok (Ok done) blocks s s' syncs = image_syncs blocks s s' syncs
+on_ok (Err fault) blocks s s' syncs = tt
+
+pub returns-clause-syncs : goal.returns-clause-syncs
+returns-clause-syncs g c h = on_ok c.sync.result c.args.self.now.blocks (g.F.Durable.state c.args.self.now.file) (g.F.Durable.state c.sync.new.self) (c.sync.ensures.syncs h)
