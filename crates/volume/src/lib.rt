@@ -17,7 +17,8 @@
 //!    touch no disk. (`value`, `listed`, `refused`)
 //! 6. A crash at any moment of `make_dir` leaves what stands for the files before it or for those with the
 //!    new directory, and where it answers Ok for the latter alone; each other answer but `Device` leaves disk
-//!    and volume as they were. (`crash`, `done`, `refused`)
+//!    and map as they were. After `Device` and `Failed` the volume has failed, and no other answer changes
+//!    whether it has. (`crash`, `done`, `refused`, `device`, `gone`, `serves`)
 //! 7. `Device` comes exactly with one more failure of the disk, on every disk. (`failed`, `served`)
 //!
 //! Between two calls the volume knows the map of its disk: the chains of its directories with their entries
@@ -31,6 +32,8 @@ mod call_tests;
 mod cost;
 mod error;
 mod event;
+#[cfg(test)]
+mod fault_tests;
 mod file_facts;
 #[cfg(test)]
 mod file_tests;
@@ -41,6 +44,8 @@ mod home;
 mod init_tests;
 mod list;
 mod make;
+#[cfg(test)]
+mod make_tests;
 mod map;
 mod marks;
 mod open;

@@ -257,10 +257,11 @@ impl<D: Disk> Volume<D> {
     ///
     /// # Errors
     ///
-    /// `Failed` where the volume failed before; `Refused` with `NameExists` where there is a directory of
-    /// this project-programmer number, and with `NoRoom` where a block, and one more where the master
-    /// directory has to grow, exceed the room; `NoMemory` where core can't grow. All is as before then.
-    /// `Device` where the device failed: a later start finds the directory, or all as before.
+    /// `Failed` where the volume failed before, or where the disk broke a promise: the volume has failed
+    /// then. `Refused` with `NameExists` where there is a directory of this project-programmer number, and
+    /// with `NoRoom` where a block, and one more where the master directory has to grow, exceed the room;
+    /// `NoMemory` where core can't grow. All is as before then. `Device` where the device failed, and the
+    /// volume with it: a later start finds the directory, or all as before.
     pub fn make_dir(&mut self, alloc: Global, ppn: Ppn, protection: u16) -> Result<(), CallError>
         requires sound { IsSound (D.state self.old.disk) (known_of self.old.map) self.old.failed }
         requires protection { protection < 512 }
@@ -281,6 +282,7 @@ impl<D: Disk> Volume<D> {
         ensures refused { (IsErrOf result Device → ⊥) → OnErr result ((self.new.disk ≡ self.old.disk) × (known_of self.new.map ≡ known_of self.old.map)) }
         ensures failed { self.old.failed ≡ true → IsErrOf result Failed }
         ensures given_up { IsErrOf result Failed → (self.old.failed ≡ true) ⊎ ((D.state self.old.disk).honest → ⊥) }
+        ensures gone { IsErrOf result Failed → self.new.failed ≡ true }
         ensures exists { self.old.failed ≡ false → (IsErrOf result (Refused NameExists) ↔ (find nat_cmp ppn (known_of self.old.map).master.entries ≡ None → ⊥)) }
         ensures room { self.old.failed ≡ false → find nat_cmp ppn (known_of self.old.map).master.entries ≡ None
             → (IsErrOf result (Refused NoRoom) ↔ (space (D.state self.old.disk).size < (known_of self.old.map).table.booked + 1 + growth (known_of self.old.map).master)) }
@@ -289,6 +291,7 @@ impl<D: Disk> Volume<D> {
         ensures counted { IsErrOf result Device → (D.state self.new.disk).failures ≡ one_more (D.state self.old.disk).failures }
         ensures served { (IsErrOf result Device → ⊥) → (D.state self.new.disk).failures ≡ (D.state self.old.disk).failures }
         ensures still { (IsErrOf result Device → ⊥) → (D.state self.old.disk).honest → self.new.failed ≡ self.old.failed }
+        ensures serves { (IsErrOf result Device → ⊥) → (IsErrOf result Failed → ⊥) → self.new.failed ≡ self.old.failed }
         ensures same { SameDisk (D.state self.old.disk) (D.state self.new.disk) }
     {
         if self.failed {

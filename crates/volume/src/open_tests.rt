@@ -6,26 +6,26 @@ use std::test::Fail;
 use words36::{BLOCK_WORDS, Block, Word};
 
 /// How many blocks vector V1 of the formats has. Its table is block 14, its free space begins at 15.
-const SIZE: u32 = 64;
+pub(crate) const SIZE: u32 = 64;
 
 /// Each word of an open gate.
-const OPEN: u64 = 0o252525252525;
+pub(crate) const OPEN: u64 = 0o252525252525;
 
 /// The home copies of V1.
-const HOME: [u64; 6] = [0o465154634562, 1, 0o100, 1, 0o11, 0o17];
+pub(crate) const HOME: [u64; 6] = [0o465154634562, 1, 0o100, 1, 0o11, 0o17];
 
 /// The master directory of V1, which has [10,20] with protection 775.
-const MASTER: [u64; 5] = [0, 1, 0o000010000020, 0o775000000000, 0o20];
+pub(crate) const MASTER: [u64; 5] = [0, 1, 0o000010000020, 0o775000000000, 0o20];
 
 /// The directory [10,20] of V1, which has FOO.TXT.
-const DIRECTORY: [u64; 5] = [0, 1, 0o465757000000, 0o647064000000, 0o21];
+pub(crate) const DIRECTORY: [u64; 5] = [0, 1, 0o465757000000, 0o647064000000, 0o21];
 
-fn word(number: u64) -> Word {
+pub(crate) fn word(number: u64) -> Word {
     Word::new(number).unwrap_or(Word::ZERO)
 }
 
 /// A block that begins with these words, and is zero behind them.
-fn beginning(words: &[u64]) -> Block {
+pub(crate) fn beginning(words: &[u64]) -> Block {
     let mut block = [Word::ZERO; BLOCK_WORDS];
     for (place, &number) in block.iter_mut().zip(words) {
         *place = word(number);
@@ -34,7 +34,7 @@ fn beginning(words: &[u64]) -> Block {
 }
 
 /// The prime block of V1, with this protection word, length and first pointer.
-fn prime(attributes: u64, length: u64, pointer: u64) -> Block {
+pub(crate) fn prime(attributes: u64, length: u64, pointer: u64) -> Block {
     let mut block = beginning(&[
         0o625142000000,
         0o465757000000,
@@ -48,27 +48,27 @@ fn prime(attributes: u64, length: u64, pointer: u64) -> Block {
     block
 }
 
-fn load(rt: &impl Abort, disk: &mut MemDisk, n: u32, block: &Block) {
+pub(crate) fn load(rt: &impl Abort, disk: &mut MemDisk, n: u32, block: &Block) {
     assert!(rt; n < disk.blocks());
     disk.load(n, block);
 }
 
-fn put(rt: &impl Abort, disk: &mut MemDisk, n: u32, words: &[u64]) {
+pub(crate) fn put(rt: &impl Abort, disk: &mut MemDisk, n: u32, words: &[u64]) {
     load(rt, disk, n, &beginning(words));
 }
 
-fn damage(rt: &impl Abort, disk: &mut MemDisk, n: u32) {
+pub(crate) fn damage(rt: &impl Abort, disk: &mut MemDisk, n: u32) {
     assert!(rt; n < disk.blocks());
     disk.damage(n);
 }
 
-fn expect_block<D: Disk>(rt: &impl Abort, disk: &mut D, n: u32, block: &Block) {
+pub(crate) fn expect_block<D: Disk>(rt: &impl Abort, disk: &mut D, n: u32, block: &Block) {
     assert!(rt; n < disk.blocks());
     assert!(rt; disk.read(n) == Ok(*block));
 }
 
 /// V1, with room to record so many writes and syncs.
-fn v1(rt: &impl Abort, alloc: Global, calls: usize) -> Result<MemDisk, NoMemory> {
+pub(crate) fn v1(rt: &impl Abort, alloc: Global, calls: usize) -> Result<MemDisk, NoMemory> {
     let mut disk = MemDisk::new(alloc, SIZE, calls)?;
     put(rt, &mut disk, 1, &HOME);
     put(rt, &mut disk, 2, &HOME);
@@ -82,7 +82,11 @@ fn v1(rt: &impl Abort, alloc: Global, calls: usize) -> Result<MemDisk, NoMemory>
 }
 
 /// V1 with block 15 damaged, a log that has it behind an open gate, and room for so many writes and syncs.
-fn v1_to_recover(rt: &impl Abort, alloc: Global, calls: usize) -> Result<MemDisk, NoMemory> {
+pub(crate) fn v1_to_recover(
+    rt: &impl Abort,
+    alloc: Global,
+    calls: usize,
+) -> Result<MemDisk, NoMemory> {
     let mut disk = v1(rt, alloc, calls)?;
     damage(rt, &mut disk, 15);
     load(rt, &mut disk, 3, &[word(OPEN); BLOCK_WORDS]);
@@ -92,7 +96,7 @@ fn v1_to_recover(rt: &impl Abort, alloc: Global, calls: usize) -> Result<MemDisk
 }
 
 /// What the volume on a disk has booked, or why it isn't opened.
-fn booked<D: Disk + Drop>(alloc: Global, disk: D) -> Result<u64, VolumeError> {
+pub(crate) fn booked<D: Disk + Drop>(alloc: Global, disk: D) -> Result<u64, VolumeError> {
     match Volume::open(alloc, disk) {
         Ok(volume) => Ok(volume.map.table.booked()),
         Err((error, _disk)) => Err(error),
@@ -134,19 +138,6 @@ fn a_volume_is_recovered(rt: HostRuntime) -> Result<(), Fail> {
     Ok(())
 }
 
-#[test]
-fn a_log_of_zeros(rt: HostRuntime) -> Result<(), Fail> {
-    let mut disk = v1_to_recover(&rt, rt.alloc(), 5)?;
-    put(&rt, &mut disk, 4, &[]);
-    let Err((error, mut disk)) = Volume::open(rt.alloc(), disk) else {
-        panic!(rt; "a log of zeros is good");
-    };
-    assert!(rt; error == VolumeError::BadLog);
-    assert!(rt; 15 < disk.blocks());
-    assert!(rt; disk.read(15) == Err(Fault::Damaged));
-    Ok(())
-}
-
 /// The gate counts as closed, and nothing of the log is looked at.
 #[test]
 fn a_gate_with_another_word(rt: HostRuntime) -> Result<(), Fail> {
@@ -160,27 +151,6 @@ fn a_gate_with_another_word(rt: HostRuntime) -> Result<(), Fail> {
     };
     assert_eq!(rt; volume.map.table.booked(), 4);
     expect_block(&rt, &mut volume.disk, 3, &gate);
-    Ok(())
-}
-
-#[test]
-fn bits_that_are_not_as_they_should_be(rt: HostRuntime) -> Result<(), Fail> {
-    let mut disk = v1(&rt, rt.alloc(), 1)?;
-    put(&rt, &mut disk, 14, &[0o777777600000]);
-    assert_eq!(rt; booked(rt.alloc(), disk), Err(VolumeError::TableWrong(14)));
-    let mut disk = v1(&rt, rt.alloc(), 1)?;
-    put(&rt, &mut disk, 14, &[0o777777400000, 0, 1]);
-    assert_eq!(rt; booked(rt.alloc(), disk), Err(VolumeError::TableWrong(14)));
-    Ok(())
-}
-
-#[test]
-fn a_block_of_two(rt: HostRuntime) -> Result<(), Fail> {
-    let mut disk = v1(&rt, rt.alloc(), 1)?;
-    put(&rt, &mut disk, 14, &[0o777777000000]);
-    let foo = prime(0o057000007777, 2, 0o000001000020);
-    load(&rt, &mut disk, 17, &foo);
-    assert_eq!(rt; booked(rt.alloc(), disk), Err(VolumeError::BlockTwice(16)));
     Ok(())
 }
 
@@ -202,66 +172,6 @@ fn a_fresh_volume(rt: HostRuntime) -> Result<(), Fail> {
     let mut disk = MemDisk::new(rt.alloc(), SIZE, 9)?;
     assert_eq!(rt; Volume::init(&mut disk), Ok(()));
     assert_eq!(rt; booked(rt.alloc(), disk), Ok(1));
-    Ok(())
-}
-
-#[test]
-fn homes(rt: HostRuntime) -> Result<(), Fail> {
-    let empty = MemDisk::new(rt.alloc(), SIZE, 1)?;
-    assert_eq!(rt; booked(rt.alloc(), empty), Err(VolumeError::NotVolume));
-    let mut disk = v1(&rt, rt.alloc(), 1)?;
-    damage(&rt, &mut disk, 1);
-    assert_eq!(rt; booked(rt.alloc(), disk), Ok(4));
-    let mut disk = v1(&rt, rt.alloc(), 1)?;
-    put(&rt, &mut disk, 1, &[HOME[0], 3, 0o100, 1, 0o11, 0o17]);
-    put(&rt, &mut disk, 2, &[HOME[0], 3, 0o100, 1, 0o11, 0o17]);
-    assert_eq!(rt; booked(rt.alloc(), disk), Err(VolumeError::BadHome));
-    Ok(())
-}
-
-#[test]
-fn bad_directories(rt: HostRuntime) -> Result<(), Fail> {
-    let mut disk = v1(&rt, rt.alloc(), 1)?;
-    put(&rt, &mut disk, 15, &[0, 0o53]);
-    assert_eq!(rt;
-        booked(rt.alloc(), disk),
-        Err(VolumeError::BadDirectory(15))
-    );
-    let mut disk = v1(&rt, rt.alloc(), 1)?;
-    put(
-        &rt,
-        &mut disk,
-        16,
-        &[0o20, 1, DIRECTORY[2], DIRECTORY[3], 0o21],
-    );
-    let refused = booked(rt.alloc(), disk);
-    assert!(rt;
-        refused == Err(VolumeError::BadDirectory(16)) || refused == Err(VolumeError::BlockTwice(16))
-    );
-    Ok(())
-}
-
-/// The latest minute of a day is 1439, and 129 words need two blocks.
-#[test]
-fn prime_blocks(rt: HostRuntime) -> Result<(), Fail> {
-    for (attributes, length, wanted) in [
-        (0o057026377777, 2, Ok(4)),
-        (0o057026407777, 2, Err(VolumeError::BadRetrieval(17))),
-        (0o057000007777, 0o201, Err(VolumeError::BadRetrieval(17))),
-    ] {
-        let mut disk = v1(&rt, rt.alloc(), 1)?;
-        let foo = prime(attributes, length, 0o000001000022);
-        load(&rt, &mut disk, 17, &foo);
-        assert_eq!(rt; booked(rt.alloc(), disk), wanted);
-    }
-    Ok(())
-}
-
-#[test]
-fn a_damaged_data_block(rt: HostRuntime) -> Result<(), Fail> {
-    let mut disk = v1(&rt, rt.alloc(), 1)?;
-    damage(&rt, &mut disk, 18);
-    assert_eq!(rt; booked(rt.alloc(), disk), Err(VolumeError::BadData(18)));
     Ok(())
 }
 
