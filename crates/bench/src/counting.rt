@@ -1,0 +1,93 @@
+ghost use Rattle.std.specs.Prelude.{◌≡◌, ◌-◌};
+
+use blockdisk::{Disk, Fault};
+use words36::Block;
+
+/// How often a disk was called.
+#[derive(Clone, Copy, Debug, PartialEq, Eq)]
+pub struct Calls {
+    /// Blocks read.
+    pub reads: u64,
+    /// Blocks written.
+    pub writes: u64,
+    /// Syncs.
+    pub syncs: u64,
+}
+
+impl Calls {
+    /// No calls.
+    pub const NONE: Calls = Calls {
+        reads: 0,
+        writes: 0,
+        syncs: 0,
+    };
+
+    /// The calls since these earlier ones.
+    pub fn since(self, earlier: Calls) -> Calls
+        ensures reads { result.reads ≡ self.reads - earlier.reads }
+        ensures writes { result.writes ≡ self.writes - earlier.writes }
+        ensures syncs { result.syncs ≡ self.syncs - earlier.syncs }
+    {
+        Calls {
+            reads: self.reads.saturating_sub(earlier.reads),
+            writes: self.writes.saturating_sub(earlier.writes),
+            syncs: self.syncs.saturating_sub(earlier.syncs),
+        }
+    }
+}
+
+/// A disk that hands each call on to another disk, and counts them.
+#[derive(Drop)]
+pub struct CountingDisk<D> {
+    inner: D,
+    calls: Calls,
+}
+
+impl<D: Disk> CountingDisk<D> {
+    /// A disk over this one, with no call counted.
+    pub fn new(inner: D) -> Self
+        ensures inner { result.inner ≡ inner }
+        ensures calls { result.calls ≡ record { reads = 0; writes = 0; syncs = 0 } }
+    {
+        CountingDisk {
+            inner,
+            calls: Calls::NONE,
+        }
+    }
+
+    /// The calls so far.
+    pub fn calls(&self) -> Calls
+        ensures { result ≡ self.now.calls }
+    {
+        self.calls
+    }
+}
+
+impl<D: Disk> Disk for CountingDisk<D> {
+    ghost state = { λ disk. D.state disk.inner };
+
+    ghost counts_now = { λ disk t c h le left. D.counts_now disk.inner t c h le left };
+
+    ghost only_now = { λ disk c h left. D.only_now disk.inner c h left };
+
+    ghost reaches_back = { λ disk t u c h le left. D.reaches_back disk.inner t u c h le left };
+
+    fn blocks(&self) -> u32 {
+        self.inner.blocks()
+    }
+
+    fn read(&mut self, n: u32) -> Result<Block, Fault> {
+        self.calls.reads = self.calls.reads.saturating_add(1);
+        self.inner.read(n)
+    }
+
+    fn write(&mut self, n: u32, block: &Block) -> Result<(), Fault> {
+        self.calls.writes = self.calls.writes.saturating_add(1);
+        self.inner.write(n, block)
+    }
+
+    fn sync(&mut self) -> Result<(), Fault> {
+        self.calls.syncs = self.calls.syncs.saturating_add(1);
+        self.inner.sync()
+    }
+}
