@@ -3,9 +3,8 @@ use Rattle.std.proofs.Common.{◌≡◌, ◌⊎◌, inl, inr, ⊎_elim, ℕ, suc
 use Rattle.std.proofs.lemmas.Bool.{cases_lt, false≢true}
 use Rattle.std.proofs.lemmas.List.{take_all}
 use Rattle.std.proofs.Math.Seq.{take-add}
-use Rattle.imagefile.specs.File.{Bytes, Remains, FileState, MayRemain, Inside, window, FilePasses, SameFile, FileKeeps, FileWrites, FileSyncs}
+use Rattle.imagefile.specs.File.{Bytes, Remains, FileState, MayRemain, Inside, window, FilePasses, FileGoesOn, FileKeeps, FileWrites}
 use Rattle.imagefile.specs.ImageLaws.{window-same}
-use Rattle.imagefile.specs.Host.{with_failures}
 
 inside_or_not : (at n p : ℕ) → Inside at n p ⊎ (Inside at n p → ⊥)
 inside_or_not at n p = ⊎_elim (λ low. inr (λ inside. before low inside)) (λ past. ⊎_elim (λ high. inl (record { low = past; high = high })) (λ end. inr (λ inside. behind end inside)) (cases_lt p (at + n))) (cases_lt p at)
@@ -28,15 +27,15 @@ passes_on s s' s'' P Q first second weaker = record {
   keeps = λ t r le left. second.keeps t r (omega (arith, le, first.later)) (first.keeps t r le left);
 }
 
-pub same_on : (s s' s'' : FileState) → SameFile s s' → SameFile s' s'' → SameFile s s''
-same_on s s' s'' first second = record {
+pub goes_on : (lasts : Type 0) (s s' s'' : FileState) → FileGoesOn lasts s s' → FileGoesOn lasts s' s'' → FileGoesOn lasts s s''
+goes_on lasts s s' s'' first second = record {
   size = second.size ∙ first.size;
-  honest = λ h. second.honest (first.honest h);
+  stays_honest = λ l h. second.stays_honest l (first.stays_honest l h);
   was_honest = λ h. first.was_honest (second.was_honest h);
 }
 
-pub same_start : (s : FileState) → SameFile s s
-same_start s = record { size = refl; honest = λ h. h; was_honest = λ h. h }
+pub goes_start : (lasts : Type 0) (s : FileState) → FileGoesOn lasts s s
+goes_start lasts s = record { size = refl; stays_honest = λ l h. h; was_honest = λ h. h }
 
 pub keeps_start : (s : FileState) → FileKeeps s s
 keeps_start s = record {
@@ -65,23 +64,15 @@ writes_on at n to m s s' s'' low high first second = record {
     within : (p : ℕ) → Inside to m p → Inside at n p
     within p inside = record { low = omega (arith, inside.low); high = omega (arith, inside.high) }
 
--- Another count of failures
-
-module _ (s s' : FileState) (f f' : ℕ) where
-  passes_counted : (P : Remains → Type 0) → FilePasses s s' P → FilePasses (with_failures s f) (with_failures s' f') P
-  passes_counted P time = record { later = time.later; nothing_else = time.nothing_else; new_since = time.new_since; keeps = time.keeps }
-
-  pub same_counted : SameFile s s' → SameFile (with_failures s f) (with_failures s' f')
-  same_counted same = record { size = same.size; honest = same.honest; was_honest = same.was_honest }
-
-  pub keeps_counted : FileKeeps s s' → FileKeeps (with_failures s f) (with_failures s' f')
-  keeps_counted keeps = record { bytes = keeps.bytes; is_open = keeps.is_open; time = passes_counted (MayRemain s') keeps.time }
-
-  pub writes_counted : (at n : ℕ) → FileWrites at n s s' → FileWrites at n (with_failures s f) (with_failures s' f')
-  writes_counted at n writes = record { bytes = writes.bytes; opened = writes.opened; is_open = writes.is_open; time = passes_counted (MayRemain s') writes.time }
-
-  pub syncs_counted : FileSyncs s s' → FileSyncs (with_failures s f) (with_failures s' f')
-  syncs_counted syncs = record { bytes = syncs.bytes; closed = syncs.closed; time = passes_counted (MayRemain s') syncs.time }
+-- a write behind a call that changed nothing
+pub writes_after : (at n : ℕ) (s s' s'' : FileState) → FileKeeps s s' → FileWrites at n s' s'' → FileWrites at n s s''
+writes_after at n s s' s'' first second = record {
+  bytes = λ p out. second.bytes p out ∙ first.bytes p;
+  opened = second.opened;
+  is_open = λ p out. second.is_open p out ∙ first.is_open p;
+  time = passes_on s s' s'' (MayRemain s') (MayRemain s'') first.time second.time (λ r may p closed.
+      ⊎_elim (λ part. absurd (false≢true (sym closed ∙ second.opened p part))) (λ other. may p (sym (second.is_open p other) ∙ closed) ∙ ap Some (sym (second.bytes p other))) (inside_or_not at n p));
+}
 
 -- Windows
 

@@ -1,3 +1,4 @@
 pub mod Contents
 pub mod Record
 pub mod FileLaws
+pub mod CallLaws

@@ -58,6 +58,12 @@ pub record SameFile (s s' : FileState) : Type 0 where
   pub honest : s.honest → s'.honest
   pub was_honest : s'.honest → s.honest
 
+-- The same of a file whose honesty outlasts each call where `lasts` holds, and may end with any where it doesn't.
+pub record FileGoesOn (lasts : Type 0) (s s' : FileState) : Type 0 where
+  pub size : s'.size ≡ s.size
+  pub stays_honest : lasts → s.honest → s'.honest
+  pub was_honest : s'.honest → s.honest
+
 -- A read, and a sync that failed: nothing changed.
 pub record FileKeeps (s s' : FileState) : Type 0 where
   pub bytes : (p : ℕ) → s'.bytes p ≡ s.bytes p

@@ -2,9 +2,9 @@
 use Rattle.std.specs.Prelude.{ℕ, true}
 use Rattle.imagefile.specs.File.{FileState}
 
--- a file with so many failures
-abbrev pub with_failures : FileState → ℕ → FileState
-with_failures s failures = record { size = s.size; honest = s.honest; failures = failures; bytes = s.bytes; is_open = s.is_open; clock = s.clock; left_since = s.left_since }
+-- a file with so many failures, honest only where its honesty lasts
+abbrev pub lasting : Type 0 → FileState → ℕ → FileState
+lasting lasts s failures = record { size = s.size; honest = lasts × s.honest; failures = failures; bytes = s.bytes; is_open = s.is_open; clock = s.clock; left_since = s.left_since }
 
 -- A file of which nothing is known. Nobody can prove that it keeps to the model.
 abbrev pub unknown_file : FileState

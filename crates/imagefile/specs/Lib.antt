@@ -6,3 +6,9 @@ pub mod Memory
 pub mod MemoryLaws
 pub mod Host
 pub mod HostFile
+pub mod Calls
+pub mod CallMade
+pub mod HostCalls
+pub mod Recorded
+pub mod RecordedLaws
+pub mod SeekingFile

@@ -1,18 +1,37 @@
-ghost use Rattle.std.specs.Prelude.{◌≡◌, ◌+◌, ◌<◌, ◌≤◌, ℕ, length, take, IfOk, OnOk, OnErr, IsErrOf};
+ghost use Rattle.std.specs.Prelude.{◌≡◌, ◌+◌, ◌<◌, ◌≤◌, ℕ, [], length, take, IfOk, OnOk, OnErr, IsErrOf};
 ghost use Rattle.blockdisk.specs.Disk.{one_more};
 ghost use Rattle.blockdisk.specs.declared.fault.Fault.TheVariants.{Device, Damaged};
-ghost use Rattle.imagefile.specs.File.{SameFile, FileKeeps, FileWrites, window};
-ghost use Rattle.imagefile.specs.Host.{with_failures};
+ghost use Rattle.imagefile.specs.File.{FileGoesOn, FileKeeps, FileWrites, FileSyncs, window};
+ghost use Rattle.imagefile.specs.Host.{lasting};
 
-use crate::{Durable, FileCalls};
+use crate::{Durable, FileCalls, HostCalls, SeekingFile};
 use blockdisk::Fault;
 use std::fs::File;
 
-/// A file of the host's: an open one, as it is handed in, whose calls are made until all is done.
+/// A file of the host's, whose calls are made until all is done.
+///
+/// What a call answered is right wherever the file is honest after it: so say the clauses `answers`
+/// and `changes`, for everything that can be supposed of what no call shows. As a `Durable` it is
+/// honest where that honesty also lasts.
 #[derive(Drop)]
-pub struct HostFile<C: FileCalls = File> {
+pub struct HostFile<C: FileCalls = SeekingFile> {
     calls: C,
     failures: u64,
+}
+
+impl HostFile {
+    ghost use Rattle.imagefile.specs.HostFile.{calls_of, failures_of};
+    ghost use Rattle.imagefile.specs.SeekingFile.{system_of};
+    ghost use Rattle.imagefile.specs.HostCalls.{file_of, history_of};
+
+    /// An open file of the host, of which nothing was asked yet. Its record is empty.
+    pub fn from_file(file: File) -> Self
+        ensures file { file_of (system_of (calls_of result)) ≡ file }
+        ensures history { history_of (system_of (calls_of result)) ≡ [] }
+        ensures none_failed { failures_of result ≡ 0 }
+    {
+        HostFile::new(SeekingFile::new(HostCalls::new(file)))
+    }
 }
 
 impl<C: FileCalls> HostFile<C> {
@@ -42,12 +61,12 @@ impl<C: FileCalls> HostFile<C> {
     ///
     /// `Device` where the call failed, or read none.
     fn get_some(&mut self, at: u64, bytes: &mut [u8]) -> Result<usize, Fault>
-        requires inside { (C.state (calls_of self.old)).honest → at + length bytes.old ≤ (C.state (calls_of self.old)).size }
+        requires inside { C.lasts → (C.state C.supposed (calls_of self.old)).honest → at + length bytes.old ≤ (C.state C.supposed (calls_of self.old)).size }
         requires some { 0 < length bytes.old }
         ensures few { IfOk result (λ count. (0 < count) × (count ≤ length bytes.old)) }
-        ensures read { (C.state (calls_of self.old)).honest → IfOk result (λ count. take count bytes.new ≡ window (C.state (calls_of self.old)).bytes at count) }
-        ensures keeps { (C.state (calls_of self.old)).honest → FileKeeps (C.state (calls_of self.old)) (C.state (calls_of self.new)) }
-        ensures same { SameFile (C.state (calls_of self.old)) (C.state (calls_of self.new)) }
+        ensures read { (u : C.Unseen) → (C.state u (calls_of self.new)).honest → IfOk result (λ count. take count bytes.new ≡ window (C.state u (calls_of self.old)).bytes at count) }
+        ensures keeps { (u : C.Unseen) → (C.state u (calls_of self.new)).honest → FileKeeps (C.state u (calls_of self.old)) (C.state u (calls_of self.new)) }
+        ensures goes_on { (u : C.Unseen) → FileGoesOn C.lasts (C.state u (calls_of self.old)) (C.state u (calls_of self.new)) }
         ensures device { IsErrOf result Damaged → ⊥ }
         ensures failed { IsErrOf result Device → failures_of self.new ≡ one_more (failures_of self.old) }
         ensures served { OnOk result (failures_of self.new ≡ failures_of self.old) }
@@ -65,12 +84,12 @@ impl<C: FileCalls> HostFile<C> {
     ///
     /// `Device` where the call failed, or wrote none of them.
     fn put_some(&mut self, at: u64, bytes: &[u8]) -> Result<usize, Fault>
-        requires { (C.state (calls_of self.old)).honest → at + length bytes.now ≤ (C.state (calls_of self.old)).size }
+        requires { C.lasts → (C.state C.supposed (calls_of self.old)).honest → at + length bytes.now ≤ (C.state C.supposed (calls_of self.old)).size }
         ensures few { IfOk result (λ count. (0 < length bytes.now → 0 < count) × (count ≤ length bytes.now)) }
-        ensures put { (C.state (calls_of self.old)).honest → IfOk result (λ count. window (C.state (calls_of self.new)).bytes at count ≡ take count bytes.now) }
-        ensures moves { (C.state (calls_of self.old)).honest → OnOk result ((C.state (calls_of self.old)).clock < (C.state (calls_of self.new)).clock) }
-        ensures writes { (C.state (calls_of self.old)).honest → FileWrites at (length bytes.now) (C.state (calls_of self.old)) (C.state (calls_of self.new)) }
-        ensures same { SameFile (C.state (calls_of self.old)) (C.state (calls_of self.new)) }
+        ensures put { (u : C.Unseen) → (C.state u (calls_of self.new)).honest → IfOk result (λ count. window (C.state u (calls_of self.new)).bytes at count ≡ take count bytes.now) }
+        ensures moves { (u : C.Unseen) → (C.state u (calls_of self.new)).honest → OnOk result ((C.state u (calls_of self.old)).clock < (C.state u (calls_of self.new)).clock) }
+        ensures writes { (u : C.Unseen) → (C.state u (calls_of self.new)).honest → FileWrites at (length bytes.now) (C.state u (calls_of self.old)) (C.state u (calls_of self.new)) }
+        ensures goes_on { (u : C.Unseen) → FileGoesOn C.lasts (C.state u (calls_of self.old)) (C.state u (calls_of self.new)) }
         ensures device { IsErrOf result Damaged → ⊥ }
         ensures failed { IsErrOf result Device → failures_of self.new ≡ one_more (failures_of self.old) }
         ensures served { OnOk result (failures_of self.new ≡ failures_of self.old) }
@@ -83,22 +102,39 @@ impl<C: FileCalls> HostFile<C> {
 }
 
 impl<C: FileCalls> Durable for HostFile<C> {
-    ghost state = { λ file. with_failures (C.state file.calls) file.failures };
+    ghost use Rattle.imagefile.specs.HostFile.{calls_of, failures_of};
 
-    ghost counts_now = { λ file t r h le may. C.counts_now file.calls t r h le may };
+    ghost state = { λ file. lasting C.lasts (C.state C.supposed file.calls) file.failures };
 
-    ghost only_now = { λ file r h left. C.only_now file.calls r h left };
+    ghost counts_now = { λ file t r h le may. C.counts_now C.supposed file.calls t r h.1 le may };
 
-    ghost reaches_back = { λ file t u r h le left. C.reaches_back file.calls t u r h le left };
+    ghost only_now = { λ file r h left. C.only_now C.supposed file.calls r h.1 left };
 
-    fn len(&mut self) -> Result<u64, Fault> {
+    ghost reaches_back = { λ file t u r h le left. C.reaches_back C.supposed file.calls t u r h.1 le left };
+
+    fn len(&mut self) -> Result<u64, Fault>
+        ensures answers { (u : C.Unseen) → (C.state u (calls_of self.new)).honest → IfOk result (λ size. size ≡ (C.state u (calls_of self.old)).size) }
+        ensures changes { (u : C.Unseen) → (C.state u (calls_of self.new)).honest → FileKeeps (C.state u (calls_of self.old)) (C.state u (calls_of self.new)) }
+        ensures goes_on { (u : C.Unseen) → FileGoesOn C.lasts (C.state u (calls_of self.old)) (C.state u (calls_of self.new)) }
+        ensures device { IsErrOf result Damaged → ⊥ }
+        ensures failed { IsErrOf result Device → failures_of self.new ≡ one_more (failures_of self.old) }
+        ensures served { OnOk result (failures_of self.new ≡ failures_of self.old) }
+    {
         match self.calls.size() {
             Ok(size) => Ok(size),
             Err(_) => Err(self.device_fault()),
         }
     }
 
-    fn read_at(&mut self, at: u64, bytes: &mut [u8]) -> Result<(), Fault> {
+    fn read_at(&mut self, at: u64, bytes: &mut [u8]) -> Result<(), Fault>
+        requires { C.lasts → (C.state C.supposed (calls_of self.old)).honest → at + length bytes.old ≤ (C.state C.supposed (calls_of self.old)).size }
+        ensures answers { (u : C.Unseen) → (C.state u (calls_of self.new)).honest → OnOk result (bytes.new ≡ window (C.state u (calls_of self.old)).bytes at (length bytes.old)) }
+        ensures changes { (u : C.Unseen) → (C.state u (calls_of self.new)).honest → FileKeeps (C.state u (calls_of self.old)) (C.state u (calls_of self.new)) }
+        ensures goes_on { (u : C.Unseen) → FileGoesOn C.lasts (C.state u (calls_of self.old)) (C.state u (calls_of self.new)) }
+        ensures device { IsErrOf result Damaged → ⊥ }
+        ensures failed { IsErrOf result Device → failures_of self.new ≡ one_more (failures_of self.old) }
+        ensures served { OnOk result (failures_of self.new ≡ failures_of self.old) }
+    {
         let mut done = 0;
         while done < bytes.len() {
             let Some(place) = at.checked_add(done as u64) else {
@@ -109,7 +145,16 @@ impl<C: FileCalls> Durable for HostFile<C> {
         Ok(())
     }
 
-    fn write_at(&mut self, at: u64, bytes: &[u8]) -> Result<(), Fault> {
+    fn write_at(&mut self, at: u64, bytes: &[u8]) -> Result<(), Fault>
+        requires { C.lasts → (C.state C.supposed (calls_of self.old)).honest → at + length bytes.now ≤ (C.state C.supposed (calls_of self.old)).size }
+        ensures answers { (u : C.Unseen) → (C.state u (calls_of self.new)).honest → OnOk result (window (C.state u (calls_of self.new)).bytes at (length bytes.now) ≡ bytes.now) }
+        ensures later { (u : C.Unseen) → (C.state u (calls_of self.new)).honest → OnOk result ((C.state u (calls_of self.old)).clock < (C.state u (calls_of self.new)).clock) }
+        ensures changes { (u : C.Unseen) → (C.state u (calls_of self.new)).honest → FileWrites at (length bytes.now) (C.state u (calls_of self.old)) (C.state u (calls_of self.new)) }
+        ensures goes_on { (u : C.Unseen) → FileGoesOn C.lasts (C.state u (calls_of self.old)) (C.state u (calls_of self.new)) }
+        ensures device { IsErrOf result Damaged → ⊥ }
+        ensures failed { IsErrOf result Device → failures_of self.new ≡ one_more (failures_of self.old) }
+        ensures served { OnOk result (failures_of self.new ≡ failures_of self.old) }
+    {
         let mut done = self.put_some(at, bytes)?;
         while done < bytes.len() {
             let Some(place) = at.checked_add(done as u64) else {
@@ -120,7 +165,15 @@ impl<C: FileCalls> Durable for HostFile<C> {
         Ok(())
     }
 
-    fn sync(&mut self) -> Result<(), Fault> {
+    fn sync(&mut self) -> Result<(), Fault>
+        ensures answers { (u : C.Unseen) → (C.state u (calls_of self.new)).honest → OnOk result (FileSyncs (C.state u (calls_of self.old)) (C.state u (calls_of self.new))) }
+        ensures later { (u : C.Unseen) → (C.state u (calls_of self.new)).honest → OnOk result ((C.state u (calls_of self.old)).clock < (C.state u (calls_of self.new)).clock) }
+        ensures changes { (u : C.Unseen) → (C.state u (calls_of self.new)).honest → OnErr result (FileKeeps (C.state u (calls_of self.old)) (C.state u (calls_of self.new))) }
+        ensures goes_on { (u : C.Unseen) → FileGoesOn C.lasts (C.state u (calls_of self.old)) (C.state u (calls_of self.new)) }
+        ensures device { IsErrOf result Damaged → ⊥ }
+        ensures failed { IsErrOf result Device → failures_of self.new ≡ one_more (failures_of self.old) }
+        ensures served { OnOk result (failures_of self.new ≡ failures_of self.old) }
+    {
         match self.calls.sync_all() {
             Ok(()) => Ok(()),
             Err(_) => Err(self.device_fault()),

@@ -8,17 +8,25 @@
 //! 3. A file is refused exactly where its length is not a multiple of 1024 bytes or it has 2^32 blocks or
 //!    more, or where it fails; nothing is written, and the file is handed back. (`block_count`, `new`)
 //! 4. `MemFile` is a `Durable` with no assumption, and each of its calls leaves exactly what is stated.
-//! 5. `HostFile` is a `Durable` over any system's calls, honest where they are. That a real file is, is
-//!    its user's premise: nobody else writes the file, and the device returns what was written.
-//! 6. `Device` is answered exactly with one more failure, on every file. (`failed`, `served`)
+//! 5. `HostFile` is a `Durable` over any system's calls, honest where their honesty lasts. Beyond that,
+//!    what a call of it answered is right wherever the calls are honest after it. (`answers`, `changes`)
+//! 6. A real file is the record of its calls: each adds itself with its answer, and no other, on every
+//!    file and with no assumption. (`noted`, `asked`) What goes on record is what was asked of the
+//!    standard library, as far as its traits say what a call does (`made`): of a sync they say nothing.
+//! 7. It is honest while that record is one that a file gives which keeps to the model, and such a file's
+//!    record always is. (`SeekingFile`, `answers_by_the_model_are_honest`)
+//! 8. `Device` is answered exactly with one more failure, on every file. (`failed`, `served`)
 #![tactic(auto)]
 
+mod call_record;
 mod calls;
 mod durable;
 mod host;
 mod image;
 mod memory;
 mod memory_calls;
+mod seeking;
+mod system;
 #[cfg(test)]
 mod tests;
 
@@ -27,3 +35,5 @@ pub use durable::Durable;
 pub use host::HostFile;
 pub use image::{ImageDisk, ImageError, block_count, damage_is_by_the_format};
 pub use memory::MemFile;
+pub use seeking::{SeekingFile, answers_by_the_model_are_honest};
+pub use system::{HostCalls, SystemCalls};

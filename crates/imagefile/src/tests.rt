@@ -1,10 +1,17 @@
+ghost use Rattle.std.specs.Prelude.{◌≡◌, ℕ, false, length, IfOk, OnOk};
 ghost use Rattle.imagefile.specs.Host.{unknown_file};
+ghost use Rattle.imagefile.specs.HostFile.{calls_of};
+ghost use Rattle.imagefile.specs.SeekingFile.{system_of};
+ghost use Rattle.imagefile.specs.Recorded.{Unseen, IsHonestRecord, after_calls};
 
-use crate::{Durable, FileCalls, HostFile, ImageDisk, ImageError, MemFile, block_count};
+use crate::{
+    Durable, FileCalls, HostCalls, HostFile, ImageDisk, ImageError, MemFile, SeekingFile,
+    SystemCalls, block_count,
+};
 use blockdisk::{Disk, Fault, NoMemory};
 use std::alloc::{AllocError, Global};
-use std::fs::{self, File, OpenOptions};
-use std::io;
+use std::fs::{self, File, Metadata, OpenFile, OpenOptions};
+use std::io::{self, Read, Seek, SeekFrom, Write};
 use std::process::Abort;
 use std::test::Fail;
 use words36::{BLOCK_WORDS, Block, Word};
@@ -173,7 +180,7 @@ const PATH: &str = "imagefile_test/v1.img";
 
 fn open(rt: &HostRuntime) -> io::Result<HostFile> {
     let file = OpenOptions::new().read(true).write(true).open(rt, PATH)?;
-    Ok(HostFile::new(file))
+    Ok(HostFile::from_file(file))
 }
 
 #[test]
@@ -191,6 +198,20 @@ fn an_image_of_the_host(rt: HostRuntime) -> Result<(), Fail> {
     assert_eq!(rt; file.read_at(63 * 1024 + 1016, &mut bytes), Ok(()));
     assert_eq!(rt; bytes, [0, 0, 0, 2, 0x9c, 0xbb, 0x82, 0x9c]);
     assert_eq!(rt; file.read_at(65530, &mut bytes), Err(Fault::Device));
+    let mut back = [0; 4];
+    assert_eq!(rt;
+        read_back(&mut file, 1020, &[9, 8, 7, 6], &mut back),
+        Ok(())
+    );
+    assert_eq!(rt; back, [9, 8, 7, 6]);
+    fs::write(&rt, PATH, [0; 1025].as_slice())?;
+    match ImageDisk::new(open(&rt)?) {
+        Ok(_disk) => assert!(rt; false),
+        Err((error, mut file)) => {
+            assert_eq!(rt; error, ImageError::BadSize);
+            assert_eq!(rt; file.len(), Ok(1025));
+        }
+    }
     fs::remove_dir_all(&rt, FOLDER)?;
     Ok(())
 }
@@ -214,13 +235,19 @@ impl Sluggish {
 }
 
 impl FileCalls for Sluggish {
-    ghost state = { λ _. unknown_file };
+    ghost Unseen = { Unit {0} };
 
-    ghost counts_now = { λ file t r h le may. absurd h };
+    ghost supposed = { tt };
 
-    ghost only_now = { λ file r h left. absurd h };
+    ghost state = { λ u file. unknown_file };
 
-    ghost reaches_back = { λ file t u r h le left. absurd h };
+    ghost lasts = { Unit {0} };
+
+    ghost counts_now = { λ u file t r h le may. absurd h };
+
+    ghost only_now = { λ u file r h left. absurd h };
+
+    ghost reaches_back = { λ u file t s r h le left. absurd h };
 
     fn size(&mut self) -> io::Result<u64> {
         self.turn()?;
@@ -275,6 +302,23 @@ fn calls_that_do_less_than_asked(rt: HostRuntime) -> Result<(), Fail> {
     Ok(())
 }
 
+/// What was written to a real file and synced is read back, and nothing is open then, wherever the
+/// record of its calls is an honest one at the end: a theorem, made of the clauses of the three calls.
+fn read_back<S: SystemCalls>(
+    file: &mut HostFile<SeekingFile<S>>,
+    at: u64,
+    bytes: &[u8],
+    back: &mut [u8],
+) -> Result<(), Fault>
+    requires { length back.old ≡ length bytes.now }
+    ensures same { (u : Unseen) → IsHonestRecord u (S.history (system_of (calls_of file.new))) → OnOk result (back.new ≡ bytes.now) }
+    ensures closed { (u : Unseen) → IsHonestRecord u (S.history (system_of (calls_of file.new))) → OnOk result ((p : ℕ) → (after_calls u (S.history (system_of (calls_of file.new)))).is_open p ≡ false) }
+{
+    file.write_at(at, bytes)?;
+    file.sync()?;
+    file.read_at(at, back)
+}
+
 /// A file in memory as what a system's calls work on.
 #[test]
 fn an_image_behind_calls(rt: HostRuntime) -> Result<(), Fail> {
@@ -283,6 +327,101 @@ fn an_image_behind_calls(rt: HostRuntime) -> Result<(), Fail> {
         Ok(mut disk) => expect_v1(&rt, &mut disk),
         Err(_refused) => assert!(rt; false),
     }
+    Ok(())
+}
+
+/// The calls of the standard library's on a file: all do what they are asked but one.
+#[derive(Clone, Copy, PartialEq, Eq)]
+enum StdCall {
+    Seek,
+    Read,
+    Write,
+    Sync,
+}
+
+/// A file that fails one call and keeps nothing.
+#[derive(Drop)]
+struct Failing {
+    call: StdCall,
+}
+
+impl Failing {
+    fn answer<T>(&self, call: StdCall, value: T) -> io::Result<T>
+    where
+        T: Drop,
+        ensures { IfOk result (λ answered. answered ≡ value) }
+    {
+        if self.call == call {
+            return Err(io::Error::from(io::ErrorKind::Other));
+        }
+        Ok(value)
+    }
+}
+
+impl Read for Failing {
+    fn read(&mut self, buf: &mut [u8]) -> io::Result<usize> {
+        self.answer(StdCall::Read, buf.len())
+    }
+}
+
+impl Write for Failing {
+    fn write(&mut self, buf: &[u8]) -> io::Result<usize> {
+        self.answer(StdCall::Write, buf.len())
+    }
+
+    fn flush(&mut self) -> io::Result<()> {
+        Ok(())
+    }
+}
+
+impl Seek for Failing {
+    fn seek(&mut self, to: SeekFrom) -> io::Result<u64> {
+        match to {
+            SeekFrom::Start(at) => self.answer(StdCall::Seek, at),
+            _ => self.answer(StdCall::Seek, 4096),
+        }
+    }
+}
+
+impl OpenFile for Failing {
+    fn metadata(&self) -> io::Result<Metadata> {
+        Err(io::Error::from(io::ErrorKind::Unsupported))
+    }
+
+    fn set_len(&self, _size: u64) -> io::Result<()> {
+        Err(io::Error::from(io::ErrorKind::Unsupported))
+    }
+
+    fn sync_all(&self) -> io::Result<()> {
+        self.answer(StdCall::Sync, ())
+    }
+
+    fn sync_data(&self) -> io::Result<()> {
+        Err(io::Error::from(io::ErrorKind::Unsupported))
+    }
+}
+
+/// What a file's calls answer is what the standard library answered, that of a sync too.
+#[test]
+fn each_call_of_the_host_fails(rt: HostRuntime) {
+    for call in [StdCall::Seek, StdCall::Read, StdCall::Write, StdCall::Sync] {
+        let mut file = HostFile::new(SeekingFile::new(HostCalls::new(Failing { call })));
+        let seeks = call != StdCall::Seek;
+        assert!(rt; file.len() == if seeks { Ok(4096) } else { Err(Fault::Device) });
+        let read = file.read_at(1, &mut [0; 8]);
+        assert_eq!(rt; read.is_ok(), seeks && call != StdCall::Read);
+        let written = file.write_at(1, &[0; 8]);
+        assert_eq!(rt; written.is_ok(), seeks && call != StdCall::Write);
+        assert_eq!(rt; file.sync().is_ok(), call != StdCall::Sync);
+    }
+}
+
+#[test]
+fn texts_of_errors(rt: HostRuntime) -> Result<(), Fail> {
+    let size = ImageError::BadSize.to_string(rt.alloc())?;
+    assert_eq!(rt; size.as_str(), "not an image's size");
+    let device = ImageError::Device.to_string(rt.alloc())?;
+    assert_eq!(rt; device.as_str(), "device fault");
     Ok(())
 }
 

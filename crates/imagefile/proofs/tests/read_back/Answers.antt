@@ -1,0 +1,32 @@
+use Rattle.std.proofs.Common.{◌∙◌, length, Result, Ok, Err, OnOk, ap}
+use Rattle.imagefile.specs.File.{window}
+use Rattle.imagefile.specs.HostFile.{calls_of}
+use Rattle.imagefile.specs.SeekingFile.{system_of}
+use Rattle.imagefile.specs.Recorded.{after_calls}
+use Rattle.imagefile.specs.ImageLaws.{window-same}
+use Rattle.imagefile.proofs.tests.read_back.Goals as goal
+
+on_ok : {T E P Q : Type 0} (result : Result T E) → (P → Q) → OnOk result P → OnOk result Q
+on_ok (Ok value) f p = f p
+on_ok (Err error) f p = tt
+
+at_ok : {T E Q : Type 0} (result : Result T E) → Q → OnOk result Q
+at_ok (Ok value) q = q
+at_ok (Err error) q = tt
+
+pub returns-clause-same : goal.returns-clause-same
+returns-clause-same g c u h =
+    let synced = (c.read_at.ensures.goes_on u).was_honest h in
+    let written = (c.in_ok-sync.ensures.goes_on u).was_honest synced in
+    let b = (after_calls u (g.S.SystemCalls.history (system_of (calls_of c.write_at.new.self)))).bytes in
+    let b' = (after_calls u (g.S.SystemCalls.history (system_of (calls_of c.sync.new.self)))).bytes in
+    on_ok c.read_at.result
+    (λ is. is ∙ ap (window b' c.args.at) c.requires
+    ∙ window-same b b' c.args.at (length c.args.bytes.now) (λ p inside. (c.in_ok-sync.ensures.answers u synced).bytes p)
+    ∙ c.in_ok-write_at.ensures.answers u written)
+    (c.read_at.ensures.answers u h)
+
+pub returns-clause-closed : goal.returns-clause-closed
+returns-clause-closed g c u h =
+    let synced = (c.read_at.ensures.goes_on u).was_honest h in
+    at_ok c.read_at.result (λ p. (c.read_at.ensures.changes u h).is_open p ∙ (c.in_ok-sync.ensures.answers u synced).closed p)

@@ -1,0 +1,106 @@
+-- A file as the record of its calls shows it, and when that record is one that a file gives which keeps
+-- to the model.
+use Rattle.std.specs.Prelude.{◌≡◌, ◌⊎◌, ◌+◌, ◌-◌, ◌≤◌, ℕ, suc, nat_le, Bool, true, false, ◌&&◌, ◌||◌, if◌then◌else◌, unwrap_or, List, [], ◌∷◌, length, get_or, Option, Some, None, IfSome, IsSome, IsSomeAnd}
+use Rattle.imagefile.specs.File.{Bytes, Remains, FileState, window}
+use Rattle.imagefile.specs.Calls.{Call, SeekStart, SeekEnd, Read, Write, Sync}
+
+-- What no call shows of a file.
+pub record Unseen : Type 0 where
+  -- the number of bytes
+  pub size : ℕ
+  -- the bytes before the first call, and which of them were open
+  pub first : Bytes
+  pub opened : ℕ → Bool
+  -- what stands where the call after so many others was to write and took nothing
+  pub left : ℕ → Bytes
+
+-- what is so between two calls
+pub record Between : Type 0 where
+  pub bytes : Bytes
+  pub is_open : ℕ → Bool
+  -- where the next read or write begins, where that is known
+  pub position : Option ℕ
+
+-- p is one of the n places from `at` on
+unfoldable pub is_inside : ℕ → ℕ → ℕ → Bool
+is_inside at n p = nat_le at p && nat_le (suc p) (at + n)
+
+-- so many bytes further
+abbrev pub moved : Option ℕ → Option ℕ → Option ℕ
+moved None count = None
+moved (Some p) None = None
+moved (Some p) (Some n) = Some (p + n)
+
+abbrev pub count_of : Option (List ℕ) → Option ℕ
+count_of None = None
+count_of (Some bytes) = Some (length bytes)
+
+-- the bytes after a write from `at` on that took so many, and left these where it was to take more
+abbrev pub bytes_after : ℕ → List ℕ → ℕ → Bytes → Bytes → Bytes
+bytes_after at given count left b p =
+    if is_inside at count p then get_or given (p - at) 0 else if is_inside at (length given) p then left p else b p
+
+-- what a call makes of it that comes after n others
+abbrev pub after_call : Unseen → ℕ → Call → Between → Between
+after_call u n (SeekStart at place) b = record { bytes = b.bytes; is_open = b.is_open; position = place }
+after_call u n (SeekEnd place) b = record { bytes = b.bytes; is_open = b.is_open; position = place }
+after_call u n (Read asked bytes) b = record { bytes = b.bytes; is_open = b.is_open; position = moved b.position (count_of bytes) }
+after_call u n (Write given count) b = record {
+  bytes = bytes_after (unwrap_or b.position 0) given (unwrap_or count 0) (u.left n) b.bytes;
+  is_open = λ p. is_inside (unwrap_or b.position 0) (length given) p || b.is_open p;
+  position = moved b.position count;
+}
+after_call u n (Sync true) b = record { bytes = b.bytes; is_open = λ p. false; position = b.position }
+after_call u n (Sync false) b = b
+
+-- after all calls of a record, of which the newest comes first
+abbrev pub after_calls : Unseen → List Call → Between
+after_calls u [] = record { bytes = u.first; is_open = u.opened; position = None }
+after_calls u (call ∷ earlier) = after_call u (length earlier) call (after_calls u earlier)
+
+-- What a file that keeps to the model may answer. A seek to a place asks nothing of the device, and
+-- does not fail; the other calls may. Of a read or write at a position that isn't known, or past the
+-- end, the model says nothing.
+abbrev pub IsAllowed : Unseen → Between → Call → Type 0
+IsAllowed u b (SeekStart at place) = place ≡ Some at
+IsAllowed u b (SeekEnd place) = IfSome place (λ p. p ≡ u.size)
+IsAllowed u b (Read asked bytes) = IfSome bytes (λ came. IsSomeAnd b.position (λ at. (at + length came ≤ u.size) × (came ≡ window b.bytes at (length came))))
+IsAllowed u b (Write given count) = IsSomeAnd b.position (λ at. (at + length given ≤ u.size) × IfSome count (λ n. n ≤ length given))
+IsAllowed u b (Sync done) = Unit {0}
+
+-- each answer on record is one that such a file may give
+abbrev pub IsHonestRecord : Unseen → List Call → Type 0
+IsHonestRecord u [] = Unit {0}
+IsHonestRecord u (call ∷ earlier) = IsHonestRecord u earlier × IsAllowed u (after_calls u earlier) call
+
+-- what a crash may leave between two calls: anything at the open bytes
+abbrev pub MayStay : Between → Remains → Type 0
+MayStay b r = (p : ℕ) → b.is_open p ≡ false → r p ≡ Some (b.bytes p)
+
+-- what a crash may have left since there were so many calls
+abbrev pub LeftSince : Unseen → List Call → ℕ → Remains → Type 0
+LeftSince u [] t r = (t ≤ 0) × MayStay (after_calls u []) r
+LeftSince u (call ∷ earlier) t r = LeftSince u earlier t r ⊎ ((t ≤ length (call ∷ earlier)) × MayStay (after_calls u (call ∷ earlier)) r)
+
+-- the file; its failed calls are counted elsewhere
+abbrev pub recorded : Unseen → List Call → FileState
+recorded u calls = record {
+  size = u.size;
+  honest = IsHonestRecord u calls;
+  failures = 0;
+  bytes = (after_calls u calls).bytes;
+  is_open = (after_calls u calls).is_open;
+  clock = length calls;
+  left_since = LeftSince u calls;
+}
+
+-- a call at a place: a seek to it, and the call itself where that answered
+abbrev pub asked_at : ℕ → Option ℕ → Call → List Call → List Call
+asked_at at None call earlier = SeekStart at None ∷ earlier
+asked_at at (Some place) call earlier = call ∷ SeekStart at (Some place) ∷ earlier
+
+-- This call was asked for at this place, and nothing else.
+pub record AsksAt (at : ℕ) (call : Call) (done : Bool) (earlier now : List Call) : Type 0 where
+  pub place : Option ℕ
+  pub asked : now ≡ asked_at at place call earlier
+  pub reached : done ≡ true → IsSome place

@@ -1,0 +1,140 @@
+ghost use Rattle.std.specs.Prelude.{◌≡◌, ◌≤◌, List, ◌∷◌, [], length, is_ok, pos, IfOk};
+ghost use Rattle.std.specs.Io.KnownBytes.{ReadConsumes, WriteAppends};
+ghost use Rattle.std.specs.Io.Seek.{SeekMoves};
+ghost use Rattle.std.specs.declared.io.traits.SeekFrom.TheVariants as from;
+ghost use Rattle.imagefile.specs.Calls.{Call, SeekStart, SeekEnd, Read as ReadCall, Write as WriteCall, Sync, answer, came};
+
+use crate::call_record::{CallMade, CallRecord};
+use std::fs::{File, OpenFile};
+use std::io::{self, Read, Seek, SeekFrom, Write};
+
+/// The calls of a system on an open file, one by one: each goes on record with its answer, whatever
+/// that is. Nothing is supposed of the answers.
+pub trait SystemCalls {
+    /// What was asked so far and what was answered, the newest call first.
+    ghost history: { Self → List Call };
+
+    /// Sets the position to be `at` bytes from the beginning, and answers where it is.
+    ///
+    /// # Errors
+    ///
+    /// The system's.
+    fn seek_start(&mut self, at: u64) -> io::Result<u64>
+        ensures noted { history self.new ≡ SeekStart at (answer result) ∷ history self.old };
+
+    /// Sets the position to be the end, and answers where it is.
+    ///
+    /// # Errors
+    ///
+    /// The system's.
+    fn seek_end(&mut self) -> io::Result<u64>
+        ensures noted { history self.new ≡ SeekEnd (answer result) ∷ history self.old };
+
+    /// Reads some bytes from the position on, which moves behind them, and answers how many.
+    ///
+    /// # Errors
+    ///
+    /// The system's; `bytes` may then hold anything.
+    fn read(&mut self, bytes: &mut [u8]) -> io::Result<usize>
+        ensures few { IfOk result (λ count. count ≤ length bytes.old) }
+        ensures noted { history self.new ≡ ReadCall (length bytes.old) (came result bytes.new) ∷ history self.old };
+
+    /// Writes some of the bytes from the position on, which moves behind them, and answers how many.
+    ///
+    /// # Errors
+    ///
+    /// The system's; the places of the bytes may then hold anything.
+    fn write(&mut self, bytes: &[u8]) -> io::Result<usize>
+        ensures few { IfOk result (λ count. count ≤ length bytes.now) }
+        ensures noted { history self.new ≡ WriteCall bytes.now (answer result) ∷ history self.old };
+
+    /// Waits until all that was written is on the device.
+    ///
+    /// # Errors
+    ///
+    /// The system's.
+    fn sync(&mut self) -> io::Result<()>
+        ensures noted { history self.new ≡ Sync (is_ok result) ∷ history self.old };
+}
+
+/// An open file of the host, with the record of its calls.
+///
+/// Each method makes one call of the standard library's and puts it on record. That it is the call on
+/// record is proved as far as the library's traits have words for it: where a seek goes, which bytes
+/// came and which were taken. A sync has none there.
+#[derive(Drop)]
+pub struct HostCalls<F: Read + Write + Seek + OpenFile = File> {
+    file: F,
+    history: CallRecord,
+}
+
+impl<F: Read + Write + Seek + OpenFile> HostCalls<F> {
+    ghost use Rattle.imagefile.specs.HostCalls.{history_of, file_of};
+
+    /// This open file, of which nothing was asked yet.
+    pub fn new(file: F) -> Self
+        ensures file { file_of result ≡ file }
+        ensures history { history_of result ≡ [] }
+    {
+        HostCalls {
+            file,
+            history: CallRecord::new(),
+        }
+    }
+}
+
+impl<F: Read + Write + Seek + OpenFile> SystemCalls for HostCalls<F> {
+    ghost use Rattle.imagefile.specs.HostCalls.{history_of, file_of};
+
+    ghost history = { history_of };
+
+    fn seek_start(&mut self, at: u64) -> io::Result<u64>
+        ensures noted { history_of self.new ≡ SeekStart at (answer result) ∷ history_of self.old }
+        ensures made { SeekMoves (F.Seek.stream_position (file_of self.old)) (F.Seek.stream_position (file_of self.new)) (F.Seek.stream_bytes (file_of self.old)) (from.Start at) result }
+    {
+        let place = self.file.seek(SeekFrom::Start(at));
+        self.history = self.history.then(&CallMade::SeekStart(at, place.ok()));
+        place
+    }
+
+    fn seek_end(&mut self) -> io::Result<u64>
+        ensures noted { history_of self.new ≡ SeekEnd (answer result) ∷ history_of self.old }
+        ensures made { SeekMoves (F.Seek.stream_position (file_of self.old)) (F.Seek.stream_position (file_of self.new)) (F.Seek.stream_bytes (file_of self.old)) (from.End (pos 0)) result }
+    {
+        let place = self.file.seek(SeekFrom::End(0));
+        self.history = self.history.then(&CallMade::SeekEnd(place.ok()));
+        place
+    }
+
+    fn read(&mut self, bytes: &mut [u8]) -> io::Result<usize>
+        ensures few { IfOk result (λ count. count ≤ length bytes.old) }
+        ensures noted { history_of self.new ≡ ReadCall (length bytes.old) (came result bytes.new) ∷ history_of self.old }
+        ensures made { ReadConsumes (F.Read.remaining (file_of self.old)) (F.Read.remaining (file_of self.new)) result bytes.new }
+    {
+        let asked = bytes.len();
+        let count = self.file.read(bytes);
+        self.history = match count {
+            Ok(count) => self
+                .history
+                .then(&CallMade::Read(asked, Some(&bytes[..count]))),
+            Err(_) => self.history.then(&CallMade::Read(asked, None)),
+        };
+        count
+    }
+
+    fn write(&mut self, bytes: &[u8]) -> io::Result<usize>
+        ensures few { IfOk result (λ count. count ≤ length bytes.now) }
+        ensures noted { history_of self.new ≡ WriteCall bytes.now (answer result) ∷ history_of self.old }
+        ensures made { WriteAppends (F.Write.contents (file_of self.old)) (F.Write.contents (file_of self.new)) result bytes.now }
+    {
+        let count = self.file.write(bytes);
+        self.history = self.history.then(&CallMade::Write(bytes, count.ok()));
+        count
+    }
+
+    fn sync(&mut self) -> io::Result<()> {
+        let done = self.file.sync_all();
+        self.history = self.history.then(&CallMade::Sync(done.is_ok()));
+        done
+    }
+}
