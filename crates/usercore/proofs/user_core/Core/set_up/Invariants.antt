@@ -1,0 +1,7 @@
+use Rattle.std.proofs.Common.{◌≡◌}
+use Rattle.meaning.specs.Cores.{after_writes}
+use Rattle.meaning.specs.Rings.{ring_writes}
+use Rattle.usercore.proofs.user_core.Core.set_up.Given as goal
+
+abbrev pub invariant-loop-k : goal.invariant-loop-k
+invariant-loop-k l = l.self ≡ after_writes l.fn.self (ring_writes l.base l.count l.k)

@@ -1,0 +1,4 @@
+pub mod CoreWords
+pub mod ByteSizes
+pub mod Steps
+pub mod FirstRings

@@ -1,0 +1,57 @@
+ghost use Rattle.std.specs.Prelude.{◌≡◌, ◌<◌, ◌≤◌, ◌+◌, All, Some, None, IfOk, IfErr, OnErr, length};
+ghost use Rattle.meaning.specs.CommandLists.{dump_list, word_count};
+ghost use Rattle.usercore.specs.declared.error.CoreError.TheVariants.{AddressCheck};
+
+use crate::{Area, Core, CoreError, LARGEST_CORE};
+use arrayvec::ArrayVec;
+
+/// How many command words of a list are looked at.
+pub const MAX_COMMANDS: usize = 512;
+
+impl Core {
+    /// What the command list at an address names: areas of words that lie in this core. The whole list is
+    /// read before anything is moved.
+    ///
+    /// # Errors
+    ///
+    /// `AddressCheck` where a command word, or a word that it names, lies outside the core, where the list
+    /// has no end within 512 command words, and where it names more than 131,072 words.
+    pub fn dump_list(&self, address: u32) -> Result<ArrayVec<Area, MAX_COMMANDS>, CoreError>
+        ensures areas { IfOk result (λ areas. dump_list self.now address ≡ Some areas.items) }
+        ensures within { IfOk result (λ areas. All (λ area. area.first + area.count ≤ length self.now) areas.items) }
+        ensures few { IfOk result (λ areas. word_count areas.items ≤ 0o400000) }
+        ensures none { OnErr result (dump_list self.now address ≡ None) }
+        ensures refused { IfErr result (λ error. error ≡ AddressCheck) }
+    {
+        let mut areas = ArrayVec::new();
+        let mut total = 0;
+        let mut address = address as usize;
+        for _looked in 0..MAX_COMMANDS {
+            if address >= self.length() {
+                return Err(CoreError::AddressCheck);
+            }
+            let command = self.read(address);
+            let (left, right) = (command.left().bits(), command.right().bits());
+            if command.bits() == 0 {
+                return if total > LARGEST_CORE as usize {
+                    Err(CoreError::AddressCheck)
+                } else {
+                    Ok(areas)
+                };
+            }
+            if left == 0 {
+                address = right as usize;
+                continue;
+            }
+            let first = right as usize + 1;
+            let count = (1 << 18) - left as usize;
+            if first + count > self.length() {
+                return Err(CoreError::AddressCheck);
+            }
+            areas.push(Area { first, count });
+            total += count;
+            address += 1;
+        }
+        Err(CoreError::AddressCheck)
+    }
+}
