@@ -1,0 +1,5 @@
+use Rattle.monitor.proofs.Starts.{a_start}
+use Rattle.monitor.proofs.laws.files_have_a_start.Goals as goal
+
+pub returns : goal.returns
+returns c = a_start

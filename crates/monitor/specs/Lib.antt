@@ -1,0 +1,4 @@
+pub mod Resets
+pub mod States
+pub mod Serving
+pub mod Lists

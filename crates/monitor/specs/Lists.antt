@@ -1,0 +1,20 @@
+-- What the monitor answers to who asks for a list.
+use Rattle.std.specs.Prelude.{◌≡◌, List, Result, Ok, Err}
+use Rattle.meaning.specs.Codes.{number_of}
+use Rattle.meaning.specs.declared.entry.Entry.{Entry}
+use Rattle.meaning.specs.declared.call.Reply.{Reply}
+use Rattle.meaning.specs.declared.call.Reply.TheVariants as replies
+use Rattle.volume.specs.declared.error.CallError.{CallError}
+use Rattle.volume.specs.declared.error.CallError.TheVariants.{Refused, Device, NoMemory, Failed}
+
+-- the answer to a call that the volume refused
+abbrev pub reply_of : CallError → Reply
+reply_of (Refused code) = replies.Refused (number_of code)
+reply_of Device = replies.Device
+reply_of NoMemory = replies.NoMemory
+reply_of Failed = replies.Failed
+
+-- a list, seen by `view`, as the machine gives it
+abbrev pub IsListed : {L : Type 0} → (L → List Entry) → Result L Reply → Result (List Entry) Reply → Type 0
+IsListed view (Ok lines) answer = answer ≡ Ok (view lines)
+IsListed view (Err reply) answer = answer ≡ Err reply

@@ -1,0 +1,11 @@
+-- A monitor as a value: its disk, what it knows of it, whether it has failed, and the jobs.
+use Rattle.std.specs.Prelude.{Bool, List, Option, refl}
+use Rattle.std.specs.Coded.{Coded, code_by, coded×}
+use Rattle.meaning.specs.Jobs.{Job}
+use Rattle.volume.specs.Known.{Known}
+
+pub record MonitorState (D : Type 0) : Type 0 where
+  pub disk : D
+  pub map : Known
+  pub failed : Bool
+  pub jobs : List (Option Job)

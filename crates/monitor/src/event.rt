@@ -1,0 +1,81 @@
+ghost use Rattle.std.specs.Prelude.{◌≡◌, ◌⊎◌, ◌≤◌, true, false, Some, None, slice_set, slice_index};
+ghost use Rattle.meaning.specs.Jobs.{slot};
+ghost use Rattle.meaning.specs.Runs.{Service, Answers};
+ghost use Rattle.meaning.specs.Sessions.{login_answer, new_job};
+ghost use Rattle.meaning.specs.declared.call.Call.TheVariants.{Reset};
+ghost use Rattle.meaning.specs.declared.call.Event.TheVariants.{Login, Call as Calls};
+ghost use Rattle.meaning.specs.declared.call.Reply.TheVariants.{Done, NoMemory};
+ghost use Rattle.monitor.specs.Serving.{pack_of, Serves};
+
+use crate::job::{Job, Jobs, LARGEST_JOB};
+use crate::monitor::Monitor;
+use blockdisk::Disk;
+use meaning::Reply;
+use std::alloc::Global;
+use usercore::{Core, CoreError};
+use words36::{Moment, Ppn};
+
+/// The last date that layout 1 holds: 4-Jan-75.
+const LAST_DATE: u32 = 4095;
+
+/// Logs a job in, whoever had its number before.
+fn log_in(alloc: Global, jobs: &mut Jobs, number: u32, ppn: Ppn, words: u32) -> Reply
+    ensures answered { (result ≡ login_answer number words) ⊎ ((result ≡ NoMemory) × (login_answer number words ≡ Done)) }
+    ensures done { result ≡ Done → jobs.new ≡ slice_set jobs.old number (Some (new_job ppn words)) }
+    ensures kept { (result ≡ Done → ⊥) → jobs.new ≡ jobs.old }
+{
+    if number == 0 || number > LARGEST_JOB {
+        return Reply::NoJob;
+    }
+    match Core::new(alloc, words) {
+        Ok(core) => {
+            jobs.log_in(number, Job { ppn, core });
+            Reply::Done
+        }
+        Err(CoreError::AddressCheck) => Reply::AddressCheck,
+        Err(CoreError::NoMemory) => Reply::NoMemory,
+    }
+}
+
+impl<D: Disk> Monitor<D> {
+    /// Logs job `job`, 1 to 64, in as `ppn`, with a core of so many words, 1000 to 400000 (octal), all zero but
+    /// for word 121 (octal), which holds 140 (octal). A job that was logged in under that number is reset
+    /// first.
+    ///
+    /// The answer is `Done`; `NoJob` for another number; `AddressCheck` for another number of words; `NoMemory`
+    /// where the core finds no room; or `Failed`. Where it isn't `Done` nothing is changed.
+    pub fn login(&mut self, alloc: Global, job: u32, ppn: Ppn, words: u32) -> Reply
+        ensures answered { (old : Service) → Serves (D.state self.old.disk) self.old.failed self.old.jobs old
+            → (new : Service) × Serves (D.state self.new.disk) self.new.failed self.new.jobs new
+            × Answers (pack_of (D.state self.old.disk)) old (Login job ppn words) result new }
+        ensures kept { self.new ≡ record self.old { jobs = self.new.jobs } }
+    {
+        if self.volume.failed {
+            return Reply::Failed;
+        }
+        log_in(alloc, &mut self.jobs, job, ppn, words)
+    }
+
+    /// Resets a job, as the call RESET does: all its channels are closed, and the right half of word 121 (octal)
+    /// of its core becomes 140 (octal).
+    ///
+    /// The answer is `Done`; `DateRange` where the moment's date is above 4095, which layout 1 can't hold;
+    /// `NoJob` where no job of that number is logged in; or `Failed`. It wants no memory and touches no disk.
+    pub fn reset(&mut self, job: u32, moment: Moment) -> Reply
+        ensures answered { (old : Service) → Serves (D.state self.old.disk) self.old.failed self.old.jobs old
+            → (new : Service) × Serves (D.state self.new.disk) self.new.failed self.new.jobs new
+            × Answers (pack_of (D.state self.old.disk)) old (Calls job Reset moment) result new }
+        ensures kept { self.new ≡ record self.old { jobs = self.new.jobs } }
+    {
+        if self.volume.failed {
+            return Reply::Failed;
+        }
+        if moment.date > LAST_DATE {
+            return Reply::DateRange;
+        }
+        if !self.jobs.reset(job) {
+            return Reply::NoJob;
+        }
+        Reply::Done
+    }
+}

@@ -1,0 +1,59 @@
+ghost use Rattle.std.specs.Prelude.{◌≡◌, List, Result};
+ghost use Rattle.meaning.specs.Runs.{Service, Lists};
+ghost use Rattle.meaning.specs.declared.entry.Entry.{Entry};
+ghost use Rattle.meaning.specs.declared.call.Reply.{Reply};
+ghost use Rattle.monitor.specs.Serving.{Serves};
+ghost use Rattle.monitor.specs.Lists.{IsListed, reply_of};
+
+use crate::monitor::Monitor;
+use blockdisk::Disk;
+use meaning::{Entry, ErrorCode, Reply};
+use protect::{DirectoryAct, dir_right};
+use std::alloc::Global;
+use volume::CallError;
+use words36::Ppn;
+
+/// The answer to a call that the volume refused.
+pub fn reply_of(error: CallError) -> Reply
+    ensures { result ≡ reply_of error }
+{
+    match error {
+        CallError::Refused(code) => Reply::Refused(code.number()),
+        CallError::Device => Reply::Device,
+        CallError::NoMemory => Reply::NoMemory,
+        CallError::Failed => Reply::Failed,
+    }
+}
+
+impl<D: Disk> Monitor<D> {
+    /// The list of the files of a directory, by name and then by extension, as numbers.
+    ///
+    /// # Errors
+    ///
+    /// `NoJob` where no job of that number is logged in; `Refused(1)` where there is no such directory;
+    /// `Refused(2)` where its protection doesn't let the job look names up; `NoMemory` where the list finds no
+    /// room; `Failed` where the monitor has failed.
+    pub fn list(&self, alloc: Global, job: u32, ppn: Ppn) -> Result<Vec<Entry>, Reply>
+        ensures listed { (D.state self.now.disk).honest → (service : Service) → Serves (D.state self.now.disk) self.now.failed self.now.jobs service
+            → (answer : Result (List Entry) Reply) × IsListed (λ lines. lines.items) result answer × Lists service job ppn answer service }
+    {
+        if self.volume.failed {
+            return Err(Reply::Failed);
+        }
+        let Some(asking) = self.jobs.job(job) else {
+            return Err(Reply::NoJob);
+        };
+        let who = asking.ppn;
+        let protection = match self.volume.directory(ppn) {
+            Ok(protection) => protection,
+            Err(error) => return Err(reply_of(error)),
+        };
+        if !dir_right(protection, who, ppn, DirectoryAct::Look) {
+            return Err(Reply::Refused(ErrorCode::Protection.number()));
+        }
+        match self.volume.list(alloc, ppn) {
+            Ok(lines) => Ok(lines),
+            Err(error) => Err(reply_of(error)),
+        }
+    }
+}

@@ -1,0 +1,95 @@
+ghost use Rattle.std.specs.Prelude.{◌≡◌, ◌⊎◌, ℕ, false, IfOk, IfErr};
+ghost use Rattle.blockdisk.specs.Disk.{NoneOpen, SameDisk, Still, LeavesOnly, one_more};
+ghost use Rattle.changeset.specs.Crashes.{IsRecovered, LeavesFrom};
+ghost use Rattle.meaning.specs.Files.{File, Files};
+ghost use Rattle.meaning.specs.Jobs.{State};
+ghost use Rattle.meaning.specs.Published.{without_serials};
+ghost use Rattle.meaning.specs.Room.{room};
+ghost use Rattle.meaning.specs.Runs.{Service, Serving, IsStart};
+ghost use Rattle.meaning.specs.Stands.{Stands};
+ghost use Rattle.monitor.specs.Serving.{pack_of, IsState, Serves};
+ghost use Rattle.volume.specs.Cores.{known_of};
+ghost use Rattle.volume.specs.Meets.{Refuses};
+ghost use Rattle.volume.specs.Rest.{StandsLike, StandsLikeBefore};
+ghost use Rattle.volume.specs.declared.error.VolumeError.TheVariants.{Device};
+
+use crate::StartError;
+use crate::job::Jobs;
+use blockdisk::Disk;
+use std::alloc::Global;
+use std::marker::Model;
+use volume::Volume;
+
+/// A service over the files of one disk: a volume, and the jobs that are logged in.
+#[derive(Drop)]
+pub struct Monitor<D: Disk> {
+    pub(crate) volume: Volume<D>,
+    pub(crate) jobs: Jobs,
+}
+
+impl<D: Disk> Model for Monitor<D> {
+    ghost use Rattle.monitor.specs.States.{MonitorState};
+    ghost use Rattle.volume.specs.Cores.{known_of};
+    ghost use Rattle.volume.specs.Rest.{IsSound};
+
+    ghost Value = { MonitorState D };
+
+    ghost view = { λ m. record { disk = m.volume.disk; map = known_of m.volume.map; failed = m.volume.failed; jobs = m.jobs } };
+
+    ghost invariant = { λ m. IsSound (D.state m.volume.disk) (known_of m.volume.map) m.volume.failed };
+}
+
+impl<D: Disk> Monitor<D> {
+    /// Starts a service over a disk, which is recovered first and then read whole. Nobody is logged in.
+    ///
+    /// # Errors
+    ///
+    /// The refusals of `Volume::open`, with the disk handed back.
+    pub fn start(alloc: Global, disk: D) -> Result<Monitor<D>, (StartError, D)>
+        ensures started { (D.state disk).honest → (files : Files File) → Stands (D.state disk).size (D.state disk).contents files
+            → (s : State) → IsStart files s → IfOk result (λ m. Serves (D.state m.disk) m.failed m.jobs (Serving s)) }
+        ensures settled { (D.state disk).honest → IfOk result (λ m. NoneOpen (D.state m.disk)) }
+        ensures crash { (D.state disk).honest → IfOk result (λ m. LeavesOnly (D.state disk) (D.state m.disk) (StandsLikeBefore (D.state disk))) }
+        ensures synced { (D.state disk).honest → IfOk result (λ m. (t : ℕ) × LeavesFrom t (D.state disk) (D.state m.disk) (StandsLike (D.state disk))) }
+
+        ensures refused { (D.state disk).honest → IfErr result (λ refused. Refuses (D.state disk).size (D.state refused.1).contents refused.0) }
+        ensures kept { (D.state disk).honest → IfErr result (λ refused. (refused.0 ≡ Device → ⊥)
+            → Still (D.state disk) (D.state refused.1) ⊎ IsRecovered (D.state disk).size (D.state disk).contents (D.state refused.1).contents) }
+        ensures crash_refused { (D.state disk).honest → IfErr result (λ refused. LeavesOnly (D.state disk) (D.state refused.1) (StandsLikeBefore (D.state disk))) }
+
+        ensures same { IfOk result (λ m. SameDisk (D.state disk) (D.state m.disk)) }
+        ensures served { IfOk result (λ m. (D.state m.disk).failures ≡ (D.state disk).failures) }
+        ensures same_refused { IfErr result (λ refused. SameDisk (D.state disk) (D.state refused.1)) }
+        ensures failed { IfErr result (λ refused. refused.0 ≡ Device → (D.state refused.1).failures ≡ one_more (D.state disk).failures) }
+        ensures served_refused { IfErr result (λ refused. (refused.0 ≡ Device → ⊥) → (D.state refused.1).failures ≡ (D.state disk).failures) }
+    {
+        let Ok(jobs) = Jobs::new(alloc) else {
+            return Err((StartError::NoMemory, disk));
+        };
+        let volume = Volume::open(alloc, disk)?;
+        Ok(Monitor { volume, jobs })
+    }
+
+    /// How many blocks the disk has, also where the monitor has failed.
+    pub fn blocks(&self) -> u32
+        ensures { result ≡ (D.state self.now.disk).size }
+    {
+        self.volume.blocks()
+    }
+
+    /// How many blocks are left when all is booked; it may be below 0. Nothing is promised of it where the
+    /// monitor has failed.
+    pub fn room(&self) -> i64
+        ensures { (D.state self.now.disk).honest → (s : State) → Serves (D.state self.now.disk) self.now.failed self.now.jobs (Serving s)
+            → result ≡ room (pack_of (D.state self.now.disk)) s }
+    {
+        self.volume.room()
+    }
+
+    /// Ends the service, and gives the disk back as it stands.
+    pub fn finish(self) -> D
+        ensures { result ≡ self.disk }
+    {
+        self.volume.disk
+    }
+}
