@@ -1,0 +1,113 @@
+-- What a line is answered with.
+use Rattle.std.proofs.Common.{◌≡◌, ◌≢◌, ℕ, ◌||◌, Bool, true, false, List, [], ◌∷◌, refl, sym, ◌∙◌, ap, subst, Option, Some, None, Result, Ok, Err, IfOk, unwrap_or}
+use Rattle.std.specs.Prelude.{codes}
+use Rattle.words36.specs.declared.moment.Moment.{Moment}
+use Rattle.meaning.specs.Texts.{complains, refuses, prints, refusal, is_broken, greeting, listing, line}
+use Rattle.meaning.specs.Conducts.{Act, Asks, Looks, Shows}
+use Rattle.meaning.specs.Talks.{Speaks, core_words}
+use Rattle.meaning.specs.declared.entry.Entry.{Entry}
+use Rattle.meaning.specs.declared.command.Command.{Command}
+use Rattle.meaning.specs.declared.command.Command.TheVariants.{Login as LoginLine, Directory as DirectoryLine}
+use Rattle.meaning.specs.declared.call.Event.TheVariants.{Login}
+use Rattle.meaning.specs.declared.call.Reply.{Reply}
+use Rattle.meaning.specs.declared.call.Reply.TheVariants.{Done, Value, Refused, Stopped, NoChannel, AddressCheck, NoJob, NoMemory, Device, Failed, DateRange}
+use Rattle.commands.specs.Machines.{Machine, IsAnswered, IsListed, GoesBy}
+use Rattle.commands.specs.Sessions.{Spoke}
+use Rattle.commands.specs.declared.answer.Tally.{Tally}
+use Rattle.commands.proofs.GoingLaws.{goes_nowhere, goes_answered, goes_listed}
+use Rattle.commands.proofs.TalkLaws.{or-false}
+
+or-true : (b : Bool) → true ≡ b || true
+or-true true = refl
+or-true false = refl
+
+module _ {V E : Type 0} (bytes : V → List ℕ) (result : Result V E) (moment : Moment) (tally counted : Tally) where
+  -- Refusals: without a call, and after one.
+
+  pub spoke_complaint : (m : Machine) (who : Option ℕ) (meant : Option Command) (words : List ℕ) → Speaks moment who meant [] (complains words) who
+      → counted.refused ≡ true → counted.broke ≡ tally.broke || false → IfOk result (λ v. bytes v ≡ line words) → Spoke bytes result m m moment who who tally counted meant
+  spoke_complaint m who meant words speaks refused broke text =
+      record { acts = []; said = complains words; speaks = speaks; goes = goes_nowhere m; refused = refused ∙ or-true tally.refused; broke = broke; text = text }
+
+  spoke_refusal : (old new : Machine) (who : Option ℕ) (meant : Option Command) (acts : List Act) (reply : Reply) (words : List ℕ) (broken : Bool) → Speaks moment who meant acts (refuses reply) who → GoesBy old new acts
+      → words ≡ refusal reply → broken ≡ is_broken reply → counted.refused ≡ true → counted.broke ≡ tally.broke || broken → IfOk result (λ v. bytes v ≡ line words) → Spoke bytes result old new moment who who tally counted meant
+  spoke_refusal old new who meant acts reply words broken speaks goes same_words same_broken refused broke text =
+      record {
+        acts = acts;
+        said = refuses reply;
+        speaks = speaks;
+        goes = goes;
+        refused = refused ∙ or-true tally.refused;
+        broke = broke ∙ ap (λ b. tally.broke || b) same_broken;
+        text = subst (λ (l : List ℕ). IfOk result (λ v. bytes v ≡ line l)) same_words text;
+      }
+
+  pub spoke_unknown : (m : Machine) (who : Option ℕ) (meant : Option Command) → meant ≡ None → counted.refused ≡ true → counted.broke ≡ tally.broke || false → IfOk result (λ v. bytes v ≡ line (codes "?Command error"))
+      → Spoke bytes result m m moment who who tally counted meant
+  spoke_unknown m who meant e refused broke text =
+      subst (λ (o : Option Command). Spoke bytes result m m moment who who tally counted o) (sym e) (spoke_complaint m who None (codes "?Command error") (refl, refl, refl) refused broke text)
+
+  pub spoke_stranger : (m : Machine) (who : Option ℕ) (place : Option ℕ) → who ≡ None → counted.refused ≡ true → counted.broke ≡ tally.broke || false → IfOk result (λ v. bytes v ≡ line (codes "?Not logged in"))
+      → Spoke bytes result m m moment who who tally counted (Some (DirectoryLine place))
+  spoke_stranger m who place e refused broke text =
+      subst (λ (o : Option ℕ). Spoke bytes result m m moment o o tally counted (Some (DirectoryLine place))) (sym e)
+      (spoke_complaint m None (Some (DirectoryLine place)) (codes "?Not logged in") (refl, refl, refl) refused broke text)
+
+  -- LOGIN.
+
+  login_refused : (who : Option ℕ) (owner : ℕ) (reply : Reply) → reply ≢ Done → Speaks moment who (Some (LoginLine owner)) (Asks (Login 1 owner core_words) reply ∷ []) (refuses reply) who
+  login_refused who owner Done h = absurd (h refl)
+  login_refused who owner (Value word) h = (Value word, refl, refl, refl)
+  login_refused who owner (Refused code) h = (Refused code, refl, refl, refl)
+  login_refused who owner (Stopped status) h = (Stopped status, refl, refl, refl)
+  login_refused who owner NoChannel h = (NoChannel, refl, refl, refl)
+  login_refused who owner AddressCheck h = (AddressCheck, refl, refl, refl)
+  login_refused who owner NoJob h = (NoJob, refl, refl, refl)
+  login_refused who owner NoMemory h = (NoMemory, refl, refl, refl)
+  login_refused who owner Device h = (Device, refl, refl, refl)
+  login_refused who owner Failed h = (Failed, refl, refl, refl)
+  login_refused who owner DateRange h = (DateRange, refl, refl, refl)
+
+  pub spoke_login_refused : (old new : Machine) (who : Option ℕ) (owner : ℕ) (reply : Reply) (words : List ℕ) (broken : Bool) → reply ≢ Done → IsAnswered old new (Login 1 owner core_words) reply
+      → words ≡ refusal reply → broken ≡ is_broken reply → counted.refused ≡ true → counted.broke ≡ tally.broke || broken → IfOk result (λ v. bytes v ≡ line words)
+      → Spoke bytes result old new moment who who tally counted (Some (LoginLine owner))
+  spoke_login_refused old new who owner reply words broken h answered same_words same_broken refused broke text =
+      spoke_refusal old new who (Some (LoginLine owner)) (Asks (Login 1 owner core_words) reply ∷ []) reply words broken (login_refused who owner reply h) (goes_answered old new (Login 1 owner core_words) reply answered)
+      same_words same_broken refused broke text
+
+  -- DIRECTORY.
+
+  pub spoke_list_refused : (old new : Machine) (me : ℕ) (place : Option ℕ) (owner : ℕ) (reply : Reply) (words : List ℕ) (broken : Bool) → owner ≡ unwrap_or place me → IsListed old new 1 owner (Err reply)
+      → words ≡ refusal reply → broken ≡ is_broken reply → counted.refused ≡ true → counted.broke ≡ tally.broke || broken → IfOk result (λ v. bytes v ≡ line words)
+      → Spoke bytes result old new moment (Some me) (Some me) tally counted (Some (DirectoryLine place))
+  spoke_list_refused old new me place owner reply words broken e listed same_words same_broken refused broke text =
+      spoke_refusal old new (Some me) (Some (DirectoryLine place)) (Looks owner (Err reply) ∷ []) reply words broken ((ap Shows (sym e), refl, refl), refl) (goes_listed old new owner (Err reply) listed)
+      same_words same_broken refused broke text
+
+-- The same where it was done: nothing is counted.
+module _ {V E : Type 0} (bytes : V → List ℕ) (result : Result V E) (moment : Moment) (tally : Tally) where
+  pub spoke_login : (old new : Machine) (who : Option ℕ) (owner : ℕ) (reply : Reply) → reply ≡ Done → IsAnswered old new (Login 1 owner core_words) reply → IfOk result (λ v. bytes v ≡ greeting owner)
+      → Spoke bytes result old new moment who (Some owner) tally tally (Some (LoginLine owner))
+  spoke_login old new who owner reply e answered text =
+      record {
+        acts = Asks (Login 1 owner core_words) Done ∷ [];
+        said = prints (greeting owner);
+        speaks = (Done, refl, refl, refl);
+        goes = goes_answered old new (Login 1 owner core_words) Done (subst (IsAnswered old new (Login 1 owner core_words)) e answered);
+        refused = or-false tally.refused;
+        broke = or-false tally.broke;
+        text = text;
+      }
+
+  pub spoke_list : (old new : Machine) (me : ℕ) (place : Option ℕ) (owner : ℕ) (entries shown : List Entry) → owner ≡ unwrap_or place me → IsListed old new 1 owner (Ok entries) → shown ≡ entries
+      → IfOk result (λ v. bytes v ≡ listing owner shown) → Spoke bytes result old new moment (Some me) (Some me) tally tally (Some (DirectoryLine place))
+  spoke_list old new me place owner entries shown e listed same text =
+      record {
+        acts = Looks owner (Ok entries) ∷ [];
+        said = prints (listing owner entries);
+        speaks = ((ap Shows (sym e), refl, refl), refl);
+        goes = goes_listed old new owner (Ok entries) listed;
+        refused = or-false tally.refused;
+        broke = or-false tally.broke;
+        text = subst (λ (l : List Entry). IfOk result (λ v. bytes v ≡ listing owner l)) same text;
+      }

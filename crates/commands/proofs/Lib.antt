@@ -1,0 +1,13 @@
+pub mod LineLaws
+pub mod FieldLaws
+pub mod NumberLaws
+pub mod SayingLaws
+pub mod TextLaws
+pub mod WritingLaws
+pub mod GoingLaws
+pub mod AnswerLaws
+pub mod SplitLaws
+pub mod TalkLaws
+pub mod StepLaws
+pub mod SessionLaws
+pub mod OneText

@@ -1,0 +1,61 @@
+-- The text of lines of which only some are served is one too: those that say nothing that is served stand like
+-- lines that are too long.
+use Rattle.std.proofs.Common.{◌≡◌, ℕ, List, [], ◌∷◌, Option, Some, None, refl, sym, ap, subst, ◌∙◌}
+use Rattle.words36.specs.declared.moment.Moment.{Moment}
+use Rattle.meaning.specs.Lines.{Line, Bytes, TooLong}
+use Rattle.meaning.specs.Commands.{Means}
+use Rattle.meaning.specs.Texts.{Spoken}
+use Rattle.meaning.specs.Conducts.{Act}
+use Rattle.meaning.specs.Talks.{Talks, Served}
+use Rattle.meaning.specs.Room.{Pack}
+use Rattle.meaning.specs.Jobs.{State}
+use Rattle.meaning.specs.declared.command.Command.{Command}
+use Rattle.meaning.proofs.CommandLaws.{same_command}
+use Rattle.meaning.proofs.TalkLaws.{one_text}
+use Rattle.commands.specs.Served.{SaysServed, MeansServed}
+use Rattle.commands.specs.Streams.{TalksServed}
+
+same_says : (text : List ℕ) (x y : Option Command) → SaysServed text x → SaysServed text y → x ≡ y
+same_says text None None a b = refl
+same_says text None (Some c) a b = absurd (a c b.0 b.1)
+same_says text (Some c) None a b = absurd (b c a.0 a.1)
+same_says text (Some c) (Some d) a b = ap Some (same_command text c d a.1 b.1)
+
+same_meant : (line : Line) (x y : Option Command) → MeansServed line x → MeansServed line y → x ≡ y
+same_meant (Bytes text) x y a b = same_says text x y a b
+same_meant TooLong x y a b = a ∙ sym b
+
+-- a line, or one that is too long in the place of one that says nothing
+abbrev form : Option Command → Line → Line
+form None line = TooLong
+form (Some command) line = line
+
+means_form : (line : Line) (meant : Option Command) → MeansServed line meant → Means (form meant line) meant
+means_form line None m = refl
+means_form (Bytes text) (Some command) m = m.1
+means_form TooLong (Some command) m = m
+
+abbrev Forms : List Line → List Line → Type 0
+Forms [] forms = forms ≡ []
+Forms (line ∷ lines) forms = (meant : Option Command) × MeansServed line meant × (rest : List Line) × Forms lines rest × (forms ≡ form meant line ∷ rest)
+
+same_forms : (lines x y : List Line) → Forms lines x → Forms lines y → x ≡ y
+same_forms [] x y a b = a ∙ sym b
+same_forms (line ∷ lines) x y a b =
+    let m = same_meant line a.0 b.0 a.1 b.1 in
+    let r = same_forms lines a.2 b.2 a.3 b.3 in
+    a.4 ∙ (λ i. form (m i) line ∷ r i) ∙ sym b.4
+
+talks_forms : (moment : Moment) (who : Option ℕ) (lines : List Line) (acts : List Act) (said : Spoken) (after : Option ℕ) → TalksServed moment who lines acts said after
+    → (forms : List Line) × Forms lines forms × Talks moment who forms acts said after
+talks_forms moment who [] acts said after p = ([], refl, p)
+talks_forms moment who (line ∷ lines) acts said after (meant, m, first, more, here, there, mid, speaks, rest, split, text) =
+    let r = talks_forms moment mid lines more there after rest in
+    (form meant line ∷ r.0, (meant, m, r.0, r.1, refl), (meant, means_form line meant m, first, more, here, there, mid, speaks, r.2, split, text))
+
+pub one_served_text : (pack : Pack) (moment : Moment) (lines : List Line) (who : Option ℕ) (s t u : State) (acts others : List Act) (one other : Spoken) (x y : Option ℕ)
+    → TalksServed moment who lines acts one x → Served pack s acts t → TalksServed moment who lines others other y → Served pack s others u → one ≡ other
+one_served_text pack moment lines who s t u acts others one other x y a p b q =
+    let f = talks_forms moment who lines acts one x a in
+    let g = talks_forms moment who lines others other y b in
+    one_text pack moment f.0 who s t u acts others one other x y f.2 p (subst (λ (l : List Line). Talks moment who l others other y) (same_forms lines g.0 f.0 g.1 f.1) g.2) q

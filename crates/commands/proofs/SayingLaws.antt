@@ -1,0 +1,136 @@
+-- What a text says that is served.
+use Rattle.std.proofs.Common.{◌≡◌, ◌≢◌, ℕ, nat_eq, Bool, true, false, ◌&&◌, List, [], ◌∷◌, Option, Some, None, refl, sym, ◌∙◌, ap, subst, IsTrue}
+use Rattle.std.specs.Prelude.{codes}
+use Rattle.std.specs.Cmp.Lexicographic.{pointwise}
+use Rattle.std.proofs.lemmas.Bool.{eq-eqb, eqb-true, both_ways, and_parts}
+use Rattle.meaning.specs.Lines.{Line, Bytes, TooLong}
+use Rattle.meaning.specs.Spellings.{AreFields, IsBracketed}
+use Rattle.meaning.specs.Commands.{IsCommand, Says, Means}
+use Rattle.meaning.specs.declared.command.Command.{Command}
+use Rattle.meaning.specs.declared.command.Command.TheVariants.{Login, Directory, Copy, Rename, Delete, TypeOut, Protect, MakeDir}
+use Rattle.meaning.proofs.SpellingLaws.{differs, same_fields, same_head, same_tail, none_all}
+use Rattle.meaning.proofs.CommandLaws.{same_command}
+use Rattle.commands.specs.Served.{is_served, SaysServed, MeansServed, served}
+
+same_pointwise : (xs : List ℕ) → pointwise nat_eq xs xs ≡ true
+same_pointwise [] = refl
+same_pointwise (x ∷ xs) = ap (λ b. b && pointwise nat_eq xs xs) (eq-eqb x x refl) ∙ same_pointwise xs
+
+pub differ : (xs ys zs : List ℕ) (t : Bool) → t ≡ pointwise nat_eq xs ys → ys ≡ zs → t ≡ false → xs ≢ zs
+differ xs ys zs t e f wrong same = both_ways t wrong (e ∙ ap (λ l. pointwise nat_eq xs l) (f ∙ sym same) ∙ same_pointwise xs)
+
+pointwise_same : (xs ys : List ℕ) → pointwise nat_eq xs ys ≡ true → xs ≡ ys
+pointwise_same [] [] e = refl
+pointwise_same [] (y ∷ ys) e = cc
+pointwise_same (x ∷ xs) [] e = cc
+pointwise_same (x ∷ xs) (y ∷ ys) e =
+    let both = and_parts (nat_eq x y) (pointwise nat_eq xs ys) e in
+    let h = eqb-true x y both.0 in
+    let t = pointwise_same xs ys both.1 in
+    λ i. h i ∷ t i
+
+pub agree : (xs ys zs : List ℕ) (t : Bool) → t ≡ pointwise nat_eq xs ys → ys ≡ zs → t ≡ true → xs ≡ zs
+agree xs ys zs t e f right = pointwise_same xs ys (sym e ∙ right) ∙ f
+
+login-directory : codes "LOGIN" ≡ codes "DIRECTORY" → ⊥
+login-directory e = differs 76 68 refl (same_head e)
+
+-- Of a text with one field or none.
+pub says_no_fields : (text : List ℕ) (said : Option Command) → said ≡ None → text ≢ codes "DIRECTORY" → ((word argument : List ℕ) → AreFields (word ∷ argument ∷ []) text → ⊥) → SaysServed text said
+says_no_fields text said e alone none = subst (SaysServed text) (sym e) refuse
+  where
+    refuse : (command : Command) → IsTrue (is_served command) → IsCommand text command → ⊥
+    refuse (Login p) s a = none (codes "LOGIN") a.0 a.1
+    refuse (Directory None) s a = alone a.1
+    refuse (Directory (Some p)) s a = none (codes "DIRECTORY") a.0 a.1
+    refuse (Copy x y) s a = cc
+    refuse (Rename x y) s a = cc
+    refuse (Delete x) s a = cc
+    refuse (TypeOut x) s a = cc
+    refuse (Protect x n) s a = cc
+    refuse (MakeDir p n) s a = cc
+
+-- Of a text with two.
+pub says_nothing : (text word argument : List ℕ) (said : Option Command) → said ≡ None → AreFields (word ∷ argument ∷ []) text
+    → (word ≡ codes "LOGIN" → (p : ℕ) → IsBracketed argument p → ⊥) → (word ≡ codes "DIRECTORY" → (p : ℕ) → IsBracketed argument p → ⊥) → SaysServed text said
+says_nothing text word argument said e f login directory = subst (SaysServed text) (sym e) refuse
+  where
+    refuse : (command : Command) → IsTrue (is_served command) → IsCommand text command → ⊥
+    refuse (Login p) s a =
+        let same = same_fields (word ∷ argument ∷ []) (codes "LOGIN" ∷ a.0 ∷ []) text f a.1 in
+        login (same_head same) p (subst (λ l. IsBracketed l p) (sym (same_head (same_tail same))) a.2)
+    refuse (Directory None) s a = none_all (same_tail (same_fields (codes "DIRECTORY" ∷ []) (word ∷ argument ∷ []) text a f))
+    refuse (Directory (Some p)) s a =
+        let same = same_fields (word ∷ argument ∷ []) (codes "DIRECTORY" ∷ a.0 ∷ []) text f a.1 in
+        directory (same_head same) p (subst (λ l. IsBracketed l p) (sym (same_head (same_tail same))) a.2)
+    refuse (Copy x y) s a = cc
+    refuse (Rename x y) s a = cc
+    refuse (Delete x) s a = cc
+    refuse (TypeOut x) s a = cc
+    refuse (Protect x n) s a = cc
+    refuse (MakeDir p n) s a = cc
+
+pub says_no_login : (text word argument : List ℕ) (said : Option Command) → said ≡ None → AreFields (word ∷ argument ∷ []) text → word ≡ codes "LOGIN" → ((p : ℕ) → IsBracketed argument p → ⊥) → SaysServed text said
+says_no_login text word argument said e f is none = says_nothing text word argument said e f (λ w. none) (λ w. absurd (login-directory (sym is ∙ w)))
+
+pub says_no_directory : (text word argument : List ℕ) (said : Option Command) → said ≡ None → AreFields (word ∷ argument ∷ []) text → word ≡ codes "DIRECTORY" → ((p : ℕ) → IsBracketed argument p → ⊥) → SaysServed text said
+says_no_directory text word argument said e f is none = says_nothing text word argument said e f (λ w. absurd (login-directory (sym w ∙ is))) (λ w. none)
+
+pub says_no_word : (text word argument : List ℕ) (said : Option Command) → said ≡ None → AreFields (word ∷ argument ∷ []) text → word ≢ codes "LOGIN" → word ≢ codes "DIRECTORY" → SaysServed text said
+says_no_word text word argument said e f login directory = says_nothing text word argument said e f (λ w. absurd (login w)) (λ w. absurd (directory w))
+
+-- What is served of what a text means.
+
+served_says : (text : List ℕ) (meant said : Option Command) → Says text meant → SaysServed text said → said ≡ served meant
+served_says text None None m s = refl
+served_says text None (Some c) m s = absurd (m c s.1)
+served_says text (Some (Login p)) None m s = absurd (s (Login p) refl m)
+served_says text (Some (Directory o)) None m s = absurd (s (Directory o) refl m)
+served_says text (Some (Copy x y)) None m s = refl
+served_says text (Some (Rename x y)) None m s = refl
+served_says text (Some (Delete x)) None m s = refl
+served_says text (Some (TypeOut x)) None m s = refl
+served_says text (Some (Protect x n)) None m s = refl
+served_says text (Some (MakeDir p n)) None m s = refl
+served_says text (Some d) (Some c) m s = subst (λ e. Some c ≡ served (Some e)) (same_command text c d s.1 m) (is_its_own c s.0)
+  where
+    is_its_own : (c : Command) → IsTrue (is_served c) → Some c ≡ served (Some c)
+    is_its_own (Login p) t = refl
+    is_its_own (Directory o) t = refl
+    is_its_own (Copy x y) t = cc
+    is_its_own (Rename x y) t = cc
+    is_its_own (Delete x) t = cc
+    is_its_own (TypeOut x) t = cc
+    is_its_own (Protect x n) t = cc
+    is_its_own (MakeDir p n) t = cc
+
+pub served_means : (line : Line) (meant said : Option Command) → Means line meant → MeansServed line said → said ≡ served meant
+served_means (Bytes text) meant said m s = served_says text meant said m s
+served_means TooLong meant said m s = s ∙ ap served (sym m)
+
+-- No other command is served.
+pub not_served : (meant : Option Command) (command : Command) → meant ≡ Some command → ((p : ℕ) → command ≡ Login p → ⊥) → ((o : Option ℕ) → command ≡ Directory o → ⊥) → served meant ≡ None
+not_served meant command e login directory = ap served e ∙ refuse command login directory
+  where
+    refuse : (c : Command) → ((p : ℕ) → c ≡ Login p → ⊥) → ((o : Option ℕ) → c ≡ Directory o → ⊥) → served (Some c) ≡ None
+    refuse (Login p) a b = absurd (a p refl)
+    refuse (Directory o) a b = absurd (b o refl)
+    refuse (Copy x y) a b = refl
+    refuse (Rename x y) a b = refl
+    refuse (Delete x) a b = refl
+    refuse (TypeOut x) a b = refl
+    refuse (Protect x n) a b = refl
+    refuse (MakeDir p n) a b = refl
+
+-- What is said that is served is served.
+pub means_served : (line : Line) (said : Option Command) → MeansServed line said → served said ≡ said
+means_served (Bytes text) None m = refl
+means_served (Bytes text) (Some (Login p)) m = refl
+means_served (Bytes text) (Some (Directory o)) m = refl
+means_served (Bytes text) (Some (Copy x y)) m = let wrong = m.0 in cc
+means_served (Bytes text) (Some (Rename x y)) m = let wrong = m.0 in cc
+means_served (Bytes text) (Some (Delete x)) m = let wrong = m.0 in cc
+means_served (Bytes text) (Some (TypeOut x)) m = let wrong = m.0 in cc
+means_served (Bytes text) (Some (Protect x n)) m = let wrong = m.0 in cc
+means_served (Bytes text) (Some (MakeDir p n)) m = let wrong = m.0 in cc
+means_served TooLong said m = ap served m ∙ sym m

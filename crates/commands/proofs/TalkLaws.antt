@@ -1,0 +1,99 @@
+-- Lines that are answered one after another.
+use Rattle.std.proofs.Common.{◌≡◌, ℕ, ◌||◌, Bool, true, false, List, [], ◌∷◌, ◌++◌, refl, sym, ◌∙◌, ap, subst, append_assoc, append-nil, Option}
+use Rattle.words36.specs.declared.moment.Moment.{Moment}
+use Rattle.meaning.specs.Lines.{Line}
+use Rattle.meaning.specs.Texts.{Spoken, joined, silent}
+use Rattle.meaning.specs.Conducts.{Act}
+use Rattle.meaning.specs.Talks.{Speaks}
+use Rattle.meaning.specs.declared.command.Command.{Command}
+use Rattle.commands.specs.Served.{MeansServed, served}
+use Rattle.commands.specs.Streams.{TalksServed, spoken}
+use Rattle.commands.specs.Sessions.{HeardIn, Hears}
+use Rattle.commands.specs.declared.answer.Tally.{Tally}
+use Rattle.commands.specs.declared.run.Heard.{Heard}
+use Rattle.commands.specs.declared.run.Heard.TheVariants.{Nothing, Said}
+use Rattle.commands.proofs.SayingLaws.{means_served}
+
+pub or-false : (b : Bool) → b ≡ b || false
+or-false true = refl
+or-false false = refl
+
+or_assoc : (a b c : Bool) → (a || b) || c ≡ a || (b || c)
+or_assoc true b c = refl
+or_assoc false b c = refl
+
+joined-silent : (a b : Spoken) → a ≡ silent → b ≡ joined a b
+joined-silent a b e = subst (λ (v : Spoken). b ≡ joined v b) (sym e) refl
+
+joined-end : (a : Spoken) → a ≡ joined a silent
+joined-end a =
+    let e : a.text ≡ a.text ++ [] = sym (append-nil a.text) in
+    let f = or-false a.refused in
+    let h = or-false a.broke in
+    λ i. record { text = e i; refused = f i; broke = h i }
+
+joined_assoc : (a b c : Spoken) → joined (joined a b) c ≡ joined a (joined b c)
+joined_assoc a b c =
+    let e = append_assoc a.text b.text c.text in
+    let f = or_assoc a.refused b.refused c.refused in
+    let h = or_assoc a.broke b.broke c.broke in
+    λ i. record { text = e i; refused = f i; broke = h i }
+
+module _ (moment : Moment) where
+  pub talks_on : (who : Option ℕ) (lines more : List Line) (acts next : List Act) (said here : Spoken) (mid after : Option ℕ) → TalksServed moment who lines acts said mid → TalksServed moment mid more next here after
+      → TalksServed moment who (lines ++ more) (acts ++ next) (joined said here) after
+  talks_on who [] more acts next said here mid after p q =
+      let w : mid ≡ who = p.2 in
+      let a : next ≡ acts ++ next = ap (λ (l : List Act). l ++ next) (sym p.0) in
+      let s : here ≡ joined said here = joined-silent said here p.1 in
+      subst (λ (v : Option ℕ). TalksServed moment v more (acts ++ next) (joined said here) after) w
+      (subst (λ (v : Spoken). TalksServed moment mid more (acts ++ next) v after) s
+      (subst (λ (l : List Act). TalksServed moment mid more l here after) a q))
+  talks_on who (line ∷ lines) more acts next said here mid after p q = (
+    p.0,
+    p.1,
+    p.2,
+    p.3 ++ next,
+    p.4,
+    joined p.5 here,
+    p.6,
+    p.7,
+    talks_on p.6 lines more p.3 next p.5 here mid after p.8 q,
+    ap (λ (l : List Act). l ++ next) p.9 ∙ append_assoc p.2 p.3 next,
+    ap (λ (v : Spoken). joined v here) p.10 ∙ joined_assoc p.4 p.5 here,
+  )
+
+  talks_one : (who : Option ℕ) (line : Line) (meant : Option Command) (acts : List Act) (said : Spoken) (after : Option ℕ) → MeansServed line meant → Speaks moment who meant acts said after
+      → TalksServed moment who (line ∷ []) acts said after
+  talks_one who line meant acts said after m p = (meant, m, acts, [], said, silent, after, p, (refl, refl, refl), sym (append-nil acts), joined-end said)
+
+  pub speaks_meant : (who : Option ℕ) (line : Line) (meant : Option Command) (acts : List Act) (said : Spoken) (after : Option ℕ) → MeansServed line meant → Speaks moment who (served meant) acts said after
+      → Speaks moment who meant acts said after
+  speaks_meant who line meant acts said after m p = subst (λ (o : Option Command). Speaks moment who o acts said after) (means_served line meant m) p
+
+  -- what was heard is what the lines say
+  pub talks_heard : (who : Option ℕ) (lines : List Line) (heard : Heard) (acts : List Act) (said : Spoken) (after : Option ℕ) → HeardIn lines heard → Hears moment who heard acts said after
+      → TalksServed moment who lines acts said after
+  talks_heard who [] heard acts said after h p = subst (λ (x : Heard). Hears moment who x acts said after) h p
+  talks_heard who (line ∷ lines) Nothing acts said after h p = absurd h
+  talks_heard who (line ∷ lines) (Said meant) acts said after h p =
+      subst (λ (l : List Line). TalksServed moment who (line ∷ l) acts said after) (sym h.1)
+      (talks_one who line meant acts said after h.0 (speaks_meant who line meant acts said after h.0 p))
+
+-- where a line was heard there is one
+pub heard_line : (lines : List Line) (heard : Heard) (meant : Option Command) → heard ≡ Said meant → HeardIn lines heard → (line : Line) × MeansServed line meant × (lines ≡ line ∷ [])
+heard_line lines heard meant e h = found lines (subst (HeardIn lines) e h)
+  where
+    found : (lines : List Line) → HeardIn lines (Said meant) → (line : Line) × MeansServed line meant × (lines ≡ line ∷ [])
+    found [] h = let wrong = h in cc
+    found (line ∷ lines) h = (line, h.0, ap (λ (l : List Line). line ∷ l) h.1)
+
+-- what is said when a line is added to what was said
+pub spoken_more : (past : List ℕ) (tally counted : Tally) (said : Spoken) (written unwritten : List ℕ) → said.text ≡ written ++ unwritten → unwritten ≡ []
+    → counted.refused ≡ tally.refused || said.refused → counted.broke ≡ tally.broke || said.broke
+    → joined (spoken past tally) said ≡ spoken (past ++ written) counted
+spoken_more past tally counted said written unwritten e n f h =
+    let t : past ++ said.text ≡ past ++ written = ap (λ (l : List ℕ). past ++ l) (e ∙ ap (λ (l : List ℕ). written ++ l) n ∙ append-nil written) in
+    let f' = sym f in
+    let h' = sym h in
+    λ i. record { text = t i; refused = f' i; broke = h' i }

@@ -1,0 +1,47 @@
+-- Sums and texts of a list of entries.
+use Rattle.std.proofs.Common.{◌≡◌, ℕ, ◌+◌, ◌<◌, ◌==◌, false, Result, Ok, Err, IfOk, append_assoc, List, [], ◌∷◌, ◌++◌, length, take, get_or, sym, ◌∙◌, ap, arith, add_assoc}
+use Rattle.std.proofs.lemmas.List.{take_more}
+use Rattle.std.specs.Prelude.{codes}
+use Rattle.std.specs.Fmt.{decimal}
+use Rattle.words36.specs.Words.{ppn_text}
+use Rattle.words36.specs.Sixbit.{characters}
+use Rattle.meaning.specs.Texts.{blocks_in, total_text, right_in, three_digits, extension_text, day_text, entry_text}
+use Rattle.meaning.specs.declared.entry.Entry.{Entry}
+
+blocks-append : (xs : List Entry) (e : Entry) → blocks_in (xs ++ e ∷ []) ≡ blocks_in xs + e.blocks
+blocks-append [] e = omega arith
+blocks-append (x ∷ xs) e = ap (λ n. x.blocks + n) (blocks-append xs e) ∙ sym (add_assoc x.blocks (blocks_in xs) e.blocks)
+
+pub blocks_more : (entries : List Entry) (i : ℕ) (e : Entry) → i < length entries → e ≡ get_or entries i e → blocks_in (take (i + 1) entries) ≡ blocks_in (take i entries) + e.blocks
+blocks_more entries i e h is = ap blocks_in (take_more entries i e h) ∙ blocks-append (take i entries) (get_or entries i e) ∙ ap (λ (x : Entry). blocks_in (take i entries) + x.blocks) (sym is)
+
+-- The last line of a list that has entries.
+
+total_apart : (a b c d e f : List ℕ) → a ++ (b ++ (c ++ (d ++ (e ++ (f ++ 10 ∷ []))))) ≡ (((((a ++ b) ++ c) ++ d) ++ e) ++ f) ++ 10 ∷ []
+total_apart a b c d e f = simp append_assoc
+
+total_is : (owner : ℕ) (entries : List Entry) → false ≡ (length entries == 0)
+    → codes "Total " ++ (decimal (blocks_in entries) ++ (codes " blocks in " ++ (decimal (length entries) ++ (codes " files " ++ (ppn_text owner ++ 10 ∷ []))))) ≡ total_text owner entries
+total_is owner [] e = cc
+total_is owner (x ∷ xs) e = total_apart (codes "Total ") (decimal (blocks_in (x ∷ xs))) (codes " blocks in ") (decimal (length (x ∷ xs))) (codes " files ") (ppn_text owner)
+
+pub total_ok : {V E : Type 0} (bytes : V → List ℕ) (result : Result V E) (owner : ℕ) (entries : List Entry) (blocks : ℕ) → false ≡ (length entries == 0) → blocks ≡ blocks_in entries
+    → IfOk result (λ s. bytes s ≡ codes "Total " ++ (decimal blocks ++ (codes " blocks in " ++ (decimal (length entries) ++ (codes " files " ++ (ppn_text owner ++ 10 ∷ []))))))
+    → IfOk result (λ s. bytes s ≡ total_text owner entries)
+total_ok bytes (Ok s) owner entries blocks some same is =
+    is ∙ ap (λ n. codes "Total " ++ (decimal n ++ (codes " blocks in " ++ (decimal (length entries) ++ (codes " files " ++ (ppn_text owner ++ 10 ∷ [])))))) same ∙ total_is owner entries some
+total_ok bytes (Err e) owner entries blocks some same is = tt
+
+-- An entry's line, part by part.
+
+behind : (old a b x p : List ℕ) → a ≡ old ++ x → b ≡ a ++ p → b ≡ old ++ (x ++ p)
+behind old a b x p e f = f ∙ ap (λ (l : List ℕ). l ++ p) e ∙ append_assoc old x p
+
+pub entry_pushed : (e : Entry) (old named spaced blocked opened protected closed dated ended text digits : List ℕ) → text ≡ decimal e.blocks → digits ≡ three_digits e.protection
+    → named ≡ old ++ (characters e.name.name ++ codes " " ++ extension_text e.name.ext) → spaced ≡ named ++ 32 ∷ [] → blocked ≡ spaced ++ right_in 5 text → opened ≡ blocked ++ codes "  <"
+    → protected ≡ opened ++ digits → closed ≡ protected ++ codes ">  " → dated ≡ closed ++ day_text e.date → ended ≡ dated ++ 10 ∷ [] → ended ≡ old ++ entry_text e
+unfolding entry_text
+entry_pushed e old named spaced blocked opened protected closed dated ended text digits t d is_named is_spaced is_blocked is_opened is_protected is_closed is_dated is_ended =
+    let right : blocked ≡ spaced ++ right_in 5 (decimal e.blocks) = is_blocked ∙ ap (λ (l : List ℕ). spaced ++ right_in 5 l) t in
+    let three : protected ≡ opened ++ three_digits e.protection = is_protected ∙ ap (λ (l : List ℕ). opened ++ l) d in
+    behind old dated ended _ _ (behind old closed dated _ _ (behind old protected closed _ _ (behind old opened protected _ _ (behind old blocked opened _ _ (behind old spaced blocked _ _ (behind old named spaced _ _ is_named is_spaced) right) is_opened) three) is_closed) is_dated) is_ended

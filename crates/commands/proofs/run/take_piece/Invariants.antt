@@ -1,0 +1,6 @@
+use Rattle.std.proofs.Common.{take}
+use Rattle.commands.specs.Sessions.{StepsOn}
+use Rattle.commands.proofs.run.take_piece.Given as goal
+
+abbrev pub invariant-loop-byte : goal.invariant-loop-byte
+invariant-loop-byte g l = StepsOn (g.S.FileService.machine l.fn.service) (g.S.FileService.machine l.service) (g.W.Write.contents l.fn.writer) (g.W.Write.contents l.writer) l.fn.moment l.fn.talk l.talk (take l.byte-index l.piece)

@@ -1,0 +1,35 @@
+-- Which commands are served so far, and what that makes of a line: one that says another command says nothing.
+use Rattle.std.specs.Prelude.{◌≡◌, ℕ, Bool, true, false, IsTrue, List, Option, Some, None}
+use Rattle.meaning.specs.Lines.{Line, Bytes, TooLong}
+use Rattle.meaning.specs.Commands.{IsCommand}
+use Rattle.meaning.specs.declared.command.Command.{Command}
+use Rattle.meaning.specs.declared.command.Command.TheVariants.{Login, Directory, Copy, Rename, Delete, TypeOut, Protect, MakeDir}
+
+abbrev pub is_served : Command → Bool
+is_served (Login owner) = true
+is_served (Directory owner) = true
+is_served (Copy to from) = false
+is_served (Rename to from) = false
+is_served (Delete spec) = false
+is_served (TypeOut spec) = false
+is_served (Protect spec protection) = false
+is_served (MakeDir owner protection) = false
+
+-- what a text says, where it says anything that is served
+abbrev pub SaysServed : List ℕ → Option Command → Type 0
+SaysServed text (Some command) = IsTrue (is_served command) × IsCommand text command
+SaysServed text None = (command : Command) → IsTrue (is_served command) → IsCommand text command → ⊥
+
+-- and a line: one that is too long says nothing
+abbrev pub MeansServed : Line → Option Command → Type 0
+MeansServed (Bytes text) said = SaysServed text said
+MeansServed TooLong said = said ≡ None
+
+-- what is served of a command
+abbrev pub served_if : Bool → Command → Option Command
+served_if true command = Some command
+served_if false command = None
+
+abbrev pub served : Option Command → Option Command
+served None = None
+served (Some command) = served_if (is_served command) command

@@ -1,0 +1,132 @@
+ghost use Rattle.std.specs.Prelude.{◌≡◌, ◌||◌, IfOk, Some, true};
+ghost use Rattle.meaning.specs.Texts.{line, is_broken};
+ghost use Rattle.meaning.specs.declared.command.Command.TheVariants.{Login as LoginLine, Directory as DirectoryLine};
+ghost use Rattle.commands.specs.Served.{served};
+ghost use Rattle.commands.specs.Sessions.{Spoke};
+
+use crate::service::FileService;
+use crate::text;
+use meaning::{Command, Reply};
+use std::alloc::{AllocError, Global};
+use words36::{Moment, Ppn};
+
+/// The job that a session acts as.
+pub const SESSION_JOB: u32 = 1;
+
+/// How many words its core has.
+const CORE_WORDS: u32 = 0o10000;
+
+/// What is counted of a session's lines.
+#[derive(Clone, Copy, Debug, PartialEq, Eq)]
+pub struct Tally {
+    /// Whether a line was refused.
+    pub refused: bool,
+    /// Whether a line met a fault of the disk, or came after one.
+    pub broke: bool,
+}
+
+/// Whether a reply tells of a fault of the disk, in this call or before.
+fn is_broken(reply: &Reply) -> bool
+    ensures { result ≡ is_broken reply.now }
+{
+    match reply {
+        Reply::Device | Reply::Failed => true,
+        Reply::Done
+        | Reply::Value(_)
+        | Reply::Refused(_)
+        | Reply::Stopped(_)
+        | Reply::NoChannel
+        | Reply::AddressCheck
+        | Reply::NoJob
+        | Reply::NoMemory
+        | Reply::DateRange => false,
+    }
+}
+
+/// Counts a refused line, and gives its text.
+fn refuse(alloc: Global, tally: &mut Tally, text: &str, broke: bool) -> Result<Vec<u8>, AllocError>
+    ensures refused { tally.new.refused ≡ true }
+    ensures broke { tally.new.broke ≡ tally.old.broke || broke }
+    ensures text { IfOk result (λ bytes. bytes.items ≡ line text.now) }
+{
+    tally.refused = true;
+    tally.broke |= broke;
+    text::line(alloc, text)
+}
+
+/// Answers LOGIN.
+fn log_in<S: FileService>(
+    alloc: Global,
+    service: &mut S,
+    moment: Moment,
+    who: &mut Option<Ppn>,
+    tally: &mut Tally,
+    owner: Ppn,
+) -> Result<Vec<u8>, AllocError>
+    ensures { Spoke (λ bytes. bytes.items) result (S.machine service.old) (S.machine service.new) moment who.old who.new tally.old tally.new (Some (LoginLine owner)) }
+{
+    let reply = service.login(alloc, SESSION_JOB, owner, CORE_WORDS);
+    match reply {
+        Reply::Done => {
+            *who = Some(owner);
+            text::greeting(alloc, owner)
+        }
+        _ => refuse(alloc, tally, text::refusal(&reply), is_broken(&reply)),
+    }
+}
+
+/// Answers DIRECTORY, for a job that is logged in.
+fn list<S: FileService>(
+    alloc: Global,
+    service: &mut S,
+    moment: Moment,
+    me: Ppn,
+    tally: &mut Tally,
+    place: Option<Ppn>,
+) -> Result<Vec<u8>, AllocError>
+    ensures { Spoke (λ bytes. bytes.items) result (S.machine service.old) (S.machine service.new) moment (Some me) (Some me) tally.old tally.new (Some (DirectoryLine place)) }
+{
+    let owner = place.unwrap_or(me);
+    match service.list(alloc, SESSION_JOB, owner) {
+        Ok(entries) => text::listing(alloc, owner, &entries),
+        Err(reply) => refuse(alloc, tally, text::refusal(&reply), is_broken(&reply)),
+    }
+}
+
+/// Answers DIRECTORY, for whoever is logged in.
+fn list_for<S: FileService>(
+    alloc: Global,
+    service: &mut S,
+    moment: Moment,
+    who: Option<Ppn>,
+    tally: &mut Tally,
+    place: Option<Ppn>,
+) -> Result<Vec<u8>, AllocError>
+    ensures { Spoke (λ bytes. bytes.items) result (S.machine service.old) (S.machine service.new) moment who who tally.old tally.new (Some (DirectoryLine place)) }
+{
+    match who {
+        Some(me) => list(alloc, service, moment, me, tally, place),
+        None => refuse(alloc, tally, "?Not logged in", false),
+    }
+}
+
+/// Makes the calls of a line that means this, as far as it is served, and gives the bytes that it prints.
+pub fn answer<S: FileService>(
+    alloc: Global,
+    service: &mut S,
+    moment: Moment,
+    who: &mut Option<Ppn>,
+    tally: &mut Tally,
+    meant: Option<Command>,
+) -> Result<Vec<u8>, AllocError>
+    ensures { Spoke (λ bytes. bytes.items) result (S.machine service.old) (S.machine service.new) moment who.old who.new tally.old tally.new (served meant) }
+{
+    let Some(command) = meant else {
+        return refuse(alloc, tally, "?Command error", false);
+    };
+    match command {
+        Command::Login(owner) => log_in(alloc, service, moment, who, tally, owner),
+        Command::Directory(place) => list_for(alloc, service, moment, *who, tally, place),
+        _ => refuse(alloc, tally, "?Command error", false),
+    }
+}

@@ -1,0 +1,100 @@
+ghost use Rattle.std.specs.Prelude.{◌≡◌, ◌++◌, ◌∷◌, [], List, ℕ, if◌then◌else◌};
+ghost use Rattle.meaning.specs.Lines.{fitting, without_return, upper, TooLong};
+ghost use Rattle.commands.specs.Held.{IsHeld, line_list, text_line};
+
+use arrayvec::ArrayVec;
+
+/// How many bytes a line may have: a carriage return before its line feed counts, the feed doesn't.
+const LINE_BYTES: usize = 255;
+
+/// A line of an input.
+#[derive(Clone, Copy, Debug, PartialEq, Eq)]
+pub enum InputLine<'a> {
+    /// Its bytes, at least one, with letters in upper case.
+    Text(&'a [u8]),
+    /// It has more than 255 bytes.
+    TooLong,
+}
+
+/// A line that hasn't ended: its bytes so far, or that there are too many of them.
+#[derive(Drop)]
+pub struct Held {
+    bytes: ArrayVec<u8, LINE_BYTES>,
+    is_too_long: bool,
+}
+
+impl Default for Held {
+    fn default() -> Self {
+        Held::new()
+    }
+}
+
+impl Held {
+    /// No byte of a line yet.
+    pub fn new() -> Self
+        ensures { IsHeld result [] }
+    {
+        Held {
+            bytes: ArrayVec::new(),
+            is_too_long: false,
+        }
+    }
+
+    /// One more byte of the line, that is no line feed.
+    pub fn push(&mut self, byte: u8)
+        ensures { (seen : List ℕ) → IsHeld self.old seen → IsHeld self.new (seen ++ byte ∷ []) }
+    {
+        if self.bytes.try_push(upper(byte)).is_err() {
+            self.is_too_long = true;
+        }
+    }
+
+    /// The line that a line feed ends here, without a carriage return just before the feed; none where
+    /// it is empty.
+    pub fn ended(&self) -> Option<InputLine<'_>>
+        ensures { (seen : List ℕ) → IsHeld self.now seen → line_list result ≡ fitting seen (without_return seen) }
+    {
+        input_line(self.is_too_long, without_return(self.bytes.as_slice()))
+    }
+
+    /// The line that the end of the input ends here, with all its bytes; none where it is empty.
+    pub fn last(&self) -> Option<InputLine<'_>>
+        ensures { (seen : List ℕ) → IsHeld self.now seen → line_list result ≡ fitting seen seen }
+    {
+        input_line(self.is_too_long, self.bytes.as_slice())
+    }
+}
+
+/// A letter in upper case; any other byte as it is.
+fn upper(byte: u8) -> u8
+    ensures { result ≡ upper byte }
+{
+    if b'a' <= byte && byte <= b'z' {
+        byte - 32
+    } else {
+        byte
+    }
+}
+
+/// The bytes without a carriage return at their end.
+fn without_return(text: &[u8]) -> &[u8]
+    ensures { result.now ≡ without_return text.now }
+{
+    match text.split_last() {
+        Some((last, front)) if *last == b'\r' => front,
+        _ => text,
+    }
+}
+
+/// The line of these bytes in upper case.
+fn input_line(is_too_long: bool, text: &[u8]) -> Option<InputLine<'_>>
+    ensures { line_list result ≡ (if is_too_long then TooLong ∷ [] else text_line text.now) }
+{
+    if is_too_long {
+        return Some(InputLine::TooLong);
+    }
+    if text.is_empty() {
+        return None;
+    }
+    Some(InputLine::Text(text))
+}

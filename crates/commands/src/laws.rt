@@ -1,0 +1,24 @@
+ghost use Rattle.std.specs.Prelude.{◌≡◌, ℕ, List, Option};
+ghost use Rattle.words36.specs.declared.moment.Moment.{Moment};
+ghost use Rattle.meaning.specs.Lines.{Line};
+ghost use Rattle.meaning.specs.Commands.{Means};
+ghost use Rattle.meaning.specs.Conducts.{Act};
+ghost use Rattle.meaning.specs.Jobs.{State};
+ghost use Rattle.meaning.specs.Room.{Pack};
+ghost use Rattle.meaning.specs.Talks.{Served};
+ghost use Rattle.meaning.specs.Texts.{Spoken};
+ghost use Rattle.meaning.specs.declared.command.Command.{Command};
+ghost use Rattle.commands.specs.Served.{MeansServed, served};
+ghost use Rattle.commands.specs.Streams.{TalksServed};
+
+/// What a line says that is served is what it means, where that is served, and nothing where it is not.
+pub fn lines_say_what_is_served()
+    ensures { (line : Line) (meant said : Option Command) → Means line meant → MeansServed line said → said ≡ served meant }
+{}
+
+/// The text of lines, and what is counted of them, is a function of the lines, the state and the moment, where
+/// no act met want of memory or a fault of the disk.
+pub fn served_texts_are_functions()
+    ensures { (pack : Pack) (moment : Moment) (lines : List Line) (who : Option ℕ) (s t u : State) (acts others : List Act) (one other : Spoken) (x y : Option ℕ)
+        → TalksServed moment who lines acts one x → Served pack s acts t → TalksServed moment who lines others other y → Served pack s others u → one ≡ other }
+{}

@@ -1,0 +1,93 @@
+use crate::{Monitor, Tally, session};
+use blockdisk::{Disk, MemDisk, NoMemory};
+use std::alloc::Global;
+use std::process::Abort;
+use std::test::Fail;
+use words36::{BLOCK_WORDS, Block, Moment, Word};
+
+/// Gives a block these words, and zeros behind them.
+fn put(rt: &impl Abort, disk: &mut MemDisk, n: u32, words: &[u64]) {
+    let mut block: Block = [Word::ZERO; BLOCK_WORDS];
+    for (place, &number) in block.iter_mut().zip(words) {
+        *place = Word::new(number).unwrap_or(Word::ZERO);
+    }
+    assert!(rt; n < disk.blocks());
+    disk.load(n, &block);
+}
+
+/// An image of 64 blocks, written out by hand: [10,20] with FOO.TXT of two words, of 4-Jan-75.
+fn image(rt: &impl Abort, alloc: Global) -> Result<MemDisk, NoMemory> {
+    let home = [0o465154634562, 1, 0o100, 1, 0o11, 0o17];
+    let mut disk = MemDisk::new(alloc, 64, 8)?;
+    put(rt, &mut disk, 1, &home);
+    put(rt, &mut disk, 2, &home);
+    put(rt, &mut disk, 14, &[0o777777400000]);
+    put(
+        rt,
+        &mut disk,
+        15,
+        &[0, 1, 0o000010000020, 0o775000000000, 0o20],
+    );
+    put(
+        rt,
+        &mut disk,
+        16,
+        &[0, 1, 0o465757000000, 0o647064000000, 0o21],
+    );
+    let mut prime = [0; 17];
+    prime[..7].copy_from_slice(&[
+        0o625142000000,
+        0o465757000000,
+        0o647064000000,
+        0o057000007777,
+        0o000010000020,
+        2,
+        1,
+    ]);
+    prime[16] = 0o000001000022;
+    put(rt, &mut disk, 17, &prime);
+    put(rt, &mut disk, 18, &[0o442131446236, 0o064240000000]);
+    Ok(disk)
+}
+
+#[test]
+fn a_session_over_an_image(rt: HostRuntime) -> Result<(), Fail> {
+    let disk = image(&rt, rt.alloc())?;
+    let Ok(mut monitor) = Monitor::start(rt.alloc(), disk) else {
+        panic!(rt; "the image is refused");
+    };
+    let mut reader: &[u8] =
+        b"DIRECTORY\nlogin [10,20]\r\n\nDIRECTORY\nDIRECTORY [11,5]\nLOGIN [0,20]";
+    let mut writer = Vec::new(rt.alloc());
+    let moment = Moment::new(0, 0)?;
+    let tally = session(rt.alloc(), &mut reader, &mut writer, &mut monitor, moment)?;
+    let text: &[u8] =
+        b"?Not logged in\nJob 1 [10,20]\nFOO    TXT     1  <057>   4-Jan-1975\nTotal 1 blocks in 1 files [10,20]\n?No such directory\n?Command error\n";
+    assert!(rt; writer.as_slice() == text);
+    assert!(rt; tally.refused && !tally.broke);
+    assert_eq!(rt; monitor.room(), 45);
+    Ok(())
+}
+
+#[test]
+fn a_session_that_is_done(rt: HostRuntime) -> Result<(), Fail> {
+    let disk = image(&rt, rt.alloc())?;
+    let Ok(mut monitor) = Monitor::start(rt.alloc(), disk) else {
+        panic!(rt; "the image is refused");
+    };
+    let mut reader: &[u8] = b"LOGIN [1,2]\nDIRECTORY [10,20]\n";
+    let mut writer = Vec::new(rt.alloc());
+    let moment = Moment::new(4095, 1439)?;
+    let tally = session(rt.alloc(), &mut reader, &mut writer, &mut monitor, moment)?;
+    let text: &[u8] =
+        b"Job 1 [1,2]\nFOO    TXT     1  <057>   4-Jan-1975\nTotal 1 blocks in 1 files [10,20]\n";
+    assert!(rt; writer.as_slice() == text);
+    assert!(rt;
+        tally
+            == Tally {
+                refused: false,
+                broke: false
+            }
+    );
+    Ok(())
+}

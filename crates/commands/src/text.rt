@@ -1,0 +1,191 @@
+ghost use Rattle.std.specs.Prelude.{◌≡◌, ◌++◌, IfOk, OnOk, codes, string_bytes};
+ghost use Rattle.words36.specs.Sixbit.{characters};
+ghost use Rattle.meaning.specs.Texts.{line, refusal, code_text, greeting, right_in, three_digits, extension_text, month_text, day_text, entry_text, blocks_in, total_text, listing};
+
+use meaning::{Entry, Reply};
+use std::alloc::{AllocError, Global};
+use words36::{FileName, Half, Ppn, text_of};
+
+/// The bytes of a text, with a line feed behind them.
+pub fn line(alloc: Global, text: &str) -> Result<Vec<u8>, AllocError>
+    ensures { IfOk result (λ bytes. bytes.items ≡ line text.now) }
+{
+    let mut bytes = Vec::new(alloc);
+    bytes.extend_from_slice(text.as_bytes())?;
+    bytes.push(b'\n')?;
+    Ok(bytes)
+}
+
+/// Why a call was refused, by its reply: a text without a line feed.
+pub fn refusal(reply: &Reply) -> &'static str
+    ensures { result.now ≡ refusal reply.now }
+{
+    match reply {
+        Reply::Refused(code) => code_text(*code),
+        Reply::Stopped(_) => "?No room",
+        Reply::NoJob => "?Not logged in",
+        Reply::NoMemory => "?No memory",
+        Reply::Device => "?Device fault",
+        Reply::Failed => "?Service stopped",
+        Reply::DateRange => "?Date out of range",
+        Reply::Done | Reply::Value(_) | Reply::NoChannel | Reply::AddressCheck => {
+            "?Illegal sequence"
+        }
+    }
+}
+
+/// What a code of a refused call says.
+fn code_text(code: u32) -> &'static str
+    ensures { result.now ≡ code_text code }
+{
+    match code {
+        0 => "?File not found",
+        1 => "?No such directory",
+        2 => "?Protection failure",
+        3 => "?File being modified",
+        4 => "?File name already exists",
+        0o14 => "?No room",
+        0o22 => "?Directory not empty",
+        _ => "?Illegal sequence",
+    }
+}
+
+/// What a login prints: the bytes of `Job 1 [10,20]`, with these numbers in octal, and a line feed.
+pub fn greeting(alloc: Global, owner: Ppn) -> Result<Vec<u8>, AllocError>
+    ensures { IfOk result (λ bytes. bytes.items ≡ greeting owner) }
+{
+    let text = format!(in alloc; "Job 1 {owner}")?;
+    line(alloc, text.as_str())
+}
+
+/// What DIRECTORY prints: the bytes of a line for each entry, and of a line with the totals.
+#[tactic(auto, unfolding(meaning::specs::Texts::listing))]
+pub fn listing(alloc: Global, owner: Ppn, entries: &[Entry]) -> Result<Vec<u8>, AllocError>
+    ensures { IfOk result (λ bytes. bytes.items ≡ listing owner entries.now) }
+{
+    let mut bytes = Vec::new(alloc);
+    for entry in entries {
+        push_entry(alloc, &mut bytes, *entry)?;
+    }
+    let total = total_text(alloc, owner, entries)?;
+    bytes.extend_from_slice(total.as_str().as_bytes())?;
+    Ok(bytes)
+}
+
+/// Puts the line of an entry behind the bytes: its name, blocks, protection and day.
+fn push_entry(alloc: Global, bytes: &mut Vec<u8>, entry: Entry) -> Result<(), AllocError>
+    ensures { OnOk result (bytes.new.items ≡ bytes.old.items ++ entry_text entry) }
+{
+    let blocks = entry.blocks;
+    let blocks = format!(in alloc; "{blocks}")?;
+    push_name(bytes, entry.name)?;
+    bytes.push(b' ')?;
+    push_right(bytes, 5, blocks.as_str())?;
+    bytes.extend_from_slice(b"  <")?;
+    bytes.extend_from_slice(&three_digits(entry.protection))?;
+    bytes.extend_from_slice(b">  ")?;
+    push_day(alloc, bytes, entry.date)?;
+    bytes.push(b'\n')?;
+    Ok(())
+}
+
+/// Puts a name and an extension behind the bytes, with a blank between them.
+fn push_name(bytes: &mut Vec<u8>, name: FileName) -> Result<(), AllocError>
+    ensures { OnOk result (bytes.new.items ≡ bytes.old.items ++ (characters name.name ++ codes " " ++ extension_text name.ext)) }
+{
+    bytes.extend_from_slice(&text_of(name.name))?;
+    bytes.push(b' ')?;
+    bytes.extend_from_slice(&extension_text(name.ext))?;
+    Ok(())
+}
+
+/// Puts a day behind the bytes, as ` 4-Jan-1975`.
+fn push_day(alloc: Global, bytes: &mut Vec<u8>, date: u32) -> Result<(), AllocError>
+    ensures { OnOk result (bytes.new.items ≡ bytes.old.items ++ day_text date) }
+{
+    let day = date % 31 + 1;
+    let day = format!(in alloc; "{day}")?;
+    let month = month_text(date / 31 % 12);
+    let year = date / 372 + 1964;
+    let rest = format!(in alloc; "-{month}-{year}")?;
+    push_right(bytes, 2, day.as_str())?;
+    bytes.extend_from_slice(rest.as_str().as_bytes())?;
+    Ok(())
+}
+
+/// Puts a text behind the bytes, with as many blanks before it as it has fewer bytes than there are places.
+fn push_right(bytes: &mut Vec<u8>, places: usize, text: &str) -> Result<(), AllocError>
+    ensures { OnOk result (bytes.new.items ≡ bytes.old.items ++ right_in places text.now) }
+{
+    for _i in 0..places.saturating_sub(text.len()) {
+        bytes.push(b' ')?;
+    }
+    bytes.extend_from_slice(text.as_bytes())?;
+    Ok(())
+}
+
+/// The three characters of an extension.
+fn extension_text(ext: Half) -> [u8; 3]
+    ensures { result ≡ extension_text ext }
+{
+    let bits = ext.bits();
+    [
+        (bits / 4096 % 64) as u8 + b' ',
+        (bits / 64 % 64) as u8 + b' ',
+        (bits % 64) as u8 + b' ',
+    ]
+}
+
+/// A number of three octal digits.
+fn three_digits(number: u32) -> [u8; 3]
+    ensures { result ≡ three_digits number }
+{
+    [
+        (number / 64 % 8) as u8 + b'0',
+        (number / 8 % 8) as u8 + b'0',
+        (number % 8) as u8 + b'0',
+    ]
+}
+
+/// A month's name, where January is 0.
+fn month_text(month: u32) -> &'static str
+    ensures { result.now ≡ month_text month }
+{
+    match month {
+        0 => "Jan",
+        1 => "Feb",
+        2 => "Mar",
+        3 => "Apr",
+        4 => "May",
+        5 => "Jun",
+        6 => "Jul",
+        7 => "Aug",
+        8 => "Sep",
+        9 => "Oct",
+        10 => "Nov",
+        _ => "Dec",
+    }
+}
+
+/// The last line of a list: how many blocks and files it has, or that it has none.
+fn total_text(alloc: Global, owner: Ppn, entries: &[Entry]) -> Result<String, AllocError>
+    ensures { IfOk result (λ text. string_bytes text ≡ total_text owner entries.now) }
+{
+    if entries.is_empty() {
+        return format!(in alloc; "No files {owner}\n");
+    }
+    let blocks = total_blocks(entries);
+    let files = entries.len();
+    format!(in alloc; "Total {blocks} blocks in {files} files {owner}\n")
+}
+
+/// How many blocks the entries have together. No list that fits in memory has more than 128 bits of them.
+fn total_blocks(entries: &[Entry]) -> u128
+    ensures { result ≡ blocks_in entries.now }
+{
+    let mut blocks: u128 = 0;
+    for entry in entries {
+        blocks += u128::from(entry.blocks);
+    }
+    blocks
+}
