@@ -1,0 +1,38 @@
+-- The command line of the program, as `clap` reads it.
+use Rattle.std.specs.Prelude.{ℕ, [], ◌∷◌, Some, true, pos, codes}
+use Rattle.clap.specs.Words.{App, Rule, Text, new_app, new_rule, with_rule, with_subcommand}
+use Rattle.clap.specs.declared.builder.value_parser.ValueParser.TheVariants as vp
+
+-- a text that has to be given
+abbrev pub wanted : Text → Rule
+wanted id = record (new_rule id) { required = true }
+
+-- a number that has to be given, in a range
+abbrev pub numbered : Text → ℕ → ℕ → Rule
+numbered id least most = record (wanted id) { parser = Some (vp.Signed (pos least) (pos most)) }
+
+-- a number from 0 on that may be left out, and is 0 then
+abbrev pub optional : Text → ℕ → Rule
+optional id most = record (new_rule id) { long = Some id; value_names = 1; defaults = codes "0" ∷ []; parser = Some (vp.Signed (pos 0) (pos most)) }
+
+unfoldable pub init_app : App
+init_app = with_rule (with_rule (new_app (codes "init")) (wanted (codes "IMAGE"))) (numbered (codes "BLOCKS") 64 131072)
+
+-- with the date and the minute of what is written
+unfoldable pub dated : App → App
+dated app = with_rule (with_rule app (optional (codes "date") 32767)) (optional (codes "minute") 1439)
+
+unfoldable pub run_app : App
+run_app = dated (with_rule (new_app (codes "run")) (wanted (codes "IMAGE")))
+
+-- the subcommands
+unfoldable pub served : App → App
+served app = with_subcommand (with_subcommand app init_app.top) run_app.top
+
+-- a command of this name, which can be asked for its version
+abbrev pub versioned : Text → App
+versioned name = record (new_app name) { top = record (new_app name).top { has_version = true } }
+
+-- the whole of it
+unfoldable pub command_line : App
+command_line = served (versioned (codes "filser"))

@@ -1,0 +1,26 @@
+-- How a run ends whose words ask for nothing that is done.
+use Rattle.std.specs.Prelude.{◌≡◌, ◌⊎◌, [], ℕ}
+use Rattle.clap.specs.Words.{Kinds, IsAmong, kind_of}
+use Rattle.clap.specs.declared.error.kind.ErrorKind.{ErrorKind}
+use Rattle.clap.specs.declared.error.kind.ErrorKind.TheVariants.{DisplayHelp, DisplayVersion}
+use Rattle.filser.specs.declared.error.RequestError.{RequestError}
+use Rattle.filser.specs.declared.error.RequestError.TheVariants.{Usage, BadArgument, NoMemory}
+use Rattle.filser.specs.declared.status.Status.{Status}
+use Rattle.filser.specs.declared.status.Status.TheVariants.{Done, BadArguments, Fault}
+
+-- help or the version was asked for
+abbrev pub IsShown : ErrorKind → Type 0
+IsShown kind = (kind ≡ DisplayHelp) ⊎ (kind ≡ DisplayVersion)
+
+abbrev pub EndsUnasked : RequestError → Status → Type 0
+EndsUnasked (Usage e) s = (IsShown (kind_of e) → (s ≡ Done) ⊎ (s ≡ Fault)) × ((IsShown (kind_of e) → ⊥) → s ≡ BadArguments)
+EndsUnasked BadArgument s = s ≡ BadArguments
+EndsUnasked NoMemory s = s ≡ Fault
+
+-- the words are refused, and not for being a question
+abbrev pub AreMistaken : Kinds → Type 0
+AreMistaken kinds = (kinds ≡ [] → ⊥) × ((kind : ErrorKind) → IsAmong kind kinds → IsShown kind → ⊥)
+
+-- they ask for help or the version
+abbrev pub AskToSee : Kinds → Type 0
+AskToSee kinds = (kinds ≡ [] → ⊥) × ((kind : ErrorKind) → IsAmong kind kinds → IsShown kind)

@@ -1,0 +1,5 @@
+pub mod CommandLine
+pub mod Requests
+pub mod Statuses
+pub mod Refusals
+pub mod Endings

@@ -1,0 +1,46 @@
+-- What is printed where a run ends before a line is served, and its status.
+use Rattle.std.specs.Prelude.{◌≡◌, ◌⊎◌, ℕ, List, ◌++◌, codes}
+use Rattle.std.specs.Fmt.{decimal}
+use Rattle.volume.specs.declared.error.VolumeError.{VolumeError}
+use Rattle.volume.specs.declared.error.VolumeError.TheVariants.{NotVolume, BadHome, BadLog, BadDirectory, BadRetrieval, BlockTwice, TableWrong, Device, NoMemory, Failed, BadData}
+use Rattle.filser.specs.declared.refusal.Refusal.{Refusal}
+use Rattle.filser.specs.declared.refusal.Refusal.TheVariants.{Exists, Start}
+
+-- A start never answers Failed: only a call behind a fault of the device does.
+abbrev pub start_text : VolumeError → List ℕ
+start_text NotVolume = codes "?Not a volume"
+start_text BadHome = codes "?Bad home blocks"
+start_text BadLog = codes "?Bad log"
+start_text (BadDirectory block) = codes "?Bad directory block " ++ decimal block
+start_text (BadRetrieval block) = codes "?Bad retrieval block " ++ decimal block
+start_text (BlockTwice block) = codes "?Block " ++ decimal block ++ codes " reached twice"
+start_text (TableWrong block) = codes "?Bad table block " ++ decimal block
+start_text Device = codes "?Device fault"
+start_text NoMemory = codes "?No memory"
+start_text Failed = codes "?Device fault"
+start_text (BadData block) = codes "?Bad data block " ++ decimal block
+
+abbrev pub start_code : VolumeError → ℕ
+start_code NotVolume = 3
+start_code BadHome = 3
+start_code BadLog = 3
+start_code (BadDirectory block) = 3
+start_code (BadRetrieval block) = 3
+start_code (BlockTwice block) = 3
+start_code (TableWrong block) = 3
+start_code Device = 4
+start_code NoMemory = 3
+start_code Failed = 4
+start_code (BadData block) = 3
+
+abbrev pub refusal_text : Refusal → List ℕ
+refusal_text Exists = codes "?Image exists"
+refusal_text (Start error) = start_text error
+
+abbrev pub refusal_code : Refusal → ℕ
+refusal_code Exists = 3
+refusal_code (Start error) = start_code error
+
+-- what a file is refused for before a block of it is looked at
+abbrev pub IsFileRefusal : Refusal → Type 0
+IsFileRefusal refusal = (refusal ≡ Start NotVolume) ⊎ (refusal ≡ Start Device)

@@ -1,0 +1,71 @@
+//! The program: what its arguments ask for, and a run of it. What the layer keeps:
+//!
+//! 1. The command line is a value of `clap`'s, and a definition says which. (`specs/CommandLine.antt`)
+//! 2. `request` answers Ok only with what `clap` matches: the subcommand, its texts and its numbers are
+//!    a function of the words, and each number is decimal and in its range. (`asked`, `range`, `taken`)
+//! 3. `Usage` comes only where `clap` refuses the words, or is asked for help or the version, and with
+//!    that kind; `BadArgument` only where the words are taken and ask for nothing. (`usage`, `bad`)
+//! 4. Why a run ends before a line is served is shown as the definition has it, byte by byte, and the
+//!    status of such a run is the definition's. (`specs/Refusals.antt`)
+//! 5. `work` is a whole run: it ends, takes nothing but what it is handed, and answers a status from 0 to
+//!    4. `main` hands it the standard streams and the host's files, and does nothing else.
+//!
+//! What an image stands for, and what a line does, is not known here.
+#![tactic(auto)]
+
+mod asked;
+mod error;
+mod image;
+#[cfg(test)]
+mod image_tests;
+mod program;
+mod reading;
+mod refusal;
+mod serving;
+mod status;
+mod table;
+#[cfg(test)]
+mod tests;
+
+pub use asked::Request;
+pub use error::RequestError;
+pub use image::make_image;
+pub use program::work;
+pub use reading::request;
+pub use refusal::Refusal;
+pub use status::Status;
+use std::env;
+use std::io::{self, ErrorKind};
+use std::process::ExitCode;
+
+/// Runs the program on its arguments and the standard streams.
+fn main(rt: HostRuntime) -> ExitCode {
+    match run(&rt) {
+        Ok(code) => ExitCode::from(code),
+        Err(error) if error.kind() == ErrorKind::OutOfMemory => ExitCode::from(
+            Status::Fault.code(),
+        ),
+        Err(_) => {
+            let _ = eprintln!(rt; "?Bad argument");
+            ExitCode::from(Status::BadArguments.code())
+        }
+    }
+}
+
+/// The status of a run, or why there are no arguments: one isn't text, or memory ran out.
+fn run(rt: &HostRuntime) -> io::Result<u8> {
+    let alloc = rt.alloc();
+    let words: Vec<String> = env::args(rt)?.collect(alloc)?;
+    let texts: Vec<&str> = words.iter().map(|word| word.as_str()).collect(alloc)?;
+    let mut output = rt.stdout();
+    let mut errors = rt.stderr();
+    let code = work(
+        rt,
+        alloc,
+        texts.as_slice(),
+        &mut rt.reader(),
+        &mut output,
+        &mut errors,
+    );
+    Ok(code)
+}

@@ -1,0 +1,127 @@
+ghost use Rattle.std.specs.Prelude.{◌≡◌, ◌≢◌, ◌⊎◌, ◌≤◌, [], map};
+ghost use Rattle.clap.specs.Words.{fault_of, kind_of, subcommand_of};
+ghost use Rattle.filser.specs.CommandLine.{command_line};
+ghost use Rattle.filser.specs.Endings.{AreMistaken, AskToSee, EndsUnasked, IsShown};
+ghost use Rattle.filser.specs.Requests.{Asks, InRange};
+ghost use Rattle.filser.specs.declared.asked.Request.{Request as Asked};
+ghost use Rattle.filser.specs.declared.status.Status.TheVariants.{Done, BadArguments, Fault};
+
+use crate::image::open_image;
+use crate::serving::{say, serve, serve_fresh};
+use crate::{Request, RequestError, Status, make_image, request};
+use clap::Error;
+use std::alloc::Global;
+use std::fs::File;
+use std::io::{Read, Write};
+use std::rt::Files;
+use words36::Moment;
+
+/// A whole run of the program: reads the words, the first of which is its name, does what they ask for over
+/// the files of the host, and answers the exit status, 0 to 4. Texts go to `writer`, but for those on wrong
+/// arguments, which go to `errors`.
+///
+/// Where several faults stand, the first of these is met: the arguments, a new file that is there, a file
+/// that can't be opened or made, its size, the start, the input.
+pub fn work<F: Files<File = File>, R: Read, W: Write, E: Write>(
+    files: &F,
+    alloc: Global,
+    words: &[&str],
+    reader: &mut R,
+    writer: &mut W,
+    errors: &mut E,
+) -> u8
+    ensures few { result ≤ 4 }
+    ensures mistaken { AreMistaken (fault_of command_line (map (λ w. w.now) words.now)) → (result ≡ 2) ⊎ (result ≡ 4) }
+    ensures shown { AskToSee (fault_of command_line (map (λ w. w.now) words.now)) → (result ≡ 0) ⊎ (result ≡ 4) }
+    ensures asked { (r : Asked) → Asks (subcommand_of command_line (map (λ w. w.now) words.now)) r
+        → fault_of command_line (map (λ w. w.now) words.now) ≡ [] → result ≢ 2 }
+{
+    let status = answer(files, alloc, words, reader, writer, errors);
+    match writer.flush() {
+        Ok(()) => status.code(),
+        Err(_) => Status::Fault.code(),
+    }
+}
+
+/// Does what the words ask for, or says why they ask for nothing that is done.
+fn answer<F: Files<File = File>, R: Read, W: Write, E: Write>(
+    files: &F,
+    alloc: Global,
+    words: &[&str],
+    reader: &mut R,
+    writer: &mut W,
+    errors: &mut E,
+) -> Status
+    ensures mistaken { AreMistaken (fault_of command_line (map (λ w. w.now) words.now)) → (result ≡ BadArguments) ⊎ (result ≡ Fault) }
+    ensures shown { AskToSee (fault_of command_line (map (λ w. w.now) words.now)) → (result ≡ Done) ⊎ (result ≡ Fault) }
+    ensures asked { (r : Asked) → Asks (subcommand_of command_line (map (λ w. w.now) words.now)) r
+        → fault_of command_line (map (λ w. w.now) words.now) ≡ [] → result ≢ BadArguments }
+{
+    match request(alloc, words) {
+        Ok(asked) => perform(files, alloc, asked, reader, writer),
+        Err(error) => refuse(&error, writer, errors),
+    }
+}
+
+/// Does what is asked for.
+fn perform<F: Files<File = File>, R: Read, W: Write>(
+    files: &F,
+    alloc: Global,
+    asked: Request<'_>,
+    reader: &mut R,
+    writer: &mut W,
+) -> Status
+    requires { InRange asked }
+    ensures { result ≢ BadArguments }
+{
+    match asked {
+        Request::Fresh => serve_fresh(alloc, moment(0, 0), reader, writer),
+        Request::Init(path, blocks) => match make_image(files, path, blocks) {
+            Ok(()) => Status::Done,
+            Err(refusal) => say(writer, refusal),
+        },
+        Request::Run(path, date, minute) => match open_image(files, path) {
+            Ok(image) => serve(alloc, image, moment(date, minute), reader, writer),
+            Err(refusal) => say(writer, refusal),
+        },
+    }
+}
+
+/// A moment of numbers that are in range.
+fn moment(date: u32, minute: u32) -> Moment
+    requires date { date ≤ 32767 }
+    requires minute { minute ≤ 1439 }
+    ensures date { result.date ≡ date }
+    ensures minute { result.minute ≡ minute }
+{
+    Moment::new(date, minute).unwrap()
+}
+
+/// Says why the words ask for nothing that is done.
+fn refuse<W: Write, E: Write>(error: &RequestError, writer: &mut W, errors: &mut E) -> Status
+    ensures { EndsUnasked error.now result }
+{
+    match error {
+        RequestError::Usage(usage) => show(usage, writer, errors),
+        RequestError::BadArgument => {
+            let _ = writeln!(errors, "?Bad argument");
+            Status::BadArguments
+        }
+        RequestError::NoMemory => Status::Fault,
+    }
+}
+
+/// Shows the text of `clap`: help and the version are what was asked for, and all else is a mistake.
+fn show<W: Write, E: Write>(usage: &Error, writer: &mut W, errors: &mut E) -> Status
+    ensures shown { IsShown (kind_of usage.now) → (result ≡ Done) ⊎ (result ≡ Fault) }
+    ensures mistake { (IsShown (kind_of usage.now) → ⊥) → result ≡ BadArguments }
+{
+    if usage.use_stderr() {
+        let _ = write!(errors, "{usage}");
+        return Status::BadArguments;
+    }
+    match write!(writer, "{usage}") {
+        Ok(()) => Status::Done,
+        Err(_) => Status::Fault,
+    }
+}

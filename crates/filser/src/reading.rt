@@ -1,0 +1,94 @@
+ghost use Rattle.std.specs.Prelude.{◌≡◌, ◌≤◌, List, ℕ, [], map, codes, IfOk, MatchOption, option_map, IsErrOf, Err, Some};
+ghost use Rattle.clap.specs.Words.{Row, found_of, rows_of, first_of, subcommand_of, subcommand_rows_of, fault_of, kind_of, IsAmong};
+ghost use Rattle.clap.specs.declared.error.Error.{Error as ClapError};
+ghost use Rattle.clap.specs.declared.error.kind.ErrorKind.TheVariants.{OutOfMemory};
+ghost use Rattle.filser.specs.CommandLine.{command_line};
+ghost use Rattle.filser.specs.Requests.{Asks, IsAsked, HasText, HasNumber, InRange};
+ghost use Rattle.filser.specs.declared.asked.Request.{Request as Asked};
+ghost use Rattle.filser.specs.declared.error.RequestError.TheVariants.{Usage, BadArgument};
+
+use crate::table::command_line;
+use crate::{Request, RequestError};
+use clap::error::ErrorKind;
+use clap::{ArgMatches, Error};
+use std::alloc::Global;
+
+/// What the words of a command line ask for; the first is the program's name. Numbers are decimal.
+///
+/// # Errors
+///
+/// `Usage` where `clap` refuses the words, or is asked for help or the version; `BadArgument` where it
+/// takes them and they ask for nothing; `NoMemory` where a growth was refused.
+pub fn request<'a>(alloc: Global, words: &'a [&'a str]) -> Result<Request<'a>, RequestError>
+    ensures asked { IfOk result (λ r. Asks (subcommand_of command_line (map (λ w. w.now) words.entry.now)) r) }
+    ensures range { IfOk result InRange }
+    ensures taken { IfOk result (λ _. fault_of command_line (map (λ w. w.now) words.entry.now) ≡ []) }
+    ensures usage { (e : ClapError) → IsErrOf result (Usage e) → IsAmong (kind_of e) (fault_of command_line (map (λ w. w.now) words.entry.now)) }
+    ensures bad { IsErrOf result BadArgument → (fault_of command_line (map (λ w. w.now) words.entry.now) ≡ [])
+        × ((r : Asked) → Asks (subcommand_of command_line (map (λ w. w.now) words.entry.now)) r → ⊥) }
+{
+    let Ok(command) = command_line(alloc) else {
+        return Err(RequestError::NoMemory);
+    };
+    let matches = match command.try_get_matches_from(words) {
+        Ok(matches) => matches,
+        Err(error) => return Err(refusal(error)),
+    };
+    match matched(&matches) {
+        Some(request) => Ok(request),
+        None => Err(RequestError::BadArgument),
+    }
+}
+
+/// The refusal of `clap`, where it isn't want of memory.
+fn refusal(error: Error) -> RequestError
+    ensures usage { (e : ClapError) → result ≡ Usage e → (error ≡ e) × (kind_of error ≡ OutOfMemory → ⊥) }
+    ensures never { result ≡ BadArgument → ⊥ }
+{
+    match error.kind() {
+        ErrorKind::OutOfMemory => RequestError::NoMemory,
+        _ => RequestError::Usage(error),
+    }
+}
+
+/// What the matches ask for.
+fn matched<'a>(matches: &ArgMatches<'a>) -> Option<Request<'a>>
+    ensures { MatchOption result ((r : Asked) → Asks (subcommand_rows_of matches.entry.now) r → ⊥) (λ r. Asks (subcommand_rows_of matches.entry.now) r) }
+{
+    match matches.subcommand() {
+        Some((name, inner)) => subcommand(name, inner),
+        None => Some(Request::Fresh),
+    }
+}
+
+/// What a subcommand with its matches asks for.
+fn subcommand<'a>(name: &'a str, matches: &ArgMatches<'a>) -> Option<Request<'a>>
+    ensures { MatchOption result ((r : Asked) → IsAsked name.entry.now (rows_of (found_of matches.entry.now)) r → ⊥) (IsAsked name.entry.now (rows_of (found_of matches.entry.now))) }
+{
+    let image = text(matches, "IMAGE")?;
+    match name {
+        "init" => Some(Request::Init(image, number(matches, "BLOCKS", 64, 131072)?)),
+        "run" => {
+            let date = number(matches, "date", 0, 32767)?;
+            Some(Request::Run(image, date, number(matches, "minute", 0, 1439)?))
+        }
+        _ => None,
+    }
+}
+
+/// The text of an argument.
+fn text<'a>(matches: &ArgMatches<'a>, id: &str) -> Option<&'a str>
+    ensures { MatchOption result ((t : List ℕ) → HasText (rows_of (found_of matches.now)) id.now t → ⊥) (λ t. HasText (rows_of (found_of matches.now)) id.now t.now) }
+{
+    matches.get_str(id)
+}
+
+/// The number of an argument, where it lies in its range.
+fn number(matches: &ArgMatches, id: &str, least: u32, most: u32) -> Option<u32>
+    ensures { MatchOption result ((n : ℕ) → HasNumber (rows_of (found_of matches.now)) id.now least most n → ⊥) (HasNumber (rows_of (found_of matches.now)) id.now least most) }
+{
+    match matches.get_one::<u32>(id) {
+        Some(n) if least <= n && n <= most => Some(n),
+        _ => None,
+    }
+}

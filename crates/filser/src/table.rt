@@ -1,0 +1,167 @@
+//! The command line as a value of `clap`'s. A subcommand is a function here, and a line of
+//! `with_subcommands`.
+ghost use Rattle.std.specs.Prelude.{◌≡◌, IfOk, codes, false};
+ghost use Rattle.clap.specs.Words.{app_of, rule_of, with_rule, with_subcommand};
+ghost use Rattle.clap.specs.declared.builder.command.Command.TheViews.{out-Command as fields_of};
+ghost use Rattle.filser.specs.CommandLine.{command_line, dated, init_app, numbered, optional, run_app, served, versioned, wanted};
+
+use clap::{Arg, Command};
+use std::alloc::{AllocError, Global};
+
+/// What `--version` shows behind the name.
+const VERSION: &str = "0.1.0";
+
+/// What stands below the commands in the help.
+const NOTES: &str = "\
+Without a command the input is served as by run, on a fresh volume of 64
+blocks in memory, at date 0 and minute 0. It is gone at the end.
+
+Options of run:
+  --date N    the date of what is written, 0 to 32767 [default: 0]
+  --minute N  its minute of the day, 0 to 1439 [default: 0]
+
+Exit status:
+  0  all was done
+  1  a line of the input was refused
+  2  the arguments were wrong
+  3  the image was refused
+  4  the device, the input or the output failed, or memory ran out
+
+Example:
+  filser init DISK.IMG 4096
+  printf 'LOGIN [10,20]\\nDIRECTORY\\n' | filser run DISK.IMG
+
+Each run pays for one start, which reads the whole image's files, so one run
+over many lines beats many runs. One process serves an image at a time.";
+
+/// A text that has to be given.
+fn wanted<'a>(alloc: Global, id: &'a str, help: &'a str) -> Arg<'a>
+    ensures rule { rule_of result ≡ wanted id.entry.now }
+    ensures local { result.global ≡ false }
+{
+    Arg::new(alloc, id).required(true).help(help)
+}
+
+/// How many blocks a new image gets.
+fn blocks<'a>(alloc: Global) -> Arg<'a>
+    ensures rule { rule_of result ≡ numbered (codes "BLOCKS") 64 131072 }
+    ensures local { result.global ≡ false }
+{
+    Arg::new(alloc, "BLOCKS")
+        .required(true)
+        .help("How many blocks of 128 words it has, 64 to 131072")
+        .value_parser(clap::value_parser!(u32).range(64..=131072))
+}
+
+fn date<'a>(alloc: Global) -> Arg<'a>
+    ensures rule { rule_of result ≡ optional (codes "date") 32767 }
+    ensures local { result.global ≡ false }
+{
+    Arg::new(alloc, "date")
+        .long("date")
+        .value_name("N")
+        .help("The date of what is written, 0 to 32767")
+        .default_value("0")
+        .value_parser(clap::value_parser!(u32).range(0..=32767))
+}
+
+fn minute<'a>(alloc: Global) -> Arg<'a>
+    ensures rule { rule_of result ≡ optional (codes "minute") 1439 }
+    ensures local { result.global ≡ false }
+{
+    Arg::new(alloc, "minute")
+        .long("minute")
+        .value_name("N")
+        .help("Its minute of the day, 0 to 1439")
+        .default_value("0")
+        .value_parser(clap::value_parser!(u32).range(0..=1439))
+}
+
+/// A command with one more argument.
+fn with_argument<'a>(command: Command<'a>, argument: Arg<'a>) -> Result<Command<'a>, AllocError>
+    requires { argument.global ≡ false }
+    ensures app { IfOk result (λ c. app_of c ≡ with_rule (app_of command.entry) (rule_of argument.entry)) }
+    ensures local { IfOk result (λ c. (fields_of c).has_globals ≡ (fields_of command.entry).has_globals) }
+{
+    command.arg(argument)
+}
+
+/// A command with one more subcommand.
+fn with_one<'a>(command: Command<'a>, subcommand: Command<'a>) -> Result<Command<'a>, AllocError>
+    requires { (fields_of subcommand).has_globals ≡ false }
+    ensures app { IfOk result (λ c. app_of c ≡ with_subcommand (app_of command.entry) (app_of subcommand.entry).top) }
+{
+    command.subcommand(subcommand)
+}
+
+/// A command with these words on what it does.
+fn about<'a>(command: Command<'a>, text: &'a str) -> Command<'a>
+    ensures app { app_of result ≡ app_of command.entry }
+    ensures local { (fields_of result).has_globals ≡ (fields_of command.entry).has_globals }
+{
+    command.about(text)
+}
+
+/// A command with the date and the minute of what it writes.
+#[tactic(auto, unfolding(crate::specs::CommandLine::dated))]
+fn dated<'a>(alloc: Global, command: Command<'a>) -> Result<Command<'a>, AllocError>
+    ensures app { IfOk result (λ c. app_of c ≡ dated (app_of command.entry)) }
+    ensures local { IfOk result (λ c. (fields_of c).has_globals ≡ (fields_of command.entry).has_globals) }
+{
+    let command = with_argument(command, date(alloc))?;
+    with_argument(command, minute(alloc))
+}
+
+#[tactic(auto, unfolding(crate::specs::CommandLine::init_app))]
+fn init_command<'a>(alloc: Global) -> Result<Command<'a>, AllocError>
+    ensures app { IfOk result (λ c. app_of c ≡ init_app) }
+    ensures local { IfOk result (λ c. (fields_of c).has_globals ≡ false) }
+{
+    let command = about(
+        Command::new(alloc, "init"),
+        "Make an image of a volume with no directory",
+    );
+    let command = with_argument(command, wanted(alloc, "IMAGE", "The file to make"))?;
+    with_argument(command, blocks(alloc))
+}
+
+#[tactic(auto, unfolding(crate::specs::CommandLine::run_app))]
+fn run_command<'a>(alloc: Global) -> Result<Command<'a>, AllocError>
+    ensures app { IfOk result (λ c. app_of c ≡ run_app) }
+    ensures local { IfOk result (λ c. (fields_of c).has_globals ≡ false) }
+{
+    let command = about(
+        Command::new(alloc, "run"),
+        "Serve the lines of the input on an image",
+    );
+    let command = with_argument(command, wanted(alloc, "IMAGE", "The image to serve"))?;
+    dated(alloc, command)
+}
+
+#[tactic(auto, unfolding(crate::specs::CommandLine::served))]
+fn with_subcommands<'a>(alloc: Global, command: Command<'a>) -> Result<Command<'a>, AllocError>
+    ensures { IfOk result (λ c. app_of c ≡ served (app_of command.entry)) }
+{
+    let command = with_one(command, init_command(alloc)?)?;
+    with_one(command, run_command(alloc)?)
+}
+
+/// The program's name, with what help and version say of it.
+fn program<'a>(alloc: Global) -> Command<'a>
+    ensures { app_of result ≡ versioned (codes "filser") }
+{
+    about(
+        Command::new(alloc, "filser"),
+        "A TOPS-10 file service over one disk image",
+    )
+    .after_help(NOTES)
+    .version(VERSION)
+}
+
+/// The whole command line.
+#[tactic(auto, unfolding(crate::specs::CommandLine::command_line))]
+pub(crate) fn command_line<'a>(alloc: Global) -> Result<Command<'a>, AllocError>
+    ensures { IfOk result (λ c. app_of c ≡ command_line) }
+{
+    with_subcommands(alloc, program(alloc))
+}
