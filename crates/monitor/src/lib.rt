@@ -5,13 +5,12 @@
 //! 2. `start` opens the volume of a disk. Where it answers Ok the files are those that the disk stood for,
 //!    and nobody is logged in; else the refusal is that of `Volume::open`, with the disk handed back.
 //!    (`started`, `refused`)
-//! 3. `login`, `deposit`, `examine` and `reset` answer as the machine's rows do, or want memory where
-//!    the machine may, and leave the state of that row. None of them touches the disk. (`answered`,
-//!    `disk`)
+//! 3. `login` and `reset` answer as the machine's rows do, or want memory where the machine may, and leave
+//!    the state of that row. Neither touches the disk. (`answered`, `kept`)
 //! 4. `list` gives the list of a directory that the machine gives, by name and then by extension.
 //!    (`listed`)
 //! 5. `room` and `blocks` are the volume's. `finish` gives the disk back as it stands.
-//! 6. A monitor that has failed answers Failed to every event. (`answered`)
+//! 6. A monitor that has failed answers Failed to every event. (`answered`, `listed`)
 //!
 //! The calls on channels aren't served yet: every channel of a job is closed.
 #![tactic(auto)]
