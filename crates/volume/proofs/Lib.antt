@@ -5,6 +5,7 @@ pub mod Marking
 pub mod Finding
 pub mod Handing
 pub mod Lookups
+pub mod Reaching
 pub mod FoundFiles
 pub mod FoundDirectories
 pub mod MetDirectories

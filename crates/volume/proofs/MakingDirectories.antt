@@ -22,7 +22,7 @@ use Rattle.changeset.specs.PutLaws.{times_head, times_tail, with_puts_here, with
 use Rattle.changeset.specs.Rest.{AtRest, SettlesTo}
 use Rattle.alloctab.specs.TableState.{bit, used_in_space}
 use Rattle.retrieval.specs.Writing.{IsFixed}
-use Rattle.volume.specs.Known.{KnownDirectory, Known, IsHeld, IsWholeDirectory, IsWholeMap, cost_of_directory}
+use Rattle.volume.specs.Known.{KnownDirectory, Known, IsHeld, reaches_in_known, known_reaches, IsWholeDirectory, IsWholeMap, cost_of_directory}
 use Rattle.volume.specs.Making.{LeadsTo, IsAligned, AreUsed, bare_known, map_made, files_made, IsMade}
 use Rattle.volume.specs.Rest.{IsAtRest, IsSound, RestsAt, StandsForEither}
 use Rattle.volume.proofs.Lookups.{all_push, total-push}
@@ -137,6 +137,13 @@ module _ (size : ℕ) (k k' : Known) (ppn protection first : ℕ) (puts : List P
       let one : cost_of_directory (bare_known first) ≡ 1 = refl in
       omega arith
 
+  reaches_more : (n : ℕ) → known_reaches n k'.master k'.directories ≡ known_reaches n k.master k.directories + times n (first ∷ made.grown)
+  reaches_more n =
+      let a = ap (times n) made.entered.blocks ∙ times-append n k.master.blocks made.grown in
+      let b = ap (total (reaches_in_known n)) made.entered.directories ∙ total-push (reaches_in_known n) k.directories (bare_known first) in
+      let one : reaches_in_known n (bare_known first) ≡ times n (first ∷ []) + 0 = refl in
+      omega arith
+
   pub made_whole : IsWholeMap size k'
   made_whole = record {
     volume = whole.volume;
@@ -145,6 +152,7 @@ module _ (size : ℕ) (k k' : Known) (ppn protection first : ℕ) (puts : List P
     inside = made_inside;
     aligned = made_aligned;
     each = subst (AllByRecursion (IsWholeDirectory size)) (sym made.entered.directories) (all_push (IsWholeDirectory size) k.directories (bare_known first) whole.each bare_whole);
+    bits = λ n. let a = made.taken.bits n in let b = whole.bits n in let e = reaches_more n in omega arith;
     unchanged = made.taken.changed ∙ ap (λ (n : ℕ). replicate (table_blocks n) false) whole.size_is;
     unheld = made.taken.held ∙ whole.unheld;
     booked = let a = made.taken.booked in let b = whole.booked in let e = cost_more in omega arith;

@@ -9,7 +9,7 @@ use Rattle.changeset.specs.Rest.{AtRest, Ignores, recover_leaves, recover_rest, 
 use Rattle.meaning.specs.Files.{File, Files}
 use Rattle.meaning.specs.Regions.{IsVolumeSize}
 use Rattle.meaning.specs.Log.{IsGateOpen, open_gate, with_puts}
-use Rattle.meaning.specs.Stands.{DiskMap, SettledStands, Stands}
+use Rattle.meaning.specs.Stands.{DiskMap, HasMap, files_of, SettledStands, Stands}
 use Rattle.meaning.specs.Faults.{IsBadLog, IsSettledFault, HasFault, StartFault}
 use Rattle.meaning.specs.Faults as faults
 use Rattle.meaning.proofs.DiskMaps.{log_ignored}
@@ -89,6 +89,15 @@ rest_files s s' s'' files size size' recovered none reads stands =
     (rest_read s' s'' (λ c. SettledStands s.size c files) size' reads
     (recover_rest s s' (λ c. SettledStands s.size c files) (stands_ignores_gate s.size files) size
     (λ settled is. subst (λ c. SettledStands s.size c files) (settled_same s.size s.contents stands.0 settled stands.1 is) stands.2) recovered none))
+
+-- They stood for some files before the recovery, since what was recovered is what settled.
+pub stood_before : (s s' s'' : DiskState) (known : Known) (m : DiskMap) → s'.size ≡ s.size → s''.size ≡ s'.size → IsRecovered s.size s.contents s'.contents → NoneOpen s' → OnlyReads s' s'' → IsHeld s'.size known m s'.contents
+    → (files : Files File) × Stands s.size s.contents files × RestsAt s'' files
+stood_before s s' s'' known m size size' recovered none reads held =
+    let there : SettledStands s.size s'.contents (files_of m) = (m, subst (λ (n : ℕ). HasMap n s'.contents m) size held.stands, refl) in
+    let before : Stands s.size s.contents (files_of m) =
+        (recovered.settled, recovered.is_settled, stands_ignores_gate s.size (files_of m) s'.contents recovered.settled (λ n out. sym (recovered.others n out)) there) in
+    (files_of m, before, rest_files s s' s'' (files_of m) size size' recovered none reads before)
 
 -- Faults.
 

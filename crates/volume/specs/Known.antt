@@ -1,15 +1,15 @@
 -- What a volume knows of its disk: the chains of its directories with their entries in the order of the
 -- disk, for each file where its version lies, and the allocation table. A map of the disk says the same,
 -- and besides it the words of the files.
-use Rattle.std.specs.Prelude.{◌≡◌, ℕ, ◌+◌, ◌*◌, ◌≤◌, false, List, length, replicate, slice_get, Some}
+use Rattle.std.specs.Prelude.{◌≡◌, ℕ, ◌+◌, ◌*◌, ◌≤◌, false, List, [], ◌∷◌, ◌++◌, length, replicate, slice_get, Some}
 use Rattle.std.specs.List.{AllByRecursion}
 use Rattle.std.specs.Ordering.{nat_cmp}
 use Rattle.blockdisk.specs.Disk.{Contents}
-use Rattle.meaning.specs.Maps.{get, map_values, from_entries, total}
+use Rattle.meaning.specs.Maps.{get, map_values, from_entries, total, times}
 use Rattle.meaning.specs.Costs.{blocks_of, cost_of_blocks}
 use Rattle.meaning.specs.Files.{name_cmp}
 use Rattle.meaning.specs.Regions.{IsVolumeSize, table_blocks}
-use Rattle.meaning.specs.Table.{table_bit}
+use Rattle.meaning.specs.Table.{table_bit, fixed}
 use Rattle.meaning.specs.Directories.{MasterEntry, master_words, FileEntry, file_words, IsFileEntry}
 use Rattle.meaning.specs.Retrieval.{most_blocks}
 use Rattle.meaning.specs.Stands.{StoredFile, StoredDirectory, DiskMap, entry_of, HasMap}
@@ -77,6 +77,24 @@ pub record IsWholeDirectory (size : ℕ) (d : KnownDirectory) : Type 0 where
   pub aligned : length d.versions ≡ length d.chain.entries
   pub versions : AllByRecursion IsWholeVersion d.versions
 
+-- How often a block stands in what core knows.
+
+-- the blocks of a version with this prime block
+abbrev pub blocks_reached : ℕ → VersionState → List ℕ
+blocks_reached prime v = prime ∷ (v.ribs ++ v.blocks)
+
+-- in the versions of these entries
+abbrev pub reaches_in_entries : ℕ → List FileEntry → List KnownVersion → ℕ
+reaches_in_entries n [] versions = 0
+reaches_in_entries n (e ∷ es) [] = 0
+reaches_in_entries n (e ∷ es) (v ∷ vs) = times n (blocks_reached e.1 v.version) + reaches_in_entries n es vs
+
+abbrev pub reaches_in_known : ℕ → KnownDirectory → ℕ
+reaches_in_known n d = times n d.chain.blocks + reaches_in_entries n d.chain.entries d.versions
+
+abbrev pub known_reaches : ℕ → ChainState MasterEntry → List KnownDirectory → ℕ
+known_reaches n master directories = times n master.blocks + total (reaches_in_known n) directories
+
 -- What it costs: each version as much as its blocks ask for, and each chain as many blocks as it has.
 
 abbrev pub cost_of_version : KnownVersion → ℕ
@@ -95,6 +113,8 @@ pub record IsWholeMap (size : ℕ) (k : Known) : Type 0 where
   pub inside : AllByRecursion (InSpace size) k.master.blocks
   pub aligned : length k.directories ≡ length k.master.entries
   pub each : AllByRecursion (IsWholeDirectory size) k.directories
+  -- each block is in one place or free: the table has the bits of the fixed regions and of what is reached
+  pub bits : (n : ℕ) → bit k.table n ≡ fixed size n + known_reaches n k.master k.directories
   -- the table has nothing to put, holds nothing, and has booked what the map costs
   pub unchanged : k.table.changed ≡ replicate (table_blocks size) false
   pub unheld : k.table.held ≡ replicate size 0

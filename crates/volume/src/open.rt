@@ -12,10 +12,12 @@ ghost use Rattle.meaning.specs.Stands.{DiskMap as MapValue};
 ghost use Rattle.meaning.specs.Walks.{Leads};
 ghost use Rattle.meaning.specs.Faults.{InSpace, IsMasterEntryOf};
 ghost use Rattle.alloctab.specs.Lists.{digit_at};
+ghost use Rattle.alloctab.specs.Reached.{wanted_bit};
+ghost use Rattle.alloctab.specs.TableState.{bit};
 ghost use Rattle.directory.specs.Chains.{nodes_of, IsChain, IsOn, viewed};
 ghost use Rattle.volume.specs.Cores.{master_view, known_directory, known_of};
 ghost use Rattle.volume.specs.Homes.{home_of_master};
-ghost use Rattle.volume.specs.Known.{IsWholeDirectory, IsWholeMap, IsHeld};
+ghost use Rattle.volume.specs.Known.{known_reaches, IsWholeDirectory, IsWholeMap, IsHeld};
 ghost use Rattle.volume.specs.Found.{IsOnlySpace, IsMapRead, IsRightFor, IsWrongFor};
 ghost use Rattle.volume.specs.Meets.{SettledRefuses, IsTableRefusal};
 ghost use Rattle.volume.specs.declared.error.VolumeError.TheVariants.{Device, TableWrong};
@@ -78,6 +80,7 @@ fn read_tree<D: Disk>(
     ensures read { (D.state disk.old).honest → IsHome (D.state disk.old).size (D.state disk.old).contents (home_of_master first)
         → IfOk result (λ tree. IsMapRead (D.state disk.old).size (D.state disk.old).contents first (viewed master_view tree.0) (map known_directory tree.1.items) (digit_at reached.new)) }
     ensures met { (D.state disk.old).honest → IsHome (D.state disk.old).size (D.state disk.old).contents (home_of_master first) → IfErr result (SettledRefuses (D.state disk.old).size (D.state disk.old).contents) }
+    ensures marked { IfOk result (λ tree. (n : ℕ) → digit_at reached.new n ≡ known_reaches n (viewed master_view tree.0) (map known_directory tree.1.items)) }
     ensures space { IfOk result (λ tree. IsOnlySpace (D.state disk.old).size reached.new) }
     ensures chain { IfOk result (λ tree. IsChain nat_cmp (IsMasterEntryOf 1) (viewed master_view tree.0)) }
     ensures inside { IfOk result (λ tree. AllByRecursion (InSpace (D.state disk.old).size) tree.0.blocks) }
@@ -100,6 +103,7 @@ fn load_table<D: Disk>(alloc: Global, disk: &mut D, reached: &Reached) -> Result
     requires marks { length reached.now ≡ (D.state disk.old).size }
     ensures right { (D.state disk.old).honest → IfOk result (IsRightFor (D.state disk.old).size (D.state disk.old).contents reached.now) }
     ensures wrong { (D.state disk.old).honest → (n : ℕ) → IsErrOf result (TableWrong n) → IsWrongFor (D.state disk.old).size (D.state disk.old).contents reached.now n }
+    ensures wanted { IfOk result (λ table. (n : ℕ) → bit table n ≡ wanted_bit (D.state disk.old).size reached.now n) }
     ensures only { IfErr result IsTableRefusal }
     ensures size { IfOk result (λ table. table.size ≡ (D.state disk.old).size) }
     ensures unheld { IfOk result (λ table. table.held ≡ replicate (D.state disk.old).size 0) }

@@ -35,7 +35,10 @@ pub fn read_volume<D: Disk>(alloc: Global, disk: &mut D) -> Result<DiskMap, Volu
     ensures crash { (D.state disk.old).honest → LeavesOnly (D.state disk.old) (D.state disk.new) (StandsLikeBefore (D.state disk.old)) }
     ensures synced { (D.state disk.old).honest → IsErrOf result Device ⊎ ((t : ℕ) × LeavesFrom t (D.state disk.old) (D.state disk.new) (StandsLike (D.state disk.old))) }
 
-    // At Ok the map is the disk's, and the disk stands for the files that it stood for before.
+    // At Ok the disk was recovered and nothing else, it stood for some files, and these it stands for; and the map
+    // is the disk's.
+    ensures recovered { (D.state disk.old).honest → IfOk result (λ map. IsRecovered (D.state disk.old).size (D.state disk.old).contents (D.state disk.new).contents) }
+    ensures stood { (D.state disk.old).honest → IfOk result (λ map. (files : Files File) × Stands (D.state disk.old).size (D.state disk.old).contents files × RestsAt (D.state disk.new) files) }
     ensures rest { (D.state disk.old).honest → IfOk result (λ map. IsAtRest (D.state disk.new) (known_of map)) }
     ensures files { (D.state disk.old).honest → (files : Files File) → Stands (D.state disk.old).size (D.state disk.old).contents files → IfOk result (λ map. RestsAt (D.state disk.new) files) }
     ensures settled { (D.state disk.old).honest → IfOk result (λ map. NoneOpen (D.state disk.new)) }
@@ -82,7 +85,8 @@ impl<D: Disk> Volume<D> {
         init(disk)
     }
 
-    /// Opens the volume on a disk: recovers it first, and then reads every block that it reaches.
+    /// Opens the volume on a disk: recovers it first, and then reads every block that it reaches. It is opened only
+    /// where the disk stands for some files, and nothing but the recovery is written.
     ///
     /// # Errors
     ///
@@ -92,6 +96,8 @@ impl<D: Disk> Volume<D> {
     pub fn open(alloc: Global, disk: D) -> Result<Volume<D>, (VolumeError, D)>
         ensures sound { IfOk result (λ volume. IsSound (D.state volume.disk) (known_of volume.map) volume.failed) }
         ensures serves { IfOk result (λ volume. volume.failed ≡ false) }
+        ensures recovered { (D.state disk).honest → IfOk result (λ volume. IsRecovered (D.state disk).size (D.state disk).contents (D.state volume.disk).contents) }
+        ensures stood { (D.state disk).honest → IfOk result (λ volume. (files : Files File) × Stands (D.state disk).size (D.state disk).contents files × RestsAt (D.state volume.disk) files) }
         ensures files { (D.state disk).honest → (files : Files File) → Stands (D.state disk).size (D.state disk).contents files → IfOk result (λ volume. RestsAt (D.state volume.disk) files) }
         ensures settled { (D.state disk).honest → IfOk result (λ volume. NoneOpen (D.state volume.disk)) }
         ensures crash { (D.state disk).honest → IfOk result (λ volume. LeavesOnly (D.state disk) (D.state volume.disk) (StandsLikeBefore (D.state disk))) }

@@ -1,4 +1,5 @@
-use Rattle.std.proofs.Common.{◌≡◌, ℕ, map, sym, refl, ap, subst, ◌∙◌}
+use Rattle.std.proofs.Common.{◌≡◌, ℕ, map, length, sym, refl, ap, subst, ◌∙◌}
+use Rattle.std.proofs.lemmas.List.{length-map}
 use Rattle.std.proofs.lemmas.Result.{err_from_is_err_and}
 use Rattle.blockdisk.specs.Disk.{Contents}
 use Rattle.blockdisk.specs.Laws.{same_contents}
@@ -7,12 +8,13 @@ use Rattle.alloctab.specs.Lists.{digit_at}
 use Rattle.alloctab.specs.TableState.{TableState}
 use Rattle.directory.specs.Chains.{viewed}
 use Rattle.volume.specs.Cores.{master_view, known_directory}
+use Rattle.volume.specs.Known.{cost_of_known}
 use Rattle.volume.specs.Homes.{home_of_master}
 use Rattle.volume.specs.Found.{IsOnlySpace, IsMapRead, IsRightFor, IsWrongFor}
 use Rattle.volume.specs.Meets.{SettledRefuses}
 use Rattle.volume.proofs.Handing.{handed, met_on}
 use Rattle.volume.proofs.FoundMaps.{map_found, map_held, table_met}
-use Rattle.volume.proofs.Opening.{reads_on, table_refused, right_bits}
+use Rattle.volume.proofs.Opening.{reads_on, table_refused, right_bits, read_whole}
 use Rattle.volume.proofs.open.read_map.Goals as goal
 
 pub returns-in_err-master-clause-met : goal.returns-in_err-master-clause-met
@@ -100,3 +102,20 @@ returns-clause-held g c h =
     let bits : c.book_map.new.table.bits ≡ c.in_ok-table.table.bits = ap (λ (t : TableState). t.bits) c.book_map.ensures in
     let booked : IsRightFor s.size s.contents reached c.book_map.new.table = right_bits s.size s.contents reached c.in_ok-table.table c.book_map.new.table bits right in
     (map_found s.size s.contents first master directories (digit_at reached) read, map_held s.size s.contents first master directories (digit_at reached) read reached c.book_map.new.table (λ k. refl) only booked)
+
+pub returns-clause-whole : goal.returns-clause-whole
+returns-clause-whole g c =
+    let s = g.D.Disk.state c.args.disk.now in
+    let now = g.D.Disk.state c.read_home.new.disk in
+    let then = g.D.Disk.state c.read_tree.new.disk in
+    let size : now.size ≡ s.size = c.read_home.ensures.same.size in
+    let sizes : then.size ≡ s.size = c.read_tree.ensures.same.size ∙ size in
+    let master = c.in_ok-master.master in
+    let directories = c.in_ok-master.directories in
+    let aligned : length (map known_directory directories.items) ≡ length (map master_view master.entries) =
+        length-map directories.items known_directory ∙ c.in_ok-master.ensures.aligned ∙ sym (length-map master.entries master_view) in
+    let booked : c.book_map.new.table ≡ record c.in_ok-table.table { booked = cost_of_known (viewed master_view master) (map known_directory directories.items) } =
+        c.book_map.ensures ∙ (λ i. record c.in_ok-table.table { booked = cost_of_known (viewed master_view master) (map known_directory (c.deref.ensures.value i)) }) in
+    read_whole s.size now.size then.size (record { master = viewed master_view master; directories = map known_directory directories.items; table = c.book_map.new.table }) c.in_ok-table.table c.read_tree.new.reached size sizes
+    c.in_ok-first.ensures.volume c.in_ok-master.ensures.chain c.in_ok-master.ensures.inside aligned c.in_ok-master.ensures.whole booked
+    c.in_ok-table.ensures.size c.in_ok-table.ensures.unheld c.in_ok-table.ensures.unchanged c.in_ok-table.ensures.wanted c.in_ok-master.ensures.marked

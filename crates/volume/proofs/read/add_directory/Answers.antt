@@ -6,3 +6,6 @@ returns-clause-read g c h = record { added = c.in_ok-directory.directory; pushed
 
 pub returns-clause-whole : goal.returns-clause-whole
 returns-clause-whole g c = record { added = c.in_ok-directory.directory; pushed = search rules; is = c.in_ok-directory.ensures.whole }
+
+pub returns-clause-marked : goal.returns-clause-marked
+returns-clause-marked g c = record { added = c.in_ok-directory.directory; pushed = search rules; is = c.in_ok-directory.ensures.marked }

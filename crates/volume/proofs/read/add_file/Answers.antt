@@ -27,3 +27,6 @@ returns-clause-space g c only =
     let v = c.in_ok-version.version.version in
     space_more s.size c.args.reached.now c.read_file.new.reached (c.args.entry.now.prime ∷ (v.ribs ++ v.blocks)) only
     (c.requires.inside, all_behind_all (InSpace s.size) v.ribs v.blocks c.in_ok-version.ensures.ribs_inside c.in_ok-version.ensures.blocks_inside) c.in_ok-version.ensures.marks
+
+pub returns-clause-marked : goal.returns-clause-marked
+returns-clause-marked g c = record { added = c.in_ok-version.version; pushed = search rules; is = c.in_ok-version.ensures.marks }

@@ -1,19 +1,21 @@
-use Rattle.std.proofs.Common.{◌≡◌, ◌+◌, ℕ, List, [], map, take, drop, length, refl, sym, ap, subst, ◌∙◌}
+use Rattle.std.proofs.Common.{◌≡◌, ◌+◌, ℕ, List, [], map, take, drop, length, refl, sym, ap, subst, ◌∙◌, arith}
 use Rattle.std.proofs.lemmas.Result.{err_from_is_err_and}
 use Rattle.std.specs.List.{AllByRecursion}
 use Rattle.blockdisk.specs.Disk.{MayLeave}
 use Rattle.blockdisk.specs.Laws.{same_contents, same_disk_start, same_disk_on, passes_start}
 use Rattle.meaning.specs.Faults.{InSpace}
 use Rattle.meaning.specs.Directories.{MasterEntry}
+use Rattle.meaning.specs.Maps.{total}
 use Rattle.alloctab.specs.Lists.{digit_at}
 use Rattle.retrieval.proofs.Readings.{keeps_on}
 use Rattle.volume.specs.declared.error.VolumeError.TheVariants.{Device}
 use Rattle.volume.specs.Cores.{master_view, known_directory}
-use Rattle.volume.specs.Known.{KnownDirectory, IsWholeDirectory}
+use Rattle.volume.specs.Known.{KnownDirectory, reaches_in_known, IsWholeDirectory}
 use Rattle.volume.specs.Found.{IsOnlySpace, IsAdded, AreDirectoriesRead}
 use Rattle.volume.specs.Meets.{DirectoryMeets, DirectoriesMeet}
 use Rattle.volume.proofs.Handing.{handed, handed_back, met_on}
 use Rattle.volume.proofs.Lookups.{viewed_at, viewed_split}
+use Rattle.volume.proofs.Reaching.{total_marked}
 use Rattle.volume.proofs.FoundDirectories.{no_directories, directories_go_on, all_added}
 use Rattle.volume.proofs.MetDirectories.{directory_met}
 use Rattle.volume.proofs.read.read_directories.Goals as goal
@@ -64,6 +66,8 @@ loop-entry-preserved g c =
       aligned = c.in_ok-add_directory.ensures.aligned ∙ ap (λ (n : ℕ). n + 1) c.loop-entry.invariant.aligned;
       whole = all_added known_directory (IsWholeDirectory s.size) c.loop-entry.directories.items c.add_directory.new.directories.items c.loop-entry.invariant.whole
           (subst (λ (n : ℕ). IsAdded known_directory c.loop-entry.directories.items c.add_directory.new.directories.items (IsWholeDirectory n)) c.loop-entry.invariant.same.size c.in_ok-add_directory.ensures.whole);
+      marked = total_marked known_directory reaches_in_known c.loop-entry.directories.items c.add_directory.new.directories.items
+          (digit_at c.args.reached.now) (digit_at c.loop-entry.reached) (digit_at c.add_directory.new.reached) c.loop-entry.invariant.marked c.in_ok-add_directory.ensures.marked;
       read = λ h. directories_go_on known_directory s.contents now.contents master_view c.args.entries.now c.loop-entry.entry-index c.entry-item.result c.loop-entry.directories.items c.add_directory.new.directories.items
           (digit_at c.args.reached.now) (digit_at c.loop-entry.reached) (digit_at c.add_directory.new.reached) c.loop-entry-test.true c.entry-item.is (same_contents s.contents now.contents (c.loop-entry.invariant.keeps h).contents)
           (c.loop-entry.invariant.read h) (c.in_ok-add_directory.ensures.read (c.loop-entry.invariant.same.honest h));
@@ -81,5 +85,6 @@ loop-entry-init g c =
       space = λ only. only;
       aligned = ap length c.new-directories.ensures.items;
       whole = subst (AllByRecursion (IsWholeDirectory s.size)) (sym none) tt;
+      marked = λ n. let e = ap (total (reaches_in_known n)) none in omega arith;
       read = λ h. subst (λ (ds : List KnownDirectory). AreDirectoriesRead s.contents [] ds (digit_at c.args.reached.now) (digit_at c.args.reached.now)) (sym none) (no_directories s.contents (digit_at c.args.reached.now));
     }

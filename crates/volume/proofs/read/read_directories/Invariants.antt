@@ -1,9 +1,10 @@
-use Rattle.std.proofs.Common.{◌≡◌, map, take, length}
+use Rattle.std.proofs.Common.{◌≡◌, ℕ, ◌+◌, map, take, length}
 use Rattle.std.specs.List.{AllByRecursion}
 use Rattle.blockdisk.specs.Disk.{SameDisk, Keeps}
+use Rattle.meaning.specs.Maps.{total}
 use Rattle.alloctab.specs.Lists.{digit_at}
 use Rattle.volume.specs.Cores.{master_view, known_directory}
-use Rattle.volume.specs.Known.{IsWholeDirectory}
+use Rattle.volume.specs.Known.{reaches_in_known, IsWholeDirectory}
 use Rattle.volume.specs.Found.{IsOnlySpace, AreDirectoriesRead}
 use Rattle.volume.proofs.read.read_directories.Given as goal
 
@@ -16,5 +17,6 @@ invariant-loop-entry g l = record {
   space : IsOnlySpace (g.D.Disk.state l.fn.disk).size l.fn.reached → IsOnlySpace (g.D.Disk.state l.fn.disk).size l.reached;
   aligned : length l.directories.items ≡ l.entry-index;
   whole : AllByRecursion (IsWholeDirectory (g.D.Disk.state l.fn.disk).size) (map known_directory l.directories.items);
+  marked : (n : ℕ) → digit_at l.reached n ≡ digit_at l.fn.reached n + total (reaches_in_known n) (map known_directory l.directories.items);
   read : (g.D.Disk.state l.fn.disk).honest → AreDirectoriesRead (g.D.Disk.state l.fn.disk).contents (map master_view (take l.entry-index l.entries)) (map known_directory l.directories.items) (digit_at l.fn.reached) (digit_at l.reached);
 }

@@ -14,6 +14,7 @@ use Rattle.volume.proofs.Lookups.{viewed_at, viewed_split}
 use Rattle.volume.specs.Known.{IsWholeVersion}
 use Rattle.volume.specs.Found.{IsOnlySpace}
 use Rattle.volume.proofs.FoundDirectories.{all_added}
+use Rattle.volume.proofs.Reaching.{entries_marked}
 use Rattle.volume.proofs.FoundFiles.{file_met, files_go_on}
 use Rattle.volume.proofs.read.read_files.Goals as goal
 
@@ -61,6 +62,8 @@ loop-entry-preserved g c =
       space = λ only. subst (λ (n : ℕ). IsOnlySpace n c.add_file.new.reached) c.loop-entry.invariant.same.size
           (c.in_ok-add_file.ensures.space (subst (λ (n : ℕ). IsOnlySpace n c.loop-entry.reached) (sym c.loop-entry.invariant.same.size) (c.loop-entry.invariant.space only)));
       aligned = c.in_ok-add_file.ensures.aligned ∙ ap (λ (n : ℕ). n + 1) c.loop-entry.invariant.aligned;
+      marked = entries_marked known_version file_view c.args.entries.now c.loop-entry.entry-index c.entry-item.result c.loop-entry.versions.items c.add_file.new.versions.items
+          (digit_at c.args.reached.now) (digit_at c.loop-entry.reached) (digit_at c.add_file.new.reached) c.loop-entry-test.true c.entry-item.is c.loop-entry.invariant.aligned c.loop-entry.invariant.marked c.in_ok-add_file.ensures.marked;
       read = λ h. files_go_on known_version s.contents now.contents c.args.ppn file_view c.args.entries.now c.loop-entry.entry-index c.entry-item.result c.loop-entry.versions.items c.add_file.new.versions.items
           (digit_at c.args.reached.now) (digit_at c.loop-entry.reached) (digit_at c.add_file.new.reached) c.loop-entry-test.true c.entry-item.is (same_contents s.contents now.contents (c.loop-entry.invariant.keeps h).contents)
           (c.loop-entry.invariant.read h) (c.in_ok-add_file.ensures.read (c.loop-entry.invariant.same.honest h));

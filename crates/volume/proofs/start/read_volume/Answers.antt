@@ -4,14 +4,15 @@ use Rattle.blockdisk.specs.Laws.{same_contents}
 use Rattle.changeset.specs.Crashes.{IsRecovered}
 use Rattle.changeset.specs.declared.error.LogError.TheVariants.{Device as LogDevice}
 use Rattle.meaning.specs.Log.{with_puts}
-use Rattle.meaning.specs.Stands.{DiskMap}
+use Rattle.meaning.specs.Files.{File, Files}
+use Rattle.meaning.specs.Stands.{DiskMap, Stands}
 use Rattle.volume.specs.declared.error.VolumeError.TheVariants.{BadLog}
 use Rattle.volume.specs.Cores.{known_of}
 use Rattle.volume.specs.Known.{IsHeld}
 use Rattle.volume.specs.Meets.{SettledRefuses, Refuses}
 use Rattle.volume.specs.Rest.{IsAtRest, RestsAt, StandsLike, StandsLikeBefore}
 use Rattle.volume.proofs.Handing.{met_on}
-use Rattle.volume.proofs.Starting.{ok_on, ok_always, crash_recovered, from_recovered, crash_read, from_read, rest_known, rest_files, closed_refuses, lost_refuses}
+use Rattle.volume.proofs.Starting.{ok_on, ok_always, crash_recovered, from_recovered, crash_read, from_read, rest_known, rest_files, stood_before, closed_refuses, lost_refuses}
 use Rattle.volume.proofs.start.read_volume.Goals as goal
 
 pub returns-in-Ok-clause-crash : goal.returns-in-Ok-clause-crash
@@ -56,6 +57,29 @@ returns-in-Ok-clause-files g c h files stands =
     let recovered : IsRecovered s.size s.contents s1.contents = c.in-Ok.ensures.recovered h in
     let none : NoneOpen s1 = c.in-Ok.ensures.settled h in
     ok_always (RestsAt s2 files) c.read_map.result (rest_files s s1 s2 files c.recover.ensures.same.size c.read_map.ensures.same.size recovered none reads stands)
+
+pub returns-in-Ok-clause-recovered : goal.returns-in-Ok-clause-recovered
+returns-in-Ok-clause-recovered g c h =
+    let s = g.D.Disk.state c.args.disk.now in
+    let s1 = g.D.Disk.state c.recover.new.disk in
+    let s2 = g.D.Disk.state c.read_map.new.disk in
+    let h1 = c.recover.ensures.same.honest h in
+    let reads = c.read_map.ensures.reads h1 in
+    let recovered : IsRecovered s.size s.contents s1.contents = c.in-Ok.ensures.recovered h in
+    let same : s2.contents ≡ s1.contents = same_contents s1.contents s2.contents reads.still.contents in
+    ok_always (IsRecovered s.size s.contents s2.contents) c.read_map.result (subst (IsRecovered s.size s.contents) (sym same) recovered)
+
+pub returns-in-Ok-clause-stood : goal.returns-in-Ok-clause-stood
+returns-in-Ok-clause-stood g c h =
+    let s = g.D.Disk.state c.args.disk.now in
+    let s1 = g.D.Disk.state c.recover.new.disk in
+    let s2 = g.D.Disk.state c.read_map.new.disk in
+    let h1 = c.recover.ensures.same.honest h in
+    let reads = c.read_map.ensures.reads h1 in
+    let recovered : IsRecovered s.size s.contents s1.contents = c.in-Ok.ensures.recovered h in
+    let none : NoneOpen s1 = c.in-Ok.ensures.settled h in
+    ok_on (λ read. (m : DiskMap) × IsHeld s1.size (known_of read) m s1.contents) (λ read. (files : Files File) × Stands s.size s.contents files × RestsAt s2 files) c.read_map.result
+    (λ read held. stood_before s s1 s2 (known_of read) held.0 c.recover.ensures.same.size c.read_map.ensures.same.size recovered none reads held.1) (c.read_map.ensures.held h1)
 
 pub returns-in-Ok-clause-settled : goal.returns-in-Ok-clause-settled
 returns-in-Ok-clause-settled g c h =
