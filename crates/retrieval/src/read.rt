@@ -7,6 +7,7 @@ ghost use Rattle.meaning.specs.Retrieval.{Prime as PrimeRecord, IsRetrieved, mos
 ghost use Rattle.meaning.specs.Faults.{InSpace, IsBadVersion};
 ghost use Rattle.retrieval.specs.Reading.{IsBadPrime, IsBadExtension, Overfills, IsStarted, Extends, IsVersionAt, IsReadAs, IsWholeVersion};
 ghost use Rattle.retrieval.specs.declared.error.RetrievalError.TheVariants.{BadRetrieval, Device, NoMemory};
+ghost use Rattle.retrieval.specs.Writing.{rib_count};
 
 use crate::head::{EXTENSION_POINTERS, PRIME_POINTERS};
 use crate::parse::{EXTENSION_HEAD, PRIME_HEAD, parse_extension, parse_prime};
@@ -149,6 +150,7 @@ pub fn read_version<D: Disk>(
     ensures ribs_inside { IfOk result (λ read. AllByRecursion (InSpace (D.state disk.old).size) read.1.ribs) }
     ensures counted { IfOk result (λ read. length read.1.blocks ≡ blocks_of read.1.words) }
     ensures few { IfOk result (λ read. read.1.words ≤ most_blocks * 128) }
+    ensures few_ribs { IfOk result (λ read. length read.1.ribs ≤ rib_count (length read.1.blocks)) }
     ensures keeps { (D.state disk.old).honest → Keeps (D.state disk.old) (D.state disk.new) }
     ensures same { SameDisk (D.state disk.old) (D.state disk.new) }
     ensures failed { IsErrOf result Device → (D.state disk.new).failures ≡ one_more (D.state disk.old).failures }

@@ -9,6 +9,7 @@ use Rattle.retrieval.specs.Reading.{IsReadTo, IsVersionAt}
 use Rattle.retrieval.specs.declared.error.RetrievalError.TheVariants.{BadRetrieval}
 use Rattle.retrieval.proofs.RunLists.{handed_on}
 use Rattle.retrieval.proofs.Readings.{keeps_on, read_started, read_more, damaged_extension, bad_extension, bad_overfilled, read_whole, bad_count, damaged_prime, bad_prime, extended_longer, none_wrong, extended_blocks, extended_ribs, falls, bad_of}
+use Rattle.retrieval.proofs.RibCounts.{started_filled, extended_filled, filled_few}
 use Rattle.retrieval.proofs.Whole.{read_as}
 use Rattle.retrieval.proofs.read.read_version.Goals as goal
 
@@ -39,6 +40,7 @@ loop-next-init g c =
       ribs_inside = subst (AllByRecursion (InSpace c.blocks-size.result)) (sym started.ribs_are) tt;
       words = started.spells.fits.few;
       room = started.room;
+      filled = started_filled c.blocks-size.result c.in_ok-block.block c.in_ok-prime.prime c.in_ok-prime.version c.in_ok-prime.next started;
       read = λ h. read_started c.blocks-size.result s.contents c.args.at c.in_ok-block.block c.in_ok-prime.prime c.in_ok-prime.version c.in_ok-prime.next (c.in_ok-block.ensures.words h) started;
     }
 
@@ -102,6 +104,7 @@ loop-next-preserved g c =
       ribs_inside = extended_ribs c.blocks-size.result c.in_ok-block-2.block next c.in_ok-next.next c.loop-next.version c.extend_version.new.version x (c.loop-next.invariant.next_inside some) c.loop-next.invariant.ribs_inside;
       words = subst (λ (n : ℕ). n ≤ 2097152) (sym (ap (λ (v : VersionState). v.words) x.version_is)) c.loop-next.invariant.words;
       room = x.room;
+      filled = extended_filled c.blocks-size.result c.in_ok-block-2.block next c.in_ok-next.next c.loop-next.version c.extend_version.new.version some x c.loop-next.invariant.filled;
       read = λ h. read_more c.blocks-size.result s.contents c.args.at c.in_ok-prime.prime c.loop-next.version next (c.loop-next.invariant.read h) c.in_ok-block-2.block c.in_ok-next.next
           c.extend_version.new.version some (sym ((c.loop-next.invariant.keeps h).contents next) ∙ c.in_ok-block-2.ensures.words (c.loop-next.invariant.same.honest h)) x;
     }
@@ -133,6 +136,9 @@ returns-clause-reads g c h p ribs blocks is ext =
 
 pub returns-clause-blocks_inside : goal.returns-clause-blocks_inside
 returns-clause-blocks_inside g c = subst (λ (n : ℕ). AllByRecursion (InSpace n) c.loop-next.version.blocks) c.blocks-size.ensures c.loop-next.invariant.blocks_inside
+
+pub returns-clause-few_ribs : goal.returns-clause-few_ribs
+returns-clause-few_ribs g c = filled_few (length c.loop-next.version.ribs) (length c.loop-next.version.blocks) c.loop-next.next c.loop-next.invariant.filled
 
 pub returns-clause-ribs_inside : goal.returns-clause-ribs_inside
 returns-clause-ribs_inside g c = subst (λ (n : ℕ). AllByRecursion (InSpace n) c.loop-next.version.ribs) c.blocks-size.ensures c.loop-next.invariant.ribs_inside

@@ -4,6 +4,7 @@ use Rattle.meaning.specs.Faults.{InSpace}
 use Rattle.blockdisk.specs.Disk.{SameDisk, Keeps}
 use Rattle.meaning.specs.Costs.{blocks_of}
 use Rattle.retrieval.specs.Reading.{IsReadTo}
+use Rattle.retrieval.proofs.RibCounts.{AreFilled}
 use Rattle.retrieval.proofs.read.read_version.Given as goal
 
 abbrev pub invariant-loop-next : goal.invariant-loop-next
@@ -16,6 +17,7 @@ invariant-loop-next g l = record {
   ribs_inside : AllByRecursion (InSpace l.size) l.version.ribs;
   words : l.version.words ≤ 2097152;
   room : length l.version.blocks ≤ blocks_of l.version.words;
+  filled : AreFilled (length l.version.ribs) (length l.version.blocks) l.next;
   read : (g.D.Disk.state l.fn.disk).honest → IsReadTo l.size (g.D.Disk.state l.fn.disk).contents l.at l.prime l.version l.next;
 }
 

@@ -1,0 +1,52 @@
+-- How many extensions a version has: each but the last is full, so that no more are read than its blocks ask for.
+use Rattle.std.proofs.Common.{◌≡◌, ℕ, zero, suc, ◌+◌, ◌*◌, ◌-◌, ◌/◌, ◌<◌, ◌≤◌, List, [], ◌∷◌, ◌++◌, length, flat_map, refl, ap, ◌∙◌, arith, length-append}
+use Rattle.std.specs.List.{AllByRecursion}
+use Rattle.meaning.specs.Retrieval.{Run, IsRun, count_up, run_blocks}
+use Rattle.retrieval.specs.Reading.{IsStarted, Extends}
+use Rattle.retrieval.specs.Versions.{VersionState}
+use Rattle.retrieval.specs.Writing.{rib_count}
+use Rattle.retrieval.specs.declared.prime.Prime.{Prime}
+
+counted : (k n : ℕ) → length (count_up k n) ≡ k
+counted zero n = refl
+counted (suc k) n = let rest = counted k (suc n) in omega arith
+
+-- each run has a block at least
+runs-le : (runs : List Run) → AllByRecursion IsRun runs → length runs ≤ length (flat_map run_blocks runs)
+runs-le [] are = omega arith
+runs-le (run ∷ runs) are =
+    let all = length-append (run_blocks run) (flat_map run_blocks runs) in
+    let rest = runs-le runs are.1 in
+    let here = counted run.0 run.1 in
+    let some = are.0.0 in
+    omega arith
+
+-- The last of so many extensions has a block at least, and where another follows all are full.
+pub record AreFilled (ribs blocks next : ℕ) : Type 0 where
+  pub some : 112 + 126 * ribs ≤ blocks + 125
+  pub full : 0 < next → 112 + 126 * ribs ≤ blocks
+
+pub started_filled : (size : ℕ) (words : List ℕ) (prime : Prime) (v : VersionState) (next : ℕ) → IsStarted size words prime v next → AreFilled (length v.ribs) (length v.blocks) next
+started_filled size words prime v next started =
+    let none = ap (λ (l : List ℕ). length l) started.ribs_are in
+    let blocks = ap (λ (l : List ℕ). length l) started.blocks_are in
+    let few = runs-le started.runs started.spells.are_runs in
+    record {
+      some = omega arith;
+      full = λ more. let all = started.full more in omega arith;
+    }
+
+pub extended_filled : (size : ℕ) (words : List ℕ) (n next : ℕ) (old new : VersionState) → 0 < n → Extends size words n next old new → AreFilled (length old.ribs) (length old.blocks) n → AreFilled (length new.ribs) (length new.blocks) next
+extended_filled size words n next old new more x filled =
+    let ribs = ap (λ (v : VersionState). length v.ribs) x.version_is ∙ length-append old.ribs (n ∷ []) in
+    let blocks = ap (λ (v : VersionState). length v.blocks) x.version_is ∙ length-append old.blocks (flat_map run_blocks x.runs) in
+    let few = runs-le x.runs x.spells.are_runs in
+    let one = x.spells.some in
+    let was = filled.full more in
+    record {
+      some = omega arith;
+      full = λ further. let all = x.full further in omega arith;
+    }
+
+pub filled_few : (ribs blocks next : ℕ) → AreFilled ribs blocks next → ribs ≤ rib_count blocks
+filled_few ribs blocks next filled = let some = filled.some in omega arith
