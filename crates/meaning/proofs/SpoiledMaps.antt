@@ -83,7 +83,7 @@ latest_map = record { layout = 1; chain = 15 ∷ []; directories = insert empty 
 latest_version : IsVersion 1 v1_latest_minute foo_place latest_file
 latest_version = record {
   retrieved = retrieved v1_latest_minute (prime_of foo_place latest_hello) 18 refl (record { protection = lit< tt; mode = inl refl; time = lit≤ tt; date = lit< tt; few = lit≤ tt }) refl (lit< tt);
-  body = record { each = data_block ∷ []; undamaged = (refl, tt); body_is = refl };
+  body = record { each = data_block ∷ []; undamaged = (refl, tt); whole = (refl, tt); body_is = refl };
 }
 
 latest_whole : IsWhole 1 v1_latest_minute owner latest_directory

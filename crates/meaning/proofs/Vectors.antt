@@ -42,7 +42,7 @@ version = record {
     blocks_are = refl;
     enough = refl;
   };
-  body = record { each = data_block ∷ []; undamaged = (refl, tt); body_is = refl };
+  body = record { each = data_block ∷ []; undamaged = (refl, tt); whole = (refl, tt); body_is = refl };
 }
 
 whole : IsWhole 1 v1 owner v1_directory

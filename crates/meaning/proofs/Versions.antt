@@ -44,7 +44,7 @@ retrieved_kept layout old new p prime extensions blocks d a = record {
 
 -- Other contents that agree on the data blocks have the same body.
 pub body_kept : (old new : Contents) (blocks body : List ℕ) → HasBody old blocks body → AgreeOn blocks old new → HasBody new blocks body
-body_kept old new blocks body d a = record { each = d.each; undamaged = data_kept old new blocks d.each d.undamaged a; body_is = d.body_is }
+body_kept old new blocks body d a = record { each = d.each; undamaged = data_kept old new blocks d.each d.undamaged a; whole = d.whole; body_is = d.body_is }
 
 pub version_kept : (layout : ℕ) (old new : Contents) (place : Place) (f : StoredFile) → IsVersion layout old place f → AgreeOn (blocks_of_file f) old new → IsVersion layout new place f
 version_kept layout old new place f d a = record {

@@ -124,8 +124,9 @@ pub record IsRetrieved (layout : ℕ) (contents : Contents) (p : Prime) (prime :
   pub blocks_are : flat_map run_blocks (runs ++ all_runs further) ≡ blocks
   pub enough : length blocks ≡ blocks_of p.words
 
--- None of the blocks is damaged, and their words, joined, begin with the body.
+-- None of the blocks is damaged, each has 128 words, and their words, joined, begin with the body.
 pub record HasBody (contents : Contents) (blocks body : List ℕ) : Type 0 where
   pub each : List (List ℕ)
   pub undamaged : AllZip (λ n words. contents n ≡ Some words) blocks each
+  pub whole : AllByRecursion (λ words. length words ≡ 128) each
   pub body_is : body ≡ take (length body) (flat_map (λ words. words) each)

@@ -74,6 +74,11 @@ module _ (c : Contents) where
       let rest = words_counted ns whole.1 in
       omega arith
 
+  all_whole : (blocks : List ℕ) (whole : AllByRecursion (IsWholeBlock c) blocks) → AllByRecursion (λ words. length words ≡ 128) (each_of blocks whole)
+  unfolding each_of
+  all_whole [] whole = tt
+  all_whole (n ∷ ns) whole = (whole.0.all, all_whole ns whole.1)
+
   pub body_found : (blocks : List ℕ) (words : ℕ) → AllByRecursion (IsWholeBlock c) blocks → length blocks ≡ blocks_of words → (body : List ℕ) × (length body ≡ words) × HasBody c blocks body
   body_found blocks words whole enough =
       let all = flat_map (λ words. words) (each_of blocks whole) in
@@ -81,7 +86,7 @@ module _ (c : Contents) where
       let long : length (take words all) ≡ words = length-take-le words all (omega arith) in (
         take words all,
         long,
-        record { each = each_of blocks whole; undamaged = undamaged blocks whole; body_is = ap (λ (n : ℕ). take n all) (sym long) },
+        record { each = each_of blocks whole; undamaged = undamaged blocks whole; whole = all_whole blocks whole; body_is = ap (λ (n : ℕ). take n all) (sym long) },
       )
 
 -- A version of the place that was asked for.

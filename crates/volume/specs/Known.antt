@@ -17,6 +17,7 @@ use Rattle.meaning.specs.Faults.{InSpace, IsMasterEntryOf}
 use Rattle.alloctab.specs.TableState.{TableState, bit}
 use Rattle.directory.specs.Chains.{ChainState, IsChain, IsOn}
 use Rattle.retrieval.specs.Versions.{VersionState}
+use Rattle.retrieval.specs.Writing.{rib_count}
 use Rattle.retrieval.specs.declared.prime.Prime.{Prime}
 use Rattle.volume.specs.Facts.{facts_of, known_facts}
 
@@ -66,10 +67,11 @@ pub record IsHeld (size : ℕ) (k : Known) (m : DiskMap) (contents : Contents) :
 
 -- What is so in core, whatever the disk does.
 
--- the number of blocks is that of the length, and no more than a file may have
+-- the number of blocks is that of the length, and no more than a file may have; there are no more ribs than they ask for
 pub record IsWholeVersion (v : KnownVersion) : Type 0 where
   pub counted : length v.version.blocks ≡ blocks_of v.version.words
   pub few : v.version.words ≤ most_blocks * 128
+  pub few_ribs : length v.version.ribs ≤ rib_count (length v.version.blocks)
 
 pub record IsWholeDirectory (size : ℕ) (d : KnownDirectory) : Type 0 where
   pub chain : IsChain name_cmp IsFileEntry d.chain

@@ -9,6 +9,7 @@ ghost use Rattle.meaning.specs.Stands.{place_of};
 ghost use Rattle.meaning.specs.Faults.{InSpace, IsBadVersion};
 ghost use Rattle.alloctab.specs.Lists.{digit_at};
 ghost use Rattle.retrieval.specs.Reading.{IsVersionAt};
+ghost use Rattle.retrieval.specs.Writing.{rib_count};
 ghost use Rattle.volume.specs.FileReading.{IsWholeBlock, IsFileFound, IsOtherPlace, IsReachedTwice, IsDamagedData, IsVersionRefusal, IsDataRefusal, IsFileRefusal};
 ghost use Rattle.volume.specs.declared.error.VolumeError.TheVariants.{BadRetrieval, BlockTwice, Device, NoMemory, BadData};
 
@@ -46,6 +47,7 @@ fn read_named<D: Disk>(
     ensures ribs_inside { IfOk result (λ v. AllByRecursion (InSpace (D.state disk.old).size) v.version.ribs) }
     ensures counted { IfOk result (λ v. length v.version.blocks ≡ blocks_of v.version.words) }
     ensures few { IfOk result (λ v. v.version.words ≤ most_blocks * 128) }
+    ensures few_ribs { IfOk result (λ v. length v.version.ribs ≤ rib_count (length v.version.blocks)) }
     ensures bad_version { (D.state disk.old).honest → (k : ℕ) → IsErrOf result (BadRetrieval k) → IsBadVersion (D.state disk.old).size (D.state disk.old).contents 1 prime k ⊎ ((k ≡ prime) × IsOtherPlace (D.state disk.old).contents (place_of ppn name) prime) }
     ensures only { IfErr result IsVersionRefusal }
     ensures keeps { (D.state disk.old).honest → Keeps (D.state disk.old) (D.state disk.new) }
@@ -117,6 +119,7 @@ pub fn read_file<D: Disk>(
     ensures ribs_inside { IfOk result (λ v. AllByRecursion (InSpace (D.state disk.old).size) v.version.ribs) }
     ensures counted { IfOk result (λ v. length v.version.blocks ≡ blocks_of v.version.words) }
     ensures few { IfOk result (λ v. v.version.words ≤ most_blocks * 128) }
+    ensures few_ribs { IfOk result (λ v. length v.version.ribs ≤ rib_count (length v.version.blocks)) }
     ensures length { length reached.new ≡ length reached.old }
     ensures memory { IsErrOf result NoMemory → reached.new ≡ reached.old }
     ensures bad_version { (D.state disk.old).honest → (k : ℕ) → IsErrOf result (BadRetrieval k) → IsBadVersion (D.state disk.old).size (D.state disk.old).contents 1 prime k ⊎ ((k ≡ prime) × IsOtherPlace (D.state disk.old).contents (place_of ppn name) prime) }

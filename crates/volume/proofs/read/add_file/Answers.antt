@@ -19,7 +19,7 @@ pub returns-clause-read : goal.returns-clause-read
 returns-clause-read g c h = record { added = c.in_ok-version.version; pushed = search rules; is = record { found = c.in_ok-version.ensures.ok h; marked = c.in_ok-version.ensures.marks } }
 
 pub returns-clause-whole : goal.returns-clause-whole
-returns-clause-whole g c = record { added = c.in_ok-version.version; pushed = search rules; is = record { counted = c.in_ok-version.ensures.counted; few = c.in_ok-version.ensures.few } }
+returns-clause-whole g c = record { added = c.in_ok-version.version; pushed = search rules; is = record { counted = c.in_ok-version.ensures.counted; few = c.in_ok-version.ensures.few; few_ribs = c.in_ok-version.ensures.few_ribs } }
 
 pub returns-clause-space : goal.returns-clause-space
 returns-clause-space g c only =
