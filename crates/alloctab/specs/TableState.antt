@@ -48,6 +48,10 @@ used t n = if bit t n + holds t n == 0 then 0 else 1
 abbrev pub used_in_space : TableState → ℕ
 used_in_space t = sum_below (λ k. used t (space_start t.size + k)) (space t.size)
 
+-- how often the blocks of the free space are set or held, each time counted
+abbrev pub uses : TableState → ℕ
+uses t = sum_below (λ k. bit t (space_start t.size + k) + holds t (space_start t.size + k)) (space t.size)
+
 -- Table block i, counted from 0, is changed.
 abbrev pub IsChanged : TableState → ℕ → Type 0
 IsChanged t i = flag_at t.changed i ≡ true

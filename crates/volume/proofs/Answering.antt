@@ -1,5 +1,5 @@
 -- What is known in core answers for the files.
-use Rattle.std.proofs.Common.{◌≡◌, ℕ, zero, suc, ◌<◌, ◌^◌, Bool, false, List, [], ◌∷◌, map, length, get_or, slice_get, Option, Some, None, option_map, Result, Ok, Err, IfOk, IfErr, IsErr, refl, sym, ap, subst, ◌∙◌, arith}
+use Rattle.std.proofs.Common.{◌≡◌, ℕ, zero, suc, ◌+◌, ◌<◌, ◌^◌, Bool, false, List, [], ◌∷◌, map, length, get_or, slice_get, Option, Some, None, option_map, Result, Ok, Err, IfOk, IfErr, IsErr, refl, sym, ap, subst, ◌∙◌, arith}
 use Rattle.std.proofs.lemmas.List.{length-map}
 use Rattle.std.specs.Cmp.{nat_cmp_total}
 use Rattle.std.specs.FinMap.Entries.{find}
@@ -11,7 +11,7 @@ use Rattle.meaning.specs.Costs.{blocks_of, cost_of_files}
 use Rattle.meaning.specs.declared.code.ErrorCode.TheVariants.{NotFound}
 use Rattle.meaning.specs.Directories.{master_word}
 use Rattle.meaning.specs.Files.{File, Files, name_cmp}
-use Rattle.meaning.specs.Maps.{get}
+use Rattle.meaning.specs.Maps.{get, total}
 use Rattle.meaning.specs.Stands.{StoredFile, StoredDirectory, DiskMap, directory_of, files_of, entry_of, quota_limit}
 use Rattle.meaning.proofs.DiskMaps.{stands_same}
 use Rattle.meaning.proofs.MapLaws.{some_same}
@@ -23,7 +23,8 @@ use Rattle.volume.specs.declared.error.CallError.{CallError}
 use Rattle.volume.specs.declared.error.CallError.TheVariants.{Refused}
 use Rattle.volume.specs.declared.file_facts.FileFacts.{FileFacts}
 use Rattle.volume.specs.Facts.{facts_of, known_facts}
-use Rattle.volume.specs.Known.{Known, KnownVersion, KnownDirectory, IsKnownDirectory, IsHeld, IsWholeMap}
+use Rattle.volume.specs.Known.{Known, KnownVersion, KnownDirectory, IsKnownDirectory, IsHeld, IsWholeMap, IsBooked}
+use Rattle.volume.specs.Live.{VolumeCore, held_cost, IsWholeCore}
 use Rattle.volume.specs.Queries.{protection_answer, IsShown, IsFileAnswer, IsLookAnswer, IsNamedVersion}
 use Rattle.volume.specs.Rest.{IsSound, RestsAt}
 use Rattle.volume.proofs.Costing.{booked_fits}
@@ -35,8 +36,8 @@ pub record Holds (s : DiskState) (k : Known) (files : Files File) : Type 0 where
   pub held : IsHeld s.size k map s.contents
   pub files_are : files_of map ≡ files
 
-pub rest_holds : (s : DiskState) (k : Known) (failed : Bool) → IsSound s k failed → s.honest → failed ≡ false → (files : Files File) → RestsAt s files → Holds s k files
-rest_holds s k failed sound honest alive files rest =
+pub rest_holds : (s : DiskState) (c : VolumeCore) (failed : Bool) → IsSound s c failed → s.honest → failed ≡ false → (files : Files File) → RestsAt s files → Holds s c.known files
+rest_holds s c failed sound honest alive files rest =
     let own = sound.rest honest alive in
     let held = own.rest.all s.contents (λ n closed. refl) in
     let stands = rest.all s.contents (λ n closed. refl) in
@@ -44,12 +45,16 @@ rest_holds s k failed sound honest alive files rest =
 
 -- Room.
 
-pub booked_is : (s : DiskState) (k : Known) (files : Files File) → IsWholeMap s.size k → Holds s k files → k.table.booked ≡ cost_of_files files
-booked_is s k files whole holds = whole.booked ∙ cost_is s.size k holds.map holds.held.known whole.chain whole.aligned whole.each ∙ ap cost_of_files holds.files_are
+pub booked_is : (s : DiskState) (c : VolumeCore) (files : Files File) → IsWholeCore s.size c → Holds s c.known files → c.known.table.booked ≡ cost_of_files files + total held_cost c.live
+booked_is s c files whole holds =
+    let map = whole.map in
+    let known = cost_is s.size c.known holds.map holds.held.known map.chain map.aligned map.each ∙ ap cost_of_files holds.files_are in
+    let booked = whole.booked in
+    omega arith
 
-pub map_few : (size : ℕ) (k : Known) → IsWholeMap size k → k.table.booked < 2 ^ 63
-map_few size k whole =
-    subst (λ (n : ℕ). n < 2 ^ 63) (sym whole.booked)
+pub map_few : (size : ℕ) (k : Known) → IsWholeMap size k → IsBooked size k → k.table.booked < 2 ^ 63
+map_few size k whole booked =
+    subst (λ (n : ℕ). n < 2 ^ 63) (sym booked.booked)
     (booked_fits size k.master.blocks (length k.master.entries) _ k.directories whole.volume whole.inside whole.chain.blocks_once whole.chain.counted whole.aligned whole.each (omega arith))
 
 -- Directories.

@@ -15,7 +15,11 @@ pub mod Opening
 pub mod Starting
 pub mod Costing
 pub mod CostLaws
+pub mod LiveTotals
+pub mod Keeping
+pub mod LiveLookups
 pub mod Answering
+pub mod LiveOpening
 pub mod Listing
 pub mod MakingHeld
 pub mod MakingEvents

@@ -1,8 +1,8 @@
 -- What a call that makes a directory says of the disk, from what is known of core and of its calls.
-use Rattle.std.proofs.Common.{◌≡◌, ℕ, ◌+◌, ◌<◌, ◌≤◌, ◌⊎◌, inl, inr, ⊎_elim, Bool, true, false, List, [], ◌∷◌, ◌++◌, length, replicate, Some, None, Err, IsErrOf, refl, sym, ◌∙◌, ap, subst, arith}
+use Rattle.std.proofs.Common.{◌≡◌, ℕ, ◌+◌, ◌<◌, ◌≤◌, ◌⊎◌, inl, inr, ⊎_elim, Bool, true, false, List, [], ◌∷◌, ◌++◌, length, replicate, slice_index, ◌^◌, Some, None, Err, IsErrOf, refl, sym, ◌∙◌, ap, subst, arith}
 use Rattle.std.proofs.Common.{length-append}
 use Rattle.std.proofs.lemmas.Bool.{cases_eq}
-use Rattle.std.specs.List.{AllByRecursion}
+use Rattle.std.specs.List.{AllByRecursion, AllZip}
 use Rattle.blockdisk.specs.Disk.{Contents, DiskState, LeavesOnly}
 use Rattle.blockdisk.specs.Laws.{leaves_weaker}
 use Rattle.meaning.specs.declared.put.Put.{Put}
@@ -20,14 +20,13 @@ use Rattle.changeset.specs.Crashes.{IsGateOrLog}
 use Rattle.changeset.specs.Puts.{IsPutIn}
 use Rattle.changeset.specs.PutLaws.{times_head, times_tail, with_puts_here, with_puts_later}
 use Rattle.changeset.specs.Rest.{AtRest, SettlesTo}
-use Rattle.alloctab.specs.TableState.{bit, used_in_space}
+use Rattle.alloctab.specs.TableState.{bit, IsFree}
 use Rattle.retrieval.specs.Writing.{IsFixed}
-use Rattle.volume.specs.Known.{KnownDirectory, Known, IsHeld, reaches_in_known, known_reaches, IsWholeDirectory, IsWholeMap, cost_of_directory}
-use Rattle.volume.specs.Making.{LeadsTo, IsAligned, AreUsed, bare_known, map_made, files_made, IsMade}
+use Rattle.volume.specs.Known.{KnownDirectory, Known, IsHeld, reaches_in_known, known_reaches, IsWholeDirectory, IsWholeMap, cost_of_directory, cost_of_known}
+use Rattle.volume.specs.Live.{VolumeCore, IsKeyed, AreStanding, held_reaches, held_cost, IsWholeCore}
+use Rattle.volume.specs.Making.{LeadsTo, IsAligned, bare_known, map_made, files_made, IsMade}
 use Rattle.volume.specs.Rest.{IsAtRest, IsSound, RestsAt, StandsForEither}
-use Rattle.volume.proofs.Lookups.{all_push, total-push}
-use Rattle.volume.proofs.CostLaws.{used_fits}
-use Rattle.volume.proofs.MakingHeld.{master_reached}
+use Rattle.volume.proofs.Lookups.{all_push, total-push, zip_behind}
 use Rattle.volume.proofs.MakingLaw.{making_leads, bare_chain, bit_few}
 
 -- Of any event.
@@ -54,15 +53,15 @@ rest_for s s' k' m' f' size is rest = record {
   all = λ c left. (m', (subst (λ (b : ℕ). IsHeld b k' m' c) (sym size) (rest.all c left)).stands, is);
 }
 
-pub sound_for : (s s' : DiskState) (k' : Known) (failed : Bool) → s'.size ≡ s.size → IsWholeMap s.size k' → (s'.honest → failed ≡ false → (m' : DiskMap) × AtRest s' (IsHeld s.size k' m')) → IsSound s' k' failed
-sound_for s s' k' failed size whole rest = record {
-  whole = subst (λ (b : ℕ). IsWholeMap b k') (sym size) whole;
-  rest = λ h ok. let r = rest h ok in record { map = r.0; rest = subst (λ (b : ℕ). AtRest s' (IsHeld b k' r.0)) (sym size) r.1 };
+pub sound_for : (s s' : DiskState) (c' : VolumeCore) (failed : Bool) → s'.size ≡ s.size → IsWholeCore s.size c' → (s'.honest → failed ≡ false → (m' : DiskMap) × AtRest s' (IsHeld s.size c'.known m')) → IsSound s' c' failed
+sound_for s s' c' failed size whole rest = record {
+  whole = subst (λ (b : ℕ). IsWholeCore b c') (sym size) whole;
+  rest = λ h ok. let r = rest h ok in record { map = r.0; rest = subst (λ (b : ℕ). AtRest s' (IsHeld b c'.known r.0)) (sym size) r.1 };
 }
 
 -- a sound volume that has failed stays sound, whatever the disk does
-pub sound_failed : (s s' : DiskState) (k' : Known) (failed : Bool) → s'.size ≡ s.size → IsWholeMap s.size k' → failed ≡ true → IsSound s' k' failed
-sound_failed s s' k' failed size whole gone = record { whole = subst (λ (b : ℕ). IsWholeMap b k') (sym size) whole; rest = λ h ok. absurd (apart (sym gone ∙ ok)) }
+pub sound_failed : (s s' : DiskState) (c' : VolumeCore) (failed : Bool) → s'.size ≡ s.size → IsWholeCore s.size c' → failed ≡ true → IsSound s' c' failed
+sound_failed s s' c' failed size whole gone = record { whole = subst (λ (b : ℕ). IsWholeCore b c') (sym size) whole; rest = λ h ok. absurd (apart (sym gone ∙ ok)) }
   where
     apart : true ≡ false → ⊥
     apart e = cc
@@ -86,29 +85,17 @@ not_put puts n same there =
     let nowhere : Contents = λ j. None in
     some_none (sym (words.1 nowhere) ∙ same nowhere)
 
--- On an honest disk that is at rest there are blocks to take.
+-- There are blocks to take, and none of them stands in a chain.
 
-pub held_fixed : (size : ℕ) (k : Known) (m : DiskMap) (c : Contents) → k.table.size ≡ size → IsHeld size k m c → IsFixed k.table
-held_fixed size k m c same held n below =
-    let fixed = fixed_below size n (omega arith) in
-    let few = bit-le-one size c n in
-    let is = held.bits n in
-    let sum = held.stands.marked.bits n in
+pub whole_fixed : (size : ℕ) (k : Known) → IsWholeMap size k → IsFixed k.table
+whole_fixed size k whole n below =
+    let fixed = fixed_below size n (let e = whole.size_is in omega arith) in
+    let few = bit_few k.table n in
+    let is = whole.bits n in
     omega arith
 
-pub held_used : (size : ℕ) (k : Known) (m : DiskMap) (c : Contents) → IsHeld size k m c → AreUsed k.table k.master.blocks
-held_used size k m c held n there =
-    let most = master_reached k m held.known n in
-    let few = bit-le-one size c n in
-    let is = held.bits n in
-    let sum = held.stands.marked.bits n in
-    omega arith
-
-pub can_take : (s : DiskState) (k : Known) (failed : Bool) → IsSound s k failed → s.honest → failed ≡ false → IsFixed k.table × AreUsed k.table k.master.blocks × (used_in_space k.table ≤ k.table.booked)
-can_take s k failed sound h ok =
-    let rest = sound.rest h ok in
-    let held : IsHeld s.size k rest.map s.contents = rest.rest.all s.contents (λ n closed. refl) in
-    (held_fixed s.size k rest.map s.contents sound.whole.size_is held, held_used s.size k rest.map s.contents held, used_fits s.size k rest.map s.contents held sound.whole)
+pub free_elsewhere : (size : ℕ) (k : Known) → IsWholeMap size k → (n : ℕ) → bit k.table n ≡ 0 → times n k.master.blocks ≡ 0
+free_elsewhere size k whole n clear = let is = whole.bits n in omega arith
 
 -- Of the directory that is made.
 
@@ -154,9 +141,36 @@ module _ (size : ℕ) (k k' : Known) (ppn protection first : ℕ) (puts : List P
     each = subst (AllByRecursion (IsWholeDirectory size)) (sym made.entered.directories) (all_push (IsWholeDirectory size) k.directories (bare_known first) whole.each bare_whole);
     bits = λ n. let a = made.taken.bits n in let b = whole.bits n in let e = reaches_more n in omega arith;
     unchanged = made.taken.changed ∙ ap (λ (n : ℕ). replicate (table_blocks n) false) whole.size_is;
-    unheld = made.taken.held ∙ whole.unheld;
-    booked = let a = made.taken.booked in let b = whole.booked in let e = cost_more in omega arith;
   }
+
+  -- with the versions in use, which stay
+  pub made_core : (c c' : VolumeCore) → IsWholeCore size c → c.known ≡ k → c'.known ≡ k' → c'.live ≡ c.live → c'.keys ≡ c.keys ++ [] ∷ [] → IsWholeCore size c'
+  made_core c c' core was is live keys =
+      let table : c'.known.table.held ≡ c.known.table.held = ap (λ x. x.table.held) is ∙ made.taken.held ∙ sym (ap (λ x. x.table.held) was) in
+      let directories : c'.known.directories ≡ c.known.directories ++ bare_known first ∷ [] = ap (λ x. x.directories) is ∙ made.entered.directories ∙ ap (λ x. x.directories ++ bare_known first ∷ []) (sym was) in
+      record {
+        map = subst (IsWholeMap size) (sym is) made_whole;
+        keyed = subst (λ l. AllZip (IsKeyed l) c'.known.directories c'.keys) (sym live)
+            (subst (AllZip (IsKeyed c.live) c'.known.directories) (sym keys) (subst (λ ds. AllZip (IsKeyed c.live) ds (c.keys ++ [] ∷ [])) (sym directories) (zip_behind (IsKeyed c.live) c.known.directories c.keys (bare_known first) [] core.keyed tt)));
+        standing = subst AreStanding (sym live) core.standing;
+        held = λ n. ap (λ l. slice_index l n) table ∙ core.held n ∙ ap (total (held_reaches n)) (sym live);
+        inside = λ n some. core.inside n (subst (λ l. 0 < slice_index l n) table some);
+        fits =
+            let few = made.room in
+            let large = whole.volume.large in
+            let e = ap (λ x. x.table.booked) is in
+            omega arith;
+        booked =
+            let a = made.taken.booked in
+            let b = core.booked in
+            let w = ap (λ x. x.table.booked) was in
+            let i = ap (λ x. x.table.booked) is in
+            let costs = ap (λ x. cost_of_known x.master x.directories) was in
+            let costs' = ap (λ x. cost_of_known x.master x.directories) is in
+            let e = cost_more in
+            let l = ap (total held_cost) live in
+            omega arith;
+      }
 
   pub puts_in_range : AllByRecursion (IsTarget size) (targets puts)
   puts_in_range = made.put.in_range (made.entered.put.in_range size made_inside tt)
@@ -175,17 +189,19 @@ module _ (size : ℕ) (k k' : Known) (ppn protection first : ℕ) (puts : List P
   leads before m fits c near held zeros = making_leads size k k' m ppn protection first puts whole made fits c held zeros
 
   -- a block in use is not written, but for those of the master directory
-  pub not_written : (n : ℕ) → space_start size ≤ n → times n k.master.blocks ≡ 0 → bit k.table n ≡ 1 → (n ≡ first) ⊎ (IsGateOrLog size n ⊎ IsPutIn puts n) → ⊥
+  pub not_written : (n : ℕ) → space_start size ≤ n → times n k.master.blocks ≡ 0 → (IsFree k.table n → ⊥) → (n ≡ first) ⊎ (IsGateOrLog size n ⊎ IsPutIn puts n) → ⊥
   not_written n from none used = ⊎_elim
-      (λ is. let e = ap (bit k.table) is in let clear = first_clear in omega arith)
+      (λ is. used (subst (IsFree k.table) (sym is) (made.free.0)))
       (⊎_elim (λ log. let below = log.1 in omega arith) (not_put puts n (λ c. made.put.others c n (inr from) ∙ made.entered.put.others c n out)))
     where
+      not_taken : (ns : List ℕ) → AllByRecursion (IsFree k.table) ns → times n ns ≡ 0
+      not_taken [] all = refl
+      not_taken (m ∷ ns) all = ⊎_elim (λ is. absurd (used (subst (IsFree k.table) (sym is) all.0))) (λ other. times_tail n m ns other ∙ not_taken ns all.1) (cases_eq n m)
+
       out : times n k'.master.blocks ≡ 0
       out =
           let a = ap (times n) made.entered.blocks ∙ times-append n k.master.blocks made.grown in
-          let b = times-append n (first ∷ []) made.grown in
-          let sum = made.taken.bits n in
-          let few = bit_few k'.table n in
+          let b = not_taken made.grown made.free.1 in
           omega arith
 
 -- What the write and the commit promise, for this directory.

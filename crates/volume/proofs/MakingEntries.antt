@@ -69,6 +69,10 @@ count_grows false n a b chain full grown is ea eb = let e : growth chain ≡ 0 =
     never : IsTrue false → ⊥
     never e = cc
 
+pub two_or_one : (n : ℕ) (grows : Bool) → n ≡ bool_byte grows → (if grows then 2 else 1) ≡ 1 + n
+two_or_one n true is = omega arith
+two_or_one n false is = omega arith
+
 pub many_blocks : (n m : ℕ) (grows : Bool) → m ≡ (if grows then 1 else 0) → n ≡ bool_byte grows → 1 + n ≡ suc m
 many_blocks n m true is also = omega arith
 many_blocks n m false is also = omega arith

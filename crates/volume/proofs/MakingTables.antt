@@ -14,8 +14,9 @@ use Rattle.alloctab.specs.TableState.{TableState, IsTable, IsFree, IsChanged, bi
 use Rattle.alloctab.specs.TableLaws.{holds-with_held_same, bit-with_bit_other, bit-taken, changed-with_bit_same, changed-with_bit_other, sound-with_bit, sound-with_held, sound-booked, changed_blocks-le, changed_blocks-le-most}
 use Rattle.alloctab.specs.Changes.{IsChangedBlock, SpellsTable}
 use Rattle.retrieval.specs.Writing.{Takes, IsFixed}
-use Rattle.retrieval.proofs.Taking.{free_before, free_in_space, used_one_more}
-use Rattle.volume.specs.Making.{taken, released, brought, Uses, AreUsed, with_booked, TakesBlocks, PutsTable}
+use Rattle.meaning.proofs.Lists.{times_here, times_later}
+use Rattle.retrieval.proofs.Taking.{free_before, free_in_space, used_one_more, takes_each}
+use Rattle.volume.specs.Making.{taken, released, brought, Uses, with_booked, TakesBlocks, PutsTable}
 
 -- Given up.
 
@@ -122,23 +123,12 @@ module _ (t u t' : TableState) (ns : List ℕ) (before after : List Put) (uses :
           let place : n ≡ table_start u.size + i = at.block in
           ⊎_elim (λ low. omega arith) (λ high. omega arith) away
 
--- Where one block was taken, there is another one.
-pub finds_second : (t u : TableState) (chain : List ℕ) (n size : ℕ) (grows : Bool) → grows ≡ true → IsTable t → n < t.size → IsFree t n → u ≡ taken t n → IsFixed t → AreUsed t chain
-    → used_in_space t + (if grows then 2 else 1) ≤ t.booked → t.booked ≤ space size → IsFixed u × AreUsed u chain × (used_in_space u < u.booked) × (u.booked ≤ space size)
-finds_second t u chain n size false grown sound inside free took fixed used enough few = cc
-finds_second t u chain n size true grown sound inside free took fixed used enough few =
+-- Where one block was taken, another one is still booked.
+pub second_booked : (t u : TableState) (n : ℕ) (grows : Bool) → grows ≡ true → IsTable t → IsFixed t → n < t.size → IsFree t n → u ≡ taken t n → used_in_space t + (if grows then 2 else 1) ≤ t.booked → used_in_space u < u.booked
+second_booked t u n false grown sound fixed inside free took enough = cc
+second_booked t u n true grown sound fixed inside free took enough =
     let one = used_one_more t n sound fixed inside free in
-    subst (λ (v : TableState). IsFixed v × AreUsed v chain × (used_in_space v < v.booked) × (v.booked ≤ space size)) (sym took) (fixed, used, omega arith, few)
-
--- a free block is a new one
-pub free_is_new : (t : TableState) (chain : List ℕ) (n size : ℕ) → t.size ≡ size → n < t.size → IsFree t n → IsFixed t → AreUsed t chain → InSpace size n × (times n chain ≡ 0)
-free_is_new t chain n size same inside free fixed used =
-    let clear = free.clear in
-    (record { from = subst (λ (s : ℕ). space_start s ≤ n) same (free_in_space t n fixed free); below = omega arith }, by_case (times n chain) refl)
-  where
-    by_case : (k : ℕ) → times n chain ≡ k → times n chain ≡ 0
-    by_case zero is = is
-    by_case (suc k) is = absurd (let one = used n (omega arith) in let clear = free.clear in omega arith)
+    subst (λ (v : TableState). used_in_space v < v.booked) (sym took) (omega arith)
 
 -- The blocks of a new directory: its own, and perhaps one more, which was taken last.
 
@@ -187,6 +177,19 @@ made_table size t b t' blocks count before after same booked many takes puts =
       subst (λ (v : TableState). TakesBlocks v t' blocks) is takes,
       subst (λ (n : ℕ). PutsTable n t t' before after) same (record { spells = all.spells; undamaged = all.undamaged; others = all.others; in_range = all.in_range; few = all.few }),
     )
+
+-- Blocks that were taken were free, and lie in the free space.
+pub taken_free : (t b t' : TableState) (count : ℕ) (blocks : List ℕ) → IsTable t → IsFixed t → b ≡ record t { booked = t.booked + count } → Takes b blocks t'
+    → AllByRecursion (IsFree t) blocks × AllByRecursion (InSpace t.size) blocks
+taken_free t b t' count blocks sound fixed booked takes =
+    let takes' : Takes (with_booked t count) blocks t' = subst (λ (v : TableState). Takes v blocks t') booked takes in
+    let each = takes_each (with_booked t count) blocks t' (sound-booked t (t.booked + count) sound) fixed takes' in
+    let free : (n : ℕ) → 0 < times n blocks → IsFree t n = λ n there. record { clear = (each n there).1.clear; unheld = (each n there).1.unheld } in
+    (all_of (IsFree t) blocks free, all_of (InSpace t.size) blocks (λ n there. record { from = free_in_space t n fixed (free n there); below = (each n there).0 }))
+  where
+    all_of : (P : ℕ → Type 0) (ns : List ℕ) → ((n : ℕ) → 0 < times n ns → P n) → AllByRecursion P ns
+    all_of P [] has = tt
+    all_of P (n ∷ ns) has = (has n (times_here n ns), all_of P ns (λ m there. has m (times_later m n ns there)))
 
 pub sound_booked : (t b : TableState) (count : ℕ) → IsTable t → b ≡ record t { booked = t.booked + count } → IsTable b
 sound_booked t b count sound booked = subst IsTable (sym booked) (sound-booked t (t.booked + count) sound)

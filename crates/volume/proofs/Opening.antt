@@ -17,7 +17,7 @@ use Rattle.alloctab.specs.Reached.{wanted_bit}
 use Rattle.volume.specs.declared.error.VolumeError.{VolumeError}
 use Rattle.volume.specs.declared.error.VolumeError.TheVariants.{NotVolume, BadHome, BadLog, BadDirectory, BadRetrieval, BlockTwice, TableWrong, Device, NoMemory, Failed, BadData}
 use Rattle.directory.specs.Chains.{IsChain}
-use Rattle.volume.specs.Known.{Known, known_reaches, cost_of_known, IsWholeDirectory, IsWholeMap}
+use Rattle.volume.specs.Known.{Known, known_reaches, cost_of_known, IsWholeDirectory, IsWholeMap, IsBooked}
 use Rattle.volume.specs.Found.{IsWrongFor, IsRightFor}
 use Rattle.volume.specs.Meets.{SettledRefuses, IsTableRefusal}
 use Rattle.volume.proofs.Handing.{error_has, each_error}
@@ -78,12 +78,12 @@ keeps_of s s' reads = record {
   time = passes_weaker s s' (MayLeave s) (MayLeave s') reads.still.time (λ c left n closed. left n (sym (reads.is_open n) ∙ closed) ∙ sym (reads.still.contents n));
 }
 
--- What was read is whole: its table has the bits that the reached blocks ask for, and what it costs is booked.
+-- What was read is whole: its table has the bits that the reached blocks ask for.
 pub read_whole : (size first then : ℕ) (k : Known) (t : TableState) (reached : List Bool) → first ≡ size → then ≡ size → IsVolumeSize size → IsChain nat_cmp (IsMasterEntryOf 1) k.master
     → AllByRecursion (InSpace first) k.master.blocks → length k.directories ≡ length k.master.entries → AllByRecursion (IsWholeDirectory first) k.directories
-    → k.table ≡ record t { booked = cost_of_known k.master k.directories } → t.size ≡ then → t.held ≡ replicate then 0 → t.changed ≡ replicate (table_blocks then) false
+    → k.table ≡ record t { booked = cost_of_known k.master k.directories } → t.size ≡ then → t.changed ≡ replicate (table_blocks then) false
     → ((n : ℕ) → bit t n ≡ wanted_bit then reached n) → ((n : ℕ) → digit_at reached n ≡ known_reaches n k.master k.directories) → IsWholeMap size k
-read_whole size first then k t reached same sizes volume chain inside aligned each table_is table_size unheld unchanged wanted marked = record {
+read_whole size first then k t reached same sizes volume chain inside aligned each table_is table_size unchanged wanted marked = record {
   volume = volume;
   size_is = ap (λ x. x.size) table_is ∙ table_size ∙ sizes;
   chain = chain;
@@ -92,6 +92,11 @@ read_whole size first then k t reached same sizes volume chain inside aligned ea
   each = subst (λ (n : ℕ). AllByRecursion (IsWholeDirectory n) k.directories) same each;
   bits = λ n. ap (λ x. bit x n) table_is ∙ wanted n ∙ (λ i. fixed (sizes i) n + marked n i);
   unchanged = ap (λ x. x.changed) table_is ∙ unchanged ∙ ap (λ (n : ℕ). replicate (table_blocks n) false) sizes;
+}
+
+-- Nothing of it is held yet.
+pub read_booked : (size then : ℕ) (k : Known) (t : TableState) → then ≡ size → k.table ≡ record t { booked = cost_of_known k.master k.directories } → t.held ≡ replicate then 0 → IsBooked size k
+read_booked size then k t sizes table_is unheld = record {
   unheld = ap (λ x. x.held) table_is ∙ unheld ∙ ap (λ (n : ℕ). replicate n 0) sizes;
   booked = ap (λ x. x.booked) table_is;
 }

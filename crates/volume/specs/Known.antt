@@ -117,7 +117,10 @@ pub record IsWholeMap (size : ℕ) (k : Known) : Type 0 where
   pub each : AllByRecursion (IsWholeDirectory size) k.directories
   -- each block is in one place or free: the table has the bits of the fixed regions and of what is reached
   pub bits : (n : ℕ) → bit k.table n ≡ fixed size n + known_reaches n k.master k.directories
-  -- the table has nothing to put, holds nothing, and has booked what the map costs
+  -- the table has nothing to put
   pub unchanged : k.table.changed ≡ replicate (table_blocks size) false
+
+-- No block is held, and what the map costs is booked.
+pub record IsBooked (size : ℕ) (k : Known) : Type 0 where
   pub unheld : k.table.held ≡ replicate size 0
   pub booked : k.table.booked ≡ cost_of_known k.master k.directories

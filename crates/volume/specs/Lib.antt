@@ -9,3 +9,5 @@ pub mod Cores
 pub mod Rest
 pub mod Queries
 pub mod Making
+pub mod Live
+pub mod LiveCores

@@ -14,7 +14,7 @@ use Rattle.meaning.specs.Directories.{MasterEntry, master_word, master_words}
 use Rattle.meaning.specs.Stands.{DiskMap}
 use Rattle.meaning.specs.Changes.{bare_directory, with_directory}
 use Rattle.meaning.specs.Faults.{InSpace, IsMasterEntryOf}
-use Rattle.alloctab.specs.TableState.{TableState, IsTable, IsChanged, bit, holds, with_bit, with_held}
+use Rattle.alloctab.specs.TableState.{TableState, IsTable, IsFree, IsChanged, bit, holds, space, with_bit, with_held}
 use Rattle.directory.specs.Chains.{ChainState, IsChain}
 use Rattle.directory.specs.Edits.{PutsChain}
 use Rattle.volume.specs.declared.make.FreshBlocks.{FreshBlocks}
@@ -31,10 +31,6 @@ LeadsTo size before fresh words puts k m k' m' =
 -- as many directories as entries of the master directory
 abbrev pub IsAligned : Known → Type 0
 IsAligned k = length k.directories ≡ length k.master.entries
-
--- the bits of these blocks are set
-abbrev pub AreUsed : TableState → List ℕ → Type 0
-AreUsed t blocks = (n : ℕ) → 0 < times n blocks → bit t n ≡ 1
 
 -- the table with so many blocks more booked
 abbrev pub with_booked : TableState → ℕ → TableState
@@ -121,7 +117,10 @@ pub record IsMade (size : ℕ) (k k' : Known) (ppn protection first : ℕ) (puts
   pub grown : List ℕ
   pub count : length grown ≡ growth k.master
   pub inside : AllByRecursion (InSpace size) (first ∷ grown)
+  pub free : AllByRecursion (IsFree k.table) (first ∷ grown)
   pub chain_puts : List Put
   pub entered : IsEntered k k' ppn protection first grown chain_puts
   pub taken : TakesBlocks (with_booked k.table (length (first ∷ grown))) k'.table (first ∷ grown)
   pub put : PutsTable size k.table k'.table chain_puts puts
+  -- what is booked then lies within the free space
+  pub room : k'.table.booked ≤ space size

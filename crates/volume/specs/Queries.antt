@@ -1,5 +1,5 @@
 -- What the calls answer that only look at the files.
-use Rattle.std.specs.Prelude.{◌≡◌, ℕ, ◌-◌, length, ℤ, pos, ◌-ℤ◌, slice_get, Option, None, Some, Result, Ok, Err}
+use Rattle.std.specs.Prelude.{◌≡◌, ℕ, ◌+◌, ◌-◌, length, ℤ, pos, ◌-ℤ◌, slice_get, Option, None, Some, Result, Ok, Err}
 use Rattle.words36.specs.declared.names.FileName.{FileName}
 use Rattle.meaning.specs.Costs.{blocks_of, cost_of_files}
 use Rattle.meaning.specs.declared.entry.Entry.{Entry}
@@ -14,9 +14,10 @@ use Rattle.volume.specs.declared.error.CallError.{CallError}
 use Rattle.volume.specs.declared.file_facts.FileFacts.{FileFacts}
 use Rattle.volume.specs.declared.error.CallError.TheVariants.{Refused, Device, NoMemory, Failed}
 
--- the blocks of the free space less what the files cost: a whole number that may be below 0
-abbrev pub room_of : ℕ → Files File → ℤ
-room_of size files = pos (size - space_start size) -ℤ pos (cost_of_files files)
+-- the blocks of the free space less what the files cost, and what the versions that are held besides do: a whole
+-- number that may be below 0
+abbrev pub room_of : ℕ → Files File → ℕ → ℤ
+room_of size files held = pos (size - space_start size) -ℤ pos (cost_of_files files + held)
 
 -- the protection of the directory that there is, or none
 abbrev pub protection_answer : Option (Directory File) → Result ℕ CallError

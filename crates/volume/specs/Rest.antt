@@ -4,7 +4,8 @@ use Rattle.blockdisk.specs.Disk.{Contents, DiskState, MayLeave}
 use Rattle.meaning.specs.Files.{File, Files}
 use Rattle.meaning.specs.Stands.{DiskMap, SettledStands, Stands}
 use Rattle.changeset.specs.Rest.{AtRest}
-use Rattle.volume.specs.Known.{Known, IsHeld, IsWholeMap}
+use Rattle.volume.specs.Known.{Known, IsHeld}
+use Rattle.volume.specs.Live.{VolumeCore, IsWholeCore}
 
 -- One map for all that a crash may leave, and the one in core.
 pub record IsAtRest (s : DiskState) (k : Known) : Type 0 where
@@ -12,9 +13,9 @@ pub record IsAtRest (s : DiskState) (k : Known) : Type 0 where
   pub rest : AtRest s (IsHeld s.size k map)
 
 -- What is in core is whole, and while the disk is honest and the volume hasn't failed it is the disk's.
-pub record IsSound (s : DiskState) (k : Known) (failed : Bool) : Type 0 where
-  pub whole : IsWholeMap s.size k
-  pub rest : s.honest → failed ≡ false → IsAtRest s k
+pub record IsSound (s : DiskState) (c : VolumeCore) (failed : Bool) : Type 0 where
+  pub whole : IsWholeCore s.size c
+  pub rest : s.honest → failed ≡ false → IsAtRest s c.known
 
 -- all that a crash may leave has a closed gate and stands for these files
 abbrev pub RestsAt : DiskState → Files File → Type 0

@@ -1,7 +1,6 @@
 ghost use Rattle.std.specs.Prelude.{◌≡◌, ℕ, ◌+◌, ◌<◌, ◌≤◌, ◌^◌, length, map};
 ghost use Rattle.std.specs.List.{AllByRecursion};
 ghost use Rattle.std.specs.Ordering.{nat_cmp};
-ghost use Rattle.blockdisk.specs.Disk.{Contents};
 ghost use Rattle.meaning.specs.Costs.{cost_of_blocks, cost_of_files};
 ghost use Rattle.meaning.specs.Faults.{InSpace, IsMasterEntryOf};
 ghost use Rattle.meaning.specs.Regions.{IsVolumeSize};
@@ -10,7 +9,8 @@ ghost use Rattle.meaning.specs.Stands.{DiskMap, files_of};
 ghost use Rattle.alloctab.specs.TableState.{used_in_space};
 ghost use Rattle.directory.specs.Chains.{IsChain, viewed};
 ghost use Rattle.volume.specs.Cores.{master_view, known_directory};
-ghost use Rattle.volume.specs.Known.{Known, IsKnownMap, IsHeld, IsWholeMap, IsWholeDirectory, cost_of_directory, cost_of_known};
+ghost use Rattle.volume.specs.Known.{Known, IsKnownMap, IsWholeDirectory, cost_of_directory, cost_of_known};
+ghost use Rattle.volume.specs.Live.{VolumeCore, IsWholeCore};
 
 use crate::map::StoredDirectory;
 use alloctab::Table;
@@ -63,6 +63,5 @@ pub fn known_maps_are_booked()
     ensures cost { (size : ℕ) (known : Known) (m : DiskMap) → IsKnownMap known m
         → IsChain nat_cmp (IsMasterEntryOf 1) known.master → length known.directories ≡ length known.master.entries → AllByRecursion (IsWholeDirectory size) known.directories
         → cost_of_known known.master known.directories ≡ cost_of_files (files_of m) }
-    ensures used { (size : ℕ) (known : Known) (m : DiskMap) (contents : Contents) → IsHeld size known m contents → IsWholeMap size known
-        → used_in_space known.table ≤ known.table.booked }
+    ensures used { (size : ℕ) (core : VolumeCore) → IsWholeCore size core → used_in_space core.known.table ≤ core.known.table.booked }
 {}

@@ -43,6 +43,7 @@ mod home;
 #[cfg(test)]
 mod init_tests;
 mod list;
+mod live;
 mod make;
 #[cfg(test)]
 mod make_tests;

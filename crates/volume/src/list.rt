@@ -4,19 +4,22 @@ ghost use Rattle.std.specs.List.{AllByRecursion, AllZip};
 ghost use Rattle.meaning.specs.declared.code.ErrorCode.TheVariants.{NoDirectory};
 ghost use Rattle.meaning.specs.Files.{File, Files, Directory, name_cmp};
 ghost use Rattle.meaning.specs.Maps.{entries, from_entries, get};
-ghost use Rattle.volume.specs.Cores.{file_view, known_directory, known_of, known_version};
+ghost use Rattle.volume.specs.Cores.{file_view};
 ghost use Rattle.volume.specs.Found.{IsAdded};
-ghost use Rattle.volume.specs.Known.{IsWholeVersion};
+ghost use Rattle.volume.specs.Live.{IsKeyed, AreStanding};
+ghost use Rattle.volume.specs.LiveCores.{live_directory, core_of};
 ghost use Rattle.volume.specs.Queries.{line, IsLine, IsListRefusal};
 ghost use Rattle.volume.specs.Rest.{IsSound, RestsAt};
 ghost use Rattle.volume.specs.declared.error.CallError.TheVariants.{Refused, NoMemory, Failed};
 
 use crate::CallError;
-use crate::map::{StoredDirectory, Volume};
+use crate::live::{LiveDirectory, LiveVersion};
+use crate::map::Volume;
 use crate::query::{directory_place, named_facts};
 use blockdisk::Disk;
 use directory::FileEntry;
 use meaning::Entry;
+use slab::Slab;
 use std::alloc::Global;
 use words36::Ppn;
 
@@ -26,17 +29,18 @@ use words36::Ppn;
 ///
 /// `NoMemory` where it finds no room.
 fn push_line(
-    directory: &StoredDirectory,
+    versions: &Slab<LiveVersion>,
+    directory: &LiveDirectory,
     entry: &FileEntry,
     lines: &mut Vec<Entry>,
 ) -> Result<(), CallError>
-    requires aligned { length directory.now.versions.items ≡ length directory.now.chain.entries }
-    requires whole { AllByRecursion IsWholeVersion (map known_version directory.now.versions.items) }
+    requires keyed { IsKeyed versions.now.slots (live_directory versions.now.slots directory.now) directory.now.keys.items }
+    requires standing { AreStanding versions.now.slots }
     requires there { find name_cmp entry.now.name (map file_view directory.now.chain.entries) ≡ Some entry.now.prime }
-    ensures ok { OnOk result (IsAdded (λ l. l) lines.old.items lines.new.items (IsLine (known_directory directory.now) entry.now.name)) }
+    ensures ok { OnOk result (IsAdded (λ l. l) lines.old.items lines.new.items (IsLine (live_directory versions.now.slots directory.now) entry.now.name)) }
     ensures only { IfErr result (λ e. e ≡ NoMemory) }
 {
-    let facts = named_facts(directory, &entry.name)?;
+    let facts = named_facts(versions, directory, &entry.name)?;
     let line = Entry {
         name: entry.name,
         protection: u32::from(facts.protection),
@@ -54,10 +58,14 @@ fn push_line(
 /// # Errors
 ///
 /// `NoMemory` where they find no room.
-fn directory_lines(alloc: Global, directory: &StoredDirectory) -> Result<Vec<Entry>, CallError>
-    requires aligned { length directory.now.versions.items ≡ length directory.now.chain.entries }
-    requires whole { AllByRecursion IsWholeVersion (map known_version directory.now.versions.items) }
-    ensures listed { IfOk result (λ lines. AllZip (λ e l. IsLine (known_directory directory.now) e.0 l) (entries (from_entries {R = name_cmp} (map file_view directory.now.chain.entries))) lines.items) }
+fn directory_lines(
+    alloc: Global,
+    versions: &Slab<LiveVersion>,
+    directory: &LiveDirectory,
+) -> Result<Vec<Entry>, CallError>
+    requires keyed { IsKeyed versions.now.slots (live_directory versions.now.slots directory.now) directory.now.keys.items }
+    requires standing { AreStanding versions.now.slots }
+    ensures listed { IfOk result (λ lines. AllZip (λ e l. IsLine (live_directory versions.now.slots directory.now) e.0 l) (entries (from_entries {R = name_cmp} (map file_view directory.now.chain.entries))) lines.items) }
     ensures only { IfErr result (λ e. e ≡ NoMemory) }
 {
     let Ok(sorted) = directory.chain.list_sorted(alloc) else {
@@ -66,7 +74,7 @@ fn directory_lines(alloc: Global, directory: &StoredDirectory) -> Result<Vec<Ent
     let names = sorted.as_slice();
     let mut lines = Vec::new(alloc);
     for entry in names {
-        push_line(directory, entry, &mut lines)?;
+        push_line(versions, directory, entry, &mut lines)?;
     }
     Ok(lines)
 }
@@ -79,7 +87,7 @@ impl<D: Disk> Volume<D> {
     /// `Refused(NoDirectory)` where there is no such directory, `NoMemory` where the list finds no room,
     /// `Failed` where the volume failed before.
     pub fn list(&self, alloc: Global, ppn: Ppn) -> Result<Vec<Entry>, CallError>
-        requires sound { IsSound (D.state self.now.disk) (known_of self.now.map) self.now.failed }
+        requires sound { IsSound (D.state self.now.disk) (core_of self.now.map) self.now.failed }
         ensures listed { (D.state self.now.disk).honest → self.now.failed ≡ false → (files : Files File) → RestsAt (D.state self.now.disk) files
             → IfOk result (λ lines. (d : Directory File) × (get files ppn ≡ Some d) × (lines.items ≡ map line (entries d.files))) }
         ensures refused { (D.state self.now.disk).honest → self.now.failed ≡ false → (files : Files File) → RestsAt (D.state self.now.disk) files
@@ -92,6 +100,6 @@ impl<D: Disk> Volume<D> {
         }
         let i = directory_place(&self.map.master, ppn)?;
         let directory = &self.map.directories[i];
-        directory_lines(alloc, directory)
+        directory_lines(alloc, &self.map.versions, directory)
     }
 }

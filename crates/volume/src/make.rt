@@ -1,4 +1,4 @@
-ghost use Rattle.std.specs.Prelude.{◌≡◌, ◌↔◌, ◌⊎◌, ◌+◌, ◌<◌, ◌≤◌, [], ℕ, true, if◌then◌else◌, IsTrue, IsSome, IfSome, IfNone, IfOk, OnOk, OnErr, IsErrOf, None, Some, option_to_list, length, false};
+ghost use Rattle.std.specs.Prelude.{◌≡◌, ◌↔◌, ◌⊎◌, ◌+◌, ◌<◌, ◌≤◌, ◌++◌, ◌∷◌, [], ℕ, true, if◌then◌else◌, IsTrue, IsSome, IfSome, IfNone, IfOk, OnOk, OnErr, IsErrOf, None, Some, option_to_list, length, false};
 ghost use Rattle.std.specs.List.{AllByRecursion};
 ghost use Rattle.std.specs.Ordering.{nat_cmp};
 ghost use Rattle.std.specs.FinMap.Entries.{find};
@@ -11,16 +11,16 @@ ghost use Rattle.meaning.specs.Regions.{IsVolumeSize, space_start};
 ghost use Rattle.meaning.specs.Faults.{InSpace};
 ghost use Rattle.alloctab.specs.TableState.{TableState, IsTable, IsFree, bit, holds, space, used_in_space, with_held};
 ghost use Rattle.retrieval.specs.Writing.{Takes, IsFixed};
-ghost use Rattle.volume.specs.Cores.{known_of};
-ghost use Rattle.volume.specs.Known.{IsWholeMap};
-ghost use Rattle.volume.specs.Making.{brought, Uses, AreUsed, TakesBlocks, PutsTable, growth, fresh_list, files_made, IsEntered, IsMade};
+ghost use Rattle.volume.specs.Live.{IsWholeCore};
+ghost use Rattle.volume.specs.LiveCores.{core_of};
+ghost use Rattle.volume.specs.Making.{brought, Uses, TakesBlocks, PutsTable, growth, fresh_list, files_made, IsEntered, IsMade};
 ghost use Rattle.volume.specs.Rest.{IsSound, RestsAt, StandsForEither};
 ghost use Rattle.volume.specs.declared.error.CallError.TheVariants.{Refused, Device, Failed};
 
 use crate::CallError;
 use crate::event::write_and_commit;
-use crate::map::{DiskMap, StoredDirectory, Volume};
-use crate::regions::is_in_space;
+use crate::live::{LiveDirectory, LiveMap};
+use crate::map::Volume;
 use alloctab::Table;
 use blockdisk::{Disk, NoMemory};
 use changeset::ChangeSet;
@@ -38,77 +38,38 @@ pub struct FreshBlocks {
     pub master: Option<u32>,
 }
 
-/// Whether a block stands in this chain.
-fn has_block(chain: &[u32], n: u32) -> bool
-    ensures { IsTrue result ↔ (0 < times n chain.now) }
+/// Takes a free block. There is one where fewer are used than are booked.
+fn take_block(table: &mut Table) -> u32
+    requires used { used_in_space table.old < table.old.booked }
+    requires room { table.old.booked ≤ space table.old.size }
+    ensures free { (result < table.old.size) × IsFree table.old result }
+    ensures held { table.new ≡ with_held table.old result (holds table.old result + 1) }
 {
-    for block in chain {
-        if *block == n {
-            return true;
-        }
+    match table.take() {
+        Some(n) => n,
+        None => unreachable!(),
     }
-    false
 }
 
-/// Whether a block lies in the free space and outside this chain, as each free block of an honest disk does.
-fn is_new(chain: &[u32], size: u32, n: u32) -> bool
-    requires { IsVolumeSize size }
-    ensures inside { IsTrue result → InSpace size n }
-    ensures apart { IsTrue result → times n chain.now ≡ 0 }
-    ensures new { InSpace size n → times n chain.now ≡ 0 → IsTrue result }
-{
-    is_in_space(size, u64::from(n)) && !has_block(chain, n)
-}
-
-/// Takes a free block. There is one where the bits of the fixed regions and of this chain are set and
-/// fewer blocks are used than are booked.
-fn take_block(table: &mut Table, chain: &[u32], size: u32) -> Option<u32>
-    requires volume { IsVolumeSize size }
+/// Takes the blocks for a new directory, which are booked.
+fn take_blocks(table: &mut Table, grows: bool) -> FreshBlocks
     requires sound { IsTable table.old }
-    requires size { table.old.size ≡ size }
-    ensures inside { IfSome result (λ n. InSpace size n) }
-    ensures apart { IfSome result (λ n. times n chain.now ≡ 0) }
-    ensures free { IfSome result (λ n. IsFree table.old n) }
-    ensures held { IfSome result (λ n. table.new ≡ with_held table.old n (holds table.old n + 1)) }
-    ensures unchanged { IfNone result (table.new ≡ table.old) }
-    ensures found { IsFixed table.old → AreUsed table.old chain.now → used_in_space table.old < table.old.booked → table.old.booked ≤ space size → IsSome result }
+    requires fixed { IsFixed table.old }
+    requires used { used_in_space table.old + (if grows then 2 else 1) ≤ table.old.booked }
+    requires room { table.old.booked ≤ space table.old.size }
+    ensures taken { Takes table.old (fresh_list result) table.new }
+    ensures count { length (option_to_list result.master) ≡ (if grows then 1 else 0) }
 {
-    let n = table.take()?;
-    if is_new(chain, size, n) {
-        return Some(n);
-    }
-    table.unhold(n); // only a disk that broke its promise has such a table
-    None
-}
-
-/// Takes the blocks for a new directory.
-fn take_blocks(table: &mut Table, chain: &[u32], size: u32, grows: bool) -> Option<FreshBlocks>
-    requires volume { IsVolumeSize size }
-    requires sound { IsTable table.old }
-    requires size { table.old.size ≡ size }
-    ensures inside { IfSome result (λ fresh. AllByRecursion (InSpace size) (fresh_list fresh)) }
-    ensures apart { IfSome result (λ fresh. (n : ℕ) → fresh.master ≡ Some n → times n chain.now ≡ 0) }
-    ensures taken { IfSome result (λ fresh. Takes table.old (fresh_list fresh) table.new) }
-    ensures count { IfSome result (λ fresh. length (option_to_list fresh.master) ≡ (if grows then 1 else 0)) }
-    ensures unchanged { IfNone result (table.new ≡ table.old) }
-    ensures found { IsFixed table.old → AreUsed table.old chain.now → used_in_space table.old + (if grows then 2 else 1) ≤ table.old.booked → table.old.booked ≤ space size → IsSome result }
-{
-    let directory = take_block(table, chain, size)?;
+    let directory = take_block(table);
     if !grows {
-        return Some(FreshBlocks {
+        return FreshBlocks {
             directory,
             master: None,
-        });
+        };
     }
-    match take_block(table, chain, size) {
-        Some(n) => Some(FreshBlocks {
-            directory,
-            master: Some(n),
-        }),
-        None => {
-            table.unhold(directory);
-            None
-        }
+    FreshBlocks {
+        directory,
+        master: Some(take_block(table)),
     }
 }
 
@@ -161,19 +122,21 @@ fn use_blocks(table: &mut Table, fresh: FreshBlocks, set: &mut ChangeSet)
 ///
 /// `NoMemory` where there is no memory for it; nothing changes then.
 fn enter(
-    core: &mut DiskMap,
+    core: &mut LiveMap,
     alloc: Global,
     entry: MasterEntry,
     fresh: Option<u32>,
     set: &mut ChangeSet,
 ) -> Result<(), NoMemory>
-    requires absent { find nat_cmp entry.ppn (known_of core.old).master.entries ≡ None }
-    requires count { length (option_to_list fresh) ≡ growth (known_of core.old).master }
+    requires absent { find nat_cmp entry.ppn (core_of core.old).known.master.entries ≡ None }
+    requires count { length (option_to_list fresh) ≡ growth (core_of core.old).known.master }
     requires new { (n : ℕ) → fresh ≡ Some n → times n core.old.master.blocks ≡ 0 }
     requires empty { set.old ≡ [] }
-    ensures entered { OnOk result (IsEntered (known_of core.old) (known_of core.new) entry.ppn entry.protection entry.first (option_to_list fresh) set.new) }
-    ensures table { (known_of core.new).table ≡ (known_of core.old).table }
-    ensures same { OnErr result (known_of core.new ≡ known_of core.old) }
+    ensures entered { OnOk result (IsEntered (core_of core.old).known (core_of core.new).known entry.ppn entry.protection entry.first (option_to_list fresh) set.new) }
+    ensures table { (core_of core.new).known.table ≡ (core_of core.old).known.table }
+    ensures live { (core_of core.new).live ≡ (core_of core.old).live }
+    ensures keys { OnOk result ((core_of core.new).keys ≡ (core_of core.old).keys ++ [] ∷ []) }
+    ensures same { OnErr result (core_of core.new ≡ core_of core.old) }
     ensures unput { OnErr result (set.new ≡ set.old) }
 {
     core.directories.reserve(1)?;
@@ -183,9 +146,9 @@ fn enter(
         Err(_) => return Err(NoMemory),
     }
     let _blocks = core.master.blocks(); // any chain is one as it should be
-    core.directories.push_reserved(StoredDirectory {
+    core.directories.push_reserved(LiveDirectory {
         chain,
-        versions: Vec::new(alloc),
+        keys: Vec::new(alloc),
     });
     Ok(())
 }
@@ -193,23 +156,23 @@ fn enter(
 /// Makes a directory in core, with the puts that will make it on the disk once its block is zero. Answers
 /// that block.
 fn make_in_core(
-    core: &mut DiskMap,
+    core: &mut LiveMap,
     alloc: Global,
-    size: u32,
     ppn: Ppn,
     protection: u16,
     set: &mut ChangeSet,
 ) -> Result<u32, CallError>
-    requires whole { IsWholeMap size (known_of core.old) }
+    requires whole { IsWholeCore core.old.table.size (core_of core.old) }
     requires protection { protection < 512 }
     requires empty { set.old ≡ [] }
-    ensures made { IfOk result (λ first. IsMade size (known_of core.old) (known_of core.new) ppn protection first set.new) }
-    ensures same { OnErr result (known_of core.new ≡ known_of core.old) }
-    ensures exists { IsErrOf result (Refused NameExists) ↔ (find nat_cmp ppn (known_of core.old).master.entries ≡ None → ⊥) }
-    ensures room { find nat_cmp ppn (known_of core.old).master.entries ≡ None → (IsErrOf result (Refused NoRoom) ↔ (space size < core.old.table.booked + 1 + growth (known_of core.old).master)) }
+    ensures made { IfOk result (λ first. IsMade core.old.table.size (core_of core.old).known (core_of core.new).known ppn protection first set.new) }
+    ensures live { (core_of core.new).live ≡ (core_of core.old).live }
+    ensures keys { OnOk result ((core_of core.new).keys ≡ (core_of core.old).keys ++ [] ∷ []) }
+    ensures same { OnErr result (core_of core.new ≡ core_of core.old) }
+    ensures exists { IsErrOf result (Refused NameExists) ↔ (find nat_cmp ppn (core_of core.old).known.master.entries ≡ None → ⊥) }
+    ensures room { find nat_cmp ppn (core_of core.old).known.master.entries ≡ None → (IsErrOf result (Refused NoRoom) ↔ (space core.old.table.size < core.old.table.booked + 1 + growth (core_of core.old).known.master)) }
     ensures codes { (code : ErrorCode) → IsErrOf result (Refused code) → (code ≡ NameExists) ⊎ (code ≡ NoRoom) }
-    ensures device { IsErrOf result Device → ⊥ }
-    ensures found { IsFixed core.old.table → AreUsed core.old.table core.old.master.blocks → used_in_space core.old.table ≤ core.old.table.booked → IsErrOf result Failed → ⊥ }
+    ensures plain { (IsErrOf result Device → ⊥) × (IsErrOf result Failed → ⊥) }
 {
     if core.master.find(&ppn).is_some() {
         return Err(CallError::Refused(ErrorCode::NameExists));
@@ -221,10 +184,7 @@ fn make_in_core(
     }
     let _booked = core.table.booked(); // any table is one as it should be
     core.table.book(count);
-    let Some(fresh) = take_blocks(&mut core.table, core.master.blocks(), size, grows) else {
-        core.table.unbook(count);
-        return Err(CallError::Failed);
-    };
+    let fresh = take_blocks(&mut core.table, grows);
     let entry = entry_of(ppn, protection, fresh.directory);
     if enter(core, alloc, entry, fresh.master, set).is_err() {
         give_back(&mut core.table, fresh);
@@ -257,16 +217,15 @@ impl<D: Disk> Volume<D> {
     ///
     /// # Errors
     ///
-    /// `Failed` where the volume failed before, or where the disk broke a promise: the volume has failed
-    /// then. `Refused` with `NameExists` where there is a directory of this project-programmer number, and
+    /// `Failed` where the volume failed before. `Refused` with `NameExists` where there is a directory of this project-programmer number, and
     /// with `NoRoom` where a block, and one more where the master directory has to grow, exceed the room;
     /// `NoMemory` where core can't grow. All is as before then. `Device` where the device failed, and the
     /// volume with it: a later start finds the directory, or all as before.
     pub fn make_dir(&mut self, alloc: Global, ppn: Ppn, protection: u16) -> Result<(), CallError>
-        requires sound { IsSound (D.state self.old.disk) (known_of self.old.map) self.old.failed }
+        requires sound { IsSound (D.state self.old.disk) (core_of self.old.map) self.old.failed }
         requires protection { protection < 512 }
 
-        ensures sound { IsSound (D.state self.new.disk) (known_of self.new.map) self.new.failed }
+        ensures sound { IsSound (D.state self.new.disk) (core_of self.new.map) self.new.failed }
 
         // Let all that a crash may leave stand for f. Then a crash at any moment leaves what stands for f, or for
         // f with the directory.
@@ -274,37 +233,31 @@ impl<D: Disk> Volume<D> {
             → LeavesOnly (D.state self.old.disk) (D.state self.new.disk) (StandsForEither (D.state self.old.disk).size f (files_made f ppn protection)) }
         // At Ok all that a crash may leave stands for f with the directory.
         ensures done { (D.state self.old.disk).honest → (f : Files File) → RestsAt (D.state self.old.disk) f → OnOk result (RestsAt (D.state self.new.disk) (files_made f ppn protection)) }
-        // No block in use changes, but those of the master directory.
-        ensures kept { (D.state self.old.disk).honest → (n : ℕ) → space_start (D.state self.old.disk).size ≤ n → times n (known_of self.old.map).master.blocks ≡ 0 → bit (known_of self.old.map).table n ≡ 1
+        // The versions in use stay, and no block in use changes, but those of the master directory.
+        ensures live { (core_of self.new.map).live ≡ (core_of self.old.map).live }
+        ensures kept { (D.state self.old.disk).honest → (n : ℕ) → space_start (D.state self.old.disk).size ≤ n → times n (core_of self.old.map).known.master.blocks ≡ 0 → (IsFree (core_of self.old.map).known.table n → ⊥)
             → (D.state self.new.disk).contents n ≡ (D.state self.old.disk).contents n }
 
         // Which error comes when, and what it leaves.
-        ensures refused { (IsErrOf result Device → ⊥) → OnErr result ((self.new.disk ≡ self.old.disk) × (known_of self.new.map ≡ known_of self.old.map)) }
+        ensures refused { (IsErrOf result Device → ⊥) → OnErr result ((self.new.disk ≡ self.old.disk) × (core_of self.new.map ≡ core_of self.old.map)) }
         ensures failed { self.old.failed ≡ true → IsErrOf result Failed }
-        ensures given_up { IsErrOf result Failed → (self.old.failed ≡ true) ⊎ ((D.state self.old.disk).honest → ⊥) }
-        ensures gone { IsErrOf result Failed → self.new.failed ≡ true }
-        ensures exists { self.old.failed ≡ false → (IsErrOf result (Refused NameExists) ↔ (find nat_cmp ppn (known_of self.old.map).master.entries ≡ None → ⊥)) }
-        ensures room { self.old.failed ≡ false → find nat_cmp ppn (known_of self.old.map).master.entries ≡ None
-            → (IsErrOf result (Refused NoRoom) ↔ (space (D.state self.old.disk).size < (known_of self.old.map).table.booked + 1 + growth (known_of self.old.map).master)) }
+        ensures given_up { IsErrOf result Failed → self.old.failed ≡ true }
+        ensures exists { self.old.failed ≡ false → (IsErrOf result (Refused NameExists) ↔ (find nat_cmp ppn (core_of self.old.map).known.master.entries ≡ None → ⊥)) }
+        ensures room { self.old.failed ≡ false → find nat_cmp ppn (core_of self.old.map).known.master.entries ≡ None
+            → (IsErrOf result (Refused NoRoom) ↔ (space (D.state self.old.disk).size < (core_of self.old.map).known.table.booked + 1 + growth (core_of self.old.map).known.master)) }
         ensures codes { (code : ErrorCode) → IsErrOf result (Refused code) → (code ≡ NameExists) ⊎ (code ≡ NoRoom) }
         ensures device { IsErrOf result Device → self.new.failed ≡ true }
         ensures counted { IsErrOf result Device → (D.state self.new.disk).failures ≡ one_more (D.state self.old.disk).failures }
         ensures served { (IsErrOf result Device → ⊥) → (D.state self.new.disk).failures ≡ (D.state self.old.disk).failures }
-        ensures still { (IsErrOf result Device → ⊥) → (D.state self.old.disk).honest → self.new.failed ≡ self.old.failed }
-        ensures serves { (IsErrOf result Device → ⊥) → (IsErrOf result Failed → ⊥) → self.new.failed ≡ self.old.failed }
+        ensures still { (IsErrOf result Device → ⊥) → self.new.failed ≡ self.old.failed }
         ensures same { SameDisk (D.state self.old.disk) (D.state self.new.disk) }
     {
         if self.failed {
             return Err(CallError::Failed);
         }
-        let size = self.disk.blocks();
         let mut set = ChangeSet::new();
-        let first = match make_in_core(&mut self.map, alloc, size, ppn, protection, &mut set) {
+        let first = match make_in_core(&mut self.map, alloc, ppn, protection, &mut set) {
             Ok(first) => first,
-            Err(CallError::Failed) => {
-                self.failed = true; // only a broken promise of the disk explains such a table
-                return Err(CallError::Failed);
-            }
             Err(error) => return Err(error),
         };
         match write_and_commit(&mut self.disk, first, &[Word::ZERO; BLOCK_WORDS], &set) {

@@ -1,8 +1,9 @@
 use crate::files::StoredVersion;
+use crate::live::LiveMap;
 use alloctab::Table;
 use directory::{Chain, FileEntry, MasterEntry};
 
-/// A directory in core: its chain, and for each entry, in their order, the version of its file.
+/// A directory that was read: its chain, and for each entry, in their order, the version of its file.
 #[derive(Drop)]
 pub struct StoredDirectory {
     /// The chain with its entries.
@@ -11,7 +12,7 @@ pub struct StoredDirectory {
     pub versions: Vec<StoredVersion>,
 }
 
-/// What is known of a disk in core.
+/// What was read of a disk.
 #[derive(Drop)]
 pub struct DiskMap {
     /// The chain of the master directory with its entries.
@@ -27,8 +28,8 @@ pub struct DiskMap {
 pub struct Volume<D> {
     /// The disk.
     pub disk: D,
-    /// What is known of it.
-    pub map: DiskMap,
+    /// What is known of it, and the versions in use.
+    pub map: LiveMap,
     /// Whether a call met a fault of the disk: then nothing is known of the disk any more.
     pub failed: bool,
 }

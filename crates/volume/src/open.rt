@@ -17,7 +17,7 @@ ghost use Rattle.alloctab.specs.TableState.{bit};
 ghost use Rattle.directory.specs.Chains.{nodes_of, IsChain, IsOn, viewed};
 ghost use Rattle.volume.specs.Cores.{master_view, known_directory, known_of};
 ghost use Rattle.volume.specs.Homes.{home_of_master};
-ghost use Rattle.volume.specs.Known.{known_reaches, IsWholeDirectory, IsWholeMap, IsHeld};
+ghost use Rattle.volume.specs.Known.{known_reaches, IsWholeDirectory, IsWholeMap, IsBooked, IsHeld};
 ghost use Rattle.volume.specs.Found.{IsOnlySpace, IsMapRead, IsRightFor, IsWrongFor};
 ghost use Rattle.volume.specs.Meets.{SettledRefuses, IsTableRefusal};
 ghost use Rattle.volume.specs.declared.error.VolumeError.TheVariants.{Device, TableWrong};
@@ -131,6 +131,7 @@ pub fn read_map<D: Disk>(alloc: Global, disk: &mut D) -> Result<DiskMap, VolumeE
     ensures held { (D.state disk.old).honest → IfOk result (λ read. (m : MapValue) × IsHeld (D.state disk.old).size (known_of read) m (D.state disk.old).contents) }
     ensures met { (D.state disk.old).honest → IfErr result (SettledRefuses (D.state disk.old).size (D.state disk.old).contents) }
     ensures whole { IfOk result (λ read. IsWholeMap (D.state disk.old).size (known_of read)) }
+    ensures booked { IfOk result (λ read. IsBooked (D.state disk.old).size (known_of read)) }
     ensures reads { (D.state disk.old).honest → OnlyReads (D.state disk.old) (D.state disk.new) }
     ensures same { SameDisk (D.state disk.old) (D.state disk.new) }
     ensures failed { IsErrOf result Device → (D.state disk.new).failures ≡ one_more (D.state disk.old).failures }

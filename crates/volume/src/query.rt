@@ -4,21 +4,24 @@ ghost use Rattle.std.specs.Ordering.{nat_cmp};
 ghost use Rattle.std.specs.FinMap.Entries.{find};
 ghost use Rattle.meaning.specs.declared.code.ErrorCode.TheVariants.{NoDirectory, NotFound};
 ghost use Rattle.meaning.specs.Files.{File, Files, name_cmp};
-ghost use Rattle.meaning.specs.Maps.{get};
+ghost use Rattle.meaning.specs.Maps.{get, total};
 ghost use Rattle.directory.specs.Edits.{StandsAt};
-ghost use Rattle.volume.specs.Cores.{file_view, master_view, known_of, known_directory, known_version};
-ghost use Rattle.volume.specs.Known.{IsWholeVersion};
+ghost use Rattle.volume.specs.Cores.{file_view, master_view};
+ghost use Rattle.volume.specs.Live.{IsKeyed, AreStanding, held_cost};
+ghost use Rattle.volume.specs.LiveCores.{live_directory, core_of};
 ghost use Rattle.volume.specs.Queries.{room_of, protection_answer, IsPlainRefusal, IsNamedVersion, IsLookAnswer};
 ghost use Rattle.volume.specs.Rest.{IsSound, RestsAt};
 ghost use Rattle.volume.specs.declared.error.CallError.TheVariants.{Refused, Failed};
 
 use crate::CallError;
 use crate::file_facts::FileFacts;
-use crate::map::{StoredDirectory, Volume};
+use crate::live::{LiveDirectory, LiveVersion};
+use crate::map::Volume;
 use crate::regions::space_start;
 use blockdisk::Disk;
 use directory::{Chain, MasterEntry};
 use meaning::ErrorCode;
+use slab::Slab;
 use words36::{FileName, Ppn};
 
 /// The place of a directory's entry in the master directory, counted from 0.
@@ -42,23 +45,29 @@ pub fn directory_place(master: &Chain<MasterEntry>, ppn: Ppn) -> Result<usize, C
 /// # Errors
 ///
 /// `Refused(NotFound)` where there is none.
-pub fn named_facts(directory: &StoredDirectory, name: &FileName) -> Result<FileFacts, CallError>
-    requires aligned { length directory.now.versions.items ≡ length directory.now.chain.entries }
-    requires whole { AllByRecursion IsWholeVersion (map known_version directory.now.versions.items) }
-    ensures found { IfOk result (IsNamedVersion (known_directory directory.now) name.now) }
+pub fn named_facts(
+    versions: &Slab<LiveVersion>,
+    directory: &LiveDirectory,
+    name: &FileName,
+) -> Result<FileFacts, CallError>
+    requires keyed { IsKeyed versions.now.slots (live_directory versions.now.slots directory.now) directory.now.keys.items }
+    requires standing { AreStanding versions.now.slots }
+    ensures found { IfOk result (IsNamedVersion (live_directory versions.now.slots directory.now) name.now) }
     ensures none { IsErr result → find name_cmp name.now (map file_view directory.now.chain.entries) ≡ None }
     ensures only { IfErr result (λ e. e ≡ Refused NotFound) }
 {
     let Some(i) = directory.chain.find(name) else {
         return Err(CallError::Refused(ErrorCode::NotFound));
     };
-    let stored = &directory.versions[i];
+    let Some(live) = versions.get(directory.keys[i]) else {
+        unreachable!() // each entry has a version
+    };
     Ok(FileFacts {
-        protection: stored.prime.protection,
-        mode: stored.prime.mode,
-        moment: stored.prime.moment,
-        words: stored.version.length(),
-        blocks: stored.version.blocks().len() as u32,
+        protection: live.prime.protection,
+        mode: live.prime.mode,
+        moment: live.prime.moment,
+        words: live.version.length(),
+        blocks: live.version.blocks().len() as u32,
     })
 }
 
@@ -78,13 +87,14 @@ impl<D: Disk> Volume<D> {
         self.disk.blocks()
     }
 
-    /// How many blocks are left when all files are booked: the blocks of the free space less what the master
-    /// directory, the directories and the files cost. It may be negative, as on an image that another
-    /// program made with long runs, which cost less there than they are counted here.
+    /// How many blocks are left when all is booked: the blocks of the free space less what the master directory,
+    /// the directories and the files cost, and the versions that readers hold though no file has them any more.
+    /// It may be negative, as on an image that another program made with long runs, which cost less there than
+    /// they are counted here.
     pub fn room(&self) -> i64
-        requires sound { IsSound (D.state self.now.disk) (known_of self.now.map) self.now.failed }
+        requires sound { IsSound (D.state self.now.disk) (core_of self.now.map) self.now.failed }
         ensures { (D.state self.now.disk).honest → self.now.failed ≡ false → (files : Files File) → RestsAt (D.state self.now.disk) files
-            → result ≡ room_of (D.state self.now.disk).size files }
+            → result ≡ room_of (D.state self.now.disk).size files (total held_cost (core_of self.now.map).live) }
     {
         let size = self.disk.blocks();
         difference(size - space_start(size), self.map.table.booked())
@@ -97,7 +107,7 @@ impl<D: Disk> Volume<D> {
     ///
     /// `Refused(NoDirectory)` where there is none, `Failed` where the volume failed before.
     pub fn directory(&self, ppn: Ppn) -> Result<u16, CallError>
-        requires sound { IsSound (D.state self.now.disk) (known_of self.now.map) self.now.failed }
+        requires sound { IsSound (D.state self.now.disk) (core_of self.now.map) self.now.failed }
         ensures value { (D.state self.now.disk).honest → self.now.failed ≡ false → (files : Files File) → RestsAt (D.state self.now.disk) files
             → result ≡ protection_answer (get files ppn) }
         ensures failed { IsErrOf result Failed ↔ IsTrue self.now.failed }
@@ -117,7 +127,7 @@ impl<D: Disk> Volume<D> {
     /// `Refused(NoDirectory)` where there is no such directory, `Refused(NotFound)` where it has no such file,
     /// `Failed` where the volume failed before.
     pub fn look(&self, ppn: Ppn, name: &FileName) -> Result<FileFacts, CallError>
-        requires sound { IsSound (D.state self.now.disk) (known_of self.now.map) self.now.failed }
+        requires sound { IsSound (D.state self.now.disk) (core_of self.now.map) self.now.failed }
         ensures value { (D.state self.now.disk).honest → self.now.failed ≡ false → (files : Files File) → RestsAt (D.state self.now.disk) files
             → IsLookAnswer name.now result (get files ppn) }
         ensures failed { IsErrOf result Failed ↔ IsTrue self.now.failed }
@@ -128,6 +138,6 @@ impl<D: Disk> Volume<D> {
         }
         let i = directory_place(&self.map.master, ppn)?;
         let directory = &self.map.directories[i];
-        named_facts(directory, name)
+        named_facts(&self.map.versions, directory, name)
     }
 }

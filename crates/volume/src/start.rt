@@ -1,4 +1,5 @@
-ghost use Rattle.std.specs.Prelude.{◌≡◌, ◌⊎◌, ◌↔◌, ℕ, false, OnOk, IfOk, IfErr, IsErrOf};
+ghost use Rattle.std.specs.Prelude.{◌≡◌, ◌⊎◌, ◌↔◌, ℕ, false, OnOk, IfOk, IfErr, IfSome, IsErrOf};
+ghost use Rattle.std.specs.List.{AllByRecursion};
 ghost use Rattle.blockdisk.specs.Disk.{NoneOpen, SameDisk, Still, Touches, LeavesOnly, one_more};
 ghost use Rattle.changeset.specs.Crashes.{IsRecovered, LeavesFrom};
 ghost use Rattle.changeset.specs.Rest.{AtRest};
@@ -9,16 +10,19 @@ ghost use Rattle.meaning.specs.Regions.{IsVolumeSize};
 ghost use Rattle.meaning.specs.Stands.{Stands};
 ghost use Rattle.volume.specs.Cores.{known_of};
 ghost use Rattle.volume.specs.Homes.{IsBare, IsInitBlock};
-ghost use Rattle.volume.specs.Known.{IsWholeMap};
+ghost use Rattle.volume.specs.Known.{IsWholeMap, IsBooked};
+ghost use Rattle.volume.specs.Live.{IsFirstRead};
+ghost use Rattle.volume.specs.LiveCores.{core_of};
 ghost use Rattle.volume.specs.Meets.{Refuses};
 ghost use Rattle.volume.specs.Rest.{IsAtRest, IsSound, RestsAt, StandsLike, StandsLikeBefore};
 ghost use Rattle.volume.specs.declared.error.VolumeError.TheVariants.{NotVolume, Device};
 
 use crate::VolumeError;
 use crate::fresh::init;
+use crate::live::keep;
 use crate::map::{DiskMap, Volume};
 use crate::open::read_map;
-use blockdisk::Disk;
+use blockdisk::{Disk, NoMemory};
 use changeset::{LogError, recover};
 use std::alloc::Global;
 
@@ -43,6 +47,7 @@ pub fn read_volume<D: Disk>(alloc: Global, disk: &mut D) -> Result<DiskMap, Volu
     ensures files { (D.state disk.old).honest → (files : Files File) → Stands (D.state disk.old).size (D.state disk.old).contents files → IfOk result (λ map. RestsAt (D.state disk.new) files) }
     ensures settled { (D.state disk.old).honest → IfOk result (λ map. NoneOpen (D.state disk.new)) }
     ensures whole { IfOk result (λ map. IsWholeMap (D.state disk.old).size (known_of map)) }
+    ensures booked { IfOk result (λ map. IsBooked (D.state disk.old).size (known_of map)) }
 
     // A refusal names a fault that stands; but for Device the disk was recovered, or nothing was written.
     ensures refused { (D.state disk.old).honest → IfErr result (Refuses (D.state disk.old).size (D.state disk.new).contents) }
@@ -94,8 +99,9 @@ impl<D: Disk> Volume<D> {
     /// `BadRetrieval`, `BlockTwice`, `BadData` and `TableWrong` only where that fault stands, the last only
     /// where no other does; `Device` where the device failed, `NoMemory` where a growth was refused.
     pub fn open(alloc: Global, disk: D) -> Result<Volume<D>, (VolumeError, D)>
-        ensures sound { IfOk result (λ volume. IsSound (D.state volume.disk) (known_of volume.map) volume.failed) }
+        ensures sound { IfOk result (λ volume. IsSound (D.state volume.disk) (core_of volume.map) volume.failed) }
         ensures serves { IfOk result (λ volume. volume.failed ≡ false) }
+        ensures unread { IfOk result (λ volume. AllByRecursion (λ o. IfSome o IsFirstRead) (core_of volume.map).live) }
         ensures recovered { (D.state disk).honest → IfOk result (λ volume. IsRecovered (D.state disk).size (D.state disk).contents (D.state volume.disk).contents) }
         ensures stood { (D.state disk).honest → IfOk result (λ volume. (files : Files File) × Stands (D.state disk).size (D.state disk).contents files × RestsAt (D.state volume.disk) files) }
         ensures files { (D.state disk).honest → (files : Files File) → Stands (D.state disk).size (D.state disk).contents files → IfOk result (λ volume. RestsAt (D.state volume.disk) files) }
@@ -117,11 +123,14 @@ impl<D: Disk> Volume<D> {
     {
         let mut disk = disk;
         match read_volume(alloc, &mut disk) {
-            Ok(map) => Ok(Volume {
-                disk,
-                map,
-                failed: false,
-            }),
+            Ok(map) => match keep(alloc, map) {
+                Ok(map) => Ok(Volume {
+                    disk,
+                    map,
+                    failed: false,
+                }),
+                Err(NoMemory) => Err((VolumeError::NoMemory, disk)),
+            },
             Err(error) => Err((error, disk)),
         }
     }

@@ -3,7 +3,8 @@ use Rattle.std.specs.List.{AllByRecursion}
 use Rattle.std.specs.FinMap.Entries.{find}
 use Rattle.meaning.specs.Directories.{FileEntry}
 use Rattle.meaning.specs.Files.{name_cmp}
-use Rattle.volume.specs.Cores.{file_view, known_directory}
+use Rattle.volume.specs.Cores.{file_view}
+use Rattle.volume.specs.LiveCores.{live_directory}
 use Rattle.volume.proofs.Lookups.{viewed_at}
 use Rattle.volume.proofs.Listing.{sorted_there, line_more}
 use Rattle.volume.proofs.list.directory_lines.Goals as goal
@@ -16,5 +17,5 @@ push_line-requires-clause-there c =
 
 pub loop-entry-preserved : goal.loop-entry-preserved
 loop-entry-preserved c =
-    line_more (known_directory c.args.directory.now) file_view c.as_slice-names.result.now c.loop-entry.entry-index c.entry-item.result c.loop-entry.lines.items c.push_line.new.lines.items c.loop-entry-test.true c.entry-item.is
+    line_more (live_directory c.args.versions.now.slots c.args.directory.now) file_view c.as_slice-names.result.now c.loop-entry.entry-index c.entry-item.result c.loop-entry.lines.items c.push_line.new.lines.items c.loop-entry-test.true c.entry-item.is
     c.loop-entry.invariant c.in_ok-push_line.ensures.ok

@@ -14,7 +14,7 @@ use Rattle.volume.specs.Found.{IsOnlySpace, IsMapRead, IsRightFor, IsWrongFor}
 use Rattle.volume.specs.Meets.{SettledRefuses}
 use Rattle.volume.proofs.Handing.{handed, met_on}
 use Rattle.volume.proofs.FoundMaps.{map_found, map_held, table_met}
-use Rattle.volume.proofs.Opening.{reads_on, table_refused, right_bits, read_whole}
+use Rattle.volume.proofs.Opening.{reads_on, table_refused, right_bits, read_whole, read_booked}
 use Rattle.volume.proofs.open.read_map.Goals as goal
 
 pub returns-in_err-master-clause-met : goal.returns-in_err-master-clause-met
@@ -103,6 +103,17 @@ returns-clause-held g c h =
     let booked : IsRightFor s.size s.contents reached c.book_map.new.table = right_bits s.size s.contents reached c.in_ok-table.table c.book_map.new.table bits right in
     (map_found s.size s.contents first master directories (digit_at reached) read, map_held s.size s.contents first master directories (digit_at reached) read reached c.book_map.new.table (λ k. refl) only booked)
 
+pub returns-clause-booked : goal.returns-clause-booked
+returns-clause-booked g c =
+    let s = g.D.Disk.state c.args.disk.now in
+    let then = g.D.Disk.state c.read_tree.new.disk in
+    let sizes : then.size ≡ s.size = c.read_tree.ensures.same.size ∙ c.read_home.ensures.same.size in
+    let master = c.in_ok-master.master in
+    let directories = c.in_ok-master.directories in
+    let booked : c.book_map.new.table ≡ record c.in_ok-table.table { booked = cost_of_known (viewed master_view master) (map known_directory directories.items) } =
+        c.book_map.ensures ∙ (λ i. record c.in_ok-table.table { booked = cost_of_known (viewed master_view master) (map known_directory (c.deref.ensures.value i)) }) in
+    read_booked s.size then.size (record { master = viewed master_view master; directories = map known_directory directories.items; table = c.book_map.new.table }) c.in_ok-table.table sizes booked c.in_ok-table.ensures.unheld
+
 pub returns-clause-whole : goal.returns-clause-whole
 returns-clause-whole g c =
     let s = g.D.Disk.state c.args.disk.now in
@@ -118,4 +129,4 @@ returns-clause-whole g c =
         c.book_map.ensures ∙ (λ i. record c.in_ok-table.table { booked = cost_of_known (viewed master_view master) (map known_directory (c.deref.ensures.value i)) }) in
     read_whole s.size now.size then.size (record { master = viewed master_view master; directories = map known_directory directories.items; table = c.book_map.new.table }) c.in_ok-table.table c.read_tree.new.reached size sizes
     c.in_ok-first.ensures.volume c.in_ok-master.ensures.chain c.in_ok-master.ensures.inside aligned c.in_ok-master.ensures.whole booked
-    c.in_ok-table.ensures.size c.in_ok-table.ensures.unheld c.in_ok-table.ensures.unchanged c.in_ok-table.ensures.wanted c.in_ok-master.ensures.marked
+    c.in_ok-table.ensures.size c.in_ok-table.ensures.unchanged c.in_ok-table.ensures.wanted c.in_ok-master.ensures.marked

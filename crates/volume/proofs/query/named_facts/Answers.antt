@@ -1,37 +1,44 @@
-use Rattle.std.proofs.Common.{◌≡◌, length, map, slice_get, Some, refl, ap, ◌∙◌, arith}
+use Rattle.std.proofs.Common.{◌≡◌, ℕ, ◌<◌, length, map, slice_get, Some, option_copied, refl, sym, ap, ◌∙◌, arith}
 use Rattle.std.proofs.lemmas.List.{length-map}
-use Rattle.volume.specs.Cores.{known_version, file_view}
+use Rattle.volume.specs.declared.live.LiveVersion.{LiveVersion}
+use Rattle.volume.specs.Cores.{file_view}
 use Rattle.volume.specs.Known.{IsWholeVersion}
-use Rattle.volume.proofs.Answering.{viewed_there, all_at_place}
-use Rattle.volume.proofs.Costing.{few_blocks}
+use Rattle.volume.specs.Live.{slot, as_known}
+use Rattle.volume.specs.LiveCores.{live_directory}
+use Rattle.meaning.proofs.MapLaws.{some_none, some_same}
+use Rattle.volume.proofs.LiveLookups.{as_many, kept_at, standing_at}
 use Rattle.volume.proofs.query.named_facts.Goals as goal
 
-version_at : (c : goal.After-blocks-2) → slice_get (map known_version c.args.directory.now.versions.items) c.in-Some.i ≡ Some (known_version c.index-stored.result.now)
-version_at c =
-    let within = c.in-Some.ensures.found.1.within in
+pub index-requires : goal.index-requires
+index-requires c =
+    let many = as_many c.args.versions.now.slots (map file_view c.args.directory.now.chain.entries) c.args.directory.now.keys.items c.requires.keyed in
     let same = length-map c.args.directory.now.chain.entries file_view in
-    let aligned = c.requires.aligned in
-    viewed_there known_version c.args.directory.now.versions.items c.in-Some.i c.index-stored.result.now c.index-stored.result.now (omega arith) c.index-stored.ensures
-
-version_whole : (c : goal.After-blocks-2) → IsWholeVersion (known_version c.index-stored.result.now)
-version_whole c = all_at_place IsWholeVersion (map known_version c.args.directory.now.versions.items) c.in-Some.i (known_version c.index-stored.result.now) c.requires.whole (version_at c)
-
-pub overflow_cast-result : goal.overflow_cast-result
-overflow_cast-result c =
-    let few = few_blocks (known_version c.index-stored.result.now) (version_whole c) in
-    let same = ap length c.blocks-2.ensures in
+    let within = c.in-Some.ensures.found.1.within in
     omega arith
+
+pub unreachable-requires : goal.unreachable-requires
+unreachable-requires c =
+    let same = length-map c.args.directory.now.chain.entries file_view in
+    let within = c.in-Some.ensures.found.1.within in
+    let there = kept_at c.args.versions.now.slots (map file_view c.args.directory.now.chain.entries) c.args.directory.now.keys.items c.in-Some.i c.index.result.now c.index.result.now c.requires.keyed (omega arith) c.index.ensures in
+    let none = c.in_default-get.is in some_none (sym there.1 ∙ sym c.get.ensures ∙ ap option_copied none)
 
 pub returns-clause-found : goal.returns-clause-found
 returns-clause-found c =
+    let same = length-map c.args.directory.now.chain.entries file_view in
+    let within = c.in-Some.ensures.found.1.within in
+    let there = kept_at c.args.versions.now.slots (map file_view c.args.directory.now.chain.entries) c.args.directory.now.keys.items c.in-Some.i c.index.result.now c.index.result.now c.requires.keyed (omega arith) c.index.ensures in
     let at = c.in-Some.ensures.found in
-    let whole = version_whole c in
+    let live = c.in-Some-get.live.now in
+    let is : slot c.args.versions.now.slots c.index.result.now ≡ Some live = sym c.get.ensures ∙ ap option_copied c.in-Some-get.is in
+    let is_live : there.0 ≡ live = some_same (sym there.1 ∙ is) in
+    let whole : IsWholeVersion (as_known live) = standing_at (λ v. IsWholeVersion (as_known v)) c.args.versions.now.slots c.index.result.now live c.requires.standing is in
     record {
       place = c.in-Some.i;
       prime = at.0;
       at = at.1;
-      version = known_version c.index-stored.result.now;
-      version_at = version_at c;
+      version = as_known live;
+      version_at = there.2 ∙ ap (λ v. Some (as_known v)) is_live;
       protection = refl;
       mode = refl;
       moment = refl;

@@ -1,6 +1,7 @@
 use Rattle.std.proofs.Common.{◌≡◌, Ok, Err, Some, get_or, refl, sym, ap, ◌∙◌}
 use Rattle.std.proofs.lemmas.Result.{err_from_is_err_and}
-use Rattle.volume.specs.Cores.{known_of, master_view}
+use Rattle.volume.specs.Cores.{master_view}
+use Rattle.volume.specs.LiveCores.{core_of, live_directory}
 use Rattle.volume.specs.Queries.{protection_answer}
 use Rattle.volume.proofs.Answering.{rest_holds, directory_none, directory_protection, viewed_get}
 use Rattle.volume.proofs.map.Volume.directory.Goals as goal
@@ -8,8 +9,9 @@ use Rattle.volume.proofs.map.Volume.directory.Goals as goal
 pub returns-in_err-i-clause-value : goal.returns-in_err-i-clause-value
 returns-in_err-i-clause-value g c honest alive files rest =
     let s = g.D.Disk.state c.args.self.now.disk in
-    let k = known_of c.args.self.now.map in
-    let holds = rest_holds s k c.args.self.now.failed c.requires.sound honest alive files rest in
+    let core = core_of c.args.self.now.map in
+    let k = core.known in
+    let holds = rest_holds s core c.args.self.now.failed c.requires.sound honest alive files rest in
     let none = directory_none s k files holds c.args.ppn (c.in_err-i.ensures.none refl) in
     let p = err_from_is_err_and c.from_residual.result c.from_residual.ensures.1 in
     p.1 ∙ ap Err (p.2 ∙ c.in_err-i.ensures.only) ∙ sym (ap protection_answer none)
@@ -17,8 +19,9 @@ returns-in_err-i-clause-value g c honest alive files rest =
 pub returns-clause-value : goal.returns-clause-value
 returns-clause-value g c honest alive files rest =
     let s = g.D.Disk.state c.args.self.now.disk in
-    let k = known_of c.args.self.now.map in
-    let holds = rest_holds s k c.args.self.now.failed c.requires.sound honest alive files rest in
+    let core = core_of c.args.self.now.map in
+    let k = core.known in
+    let holds = rest_holds s core c.args.self.now.failed c.requires.sound honest alive files rest in
     let at = c.in_ok-i.ensures.found in
     let i = c.in_ok-i.i in
     let entry = get_or c.args.self.now.map.master.entries i c.index-entries-i.result in

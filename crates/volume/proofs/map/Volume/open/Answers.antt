@@ -1,10 +1,23 @@
-use Rattle.std.proofs.Common.{sym, subst}
+use Rattle.std.proofs.Common.{◌≡◌, ⊎_elim, Err, sym, subst}
 use Rattle.volume.specs.Cores.{known_of}
-use Rattle.volume.specs.Known.{IsWholeMap}
+use Rattle.volume.specs.Known.{IsWholeMap, IsBooked}
+use Rattle.volume.specs.LiveCores.{core_of}
+use Rattle.volume.specs.Rest.{IsAtRest}
+use Rattle.volume.specs.declared.error.VolumeError.TheVariants.{Device}
+use Rattle.volume.proofs.LiveOpening.{kept_whole}
 use Rattle.volume.proofs.map.Volume.open.Goals as goal
 
-pub returns-in-Ok-clause-sound : goal.returns-in-Ok-clause-sound
-returns-in-Ok-clause-sound g c = record {
-  whole = subst (λ size. IsWholeMap size (known_of c.in-Ok.map)) (sym c.read_volume.ensures.same.size) c.in-Ok.ensures.whole;
-  rest = λ h serves. c.in-Ok.ensures.rest (c.read_volume.ensures.same.was_honest h);
-}
+pub returns-in-Ok-keep-clause-sound : goal.returns-in-Ok-keep-clause-sound
+returns-in-Ok-keep-clause-sound g c =
+    let s = g.D.Disk.state c.read_volume.new.disk in
+    let size = sym c.read_volume.ensures.same.size in
+    let k = known_of c.in-Ok.map in
+    let kept = core_of c.in-Ok-keep.map in
+    record {
+      whole = kept_whole s.size k kept (subst (λ n. IsWholeMap n k) size c.in-Ok.ensures.whole) (subst (λ n. IsBooked n k) size c.in-Ok.ensures.booked) c.in-Ok-keep.ensures.known c.in-Ok-keep.ensures.keyed c.in-Ok-keep.ensures.read;
+      rest = λ h serves. subst (IsAtRest s) (sym c.in-Ok-keep.ensures.known) (c.in-Ok.ensures.rest (c.read_volume.ensures.same.was_honest h));
+    }
+
+pub returns-in-Ok-keep-clause-synced : goal.returns-in-Ok-keep-clause-synced
+returns-in-Ok-keep-clause-synced g c h =
+    ⊎_elim (λ device. absurd (let is : c.read_volume.result ≡ Err Device = device in let ok = c.in-Ok.is in cc)) (λ from. from) (c.read_volume.ensures.synced h)

@@ -1,0 +1,48 @@
+use Rattle.std.proofs.Common.{◌≡◌, [], ◌∷◌, ◌++◌, length, sym, ◌∙◌, IfSome, rules}
+use Rattle.std.proofs.lemmas.Iterator.Adapters.{YieldsList-from_vec}
+use Rattle.std.proofs.lemmas.Iterator.Consumers.{YieldsList-turn}
+use Rattle.std.proofs.lemmas.List.{length_push, length-map}
+use Rattle.volume.specs.Cores.{file_view, known_version, known_directory}
+use Rattle.volume.specs.Known.{IsWholeDirectory}
+use Rattle.volume.specs.Live.{IsFirstRead}
+use Rattle.volume.proofs.Lookups.{viewed_at}
+use Rattle.volume.proofs.Keeping.{next_directory_keyed, next_directory_known, all_slots}
+use Rattle.volume.proofs.live.keep.Goals as goal
+
+pub keep_directory-requires-clause-aligned : goal.keep_directory-requires-clause-aligned
+keep_directory-requires-clause-aligned c =
+    let stored = c.args.map.directories.items in
+    let d = c.in-Some.directory in
+    let gives = c.into_iter-directory-iterator.ensures.into_iter_gives in
+    let turn = YieldsList-turn (YieldsList-from_vec stored gives.0 (gives.1 ∙ c.args.map.directories.ok.0)) c.loop-directory.yielded _ c.loop-directory.yielded_by _ c.next.new.self d c.in-Some.is c.next.ensures.steps in
+    let whole = viewed_at known_directory stored (length c.loop-directory.yielded) d turn.0 turn.1 (IsWholeDirectory c.requires.whole.0) c.requires.whole.1.each in
+    sym (length-map d.versions.items known_version) ∙ whole.aligned ∙ length-map d.chain.entries file_view
+
+pub keep_directory-requires-clause-whole : goal.keep_directory-requires-clause-whole
+keep_directory-requires-clause-whole c =
+    let stored = c.args.map.directories.items in
+    let d = c.in-Some.directory in
+    let gives = c.into_iter-directory-iterator.ensures.into_iter_gives in
+    let turn = YieldsList-turn (YieldsList-from_vec stored gives.0 (gives.1 ∙ c.args.map.directories.ok.0)) c.loop-directory.yielded _ c.loop-directory.yielded_by _ c.next.new.self d c.in-Some.is c.next.ensures.steps in
+    (viewed_at known_directory stored (length c.loop-directory.yielded) d turn.0 turn.1 (IsWholeDirectory c.requires.whole.0) c.requires.whole.1.each).versions
+
+pub loop-directory-preserved : goal.loop-directory-preserved
+loop-directory-preserved c =
+    let stored = c.args.map.directories.items in
+    let i = length c.loop-directory.yielded in
+    let d = c.in-Some.directory in
+    let gives = c.into_iter-directory-iterator.ensures.into_iter_gives in
+    let turn = YieldsList-turn (YieldsList-from_vec stored gives.0 (gives.1 ∙ c.args.map.directories.ok.0)) c.loop-directory.yielded _ c.loop-directory.yielded_by _ c.next.new.self d c.in-Some.is c.next.ensures.steps in
+    let more = length_push c.loop-directory.yielded d in
+    let l = c.in_ok-live.live in
+    let so_far = c.loop-directory.invariant in
+    let kept = c.in_ok-live.ensures in
+    let pushed : c.push.new.self.items ≡ c.loop-directory.directories.items ++ l ∷ [] = search rules in
+    record {
+      read = kept.read;
+      keyed = next_directory_keyed stored i _ d more turn.0 turn.1 _ _ kept.stay _ _ l pushed so_far.keyed kept.keyed;
+      known = next_directory_known stored i _ d more turn.0 turn.1 _ _ kept.stay _ _ l pushed so_far.keyed kept.known so_far.known;
+    }
+
+pub returns-clause-read : goal.returns-clause-read
+returns-clause-read c = all_slots (λ o. IfSome o IsFirstRead) _ c.loop-directory.invariant.read

@@ -1,0 +1,15 @@
+use Rattle.std.proofs.Common.{◌≡◌, ℕ, Some, map, filter_map, length, take, IfSome}
+use Rattle.std.specs.List.{AllZip}
+use Rattle.volume.specs.Cores.{file_view, known_version}
+use Rattle.volume.specs.Live.{IsCurrent, IsFirstRead, slot}
+use Rattle.volume.specs.LiveCores.{known_at}
+use Rattle.volume.specs.declared.live.LiveVersion.{LiveVersion}
+use Rattle.volume.proofs.live.keep_versions.Given as goal
+
+abbrev pub invariant-loop-entry : goal.invariant-loop-entry
+invariant-loop-entry l = record {
+  stay : (key : ℕ) (v : LiveVersion) → slot l.fn.versions.slots key ≡ Some v → slot l.versions.slots key ≡ Some v;
+  read : (key : ℕ) → IfSome (slot l.versions.slots key) IsFirstRead;
+  keyed : AllZip (λ e key. IsCurrent l.versions.slots key e.1) (map file_view (take (length l.yielded) l.fn.entries)) l.keys.items;
+  known : filter_map (known_at l.versions.slots) l.keys.items ≡ map known_version (take (length l.yielded) l.fn.stored.items);
+}

@@ -1,0 +1,23 @@
+-- What a volume keeps in core, as values.
+use Rattle.std.specs.Prelude.{ℕ, List, Option, map, filter_map, option_map}
+use Rattle.directory.specs.Chains.{viewed}
+use Rattle.volume.specs.Cores.{file_view, master_view}
+use Rattle.volume.specs.Known.{KnownVersion, KnownDirectory}
+use Rattle.volume.specs.Live.{VolumeCore, slot, as_known}
+use Rattle.volume.specs.declared.live.LiveVersion.{LiveVersion}
+use Rattle.volume.specs.declared.live.LiveDirectory.{LiveDirectory}
+use Rattle.volume.specs.declared.live.LiveMap.{LiveMap}
+
+-- what is known of the version under a key
+abbrev pub known_at : List (Option LiveVersion) → ℕ → Option KnownVersion
+known_at live key = option_map as_known (slot live key)
+
+abbrev pub live_directory : List (Option LiveVersion) → LiveDirectory → KnownDirectory
+live_directory live d = record { chain = viewed file_view d.chain; versions = filter_map (known_at live) d.keys.items }
+
+abbrev pub core_of : LiveMap → VolumeCore
+core_of m = record {
+  known = record { master = viewed master_view m.master; directories = map (live_directory m.versions.slots) m.directories.items; table = m.table };
+  keys = map (λ d. d.keys.items) m.directories.items;
+  live = m.versions.slots;
+}
