@@ -117,9 +117,14 @@ fn v1_is_accepted(rt: HostRuntime) -> Result<(), Fail> {
         panic!(rt; "another number of directories");
     };
     assert!(rt; directory.chain.blocks() == [16].as_slice());
-    let [stored] = directory.versions.as_slice() else {
+    let [key] = directory.keys.as_slice() else {
         panic!(rt; "another number of files");
     };
+    let Some(stored) = volume.map.versions.get(*key) else {
+        panic!(rt; "no version");
+    };
+    assert_eq!(rt; stored.at, 17);
+    assert!(rt; stored.is_current && stored.readers == 0);
     assert_eq!(rt; stored.version.length(), 2);
     assert!(rt; stored.version.blocks() == [18].as_slice());
     assert_eq!(rt; stored.prime.protection, 0o057);
