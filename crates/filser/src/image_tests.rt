@@ -26,7 +26,7 @@ const FRESH: [(usize, usize, u64); 13] = [
 
 /// The same of a volume with the directory [10,20] and one file in it, FOO.TXT, protection 057, of 4-Jan-1975,
 /// with the words `HELLO`, carriage return and line feed.
-const V1: [(usize, usize, u64); 31] = [
+pub(crate) const V1: [(usize, usize, u64); 31] = [
     (1, 0, 0o465154634562),
     (1, 1, 1),
     (1, 2, 0o100),
@@ -61,14 +61,14 @@ const V1: [(usize, usize, u64); 31] = [
 ];
 
 /// Puts a word (block, place and number) into the bytes of an image.
-fn put(rt: &impl Abort, image: &mut [u8], (block, place, word): (usize, usize, u64)) {
+pub(crate) fn put(rt: &impl Abort, image: &mut [u8], (block, place, word): (usize, usize, u64)) {
     assert!(rt; block < 64 && place < 128 && image.len() == 65536);
     let at = 1024 * block + 8 * place;
     image[at..at + 8].copy_from_slice(&word.to_be_bytes());
 }
 
 /// The bytes of an image of 64 blocks with these words.
-fn image_of(
+pub(crate) fn image_of(
     rt: &impl Abort,
     alloc: Global,
     words: &[(usize, usize, u64)],
@@ -80,9 +80,11 @@ fn image_of(
     Ok(bytes)
 }
 
-/// A run with these words over this input prints this, and has this status; nothing goes to the standard error.
-fn expect<F: Files<File = File> + Abort>(
-    rt: &F,
+/// A run with these words over this input and these files prints this, and has this status; nothing goes to
+/// the standard error.
+pub(crate) fn expect_on<T: Abort, F: Files<File = File>>(
+    rt: &T,
+    files: &F,
     alloc: Global,
     words: &[&str],
     input: &str,
@@ -92,10 +94,40 @@ fn expect<F: Files<File = File> + Abort>(
     let mut reader = input.as_bytes();
     let mut writer = Vec::new(alloc);
     let mut errors = Vec::new(alloc);
-    let status = work(rt, alloc, words, &mut reader, &mut writer, &mut errors);
+    let status = work(files, alloc, words, &mut reader, &mut writer, &mut errors);
     assert_eq!(rt; status, code);
     assert!(rt; writer.as_slice() == output.as_bytes());
     assert!(rt; errors.is_empty());
+}
+
+/// The same over the host's files.
+fn expect<F: Files<File = File> + Abort>(
+    rt: &F,
+    alloc: Global,
+    words: &[&str],
+    input: &str,
+    output: &str,
+    code: u8,
+) {
+    expect_on(rt, rt, alloc, words, input, output, code);
+}
+
+/// The same of a run on the image at a path.
+pub(crate) fn expect_run<F: Files<File = File> + Alloc<A = Global> + Abort>(
+    rt: &F,
+    path: &str,
+    input: &str,
+    output: &str,
+    code: u8,
+) {
+    expect(
+        rt,
+        rt.alloc(),
+        &["filser", "run", path],
+        input,
+        output,
+        code,
+    );
 }
 
 #[test]
@@ -106,35 +138,28 @@ fn an_image_is_made(rt: HostRuntime) -> Result<(), Fail> {
     expect(&rt, rt.alloc(), &["filser", "init", path, "64"], "", "", 0);
     let wanted = image_of(&rt, rt.alloc(), &FRESH)?;
     assert!(rt; fs::read(&rt, path)?.as_slice() == wanted.as_slice());
-    expect(
-        &rt,
-        rt.alloc(),
-        &["filser", "init", path, "128"],
-        "",
-        "?Image exists\n",
-        3,
-    );
-    assert!(rt; fs::read(&rt, path)?.as_slice() == wanted.as_slice());
-    assert!(rt; make_image(&rt, path, 64) == Err(Refusal::Exists));
-    expect(
-        &rt,
-        rt.alloc(),
-        &["filser", "init", "filser_made/none/v.img", "64"],
-        "",
-        "?Device fault\n",
-        4,
-    );
     let lines = "LOGIN [10,20]\nDIRECTORY\n";
-    expect(
-        &rt,
-        rt.alloc(),
-        &["filser", "run", path],
-        lines,
-        "Job 1 [10,20]\n?No such directory\n",
-        1,
-    );
-    expect(&rt, rt.alloc(), &["filser", "run", path], "", "", 0);
+    expect_run(&rt, path, lines, "Job 1 [10,20]\n?No such directory\n", 1);
+    expect_run(&rt, path, "", "", 0);
     fs::remove_dir_all(&rt, "filser_made")?;
+    Ok(())
+}
+
+/// A new image gets no name that is taken, and none in a folder that isn't there.
+#[test]
+fn names_where_no_image_is_made(rt: HostRuntime) -> Result<(), Fail> {
+    let _ = fs::remove_dir_all(&rt, "filser_taken");
+    fs::create_dir(&rt, "filser_taken")?;
+    let path = "filser_taken/v.img";
+    let image = image_of(&rt, rt.alloc(), &FRESH)?;
+    fs::write(&rt, path, image.as_slice())?;
+    let init = ["filser", "init", path, "128"];
+    expect(&rt, rt.alloc(), &init, "", "?Image exists\n", 3);
+    assert!(rt; fs::read(&rt, path)?.as_slice() == image.as_slice());
+    assert!(rt; make_image(&rt, path, 64) == Err(Refusal::Exists));
+    let init = ["filser", "init", "filser_taken/none/v.img", "64"];
+    expect(&rt, rt.alloc(), &init, "", "?Device fault\n", 4);
+    fs::remove_dir_all(&rt, "filser_taken")?;
     Ok(())
 }
 
@@ -146,64 +171,46 @@ fn an_image_is_served(rt: HostRuntime) -> Result<(), Fail> {
     let path = "filser_served/v1.img";
     let image = image_of(&rt, rt.alloc(), &V1)?;
     fs::write(&rt, path, image.as_slice())?;
-    let run = ["filser", "run", path];
     let listing = "\
 Job 1 [10,20]
 FOO    TXT     1  <057>   4-Jan-1975
 Total 1 blocks in 1 files [10,20]
 ";
-    expect(
-        &rt,
-        rt.alloc(),
-        &run,
-        "LOGIN [10,20]\nDIRECTORY\n",
-        listing,
-        0,
-    );
-    expect(&rt, rt.alloc(), &run, "DIRECTORY\n", "?Not logged in\n", 1);
-    expect(
-        &rt,
-        rt.alloc(),
-        &run,
-        "LOGIN [0,20]\n",
-        "?Command error\n",
-        1,
-    );
+    expect_run(&rt, path, "LOGIN [10,20]\nDIRECTORY\n", listing, 0);
+    expect_run(&rt, path, "DIRECTORY\n", "?Not logged in\n", 1);
+    expect_run(&rt, path, "LOGIN [0,20]\n", "?Command error\n", 1);
     let dated = ["filser", "run", path, "--date", "4095", "--minute", "605"];
-    expect(
-        &rt,
-        rt.alloc(),
-        &dated,
-        "login [10,20]\ndirectory\n",
-        listing,
-        0,
-    );
+    let lines = "login [10,20]\ndirectory\n";
+    expect(&rt, rt.alloc(), &dated, lines, listing, 0);
     assert!(rt; fs::read(&rt, path)?.as_slice() == image.as_slice());
     fs::remove_dir_all(&rt, "filser_served")?;
     Ok(())
 }
 
-/// An image of these words, with one of them replaced, is refused with this text.
+/// A run on a file of these bytes is refused with this text, and leaves them as they are.
 fn expect_refused<F: Files<File = File> + Alloc<A = Global> + Abort>(
     rt: &F,
     path: &str,
-    spoiled: (usize, usize, u64),
-    table: u64,
+    image: &[u8],
     output: &str,
 ) -> io::Result<()> {
-    let mut image = image_of(rt, rt.alloc(), &V1)?;
-    put(rt, image.as_mut_slice(), (14, 0, table));
-    put(rt, image.as_mut_slice(), spoiled);
-    fs::write(rt, path, image.as_slice())?;
-    expect(
-        rt,
-        rt.alloc(),
-        &["filser", "run", path],
-        "LOGIN [10,20]\n",
-        output,
-        3,
-    );
+    fs::write(rt, path, image)?;
+    expect_run(rt, path, "LOGIN [10,20]\n", output, 3);
+    assert!(rt; fs::read(rt, path)?.as_slice() == image);
     Ok(())
+}
+
+/// V1 with these words in it.
+fn spoiled(
+    rt: &impl Abort,
+    alloc: Global,
+    words: &[(usize, usize, u64)],
+) -> Result<Vec<u8>, AllocError> {
+    let mut image = image_of(rt, alloc, &V1)?;
+    for &word in words {
+        put(rt, image.as_mut_slice(), word);
+    }
+    Ok(image)
 }
 
 #[test]
@@ -211,155 +218,87 @@ fn spoiled_images(rt: HostRuntime) -> Result<(), Fail> {
     let _ = fs::remove_dir_all(&rt, "filser_spoiled");
     fs::create_dir(&rt, "filser_spoiled")?;
     let path = "filser_spoiled/v1.img";
-    let table = 0o777777400000;
     let damaged = 1 << 36;
-    expect_refused(
-        &rt,
-        path,
-        (14, 0, 0o777777600000),
-        table,
-        "?Bad table block 14\n",
-    )?;
-    expect_refused(
-        &rt,
-        path,
-        (17, 16, 0o000001000020),
-        0o777777000000,
-        "?Block 16 reached twice\n",
-    )?;
-    expect_refused(
-        &rt,
-        path,
-        (15, 0, damaged),
-        table,
-        "?Bad directory block 15\n",
-    )?;
-    expect_refused(
-        &rt,
-        path,
-        (17, 0, damaged),
-        table,
-        "?Bad retrieval block 17\n",
-    )?;
-    expect_refused(&rt, path, (18, 5, damaged), table, "?Bad data block 18\n")?;
+    let image = spoiled(&rt, rt.alloc(), &[(14, 0, 0o777777600000)])?;
+    expect_refused(&rt, path, &image, "?Bad table block 14\n")?;
+    let twice = [(14, 0, 0o777777000000), (17, 16, 0o000001000020)];
+    let image = spoiled(&rt, rt.alloc(), &twice)?;
+    expect_refused(&rt, path, &image, "?Block 16 reached twice\n")?;
+    let image = spoiled(&rt, rt.alloc(), &[(15, 0, damaged)])?;
+    expect_refused(&rt, path, &image, "?Bad directory block 15\n")?;
+    let image = spoiled(&rt, rt.alloc(), &[(17, 0, damaged)])?;
+    expect_refused(&rt, path, &image, "?Bad retrieval block 17\n")?;
+    let image = spoiled(&rt, rt.alloc(), &[(18, 5, damaged)])?;
+    expect_refused(&rt, path, &image, "?Bad data block 18\n")?;
+    let image = spoiled(&rt, rt.alloc(), &[(1, 2, 0o101), (2, 2, 0o101)])?;
+    expect_refused(&rt, path, &image, "?Bad home blocks\n")?;
     fs::remove_dir_all(&rt, "filser_spoiled")?;
     Ok(())
 }
 
-/// Bytes that are no image, and files that can't be opened.
+/// A file that isn't there, files that are no image, and a gate that is open over no log.
 #[test]
 fn files_that_are_no_images(rt: HostRuntime) -> Result<(), Fail> {
     let _ = fs::remove_dir_all(&rt, "filser_others");
     fs::create_dir(&rt, "filser_others")?;
     let path = "filser_others/v.img";
-    let run = ["filser", "run", path];
-    expect(
-        &rt,
-        rt.alloc(),
-        &run,
-        "LOGIN [10,20]\n",
-        "?Device fault\n",
-        4,
-    );
-    fs::write(&rt, path, "")?;
-    expect(
-        &rt,
-        rt.alloc(),
-        &run,
-        "LOGIN [10,20]\n",
-        "?Not a volume\n",
-        3,
-    );
-    fs::write(&rt, path, "FILSER")?;
-    expect(
-        &rt,
-        rt.alloc(),
-        &run,
-        "LOGIN [10,20]\n",
-        "?Not a volume\n",
-        3,
-    );
-    let mut image = image_of(&rt, rt.alloc(), &V1)?;
-    put(&rt, image.as_mut_slice(), (1, 2, 0o101));
-    put(&rt, image.as_mut_slice(), (2, 2, 0o101));
-    fs::write(&rt, path, image.as_slice())?;
-    expect(
-        &rt,
-        rt.alloc(),
-        &run,
-        "LOGIN [10,20]\n",
-        "?Bad home blocks\n",
-        3,
-    );
+    expect_run(&rt, path, "LOGIN [10,20]\n", "?Device fault\n", 4);
+    expect_refused(&rt, path, b"", "?Not a volume\n")?;
+    expect_refused(&rt, path, b"FILSER", "?Not a volume\n")?;
     let mut image = image_of(&rt, rt.alloc(), &V1)?;
     for place in 0..128 {
         put(&rt, image.as_mut_slice(), (3, place, 0o252525252525));
     }
-    fs::write(&rt, path, image.as_slice())?;
-    expect(&rt, rt.alloc(), &run, "LOGIN [10,20]\n", "?Bad log\n", 3);
+    expect_refused(&rt, path, &image, "?Bad log\n")?;
     fs::remove_dir_all(&rt, "filser_others")?;
     Ok(())
 }
 
 #[test]
 fn a_fresh_volume(rt: HostRuntime) {
+    let words = ["filser"];
     expect(
         &rt,
         rt.alloc(),
-        &["filser"],
+        &words,
         "LOGIN [10,20]\n",
         "Job 1 [10,20]\n",
         0,
     );
-    expect(&rt, rt.alloc(), &["filser"], "", "", 0);
-    expect(&rt, rt.alloc(), &["filser"], "FOO\n", "?Command error\n", 1);
+    expect(&rt, rt.alloc(), &words, "", "", 0);
+    expect(&rt, rt.alloc(), &words, "FOO\n", "?Command error\n", 1);
+}
+
+/// The status of a run with these words and no input, and what goes to its output and to the standard error.
+fn outcome<F: Files<File = File> + Alloc<A = Global>>(
+    rt: &F,
+    words: &[&str],
+) -> (u8, Vec<u8>, Vec<u8>) {
+    let alloc = rt.alloc();
+    let mut writer = Vec::new(alloc);
+    let mut errors = Vec::new(alloc);
+    let code = work(
+        rt,
+        alloc,
+        words,
+        &mut "".as_bytes(),
+        &mut writer,
+        &mut errors,
+    );
+    (code, writer, errors)
 }
 
 /// What goes to the standard error, and what is asked to be seen.
 #[test]
-fn arguments(rt: HostRuntime) -> Result<(), Fail> {
-    let alloc = rt.alloc();
-    let mut writer = Vec::new(alloc);
-    let mut errors = Vec::new(alloc);
-    let words = ["filser", "init", "filser_none.img", "63"];
-    assert_eq!(rt;
-        work(
-            &rt,
-            alloc,
-            &words,
-            &mut "".as_bytes(),
-            &mut writer,
-            &mut errors
-        ),
-        2
-    );
-    assert!(rt; writer.is_empty() && !errors.is_empty());
+fn arguments(rt: HostRuntime) {
+    let (code, shown, told) = outcome(&rt, &["filser", "init", "filser_none.img", "63"]);
+    assert_eq!(rt; code, 2);
+    assert!(rt; shown.is_empty() && !told.is_empty());
     assert!(rt; fs::read(&rt, "filser_none.img").is_err());
-    let mut errors = Vec::new(alloc);
-    assert_eq!(rt;
-        work(
-            &rt,
-            alloc,
-            &["filser", "--version"],
-            &mut "".as_bytes(),
-            &mut writer,
-            &mut errors
-        ),
-        0
-    );
-    assert!(rt; writer.as_slice() == "filser 0.1.0\n".as_bytes() && errors.is_empty());
-    let mut writer = Vec::new(alloc);
-    assert_eq!(rt;
-        work(
-            &rt,
-            alloc,
-            &["filser", "help"],
-            &mut "".as_bytes(),
-            &mut writer,
-            &mut errors
-        ),
-        0
-    );
-    assert!(rt; !writer.is_empty() && errors.is_empty());
-    Ok(())
+    let (code, shown, told) = outcome(&rt, &["filser", "--version"]);
+    assert_eq!(rt; code, 0);
+    assert!(rt; shown.as_slice() == "filser 0.1.0\n".as_bytes() && told.is_empty());
+    let (code, shown, told) = outcome(&rt, &["filser", "help"]);
+    assert_eq!(rt; code, 0);
+    assert!(rt; !shown.is_empty() && told.is_empty());
 }

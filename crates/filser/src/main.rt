@@ -15,6 +15,8 @@
 
 mod asked;
 mod error;
+#[cfg(test)]
+mod host_tests;
 mod image;
 #[cfg(test)]
 mod image_tests;

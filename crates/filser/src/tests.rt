@@ -21,112 +21,54 @@ fn expect_usage(rt: &impl Abort, alloc: Global, words: &[&str], wanted: ErrorKin
 }
 
 #[test]
-fn words_that_ask_for_something(rt: HostRuntime) {
+fn words_that_make_a_volume(rt: HostRuntime) {
     let alloc = rt.alloc();
     expect(&rt, alloc, &["filser"], Request::Fresh);
-    expect(
-        &rt,
-        alloc,
-        &["filser", "init", "V.IMG", "64"],
-        Request::Init("V.IMG", 64),
-    );
-    expect(
-        &rt,
-        alloc,
-        &["filser", "init", "V.IMG", "131072"],
-        Request::Init("V.IMG", 131072),
-    );
-    expect(
-        &rt,
-        alloc,
-        &["filser", "init", "V.IMG", "0100"],
-        Request::Init("V.IMG", 100),
-    );
-    expect(
-        &rt,
-        alloc,
-        &["filser", "run", "V.IMG"],
-        Request::Run("V.IMG", 0, 0),
-    );
-    expect(
-        &rt,
-        alloc,
-        &["filser", "run", "V.IMG", "--date", "32767"],
-        Request::Run("V.IMG", 32767, 0),
-    );
-    expect(
-        &rt,
-        alloc,
-        &["filser", "run", "--minute=1439", "V.IMG"],
-        Request::Run("V.IMG", 0, 1439),
-    );
-    expect(
-        &rt,
-        alloc,
-        &[
-            "filser", "run", "--date", "4095", "--minute", "605", "V.IMG",
-        ],
-        Request::Run("V.IMG", 4095, 605),
-    );
+    for (number, blocks) in [("64", 64), ("131072", 131072), ("0100", 100)] {
+        let words = ["filser", "init", "V.IMG", number];
+        expect(&rt, alloc, &words, Request::Init("V.IMG", blocks));
+    }
 }
 
 #[test]
-fn words_that_are_refused(rt: HostRuntime) {
+fn words_that_serve_an_image(rt: HostRuntime) {
     let alloc = rt.alloc();
-    expect_usage(
-        &rt,
-        alloc,
-        &["filser", "init", "V.IMG", "63"],
-        ErrorKind::ValueValidation,
-    );
-    expect_usage(
-        &rt,
-        alloc,
-        &["filser", "init", "V.IMG", "131073"],
-        ErrorKind::ValueValidation,
-    );
-    expect_usage(
-        &rt,
-        alloc,
-        &["filser", "init", "V.IMG", "0x40"],
-        ErrorKind::ValueValidation,
-    );
-    expect_usage(
-        &rt,
-        alloc,
-        &["filser", "init", "V.IMG"],
-        ErrorKind::MissingRequiredArgument,
-    );
-    expect_usage(
-        &rt,
-        alloc,
-        &["filser", "run"],
-        ErrorKind::MissingRequiredArgument,
-    );
-    expect_usage(
-        &rt,
-        alloc,
-        &["filser", "run", "V.IMG", "--date", "32768"],
-        ErrorKind::ValueValidation,
-    );
-    expect_usage(
-        &rt,
-        alloc,
-        &["filser", "run", "V.IMG", "--minute", "1440"],
-        ErrorKind::ValueValidation,
-    );
-    expect_usage(
-        &rt,
-        alloc,
-        &["filser", "run", "V.IMG", "W.IMG"],
-        ErrorKind::UnknownArgument,
-    );
-    expect_usage(
-        &rt,
-        alloc,
-        &["filser", "format"],
-        ErrorKind::InvalidSubcommand,
-    );
+    let words = ["filser", "run", "V.IMG"];
+    expect(&rt, alloc, &words, Request::Run("V.IMG", 0, 0));
+    let words = ["filser", "run", "V.IMG", "--date", "32767"];
+    expect(&rt, alloc, &words, Request::Run("V.IMG", 32767, 0));
+    let words = ["filser", "run", "--minute=1439", "V.IMG"];
+    expect(&rt, alloc, &words, Request::Run("V.IMG", 0, 1439));
+    let words = [
+        "filser", "run", "--date", "4095", "--minute", "605", "V.IMG",
+    ];
+    expect(&rt, alloc, &words, Request::Run("V.IMG", 4095, 605));
+}
+
+#[test]
+fn numbers_out_of_range(rt: HostRuntime) {
+    let alloc = rt.alloc();
+    for number in ["63", "131073", "0x40"] {
+        let words = ["filser", "init", "V.IMG", number];
+        expect_usage(&rt, alloc, &words, ErrorKind::ValueValidation);
+    }
+    for (option, number) in [("--date", "32768"), ("--minute", "1440")] {
+        let words = ["filser", "run", "V.IMG", option, number];
+        expect_usage(&rt, alloc, &words, ErrorKind::ValueValidation);
+    }
+}
+
+#[test]
+fn words_that_no_command_takes(rt: HostRuntime) {
+    let alloc = rt.alloc();
+    let words = ["filser", "init", "V.IMG"];
+    expect_usage(&rt, alloc, &words, ErrorKind::MissingRequiredArgument);
+    let words = ["filser", "run"];
+    expect_usage(&rt, alloc, &words, ErrorKind::MissingRequiredArgument);
+    let words = ["filser", "run", "V.IMG", "W.IMG"];
+    expect_usage(&rt, alloc, &words, ErrorKind::UnknownArgument);
+    let words = ["filser", "format"];
+    expect_usage(&rt, alloc, &words, ErrorKind::InvalidSubcommand);
 }
 
 #[test]

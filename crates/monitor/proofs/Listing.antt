@@ -1,5 +1,5 @@
 -- What the monitor lists is what the machine lists.
-use Rattle.std.proofs.Common.{◌≡◌, ℕ, Bool, true, false, List, [], ◌∷◌, map, Option, Some, None, Result, Ok, Err, nat_cmp, refl, sym, ap, subst, ◌∙◌, ◌⊎◌, inl, inr}
+use Rattle.std.proofs.Common.{◌≡◌, ℕ, Bool, true, false, List, [], ◌∷◌, map, Option, Some, None, Result, Ok, Err, refl, sym, ap, ◌∙◌, ◌⊎◌, inr}
 use Rattle.std.specs.Prelude.{if◌then◌else◌, option_map}
 use Rattle.std.specs.Cmp.{nat_cmp_total}
 use Rattle.words36.specs.declared.names.FileName.{FileName}
@@ -9,7 +9,7 @@ use Rattle.meaning.specs.Files.{File, Directory, map_directory}
 use Rattle.meaning.specs.Published.{Version, without_serials}
 use Rattle.meaning.specs.Jobs.{Job, State, slot}
 use Rattle.meaning.specs.Rights.{directory_digit, may_look}
-use Rattle.meaning.specs.Runs.{Service, Serving, Broken, Lists, IsNoJob}
+use Rattle.meaning.specs.Runs.{Service, Serving, Broken, IsNoJob}
 use Rattle.meaning.specs.Sessions.{entry, list, list_for, listed}
 use Rattle.meaning.specs.declared.entry.Entry.{Entry}
 use Rattle.meaning.specs.declared.code.ErrorCode.TheVariants.{NoDirectory}
@@ -55,14 +55,11 @@ module _ (s : State) (jobs : List (Option Job)) (n owner : ℕ) (job : Job) (job
   shown = get-map_values nat_cmp_total (map_directory (λ (v : Version). v.file)) s.files owner
 
   -- the volume has no such directory
-  pub refused_as : (error : CallError) → Err error ≡ protection_answer (get (without_serials s.files) owner) → list s n owner ≡ Err (reply_of error)
-  refused_as error answer = by_directory (get s.files owner) refl
+  pub absent : (error : CallError) → Err error ≡ protection_answer (get (without_serials s.files) owner) → list s n owner ≡ Err (replies.Refused 1)
+  absent error answer = by_directory (get s.files owner) refl
     where
-      by_directory : (o : Option (Directory Version)) → get s.files owner ≡ o → list s n owner ≡ Err (reply_of error)
-      by_directory None none =
-          let is : Err error ≡ Err (Refused NoDirectory) = answer ∙ ap protection_answer (shown ∙ ap (option_map (map_directory (λ (v : Version). v.file))) none) in
-          let same : error ≡ Refused NoDirectory = cc is in
-          asked ∙ ap (listed job owner) none ∙ ap (λ e. Err (reply_of e)) (sym same)
+      by_directory : (o : Option (Directory Version)) → get s.files owner ≡ o → list s n owner ≡ Err (replies.Refused 1)
+      by_directory None none = asked ∙ ap (listed job owner) none
       by_directory (Some d) some =
           let is : Err error ≡ Ok d.protection = answer ∙ ap protection_answer (shown ∙ ap (option_map (map_directory (λ (v : Version). v.file))) some) in
           absurd (cc is)
@@ -118,7 +115,7 @@ module _ (s : State) (jobs : List (Option Job)) (n owner : ℕ) (job : Job) (job
     pub unlisted : (error : CallError) (reply : Reply) → may_look (directory_digit protection job.ppn owner) ≡ true → IsListRefusal error → reply ≡ reply_of error
         → (error ≡ Refused NoDirectory → get (without_serials s.files) owner ≡ None) → (error ≡ Failed → ⊥)
         → IsAnswer (Err reply) (list s n owner)
-    unlisted (Refused code) reply may only is absent serves = absurd (has_one (absent (ap Refused only)))
-    unlisted Device reply may only is absent serves = absurd only
-    unlisted NoMemory reply may only is absent serves = inr (ap Err is, there_is may)
-    unlisted Failed reply may only is absent serves = absurd (serves refl)
+    unlisted (Refused code) reply may only is none serves = absurd (has_one (none (ap Refused only)))
+    unlisted Device reply may only is none serves = absurd only
+    unlisted NoMemory reply may only is none serves = inr (ap Err is, there_is may)
+    unlisted Failed reply may only is none serves = absurd (serves refl)

@@ -6,7 +6,6 @@ use Rattle.std.specs.List.{AllByRecursion}
 use Rattle.words36.specs.declared.moment.Moment.{Moment}
 use Rattle.blockdisk.specs.Disk.{DiskState}
 use Rattle.meaning.specs.Jobs.{Job, State, slot, job_at, with_job}
-use Rattle.meaning.specs.Room.{Pack}
 use Rattle.meaning.specs.Runs.{Service, Serving, Answers}
 use Rattle.meaning.specs.Sessions.{resets}
 use Rattle.meaning.specs.Step.{step, on_job, of_job}

@@ -1,14 +1,14 @@
 -- What is booked while no channel is open: what the files cost, without their serials.
-use Rattle.std.proofs.Common.{◌≡◌, ℕ, zero, suc, ◌+◌, false, List, [], ◌∷◌, ◌++◌, length, map, flat_map, Option, Some, None, nat_cmp, refl, sym, ap, ◌∙◌, arith, append-nil}
+use Rattle.std.proofs.Common.{◌≡◌, ℕ, zero, suc, ◌+◌, List, [], ◌∷◌, ◌++◌, length, flat_map, Option, Some, None, refl, ap, ◌∙◌, arith, append-nil}
 use Rattle.std.specs.Prelude.{replicate, slice_set, ◌==◌, ◌&&◌, if◌then◌else◌}
 use Rattle.std.specs.List.{AllByRecursion}
 use Rattle.std.specs.Cmp.{nat_cmp_total}
 use Rattle.meaning.specs.Maps.{entries, values, size, total, sum_over, sum_entries}
-use Rattle.meaning.specs.Files.{File, Files, Directory, map_directory}
+use Rattle.meaning.specs.Files.{Files, Directory, map_directory}
 use Rattle.meaning.specs.Costs.{version_cost, directory_cost, cost_of_directory, cost_of_files}
 use Rattle.meaning.specs.Published.{Version, without_serials}
 use Rattle.meaning.specs.Jobs.{Job, Output, State, is_create, no_jobs}
-use Rattle.meaning.specs.Room.{outputs_of, outputs, held_by, held, current, has_serial, distinct_cost, pending_creations, booked}
+use Rattle.meaning.specs.Room.{outputs_of, outputs, held_by, held, current, distinct_cost, booked}
 use Rattle.meaning.specs.Runs.{AreDistinct}
 use Rattle.meaning.proofs.Names.{name_total}
 use Rattle.meaning.proofs.MapSums.{total-map, size-map_values, sum-map_values}

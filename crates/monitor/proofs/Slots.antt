@@ -1,5 +1,5 @@
 -- A job that is taken out of its slot, reset, and put back.
-use Rattle.std.proofs.Common.{◌≡◌, ℕ, zero, suc, List, [], ◌∷◌, Option, Some, None, refl, sym, ap, ◌∙◌, slice_set, get_or}
+use Rattle.std.proofs.Common.{◌≡◌, ℕ, zero, suc, List, [], ◌∷◌, Option, Some, refl, sym, ap, ◌∙◌, slice_set, get_or}
 use Rattle.meaning.specs.Cores.{first_free, rings_begin, with_right}
 use Rattle.meaning.specs.Jobs.{Job, slot, all_closed}
 use Rattle.meaning.proofs.SlotLaws.{none_some}

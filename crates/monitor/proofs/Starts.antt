@@ -1,5 +1,5 @@
 -- There is a state to start from, whatever the files: their versions are numbered, one after the other.
-use Rattle.std.proofs.Common.{◌≡◌, ◌<◌, ◌≤◌, ◌+◌, ◌&&◌, ℕ, Bool, true, false, T, List, [], ◌∷◌, ◌++◌, length, map, flat_map, nat_cmp, refl, sym, ap, subst, ◌∙◌, arith}
+use Rattle.std.proofs.Common.{◌≡◌, ◌<◌, ◌≤◌, ◌+◌, ◌&&◌, ℕ, false, T, List, [], ◌∷◌, ◌++◌, length, map, flat_map, refl, sym, ap, subst, ◌∙◌, arith}
 use Rattle.std.proofs.lemmas.Bool.Decides.{nat_tests}
 use Rattle.std.specs.Prelude.{◌==◌}
 use Rattle.std.specs.declared.cmp.Ordering.{Ordering}
@@ -9,9 +9,9 @@ use Rattle.std.specs.FinMap.Entries.{is_sorted, below_all}
 use Rattle.words36.specs.declared.names.FileName.{FileName}
 use Rattle.meaning.specs.Maps.{FinMap, entries, values, map_values, from_entries}
 use Rattle.meaning.specs.Files.{File, Files, Directory, map_directory}
-use Rattle.meaning.specs.Published.{Version, without_serials}
+use Rattle.meaning.specs.Published.{Version}
 use Rattle.meaning.specs.Jobs.{State, no_jobs}
-use Rattle.meaning.specs.Room.{current, has_serial}
+use Rattle.meaning.specs.Room.{has_serial}
 use Rattle.meaning.specs.Runs.{AreDistinct, IsStart}
 use Rattle.meaning.proofs.Names.{name_total}
 use Rattle.meaning.proofs.MapLaws.{entries_sorted, same_entries_map}

@@ -1,3 +1,4 @@
+pub mod Replies
 pub mod Resets
 pub mod States
 pub mod Serving

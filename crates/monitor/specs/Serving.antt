@@ -1,5 +1,5 @@
 -- How a monitor stands for a state of the file machine.
-use Rattle.std.specs.Prelude.{◌≡◌, ℕ, Bool, true, false, List, Option, None, Some}
+use Rattle.std.specs.Prelude.{◌≡◌, Bool, true, false, List, Option, None, Some}
 use Rattle.std.specs.List.{AllByRecursion}
 use Rattle.blockdisk.specs.Disk.{DiskState}
 use Rattle.meaning.specs.Jobs.{Job, State, all_closed}

@@ -1,6 +1,5 @@
 -- A monitor as a value: its disk, what it knows of it, whether it has failed, and the jobs.
-use Rattle.std.specs.Prelude.{Bool, List, Option, refl}
-use Rattle.std.specs.Coded.{Coded, code_by, coded×}
+use Rattle.std.specs.Prelude.{Bool, List, Option}
 use Rattle.meaning.specs.Jobs.{Job}
 use Rattle.volume.specs.Known.{Known}
 

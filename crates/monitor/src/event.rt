@@ -1,10 +1,12 @@
-ghost use Rattle.std.specs.Prelude.{◌≡◌, ◌⊎◌, ◌≤◌, true, false, Some, None, slice_set, slice_index};
-ghost use Rattle.meaning.specs.Jobs.{slot};
+ghost use Rattle.std.specs.Prelude.{◌≡◌, ◌⊎◌, ◌↔◌, ◌≤◌, true, false, Some, None, slice_set, slice_index, IsTrue};
+ghost use Rattle.meaning.specs.Jobs.{Job as JobRecord, slot};
 ghost use Rattle.meaning.specs.Runs.{Service, Answers};
 ghost use Rattle.meaning.specs.Sessions.{login_answer, new_job};
 ghost use Rattle.meaning.specs.declared.call.Call.TheVariants.{Reset};
 ghost use Rattle.meaning.specs.declared.call.Event.TheVariants.{Login, Call as Calls};
-ghost use Rattle.meaning.specs.declared.call.Reply.TheVariants.{Done, NoMemory};
+ghost use Rattle.meaning.specs.declared.call.Reply.TheVariants.{Done, Failed, NoMemory};
+ghost use Rattle.monitor.specs.Replies.{reset_answer};
+ghost use Rattle.monitor.specs.Resets.{reset_job};
 ghost use Rattle.monitor.specs.Serving.{pack_of, Serves};
 
 use crate::job::{Job, Jobs, LARGEST_JOB};
@@ -49,6 +51,10 @@ impl<D: Disk> Monitor<D> {
             → (new : Service) × Serves (D.state self.new.disk) self.new.failed self.new.jobs new
             × Answers (pack_of (D.state self.old.disk)) old (Login job ppn words) result new }
         ensures kept { self.new ≡ record self.old { jobs = self.new.jobs } }
+        ensures failed { result ≡ Failed ↔ IsTrue self.old.failed }
+        ensures value { self.old.failed ≡ false → (result ≡ login_answer job words) ⊎ ((result ≡ NoMemory) × (login_answer job words ≡ Done)) }
+        ensures done { result ≡ Done → self.new.jobs ≡ slice_set self.old.jobs job (Some (new_job ppn words)) }
+        ensures refused { (result ≡ Done → ⊥) → self.new.jobs ≡ self.old.jobs }
     {
         if self.volume.failed {
             return Reply::Failed;
@@ -66,6 +72,10 @@ impl<D: Disk> Monitor<D> {
             → (new : Service) × Serves (D.state self.new.disk) self.new.failed self.new.jobs new
             × Answers (pack_of (D.state self.old.disk)) old (Calls job Reset moment) result new }
         ensures kept { self.new ≡ record self.old { jobs = self.new.jobs } }
+        ensures failed { result ≡ Failed ↔ IsTrue self.old.failed }
+        ensures value { self.old.failed ≡ false → result ≡ reset_answer moment.date (slot self.old.jobs job) }
+        ensures done { result ≡ Done → (there : JobRecord) × (slot self.old.jobs job ≡ Some there) × (self.new.jobs ≡ slice_set self.old.jobs job (Some (reset_job there))) }
+        ensures refused { (result ≡ Done → ⊥) → self.new.jobs ≡ self.old.jobs }
     {
         if self.volume.failed {
             return Reply::Failed;

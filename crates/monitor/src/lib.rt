@@ -6,11 +6,13 @@
 //!    and nobody is logged in; else the refusal is that of `Volume::open`, with the disk handed back.
 //!    (`started`, `refused`)
 //! 3. `login` and `reset` answer as the machine's rows do, or want memory where the machine may, and leave
-//!    the state of that row. Neither touches the disk. (`answered`, `kept`)
+//!    the state of that row. Neither touches the disk. (`answered`, `kept`) On every disk their answers, and
+//!    the jobs that they leave, are functions of the jobs and of what was asked, but for want of memory.
+//!    (`value`, `done`, `refused`)
 //! 4. `list` gives the list of a directory that the machine gives, by name and then by extension.
-//!    (`listed`)
+//!    (`listed`) On every disk it is refused by few replies, and never by the device. (`nobody`, `only`)
 //! 5. `room` and `blocks` are the volume's. `finish` gives the disk back as it stands.
-//! 6. A monitor that has failed answers Failed to every event. (`answered`, `listed`)
+//! 6. A monitor that has failed answers Failed to every event, and no other does. (`failed`)
 //!
 //! The calls on channels aren't served yet: every channel of a job is closed.
 #![tactic(auto)]

@@ -1,9 +1,12 @@
-ghost use Rattle.std.specs.Prelude.{◌≡◌, List, Result};
+ghost use Rattle.std.specs.Prelude.{◌≡◌, ◌↔◌, false, List, None, Result, IfErr, IsErrOf, IsTrue};
+ghost use Rattle.meaning.specs.Jobs.{slot};
 ghost use Rattle.meaning.specs.Runs.{Service, Lists};
 ghost use Rattle.meaning.specs.declared.entry.Entry.{Entry};
 ghost use Rattle.meaning.specs.declared.call.Reply.{Reply};
+ghost use Rattle.meaning.specs.declared.call.Reply.TheVariants.{NoJob, Failed};
 ghost use Rattle.monitor.specs.Serving.{Serves};
 ghost use Rattle.monitor.specs.Lists.{IsListed, reply_of};
+ghost use Rattle.monitor.specs.Replies.{IsListRefusal};
 
 use crate::monitor::Monitor;
 use blockdisk::Disk;
@@ -36,6 +39,9 @@ impl<D: Disk> Monitor<D> {
     pub fn list(&self, alloc: Global, job: u32, ppn: Ppn) -> Result<Vec<Entry>, Reply>
         ensures listed { (D.state self.now.disk).honest → (service : Service) → Serves (D.state self.now.disk) self.now.failed self.now.jobs service
             → (answer : Result (List Entry) Reply) × IsListed (λ lines. lines.items) result answer × Lists service job ppn answer service }
+        ensures failed { IsErrOf result Failed ↔ IsTrue self.now.failed }
+        ensures nobody { IsErrOf result NoJob ↔ (self.now.failed ≡ false) × (slot self.now.jobs job ≡ None) }
+        ensures only { IfErr result IsListRefusal }
     {
         if self.volume.failed {
             return Err(Reply::Failed);
@@ -46,7 +52,8 @@ impl<D: Disk> Monitor<D> {
         let who = asking.ppn;
         let protection = match self.volume.directory(ppn) {
             Ok(protection) => protection,
-            Err(error) => return Err(reply_of(error)),
+            // The volume hasn't failed: it has no such directory.
+            Err(_) => return Err(Reply::Refused(ErrorCode::NoDirectory.number())),
         };
         if !dir_right(protection, who, ppn, DirectoryAct::Look) {
             return Err(Reply::Refused(ErrorCode::Protection.number()));

@@ -1,4 +1,4 @@
-use Rattle.std.proofs.Common.{refl, sym, subst, ◌∙◌}
+use Rattle.std.proofs.Common.{sym, subst, ◌∙◌}
 use Rattle.blockdisk.specs.Laws.{leaves_start}
 use Rattle.volume.specs.Rest.{RestsAt, StandsLikeBefore}
 use Rattle.std.specs.List.{AllByRecursion}

@@ -1,0 +1,214 @@
+use crate::image_tests::{V1, expect_on, expect_run, image_of, put};
+use std::alloc::{AllocError, Allocator, Global};
+use std::fs::{self, File, Metadata, OpenOptions};
+use std::io;
+use std::process::Abort;
+use std::rt::Files;
+use std::test::Fail;
+
+/// What a host allows to be done with a file, which it makes where it is to be made.
+#[derive(Clone, Copy, PartialEq, Eq)]
+enum Access {
+    /// Nothing: it isn't opened, nor made.
+    Nothing,
+    /// It is opened, and can't be written.
+    Reading,
+    /// It is opened, and can't be read.
+    Writing,
+}
+
+/// The files of such a host.
+#[derive(Drop)]
+struct Guarded<'a, F> {
+    files: &'a F,
+    access: Access,
+}
+
+impl<F: Files<File = File>> Files for Guarded<'_, F> {
+    type File = File;
+
+    type Dir = F::Dir;
+
+    fn open_file(&self, how: &OpenOptions, path: &str) -> io::Result<File> {
+        if self.access == Access::Nothing {
+            return Err(io::Error::from(io::ErrorKind::PermissionDenied));
+        }
+        let _made = self.files.open_file(how, path)?;
+        OpenOptions::new()
+            .read(self.access == Access::Reading)
+            .write(self.access == Access::Writing)
+            .open(self.files, path)
+    }
+
+    fn open_dir(&self, path: &str) -> io::Result<F::Dir> {
+        self.files.open_dir(path)
+    }
+
+    fn metadata(&self, path: &str) -> io::Result<Metadata> {
+        self.files.metadata(path)
+    }
+
+    fn symlink_metadata(&self, path: &str) -> io::Result<Metadata> {
+        self.files.symlink_metadata(path)
+    }
+
+    fn copy(&self, from: &str, to: &str) -> io::Result<u64> {
+        self.files.copy(from, to)
+    }
+
+    fn rename(&self, from: &str, to: &str) -> io::Result<()> {
+        self.files.rename(from, to)
+    }
+
+    fn remove_file(&self, path: &str) -> io::Result<()> {
+        self.files.remove_file(path)
+    }
+
+    fn create_dir(&self, path: &str) -> io::Result<()> {
+        self.files.create_dir(path)
+    }
+
+    fn remove_dir(&self, path: &str) -> io::Result<()> {
+        self.files.remove_dir(path)
+    }
+
+    fn remove_dir_all<B: Allocator>(&self, alloc: B, path: &str) -> io::Result<()> {
+        self.files.remove_dir_all(alloc, path)
+    }
+}
+
+/// V1 with a log of one put behind a closed gate: the block of its master directory, as it is.
+fn logged(rt: &impl Abort, alloc: Global) -> Result<Vec<u8>, AllocError> {
+    let mut image = image_of(rt, alloc, &V1)?;
+    let log = [
+        (4, 0, 0o545747000000),
+        (4, 1, 1),
+        (4, 2, 0o17),
+        (5, 1, 1),
+        (5, 2, 0o000010000020),
+        (5, 3, 0o775000000000),
+        (5, 4, 0o20),
+    ];
+    for word in log {
+        put(rt, image.as_mut_slice(), word);
+    }
+    Ok(image)
+}
+
+/// The same behind an open gate, with the block of the master directory damaged: the next start has to write.
+fn interrupted(rt: &impl Abort, alloc: Global) -> Result<Vec<u8>, AllocError> {
+    let mut image = logged(rt, alloc)?;
+    for place in 0..128 {
+        put(rt, image.as_mut_slice(), (3, place, 0o252525252525));
+    }
+    put(rt, image.as_mut_slice(), (15, 0, 1 << 63));
+    Ok(image)
+}
+
+/// A run on the image at a path, on a host that allows this, over a line that logs in.
+fn expect_guarded<F: Files<File = File> + Alloc<A = Global> + Abort>(
+    rt: &F,
+    access: Access,
+    path: &str,
+    output: &str,
+    code: u8,
+) {
+    let host = Guarded { files: rt, access };
+    let run = ["filser", "run", path];
+    expect_on(rt, &host, rt.alloc(), &run, "LOGIN [10,20]\n", output, code);
+}
+
+/// Making an image at a path fails with the device, on a host that allows this.
+fn expect_unmade<F: Files<File = File> + Alloc<A = Global> + Abort>(
+    rt: &F,
+    access: Access,
+    path: &str,
+) {
+    let host = Guarded { files: rt, access };
+    let init = ["filser", "init", path, "64"];
+    expect_on(rt, &host, rt.alloc(), &init, "", "?Device fault\n", 4);
+}
+
+/// A directory of the host's is no image, and its name is taken.
+#[test]
+fn a_directory_in_place_of_an_image(rt: HostRuntime) -> Result<(), Fail> {
+    let _ = fs::remove_dir_all(&rt, "filser_folder");
+    fs::create_dir(&rt, "filser_folder")?;
+    let path = "filser_folder/v.img";
+    fs::create_dir(&rt, path)?;
+    expect_run(&rt, path, "LOGIN [10,20]\n", "?Device fault\n", 4);
+    let init = ["filser", "init", path, "64"];
+    expect_on(&rt, &rt, rt.alloc(), &init, "", "?Image exists\n", 3);
+    fs::remove_dir(&rt, path)?;
+    fs::remove_dir(&rt, "filser_folder")?;
+    Ok(())
+}
+
+/// An image with a byte more, or one less, is refused by its size alone.
+#[test]
+fn images_of_an_odd_size(rt: HostRuntime) -> Result<(), Fail> {
+    let _ = fs::remove_dir_all(&rt, "filser_odd");
+    fs::create_dir(&rt, "filser_odd")?;
+    let path = "filser_odd/v.img";
+    let mut image = image_of(&rt, rt.alloc(), &V1)?;
+    image.push(0)?;
+    for _less in 0..2 {
+        fs::write(&rt, path, image.as_slice())?;
+        expect_run(&rt, path, "LOGIN [10,20]\n", "?Not a volume\n", 3);
+        assert!(rt; fs::read(&rt, path)?.as_slice() == image.as_slice());
+        image.truncate(65535);
+    }
+    fs::remove_dir_all(&rt, "filser_odd")?;
+    Ok(())
+}
+
+/// An image that the host doesn't open, and one that it opens and doesn't read.
+#[test]
+fn an_image_that_is_not_read(rt: HostRuntime) -> Result<(), Fail> {
+    let _ = fs::remove_dir_all(&rt, "filser_unread");
+    fs::create_dir(&rt, "filser_unread")?;
+    let path = "filser_unread/v.img";
+    expect_unmade(&rt, Access::Nothing, path);
+    assert!(rt; fs::read(&rt, path).is_err());
+    let image = interrupted(&rt, rt.alloc())?;
+    fs::write(&rt, path, image.as_slice())?;
+    for access in [Access::Nothing, Access::Writing] {
+        expect_guarded(&rt, access, path, "?Device fault\n", 4);
+        assert!(rt; fs::read(&rt, path)?.as_slice() == image.as_slice());
+    }
+    fs::remove_dir_all(&rt, "filser_unread")?;
+    Ok(())
+}
+
+/// An image that can't be written is served where nothing has to be, and else not; a host that lets it be
+/// written has it recovered first.
+#[test]
+fn an_image_that_is_only_read(rt: HostRuntime) -> Result<(), Fail> {
+    let _ = fs::remove_dir_all(&rt, "filser_read");
+    fs::create_dir(&rt, "filser_read")?;
+    let path = "filser_read/v.img";
+    let whole = logged(&rt, rt.alloc())?;
+    fs::write(&rt, path, whole.as_slice())?;
+    expect_guarded(&rt, Access::Reading, path, "Job 1 [10,20]\n", 0);
+    assert!(rt; fs::read(&rt, path)?.as_slice() == whole.as_slice());
+    let image = interrupted(&rt, rt.alloc())?;
+    fs::write(&rt, path, image.as_slice())?;
+    expect_guarded(&rt, Access::Reading, path, "?Device fault\n", 4);
+    assert!(rt; fs::read(&rt, path)?.as_slice() == image.as_slice());
+    expect_run(&rt, path, "LOGIN [10,20]\n", "Job 1 [10,20]\n", 0);
+    assert!(rt; fs::read(&rt, path)?.as_slice() == whole.as_slice());
+    fs::remove_dir_all(&rt, "filser_read")?;
+    Ok(())
+}
+
+/// An image that is made and then can't be written is left as it is: without a byte.
+#[test]
+fn an_image_that_is_made_and_not_written(rt: HostRuntime) -> Result<(), Fail> {
+    let _ = fs::remove_dir_all(&rt, "filser_unwritten");
+    fs::create_dir(&rt, "filser_unwritten")?;
+    let path = "filser_unwritten/v.img";
+    expect_unmade(&rt, Access::Reading, path);
+    assert!(rt; fs::read(&rt, path)?.is_empty());
+    fs::remove_dir_all(&rt, "filser_unwritten")?;
+    Ok(())
+}
