@@ -8,14 +8,13 @@ ghost use Rattle.meaning.specs.Room.{room};
 ghost use Rattle.meaning.specs.Runs.{Service, Serving, IsStart};
 ghost use Rattle.meaning.specs.Stands.{Stands};
 ghost use Rattle.monitor.specs.Serving.{pack_of, IsState, Serves};
-ghost use Rattle.volume.specs.Cores.{known_of};
 ghost use Rattle.volume.specs.Meets.{Refuses};
 ghost use Rattle.volume.specs.Rest.{StandsLike, StandsLikeBefore};
 ghost use Rattle.volume.specs.declared.error.VolumeError.TheVariants.{Device};
 
 use crate::StartError;
 use crate::job::Jobs;
-use blockdisk::Disk;
+use blockdisk::{Disk, NoMemory};
 use std::alloc::Global;
 use std::marker::Model;
 use volume::Volume;
@@ -29,14 +28,18 @@ pub struct Monitor<D: Disk> {
 
 impl<D: Disk> Model for Monitor<D> {
     ghost use Rattle.monitor.specs.States.{MonitorState};
-    ghost use Rattle.volume.specs.Cores.{known_of};
+    ghost use Rattle.std.specs.Prelude.{◌≡◌};
+    ghost use Rattle.meaning.specs.Maps.{total};
+    ghost use Rattle.volume.specs.Live.{held_cost};
+    ghost use Rattle.volume.specs.LiveCores.{core_of};
     ghost use Rattle.volume.specs.Rest.{IsSound};
 
     ghost Value = { MonitorState D };
 
-    ghost view = { λ m. record { disk = m.volume.disk; map = known_of m.volume.map; failed = m.volume.failed; jobs = m.jobs } };
+    ghost view = { λ m. record { disk = m.volume.disk; map = core_of m.volume.map; failed = m.volume.failed; jobs = m.jobs } };
 
-    ghost invariant = { λ m. IsSound (D.state m.volume.disk) (known_of m.volume.map) m.volume.failed };
+    // Until channels have sides nobody holds a version that is no longer current.
+    ghost invariant = { λ m. IsSound (D.state m.volume.disk) (core_of m.volume.map) m.volume.failed × (total held_cost (core_of m.volume.map).live ≡ 0) };
 }
 
 impl<D: Disk> Monitor<D> {
@@ -48,6 +51,10 @@ impl<D: Disk> Monitor<D> {
     pub fn start(alloc: Global, disk: D) -> Result<Monitor<D>, (StartError, D)>
         ensures started { (D.state disk).honest → (files : Files File) → Stands (D.state disk).size (D.state disk).contents files
             → (s : State) → IsStart files s → IfOk result (λ m. Serves (D.state m.disk) m.failed m.jobs (Serving s)) }
+        // It starts only where the disk stands for some files, and nothing but the recovery was written.
+        ensures recovered { (D.state disk).honest → IfOk result (λ m. IsRecovered (D.state disk).size (D.state disk).contents (D.state m.disk).contents) }
+        ensures stood { (D.state disk).honest → IfOk result (λ m. (files : Files File) × Stands (D.state disk).size (D.state disk).contents files
+            × ((s : State) → IsStart files s → Serves (D.state m.disk) m.failed m.jobs (Serving s))) }
         ensures settled { (D.state disk).honest → IfOk result (λ m. NoneOpen (D.state m.disk)) }
         ensures crash { (D.state disk).honest → IfOk result (λ m. LeavesOnly (D.state disk) (D.state m.disk) (StandsLikeBefore (D.state disk))) }
         ensures synced { (D.state disk).honest → IfOk result (λ m. (t : ℕ) × LeavesFrom t (D.state disk) (D.state m.disk) (StandsLike (D.state disk))) }
@@ -56,6 +63,7 @@ impl<D: Disk> Monitor<D> {
         ensures kept { (D.state disk).honest → IfErr result (λ refused. (refused.0 ≡ Device → ⊥)
             → Still (D.state disk) (D.state refused.1) ⊎ IsRecovered (D.state disk).size (D.state disk).contents (D.state refused.1).contents) }
         ensures crash_refused { (D.state disk).honest → IfErr result (λ refused. LeavesOnly (D.state disk) (D.state refused.1) (StandsLikeBefore (D.state disk))) }
+        ensures synced_refused { (D.state disk).honest → IfErr result (λ refused. (refused.0 ≡ Device) ⊎ ((t : ℕ) × LeavesFrom t (D.state disk) (D.state refused.1) (StandsLike (D.state disk)))) }
 
         ensures same { IfOk result (λ m. SameDisk (D.state disk) (D.state m.disk)) }
         ensures served { IfOk result (λ m. (D.state m.disk).failures ≡ (D.state disk).failures) }
@@ -63,11 +71,11 @@ impl<D: Disk> Monitor<D> {
         ensures failed { IfErr result (λ refused. refused.0 ≡ Device → (D.state refused.1).failures ≡ one_more (D.state disk).failures) }
         ensures served_refused { IfErr result (λ refused. (refused.0 ≡ Device → ⊥) → (D.state refused.1).failures ≡ (D.state disk).failures) }
     {
-        let Ok(jobs) = Jobs::new(alloc) else {
-            return Err((StartError::NoMemory, disk));
-        };
         let volume = Volume::open(alloc, disk)?;
-        Ok(Monitor { volume, jobs })
+        match Jobs::new(alloc) {
+            Ok(jobs) => Ok(Monitor { volume, jobs }),
+            Err(NoMemory) => Err((StartError::NoMemory, volume.disk)),
+        }
     }
 
     /// How many blocks the disk has, also where the monitor has failed.

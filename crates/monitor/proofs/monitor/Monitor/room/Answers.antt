@@ -1,4 +1,4 @@
-use Rattle.std.proofs.Common.{◌≡◌, ◌∙◌, sym, ap, ℤ, pos, ◌-ℤ◌, ◌-◌, subst}
+use Rattle.std.proofs.Common.{◌≡◌, ◌+◌, ◌∙◌, sym, ap, ℤ, pos, ◌-ℤ◌, ◌-◌, subst}
 use Rattle.std.proofs.Common.{false, to_z, of_z, w64, FitsSigned, ◌<◌, ◌^◌, arith}
 use Rattle.std.proofs.lemmas.Int.{to_z-of_z, ints}
 use Rattle.std.specs.Int.Signed.{mag}
@@ -6,7 +6,10 @@ use Rattle.std.specs.List.{AllByRecursion}
 use Rattle.meaning.specs.Published.{without_serials}
 use Rattle.meaning.specs.Regions.{space_start}
 use Rattle.meaning.specs.Jobs.{State}
-use Rattle.meaning.specs.Room.{room}
+use Rattle.meaning.specs.Room.{room, booked}
+use Rattle.meaning.specs.Costs.{cost_of_files}
+use Rattle.meaning.specs.Maps.{total}
+use Rattle.volume.specs.Live.{held_cost}
 use Rattle.monitor.specs.Serving.{pack_of, IsClosed, IsState}
 use Rattle.monitor.proofs.Rooms.{booked_rest}
 use Rattle.monitor.proofs.monitor.Monitor.room.Goals as goal
@@ -20,4 +23,7 @@ returns g c =
     (λ h s state.
     let d = g.D.Disk.state c.self.inside.volume.disk in
     let costs = booked_rest s (subst (AllByRecursion IsClosed) (sym state.1.jobs_are) state.1.closed) state.1.serials in
-    to_z-of_z w64 c.room.result (fits c.room.result c.room.type_inv) ∙ c.room.ensures h state.0 (without_serials s.files) state.1.files ∙ ap (λ n. pos (d.size - space_start d.size) -ℤ pos n) (sym costs))
+    let held = total held_cost c.self.inside.volume.map.versions.slots in
+    let none : held ≡ 0 = c.self.invariant.1 in
+    let all : cost_of_files (without_serials s.files) + held ≡ booked s = omega arith in
+    to_z-of_z w64 c.room.result (fits c.room.result c.room.type_inv) ∙ c.room.ensures h state.0 (without_serials s.files) state.1.files ∙ ap (λ n. pos (d.size - space_start d.size) -ℤ pos n) all)

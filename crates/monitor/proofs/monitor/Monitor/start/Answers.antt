@@ -1,17 +1,16 @@
 use Rattle.std.proofs.Common.{sym, subst, ◌∙◌}
-use Rattle.blockdisk.specs.Laws.{leaves_start}
-use Rattle.volume.specs.Rest.{RestsAt, StandsLikeBefore}
 use Rattle.std.specs.List.{AllByRecursion}
+use Rattle.volume.specs.Rest.{RestsAt}
+use Rattle.volume.proofs.LiveOpening.{none_costs}
 use Rattle.monitor.specs.Serving.{IsClosed}
 use Rattle.monitor.proofs.Rooms.{none_open}
 use Rattle.monitor.proofs.monitor.Monitor.start.Goals as goal
 
-pub returns-in_default-clause-crash_refused : goal.returns-in_default-clause-crash_refused
-returns-in_default-clause-crash_refused g c h =
-    leaves_start (g.D.Disk.state c.args.disk) (StandsLikeBefore (g.D.Disk.state c.args.disk)) (λ d left. g.met.D.Disk.only_now c.args.disk d h left) (λ d may. (d, may, λ files stands. stands))
+pub invariant_of-result : goal.invariant_of-result
+invariant_of-result g c = (c.in_ok-volume.ensures.sound, none_costs c.in_ok-volume.volume.map.versions.slots c.in_ok-volume.ensures.unread)
 
-pub returns-clause-started : goal.returns-clause-started
-returns-clause-started g c h files stands s start = (
+pub returns-in-Ok-clause-started : goal.returns-in-Ok-clause-started
+returns-in-Ok-clause-started g c h files stands s start = (
   c.in_ok-volume.ensures.serves,
   record {
     files = subst (RestsAt (g.D.Disk.state c.in_ok-volume.volume.disk)) (sym start.files) (c.in_ok-volume.ensures.files h files stands);
@@ -20,3 +19,8 @@ returns-clause-started g c h files stands s start = (
     closed = subst (AllByRecursion IsClosed) (sym c.in-Ok.ensures) none_open;
   },
 )
+
+pub returns-in-Ok-clause-stood : goal.returns-in-Ok-clause-stood
+returns-in-Ok-clause-stood g c h =
+    let stood = c.in_ok-volume.ensures.stood h in
+    (stood.0, stood.1, λ s start. returns-in-Ok-clause-started g c h stood.0 stood.1 s start)
