@@ -11,7 +11,7 @@ use Rattle.meaning.specs.Costs.{blocks_of, cost_of_files}
 use Rattle.meaning.specs.declared.code.ErrorCode.TheVariants.{NotFound}
 use Rattle.meaning.specs.Directories.{master_word}
 use Rattle.meaning.specs.Files.{File, Files, name_cmp}
-use Rattle.meaning.specs.Maps.{get, total}
+use Rattle.meaning.specs.Maps.{get}
 use Rattle.meaning.specs.Stands.{StoredFile, StoredDirectory, DiskMap, directory_of, files_of, entry_of, quota_limit}
 use Rattle.meaning.proofs.DiskMaps.{stands_same}
 use Rattle.meaning.proofs.MapLaws.{some_same}
@@ -24,7 +24,7 @@ use Rattle.volume.specs.declared.error.CallError.TheVariants.{Refused}
 use Rattle.volume.specs.declared.file_facts.FileFacts.{FileFacts}
 use Rattle.volume.specs.Facts.{facts_of, known_facts}
 use Rattle.volume.specs.Known.{Known, KnownVersion, KnownDirectory, IsKnownDirectory, IsHeld, IsWholeMap, IsBooked}
-use Rattle.volume.specs.Live.{VolumeCore, held_cost, IsWholeCore}
+use Rattle.volume.specs.Live.{VolumeCore, cost_beyond, IsWholeCore}
 use Rattle.volume.specs.Queries.{protection_answer, IsShown, IsFileAnswer, IsLookAnswer, IsNamedVersion}
 use Rattle.volume.specs.Rest.{IsSound, RestsAt}
 use Rattle.volume.proofs.Costing.{booked_fits}
@@ -45,7 +45,7 @@ rest_holds s c failed sound honest alive files rest =
 
 -- Room.
 
-pub booked_is : (s : DiskState) (c : VolumeCore) (files : Files File) → IsWholeCore s.size c → Holds s c.known files → c.known.table.booked ≡ cost_of_files files + total held_cost c.live
+pub booked_is : (s : DiskState) (c : VolumeCore) (files : Files File) → IsWholeCore s.size c → Holds s c.known files → c.known.table.booked ≡ cost_of_files files + cost_beyond c
 booked_is s c files whole holds =
     let map = whole.map in
     let known = cost_is s.size c.known holds.map holds.held.known map.chain map.aligned map.each ∙ ap cost_of_files holds.files_are in

@@ -22,6 +22,21 @@ use Rattle.volume.proofs.Lookups.{zip_behind, viewed_more, viewed_at}
 abbrev pub Stay : List (Option LiveVersion) → List (Option LiveVersion) → Type 0
 Stay old new = (key : ℕ) (v : LiveVersion) → slot old key ≡ Some v → slot new key ≡ Some v
 
+-- The current version under a key is there, but for its readers.
+pub record IsStill (live : List (Option LiveVersion)) (key : ℕ) (v : LiveVersion) : Type 0 where
+  pub version : LiveVersion
+  pub there : slot live key ≡ Some version
+  pub known : as_known version ≡ as_known v
+  pub at : version.at ≡ v.at
+  pub current : version.is_current ≡ true
+
+-- each key with a current version keeps it, but for its readers
+abbrev pub StayCurrent : List (Option LiveVersion) → List (Option LiveVersion) → Type 0
+StayCurrent old new = (key : ℕ) (v : LiveVersion) → slot old key ≡ Some v → v.is_current ≡ true → IsStill new key v
+
+pub all_stay : (old new : List (Option LiveVersion)) → Stay old new → StayCurrent old new
+all_stay old new stay key v was current = record { version = v; there = stay key v was; known = refl; at = refl; current = current }
+
 pub filter_map_push : {A B : Type 0} (h : A → Option B) (xs : List A) (x : A) (y : B) → h x ≡ Some y → filter_map h (xs ++ x ∷ []) ≡ filter_map h xs ++ y ∷ []
 filter_map_push h [] x y is = ap (λ o. cons_option o []) is
 filter_map_push {B = B} h (a ∷ xs) x y is = behind (h a) _ _ (filter_map_push h xs x y is)
@@ -30,9 +45,11 @@ filter_map_push {B = B} h (a ∷ xs) x y is = behind (h a) _ _ (filter_map_push 
     behind None now old same = same
     behind (Some b) now old same = ap (λ bs. b ∷ bs) same
 
-module _ (old new : List (Option LiveVersion)) (stay : Stay old new) where
+module _ (old new : List (Option LiveVersion)) (stay : StayCurrent old new) where
   pub current_on : (key prime : ℕ) → IsCurrent old key prime → IsCurrent new key prime
-  current_on key prime is = record { version = is.version; there = stay key is.version is.there; at = is.at; current = is.current }
+  current_on key prime is =
+      let still = stay key is.version is.there is.current in
+      record { version = still.version; there = still.there; at = still.at ∙ is.at; current = still.current }
 
   pub keyed_on : (es : List FileEntry) (keys : List ℕ) → AllZip (λ e key. IsCurrent old key e.1) es keys → AllZip (λ e key. IsCurrent new key e.1) es keys
   keyed_on [] [] zip = tt
@@ -45,7 +62,8 @@ module _ (old new : List (Option LiveVersion)) (stay : Stay old new) where
   known_on [] (key ∷ keys) zip = absurd zip
   known_on (e ∷ es) [] zip = absurd zip
   known_on (e ∷ es) (key ∷ keys) zip =
-      let here : known_at new key ≡ known_at old key = ap (option_map as_known) (stay key zip.0.version zip.0.there ∙ sym zip.0.there) in
+      let still = stay key zip.0.version zip.0.there zip.0.current in
+      let here : known_at new key ≡ known_at old key = ap (option_map as_known) still.there ∙ ap Some still.known ∙ sym (ap (option_map as_known) zip.0.there) in
       let rest = known_on es keys zip.1 in
       λ i. cons_option (here i) (rest i)
 
@@ -84,14 +102,14 @@ module _ (old new : Slab LiveVersion) (key : ℕ) (v : LiveVersion) (vacant : sl
   pub put_keyed : (es : List FileEntry) (keys : List ℕ) (e : FileEntry) → v.at ≡ e.1 → v.is_current ≡ true → AllZip (λ e key. IsCurrent old.slots key e.1) es keys
       → AllZip (λ e key. IsCurrent new.slots key e.1) (es ++ e ∷ []) (keys ++ key ∷ [])
   put_keyed es keys e at current zip =
-      zip_behind (λ e key. IsCurrent new.slots key e.1) es keys e key (keyed_on old.slots new.slots put_stay es keys zip)
+      zip_behind (λ e key. IsCurrent new.slots key e.1) es keys e key (keyed_on old.slots new.slots (all_stay old.slots new.slots put_stay) es keys zip)
       (record { version = v; there = kept.changed; at = at; current = current })
 
   pub put_known : (es : List FileEntry) (keys : List ℕ) → AllZip (λ e key. IsCurrent old.slots key e.1) es keys
       → filter_map (known_at new.slots) (keys ++ key ∷ []) ≡ filter_map (known_at old.slots) keys ++ as_known v ∷ []
   put_known es keys zip =
       filter_map_push (known_at new.slots) keys key (as_known v) (ap (option_map as_known) kept.changed)
-      ∙ ap (λ vs. vs ++ as_known v ∷ []) (known_on old.slots new.slots put_stay es keys zip)
+      ∙ ap (λ vs. vs ++ as_known v ∷ []) (known_on old.slots new.slots (all_stay old.slots new.slots put_stay) es keys zip)
 
 -- the pair that a loop over two lists beside each other is at
 pub zip_at : {A B : Type 0} (xs : List A) (ys : List B) (i : ℕ) (x : A) (y : B) → i < length (zip xs ys) → (x, y) ≡ get_or (zip xs ys) i (x, y)
@@ -147,13 +165,13 @@ module _ (stored : List StoredDirectory) (i n : ℕ) (d : StoredDirectory) (next
       zip_same (IsKeyed new) (map known_directory (take i stored) ++ known_directory d ∷ []) _ (map (λ d. d.keys.items) live ++ l.keys.items ∷ []) _
       taken (ap (map (λ d. d.keys.items)) pushed ∙ map-append (λ d. d.keys.items) live (l ∷ []))
       (zip_behind (IsKeyed new) (map known_directory (take i stored)) (map (λ d. d.keys.items) live) (known_directory d) l.keys.items
-      (directories_keyed_on old new stay (map known_directory (take i stored)) (map (λ d. d.keys.items) live) zip) here)
+      (directories_keyed_on old new (all_stay old new stay) (map known_directory (take i stored)) (map (λ d. d.keys.items) live) zip) here)
 
   pub next_directory_known : live_directory new l ≡ known_directory d → map (live_directory old) live ≡ map known_directory (take i stored) → map (live_directory new) live' ≡ map known_directory (take n stored)
   next_directory_known here so_far =
       ap (map (live_directory new)) pushed
       ∙ map-append (live_directory new) live (l ∷ [])
-      ∙ (λ j. (directories_known_on old new stay (map known_directory (take i stored)) live zip ∙ so_far) j ++ here j ∷ [])
+      ∙ (λ j. (directories_known_on old new (all_stay old new stay) (map known_directory (take i stored)) live zip ∙ so_far) j ++ here j ∷ [])
       ∙ sym taken
 
 -- what holds of each slot holds of all

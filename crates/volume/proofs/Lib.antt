@@ -17,6 +17,8 @@ pub mod Costing
 pub mod CostLaws
 pub mod LiveTotals
 pub mod Keeping
+pub mod Pinning
+pub mod LettingGo
 pub mod LiveLookups
 pub mod Answering
 pub mod LiveOpening

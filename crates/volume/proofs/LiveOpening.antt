@@ -5,11 +5,13 @@ use Rattle.std.proofs.lemmas.List.{get_or-replicate, get_or_past, length-replica
 use Rattle.std.specs.List.{AllByRecursion, AllZip}
 use Rattle.meaning.specs.Maps.{total, times}
 use Rattle.meaning.specs.Costs.{cost_of_blocks}
+use Rattle.meaning.specs.Directories.{MasterEntry}
 use Rattle.alloctab.specs.TableState.{holds}
 use Rattle.volume.specs.declared.live.LiveVersion.{LiveVersion}
-use Rattle.volume.specs.Known.{Known, blocks_reached, cost_of_known, IsWholeMap, IsBooked}
-use Rattle.volume.specs.Live.{VolumeCore, as_known, IsKeyed, IsFirstRead, AreStanding, held_reaches, held_cost, IsWholeCore}
+use Rattle.volume.specs.Known.{Known, KnownDirectory, blocks_reached, cost_of_known, IsWholeMap, IsBooked}
+use Rattle.volume.specs.Live.{VolumeCore, as_known, slot, IsKeyed, IsFirstRead, AreStanding, held_reaches, held_cost, pending_reaches, pending_cost, creates, growths, cost_beyond, AreWaiting, IsWholeCore}
 use Rattle.volume.proofs.Answering.{map_few}
+use Rattle.volume.proofs.LiveLookups.{standing_at}
 
 replicate_none : (n i : ℕ) → slice_index (replicate n 0) i ≡ 0
 replicate_none n i = ⊎_elim (λ below. get_or-replicate n i 0 0 below) (λ past. get_or_past (replicate n 0) i 0 (subst (λ (k : ℕ). k ≤ i) (sym (length-replicate {A = ℕ} n 0)) past)) (cases_lt i n)
@@ -29,15 +31,33 @@ none_costs [] all = refl
 none_costs (None ∷ os) all = let rest = none_costs os all.1 in omega arith
 none_costs (Some v ∷ os) all = let here : held_cost (Some v) ≡ 0 = ap (λ (b : Bool). if b then 0 else cost_of_blocks (length v.version.blocks)) all.0.current in let rest = none_costs os all.1 in omega arith
 
-pub kept_whole : (size : ℕ) (k : Known) (c : VolumeCore) → IsWholeMap size k → IsBooked size k → c.known ≡ k → AllZip (IsKeyed c.live) c.known.directories c.keys → AllByRecursion (λ o. IfSome o IsFirstRead) c.live → IsWholeCore size c
-kept_whole size k c whole booked same keyed read =
+no_growths : (es : List MasterEntry) (ds : List KnownDirectory) → growths [] es ds ≡ 0
+no_growths [] ds = refl
+no_growths (e ∷ es) [] = refl
+no_growths (e ∷ es) (d ∷ ds) = let rest = no_growths es ds in omega arith
+
+pub none_beyond : (c : VolumeCore) → AllByRecursion (λ o. IfSome o IsFirstRead) c.live → c.pending ≡ [] → cost_beyond c ≡ 0
+none_beyond c read none =
+    let growth = ap (λ p. growths p c.known.master.entries c.known.directories) none ∙ no_growths c.known.master.entries c.known.directories in
+    let held = none_costs c.live read in
+    let waits = ap (total pending_cost) none in
+    omega arith
+
+first_at : (live : List (Option LiveVersion)) (key : ℕ) (v : LiveVersion) → AllByRecursion (λ o. IfSome o IsFirstRead) live → slot live key ≡ Some v → IsFirstRead v
+first_at live key v all is = standing_at IsFirstRead live key v all is
+
+pub kept_whole : (size : ℕ) (k : Known) (c : VolumeCore) → IsWholeMap size k → IsBooked size k → c.known ≡ k → AllZip (IsKeyed c.live) c.known.directories c.keys → AllByRecursion (λ o. IfSome o IsFirstRead) c.live → c.pending ≡ [] → IsWholeCore size c
+kept_whole size k c whole booked same keyed read none =
     let unheld : (n : ℕ) → holds c.known.table n ≡ 0 = λ n. ap (λ (x : Known). holds x.table n) same ∙ ap (λ l. slice_index l n) booked.unheld ∙ replicate_none size n in
     record {
       map = subst (IsWholeMap size) (sym same) whole;
       keyed = keyed;
       standing = all_standing c.live read;
-      held = λ n. unheld n ∙ sym (none_held n c.live read);
+      waiting = subst (AreWaiting size) (sym none) tt;
+      pinned = λ key v is some current. absurd (let unread = (first_at c.live key v read is).unread in omega arith);
+      housed = λ ppn absent. ap (total (creates ppn)) none;
+      held = λ n. let held = none_held n c.live read in let waits = ap (total (pending_reaches n)) none in let free = unheld n in omega arith;
       inside = λ n some. let none = unheld n in absurd (omega arith);
       fits = subst (λ (x : Known). x.table.booked < 2 ^ 63) (sym same) (map_few size k whole booked);
-      booked = let b = subst (λ (x : Known). x.table.booked ≡ cost_of_known x.master x.directories) (sym same) booked.booked in let none = none_costs c.live read in omega arith;
+      booked = let b = subst (λ (x : Known). x.table.booked ≡ cost_of_known x.master x.directories) (sym same) booked.booked in let beyond = none_beyond c read none in omega arith;
     }

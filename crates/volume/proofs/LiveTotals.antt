@@ -9,8 +9,9 @@ use Rattle.meaning.specs.Regions.{space_start}
 use Rattle.meaning.specs.Table.{fixed}
 use Rattle.alloctab.specs.TableState.{bit, holds, used, uses, used_in_space, space}
 use Rattle.volume.specs.declared.live.LiveVersion.{LiveVersion}
+use Rattle.volume.specs.declared.pending.PendingVersion.{PendingVersion}
 use Rattle.volume.specs.Known.{KnownVersion, KnownDirectory, blocks_reached, reaches_in_entries, reaches_in_known, known_reaches, cost_of_version, cost_of_directory, IsWholeVersion, IsWholeDirectory}
-use Rattle.volume.specs.Live.{VolumeCore, as_known, held_reaches, held_cost, IsWholeCore}
+use Rattle.volume.specs.Live.{VolumeCore, as_known, held_reaches, held_cost, pending_reaches, pending_cost, IsWholePending, IsWholeCore}
 
 -- A slot that is another.
 
@@ -142,6 +143,29 @@ stretch_held s k (Some v) whole = by v.is_current refl
     by true is = rw is (omega (arith, stretch_none k))
     by false is = rw is (stretch_version s k v.at (as_known v) whole)
 
+-- the blocks of a version that is being written
+abbrev pub pending_blocks : Option PendingVersion → ℕ
+pending_blocks None = 0
+pending_blocks (Some p) = length p.version.blocks
+
+stretch_pending : (size s k : ℕ) (o : Option PendingVersion) → IfSome o (IsWholePending size) → sum_below (λ i. pending_reaches (s + i) o) k ≤ pending_blocks o
+stretch_pending size s k None whole = omega (arith, stretch_none k)
+stretch_pending size s k (Some p) whole = stretch_times s k p.version.blocks
+
+-- they cost a block more each, for the prime block
+
+waiting_cost : (pending : List (Option PendingVersion)) → total pending_blocks pending ≤ total pending_cost pending
+waiting_cost [] = omega arith
+waiting_cost (None ∷ os) = let rest = waiting_cost os in omega arith
+waiting_cost (Some p ∷ os) = let rest = waiting_cost os in omega arith
+
+waiting_one : (pending : List (Option PendingVersion)) (key : ℕ) (p : PendingVersion) → slice_index_or pending key None ≡ Some p → total pending_blocks pending + 1 ≤ total pending_cost pending
+waiting_one [] key p is = cc
+waiting_one (None ∷ os) zero p is = cc
+waiting_one (None ∷ os) (suc key) p is = let rest = waiting_one os key p is in omega arith
+waiting_one (Some q ∷ os) zero p is = let rest = waiting_cost os in omega arith
+waiting_one (Some q ∷ os) (suc key) p is = let rest = waiting_one os key p is in omega arith
+
 -- What is in use.
 
 past_fixed : (size i : ℕ) → fixed size (space_start size + i) ≡ 0
@@ -151,9 +175,8 @@ same_stretch : (f g : ℕ → ℕ) (k : ℕ) → ((i : ℕ) → f i ≡ g i) →
 same_stretch f g zero same = refl
 same_stretch f g (suc k) same = let a = same k in let r = same_stretch f g k same in omega arith
 
--- as often as the blocks of the free space are set or held, so many are booked
-pub core_uses : (size : ℕ) (c : VolumeCore) → IsWholeCore size c → uses c.known.table ≤ c.known.table.booked
-core_uses size c whole =
+uses_by : (size : ℕ) (c : VolumeCore) → IsWholeCore size c → (more : ℕ) → total pending_blocks c.pending + more ≤ total pending_cost c.pending → uses c.known.table + more ≤ c.known.table.booked
+uses_by size c whole more waits =
     let t = c.known.table in
     let s = space_start t.size in
     let k = space t.size in
@@ -167,13 +190,23 @@ core_uses size c whole =
     omega arith in
     let parts = stretch_sum (λ i. bit t (s + i)) (λ i. holds t (s + i)) k in
     let sets = same_stretch (λ i. bit t (s + i)) (λ i. known_reaches (s + i) master directories) k set in
-    let helds = same_stretch (λ i. holds t (s + i)) (λ i. total (held_reaches (s + i)) c.live) k (λ i. whole.held (s + i)) in
+    let helds = same_stretch (λ i. holds t (s + i)) (λ i. total (held_reaches (s + i)) c.live + total (pending_reaches (s + i)) c.pending) k (λ i. whole.held (s + i)) in
+    let apart = stretch_sum (λ i. total (held_reaches (s + i)) c.live) (λ i. total (pending_reaches (s + i)) c.pending) k in
+    let waiting = stretch_total (λ o. IfSome o (IsWholePending size)) s k pending_reaches pending_blocks (stretch_pending size s k) c.pending whole.waiting in
     let chain = stretch_times s k master.blocks in
     let each = stretch_total (IsWholeDirectory size) s k reaches_in_known cost_of_directory (λ d is. stretch_directory size s k d is) directories whole.map.each in
     let both = stretch_sum (λ i. times (s + i) master.blocks) (λ i. total (reaches_in_known (s + i)) directories) k in
     let held = stretch_total (λ o. IfSome o (λ v. IsWholeVersion (as_known v))) s k held_reaches held_cost (stretch_held s k) c.live whole.standing in
     let booked = whole.booked in
     omega arith
+
+-- as often as the blocks of the free space are set or held, so many are booked
+pub core_uses : (size : ℕ) (c : VolumeCore) → IsWholeCore size c → uses c.known.table ≤ c.known.table.booked
+core_uses size c whole = let few = waiting_cost c.pending in let all = uses_by size c whole 0 (omega arith) in omega arith
+
+-- and one more where a version is being written
+pub core_uses_one : (size : ℕ) (c : VolumeCore) → IsWholeCore size c → (key : ℕ) (p : PendingVersion) → slice_index_or c.pending key None ≡ Some p → uses c.known.table + 1 ≤ c.known.table.booked
+core_uses_one size c whole key p is = uses_by size c whole 1 (waiting_one c.pending key p is)
 
 used_once : (b h : ℕ) → (if b + h == 0 then 0 else 1) ≤ b + h
 used_once zero zero = grind (arith, nat_tests)

@@ -1,5 +1,5 @@
 -- What a call that makes a directory says of the disk, from what is known of core and of its calls.
-use Rattle.std.proofs.Common.{◌≡◌, ℕ, ◌+◌, ◌<◌, ◌≤◌, ◌⊎◌, inl, inr, ⊎_elim, Bool, true, false, List, [], ◌∷◌, ◌++◌, length, replicate, slice_index, ◌^◌, Some, None, Err, IsErrOf, refl, sym, ◌∙◌, ap, subst, arith}
+use Rattle.std.proofs.Common.{◌≡◌, ℕ, ◌+◌, ◌<◌, ◌≤◌, ◌⊎◌, inl, inr, ⊎_elim, Bool, true, false, List, [], ◌∷◌, ◌++◌, length, replicate, slice_index, ◌-◌, ◌^◌, Option, Some, None, Err, IsErrOf, refl, sym, ◌∙◌, ap, subst, arith}
 use Rattle.std.proofs.Common.{length-append}
 use Rattle.std.proofs.lemmas.Bool.{cases_eq}
 use Rattle.std.specs.List.{AllByRecursion, AllZip}
@@ -8,11 +8,17 @@ use Rattle.blockdisk.specs.Laws.{leaves_weaker}
 use Rattle.meaning.specs.declared.put.Put.{Put}
 use Rattle.meaning.specs.Maps.{times, total}
 use Rattle.meaning.specs.Files.{File, Files}
+use Rattle.meaning.specs.Costs.{directory_cost}
+use Rattle.meaning.specs.Directories.{MasterEntry}
+use Rattle.std.specs.Option.{option_or}
+use Rattle.std.specs.Ordering.{nat_cmp}
+use Rattle.std.specs.FinMap.Entries.{find}
 use Rattle.meaning.specs.Regions.{table_blocks, space_start, log_images}
 use Rattle.meaning.specs.Log.{IsTarget, targets, with_puts}
 use Rattle.meaning.specs.Stands.{DiskMap, files_of}
 use Rattle.meaning.specs.Faults.{InSpace}
 use Rattle.meaning.proofs.MapLaws.{some_none}
+use Rattle.meaning.proofs.MapLists.{find-append_both}
 use Rattle.meaning.proofs.MapSums.{times-append}
 use Rattle.meaning.proofs.DiskMaps.{stands_same, bit-le-one, fixed_below}
 use Rattle.meaning.proofs.ChangedFiles.{files_made as files_of_made}
@@ -23,8 +29,9 @@ use Rattle.changeset.specs.Rest.{AtRest, SettlesTo}
 use Rattle.alloctab.specs.TableState.{bit, IsFree}
 use Rattle.retrieval.specs.Writing.{IsFixed}
 use Rattle.volume.specs.Known.{KnownDirectory, Known, IsHeld, reaches_in_known, known_reaches, IsWholeDirectory, IsWholeMap, cost_of_directory, cost_of_known}
-use Rattle.volume.specs.Live.{VolumeCore, IsKeyed, AreStanding, held_reaches, held_cost, IsWholeCore}
-use Rattle.volume.specs.Making.{LeadsTo, IsAligned, bare_known, map_made, files_made, IsMade}
+use Rattle.volume.specs.Live.{VolumeCore, slot, IsKeyed, AreStanding, held_reaches, held_cost, pending_reaches, pending_cost, creates, growths, AreWaiting, IsWholeCore}
+use Rattle.volume.specs.declared.pending.PendingVersion.{PendingVersion}
+use Rattle.volume.specs.Making.{LeadsTo, IsAligned, bare_known, entry_made, map_made, files_made, IsMade}
 use Rattle.volume.specs.Rest.{IsAtRest, IsSound, RestsAt, StandsForEither}
 use Rattle.volume.proofs.Lookups.{all_push, total-push, zip_behind}
 use Rattle.volume.proofs.MakingLaw.{making_leads, bare_chain, bit_few}
@@ -97,6 +104,22 @@ whole_fixed size k whole n below =
 pub free_elsewhere : (size : ℕ) (k : Known) → IsWholeMap size k → (n : ℕ) → bit k.table n ≡ 0 → times n k.master.blocks ≡ 0
 free_elsewhere size k whole n clear = let is = whole.bits n in omega arith
 
+-- one directory more
+growths_push : (pending : List (Option PendingVersion)) (es : List MasterEntry) (ds : List KnownDirectory) (e : MasterEntry) (d : KnownDirectory) → length ds ≡ length es
+    → growths pending (es ++ e ∷ []) (ds ++ d ∷ []) ≡ growths pending es ds + (directory_cost (length d.chain.entries + total (creates e.0) pending) - directory_cost (length d.chain.entries))
+growths_push pending [] [] e d same = omega arith
+growths_push pending [] (x ∷ ds) e d same = absurd (omega arith)
+growths_push pending (y ∷ es) [] e d same = absurd (omega arith)
+growths_push pending (y ∷ es) (x ∷ ds) e d same = let rest = growths_push pending es ds e d (omega arith) in omega arith
+
+-- what isn't found in a longer list isn't found in its beginning
+absent_before : (q : ℕ) (es : List MasterEntry) (e : MasterEntry) → find nat_cmp q (es ++ e ∷ []) ≡ None → find nat_cmp q es ≡ None
+absent_before q es e none = by (find nat_cmp q es) (sym (find-append_both nat_cmp es (e ∷ []) q) ∙ none)
+  where
+    by : (o : Option (ℕ × ℕ)) → option_or o (find nat_cmp q (e ∷ [])) ≡ None → o ≡ None
+    by None is = refl
+    by (Some x) is = cc
+
 -- Of the directory that is made.
 
 module _ (size : ℕ) (k k' : Known) (ppn protection first : ℕ) (puts : List Put) (whole : IsWholeMap size k) (made : IsMade size k k' ppn protection first puts) where
@@ -143,9 +166,21 @@ module _ (size : ℕ) (k k' : Known) (ppn protection first : ℕ) (puts : List P
     unchanged = made.taken.changed ∙ ap (λ (n : ℕ). replicate (table_blocks n) false) whole.size_is;
   }
 
+  -- nothing is being created in it
+  growths_made : (c c' : VolumeCore) → IsWholeCore size c → c.known ≡ k → c'.known ≡ k' → c'.pending ≡ c.pending → growths c'.pending c'.known.master.entries c'.known.directories ≡ growths c.pending c.known.master.entries c.known.directories
+  growths_made c c' core was is pending =
+      let absent : find nat_cmp ppn c.known.master.entries ≡ None = ap (λ x. find nat_cmp ppn x.master.entries) was ∙ made.absent in
+      let none = core.housed ppn absent in
+      let aligned = core.map.aligned in
+      (λ i. growths (pending i) (is i).master.entries (is i).directories)
+      ∙ (λ i. growths c.pending (made.entered.entries i) (made.entered.directories i))
+      ∙ growths_push c.pending k.master.entries k.directories (entry_made ppn protection first) (bare_known first) whole.aligned
+      ∙ (let same : directory_cost (0 + total (creates ppn) c.pending) ≡ directory_cost 0 = ap (λ (n : ℕ). directory_cost (0 + n)) none in omega arith)
+      ∙ (λ i. growths c.pending (sym was i).master.entries (sym was i).directories)
+
   -- with the versions in use, which stay
-  pub made_core : (c c' : VolumeCore) → IsWholeCore size c → c.known ≡ k → c'.known ≡ k' → c'.live ≡ c.live → c'.keys ≡ c.keys ++ [] ∷ [] → IsWholeCore size c'
-  made_core c c' core was is live keys =
+  pub made_core : (c c' : VolumeCore) → IsWholeCore size c → c.known ≡ k → c'.known ≡ k' → c'.live ≡ c.live → c'.pending ≡ c.pending → c'.keys ≡ c.keys ++ [] ∷ [] → IsWholeCore size c'
+  made_core c c' core was is live pending keys =
       let table : c'.known.table.held ≡ c.known.table.held = ap (λ x. x.table.held) is ∙ made.taken.held ∙ sym (ap (λ x. x.table.held) was) in
       let directories : c'.known.directories ≡ c.known.directories ++ bare_known first ∷ [] = ap (λ x. x.directories) is ∙ made.entered.directories ∙ ap (λ x. x.directories ++ bare_known first ∷ []) (sym was) in
       record {
@@ -153,7 +188,20 @@ module _ (size : ℕ) (k k' : Known) (ppn protection first : ℕ) (puts : List P
         keyed = subst (λ l. AllZip (IsKeyed l) c'.known.directories c'.keys) (sym live)
             (subst (AllZip (IsKeyed c.live) c'.known.directories) (sym keys) (subst (λ ds. AllZip (IsKeyed c.live) ds (c.keys ++ [] ∷ [])) (sym directories) (zip_behind (IsKeyed c.live) c.known.directories c.keys (bare_known first) [] core.keyed tt)));
         standing = subst AreStanding (sym live) core.standing;
-        held = λ n. ap (λ l. slice_index l n) table ∙ core.held n ∙ ap (total (held_reaches n)) (sym live);
+        waiting = subst (AreWaiting size) (sym pending) core.waiting;
+        pinned = λ key v is some current n.
+            let stands = core.pinned key v (ap (λ l. slot l key) (sym live) ∙ is) some current n in
+            let more = ap (total (reaches_in_known n)) directories ∙ total-push (reaches_in_known n) c.known.directories (bare_known first) in
+            omega arith;
+        housed = λ q absent.
+            let entries : c'.known.master.entries ≡ c.known.master.entries ++ entry_made ppn protection first ∷ [] = ap (λ x. x.master.entries) is ∙ made.entered.entries ∙ ap (λ x. x.master.entries ++ entry_made ppn protection first ∷ []) (sym was) in
+            ap (total (creates q)) pending ∙ core.housed q (absent_before q c.known.master.entries (entry_made ppn protection first) (ap (find nat_cmp q) (sym entries) ∙ absent));
+        held = λ n.
+            let same = ap (λ l. slice_index l n) table in
+            let was = core.held n in
+            let held = ap (total (held_reaches n)) live in
+            let waits = ap (total (pending_reaches n)) pending in
+            omega arith;
         inside = λ n some. core.inside n (subst (λ l. 0 < slice_index l n) table some);
         fits =
             let few = made.room in
@@ -169,6 +217,8 @@ module _ (size : ℕ) (k k' : Known) (ppn protection first : ℕ) (puts : List P
             let costs' = ap (λ x. cost_of_known x.master x.directories) is in
             let e = cost_more in
             let l = ap (total held_cost) live in
+            let p = ap (total pending_cost) pending in
+            let grown = growths_made c c' core was is pending in
             omega arith;
       }
 

@@ -1,13 +1,18 @@
 -- What a volume keeps in core: what it knows of its disk, the key of each file's version, and the versions
 -- under their keys. One is current where a file of the disk has it; another is there while readers hold it.
-use Rattle.std.specs.Prelude.{◌≡◌, ℕ, ◌+◌, ◌^◌, ◌<◌, Bool, true, if◌then◌else◌, List, length, Option, Some, None, IfSome, slice_index_or}
+-- Besides them there are versions that are being written, which nobody else sees.
+use Rattle.std.specs.Prelude.{◌≡◌, ℕ, ◌+◌, ◌-◌, ◌^◌, ◌<◌, ◌≤◌, ◌==◌, true, if◌then◌else◌, List, [], ◌∷◌, length, Option, Some, None, IfSome, slice_index_or}
 use Rattle.std.specs.List.{AllByRecursion, AllZip}
+use Rattle.std.specs.Ordering.{nat_cmp}
+use Rattle.std.specs.FinMap.Entries.{find}
 use Rattle.meaning.specs.Maps.{total, times}
-use Rattle.meaning.specs.Costs.{cost_of_blocks}
+use Rattle.meaning.specs.Costs.{cost_of_blocks, directory_cost}
+use Rattle.meaning.specs.Directories.{MasterEntry}
 use Rattle.meaning.specs.Faults.{InSpace}
 use Rattle.alloctab.specs.TableState.{holds}
 use Rattle.volume.specs.declared.live.LiveVersion.{LiveVersion}
-use Rattle.volume.specs.Known.{Known, KnownVersion, KnownDirectory, blocks_reached, cost_of_known, IsWholeVersion, IsWholeMap}
+use Rattle.volume.specs.declared.pending.PendingVersion.{PendingVersion}
+use Rattle.volume.specs.Known.{Known, KnownVersion, KnownDirectory, blocks_reached, reaches_in_known, cost_of_known, IsWholeVersion, IsWholeMap}
 
 pub record VolumeCore : Type 0 where
   pub known : Known
@@ -15,6 +20,8 @@ pub record VolumeCore : Type 0 where
   pub keys : List (List ℕ)
   -- the versions by their keys
   pub live : List (Option LiveVersion)
+  -- those that are being written, by keys of their own
+  pub pending : List (Option PendingVersion)
 
 abbrev pub slot : List (Option LiveVersion) → ℕ → Option LiveVersion
 slot live key = slice_index_or live key None
@@ -50,18 +57,62 @@ abbrev pub held_cost : Option LiveVersion → ℕ
 held_cost None = 0
 held_cost (Some v) = if v.is_current then 0 else cost_of_blocks (length v.version.blocks)
 
+-- The same of a version that is being written.
+
+abbrev pub pending_reaches : ℕ → Option PendingVersion → ℕ
+pending_reaches n None = 0
+pending_reaches n (Some p) = times n p.version.blocks
+
+abbrev pub pending_cost : Option PendingVersion → ℕ
+pending_cost None = 0
+pending_cost (Some p) = cost_of_blocks (length p.version.blocks)
+
+-- how many of them will be new entries of a directory
+abbrev pub creates : ℕ → Option PendingVersion → ℕ
+creates ppn None = 0
+creates ppn (Some p) = if p.is_new then (if p.prime.ppn == ppn then 1 else 0) else 0
+
+-- by how much directories cost more with the entries that they will have
+abbrev pub growths : List (Option PendingVersion) → List MasterEntry → List KnownDirectory → ℕ
+growths pending [] directories = 0
+growths pending (e ∷ es) [] = 0
+growths pending (e ∷ es) (d ∷ ds) =
+    directory_cost (length d.chain.entries + total (creates e.0) pending) - directory_cost (length d.chain.entries) + growths pending es ds
+
+-- what is booked beyond the files
+abbrev pub cost_beyond : VolumeCore → ℕ
+cost_beyond c = growths c.pending c.known.master.entries c.known.directories + total held_cost c.live + total pending_cost c.pending
+
 -- each version is whole
 abbrev pub AreStanding : List (Option LiveVersion) → Type 0
 AreStanding live = AllByRecursion (λ o. IfSome o (λ v. IsWholeVersion (as_known v))) live
+
+pub record IsWholePending (size : ℕ) (p : PendingVersion) : Type 0 where
+  pub whole : IsWholeVersion (record { prime = p.prime; version = p.version })
+  pub inside : AllByRecursion (InSpace size) p.version.blocks
+  -- retrieval blocks come with its publication
+  pub bare : p.version.ribs ≡ []
+
+abbrev pub AreWaiting : ℕ → List (Option PendingVersion) → Type 0
+AreWaiting size pending = AllByRecursion (λ o. IfSome o (IsWholePending size)) pending
+
+-- a version that readers hold and a file has: its blocks stand in the directories
+abbrev pub ArePinned : List (Option LiveVersion) → List KnownDirectory → Type 0
+ArePinned live directories =
+    (key : ℕ) (v : LiveVersion) → slot live key ≡ Some v → 0 < v.readers → v.is_current ≡ true → (n : ℕ) → times n (blocks_reached v.at v.version) ≤ total (reaches_in_known n) directories
 
 -- What is so in core, whatever the disk does.
 pub record IsWholeCore (size : ℕ) (c : VolumeCore) : Type 0 where
   pub map : IsWholeMap size c.known
   pub keyed : AllZip (IsKeyed c.live) c.known.directories c.keys
   pub standing : AreStanding c.live
-  -- a block is held as often as it stands in a version that is no longer current
-  pub held : (n : ℕ) → holds c.known.table n ≡ total (held_reaches n) c.live
+  pub waiting : AreWaiting size c.pending
+  pub pinned : ArePinned c.live c.known.directories
+  -- nothing is being created in a directory that isn't there
+  pub housed : (ppn : ℕ) → find nat_cmp ppn c.known.master.entries ≡ None → total (creates ppn) c.pending ≡ 0
+  -- a block is held as often as it stands in a version that is no longer current, or not yet
+  pub held : (n : ℕ) → holds c.known.table n ≡ total (held_reaches n) c.live + total (pending_reaches n) c.pending
   pub inside : (n : ℕ) → 0 < holds c.known.table n → InSpace size n
-  -- what the map and the versions held cost is booked
+  -- what the map costs is booked, and what is beyond
   pub fits : c.known.table.booked < 2 ^ 63
-  pub booked : c.known.table.booked ≡ cost_of_known c.known.master c.known.directories + total held_cost c.live
+  pub booked : c.known.table.booked ≡ cost_of_known c.known.master c.known.directories + cost_beyond c

@@ -20,4 +20,5 @@ core_of m = record {
   known = record { master = viewed master_view m.master; directories = map (live_directory m.versions.slots) m.directories.items; table = m.table };
   keys = map (λ d. d.keys.items) m.directories.items;
   live = m.versions.slots;
+  pending = m.pending.slots;
 }

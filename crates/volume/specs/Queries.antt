@@ -14,10 +14,10 @@ use Rattle.volume.specs.declared.error.CallError.{CallError}
 use Rattle.volume.specs.declared.file_facts.FileFacts.{FileFacts}
 use Rattle.volume.specs.declared.error.CallError.TheVariants.{Refused, Device, NoMemory, Failed}
 
--- the blocks of the free space less what the files cost, and what the versions that are held besides do: a whole
--- number that may be below 0
+-- the blocks of the free space less what the files cost, and what is booked beyond: a whole number that may be
+-- below 0
 abbrev pub room_of : ℕ → Files File → ℕ → ℤ
-room_of size files held = pos (size - space_start size) -ℤ pos (cost_of_files files + held)
+room_of size files beyond = pos (size - space_start size) -ℤ pos (cost_of_files files + beyond)
 
 -- the protection of the directory that there is, or none
 abbrev pub protection_answer : Option (Directory File) → Result ℕ CallError

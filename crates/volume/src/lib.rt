@@ -52,6 +52,7 @@ mod marks;
 mod open;
 #[cfg(test)]
 mod open_tests;
+mod pending;
 mod query;
 mod read;
 mod regions;

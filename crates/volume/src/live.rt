@@ -1,13 +1,19 @@
-ghost use Rattle.std.specs.Prelude.{◌≡◌, ℕ, None, Some, true, map, filter_map, length, IfOk, OnOk, IfSome};
+ghost use Rattle.std.specs.Prelude.{◌≡◌, ◌<◌, ◌≤◌, ◌+◌, ◌-◌, ◌^◌, ◌↔◌, ◌⊎◌, [], ℕ, None, Some, true, false, map, filter_map, length, IfOk, OnOk, IfSome, IsSome, IsTrue};
 ghost use Rattle.std.specs.List.{AllByRecursion, AllZip};
+ghost use Rattle.meaning.specs.Costs.{cost_of_blocks};
+ghost use Rattle.meaning.specs.Maps.{times, total};
+ghost use Rattle.meaning.specs.Retrieval.{most_blocks};
+ghost use Rattle.alloctab.specs.TableState.{holds};
 ghost use Rattle.slab.specs.Slab.{Updates};
 ghost use Rattle.volume.specs.Cores.{file_view, known_of, known_version, known_directory};
-ghost use Rattle.volume.specs.Known.{IsWholeVersion, IsWholeMap};
-ghost use Rattle.volume.specs.Live.{IsCurrent, IsKeyed, IsFirstRead, slot};
+ghost use Rattle.volume.specs.Known.{blocks_reached, reaches_in_known, IsWholeVersion, IsWholeMap};
+ghost use Rattle.volume.specs.Live.{IsCurrent, IsKeyed, IsFirstRead, IsWholeCore, slot};
 ghost use Rattle.volume.specs.LiveCores.{core_of, known_at, live_directory};
 ghost use Rattle.volume.specs.declared.live.LiveVersion.{LiveVersion};
 
+use crate::cost::version_cost;
 use crate::files::StoredVersion;
+use crate::pending::PendingVersion;
 use crate::map::{DiskMap, StoredDirectory};
 use alloctab::Table;
 use blockdisk::NoMemory;
@@ -49,6 +55,8 @@ pub struct LiveMap {
     pub directories: Vec<LiveDirectory>,
     /// The versions by their keys.
     pub versions: Slab<LiveVersion>,
+    /// The versions that are being written, by keys of their own.
+    pub pending: Slab<PendingVersion>,
     /// Which blocks are in use, held and booked.
     pub table: Table,
 }
@@ -133,6 +141,7 @@ pub fn keep(alloc: Global, map: DiskMap) -> Result<LiveMap, NoMemory>
     ensures known { IfOk result (λ live. (core_of live).known ≡ known_of map) }
     ensures keyed { IfOk result (λ live. AllZip (IsKeyed (core_of live).live) (core_of live).known.directories (core_of live).keys) }
     ensures read { IfOk result (λ live. AllByRecursion (λ o. IfSome o IsFirstRead) (core_of live).live) }
+    ensures none { IfOk result (λ live. (core_of live).pending ≡ []) }
 {
     let DiskMap {
         master,
@@ -151,6 +160,107 @@ pub fn keep(alloc: Global, map: DiskMap) -> Result<LiveMap, NoMemory>
         master,
         directories,
         versions,
+        pending: Slab::new(alloc),
         table,
     })
+}
+
+/// One reader more of the version under a key.
+fn add_reader(versions: &mut Slab<LiveVersion>, key: usize)
+    requires few { IfSome (slot versions.old.slots key) (λ v. v.readers + 1 < 2 ^ 32) }
+    ensures counted { IfSome (slot versions.old.slots key) (λ v. slot versions.new.slots key ≡ Some (record v { readers = v.readers + 1 })) }
+    ensures others { (k : ℕ) → (k ≡ key → ⊥) → slot versions.new.slots k ≡ slot versions.old.slots k }
+{
+    if let Some(version) = versions.get_mut(key) {
+        version.readers += 1;
+    }
+}
+
+/// One reader less of the version under a key.
+fn remove_reader(versions: &mut Slab<LiveVersion>, key: usize)
+    requires held { IfSome (slot versions.old.slots key) (λ v. 0 < v.readers) }
+    ensures counted { IfSome (slot versions.old.slots key) (λ v. slot versions.new.slots key ≡ Some (record v { readers = v.readers - 1 })) }
+    ensures others { (k : ℕ) → (k ≡ key → ⊥) → slot versions.new.slots k ≡ slot versions.old.slots k }
+{
+    if let Some(version) = versions.get_mut(key) {
+        version.readers -= 1;
+    }
+}
+
+/// Whether the version under a key goes with a reader: it isn't current, and this is its last one.
+fn goes_with_reader(versions: &Slab<LiveVersion>, key: usize) -> bool
+    ensures { IfSome (slot versions.now.slots key) (λ v. IsTrue result ↔ ((v.is_current ≡ false) × (v.readers ≡ 1))) }
+{
+    match versions.get(key) {
+        Some(version) => !version.is_current && version.readers == 1,
+        None => false,
+    }
+}
+
+/// Holds each of these blocks once less.
+fn unhold_all(table: &mut Table, blocks: &[u32])
+    requires held { (n : ℕ) → times n blocks.now ≤ holds table.old n }
+    requires inside { (n : ℕ) → 0 < holds table.old n → n < table.old.size }
+    ensures held { (n : ℕ) → holds table.new n + times n blocks.now ≡ holds table.old n }
+    ensures rest { table.new ≡ record table.old { held = table.new.held } }
+{
+    for &block in blocks {
+        table.unhold(block);
+    }
+}
+
+/// Lets the blocks of a version that was held go, and takes back the booking of what it cost.
+fn let_go(table: &mut Table, version: &LiveVersion)
+    requires held { (n : ℕ) → times n (blocks_reached version.now.at version.now.version) ≤ holds table.old n }
+    requires inside { (n : ℕ) → 0 < holds table.old n → n < table.old.size }
+    requires few { length version.now.version.blocks ≤ most_blocks }
+    requires booked { cost_of_blocks (length version.now.version.blocks) ≤ table.old.booked }
+    ensures held { (n : ℕ) → holds table.new n + times n (blocks_reached version.now.at version.now.version) ≡ holds table.old n }
+    ensures booked { table.new.booked + cost_of_blocks (length version.now.version.blocks) ≡ table.old.booked }
+    ensures rest { table.new ≡ record table.old { held = table.new.held; booked = table.new.booked } }
+{
+    table.unhold(version.at);
+    unhold_all(table, version.version.ribs());
+    unhold_all(table, version.version.blocks());
+    table.unbook(version_cost(&version.version));
+}
+
+/// One reader more of a version.
+pub fn pin_version(map: &mut LiveMap, key: usize)
+    requires there { IsSome (slot (core_of map.old).live key) }
+    requires few { IfSome (slot (core_of map.old).live key) (λ v. v.readers + 1 < 2 ^ 32) }
+    requires stands { IfSome (slot (core_of map.old).live key) (λ v. v.is_current ≡ true → (n : ℕ) → times n (blocks_reached v.at v.version) ≤ total (reaches_in_known n) (core_of map.old).known.directories) }
+    ensures core { (core_of map.new) ≡ record (core_of map.old) { live = (core_of map.new).live } }
+    ensures pinned { (v : LiveVersion) → slot (core_of map.old).live key ≡ Some v → slot (core_of map.new).live key ≡ Some (record v { readers = v.readers + 1 }) }
+    ensures others { (k : ℕ) → (k ≡ key → ⊥) → slot (core_of map.new).live k ≡ slot (core_of map.old).live k }
+    ensures whole { (size : ℕ) → IsWholeCore size (core_of map.old) → IsWholeCore size (core_of map.new) }
+{
+    add_reader(&mut map.versions, key);
+}
+
+/// One reader less of a version. One that isn't current goes with its last reader: its blocks are held no
+/// longer, and what it cost is not booked any more.
+pub fn unpin_version(map: &mut LiveMap, key: usize)
+    requires whole { (size : ℕ) × IsWholeCore size (core_of map.old) }
+    requires there { IsSome (slot (core_of map.old).live key) }
+    requires held { IfSome (slot (core_of map.old).live key) (λ v. 0 < v.readers) }
+    ensures known { (core_of map.new).known ≡ record (core_of map.old).known { table = (core_of map.new).known.table } }
+    ensures keys { (core_of map.new).keys ≡ (core_of map.old).keys }
+    ensures table { (core_of map.new).known.table ≡ record (core_of map.old).known.table { held = (core_of map.new).known.table.held; booked = (core_of map.new).known.table.booked } }
+    ensures stays { (v : LiveVersion) → slot (core_of map.old).live key ≡ Some v → (v.is_current ≡ true) ⊎ (1 < v.readers)
+        → (slot (core_of map.new).live key ≡ Some (record v { readers = v.readers - 1 })) × ((core_of map.new).known.table ≡ (core_of map.old).known.table) }
+    ensures gone { (v : LiveVersion) → slot (core_of map.old).live key ≡ Some v → v.is_current ≡ false → v.readers ≡ 1
+        → (slot (core_of map.new).live key ≡ None)
+        × ((n : ℕ) → holds (core_of map.new).known.table n + times n (blocks_reached v.at v.version) ≡ holds (core_of map.old).known.table n)
+        × ((core_of map.new).known.table.booked + cost_of_blocks (length v.version.blocks) ≡ (core_of map.old).known.table.booked) }
+    ensures others { (k : ℕ) → (k ≡ key → ⊥) → slot (core_of map.new).live k ≡ slot (core_of map.old).live k }
+    ensures whole { (size : ℕ) → IsWholeCore size (core_of map.old) → IsWholeCore size (core_of map.new) }
+{
+    if goes_with_reader(&map.versions, key) {
+        if let Some(version) = map.versions.try_remove(key) {
+            let_go(&mut map.table, &version);
+        }
+    } else {
+        remove_reader(&mut map.versions, key);
+    }
 }

@@ -135,6 +135,7 @@ fn enter(
     ensures entered { OnOk result (IsEntered (core_of core.old).known (core_of core.new).known entry.ppn entry.protection entry.first (option_to_list fresh) set.new) }
     ensures table { (core_of core.new).known.table ≡ (core_of core.old).known.table }
     ensures live { (core_of core.new).live ≡ (core_of core.old).live }
+    ensures pending { (core_of core.new).pending ≡ (core_of core.old).pending }
     ensures keys { OnOk result ((core_of core.new).keys ≡ (core_of core.old).keys ++ [] ∷ []) }
     ensures same { OnErr result (core_of core.new ≡ core_of core.old) }
     ensures unput { OnErr result (set.new ≡ set.old) }
@@ -167,6 +168,7 @@ fn make_in_core(
     requires empty { set.old ≡ [] }
     ensures made { IfOk result (λ first. IsMade core.old.table.size (core_of core.old).known (core_of core.new).known ppn protection first set.new) }
     ensures live { (core_of core.new).live ≡ (core_of core.old).live }
+    ensures pending { (core_of core.new).pending ≡ (core_of core.old).pending }
     ensures keys { OnOk result ((core_of core.new).keys ≡ (core_of core.old).keys ++ [] ∷ []) }
     ensures same { OnErr result (core_of core.new ≡ core_of core.old) }
     ensures exists { IsErrOf result (Refused NameExists) ↔ (find nat_cmp ppn (core_of core.old).known.master.entries ≡ None → ⊥) }
@@ -235,6 +237,7 @@ impl<D: Disk> Volume<D> {
         ensures done { (D.state self.old.disk).honest → (f : Files File) → RestsAt (D.state self.old.disk) f → OnOk result (RestsAt (D.state self.new.disk) (files_made f ppn protection)) }
         // The versions in use stay, and no block in use changes, but those of the master directory.
         ensures live { (core_of self.new.map).live ≡ (core_of self.old.map).live }
+        ensures pending { (core_of self.new.map).pending ≡ (core_of self.old.map).pending }
         ensures kept { (D.state self.old.disk).honest → (n : ℕ) → space_start (D.state self.old.disk).size ≤ n → times n (core_of self.old.map).known.master.blocks ≡ 0 → (IsFree (core_of self.old.map).known.table n → ⊥)
             → (D.state self.new.disk).contents n ≡ (D.state self.old.disk).contents n }
 

@@ -4,10 +4,10 @@ ghost use Rattle.std.specs.Ordering.{nat_cmp};
 ghost use Rattle.std.specs.FinMap.Entries.{find};
 ghost use Rattle.meaning.specs.declared.code.ErrorCode.TheVariants.{NoDirectory, NotFound};
 ghost use Rattle.meaning.specs.Files.{File, Files, name_cmp};
-ghost use Rattle.meaning.specs.Maps.{get, total};
+ghost use Rattle.meaning.specs.Maps.{get};
 ghost use Rattle.directory.specs.Edits.{StandsAt};
 ghost use Rattle.volume.specs.Cores.{file_view, master_view};
-ghost use Rattle.volume.specs.Live.{IsKeyed, AreStanding, held_cost};
+ghost use Rattle.volume.specs.Live.{IsKeyed, AreStanding, cost_beyond};
 ghost use Rattle.volume.specs.LiveCores.{live_directory, core_of};
 ghost use Rattle.volume.specs.Queries.{room_of, protection_answer, IsPlainRefusal, IsNamedVersion, IsLookAnswer};
 ghost use Rattle.volume.specs.Rest.{IsSound, RestsAt};
@@ -88,13 +88,14 @@ impl<D: Disk> Volume<D> {
     }
 
     /// How many blocks are left when all is booked: the blocks of the free space less what the master directory,
-    /// the directories and the files cost, and the versions that readers hold though no file has them any more.
+    /// the directories and the files cost, the versions that readers hold though no file has them any more, and
+    /// those that are being written, each with its entry where that is a new one.
     /// It may be negative, as on an image that another program made with long runs, which cost less there than
     /// they are counted here.
     pub fn room(&self) -> i64
         requires sound { IsSound (D.state self.now.disk) (core_of self.now.map) self.now.failed }
         ensures { (D.state self.now.disk).honest → self.now.failed ≡ false → (files : Files File) → RestsAt (D.state self.now.disk) files
-            → result ≡ room_of (D.state self.now.disk).size files (total held_cost (core_of self.now.map).live) }
+            → result ≡ room_of (D.state self.now.disk).size files (cost_beyond (core_of self.now.map)) }
     {
         let size = self.disk.blocks();
         difference(size - space_start(size), self.map.table.booked())

@@ -1,4 +1,4 @@
-ghost use Rattle.std.specs.Prelude.{◌≡◌, ◌⊎◌, ◌↔◌, ℕ, false, OnOk, IfOk, IfErr, IfSome, IsErrOf};
+ghost use Rattle.std.specs.Prelude.{◌≡◌, ◌⊎◌, ◌↔◌, ℕ, [], false, OnOk, IfOk, IfErr, IfSome, IsErrOf};
 ghost use Rattle.std.specs.List.{AllByRecursion};
 ghost use Rattle.blockdisk.specs.Disk.{NoneOpen, SameDisk, Still, Touches, LeavesOnly, one_more};
 ghost use Rattle.changeset.specs.Crashes.{IsRecovered, LeavesFrom};
@@ -101,7 +101,9 @@ impl<D: Disk> Volume<D> {
     pub fn open(alloc: Global, disk: D) -> Result<Volume<D>, (VolumeError, D)>
         ensures sound { IfOk result (λ volume. IsSound (D.state volume.disk) (core_of volume.map) volume.failed) }
         ensures serves { IfOk result (λ volume. volume.failed ≡ false) }
+        // Nobody reads or writes a version yet.
         ensures unread { IfOk result (λ volume. AllByRecursion (λ o. IfSome o IsFirstRead) (core_of volume.map).live) }
+        ensures unwritten { IfOk result (λ volume. (core_of volume.map).pending ≡ []) }
         ensures recovered { (D.state disk).honest → IfOk result (λ volume. IsRecovered (D.state disk).size (D.state disk).contents (D.state volume.disk).contents) }
         ensures stood { (D.state disk).honest → IfOk result (λ volume. (files : Files File) × Stands (D.state disk).size (D.state disk).contents files × RestsAt (D.state volume.disk) files) }
         ensures files { (D.state disk).honest → (files : Files File) → Stands (D.state disk).size (D.state disk).contents files → IfOk result (λ volume. RestsAt (D.state volume.disk) files) }

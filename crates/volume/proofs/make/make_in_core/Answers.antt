@@ -34,8 +34,8 @@ returns-clause-made c =
     let count : length (option_to_list fresh.master) ≡ growth k.master =
     count_grows c.needs_block-grows.result (length (option_to_list fresh.master)) (length c.args.core.now.master.entries) (length c.args.core.now.master.blocks) k.master
     c.needs_block-grows.ensures.0 c.needs_block-grows.ensures.1 c.take_blocks-fresh.ensures.count (length-map c.args.core.now.master.entries master_view) refl in
-    let before = core_of (record { master = c.args.core.now.master; directories = c.args.core.now.directories; versions = c.args.core.now.versions; table = c.take_blocks-fresh.new.table }) in
-    let after = core_of (record { master = c.enter.new.core.master; directories = c.enter.new.core.directories; versions = c.enter.new.core.versions; table = c.use_blocks.new.table }) in
+    let before = core_of (record { master = c.args.core.now.master; directories = c.args.core.now.directories; versions = c.args.core.now.versions; pending = c.args.core.now.pending; table = c.take_blocks-fresh.new.table }) in
+    let after = core_of (record { master = c.enter.new.core.master; directories = c.enter.new.core.directories; versions = c.enter.new.core.versions; pending = c.enter.new.core.pending; table = c.use_blocks.new.table }) in
     let entered : IsEntered before.known (core_of c.enter.new.core).known c.entry_of-entry.result.ppn c.entry_of-entry.result.protection c.entry_of-entry.result.first (option_to_list fresh.master) c.enter.new.set = search rules in
     let takes : Takes c.book.new.self (fresh_list fresh) c.enter.new.core.table = subst (λ (v : TableState). Takes c.book.new.self (fresh_list fresh) v) (sym c.enter.ensures.table) c.take_blocks-fresh.ensures.taken in
     let sound : IsTable c.book.new.self = sound_booked c.args.core.now.table c.book.new.self _ c.booked-booked.ensures.sound c.book.ensures in

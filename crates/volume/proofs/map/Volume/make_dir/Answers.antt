@@ -29,7 +29,7 @@ returns-in-Ok-write_and_commit-clause-sound g c =
     let whole = c.requires.sound.whole.map in
     let made : IsMade s.size k k' c.args.ppn c.args.protection c.in-Ok.first c.make_in_core.new.set =
     subst (λ (b : ℕ). IsMade b k k' c.args.ppn c.args.protection c.in-Ok.first c.make_in_core.new.set) c.requires.sound.whole.map.size_is c.in-Ok.ensures.made in
-    sound_for s s' (core_of c.make_in_core.new.core) c.args.self.now.failed c.write_and_commit.ensures.same.size (made_core s.size k k' c.args.ppn c.args.protection c.in-Ok.first c.make_in_core.new.set whole made (core_of c.args.self.now.map) (core_of c.make_in_core.new.core) c.requires.sound.whole refl refl c.make_in_core.ensures.live c.in-Ok.ensures.keys)
+    sound_for s s' (core_of c.make_in_core.new.core) c.args.self.now.failed c.write_and_commit.ensures.same.size (made_core s.size k k' c.args.ppn c.args.protection c.in-Ok.first c.make_in_core.new.set whole made (core_of c.args.self.now.map) (core_of c.make_in_core.new.core) c.requires.sound.whole refl refl c.make_in_core.ensures.live c.make_in_core.ensures.pending c.in-Ok.ensures.keys)
     (λ h' ok.
     let h : s.honest = c.write_and_commit.ensures.same.was_honest h' in
     let at = c.requires.sound.rest h ok in
@@ -101,4 +101,4 @@ returns-in-Err-write_and_commit-clause-sound g c =
     let whole = c.requires.sound.whole.map in
     let made : IsMade s.size k k' c.args.ppn c.args.protection c.in-Ok.first c.make_in_core.new.set =
     subst (λ (b : ℕ). IsMade b k k' c.args.ppn c.args.protection c.in-Ok.first c.make_in_core.new.set) c.requires.sound.whole.map.size_is c.in-Ok.ensures.made in
-    sound_failed s s' (core_of c.make_in_core.new.core) true c.write_and_commit.ensures.same.size (made_core s.size k k' c.args.ppn c.args.protection c.in-Ok.first c.make_in_core.new.set whole made (core_of c.args.self.now.map) (core_of c.make_in_core.new.core) c.requires.sound.whole refl refl c.make_in_core.ensures.live c.in-Ok.ensures.keys) refl
+    sound_failed s s' (core_of c.make_in_core.new.core) true c.write_and_commit.ensures.same.size (made_core s.size k k' c.args.ppn c.args.protection c.in-Ok.first c.make_in_core.new.set whole made (core_of c.args.self.now.map) (core_of c.make_in_core.new.core) c.requires.sound.whole refl refl c.make_in_core.ensures.live c.make_in_core.ensures.pending c.in-Ok.ensures.keys) refl

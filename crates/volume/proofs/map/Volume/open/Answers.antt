@@ -14,7 +14,7 @@ returns-in-Ok-keep-clause-sound g c =
     let k = known_of c.in-Ok.map in
     let kept = core_of c.in-Ok-keep.map in
     record {
-      whole = kept_whole s.size k kept (subst (λ n. IsWholeMap n k) size c.in-Ok.ensures.whole) (subst (λ n. IsBooked n k) size c.in-Ok.ensures.booked) c.in-Ok-keep.ensures.known c.in-Ok-keep.ensures.keyed c.in-Ok-keep.ensures.read;
+      whole = kept_whole s.size k kept (subst (λ n. IsWholeMap n k) size c.in-Ok.ensures.whole) (subst (λ n. IsBooked n k) size c.in-Ok.ensures.booked) c.in-Ok-keep.ensures.known c.in-Ok-keep.ensures.keyed c.in-Ok-keep.ensures.read c.in-Ok-keep.ensures.none;
       rest = λ h serves. subst (IsAtRest s) (sym c.in-Ok-keep.ensures.known) (c.in-Ok.ensures.rest (c.read_volume.ensures.same.was_honest h));
     }
 

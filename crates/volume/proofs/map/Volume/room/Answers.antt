@@ -2,8 +2,7 @@ use Rattle.std.proofs.Common.{◌≡◌, ◌+◌, ◌<◌, ◌^◌, ◌-◌, ◌
 use Rattle.std.proofs.lemmas.Int.{to_z-of_z}
 use Rattle.meaning.specs.Costs.{cost_of_files}
 use Rattle.meaning.specs.Regions.{space_start}
-use Rattle.meaning.specs.Maps.{total}
-use Rattle.volume.specs.Live.{held_cost}
+use Rattle.volume.specs.Live.{cost_beyond}
 use Rattle.volume.specs.LiveCores.{core_of}
 use Rattle.volume.proofs.Answering.{rest_holds, booked_is}
 use Rattle.volume.proofs.map.Volume.room.Goals as goal
@@ -15,6 +14,6 @@ pub returns : goal.returns
 returns g c honest alive files rest =
     let s = g.D.Disk.state c.args.self.now.disk in
     let k = core_of c.args.self.now.map in
-    let booked : c.booked.result ≡ cost_of_files files + total held_cost k.live = c.booked.ensures.value ∙ booked_is s k files c.requires.sound.whole (rest_holds s k c.args.self.now.failed c.requires.sound honest alive files rest) in
+    let booked : c.booked.result ≡ cost_of_files files + cost_beyond k = c.booked.ensures.value ∙ booked_is s k files c.requires.sound.whole (rest_holds s k c.args.self.now.failed c.requires.sound honest alive files rest) in
     let space : c.blocks-size.result - c.space_start.result ≡ s.size - space_start s.size = ap (λ n. c.blocks-size.result - n) c.space_start.ensures ∙ ap (λ n. n - space_start n) c.blocks-size.ensures in
     to_z-of_z w64 c.difference.result (record { sfits = c.difference.type_inv }) ∙ c.difference.ensures ∙ (λ i. pos (space i) -ℤ pos (booked i))
