@@ -29,4 +29,5 @@ pub mod MakingTables
 pub mod MakingLaw
 pub mod MakingLists
 pub mod MakingEntries
+pub mod LiveBodies
 pub mod MakingDirectories

@@ -58,6 +58,7 @@ kept_whole size k c whole booked same keyed read none =
       housed = λ ppn absent. ap (total (creates ppn)) none;
       held = λ n. let held = none_held n c.live read in let waits = ap (total (pending_reaches n)) none in let free = unheld n in omega arith;
       inside = λ n some. let none = unheld n in absurd (omega arith);
+      apart = λ n some. let none = unheld n in absurd (omega arith);
       fits = subst (λ (x : Known). x.table.booked < 2 ^ 63) (sym same) (map_few size k whole booked);
       booked = let b = subst (λ (x : Known). x.table.booked ≡ cost_of_known x.master x.directories) (sym same) booked.booked in let beyond = none_beyond c read none in omega arith;
     }

@@ -26,7 +26,7 @@ use Rattle.changeset.specs.Crashes.{IsGateOrLog}
 use Rattle.changeset.specs.Puts.{IsPutIn}
 use Rattle.changeset.specs.PutLaws.{times_head, times_tail, with_puts_here, with_puts_later}
 use Rattle.changeset.specs.Rest.{AtRest, SettlesTo}
-use Rattle.alloctab.specs.TableState.{bit, IsFree}
+use Rattle.alloctab.specs.TableState.{bit, holds, IsFree}
 use Rattle.retrieval.specs.Writing.{IsFixed}
 use Rattle.volume.specs.Known.{KnownDirectory, Known, IsHeld, reaches_in_known, known_reaches, IsWholeDirectory, IsWholeMap, cost_of_directory, cost_of_known}
 use Rattle.volume.specs.Live.{VolumeCore, slot, IsKeyed, AreStanding, held_reaches, held_cost, pending_reaches, pending_cost, creates, growths, AreWaiting, IsWholeCore}
@@ -34,6 +34,7 @@ use Rattle.volume.specs.declared.pending.PendingVersion.{PendingVersion}
 use Rattle.volume.specs.Making.{LeadsTo, IsAligned, bare_known, entry_made, map_made, files_made, IsMade}
 use Rattle.volume.specs.Rest.{IsAtRest, IsSound, RestsAt, StandsForEither}
 use Rattle.volume.proofs.Lookups.{all_push, total-push, zip_behind}
+use Rattle.volume.proofs.LiveBodies.{HaveBodies}
 use Rattle.volume.proofs.MakingLaw.{making_leads, bare_chain, bit_few}
 
 -- Of any event.
@@ -60,15 +61,17 @@ rest_for s s' k' m' f' size is rest = record {
   all = λ c left. (m', (subst (λ (b : ℕ). IsHeld b k' m' c) (sym size) (rest.all c left)).stands, is);
 }
 
-pub sound_for : (s s' : DiskState) (c' : VolumeCore) (failed : Bool) → s'.size ≡ s.size → IsWholeCore s.size c' → (s'.honest → failed ≡ false → (m' : DiskMap) × AtRest s' (IsHeld s.size c'.known m')) → IsSound s' c' failed
-sound_for s s' c' failed size whole rest = record {
+pub sound_for : (s s' : DiskState) (c' : VolumeCore) (failed : Bool) → s'.size ≡ s.size → IsWholeCore s.size c' → (s'.honest → failed ≡ false → HaveBodies s'.contents c') → (s'.honest → failed ≡ false → (m' : DiskMap) × AtRest s' (IsHeld s.size c'.known m')) → IsSound s' c' failed
+sound_for s s' c' failed size whole bodies rest = record {
   whole = subst (λ (b : ℕ). IsWholeCore b c') (sym size) whole;
+  read = λ h ok. (bodies h ok).read;
+  written = λ h ok. (bodies h ok).written;
   rest = λ h ok. let r = rest h ok in record { map = r.0; rest = subst (λ (b : ℕ). AtRest s' (IsHeld b c'.known r.0)) (sym size) r.1 };
 }
 
 -- a sound volume that has failed stays sound, whatever the disk does
 pub sound_failed : (s s' : DiskState) (c' : VolumeCore) (failed : Bool) → s'.size ≡ s.size → IsWholeCore s.size c' → failed ≡ true → IsSound s' c' failed
-sound_failed s s' c' failed size whole gone = record { whole = subst (λ (b : ℕ). IsWholeCore b c') (sym size) whole; rest = λ h ok. absurd (apart (sym gone ∙ ok)) }
+sound_failed s s' c' failed size whole gone = record { whole = subst (λ (b : ℕ). IsWholeCore b c') (sym size) whole; rest = λ h ok. absurd (apart (sym gone ∙ ok)); read = λ h ok. absurd (apart (sym gone ∙ ok)); written = λ h ok. absurd (apart (sym gone ∙ ok)) }
   where
     apart : true ≡ false → ⊥
     apart e = cc
@@ -166,6 +169,11 @@ module _ (size : ℕ) (k k' : Known) (ppn protection first : ℕ) (puts : List P
     unchanged = made.taken.changed ∙ ap (λ (n : ℕ). replicate (table_blocks n) false) whole.size_is;
   }
 
+  -- a block that isn't free is none that were
+  not_free : (n : ℕ) (ns : List ℕ) → (IsFree k.table n → ⊥) → AllByRecursion (IsFree k.table) ns → times n ns ≡ 0
+  not_free n [] used all = refl
+  not_free n (m ∷ ns) used all = ⊎_elim (λ is. absurd (used (subst (IsFree k.table) (sym is) all.0))) (λ other. times_tail n m ns other ∙ not_free n ns used all.1) (cases_eq n m)
+
   -- nothing is being created in it
   growths_made : (c c' : VolumeCore) → IsWholeCore size c → c.known ≡ k → c'.known ≡ k' → c'.pending ≡ c.pending → growths c'.pending c'.known.master.entries c'.known.directories ≡ growths c.pending c.known.master.entries c.known.directories
   growths_made c c' core was is pending =
@@ -203,6 +211,16 @@ module _ (size : ℕ) (k k' : Known) (ppn protection first : ℕ) (puts : List P
             let waits = ap (total (pending_reaches n)) pending in
             omega arith;
         inside = λ n some. core.inside n (subst (λ l. 0 < slice_index l n) table some);
+        apart = λ n some.
+            let there : 0 < holds c.known.table n = subst (λ l. 0 < slice_index l n) table some in
+            let was_apart = core.apart n there in
+            let kept : 0 < holds k.table n = subst (λ x. 0 < holds x.table n) was there in
+            let new = not_free n made.grown (λ free. let none = free.unheld in omega arith) made.free.1 in
+            let first_new = not_free n (first ∷ []) (λ free. let none = free.unheld in omega arith) (made.free.0, tt) in
+            let chain = ap (λ x. times n x.master.blocks) is ∙ ap (times n) made.entered.blocks ∙ times-append n k.master.blocks made.grown in
+            let chain_was = ap (λ x. times n x.master.blocks) was in
+            let dirs = ap (total (λ (d : KnownDirectory). times n d.chain.blocks)) directories ∙ total-push (λ (d : KnownDirectory). times n d.chain.blocks) c.known.directories (bare_known first) in
+            omega arith;
         fits =
             let few = made.room in
             let large = whole.volume.large in
@@ -244,14 +262,10 @@ module _ (size : ℕ) (k k' : Known) (ppn protection first : ℕ) (puts : List P
       (λ is. used (subst (IsFree k.table) (sym is) (made.free.0)))
       (⊎_elim (λ log. let below = log.1 in omega arith) (not_put puts n (λ c. made.put.others c n (inr from) ∙ made.entered.put.others c n out)))
     where
-      not_taken : (ns : List ℕ) → AllByRecursion (IsFree k.table) ns → times n ns ≡ 0
-      not_taken [] all = refl
-      not_taken (m ∷ ns) all = ⊎_elim (λ is. absurd (used (subst (IsFree k.table) (sym is) all.0))) (λ other. times_tail n m ns other ∙ not_taken ns all.1) (cases_eq n m)
-
       out : times n k'.master.blocks ≡ 0
       out =
           let a = ap (times n) made.entered.blocks ∙ times-append n k.master.blocks made.grown in
-          let b = not_taken made.grown made.free.1 in
+          let b = not_free n made.grown used made.free.1 in
           omega arith
 
 -- What the write and the commit promise, for this directory.

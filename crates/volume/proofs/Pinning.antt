@@ -104,6 +104,7 @@ counted_whole size c new key v readers whole stands was now others = record {
   housed = whole.housed;
   held = λ n. let before = whole.held n in let same = same_total c.live new key v readers was now others (held_reaches n) refl refl in omega arith;
   inside = whole.inside;
+  apart = whole.apart;
   fits = whole.fits;
   booked = let before = whole.booked in let same = same_total c.live new key v readers was now others held_cost refl refl in omega arith;
 }
@@ -166,6 +167,7 @@ gone_whole size c new key v held booked whole was ended now others less fewer = 
       let old = whole.held n in
       omega (arith, less n);
   inside = λ n there. whole.inside n (omega (arith, less n));
+  apart = λ n there. whole.apart n (omega (arith, less n));
   fits = let fits = whole.fits in omega arith;
   booked =
       let all = total_updated held_cost refl c.live new key None now others in

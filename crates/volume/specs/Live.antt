@@ -26,6 +26,9 @@ pub record VolumeCore : Type 0 where
 abbrev pub slot : List (Option LiveVersion) → ℕ → Option LiveVersion
 slot live key = slice_index_or live key None
 
+abbrev pub pending_at : List (Option PendingVersion) → ℕ → Option PendingVersion
+pending_at pending key = slice_index_or pending key None
+
 -- as it is known of a file
 abbrev pub as_known : LiveVersion → KnownVersion
 as_known v = record { prime = v.prime; version = v.version }
@@ -113,6 +116,8 @@ pub record IsWholeCore (size : ℕ) (c : VolumeCore) : Type 0 where
   -- a block is held as often as it stands in a version that is no longer current, or not yet
   pub held : (n : ℕ) → holds c.known.table n ≡ total (held_reaches n) c.live + total (pending_reaches n) c.pending
   pub inside : (n : ℕ) → 0 < holds c.known.table n → InSpace size n
+  -- no block that is held stands in a chain
+  pub apart : (n : ℕ) → 0 < holds c.known.table n → times n c.known.master.blocks + total (λ d. times n d.chain.blocks) c.known.directories ≡ 0
   -- what the map costs is booked, and what is beyond
   pub fits : c.known.table.booked < 2 ^ 63
   pub booked : c.known.table.booked ≡ cost_of_known c.known.master c.known.directories + cost_beyond c

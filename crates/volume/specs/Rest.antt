@@ -1,21 +1,32 @@
 -- What holds of a volume between two calls.
-use Rattle.std.specs.Prelude.{◌≡◌, ◌⊎◌, ℕ, Bool, false}
+use Rattle.std.specs.Prelude.{◌≡◌, ◌⊎◌, ◌<◌, ℕ, Bool, false, List, length, Some}
 use Rattle.blockdisk.specs.Disk.{Contents, DiskState, MayLeave}
 use Rattle.meaning.specs.Files.{File, Files}
 use Rattle.meaning.specs.Stands.{DiskMap, SettledStands, Stands}
 use Rattle.changeset.specs.Rest.{AtRest}
 use Rattle.volume.specs.Known.{Known, IsHeld}
-use Rattle.volume.specs.Live.{VolumeCore, IsWholeCore}
+use Rattle.volume.specs.Live.{VolumeCore, slot, pending_at, IsWholeCore}
+use Rattle.volume.specs.declared.live.LiveVersion.{LiveVersion}
+use Rattle.volume.specs.declared.pending.PendingVersion.{PendingVersion}
+use Rattle.meaning.specs.Retrieval.{HasBody}
+use Rattle.retrieval.specs.Versions.{VersionState}
 
 -- One map for all that a crash may leave, and the one in core.
 pub record IsAtRest (s : DiskState) (k : Known) : Type 0 where
   pub map : DiskMap
   pub rest : AtRest s (IsHeld s.size k map)
 
--- What is in core is whole, and while the disk is honest and the volume hasn't failed it is the disk's.
+-- the blocks of a version have some words
+abbrev pub HasSomeBody : Contents → VersionState → Type 0
+HasSomeBody contents v = (body : List ℕ) × (length body ≡ v.words) × HasBody contents v.blocks body
+
+-- What is in core is whole, and while the disk is honest and the volume hasn't failed it is the disk's; the
+-- versions that readers hold, and those that are being written, have their words then.
 pub record IsSound (s : DiskState) (c : VolumeCore) (failed : Bool) : Type 0 where
   pub whole : IsWholeCore s.size c
   pub rest : s.honest → failed ≡ false → IsAtRest s c.known
+  pub read : s.honest → failed ≡ false → (key : ℕ) (v : LiveVersion) → slot c.live key ≡ Some v → 0 < v.readers → HasSomeBody s.contents v.version
+  pub written : s.honest → failed ≡ false → (key : ℕ) (p : PendingVersion) → pending_at c.pending key ≡ Some p → HasSomeBody s.contents p.version
 
 -- all that a crash may leave has a closed gate and stands for these files
 abbrev pub RestsAt : DiskState → Files File → Type 0

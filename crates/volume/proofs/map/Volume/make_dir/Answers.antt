@@ -3,6 +3,7 @@ use Rattle.volume.specs.Live.{VolumeCore}
 use Rattle.volume.specs.LiveCores.{core_of}
 use Rattle.volume.specs.Making.{IsMade}
 use Rattle.volume.specs.Rest.{IsSound}
+use Rattle.volume.proofs.LiveBodies.{bodies_stay, bodies_of}
 use Rattle.volume.proofs.MakingDirectories.{sound_for, sound_failed, made_core, puts_in_range, not_written, made_crash, made_rest, made_at, made_done}
 use Rattle.volume.proofs.map.Volume.make_dir.Goals as goal
 
@@ -30,6 +31,11 @@ returns-in-Ok-write_and_commit-clause-sound g c =
     let made : IsMade s.size k k' c.args.ppn c.args.protection c.in-Ok.first c.make_in_core.new.set =
     subst (λ (b : ℕ). IsMade b k k' c.args.ppn c.args.protection c.in-Ok.first c.make_in_core.new.set) c.requires.sound.whole.map.size_is c.in-Ok.ensures.made in
     sound_for s s' (core_of c.make_in_core.new.core) c.args.self.now.failed c.write_and_commit.ensures.same.size (made_core s.size k k' c.args.ppn c.args.protection c.in-Ok.first c.make_in_core.new.set whole made (core_of c.args.self.now.map) (core_of c.make_in_core.new.core) c.requires.sound.whole refl refl c.make_in_core.ensures.live c.make_in_core.ensures.pending c.in-Ok.ensures.keys)
+    (λ h' ok.
+    let h : s.honest = c.write_and_commit.ensures.same.was_honest h' in
+    bodies_of s'.contents (core_of c.args.self.now.map) (core_of c.make_in_core.new.core) c.make_in_core.ensures.live c.make_in_core.ensures.pending
+    (bodies_stay s (core_of c.args.self.now.map) c.args.self.now.failed s'.contents c.requires.sound h ok
+    (λ n is. (c.write_and_commit.ensures.touched h).contents n (not_written s.size k k' c.args.ppn c.args.protection c.in-Ok.first c.make_in_core.new.set whole made n is.from is.apart is.used))))
     (λ h' ok.
     let h : s.honest = c.write_and_commit.ensures.same.was_honest h' in
     let at = c.requires.sound.rest h ok in

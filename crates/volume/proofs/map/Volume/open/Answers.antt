@@ -1,9 +1,11 @@
-use Rattle.std.proofs.Common.{◌≡◌, ⊎_elim, Err, sym, subst}
+use Rattle.std.proofs.Common.{◌≡◌, ⊎_elim, Err, sym, ap, subst, ◌∙◌, arith}
 use Rattle.volume.specs.Cores.{known_of}
 use Rattle.volume.specs.Known.{IsWholeMap, IsBooked}
 use Rattle.volume.specs.LiveCores.{core_of}
 use Rattle.volume.specs.Rest.{IsAtRest}
 use Rattle.volume.specs.declared.error.VolumeError.TheVariants.{Device}
+use Rattle.volume.specs.Live.{pending_at, IsFirstRead}
+use Rattle.volume.proofs.LiveLookups.{standing_at}
 use Rattle.volume.proofs.LiveOpening.{kept_whole}
 use Rattle.volume.proofs.map.Volume.open.Goals as goal
 
@@ -15,6 +17,8 @@ returns-in-Ok-keep-clause-sound g c =
     let kept = core_of c.in-Ok-keep.map in
     record {
       whole = kept_whole s.size k kept (subst (λ n. IsWholeMap n k) size c.in-Ok.ensures.whole) (subst (λ n. IsBooked n k) size c.in-Ok.ensures.booked) c.in-Ok-keep.ensures.known c.in-Ok-keep.ensures.keyed c.in-Ok-keep.ensures.read c.in-Ok-keep.ensures.none;
+      read = λ h serves key v is some. absurd (let none = (standing_at IsFirstRead kept.live key v c.in-Ok-keep.ensures.read is).unread in omega arith);
+      written = λ h serves key p is. absurd (let none = ap (λ l. pending_at l key) (sym c.in-Ok-keep.ensures.none) ∙ is in cc);
       rest = λ h serves. subst (IsAtRest s) (sym c.in-Ok-keep.ensures.known) (c.in-Ok.ensures.rest (c.read_volume.ensures.same.was_honest h));
     }
 
