@@ -6,4 +6,5 @@ pub mod Readings
 pub mod Writing
 pub mod Building
 pub mod Taking
+pub mod Parts
 pub mod Whole

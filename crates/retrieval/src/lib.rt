@@ -20,6 +20,7 @@
 //!    was.
 #![tactic(auto)]
 
+mod body;
 mod build;
 mod error;
 mod head;
@@ -37,8 +38,9 @@ mod write;
 #[cfg(test)]
 mod write_tests;
 
+pub use body::get_words;
 pub use build::prime_block;
-pub use error::RetrievalError;
+pub use error::{BodyError, RetrievalError};
 pub use mode::Mode;
 pub use prime::Prime;
 pub use read::read_version;

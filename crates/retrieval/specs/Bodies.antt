@@ -1,0 +1,21 @@
+-- Bodies: the words of a version, and the blocks that may be written where they change.
+use Rattle.std.specs.Prelude.{◌≡◌, ℕ, ◌+◌, List, length, IfSome}
+use Rattle.std.specs.List.{AllByRecursion}
+use Rattle.blockdisk.specs.Disk.{Contents}
+use Rattle.meaning.specs.Counts.{sum_below}
+use Rattle.meaning.specs.Maps.{times}
+use Rattle.meaning.specs.Regions.{space_start}
+use Rattle.alloctab.specs.TableState.{TableState, bit, holds, space}
+
+-- Each of these blocks that isn't damaged holds 128 words.
+abbrev pub AreWhole : Contents → List ℕ → Type 0
+AreWhole contents blocks = AllByRecursion (λ n. IfSome (contents n) (λ words. length words ≡ 128)) blocks
+
+-- how often the blocks of the free space are set or held, each time counted
+abbrev pub uses : TableState → ℕ
+uses t = sum_below (λ k. bit t (space_start t.size + k) + holds t (space_start t.size + k)) (space t.size)
+
+-- A block that no other version reaches: its bit is clear, and it is held as often as it stands among these.
+pub record IsOwn (t : TableState) (blocks : List ℕ) (n : ℕ) : Type 0 where
+  pub clear : bit t n ≡ 0
+  pub alone : holds t n ≡ times n blocks
