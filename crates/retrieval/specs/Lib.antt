@@ -7,3 +7,4 @@ pub mod Spelling
 pub mod Reading
 pub mod Writing
 pub mod Bodies
+pub mod Placing
