@@ -91,6 +91,14 @@ impl Table {
         !self.bits[n as usize] && self.held[n as usize] == 0
     }
 
+    /// Whether a block is held once and its bit is clear, so that no other version has it.
+    pub fn is_held_alone(&self, n: u32) -> bool
+        requires { n < self.now.size }
+        ensures { IsTrue result ↔ ((bit self.now n ≡ 0) × (holds self.now n ≡ 1)) }
+    {
+        !self.bits[n as usize] && self.held[n as usize] == 1
+    }
+
     /// Whether there is room to book so many blocks more.
     pub fn can_book(&self, n: u32) -> bool
         ensures { IsTrue result ↔ (self.now.booked + n ≤ space self.now.size) }

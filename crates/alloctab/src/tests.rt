@@ -108,6 +108,22 @@ fn blocks_are_held_and_booked(rt: HostRuntime) -> Result<(), Fail> {
 }
 
 #[test]
+fn a_block_held_alone(rt: HostRuntime) -> Result<(), Fail> {
+    let mut disk = MemDisk::new(rt.alloc(), 64, 0)?;
+    load_table(&rt, &mut disk, 0o777777400000, 0);
+    assert!(rt; disk.blocks() == 64);
+    let mut table = Table::load(rt.alloc(), &mut disk)?;
+    assert!(rt; table.take() == Some(19));
+    assert!(rt; table.is_held_alone(19) && !table.is_held_alone(20));
+    table.hold(19);
+    assert!(rt; !table.is_held_alone(19));
+    table.unhold(19);
+    table.set(19);
+    assert!(rt; !table.is_held_alone(19));
+    Ok(())
+}
+
+#[test]
 fn what_is_reached_is_set(rt: HostRuntime) -> Result<(), Fail> {
     let mut disk = MemDisk::new(rt.alloc(), 64, 0)?;
     load_table(&rt, &mut disk, 0o777777400000, 0);

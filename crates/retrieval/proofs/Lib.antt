@@ -7,4 +7,11 @@ pub mod Writing
 pub mod Building
 pub mod Taking
 pub mod RibCounts
+pub mod Parts
+pub mod Holding
+pub mod NewBlocks
+pub mod Placed
+pub mod Staying
+pub mod Growing
+pub mod Putting
 pub mod Whole

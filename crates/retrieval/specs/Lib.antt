@@ -6,3 +6,5 @@ pub mod Heads
 pub mod Spelling
 pub mod Reading
 pub mod Writing
+pub mod Bodies
+pub mod Placing

@@ -37,3 +37,37 @@ impl From<NoMemory> for RetrievalError {
         RetrievalError::NoMemory
     }
 }
+
+/// Why the words of a body weren't read or written.
+#[derive(Clone, Copy, Debug, PartialEq, Eq, Error)]
+pub enum BodyError {
+    /// This data block is damaged.
+    #[error("bad data block {0}")]
+    BadData(u32),
+    /// The device failed.
+    #[error("device fault")]
+    Device,
+    /// A growth was refused.
+    #[error("out of memory")]
+    NoMemory,
+}
+
+impl From<AllocError> for BodyError {
+    ghost use Rattle.retrieval.specs.declared.error.BodyError.TheVariants.{NoMemory};
+
+    ghost from_gives = { λ refused error. error ≡ NoMemory };
+
+    fn from(_refused: AllocError) -> BodyError {
+        BodyError::NoMemory
+    }
+}
+
+impl From<NoMemory> for BodyError {
+    ghost use Rattle.retrieval.specs.declared.error.BodyError.TheVariants.{NoMemory};
+
+    ghost from_gives = { λ refused error. error ≡ NoMemory };
+
+    fn from(_refused: NoMemory) -> BodyError {
+        BodyError::NoMemory
+    }
+}

@@ -16,17 +16,26 @@
 //!    different, in the free space and free before; at Ok the version stands there, and it is read back
 //!    where its data blocks lie in the free space. (`written`, `read_back`, `taken`, `own`, `apart`,
 //!    `touched`)
-//! 7. Memory is taken for the lists of blocks alone, and a `Version` whose growth is refused stays as it
-//!    was.
+//! 7. `get_words` answers the words of a body that stand there from a block on, as many as are asked for
+//!    and are there, or names a data block that is damaged. (`words`, `few`, `damaged`)
+//! 8. After `put_words` the blocks hold the body with the words put, zeros before them where it ended
+//!    before; none is written that another version reaches, and the table holds one for the other.
+//!    (`body`, `length`, `counted`, `touched`, `held`)
+//! 9. Memory is taken for the lists of blocks and for the words that are read, and a `Version` whose growth
+//!    is refused stays as it was.
 #![tactic(auto)]
 
+mod body;
 mod build;
 mod error;
 mod head;
+mod kept;
 mod mode;
 mod parse;
+mod place;
 mod pointers;
 mod prime;
+mod put;
 mod read;
 mod runs;
 mod space;
@@ -37,10 +46,12 @@ mod write;
 #[cfg(test)]
 mod write_tests;
 
+pub use body::get_words;
 pub use build::prime_block;
-pub use error::RetrievalError;
+pub use error::{BodyError, RetrievalError};
 pub use mode::Mode;
 pub use prime::Prime;
+pub use put::put_words;
 pub use read::read_version;
 pub use version::Version;
 pub use write::write_version;

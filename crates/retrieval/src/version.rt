@@ -1,6 +1,10 @@
-ghost use Rattle.std.specs.Prelude.{◌≡◌, ◌<◌, ◌++◌, ◌∷◌, [], slice_set, slice_get, length, Some, IfOk, OnOk, OnErr};
+ghost use Rattle.std.specs.Prelude.{◌≡◌, ◌+◌, ◌-◌, ◌<◌, ◌≤◌, ◌++◌, ◌∷◌, [], slice_set, slice_get, length, take, drop, replicate, Some, IfOk, OnOk, OnErr};
+ghost use Rattle.alloctab.specs.TableState.{IsTable, space, used_in_space};
 ghost use Rattle.retrieval.specs.Versions.{VersionState};
+ghost use Rattle.retrieval.specs.Writing.{Takes, IsFixed};
 
+use crate::write::take_blocks;
+use alloctab::Table;
 use blockdisk::NoMemory;
 use std::alloc::Global;
 use std::marker::Model;
@@ -80,7 +84,7 @@ impl Version {
         ensures ok { OnOk result (self.new ≡ record self.old { blocks = slice_set self.old.blocks i n }) }
         ensures err { OnErr result (self.new ≡ self.old) }
     {
-        self.blocks[i] = n;
+        self.put_block(i, n);
         Ok(())
     }
 
@@ -112,6 +116,51 @@ impl Version {
             Ok(()) => Ok(()),
             Err(_) => Err(NoMemory),
         }
+    }
+
+    /// Makes the list of data blocks this long. New places have block 0, and are to be filled before anyone
+    /// looks at them.
+    ///
+    /// # Errors
+    ///
+    /// `NoMemory` where there is no memory; nothing changes then.
+    pub(crate) fn resize(&mut self, count: usize) -> Result<(), NoMemory>
+        ensures ok { OnOk result (self.new ≡ record self.old { blocks = take count self.old.blocks ++ replicate (count - length self.old.blocks) 0 }) }
+        ensures err { OnErr result (self.new ≡ self.old) }
+    {
+        match self.blocks.resize(count, 0) {
+            Ok(()) => Ok(()),
+            Err(_) => Err(NoMemory),
+        }
+    }
+
+    /// Lets the data blocks from a place on go.
+    pub(crate) fn truncate(&mut self, count: usize)
+        ensures { self.new ≡ record self.old { blocks = take count self.old.blocks } }
+    {
+        self.blocks.truncate(count);
+    }
+
+    /// Puts another block at a place.
+    pub(crate) fn put_block(&mut self, i: usize, n: u32)
+        requires { i < length self.old.blocks }
+        ensures { self.new ≡ record self.old { blocks = slice_set self.old.blocks i n } }
+    {
+        self.blocks[i] = n;
+    }
+
+    /// Takes a free block for each place from one on.
+    pub(crate) fn fill(&mut self, from: usize, table: &mut Table)
+        requires from { from ≤ length self.old.blocks }
+        requires sound { IsTable table.old }
+        requires fixed { IsFixed table.old }
+        requires used { used_in_space table.old + (length self.old.blocks - from) ≤ table.old.booked }
+        requires room { table.old.booked ≤ space table.old.size }
+        ensures taken { Takes table.old (drop from self.new.blocks) table.new }
+        ensures kept { self.new ≡ record self.old { blocks = take from self.old.blocks ++ drop from self.new.blocks } }
+        ensures long { length self.new.blocks ≡ length self.old.blocks }
+    {
+        take_blocks(table, &mut self.blocks[from..]);
     }
 
     /// Puts other ribs in the place of all.

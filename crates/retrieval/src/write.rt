@@ -79,7 +79,7 @@ fn write_ribs<D: Disk>(disk: &mut D, ribs: &[u32], blocks: &[u32]) -> Result<(),
 }
 
 /// Takes a free block. There is one, since fewer are used than are booked.
-fn take_block(table: &mut Table) -> u32
+pub(crate) fn take_block(table: &mut Table) -> u32
     requires used { used_in_space table.old < table.old.booked }
     requires room { table.old.booked ≤ space table.old.size }
     ensures free { (result < table.old.size) × IsFree table.old result }
@@ -92,7 +92,7 @@ fn take_block(table: &mut Table) -> u32
 }
 
 /// Takes free blocks, one after the other.
-fn take_blocks(table: &mut Table, blocks: &mut [u32])
+pub(crate) fn take_blocks(table: &mut Table, blocks: &mut [u32])
     requires sound { IsTable table.old }
     requires fixed { IsFixed table.old }
     requires used { used_in_space table.old + length blocks.old ≤ table.old.booked }

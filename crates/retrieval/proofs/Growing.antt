@@ -1,0 +1,69 @@
+-- A list of blocks that grows by free ones.
+use Rattle.std.proofs.Common.{◌≡◌, ℕ, ◌+◌, ◌-◌, ◌<◌, List, [], ◌∷◌, ◌++◌, length, max, take, drop, refl, sym, ◌∙◌, ap, subst, arith}
+use Rattle.std.specs.Prelude.{slice_index}
+use Rattle.std.specs.List.{AllByRecursion}
+use Rattle.std.proofs.lemmas.Bool.Decides.{nat_tests}
+use Rattle.std.proofs.lemmas.List.{length-append, get_or_append_left}
+use Rattle.meaning.specs.Faults.{InSpace}
+use Rattle.meaning.specs.Maps.{times}
+use Rattle.meaning.specs.Splices.{length_after, block_start}
+use Rattle.meaning.proofs.MapSums.{times-append}
+use Rattle.meaning.proofs.Walking.{all_times}
+use Rattle.alloctab.specs.TableState.{TableState, IsTable, holds, with_held, uses}
+use Rattle.alloctab.specs.TableLaws.{sound-with_held}
+
+use Rattle.retrieval.specs.Writing.{Takes, IsFixed}
+use Rattle.retrieval.proofs.Taking.{free_in_space, may_be_written, all_of}
+use Rattle.retrieval.proofs.Holding.{holds_taken, uses-with_held}
+
+-- what taking blocks does to a table
+takes_table : (t : TableState) (ns : List ℕ) (t' : TableState) → Takes t ns t' → t' ≡ record t { held = t'.held }
+takes_table t [] t' takes = subst (λ (u : TableState). u ≡ record t { held = u.held }) (sym takes) refl
+takes_table t (n ∷ ns) t' takes = takes_table (with_held t n (holds t n + 1)) ns t' takes.2
+
+takes_holds : (t : TableState) (ns : List ℕ) (t' : TableState) → IsTable t → Takes t ns t' → (m : ℕ) → holds t' m ≡ holds t m + times m ns
+takes_holds t [] t' sound takes m = let e = ap (λ (u : TableState). holds u m) takes in omega arith
+takes_holds t (n ∷ ns) t' sound takes m =
+    let rest = takes_holds (with_held t n (holds t n + 1)) ns t' (sound-with_held t n (holds t n + 1) sound) takes.2 m in
+    let one = holds_taken t n m sound takes.0 in
+    omega arith
+
+takes_uses : (t : TableState) (ns : List ℕ) (t' : TableState) → IsTable t → IsFixed t → Takes t ns t' → uses t' ≡ uses t + length ns
+takes_uses t [] t' sound fixed takes = let e = ap uses takes in omega arith
+takes_uses t (n ∷ ns) t' sound fixed takes =
+    let rest = takes_uses (with_held t n (holds t n + 1)) ns t' (sound-with_held t n (holds t n + 1) sound) fixed takes.2 in
+    let one = uses-with_held t n (holds t n + 1) sound (free_in_space t n fixed takes.1) takes.0 in
+    omega arith
+
+all_append : (P : ℕ → Type 0) (xs ys : List ℕ) → AllByRecursion P xs → AllByRecursion P ys → AllByRecursion P (xs ++ ys)
+all_append P [] ys a b = b
+all_append P (x ∷ xs) ys a b = (a.0, all_append P xs ys a.1 b)
+
+-- Free blocks of the table stand behind those of the list.
+pub record IsGrown (size : ℕ) (t t' : TableState) (xs xs' : List ℕ) : Type 0 where
+  pub table : t' ≡ record t { held = t'.held }
+  pub held : (n : ℕ) → holds t' n + times n xs ≡ holds t n + times n xs'
+  pub used : uses t' ≡ uses t + (length xs' - length xs)
+  pub inside : AllByRecursion (InSpace size) xs'
+  pub front : (j : ℕ) → j < length xs → slice_index xs' j ≡ slice_index xs j
+
+grown_by : (size : ℕ) (t t' : TableState) (xs ns : List ℕ) → t.size ≡ size → IsTable t → IsFixed t → AllByRecursion (InSpace size) xs → Takes t ns t' → IsGrown size t t' xs (xs ++ ns)
+grown_by size t t' xs ns is sound fixed inside takes = record {
+  table = takes_table t ns t' takes;
+  held = λ n. let a = takes_holds t ns t' sound takes n in let b = times-append n xs ns in omega arith;
+  used = let a = takes_uses t ns t' sound fixed takes in let b = length-append xs ns in omega arith;
+  inside = all_append (InSpace size) xs ns inside (all_times (InSpace size) ns (λ n there. (may_be_written size t ns t' is sound fixed takes n there).1));
+  front = λ j below. get_or_append_left xs ns 0 j below;
+}
+
+-- The list was made longer first, and its new places filled then.
+pub grown : (size : ℕ) (t t' : TableState) (xs zs longer xs' : List ℕ) (had : ℕ) → t.size ≡ size → IsTable t → IsFixed t → AllByRecursion (InSpace size) xs → had ≡ length xs → longer ≡ xs ++ zs
+    → xs' ≡ take had longer ++ drop had xs' → Takes t (drop had xs') t' → IsGrown size t t' xs xs'
+grown size t t' xs zs longer xs' had is sound fixed inside count made filled takes =
+    let front : take had longer ≡ xs = ap (take had) made ∙ all_of had xs zs (sym count) in
+    let e : xs ++ drop had xs' ≡ xs' = ap (λ (l : List ℕ). l ++ drop had xs') (sym front) ∙ sym filled in
+    subst (IsGrown size t t' xs) e (grown_by size t t' xs (drop had xs') is sound fixed inside takes)
+
+-- how long a body is after some words are put
+pub after_some : (words block count : ℕ) → 0 < count → length_after words block count ≡ max words (block_start block + count)
+after_some words block count some = grind (arith, nat_tests)

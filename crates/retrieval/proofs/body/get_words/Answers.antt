@@ -1,0 +1,54 @@
+use Rattle.std.proofs.Common.{◌≡◌, ◌+◌, ◌-◌, ◌*◌, ◌<◌, ◌≤◌, ℕ, List, length, sym, ap, subst, ◌∙◌, arith, rules}
+use Rattle.std.specs.Prelude.{slice_index}
+use Rattle.std.proofs.lemmas.List.{length-append, length-take}
+use Rattle.std.proofs.lemmas.Result.{err_from_is_err_and}
+use Rattle.blockdisk.specs.Laws.{same_disk_on}
+use Rattle.meaning.specs.Splices.{block_start}
+use Rattle.retrieval.specs.declared.error.BodyError.TheVariants.{BadData}
+use Rattle.retrieval.proofs.RunLists.{handed_on}
+use Rattle.retrieval.proofs.Readings.{keeps_on}
+use Rattle.retrieval.proofs.Parts.{whole_from, damaged_at, read_more, read_all}
+use Rattle.retrieval.proofs.body.get_words.Goals as goal
+
+pub returns-in_err-data-clause-damaged : goal.returns-in_err-data-clause-damaged
+returns-in_err-data-clause-damaged g c h k is =
+    let s = g.D.Disk.state c.args.disk.now in
+    let at : ℕ = c.args.block - 1 + c.loop-i.i in
+    let below : at < length c.args.version.now.blocks = let b = c.loop-i-test.true in let e = c.words_there-wanted.ensures in let f = c.requires.counted in let d = c.requires.first in omega (arith, c.length.ensures) in
+    let p = err_from_is_err_and c.from_residual-in_err-data.result c.from_residual-in_err-data.ensures.1 in
+    let e = c.read_data.ensures.bad (c.loop-i.invariant.same.honest h) k (handed_on c.from_residual-in_err-data.result c.read_data.result p.0 c.in_err-data.field-0.0 (BadData k) is p.1 p.2 c.in_err-data.was) in
+    damaged_at s.contents (g.D.Disk.state c.loop-i.disk).contents c.args.version.now.blocks c.blocks-blocks.result.now k at c.blocks-blocks.ensures below e.0 e.1 (c.loop-i.invariant.keeps h).contents
+
+pub returns-in_err-data-clause-keeps : goal.returns-in_err-data-clause-keeps
+returns-in_err-data-clause-keeps g c h =
+    keeps_on (g.D.Disk.state c.args.disk.now) (g.D.Disk.state c.loop-i.disk) (g.D.Disk.state c.read_data.new.disk) (c.loop-i.invariant.keeps h)
+    (c.read_data.ensures.keeps (c.loop-i.invariant.same.honest h))
+
+pub loop-i-preserved : goal.loop-i-preserved
+loop-i-preserved g c =
+    let s = g.D.Disk.state c.args.disk.now in
+    let now = g.D.Disk.state c.loop-i.disk in
+    let new = g.D.Disk.state c.read_data.new.disk in
+    let items = c.loop-i.words.items in
+    let data' = c.in_ok-data.data in
+    let here = c.min-here.result in
+    let at : ℕ = c.args.block - 1 + c.loop-i.i in
+    let below : at < length c.args.version.now.blocks = let b = c.loop-i-test.true in let e = c.words_there-wanted.ensures in let f = c.requires.counted in let d = c.requires.first in omega (arith, c.length.ensures) in
+    let few : here ≤ 128 = let e = c.min-here.ensures in omega arith in
+    let from : block_start c.args.block + length items ≡ at * 128 = let b = c.loop-i-test.true in let e = c.loop-i.invariant.long in let d = c.requires.first in omega arith in
+    record {
+      same = same_disk_on s now new c.loop-i.invariant.same c.read_data.ensures.same;
+      served = c.in_ok-data.ensures.served (λ is. cc) ∙ c.loop-i.invariant.served;
+      keeps = λ h. keeps_on s now new (c.loop-i.invariant.keeps h) (c.read_data.ensures.keeps (c.loop-i.invariant.same.honest h));
+      long = search (rules, length-append, length-take);
+      room = search rules;
+      read = λ h body is whole has.
+          let read = read_more s.contents c.args.version.now.blocks body whole has (block_start c.args.block) at items data' here few from below
+          (ap (λ (l : List ℕ). s.contents (slice_index l at)) (sym c.blocks-blocks.ensures) ∙ sym ((c.loop-i.invariant.keeps h).contents (slice_index c.blocks-blocks.result.now at)) ∙ c.in_ok-data.ensures.words (c.loop-i.invariant.same.honest h))
+          (search rules) (let a = c.loop-i.invariant.long in let e = c.min-here.ensures in let f = c.words_there-wanted.ensures in let l = c.len.ensures in omega arith) (c.loop-i.invariant.read h body is (whole_from (g.D.Disk.state c.args.disk.now).contents c.args.version.now.blocks body has) has) in
+          subst (λ (l : List ℕ). (p : ℕ) → p < length l → slice_index l p ≡ slice_index body (block_start c.args.block + p)) (sym c.in_ok-extend_from_slice.ensures.items) read;
+    }
+
+pub returns-clause-words : goal.returns-clause-words
+returns-clause-words g c h body is has =
+    read_all body c.loop-i.words.items (block_start c.args.block) c.args.count (let a = c.loop-i.invariant.long in let b = c.loop-i-test.false in let e = c.words_there-wanted.ensures in omega arith) (c.loop-i.invariant.read h body is (whole_from (g.D.Disk.state c.args.disk.now).contents c.args.version.now.blocks body has) has)

@@ -1,0 +1,70 @@
+use Rattle.std.proofs.Common.{◌≡◌, ◌+◌, ◌<◌, ◌≤◌, ℕ, List, length, refl, sym, ap, ◌∙◌, subst, arith}
+use Rattle.std.specs.Prelude.{slice_set}
+use Rattle.std.specs.List.{AllByRecursion}
+use Rattle.std.proofs.lemmas.List.{length-set}
+use Rattle.blockdisk.specs.Laws.{same_disk_start, same_disk_on, touches_start, touches_write}
+use Rattle.meaning.specs.Faults.{InSpace}
+use Rattle.meaning.specs.Maps.{times}
+use Rattle.retrieval.specs.Bodies.{IsOwn}
+use Rattle.retrieval.specs.Placing.{IsPlaced}
+use Rattle.retrieval.specs.Versions.{VersionState}
+use Rattle.retrieval.proofs.Placed.{placed_none, placed_more, same_on, size_same, own_before, held_again, inside_set}
+use Rattle.retrieval.proofs.place.write_places.Goals as goal
+
+pub loop-i-init : goal.loop-i-init
+loop-i-init g c =
+    let s = g.D.Disk.state c.args.disk.now in
+    record {
+      same = same_disk_start s;
+      served = refl;
+      touched = λ h. touches_start (IsOwn c.args.table.now c.args.version.now.blocks) s;
+      version = refl;
+      long = refl;
+      inside = c.requires.inside;
+      table = refl;
+      held = λ n. refl;
+      used = refl;
+      placed = λ h. placed_none s.contents c.args.version.now.blocks c.args.at c.args.words.now c.args.kept.now.place c.args.kept.now.words c.args.first c.args.first refl;
+    }
+
+pub returns-in_err-write-clause-touched : goal.returns-in_err-write-clause-touched
+returns-in_err-write-clause-touched g c h =
+    let t = c.args.table.now in
+    let xs = c.args.version.now.blocks in
+    let same = same_on t c.loop-i.table c.loop-i.invariant.table c.own_place-n.new.table c.own_place-n.ensures.table in
+    let held = held_again t c.loop-i.table c.loop-i.invariant.table xs c.loop-i.version.blocks c.loop-i.invariant.held c.own_place-n.new.table c.own_place-n.new.version.blocks c.own_place-n.ensures.held in
+    touches_write (IsOwn t xs) c.own_place-n.result (g.D.Disk.state c.args.disk.now) (g.D.Disk.state c.loop-i.disk) (g.D.Disk.state c.write.new.self)
+    (own_before t c.own_place-n.new.table same xs c.own_place-n.new.version.blocks held c.own_place-n.result c.own_place-n.ensures.own)
+    (c.loop-i.invariant.touched h) (c.write.ensures.writes (c.loop-i.invariant.same.honest h))
+
+pub loop-i-preserved : goal.loop-i-preserved
+loop-i-preserved g c =
+    let s = g.D.Disk.state c.args.disk.now in
+    let now = g.D.Disk.state c.loop-i.disk in
+    let new = g.D.Disk.state c.write.new.self in
+    let t = c.args.table.now in
+    let xs = c.args.version.now.blocks in
+    let n = c.own_place-n.result in
+    let i = c.loop-i.i in
+    let same = same_on t c.loop-i.table c.loop-i.invariant.table c.own_place-n.new.table c.own_place-n.ensures.table in
+    let held = held_again t c.loop-i.table c.loop-i.invariant.table xs c.loop-i.version.blocks c.loop-i.invariant.held c.own_place-n.new.table c.own_place-n.new.version.blocks c.own_place-n.ensures.held in
+    let blocks_are : c.own_place-n.new.version.blocks ≡ slice_set c.loop-i.version.blocks i n = ap (λ (v : VersionState). v.blocks) c.own_place-n.ensures.version in
+    let size : c.loop-i.table.size ≡ s.size = size_same t c.loop-i.table c.loop-i.invariant.table ∙ c.requires.size in
+    let below : i < length c.loop-i.version.blocks = let a = c.loop-i.invariant.long in let b = c.requires.fits in let d = c.loop-i-test.true in omega arith in
+    let first : c.args.first ≤ i = let a = c.loop-i.auto in omega arith in
+    record {
+      same = same_disk_on s now new c.loop-i.invariant.same c.write.ensures.same;
+      served = c.in_ok-write.ensures.served ∙ c.loop-i.invariant.served;
+      touched = λ h. touches_write (IsOwn t xs) n s now new (own_before t c.own_place-n.new.table same xs c.own_place-n.new.version.blocks held n c.own_place-n.ensures.own)
+          (c.loop-i.invariant.touched h) (c.write.ensures.writes (c.loop-i.invariant.same.honest h));
+      version = c.own_place-n.ensures.version ∙ sym (ap (λ (v : VersionState). record v { blocks = slice_set c.loop-i.version.blocks i n }) (sym c.loop-i.invariant.version)) ∙ ap (λ (l : List ℕ). record c.args.version.now { blocks = l }) (sym blocks_are);
+      long = ap length blocks_are ∙ length-set c.loop-i.version.blocks i n ∙ c.loop-i.invariant.long;
+      inside = subst (AllByRecursion (InSpace s.size)) (sym blocks_are) (inside_set s.size c.loop-i.version.blocks i n c.loop-i.invariant.inside (subst (λ (z : ℕ). InSpace z n) size c.own_place-n.ensures.inside));
+      table = same;
+      held = held;
+      used = c.own_place-n.ensures.used ∙ c.loop-i.invariant.used;
+      placed = λ h. subst (λ (l : List ℕ). IsPlaced s.contents new.contents xs l c.args.at c.args.words.now c.args.kept.now.place c.args.kept.now.words c.args.first (i + 1)) (sym blocks_are)
+          (placed_more s.contents xs c.args.at c.args.words.now c.args.kept.now.place c.args.kept.now.words c.args.first now.contents new.contents c.loop-i.version.blocks i n c.new_block-block.result
+          (c.loop-i.invariant.placed h) c.loop-i.invariant.long first below (subst (λ (l : List ℕ). times n l ≡ 1) blocks_are c.own_place-n.ensures.alone)
+          (c.write.ensures.writes (c.loop-i.invariant.same.honest h)).contents (c.in_ok-write.ensures.put (c.loop-i.invariant.same.honest h)) c.new_block-block.ensures);
+    }

@@ -1,0 +1,15 @@
+-- Bodies: the words of a version, and the blocks that may be written where they change.
+use Rattle.std.specs.Prelude.{◌≡◌, ℕ, List, length, IfSome}
+use Rattle.std.specs.List.{AllByRecursion}
+use Rattle.blockdisk.specs.Disk.{Contents}
+use Rattle.meaning.specs.Maps.{times}
+use Rattle.alloctab.specs.TableState.{TableState, bit, holds}
+
+-- Each of these blocks that isn't damaged holds 128 words.
+abbrev pub AreWhole : Contents → List ℕ → Type 0
+AreWhole contents blocks = AllByRecursion (λ n. IfSome (contents n) (λ words. length words ≡ 128)) blocks
+
+-- A block that no other version reaches: its bit is clear, and it is held as often as it stands among these.
+pub record IsOwn (t : TableState) (blocks : List ℕ) (n : ℕ) : Type 0 where
+  pub clear : bit t n ≡ 0
+  pub alone : holds t n ≡ times n blocks

@@ -1,0 +1,120 @@
+ghost use Rattle.std.specs.Prelude.{◌≡◌, ◌+◌, ◌-◌, ◌*◌, ◌/◌, ◌%◌, ◌<◌, ◌≤◌, ◌++◌, ℕ, List, None, IfOk, IfSome, IfNone, IsErrOf, length, min, take, drop, slice_index};
+ghost use Rattle.std.specs.List.{AllByRecursion};
+ghost use Rattle.blockdisk.specs.Disk.{Keeps, SameDisk, one_more};
+ghost use Rattle.meaning.specs.Costs.{blocks_of};
+ghost use Rattle.meaning.specs.Faults.{InSpace};
+ghost use Rattle.meaning.specs.Maps.{times};
+ghost use Rattle.meaning.specs.Retrieval.{HasBody};
+ghost use Rattle.retrieval.specs.Bodies.{AreWhole};
+ghost use Rattle.retrieval.specs.Placing.{kept_word, IsEdge, Stays, IsNewBlock};
+ghost use Rattle.retrieval.specs.declared.error.BodyError.TheVariants.{BadData, Device, NoMemory};
+
+use crate::BodyError;
+use crate::body::read_data;
+use blockdisk::Disk;
+use words36::{BLOCK_WORDS, Block, Word};
+
+/// The words of a body that stay in a block that is written: the place of the block, counted from 0, and
+/// its words as far as the body goes, with zeros behind. Of all other blocks no word stays.
+#[derive(Drop)]
+pub(crate) struct Kept {
+    pub(crate) place: usize,
+    pub(crate) words: Block,
+}
+
+/// The place of the block that is read before so many words are put from block `at` of a body on: the last
+/// one, where the words begin behind it, or the one in which they end. `None` where no word stays.
+fn kept_place(total: usize, at: usize, count: usize) -> Option<usize>
+    requires { at * 128 + count ≤ 2097152 }
+    ensures some { IfSome result (λ place. IsEdge total at count place) }
+    ensures put_behind { IfNone result (total < at * 128 → total % 128 ≡ 0) }
+    ensures put_inside { IfNone result (at * 128 + count < total → (at * 128 + count) % 128 ≡ 0) }
+{
+    let start = at * BLOCK_WORDS;
+    let end = start + count;
+    if total < start && total % BLOCK_WORDS != 0 {
+        return Some(total / BLOCK_WORDS);
+    }
+    if end < total && end % BLOCK_WORDS != 0 {
+        return Some(end / BLOCK_WORDS);
+    }
+    None
+}
+
+/// The first words of a block, and zeros behind.
+fn front_of(block: &Block, count: usize) -> Block
+    ensures front { (k : ℕ) → k < 128 → k < count → slice_index result k ≡ slice_index block.now k }
+    ensures zeros { (k : ℕ) → k < 128 → count ≤ k → slice_index result k ≡ 0 }
+{
+    let mut front = [Word::ZERO; BLOCK_WORDS];
+    let count = count.min(BLOCK_WORDS);
+    front[..count].copy_from_slice(&block[..count]);
+    front
+}
+
+/// Reads the words that stay where so many words are put from block `at` of a body of `total` words on.
+///
+/// # Errors
+///
+/// `BadData` with a block that is damaged, `Device` where the device failed.
+pub(crate) fn read_kept<D: Disk>(
+    disk: &mut D,
+    blocks: &[u32],
+    total: usize,
+    at: usize,
+    count: usize,
+) -> Result<Kept, BodyError>
+    requires inside { AllByRecursion (InSpace (D.state disk.old).size) blocks.now }
+    requires counted { length blocks.now ≡ blocks_of total }
+    requires fits { at * 128 + count ≤ 2097152 }
+
+    ensures kept { (D.state disk.old).honest → (body : List ℕ) → length body ≡ total → AreWhole (D.state disk.old).contents blocks.now → HasBody (D.state disk.old).contents blocks.now body → IfOk result (λ kept. Stays body (min at (total / 128)) at count kept.place kept.words) }
+    ensures damaged { (D.state disk.old).honest → (k : ℕ) → IsErrOf result (BadData k) → (0 < times k blocks.now) × ((D.state disk.old).contents k ≡ None) }
+    ensures memory { IsErrOf result NoMemory → ⊥ }
+    ensures keeps { (D.state disk.old).honest → Keeps (D.state disk.old) (D.state disk.new) }
+    ensures same { SameDisk (D.state disk.old) (D.state disk.new) }
+    ensures failed { IsErrOf result Device → (D.state disk.new).failures ≡ one_more (D.state disk.old).failures }
+    ensures served { (IsErrOf result Device → ⊥) → (D.state disk.new).failures ≡ (D.state disk.old).failures }
+{
+    let Some(place) = kept_place(total, at, count) else {
+        let words = [Word::ZERO; BLOCK_WORDS];
+        return Ok(Kept { place: 0, words });
+    };
+    let block = read_data(disk, blocks[place])?;
+    let words = front_of(&block, total - place * BLOCK_WORDS);
+    Ok(Kept { place, words })
+}
+
+/// The words that stay in the block at a place, with zeros where none does.
+fn words_kept(kept: &Kept, i: usize) -> Block
+    ensures { (k : ℕ) → k < 128 → slice_index result k ≡ kept_word kept.now.place kept.now.words (i * 128 + k) }
+{
+    if i == kept.place {
+        kept.words
+    } else {
+        [Word::ZERO; BLOCK_WORDS]
+    }
+}
+
+/// A block with words put over its first ones, as many as it has room for.
+fn put_over(block: &Block, words: &[Word]) -> Block
+    ensures { result ≡ take (min (length words.now) 128) words.now ++ drop (min (length words.now) 128) block.now }
+{
+    let mut new = *block;
+    let count = words.len().min(BLOCK_WORDS);
+    new[..count].copy_from_slice(&words[..count]);
+    new
+}
+
+/// The new words of the block at a place, where words are put from block `at` on. Both are counted from 0.
+pub(crate) fn new_block(kept: &Kept, at: usize, words: &[Word], i: usize) -> Block
+    requires fits { (i - at) * 128 ≤ length words.now }
+    requires few { i < 16384 }
+    ensures { IsNewBlock at words.now kept.now.place kept.now.words i result }
+{
+    let block = words_kept(kept, i);
+    if i < at {
+        return block;
+    }
+    put_over(&block, &words[(i - at) * BLOCK_WORDS..])
+}

@@ -1,0 +1,97 @@
+ghost use Rattle.std.specs.Prelude.{◌≡◌, ◌+◌, ◌<◌, ◌≤◌, ℕ, length, slice_set, OnOk, IsErrOf};
+ghost use Rattle.std.specs.List.{AllByRecursion};
+ghost use Rattle.blockdisk.specs.Disk.{SameDisk, Touches, one_more};
+ghost use Rattle.blockdisk.specs.declared.fault.Fault.TheVariants.{Device as DeviceFault, Damaged};
+ghost use Rattle.meaning.specs.Costs.{blocks_of};
+ghost use Rattle.meaning.specs.Faults.{InSpace};
+ghost use Rattle.meaning.specs.Maps.{times};
+ghost use Rattle.alloctab.specs.TableState.{holds, space, uses};
+ghost use Rattle.retrieval.specs.Bodies.{IsOwn};
+ghost use Rattle.retrieval.specs.Placing.{IsPlaced};
+ghost use Rattle.retrieval.specs.Writing.{IsFixed};
+
+use crate::Version;
+use crate::kept::{Kept, new_block};
+use crate::write::take_block;
+use alloctab::Table;
+use blockdisk::{Disk, Fault};
+use words36::{BLOCK_WORDS, Word};
+
+/// Makes the block at a place the version's own: the one that is there, or a free one in its place, which
+/// no other version reaches. Answers it.
+pub(crate) fn own_place(table: &mut Table, version: &mut Version, i: usize) -> u32
+    requires below { i < length version.old.blocks }
+    requires inside { AllByRecursion (InSpace table.old.size) version.old.blocks }
+    requires held { (n : ℕ) → times n version.old.blocks ≤ holds table.old n }
+    requires fixed { IsFixed table.old }
+    requires used { uses table.old < table.old.booked }
+    requires room { table.old.booked ≤ space table.old.size }
+
+    ensures version { version.new ≡ record version.old { blocks = slice_set version.old.blocks i result } }
+    ensures inside { InSpace table.old.size result }
+    ensures alone { times result version.new.blocks ≡ 1 }
+    ensures own { IsOwn table.new version.new.blocks result }
+
+    ensures table { table.new ≡ record table.old { held = table.new.held } }
+    ensures held { (n : ℕ) → holds table.new n + times n version.old.blocks ≡ holds table.old n + times n version.new.blocks }
+    ensures used { uses table.new ≡ uses table.old }
+{
+    let _booked = table.booked(); // which says that the table is sound
+    let shared = version.blocks()[i];
+    if table.is_held_alone(shared) {
+        return shared;
+    }
+    let n = take_block(table);
+    table.unhold(shared);
+    version.put_block(i, n);
+    n
+}
+
+/// Writes the blocks of a version from place `first` on, with words put from place `at` on over those that
+/// stay, and zeros before where none do. Each block that another version reaches is left, and a free one
+/// stands in its place.
+///
+/// # Errors
+///
+/// `Device` where the device failed; some of the places are written then.
+pub(crate) fn write_places<D: Disk>(
+    disk: &mut D,
+    table: &mut Table,
+    version: &mut Version,
+    kept: &Kept,
+    first: usize,
+    at: usize,
+    words: &[Word],
+) -> Result<(), Fault>
+    requires size { table.old.size ≡ (D.state disk.old).size }
+    requires fits { at + blocks_of (length words.now) ≤ length version.old.blocks }
+    requires few { length version.old.blocks ≤ 16384 }
+    requires order { first ≤ at }
+    requires inside { AllByRecursion (InSpace (D.state disk.old).size) version.old.blocks }
+    requires held { (n : ℕ) → times n version.old.blocks ≤ holds table.old n }
+    requires fixed { IsFixed table.old }
+    requires used { uses table.old < table.old.booked }
+    requires room { table.old.booked ≤ space table.old.size }
+
+    ensures placed { (D.state disk.old).honest → OnOk result (IsPlaced (D.state disk.old).contents (D.state disk.new).contents version.old.blocks version.new.blocks at words.now kept.now.place kept.now.words first (at + blocks_of (length words.now))) }
+
+    ensures version { version.new ≡ record version.old { blocks = version.new.blocks } }
+    ensures long { length version.new.blocks ≡ length version.old.blocks }
+    ensures inside { AllByRecursion (InSpace (D.state disk.old).size) version.new.blocks }
+    ensures table { table.new ≡ record table.old { held = table.new.held } }
+    ensures held { (n : ℕ) → holds table.new n + times n version.old.blocks ≡ holds table.old n + times n version.new.blocks }
+    ensures used { uses table.new ≡ uses table.old }
+    ensures touched { (D.state disk.old).honest → Touches (IsOwn table.old version.old.blocks) (D.state disk.old) (D.state disk.new) }
+
+    ensures same { SameDisk (D.state disk.old) (D.state disk.new) }
+    ensures device { IsErrOf result Damaged → ⊥ }
+    ensures failed { IsErrOf result DeviceFault → (D.state disk.new).failures ≡ one_more (D.state disk.old).failures }
+    ensures served { OnOk result ((D.state disk.new).failures ≡ (D.state disk.old).failures) }
+{
+    for i in first..at + words.len().div_ceil(BLOCK_WORDS) {
+        let n = own_place(table, version, i);
+        let block = new_block(kept, at, words, i);
+        disk.write(n, &block)?;
+    }
+    Ok(())
+}
