@@ -13,17 +13,26 @@ help:
 test:
 	rt ci
 
+# The first time every crate below the program is proved too; what was proved is kept below crates/*/out.
 build:
+	@echo 'The program and all crates below it are proved before it is built: up to half an hour the first time, on'
+	@echo 'four processors, and later only what has changed. "so far: N of M functions checked" speaks of one crate.'
 	cd crates/filser && rt run -- --version
 	mkdir -p bin
 	cp crates/filser/out/filser bin/filser
 
 # The second session is refused a directory that nobody has made: status 1.
 run: build
-	@set -e; program=$$PWD/bin/filser; folder=$$(mktemp -d); cd $$folder; set -x; \
+	@set -e; program=$$PWD/bin/filser; folder=$$(mktemp -d); cd $$folder; \
+	show() { printf '$$ %s\n' "$$1"; }; \
+	show "cd $$folder"; \
+	show "printf 'LOGIN [10,20]\\n' | filser"; \
 	printf 'LOGIN [10,20]\n' | $$program; \
+	show 'filser init DISK.IMG 64'; \
 	$$program init DISK.IMG 64; \
+	show 'ls -l DISK.IMG'; \
 	ls -l DISK.IMG; \
+	show "printf 'LOGIN [10,20]\\nDIRECTORY\\n' | filser run DISK.IMG"; \
 	printf 'LOGIN [10,20]\nDIRECTORY\n' | $$program run DISK.IMG || test $$? -eq 1
 
 install: build

@@ -1,5 +1,5 @@
 -- How a run ends whose words ask for nothing that is done.
-use Rattle.std.specs.Prelude.{◌≡◌, ◌⊎◌, [], ℕ}
+use Rattle.std.specs.Prelude.{◌≡◌, ◌⊎◌, []}
 use Rattle.clap.specs.Words.{Kinds, IsAmong, kind_of}
 use Rattle.clap.specs.declared.error.kind.ErrorKind.{ErrorKind}
 use Rattle.clap.specs.declared.error.kind.ErrorKind.TheVariants.{DisplayHelp, DisplayVersion}
