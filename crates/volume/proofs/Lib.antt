@@ -30,4 +30,5 @@ pub mod MakingLaw
 pub mod MakingLists
 pub mod MakingEntries
 pub mod LiveBodies
+pub mod PinnedFiles
 pub mod MakingDirectories

@@ -39,6 +39,7 @@ mod file_facts;
 mod file_tests;
 mod files;
 mod fresh;
+mod handles;
 mod home;
 #[cfg(test)]
 mod init_tests;
@@ -53,6 +54,7 @@ mod open;
 #[cfg(test)]
 mod open_tests;
 mod pending;
+mod pins;
 mod query;
 mod read;
 mod regions;
@@ -61,6 +63,7 @@ mod start;
 pub use error::{CallError, VolumeError};
 pub use file_facts::FileFacts;
 pub use files::StoredVersion;
+pub use handles::{Pending, Pin, VersionHandle};
 pub use map::{DiskMap, StoredDirectory, Volume};
 pub use regions::{LARGEST_VOLUME, SMALLEST_VOLUME};
 pub use start::read_volume;

@@ -246,6 +246,7 @@ pub fn unpin_version(map: &mut LiveMap, key: usize)
     requires held { IfSome (slot (core_of map.old).live key) (λ v. 0 < v.readers) }
     ensures known { (core_of map.new).known ≡ record (core_of map.old).known { table = (core_of map.new).known.table } }
     ensures keys { (core_of map.new).keys ≡ (core_of map.old).keys }
+    ensures pending { (core_of map.new).pending ≡ (core_of map.old).pending }
     ensures table { (core_of map.new).known.table ≡ record (core_of map.old).known.table { held = (core_of map.new).known.table.held; booked = (core_of map.new).known.table.booked } }
     ensures stays { (v : LiveVersion) → slot (core_of map.old).live key ≡ Some v → (v.is_current ≡ true) ⊎ (1 < v.readers)
         → (slot (core_of map.new).live key ≡ Some (record v { readers = v.readers - 1 })) × ((core_of map.new).known.table ≡ (core_of map.old).known.table) }
