@@ -1,5 +1,5 @@
 -- Bodies: the words of a version, and the blocks that may be written where they change.
-use Rattle.std.specs.Prelude.{◌≡◌, ℕ, List, length, IfSome}
+use Rattle.std.specs.Prelude.{◌≡◌, ℕ, ◌<◌, List, length, slice_index, IfSome}
 use Rattle.std.specs.List.{AllByRecursion}
 use Rattle.blockdisk.specs.Disk.{Contents}
 use Rattle.meaning.specs.Maps.{times}
@@ -13,3 +13,7 @@ AreWhole contents blocks = AllByRecursion (λ n. IfSome (contents n) (λ words. 
 pub record IsOwn (t : TableState) (blocks : List ℕ) (n : ℕ) : Type 0 where
   pub clear : bit t n ≡ 0
   pub alone : holds t n ≡ times n blocks
+
+-- The blocks of a list that are held once, for it, stand at the same places of another list.
+abbrev pub KeepsOwn : TableState → List ℕ → List ℕ → Type 0
+KeepsOwn t blocks others = (i : ℕ) → i < length blocks → bit t (slice_index blocks i) ≡ 0 → holds t (slice_index blocks i) ≡ 1 → slice_index others i ≡ slice_index blocks i
