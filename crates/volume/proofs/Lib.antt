@@ -31,4 +31,5 @@ pub mod MakingLists
 pub mod MakingEntries
 pub mod LiveBodies
 pub mod PinnedFiles
+pub mod ReadWords
 pub mod MakingDirectories

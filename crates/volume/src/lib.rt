@@ -59,6 +59,7 @@ mod query;
 mod read;
 mod regions;
 mod start;
+mod words;
 
 pub use error::{CallError, VolumeError};
 pub use file_facts::FileFacts;
