@@ -54,6 +54,8 @@ mod open;
 #[cfg(test)]
 mod open_tests;
 mod pending;
+#[cfg(test)]
+mod pin_tests;
 mod pins;
 mod query;
 mod read;
