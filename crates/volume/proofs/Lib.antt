@@ -31,3 +31,6 @@ pub mod MakingLists
 pub mod MakingEntries
 pub mod LiveBodies
 pub mod MakingDirectories
+pub mod BeginningCounts
+pub mod Growing
+pub mod Beginnings

@@ -27,6 +27,7 @@
 //! calls.
 #![tactic(auto)]
 
+mod begin;
 #[cfg(test)]
 mod call_tests;
 mod cost;
@@ -62,5 +63,6 @@ pub use error::{CallError, VolumeError};
 pub use file_facts::FileFacts;
 pub use files::StoredVersion;
 pub use map::{DiskMap, StoredDirectory, Volume};
+pub use pending::Pending;
 pub use regions::{LARGEST_VOLUME, SMALLEST_VOLUME};
 pub use start::read_volume;
