@@ -23,6 +23,7 @@ use Rattle.volume.specs.LiveCores.{core_of, live_directory}
 use Rattle.volume.specs.Beginning.{begin_cost, entries_with, begun, is_absent, IsDirectoryOf}
 use Rattle.volume.proofs.Growing.{absent_at, one_place, Adds, added_total, created_elsewhere, added_growths}
 use Rattle.volume.proofs.Pinning.{all_updated}
+use Rattle.volume.proofs.StillHeld.{counts_whole}
 
 -- what stands at a place of a list that is seen otherwise
 pub place_of : {A B : Type 0} (f : A → B) (xs : List A) (i : ℕ) (x d : A) → i < length xs → x ≡ get_or xs i d → slice_get (map f xs) i ≡ Some (f x)
@@ -69,16 +70,7 @@ pub begun_whole : (size : ℕ) (c : VolumeCore) (pending : List (Option PendingV
     → slice_get c.known.master.entries i ≡ Some (prime.ppn, v) → slice_get c.known.directories i ≡ Some d → booked ≡ c.known.table.booked + begin_cost is_new (entries_with c d prime.ppn) → booked < 2 ^ 63
     → IsWholeCore size (record c { known = record c.known { table = record c.known.table { booked = booked } }; pending = pending })
 begun_whole size c pending key prime is_new i v d booked whole adds is at costs fits = record {
-  map = record {
-    volume = whole.map.volume;
-    size_is = whole.map.size_is;
-    chain = whole.map.chain;
-    inside = whole.map.inside;
-    aligned = whole.map.aligned;
-    each = whole.map.each;
-    bits = whole.map.bits;
-    unchanged = whole.map.unchanged;
-  };
+  map = counts_whole size c.known c.known.table.held booked whole.map;
   keyed = whole.keyed;
   standing = whole.standing;
   waiting = all_updated (λ o. IfSome o (IsWholePending size)) c.pending pending key adds.others tt whole.waiting (subst (λ o. IfSome o (IsWholePending size)) (sym adds.here) (begun_pending size prime is_new));

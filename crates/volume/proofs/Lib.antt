@@ -32,5 +32,6 @@ pub mod MakingEntries
 pub mod LiveBodies
 pub mod MakingDirectories
 pub mod BeginningCounts
+pub mod StillHeld
 pub mod Growing
 pub mod Beginnings

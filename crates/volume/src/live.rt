@@ -198,7 +198,7 @@ fn goes_with_reader(versions: &Slab<LiveVersion>, key: usize) -> bool
 }
 
 /// Holds each of these blocks once less.
-fn unhold_all(table: &mut Table, blocks: &[u32])
+pub(crate) fn unhold_all(table: &mut Table, blocks: &[u32])
     requires held { (n : ℕ) → times n blocks.now ≤ holds table.old n }
     requires inside { (n : ℕ) → 0 < holds table.old n → n < table.old.size }
     ensures held { (n : ℕ) → holds table.new n + times n blocks.now ≡ holds table.old n }
