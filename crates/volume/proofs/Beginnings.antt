@@ -31,6 +31,12 @@ place_of f [] i x d below is = absurd (omega arith)
 place_of f (y ∷ ys) zero x d below is = ap (λ z. Some (f z)) (sym is)
 place_of f (y ∷ ys) (suc i) x d below is = place_of f ys i x d (omega arith) is
 
+-- something stands at each place
+pub some_at : {A : Type 0} (xs : List A) (i : ℕ) → i < length xs → (x : A) × (slice_get xs i ≡ Some x)
+some_at [] i below = absurd (omega arith)
+some_at (x ∷ xs) zero below = (x, refl)
+some_at (x ∷ xs) (suc i) below = some_at xs i (omega arith)
+
 -- the directory at the place of its entry
 pub directory_at : (size : ℕ) (m : LiveMap) (ppn i : ℕ) (v : ℕ × ℕ) (x : LiveDirectory) → IsWholeCore size (core_of m) → StandsAt nat_cmp (map master_view m.master.entries) ppn v i → x ≡ get_or m.directories.items i x
     → slice_get (core_of m).known.directories i ≡ Some (live_directory m.versions.slots x)

@@ -112,6 +112,22 @@ module _ (less more : List (Option PendingVersion)) (key : ℕ) (p : PendingVers
       by true ppn apart = grind (arith, nat_tests)
       by false ppn apart = refl
 
+  -- one that is created is counted
+  pub created_once : p.is_new ≡ true → total (creates p.prime.ppn) more ≡ total (creates p.prime.ppn) less + 1
+  created_once new = created_here ∙ ap (λ (b : Bool). total (creates p.prime.ppn) less + (if b then 1 else 0)) new
+
+  -- one that is no new entry leaves the directories alone
+  pub kept_growths : p.is_new ≡ false → (es : List MasterEntry) (ds : List KnownDirectory) → growths more es ds ≡ growths less es ds
+  kept_growths old = each
+    where
+      same : (q : ℕ) → total (creates q) more ≡ total (creates q) less
+      same q = added_total (creates q) refl ∙ ap (λ (b : Bool). total (creates q) less + (if b then (if p.prime.ppn == q then 1 else 0) else 0)) old ∙ omega arith
+
+      each : (es : List MasterEntry) (ds : List KnownDirectory) → growths more es ds ≡ growths less es ds
+      each [] ds = refl
+      each (e ∷ es) [] = refl
+      each (e ∷ es) (d ∷ ds) = λ i. (directory_cost (length d.chain.entries + same e.0 i) - directory_cost (length d.chain.entries)) + each es ds i
+
   pub added_growths : (es : List MasterEntry) (ds : List KnownDirectory) (i : ℕ) (v : ℕ × ℕ) (d : KnownDirectory) → EachOnce nat_cmp es → slice_get es i ≡ Some (p.prime.ppn, v) → slice_get ds i ≡ Some d
       → growths more es ds ≡ growths less es ds + (if p.is_new then growth (length d.chain.entries + total (creates p.prime.ppn) less) else 0)
   added_growths es ds i v d once is at = by p.is_new created_here

@@ -35,3 +35,4 @@ pub mod BeginningCounts
 pub mod StillHeld
 pub mod Growing
 pub mod Beginnings
+pub mod Dropping

@@ -59,10 +59,10 @@ pub begun_sound : (s : DiskState) (c c' : VolumeCore) (failed : Bool) (size key 
 begun_sound s c c' failed size key prime sound is whole begins =
     counts_sound s c c' failed size c.known.table.held _ sound (is ∙ ap (λ k. k.table.size) begins.known ∙ sound.whole.map.size_is) whole begins.live begins.known
     (λ k p there contents old. ⊎_elim
-        (λ (same : k ≡ key).
-            let both : Some p ≡ Some (begun prime (is_absent prime.file begins.directory)) = sym there ∙ ap (pending_at c'.pending) same ∙ begins.here in
-            subst (λ (q : PendingVersion). HasSomeBody contents q.version) (sym (some_same both)) (empty_body contents prime (is_absent prime.file begins.directory)))
-        (λ other. old p (sym (begins.others k other) ∙ there)) (cases_eq k key))
+    (λ (same : k ≡ key).
+    let both : Some p ≡ Some (begun prime (is_absent prime.file begins.directory)) = sym there ∙ ap (pending_at c'.pending) same ∙ begins.here in
+    subst (λ (q : PendingVersion). HasSomeBody contents q.version) (sym (some_same both)) (empty_body contents prime (is_absent prime.file begins.directory)))
+    (λ other. old p (sym (begins.others k other) ∙ there)) (cases_eq k key))
 
 -- a version less
 pub dropped_sound : (s : DiskState) (c c' : VolumeCore) (failed : Bool) (size key : ℕ) (held : List ℕ) (booked : ℕ) → IsSound s c failed → size ≡ c'.known.table.size → IsWholeCore size c' → pending_at c'.pending key ≡ None
@@ -70,5 +70,5 @@ pub dropped_sound : (s : DiskState) (c c' : VolumeCore) (failed : Bool) (size ke
 dropped_sound s c c' failed size key held booked sound is whole gone others live known =
     counts_sound s c c' failed size held booked sound (is ∙ ap (λ k. k.table.size) known ∙ sound.whole.map.size_is) whole live known
     (λ k p there contents old. ⊎_elim
-        (λ (same : k ≡ key). absurd (some_none (sym there ∙ ap (pending_at c'.pending) same ∙ gone)))
-        (λ other. old p (sym (others k other) ∙ there)) (cases_eq k key))
+    (λ (same : k ≡ key). absurd (some_none (sym there ∙ ap (pending_at c'.pending) same ∙ gone)))
+    (λ other. old p (sym (others k other) ∙ there)) (cases_eq k key))

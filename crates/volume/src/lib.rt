@@ -31,6 +31,7 @@ mod begin;
 #[cfg(test)]
 mod call_tests;
 mod cost;
+mod discard;
 mod error;
 mod event;
 #[cfg(test)]

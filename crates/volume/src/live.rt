@@ -13,8 +13,8 @@ ghost use Rattle.volume.specs.declared.live.LiveVersion.{LiveVersion};
 
 use crate::cost::version_cost;
 use crate::files::StoredVersion;
-use crate::pending::PendingVersion;
 use crate::map::{DiskMap, StoredDirectory};
+use crate::pending::PendingVersion;
 use alloctab::Table;
 use blockdisk::NoMemory;
 use directory::{Chain, FileEntry, MasterEntry};
