@@ -33,3 +33,8 @@ pub mod LiveBodies
 pub mod PinnedFiles
 pub mod ReadWords
 pub mod MakingDirectories
+pub mod BeginningCounts
+pub mod StillHeld
+pub mod Growing
+pub mod Beginnings
+pub mod Dropping

@@ -12,3 +12,4 @@ pub mod Making
 pub mod Live
 pub mod LiveCores
 pub mod Pins
+pub mod Beginning

@@ -27,9 +27,11 @@
 //! calls.
 #![tactic(auto)]
 
+mod begin;
 #[cfg(test)]
 mod call_tests;
 mod cost;
+mod discard;
 mod error;
 mod event;
 #[cfg(test)]

@@ -13,8 +13,8 @@ ghost use Rattle.volume.specs.declared.live.LiveVersion.{LiveVersion};
 
 use crate::cost::version_cost;
 use crate::files::StoredVersion;
-use crate::pending::PendingVersion;
 use crate::map::{DiskMap, StoredDirectory};
+use crate::pending::PendingVersion;
 use alloctab::Table;
 use blockdisk::NoMemory;
 use directory::{Chain, FileEntry, MasterEntry};
@@ -198,7 +198,7 @@ fn goes_with_reader(versions: &Slab<LiveVersion>, key: usize) -> bool
 }
 
 /// Holds each of these blocks once less.
-fn unhold_all(table: &mut Table, blocks: &[u32])
+pub(crate) fn unhold_all(table: &mut Table, blocks: &[u32])
     requires held { (n : ℕ) → times n blocks.now ≤ holds table.old n }
     requires inside { (n : ℕ) → 0 < holds table.old n → n < table.old.size }
     ensures held { (n : ℕ) → holds table.new n + times n blocks.now ≡ holds table.old n }
