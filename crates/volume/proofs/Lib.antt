@@ -31,3 +31,5 @@ pub mod MakingLists
 pub mod MakingEntries
 pub mod LiveBodies
 pub mod MakingDirectories
+pub mod PuttingCore
+pub mod PuttingDisk

@@ -11,3 +11,4 @@ pub mod Queries
 pub mod Making
 pub mod Live
 pub mod LiveCores
+pub mod Putting

@@ -53,6 +53,7 @@ mod open;
 #[cfg(test)]
 mod open_tests;
 mod pending;
+mod put;
 mod query;
 mod read;
 mod regions;
@@ -62,5 +63,6 @@ pub use error::{CallError, VolumeError};
 pub use file_facts::FileFacts;
 pub use files::StoredVersion;
 pub use map::{DiskMap, StoredDirectory, Volume};
+pub use pending::Pending;
 pub use regions::{LARGEST_VOLUME, SMALLEST_VOLUME};
 pub use start::read_volume;
