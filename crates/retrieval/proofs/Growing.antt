@@ -1,5 +1,5 @@
 -- A list of blocks that grows by free ones.
-use Rattle.std.proofs.Common.{◌≡◌, ⊎_elim, inl, inr, ℕ, ◌+◌, ◌-◌, ◌<◌, List, [], ◌∷◌, ◌++◌, length, max, take, drop, refl, sym, ◌∙◌, ap, subst, arith}
+use Rattle.std.proofs.Common.{◌≡◌, ⊎_elim, inl, inr, ℕ, ◌+◌, ◌-◌, ◌<◌, List, [], ◌∷◌, ◌++◌, length, max, take, drop, refl, sym, ◌∙◌, ap, subst, arith, ◌≤◌}
 use Rattle.std.specs.Prelude.{slice_index}
 use Rattle.std.specs.List.{AllByRecursion}
 use Rattle.std.proofs.lemmas.Bool.{cases_lt}
@@ -12,11 +12,11 @@ use Rattle.meaning.proofs.MapSums.{times-append}
 use Rattle.meaning.proofs.Walking.{all_times}
 use Rattle.alloctab.specs.TableState.{TableState, IsTable, bit, holds, with_held, uses}
 use Rattle.alloctab.specs.TableLaws.{sound-with_held}
-
-use Rattle.retrieval.specs.Bodies.{AddsClear}
+use Rattle.retrieval.specs.Bodies.{AddsClear, KeepsOwn}
 use Rattle.retrieval.specs.Writing.{Takes, IsFixed}
-use Rattle.retrieval.proofs.Taking.{free_in_space, may_be_written, all_of}
+use Rattle.retrieval.proofs.Taking.{free_in_space, may_be_written, takes_none, all_of}
 use Rattle.retrieval.proofs.Holding.{holds_taken, uses-with_held}
+use Rattle.retrieval.proofs.Placed.{bits_same}
 
 -- what taking blocks does to a table
 takes_table : (t : TableState) (ns : List ℕ) (t' : TableState) → Takes t ns t' → t' ≡ record t { held = t'.held }
@@ -37,7 +37,7 @@ takes_uses t (n ∷ ns) t' sound fixed takes =
     let one = uses-with_held t n (holds t n + 1) sound (free_in_space t n fixed takes.1) takes.0 in
     omega arith
 
-all_append : (P : ℕ → Type 0) (xs ys : List ℕ) → AllByRecursion P xs → AllByRecursion P ys → AllByRecursion P (xs ++ ys)
+pub all_append : (P : ℕ → Type 0) (xs ys : List ℕ) → AllByRecursion P xs → AllByRecursion P ys → AllByRecursion P (xs ++ ys)
 all_append P [] ys a b = b
 all_append P (x ∷ xs) ys a b = (a.0, all_append P xs ys a.1 b)
 
@@ -49,6 +49,9 @@ pub record IsGrown (size : ℕ) (t t' : TableState) (xs xs' : List ℕ) : Type 0
   pub inside : AllByRecursion (InSpace size) xs'
   pub clear : AddsClear t xs xs'
   pub front : (j : ℕ) → j < length xs → slice_index xs' j ≡ slice_index xs j
+  pub longer : length xs ≤ length xs'
+  -- what was held is none of the new ones
+  pub others : (n : ℕ) → 0 < holds t n → times n xs' ≡ times n xs
 
 grown_by : (size : ℕ) (t t' : TableState) (xs ns : List ℕ) → t.size ≡ size → IsTable t → IsFixed t → AllByRecursion (InSpace size) xs → Takes t ns t' → IsGrown size t t' xs (xs ++ ns)
 grown_by size t t' xs ns is sound fixed inside takes = record {
@@ -61,6 +64,8 @@ grown_by size t t' xs ns is sound fixed inside takes = record {
       (λ none. inr (may_be_written size t ns t' is sound fixed takes n (let parts = times-append n xs ns in omega arith)).0.clear)
       (cases_lt 0 (times n xs));
   front = λ j below. get_or_append_left xs ns 0 j below;
+  longer = let b = length-append xs ns in omega arith;
+  others = λ n some. let a = takes_none t ns t' sound fixed takes n (λ free. let b = free.unheld in omega arith) in let b = times-append n xs ns in omega arith;
 }
 
 -- The list was made longer first, and its new places filled then.
@@ -70,6 +75,16 @@ grown size t t' xs zs longer xs' had is sound fixed inside count made filled tak
     let front : take had longer ≡ xs = ap (take had) made ∙ all_of had xs zs (sym count) in
     let e : xs ++ drop had xs' ≡ xs' = ap (λ (l : List ℕ). l ++ drop had xs') (sym front) ∙ sym filled in
     subst (IsGrown size t t' xs) e (grown_by size t t' xs (drop had xs') is sound fixed inside takes)
+
+-- A block of the list's own is one of the longer list's own.
+pub grown_keeps : (size : ℕ) (t t' : TableState) (xs xs' ys : List ℕ) → IsGrown size t t' xs xs' → KeepsOwn t' xs' ys → KeepsOwn t xs ys
+grown_keeps size t t' xs xs' ys grown keeps j below clear one =
+    let front = grown.front j below in
+    let a = grown.longer in
+    let b = grown.held (slice_index xs j) in
+    let c = grown.others (slice_index xs j) (omega arith) in
+    let held : holds t' (slice_index xs j) ≡ 1 = omega arith in
+    keeps j (omega arith) (ap (bit t') front ∙ bits_same t t' grown.table (slice_index xs j) ∙ clear) (ap (holds t') front ∙ held) ∙ front
 
 -- how long a body is after some words are put
 pub after_some : (words block count : ℕ) → 0 < count → length_after words block count ≡ max words (block_start block + count)

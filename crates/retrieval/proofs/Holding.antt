@@ -62,7 +62,7 @@ sum_same : (f g : ℕ → ℕ) (k : ℕ) → ((j : ℕ) → j < k → g j ≡ f 
 sum_same f g zero same = refl
 sum_same f g (suc k) same = let e = same k (omega arith) in let rest = sum_same f g k (λ j below. same j (omega arith)) in omega arith
 
-sum_but_one : (f g : ℕ → ℕ) (k i : ℕ) → i < k → ((j : ℕ) → (j ≡ i → ⊥) → g j ≡ f j) → sum_below g k + f i ≡ sum_below f k + g i
+pub sum_but_one : (f g : ℕ → ℕ) (k i : ℕ) → i < k → ((j : ℕ) → (j ≡ i → ⊥) → g j ≡ f j) → sum_below g k + f i ≡ sum_below f k + g i
 sum_but_one f g zero i below same = absurd (omega arith)
 sum_but_one f g (suc k) i below same = ⊎_elim
     (λ is. let a = ap f is in let b = ap g is in let rest = sum_same f g k (λ j before. same j (λ e. absurd (omega arith))) in omega arith)

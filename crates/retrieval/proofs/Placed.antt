@@ -7,12 +7,13 @@ use Rattle.std.proofs.lemmas.List.{get_or-set_same, get_or-set_other, length-set
 use Rattle.blockdisk.specs.Disk.{Contents}
 use Rattle.meaning.specs.Faults.{InSpace}
 use Rattle.meaning.specs.Maps.{times}
-use Rattle.alloctab.specs.TableState.{TableState, bit, holds, space}
 use Rattle.changeset.specs.PutLaws.{times_tail}
-use Rattle.retrieval.specs.Bodies.{IsOwn, AddsClear}
+use Rattle.alloctab.specs.TableState.{TableState, bit, holds, space}
+use Rattle.retrieval.specs.Bodies.{IsOwn, AddsClear, KeepsOwn}
 use Rattle.retrieval.specs.Writing.{IsFixed}
 use Rattle.retrieval.specs.Placing.{IsNewBlock, HoldsNew, IsPlaced}
 use Rattle.retrieval.proofs.Holding.{times_set, alone_at}
+use Rattle.retrieval.proofs.Parts.{times_at}
 
 module _ (before : Contents) (old : List ℕ) (at : ℕ) (words : List ℕ) (place : ℕ) (kept : List ℕ) (first : ℕ) where
   pub placed_none : (i : ℕ) → i ≡ first → IsPlaced before before old old at words place kept first i
@@ -101,3 +102,29 @@ clear_set t old xs i n so_far below clear m there = ⊎_elim
 -- one list after the other
 pub clear_on : (t t' : TableState) → t' ≡ record t { held = t'.held } → (xs ys zs : List ℕ) → AddsClear t xs ys → AddsClear t' ys zs → AddsClear t xs zs
 clear_on t t' same xs ys zs first second n there = ⊎_elim (λ old. first n old) (λ clear. inr (ap (λ (u : TableState). bit u n) (sym same) ∙ clear)) (second n there)
+
+-- A block that is held once and stands in a list once stands there once still, as blocks are taken for others.
+pub few_more : (xs ys : List ℕ) (i n : ℕ) → i < length ys → times n (slice_set ys i n) ≡ 1 → ((m : ℕ) → times m xs ≤ 1 → times m ys ≤ 1) → (m : ℕ) → times m xs ≤ 1 → times m (slice_set ys i n) ≤ 1
+few_more xs ys i n below once few m one = ⊎_elim
+    (λ (is : m ≡ n). let a = ap (λ (z : ℕ). times z (slice_set ys i n)) is in omega arith)
+    (λ (other : m ≡ n → ⊥). let a = times_set m ys i n below in let b = times_tail m n [] other in let c = few m one in omega arith)
+    (cases_eq m n)
+
+-- So it is never changed for another.
+pub stays_more : (t t' : TableState) (xs ys : List ℕ) (i n : ℕ) → t' ≡ record t { held = t'.held } → ((m : ℕ) → holds t' m + times m xs ≡ holds t m + times m ys) → ((m : ℕ) → times m xs ≤ holds t m)
+    → ((m : ℕ) → times m xs ≤ 1 → times m ys ≤ 1) → length ys ≡ length xs → KeepsOwn t xs ys → (bit t' (slice_index ys i) ≡ 0 → holds t' (slice_index ys i) ≡ 1 → n ≡ slice_index ys i) → KeepsOwn t xs (slice_set ys i n)
+stays_more t t' xs ys i n same held all few long keeps own j below clear one = ⊎_elim
+    (λ (is : j ≡ i).
+    let m : ℕ = slice_index xs j in
+    let there : slice_index ys i ≡ slice_index xs j = ap (slice_index ys) (sym is) ∙ keeps j below clear one in
+    let a = times_at xs j below in
+    let b = all (slice_index xs j) in
+    let d = few (slice_index xs j) (omega arith) in
+    let e = subst (λ (z : ℕ). 0 < times z ys) there (times_at ys i (omega arith)) in
+    let f = held (slice_index xs j) in
+    let now : holds t' (slice_index xs j) ≡ 1 = omega arith in
+    let free = ap (bit t') there ∙ bits_same t t' same (slice_index xs j) ∙ clear in
+    let is_own = own free (ap (holds t') there ∙ now) in
+    ap (slice_index (slice_set ys i n)) is ∙ get_or-set_same ys i n 0 (omega arith) ∙ is_own ∙ there)
+    (λ (other : j ≡ i → ⊥). get_or-set_other ys i j n 0 other ∙ keeps j below clear one)
+    (cases_eq j i)

@@ -1,5 +1,5 @@
 -- Bodies: the words of a version, and the blocks that may be written where they change.
-use Rattle.std.specs.Prelude.{◌≡◌, ◌⊎◌, ◌<◌, ℕ, List, length, IfSome}
+use Rattle.std.specs.Prelude.{◌≡◌, ◌⊎◌, ◌<◌, ℕ, List, length, IfSome, slice_index}
 use Rattle.std.specs.List.{AllByRecursion}
 use Rattle.blockdisk.specs.Disk.{Contents}
 use Rattle.meaning.specs.Maps.{times}
@@ -17,3 +17,7 @@ pub record IsOwn (t : TableState) (blocks : List ℕ) (n : ℕ) : Type 0 where
 -- Each block of the new list stands in the old one, or its bit is clear.
 abbrev pub AddsClear : TableState → List ℕ → List ℕ → Type 0
 AddsClear t old new = (n : ℕ) → 0 < times n new → (0 < times n old) ⊎ (bit t n ≡ 0)
+
+-- The blocks of a list that are held once, for it, stand at the same places of another list.
+abbrev pub KeepsOwn : TableState → List ℕ → List ℕ → Type 0
+KeepsOwn t blocks others = (i : ℕ) → i < length blocks → bit t (slice_index blocks i) ≡ 0 → holds t (slice_index blocks i) ≡ 1 → slice_index others i ≡ slice_index blocks i

@@ -26,6 +26,8 @@
 #![tactic(auto)]
 
 mod body;
+#[cfg(test)]
+mod body_tests;
 mod build;
 mod error;
 mod head;

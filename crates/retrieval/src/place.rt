@@ -1,12 +1,12 @@
-ghost use Rattle.std.specs.Prelude.{◌≡◌, ◌+◌, ◌<◌, ◌≤◌, ℕ, length, slice_set, OnOk, IsErrOf};
+ghost use Rattle.std.specs.Prelude.{◌≡◌, ◌+◌, ◌<◌, ◌≤◌, ℕ, length, slice_index, slice_set, OnOk, IsErrOf};
 ghost use Rattle.std.specs.List.{AllByRecursion};
 ghost use Rattle.blockdisk.specs.Disk.{SameDisk, Touches, one_more};
 ghost use Rattle.blockdisk.specs.declared.fault.Fault.TheVariants.{Device as DeviceFault, Damaged};
 ghost use Rattle.meaning.specs.Costs.{blocks_of};
 ghost use Rattle.meaning.specs.Faults.{InSpace};
 ghost use Rattle.meaning.specs.Maps.{times};
-ghost use Rattle.alloctab.specs.TableState.{holds, space, uses};
-ghost use Rattle.retrieval.specs.Bodies.{IsOwn, AddsClear};
+ghost use Rattle.alloctab.specs.TableState.{holds, space, uses, bit};
+ghost use Rattle.retrieval.specs.Bodies.{IsOwn, AddsClear, KeepsOwn};
 ghost use Rattle.retrieval.specs.Placing.{IsPlaced};
 ghost use Rattle.retrieval.specs.Writing.{IsFixed};
 
@@ -31,6 +31,7 @@ pub(crate) fn own_place(table: &mut Table, version: &mut Version, i: usize) -> u
     ensures inside { InSpace table.old.size result }
     ensures alone { times result version.new.blocks ≡ 1 }
     ensures own { IsOwn table.new version.new.blocks result }
+    ensures stays { bit table.old (slice_index version.old.blocks i) ≡ 0 → holds table.old (slice_index version.old.blocks i) ≡ 1 → result ≡ slice_index version.old.blocks i }
 
     ensures table { table.new ≡ record table.old { held = table.new.held } }
     ensures held { (n : ℕ) → holds table.new n + times n version.old.blocks ≡ holds table.old n + times n version.new.blocks }
@@ -82,6 +83,7 @@ pub(crate) fn write_places<D: Disk>(
     ensures table { table.new ≡ record table.old { held = table.new.held } }
     ensures held { (n : ℕ) → holds table.new n + times n version.old.blocks ≡ holds table.old n + times n version.new.blocks }
     ensures used { uses table.new ≡ uses table.old }
+    ensures stays { KeepsOwn table.old version.old.blocks version.new.blocks }
     ensures touched { (D.state disk.old).honest → Touches (IsOwn table.old version.old.blocks) (D.state disk.old) (D.state disk.new) }
 
     ensures same { SameDisk (D.state disk.old) (D.state disk.new) }

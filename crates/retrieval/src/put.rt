@@ -8,7 +8,7 @@ ghost use Rattle.meaning.specs.Regions.{IsVolumeSize};
 ghost use Rattle.meaning.specs.Retrieval.{HasBody, most_blocks};
 ghost use Rattle.meaning.specs.Splices.{splice, length_after};
 ghost use Rattle.alloctab.specs.TableState.{uses, holds, space};
-ghost use Rattle.retrieval.specs.Bodies.{AreWhole, IsOwn, AddsClear};
+ghost use Rattle.retrieval.specs.Bodies.{AreWhole, IsOwn, AddsClear, KeepsOwn};
 ghost use Rattle.retrieval.specs.Placing.{Stays};
 ghost use Rattle.retrieval.specs.Writing.{IsFixed};
 ghost use Rattle.retrieval.specs.declared.error.BodyError.TheVariants.{BadData, Device, NoMemory};
@@ -98,9 +98,11 @@ pub fn put_words<D: Disk>(
     ensures table { table.new ≡ record table.old { held = table.new.held } }
     ensures held { (n : ℕ) → holds table.new n + times n version.old.blocks ≡ holds table.old n + times n version.new.blocks }
     ensures used { uses table.new + length version.old.blocks ≡ uses table.old + length version.new.blocks }
+    ensures stays { KeepsOwn table.old version.old.blocks version.new.blocks }
     ensures touched { (D.state disk.old).honest → Touches (IsOwn table.old version.old.blocks) (D.state disk.old) (D.state disk.new) }
     ensures memory { IsErrOf result NoMemory → (table.new ≡ table.old) × (version.new ≡ version.old) × (disk.new ≡ disk.old) }
     ensures damaged { (D.state disk.old).honest → (k : ℕ) → IsErrOf result (BadData k) → (0 < times k version.old.blocks) × ((D.state disk.old).contents k ≡ None) }
+    ensures left { OnErr result (version.new.words ≡ version.old.words) }
     ensures undone { (k : ℕ) → IsErrOf result (BadData k) → (table.new ≡ table.old) × (version.new ≡ version.old) }
 
     // On every disk.

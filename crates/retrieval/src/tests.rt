@@ -1,6 +1,6 @@
 ghost use Rattle.blockdisk.specs.Memory.{memory_state};
 
-use crate::{Mode, Prime, RetrievalError, Version, prime_block, read_version};
+use crate::{BodyError, Mode, Prime, RetrievalError, Version, prime_block, read_version};
 use blockdisk::{Disk, Fault, MemDisk};
 use std::alloc::Global;
 use std::process::Abort;
@@ -382,15 +382,21 @@ fn errors_have_texts(rt: HostRuntime) -> Result<(), Fail> {
     assert_eq!(rt; device.as_str(), "device fault");
     let memory = RetrievalError::NoMemory.to_string(rt.alloc())?;
     assert_eq!(rt; memory.as_str(), "out of memory");
+    let bad = BodyError::BadData(17).to_string(rt.alloc())?;
+    assert_eq!(rt; bad.as_str(), "bad data block 17");
+    let device = BodyError::Device.to_string(rt.alloc())?;
+    assert_eq!(rt; device.as_str(), "device fault");
+    let memory = BodyError::NoMemory.to_string(rt.alloc())?;
+    assert_eq!(rt; memory.as_str(), "out of memory");
     Ok(())
 }
 
-/// A disk that fails every read after so many.
+/// A disk that fails every read and write after so many.
 #[derive(Drop)]
-struct FailingDisk {
-    inner: MemDisk,
-    reads: u32,
-    failures: u64,
+pub(crate) struct FailingDisk {
+    pub(crate) inner: MemDisk,
+    pub(crate) calls: u32,
+    pub(crate) failures: u64,
 }
 
 impl Disk for FailingDisk {
@@ -407,15 +413,19 @@ impl Disk for FailingDisk {
     }
 
     fn read(&mut self, n: u32) -> Result<Block, Fault> {
-        if self.reads == 0 {
+        if self.calls == 0 {
             self.failures = self.failures.saturating_add(1);
             return Err(Fault::Device);
         }
-        self.reads -= 1;
+        self.calls -= 1;
         self.inner.read(n)
     }
 
-    fn write(&mut self, _n: u32, _block: &Block) -> Result<(), Fault> {
+    fn write(&mut self, n: u32, block: &Block) -> Result<(), Fault> {
+        if self.calls > 0 && self.inner.write(n, block).is_ok() {
+            self.calls -= 1;
+            return Ok(());
+        }
         self.failures = self.failures.saturating_add(1);
         Err(Fault::Device)
     }
@@ -428,19 +438,19 @@ impl Disk for FailingDisk {
 
 #[test]
 fn each_read_may_fail(rt: HostRuntime) -> Result<(), Fail> {
-    for reads in 0..3 {
+    for calls in 0..3 {
         let mut inner = MemDisk::new(rt.alloc(), SIZE, 0)?;
         load(&rt, &mut inner, 20, &rib(113 * 128, 21, &[(1, 100); 112]));
         load(&rt, &mut inner, 21, &xrb(0, &[(1, 99)]));
         let mut disk = FailingDisk {
             inner,
-            reads,
+            calls,
             failures: 0,
         };
         let failed = read(&rt, rt.alloc(), &mut disk, 20).err();
         assert!(rt;
             failed
-                == if reads < 2 {
+                == if calls < 2 {
                     Some(RetrievalError::Device)
                 } else {
                     None

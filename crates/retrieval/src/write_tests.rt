@@ -1,6 +1,6 @@
 ghost use Rattle.std.specs.Prelude.{◌≡◌, ◌+◌, ◌*◌, ◌<◌, ◌≤◌, ◌^◌, ℕ, IfOk, IsErrOf, length};
 ghost use Rattle.std.specs.List.{AllByRecursion};
-ghost use Rattle.alloctab.specs.TableState.{space, used_in_space};
+ghost use Rattle.alloctab.specs.TableState.{holds, space, used_in_space, uses};
 ghost use Rattle.meaning.specs.Costs.{blocks_of};
 ghost use Rattle.meaning.specs.Faults.{InSpace};
 ghost use Rattle.meaning.specs.Regions.{IsVolumeSize};
@@ -18,9 +18,9 @@ use std::test::Fail;
 use words36::{BLOCK_WORDS, FileName, Half, Moment, Ppn, Word};
 
 /// A disk of so many blocks has its table in 14 and its free space from 15 on.
-const SIZE: u32 = 1024;
+pub(crate) const SIZE: u32 = 1024;
 
-fn word(number: u64) -> Word {
+pub(crate) fn word(number: u64) -> Word {
     Word::new(number).unwrap_or(Word::ZERO)
 }
 
@@ -36,7 +36,7 @@ fn foo(rt: &impl Abort) -> Prime {
 }
 
 /// A disk on which the fixed regions alone are in use, and that has room for so many writes.
-fn disk_of(rt: &impl Abort, alloc: Global, writes: usize) -> Result<MemDisk, NoMemory> {
+pub(crate) fn disk_of(rt: &impl Abort, alloc: Global, writes: usize) -> Result<MemDisk, NoMemory> {
     let mut disk = MemDisk::new(alloc, SIZE, writes)?;
     let mut table_block = [Word::ZERO; BLOCK_WORDS];
     table_block[0] = word(0o777770000000);
@@ -46,7 +46,7 @@ fn disk_of(rt: &impl Abort, alloc: Global, writes: usize) -> Result<MemDisk, NoM
 }
 
 /// A table of which the fixed regions alone are in use, with so many blocks booked.
-fn table_of<D: Disk>(
+pub(crate) fn table_of<D: Disk>(
     rt: &impl Abort,
     alloc: Global,
     disk: &mut D,
@@ -57,6 +57,8 @@ fn table_of<D: Disk>(
     ensures kept { (D.state disk.new).size ≡ (D.state disk.old).size }
     ensures fixed { IfOk result (λ table. IsFixed table) }
     ensures unused { IfOk result (λ table. used_in_space table ≡ 0) }
+    ensures no_uses { IfOk result (λ table. uses table ≡ 0) }
+    ensures unheld { IfOk result (λ table. (n : ℕ) → holds table n ≡ 0) }
     ensures booked { IfOk result (λ table. table.booked ≡ count) }
 {
     let size = disk.blocks();

@@ -30,6 +30,13 @@ pub mod MakingLaw
 pub mod MakingLists
 pub mod MakingEntries
 pub mod LiveBodies
+pub mod PinnedFiles
+pub mod ReadWords
 pub mod MakingDirectories
 pub mod PuttingCore
 pub mod PuttingDisk
+pub mod BeginningCounts
+pub mod StillHeld
+pub mod Growing
+pub mod Beginnings
+pub mod Dropping

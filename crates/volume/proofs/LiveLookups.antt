@@ -47,3 +47,10 @@ pub keyed_at : {A : Type 0} (live : List (Option LiveVersion)) (directory : A �
 keyed_at live directory keys [] i d e zip below is = absurd (omega arith)
 keyed_at live directory keys (x ∷ xs) zero d e zip below is = subst (λ y. IsKeyed live (directory y) (keys y)) (sym is) zip.0
 keyed_at live directory keys (x ∷ xs) (suc i) d e zip below is = keyed_at live directory keys xs i d e zip.1 (omega arith) is
+
+pub current_at : (live : List (Option LiveVersion)) (es : List FileEntry) (keys : List ℕ) (i key d : ℕ) (e : FileEntry) → AreCurrent live es keys → slice_get es i ≡ Some e → key ≡ get_or keys i d → IsCurrent live key e.1
+current_at live [] keys i key d e zip there is = cc
+current_at live (x ∷ es) [] i key d e zip there is = absurd zip
+current_at live (x ∷ es) (k ∷ ks) zero key d e zip there is =
+    subst (λ (n : ℕ). IsCurrent live n e.1) (sym is) (subst (λ (y : FileEntry). IsCurrent live k y.1) (some_same there) zip.0)
+current_at live (x ∷ es) (k ∷ ks) (suc i) key d e zip there is = current_at live es ks i key d e zip.1 there is

@@ -12,3 +12,5 @@ pub mod Making
 pub mod Live
 pub mod LiveCores
 pub mod Putting
+pub mod Pins
+pub mod Beginning

@@ -19,7 +19,10 @@
 //!    new directory, and where it answers Ok for the latter alone; each other answer but `Device` leaves disk
 //!    and map as they were. After `Device` and `Failed` the volume has failed, and no other answer changes
 //!    whether it has. (`crash`, `done`, `refused`, `device`, `gone`, `serves`)
-//! 7. `Device` comes exactly with one more failure of the disk, on every disk. (`failed`, `served`)
+//! 7. `put_words` writes blocks that no file and no other version has: whatever a crash leaves at any moment of
+//!    it stands for the files from before. At Ok the version has its body with the words put; after a refusal
+//!    and after `NoMemory` all is as before. (`quiet`, `rests`, `put`, `others`, `kept`)
+//! 8. `Device` comes exactly with one more failure of the disk, on every disk. (`failed`, `served`)
 //!
 //! Between two calls the volume knows the map of its disk: the chains of its directories with their entries
 //! in the order of the disk, for each entry where its version lies, and the allocation table with what is
@@ -27,9 +30,11 @@
 //! calls.
 #![tactic(auto)]
 
+mod begin;
 #[cfg(test)]
 mod call_tests;
 mod cost;
+mod discard;
 mod error;
 mod event;
 #[cfg(test)]
@@ -39,6 +44,7 @@ mod file_facts;
 mod file_tests;
 mod files;
 mod fresh;
+mod handles;
 mod home;
 #[cfg(test)]
 mod init_tests;
@@ -53,16 +59,24 @@ mod open;
 #[cfg(test)]
 mod open_tests;
 mod pending;
+#[cfg(test)]
+mod pin_tests;
+mod pins;
 mod put;
+#[cfg(test)]
+mod put_tests;
 mod query;
 mod read;
 mod regions;
 mod start;
+mod words;
 
 pub use error::{CallError, VolumeError};
 pub use file_facts::FileFacts;
 pub use files::StoredVersion;
+pub use handles::{Pending, Pin, VersionHandle};
+pub use live::{LiveDirectory, LiveMap, LiveVersion};
 pub use map::{DiskMap, StoredDirectory, Volume};
-pub use pending::Pending;
+pub use pending::PendingVersion;
 pub use regions::{LARGEST_VOLUME, SMALLEST_VOLUME};
 pub use start::read_volume;

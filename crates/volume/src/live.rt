@@ -13,8 +13,8 @@ ghost use Rattle.volume.specs.declared.live.LiveVersion.{LiveVersion};
 
 use crate::cost::version_cost;
 use crate::files::StoredVersion;
-use crate::pending::PendingVersion;
 use crate::map::{DiskMap, StoredDirectory};
+use crate::pending::PendingVersion;
 use alloctab::Table;
 use blockdisk::NoMemory;
 use directory::{Chain, FileEntry, MasterEntry};
@@ -198,7 +198,7 @@ fn goes_with_reader(versions: &Slab<LiveVersion>, key: usize) -> bool
 }
 
 /// Holds each of these blocks once less.
-fn unhold_all(table: &mut Table, blocks: &[u32])
+pub(crate) fn unhold_all(table: &mut Table, blocks: &[u32])
     requires held { (n : ℕ) → times n blocks.now ≤ holds table.old n }
     requires inside { (n : ℕ) → 0 < holds table.old n → n < table.old.size }
     ensures held { (n : ℕ) → holds table.new n + times n blocks.now ≡ holds table.old n }
@@ -246,6 +246,7 @@ pub fn unpin_version(map: &mut LiveMap, key: usize)
     requires held { IfSome (slot (core_of map.old).live key) (λ v. 0 < v.readers) }
     ensures known { (core_of map.new).known ≡ record (core_of map.old).known { table = (core_of map.new).known.table } }
     ensures keys { (core_of map.new).keys ≡ (core_of map.old).keys }
+    ensures pending { (core_of map.new).pending ≡ (core_of map.old).pending }
     ensures table { (core_of map.new).known.table ≡ record (core_of map.old).known.table { held = (core_of map.new).known.table.held; booked = (core_of map.new).known.table.booked } }
     ensures stays { (v : LiveVersion) → slot (core_of map.old).live key ≡ Some v → (v.is_current ≡ true) ⊎ (1 < v.readers)
         → (slot (core_of map.new).live key ≡ Some (record v { readers = v.readers - 1 })) × ((core_of map.new).known.table ≡ (core_of map.old).known.table) }

@@ -10,10 +10,3 @@ pub struct PendingVersion {
     /// Whether its directory had no entry of its name when it was begun.
     pub is_new: bool,
 }
-
-/// A version that is being written, as a caller names it.
-#[derive(Clone, Copy, Debug, PartialEq, Eq)]
-pub struct Pending {
-    /// Its key.
-    pub key: usize,
-}

@@ -25,9 +25,10 @@ ghost use Rattle.volume.specs.declared.pending.PendingVersion.{PendingVersion};
 
 use crate::CallError;
 use crate::cost::version_cost;
+use crate::handles::Pending;
 use crate::live::LiveMap;
 use crate::map::Volume;
-use crate::pending::{Pending, PendingVersion};
+use crate::pending::PendingVersion;
 use alloctab::Table;
 use blockdisk::Disk;
 use meaning::ErrorCode;
@@ -213,6 +214,8 @@ impl<D: Disk> Volume<D> {
         ensures put { OnOk result ((p : PendingVersion) → pending_at (core_of self.old.map).pending pending.key ≡ Some p
             → (v : VersionState) × (pending_at (core_of self.new.map).pending pending.key ≡ Some (record p { version = v })) × (v.words ≡ length_after p.version.words block (length words.now))
             × ((D.state self.old.disk).honest → (body : List ℕ) → length body ≡ p.version.words → HasBody (D.state self.old.disk).contents p.version.blocks body → HasBody (D.state self.new.disk).contents v.blocks (splice body block words.now))) }
+        // It is there still, whatever the answer.
+        ensures stays { IsSome (pending_at (core_of self.new.map).pending pending.key) }
         // All other versions stay, and their blocks do.
         ensures others { (k : ℕ) → (k ≡ pending.key → ⊥) → pending_at (core_of self.new.map).pending k ≡ pending_at (core_of self.old.map).pending k }
         ensures live { (core_of self.new.map).live ≡ (core_of self.old.map).live }

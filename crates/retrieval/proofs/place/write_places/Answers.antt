@@ -6,10 +6,10 @@ use Rattle.blockdisk.specs.Laws.{same_disk_start, same_disk_on, touches_start, t
 use Rattle.meaning.specs.Faults.{InSpace}
 use Rattle.meaning.specs.Maps.{times}
 use Rattle.alloctab.specs.TableState.{TableState, bit}
-use Rattle.retrieval.specs.Bodies.{IsOwn, AddsClear}
+use Rattle.retrieval.specs.Bodies.{IsOwn, AddsClear, KeepsOwn}
 use Rattle.retrieval.specs.Placing.{IsPlaced}
 use Rattle.retrieval.specs.Versions.{VersionState}
-use Rattle.retrieval.proofs.Placed.{placed_none, placed_more, same_on, size_same, own_before, held_again, inside_set, clear_set}
+use Rattle.retrieval.proofs.Placed.{placed_none, placed_more, same_on, size_same, own_before, held_again, inside_set, clear_set, few_more, stays_more}
 use Rattle.retrieval.proofs.place.write_places.Goals as goal
 
 pub loop-i-init : goal.loop-i-init
@@ -26,6 +26,8 @@ loop-i-init g c =
       table = refl;
       held = λ n. refl;
       used = refl;
+      few = λ n one. one;
+      stays = λ j below clear one. refl;
       placed = λ h. placed_none s.contents c.args.version.now.blocks c.args.at c.args.words.now c.args.kept.now.place c.args.kept.now.words c.args.first c.args.first refl;
     }
 
@@ -49,6 +51,14 @@ returns-in_err-write-clause-clear g c =
     let blocks_are : c.own_place-n.new.version.blocks ≡ slice_set c.loop-i.version.blocks i n = ap (λ (v : VersionState). v.blocks) c.own_place-n.ensures.version in
     let below : i < length c.loop-i.version.blocks = let a = c.loop-i.invariant.long in let b = c.requires.fits in let d = c.loop-i-test.true in omega arith in
     subst (AddsClear t xs) (sym blocks_are) (clear_set t xs c.loop-i.version.blocks i n c.loop-i.invariant.clear below (ap (λ (u : TableState). bit u n) (sym same) ∙ c.own_place-n.ensures.own.clear))
+
+pub returns-in_err-write-clause-stays : goal.returns-in_err-write-clause-stays
+returns-in_err-write-clause-stays g c =
+    let t = c.args.table.now in
+    let xs = c.args.version.now.blocks in
+    subst (KeepsOwn t xs) (sym (ap (λ (v : VersionState). v.blocks) c.own_place-n.ensures.version))
+    (stays_more t c.loop-i.table xs c.loop-i.version.blocks c.loop-i.i c.own_place-n.result c.loop-i.invariant.table c.loop-i.invariant.held c.requires.held c.loop-i.invariant.few c.loop-i.invariant.long c.loop-i.invariant.stays
+    c.own_place-n.ensures.stays)
 
 pub loop-i-preserved : goal.loop-i-preserved
 loop-i-preserved g c =
@@ -78,6 +88,9 @@ loop-i-preserved g c =
       table = same;
       held = held;
       used = c.own_place-n.ensures.used ∙ c.loop-i.invariant.used;
+      few = subst (λ (l : List ℕ). (m : ℕ) → times m xs ≤ 1 → times m l ≤ 1) (sym blocks_are) (few_more xs c.loop-i.version.blocks i n below (subst (λ (l : List ℕ). times n l ≡ 1) blocks_are c.own_place-n.ensures.alone) c.loop-i.invariant.few);
+      stays = subst (KeepsOwn t xs) (sym blocks_are) (stays_more t c.loop-i.table xs c.loop-i.version.blocks i n c.loop-i.invariant.table c.loop-i.invariant.held c.requires.held c.loop-i.invariant.few c.loop-i.invariant.long c.loop-i.invariant.stays
+          c.own_place-n.ensures.stays);
       placed = λ h. subst (λ (l : List ℕ). IsPlaced s.contents new.contents xs l c.args.at c.args.words.now c.args.kept.now.place c.args.kept.now.words c.args.first (i + 1)) (sym blocks_are)
           (placed_more s.contents xs c.args.at c.args.words.now c.args.kept.now.place c.args.kept.now.words c.args.first now.contents new.contents c.loop-i.version.blocks i n c.new_block-block.result
           (c.loop-i.invariant.placed h) c.loop-i.invariant.long first below (subst (λ (l : List ℕ). times n l ≡ 1) blocks_are c.own_place-n.ensures.alone)

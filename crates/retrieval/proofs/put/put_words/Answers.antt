@@ -8,10 +8,10 @@ use Rattle.meaning.specs.Maps.{times}
 use Rattle.meaning.specs.Retrieval.{HasBody}
 use Rattle.meaning.specs.Splices.{splice}
 use Rattle.alloctab.specs.TableState.{holds}
-use Rattle.retrieval.specs.Bodies.{AreWhole, IsOwn, AddsClear}
+use Rattle.retrieval.specs.Bodies.{AreWhole, IsOwn, AddsClear, KeepsOwn}
 use Rattle.retrieval.specs.Placing.{IsPlaced}
 use Rattle.retrieval.specs.Versions.{VersionState}
-use Rattle.retrieval.proofs.Growing.{grown, after_some}
+use Rattle.retrieval.proofs.Growing.{grown, grown_keeps, after_some}
 use Rattle.retrieval.proofs.Holding.{used_le_uses}
 use Rattle.retrieval.proofs.Placed.{clear_on, size_same, booked_same, fixed_on, room_on, same_on, held_on, own_before, held_again}
 use Rattle.retrieval.proofs.Putting.{whole_put, body_put}
@@ -187,6 +187,17 @@ returns-in-Ok-clause-used g c =
     let set = ap (λ (v : VersionState). length v.blocks) c.set_length.ensures in
     omega arith
 
+pub returns-in-Ok-clause-stays : goal.returns-in-Ok-clause-stays
+returns-in-Ok-clause-stays g c =
+    let s = g.D.Disk.state c.args.disk.now in
+    let t = c.args.table.now in
+    let xs = c.args.version.now.blocks in
+    let t1 = c.fill.new.table in
+    let xs1 = c.fill.new.self.blocks in
+    let grown' = grown (g.D.Disk.state c.args.disk.now).size c.args.table.now c.fill.new.table c.args.version.now.blocks _ c.prepare.new.version.blocks c.fill.new.self.blocks (length c.blocks-had.result.now) c.requires.size
+    c.booked-booked.ensures.sound c.requires.fixed c.requires.inside (ap length c.blocks-had.ensures) (ap (λ (v : VersionState). v.blocks) c.in_ok-kept.ensures.ok) (ap (λ (v : VersionState). v.blocks) c.fill.ensures.kept) c.fill.ensures.taken in
+    subst (λ (v : VersionState). KeepsOwn t xs v.blocks) (sym c.set_length.ensures) (grown_keeps s.size t t1 xs xs1 c.write_places.new.version.blocks grown' c.write_places.ensures.stays)
+
 pub returns-in-Ok-clause-touched : goal.returns-in-Ok-clause-touched
 returns-in-Ok-clause-touched g c h =
     let s = g.D.Disk.state c.args.disk.now in
@@ -238,6 +249,17 @@ returns-in-Err-clause-used g c =
     let filled = c.fill.ensures.long in
     let longer = ap length (ap (λ (v : VersionState). v.blocks) c.in_ok-kept.ensures.ok) ∙ length-append c.args.version.now.blocks (replicate (c.div_ceil.result - length c.args.version.now.blocks) 0) in
     omega arith
+
+pub returns-in-Err-clause-stays : goal.returns-in-Err-clause-stays
+returns-in-Err-clause-stays g c =
+    let s = g.D.Disk.state c.args.disk.now in
+    let t = c.args.table.now in
+    let xs = c.args.version.now.blocks in
+    let t1 = c.fill.new.table in
+    let xs1 = c.fill.new.self.blocks in
+    let grown' = grown (g.D.Disk.state c.args.disk.now).size c.args.table.now c.fill.new.table c.args.version.now.blocks _ c.prepare.new.version.blocks c.fill.new.self.blocks (length c.blocks-had.result.now) c.requires.size
+    c.booked-booked.ensures.sound c.requires.fixed c.requires.inside (ap length c.blocks-had.ensures) (ap (λ (v : VersionState). v.blocks) c.in_ok-kept.ensures.ok) (ap (λ (v : VersionState). v.blocks) c.fill.ensures.kept) c.fill.ensures.taken in
+    grown_keeps s.size t t1 xs xs1 c.write_places.new.version.blocks grown' c.write_places.ensures.stays
 
 pub returns-in-Err-clause-touched : goal.returns-in-Err-clause-touched
 returns-in-Err-clause-touched g c h =

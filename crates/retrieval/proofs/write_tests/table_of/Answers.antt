@@ -4,7 +4,7 @@ use Rattle.meaning.specs.Counts.{sum_below}
 use Rattle.meaning.specs.Regions.{space_start}
 use Rattle.meaning.specs.Table.{fixed}
 use Rattle.alloctab.specs.Lists.{digit, digit_at}
-use Rattle.alloctab.specs.TableState.{TableState, IsFree, bit, used, used_in_space, space}
+use Rattle.alloctab.specs.TableState.{TableState, IsFree, bit, holds, used, used_in_space, space, uses}
 use Rattle.alloctab.specs.TableLaws.{used-free}
 use Rattle.alloctab.specs.Reached.{wanted_bit}
 use Rattle.retrieval.proofs.write_tests.table_of.Goals as goal
@@ -37,6 +37,30 @@ unused t reached size held none right = sum_zero (λ j. used t (space_start t.si
           clear = let a = right n in let b = not_fixed t.size j in omega arith;
           unheld = ap (λ (l : List ℕ). get_or l n 0) held ∙ no_counts t.size n;
         }
+
+no_uses : (t : TableState) (reached : List Bool) (size : ℕ) → t.held ≡ replicate t.size 0 → reached ≡ replicate size false → ((n : ℕ) → bit t n ≡ wanted_bit t.size reached n) → uses t ≡ 0
+no_uses t reached size held none right = sum_zero (λ j. bit t (space_start t.size + j) + holds t (space_start t.size + j)) (space t.size) each
+  where
+    each : (j : ℕ) → bit t (space_start t.size + j) + holds t (space_start t.size + j) ≡ 0
+    each j =
+        let n = space_start t.size + j in
+        let flag : digit_at reached n ≡ 0 = ap (λ (l : List Bool). digit_at l n) none ∙ ap digit (no_flags size n) in
+        let a = right n in
+        let b = not_fixed t.size j in
+        let c : holds t n ≡ 0 = ap (λ (l : List ℕ). get_or l n 0) held ∙ no_counts t.size n in
+        omega arith
+
+pub returns-clause-no_uses : goal.returns-clause-no_uses
+returns-clause-no_uses g c =
+    let t = c.in_ok-table.table in
+    let reached = c.in-Ok.reached in
+    let right : (n : ℕ) → bit t n ≡ wanted_bit t.size reached n = search rules in
+    ap uses c.book.ensures ∙ no_uses t reached c.blocks-size.result c.in_ok-table.ensures.unheld c.in-Ok.ensures right
+
+pub returns-clause-unheld : goal.returns-clause-unheld
+returns-clause-unheld g c n =
+    let t = c.in_ok-table.table in
+    ap (λ (u : TableState). holds u n) c.book.ensures ∙ ap (λ (l : List ℕ). get_or l n 0) c.in_ok-table.ensures.unheld ∙ no_counts t.size n
 
 pub returns-clause-unused : goal.returns-clause-unused
 returns-clause-unused g c =

@@ -1,0 +1,95 @@
+-- A version that is dropped: what is taken back, and that core stays whole.
+use Rattle.std.proofs.Common.{◌≡◌, ℕ, ◌+◌, ◌-◌, ◌<◌, ◌≤◌, ◌^◌, Bool, true, false, List, [], ◌∷◌, length, slice_get, slice_index, Option, Some, None, IfSome, IsSome, refl, sym, ap, subst, ◌∙◌, arith, if◌then◌else◌}
+use Rattle.std.specs.List.{AllByRecursion}
+use Rattle.std.specs.Ordering.{nat_cmp}
+use Rattle.std.specs.FinMap.Entries.{find}
+use Rattle.meaning.specs.Costs.{directory_cost, cost_of_blocks}
+use Rattle.meaning.specs.Directories.{MasterEntry}
+use Rattle.meaning.specs.Maps.{total, times}
+use Rattle.meaning.specs.Retrieval.{most_blocks}
+use Rattle.meaning.specs.Room.{growth}
+use Rattle.meaning.proofs.MapLaws.{some_none}
+use Rattle.alloctab.specs.TableState.{holds}
+use Rattle.slab.specs.Slab.{Slab, get, Updates}
+use Rattle.volume.specs.declared.pending.PendingVersion.{PendingVersion}
+use Rattle.volume.specs.Known.{Known, KnownDirectory}
+use Rattle.volume.specs.Live.{VolumeCore, pending_at, pending_cost, pending_reaches, creates, growths, IsWholePending, IsWholeCore}
+use Rattle.volume.specs.Beginning.{entries_with, IsDirectoryOf}
+use Rattle.volume.proofs.Costing.{few_blocks}
+use Rattle.volume.proofs.Growing.{Adds, added_total, added_growths, kept_growths, created_once, entries_few}
+use Rattle.volume.proofs.Pinning.{each_slot, all_updated, total_at}
+use Rattle.volume.proofs.StillHeld.{counting, counts_whole}
+
+-- the version that was taken out
+pub taken_out : (old new : Slab PendingVersion) (key : ℕ) (p : PendingVersion) → Updates old new key None → get old key ≡ Some p → Adds new.slots old.slots key p
+taken_out old new key p updates is = record { vacant = updates.changed; here = is; others = λ k other. sym (updates.others k other) }
+
+module _ (size : ℕ) (c : VolumeCore) (whole : IsWholeCore size c) (less : List (Option PendingVersion)) (key : ℕ) (p : PendingVersion) (adds : Adds less c.pending key p) where
+  dropped_pending : IsWholePending size p
+  dropped_pending = subst (λ o. IfSome o (IsWholePending size)) adds.here (each_slot (λ o. IfSome o (IsWholePending size)) tt c.pending whole.waiting key)
+
+  -- its directory is there
+  pub dropped_there : p.is_new ≡ true → find nat_cmp p.prime.ppn c.known.master.entries ≡ None → ⊥
+  dropped_there new none =
+      let one = created_once less c.pending key p adds new in
+      let all = whole.housed p.prime.ppn none in
+      absurd (omega arith)
+
+  pub dropped_few : (i : ℕ) (d : KnownDirectory) → slice_get c.known.directories i ≡ Some d → length d.chain.entries + total (creates p.prime.ppn) less < 2 ^ 63
+  dropped_few i d at =
+      let few = entries_few size c p.prime.ppn i d whole at in
+      let more = added_total less c.pending key p adds (creates p.prime.ppn) refl in
+      omega arith
+
+  -- its blocks are held
+  pub dropped_held : (n : ℕ) → times n p.version.blocks ≤ holds c.known.table n
+  dropped_held n =
+      let more = added_total less c.pending key p adds (pending_reaches n) refl in
+      let all = whole.held n in
+      omega arith
+
+  pub dropped_blocks : length p.version.blocks ≤ most_blocks
+  dropped_blocks = few_blocks (record { prime = p.prime; version = p.version }) dropped_pending.whole
+
+  -- what its directory costs less
+  pub dropped_growths : (share : ℕ) → (p.is_new ≡ false → share ≡ 0) → (p.is_new ≡ true → (d : KnownDirectory) × IsDirectoryOf c p.prime.ppn d × (share ≡ growth (length d.chain.entries + total (creates p.prime.ppn) less)))
+      → growths c.pending c.known.master.entries c.known.directories ≡ growths less c.known.master.entries c.known.directories + share
+  dropped_growths share none some = by p.is_new refl
+    where
+      by : (b : Bool) → p.is_new ≡ b → growths c.pending c.known.master.entries c.known.directories ≡ growths less c.known.master.entries c.known.directories + share
+      by false old =
+          let same = kept_growths less c.pending key p adds old c.known.master.entries c.known.directories in
+          let no_share = none old in
+          omega arith
+      by true new =
+          let of = some new in
+          let grown = added_growths less c.pending key p adds c.known.master.entries c.known.directories of.1.0 of.1.1 of.0 whole.map.chain.each_once of.1.2.is of.1.3 in
+          let here = ap (λ (b : Bool). if b then growth (length of.0.chain.entries + total (creates p.prime.ppn) less) else 0) new in
+          let is = of.2 in
+          omega arith
+
+  module _ (share : ℕ) (shrinks : growths c.pending c.known.master.entries c.known.directories ≡ growths less c.known.master.entries c.known.directories + share) where
+    pub dropped_booked : cost_of_blocks (length p.version.blocks) + share ≤ c.known.table.booked
+    dropped_booked =
+        let more = added_total less c.pending key p adds pending_cost refl in
+        let all = whole.booked in
+        omega arith
+
+    pub dropped_whole : (held : List ℕ) (booked : ℕ) → ((n : ℕ) → slice_index held n + times n p.version.blocks ≡ holds c.known.table n) → booked + (cost_of_blocks (length p.version.blocks) + share) ≡ c.known.table.booked
+        → IsWholeCore size (record c { known = counting c.known held booked; pending = less })
+    dropped_whole held booked fewer costs = record {
+      map = counts_whole size c.known held booked whole.map;
+      keyed = whole.keyed;
+      standing = whole.standing;
+      waiting = all_updated (λ o. IfSome o (IsWholePending size)) c.pending less key (λ k other. sym (adds.others k other)) tt whole.waiting (subst (λ o. IfSome o (IsWholePending size)) (sym adds.vacant) tt);
+      pinned = whole.pinned;
+      housed = λ ppn none. let more = added_total less c.pending key p adds (creates ppn) refl in let all = whole.housed ppn none in omega arith;
+      held = λ n. let more = added_total less c.pending key p adds (pending_reaches n) refl in let was = whole.held n in omega (arith, fewer n);
+      inside = λ n there. whole.inside n (omega (arith, fewer n));
+      apart = λ n there. whole.apart n (omega (arith, fewer n));
+      fits = let fits = whole.fits in omega arith;
+      booked =
+          let more = added_total less c.pending key p adds pending_cost refl in
+          let was = whole.booked in
+          omega arith;
+    }

@@ -1,0 +1,17 @@
+use Rattle.std.proofs.Common.{◌<◌, map, arith}
+use Rattle.std.proofs.lemmas.List.{length-map}
+use Rattle.volume.specs.Cores.{master_view}
+use Rattle.volume.specs.LiveCores.{core_of, live_directory}
+use Rattle.volume.proofs.Beginnings.{some_at}
+use Rattle.volume.proofs.discard.shrinkage.Goals as goal
+
+pub returns-clause-value : goal.returns-clause-value
+returns-clause-value c new =
+    let core = c.args.core.now in
+    let stands = c.in-Ok.ensures.found in
+    let within = stands.1.within in
+    let entries = length-map core.master.entries master_view in
+    let directories = length-map core.directories.items (live_directory core.versions.slots) in
+    let aligned = c.requires.aligned in
+    let there = some_at (core_of core).known.directories c.in-Ok.place (omega arith) in
+    (there.0, (c.in-Ok.place, stands.0, stands.1, there.1), c.growth_at.ensures.value there.0 there.1)

@@ -1,0 +1,46 @@
+use Rattle.std.proofs.Common.{inr, ℕ, List, Some, sym, ap, subst}
+use Rattle.std.specs.List.{AllByRecursion}
+use Rattle.meaning.specs.Faults.{InSpace}
+use Rattle.volume.specs.LiveCores.{core_of}
+use Rattle.volume.proofs.Opening.{reads_of}
+use Rattle.volume.proofs.ReadWords.{rests_read, sound_read, readable_inside, readable_body, undamaged}
+use Rattle.volume.proofs.map.Volume.get_words.Goals as goal
+
+pub get_words-requires-clause-inside : goal.get_words-requires-clause-inside
+get_words-requires-clause-inside g c =
+    let s = g.D.Disk.state c.args.self.now.disk in
+    readable_inside s.size (core_of c.args.self.now.map) c.requires.sound.whole c.booked-booked.ensures.sound c.args.handle c.version_under-version.result.now c.requires.live c.version_under-version.ensures
+
+pub returns-in-Ok-clause-reads : goal.returns-in-Ok-clause-reads
+returns-in-Ok-clause-reads g c h = reads_of (g.D.Disk.state c.args.self.now.disk) (g.D.Disk.state c.get_words.new.disk) (c.get_words.ensures.keeps h)
+
+pub returns-in-Ok-clause-sound : goal.returns-in-Ok-clause-sound
+returns-in-Ok-clause-sound g c =
+    let s = g.D.Disk.state c.args.self.now.disk in
+    let s' = g.D.Disk.state c.get_words.new.disk in
+    sound_read s s' (core_of c.args.self.now.map) c.args.self.now.failed c.get_words.ensures.same.size c.get_words.ensures.same.was_honest (λ h. reads_of s s' (c.get_words.ensures.keeps h)) c.requires.sound
+
+pub returns-in-Ok-clause-rests : goal.returns-in-Ok-clause-rests
+returns-in-Ok-clause-rests g c h files rests =
+    let s = g.D.Disk.state c.args.self.now.disk in
+    let s' = g.D.Disk.state c.get_words.new.disk in
+    rests_read s s' files c.get_words.ensures.same.size (reads_of s s' (c.get_words.ensures.keeps h)) rests
+
+pub returns-in-Err-Device-clause-rests : goal.returns-in-Err-Device-clause-rests
+returns-in-Err-Device-clause-rests g c h files rests =
+    let s = g.D.Disk.state c.args.self.now.disk in
+    let s' = g.D.Disk.state c.get_words.new.disk in
+    rests_read s s' files c.get_words.ensures.same.size (reads_of s s' (c.get_words.ensures.keeps h)) rests
+
+pub returns-in-Err-BadData-clause-rests : goal.returns-in-Err-BadData-clause-rests
+returns-in-Err-BadData-clause-rests g c h files rests =
+    let s = g.D.Disk.state c.args.self.now.disk in
+    let s' = g.D.Disk.state c.get_words.new.disk in
+    rests_read s s' files c.get_words.ensures.same.size (reads_of s s' (c.get_words.ensures.keeps h)) rests
+
+pub returns-in-Err-BadData-clause-given_up : goal.returns-in-Err-BadData-clause-given_up
+returns-in-Err-BadData-clause-given_up g c is = inr (λ h.
+    let s = g.D.Disk.state c.args.self.now.disk in
+    let v = c.version_under-version.result.now in
+    let bad = c.get_words.ensures.damaged h c.in-Err-BadData._block (cc) in
+    undamaged s.contents v c.in-Err-BadData._block (readable_body s (core_of c.args.self.now.map) c.args.self.now.failed c.requires.sound h c.if-self.false c.args.handle v c.requires.live c.version_under-version.ensures) bad.0 bad.1)

@@ -1,0 +1,94 @@
+ghost use Rattle.std.specs.Prelude.{◌≡◌, ◌↔◌, ◌⊎◌, ◌+◌, ◌-◌, ◌<◌, ◌^◌, ℕ, true, false, None, Some, IfOk, IfErr, IsErr, IsErrOf, IsSome, IfSome, IsTrue, length};
+ghost use Rattle.meaning.specs.declared.code.ErrorCode.TheVariants.{NoDirectory, NotFound};
+ghost use Rattle.meaning.specs.Files.{File, Files};
+ghost use Rattle.meaning.specs.Maps.{get, times};
+ghost use Rattle.meaning.specs.Costs.{cost_of_blocks};
+ghost use Rattle.alloctab.specs.TableState.{holds};
+ghost use Rattle.volume.specs.Known.{blocks_reached};
+ghost use Rattle.volume.specs.Live.{slot, IsWholeCore};
+ghost use Rattle.volume.specs.LiveCores.{core_of};
+ghost use Rattle.volume.specs.Pins.{IsKeyOf, IsNoFile, IsPinAnswer};
+ghost use Rattle.volume.specs.Queries.{IsPlainRefusal};
+ghost use Rattle.volume.specs.Rest.{IsSound, RestsAt};
+ghost use Rattle.volume.specs.declared.error.CallError.TheVariants.{Refused, Failed};
+ghost use Rattle.volume.specs.declared.live.LiveVersion.{LiveVersion};
+
+use crate::CallError;
+use crate::handles::Pin;
+use crate::live::{LiveMap, pin_version, unpin_version};
+use crate::map::Volume;
+use crate::query::directory_place;
+use blockdisk::Disk;
+use meaning::ErrorCode;
+use words36::{FileName, Ppn};
+
+/// The key of the version that the file of a place has.
+///
+/// # Errors
+///
+/// `Refused(NoDirectory)` where there is no such directory, `Refused(NotFound)` where it has no such file.
+fn find_version(map: &LiveMap, ppn: Ppn, name: &FileName) -> Result<usize, CallError>
+    requires whole { IsWholeCore map.now.table.size (core_of map.now) }
+    ensures found { IfOk result (IsKeyOf (core_of map.now) ppn name.now) }
+    ensures none { IfErr result (IsNoFile (core_of map.now) ppn name.now) }
+{
+    let place = directory_place(&map.master, ppn)?;
+    let directory = &map.directories[place];
+    match directory.chain.find(name) {
+        Some(i) => Ok(directory.keys[i]),
+        None => Err(CallError::Refused(ErrorCode::NotFound)),
+    }
+}
+
+impl<D: Disk> Volume<D> {
+    /// Holds the version that a file has now for one reader more. Its blocks and its words stay until `unpin`,
+    /// whatever comes to stand under the name. It takes no memory and touches no disk.
+    ///
+    /// # Errors
+    ///
+    /// `Refused(NoDirectory)` where there is no such directory, `Refused(NotFound)` where it has no such file,
+    /// `Failed` where the volume failed before.
+    pub fn pin(&mut self, ppn: Ppn, name: &FileName) -> Result<Pin, CallError>
+        requires sound { IsSound (D.state self.old.disk) (core_of self.old.map) self.old.failed }
+        requires few { (key : ℕ) (v : LiveVersion) → slot (core_of self.old.map).live key ≡ Some v → v.readers + 1 < 2 ^ 32 }
+        ensures sound { IsSound (D.state self.new.disk) (core_of self.new.map) self.new.failed }
+        ensures value { (D.state self.old.disk).honest → self.old.failed ≡ false → (files : Files File) → RestsAt (D.state self.old.disk) files
+            → IsPinAnswer (D.state self.old.disk).contents (core_of self.new.map).live name.now result (get files ppn) }
+
+        // One reader more of this version, and nothing else.
+        ensures pinned { IfOk result (λ pin. (v : LiveVersion) × (slot (core_of self.old.map).live pin.key ≡ Some v) × (slot (core_of self.new.map).live pin.key ≡ Some (record v { readers = v.readers + 1 }))) }
+        ensures others { IfOk result (λ pin. (k : ℕ) → (k ≡ pin.key → ⊥) → slot (core_of self.new.map).live k ≡ slot (core_of self.old.map).live k) }
+        ensures core { core_of self.new.map ≡ record (core_of self.old.map) { live = (core_of self.new.map).live } }
+        ensures same { IsErr result → self.new.map ≡ self.old.map }
+        ensures untouched { (self.new.disk ≡ self.old.disk) × (self.new.failed ≡ self.old.failed) }
+        ensures failed { IsErrOf result Failed ↔ IsTrue self.old.failed }
+        ensures only { IfErr result IsPlainRefusal }
+    {
+        if self.failed {
+            return Err(CallError::Failed);
+        }
+        let key = find_version(&self.map, ppn, name)?;
+        pin_version(&mut self.map, key);
+        Ok(Pin { key })
+    }
+
+    /// Lets a version go for one reader. One that no file has any more goes with its last reader: its blocks are
+    /// free then, and its booking is taken back. It takes no memory and touches no disk.
+    pub fn unpin(&mut self, pin: Pin)
+        requires sound { IsSound (D.state self.old.disk) (core_of self.old.map) self.old.failed }
+        requires live { (v : LiveVersion) × (slot (core_of self.old.map).live pin.key ≡ Some v) × (0 < v.readers) }
+        ensures sound { IsSound (D.state self.new.disk) (core_of self.new.map) self.new.failed }
+        ensures stays { (v : LiveVersion) → slot (core_of self.old.map).live pin.key ≡ Some v → (v.is_current ≡ true) ⊎ (1 < v.readers)
+            → (slot (core_of self.new.map).live pin.key ≡ Some (record v { readers = v.readers - 1 })) × ((core_of self.new.map).known.table ≡ (core_of self.old.map).known.table) }
+        ensures gone { (v : LiveVersion) → slot (core_of self.old.map).live pin.key ≡ Some v → v.is_current ≡ false → v.readers ≡ 1
+            → (slot (core_of self.new.map).live pin.key ≡ None)
+            × ((n : ℕ) → holds (core_of self.new.map).known.table n + times n (blocks_reached v.at v.version) ≡ holds (core_of self.old.map).known.table n)
+            × ((core_of self.new.map).known.table.booked + cost_of_blocks (length v.version.blocks) ≡ (core_of self.old.map).known.table.booked) }
+        ensures others { (k : ℕ) → (k ≡ pin.key → ⊥) → slot (core_of self.new.map).live k ≡ slot (core_of self.old.map).live k }
+        ensures pending { (core_of self.new.map).pending ≡ (core_of self.old.map).pending }
+        ensures known { (core_of self.new.map).known ≡ record (core_of self.old.map).known { table = (core_of self.new.map).known.table } }
+        ensures untouched { (self.new.disk ≡ self.old.disk) × (self.new.failed ≡ self.old.failed) }
+    {
+        unpin_version(&mut self.map, pin.key);
+    }
+}

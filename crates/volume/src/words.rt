@@ -1,0 +1,104 @@
+ghost use Rattle.std.specs.Prelude.{◌≡◌, ◌↔◌, ◌⊎◌, ◌-◌, ◌<◌, ℕ, List, true, false, Some, IfOk, IsErrOf, length, min, take};
+ghost use Rattle.std.specs.List.{AllByRecursion};
+ghost use Rattle.blockdisk.specs.Disk.{Keeps, SameDisk, one_more};
+ghost use Rattle.changeset.specs.Reads.{OnlyReads};
+ghost use Rattle.meaning.specs.declared.code.ErrorCode.{ErrorCode};
+ghost use Rattle.meaning.specs.Costs.{blocks_of};
+ghost use Rattle.meaning.specs.Faults.{InSpace};
+ghost use Rattle.meaning.specs.Files.{File, Files};
+ghost use Rattle.meaning.specs.Retrieval.{HasBody};
+ghost use Rattle.meaning.specs.Splices.{block_start, words_from};
+ghost use Rattle.alloctab.specs.TableState.{IsTable};
+ghost use Rattle.retrieval.specs.Versions.{VersionState};
+ghost use Rattle.volume.specs.Live.{IsWholeCore};
+ghost use Rattle.volume.specs.LiveCores.{core_of};
+ghost use Rattle.volume.specs.Pins.{version_under, IsReadable};
+ghost use Rattle.volume.specs.Rest.{IsSound, RestsAt};
+ghost use Rattle.volume.specs.declared.error.CallError.TheVariants.{Refused, Device, NoMemory, Failed};
+
+use crate::CallError;
+use crate::handles::VersionHandle;
+use crate::live::LiveMap;
+use crate::map::Volume;
+use blockdisk::Disk;
+use retrieval::{BodyError, Version, get_words};
+use std::alloc::Global;
+use words36::Word;
+
+/// The version that is read.
+fn version_under(map: &LiveMap, handle: VersionHandle) -> &Version
+    requires { IsReadable (core_of map.now) handle }
+    ensures { version_under (core_of map.now) handle ≡ Some result.now }
+{
+    match handle {
+        VersionHandle::Pinned(pin) => match map.versions.get(pin.key) {
+            Some(live) => &live.version,
+            None => unreachable!(),
+        },
+        VersionHandle::Pending(pending) => match map.pending.get(pending.key) {
+            Some(version) => &version.version,
+            None => unreachable!(),
+        },
+    }
+}
+
+impl<D: Disk> Volume<D> {
+    /// The words of a version's body from block `block` on, counted from 1, at most `count` of them; fewer where
+    /// the body ends before. They are those of the version that was pinned, whatever stands under its name now.
+    ///
+    /// # Errors
+    ///
+    /// `NoMemory` where the words find no room, with nothing read; `Device` where the device failed, and the
+    /// volume with it; `Failed` where the volume failed before, or where a block is damaged, which no honest
+    /// disk shows: the volume has failed then.
+    pub fn get_words(
+        &mut self,
+        alloc: Global,
+        handle: VersionHandle,
+        block: u32,
+        count: u32,
+    ) -> Result<Vec<Word>, CallError>
+        requires sound { IsSound (D.state self.old.disk) (core_of self.old.map) self.old.failed }
+        requires live { IsReadable (core_of self.old.map) handle }
+        requires first { 0 < block }
+        ensures sound { IsSound (D.state self.new.disk) (core_of self.new.map) self.new.failed }
+        ensures words { (D.state self.old.disk).honest → (v : VersionState) → version_under (core_of self.old.map) handle ≡ Some v → (body : List ℕ) → length body ≡ v.words
+            → HasBody (D.state self.old.disk).contents v.blocks body → IfOk result (λ words. words.items ≡ take count (words_from body block)) }
+        ensures few { (v : VersionState) → version_under (core_of self.old.map) handle ≡ Some v → IfOk result (λ words. length words.items ≡ min count (v.words - block_start block)) }
+
+        // Nothing is written, and core stays.
+        ensures reads { (D.state self.old.disk).honest → OnlyReads (D.state self.old.disk) (D.state self.new.disk) }
+        ensures rests { (D.state self.old.disk).honest → (files : Files File) → RestsAt (D.state self.old.disk) files → RestsAt (D.state self.new.disk) files }
+        ensures core { self.new.map ≡ self.old.map }
+
+        // Which error comes when, and what it leaves.
+        ensures plain { (code : ErrorCode) → IsErrOf result (Refused code) → ⊥ }
+        ensures memory { IsErrOf result NoMemory → self.new.disk ≡ self.old.disk }
+        ensures failed { self.old.failed ≡ true → IsErrOf result Failed }
+        ensures given_up { IsErrOf result Failed → (self.old.failed ≡ true) ⊎ ((D.state self.old.disk).honest → ⊥) }
+        ensures gone { IsErrOf result Failed → self.new.failed ≡ true }
+        ensures device { IsErrOf result Device → self.new.failed ≡ true }
+        ensures still { (IsErrOf result Device → ⊥) → (IsErrOf result Failed → ⊥) → self.new.failed ≡ self.old.failed }
+        ensures counted { IsErrOf result Device → (D.state self.new.disk).failures ≡ one_more (D.state self.old.disk).failures }
+        ensures served { (IsErrOf result Device → ⊥) → (D.state self.new.disk).failures ≡ (D.state self.old.disk).failures }
+        ensures same { SameDisk (D.state self.old.disk) (D.state self.new.disk) }
+    {
+        if self.failed {
+            return Err(CallError::Failed);
+        }
+        let _booked = self.map.table.booked(); // any table is one as it should be
+        let version = version_under(&self.map, handle);
+        match get_words(alloc, &mut self.disk, version, block, count) {
+            Ok(words) => Ok(words),
+            Err(BodyError::NoMemory) => Err(CallError::NoMemory),
+            Err(BodyError::Device) => {
+                self.failed = true; // nothing is known of the disk any more
+                Err(CallError::Device)
+            }
+            Err(BodyError::BadData(_block)) => {
+                self.failed = true; // only a broken promise of the disk explains it
+                Err(CallError::Failed)
+            }
+        }
+    }
+}
