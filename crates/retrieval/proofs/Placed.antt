@@ -9,7 +9,7 @@ use Rattle.meaning.specs.Faults.{InSpace}
 use Rattle.meaning.specs.Maps.{times}
 use Rattle.changeset.specs.PutLaws.{times_tail}
 use Rattle.alloctab.specs.TableState.{TableState, bit, holds, space}
-use Rattle.retrieval.specs.Bodies.{IsOwn, KeepsOwn}
+use Rattle.retrieval.specs.Bodies.{IsOwn, AddsClear, KeepsOwn}
 use Rattle.retrieval.specs.Writing.{IsFixed}
 use Rattle.retrieval.specs.Placing.{IsNewBlock, HoldsNew, IsPlaced}
 use Rattle.retrieval.proofs.Holding.{times_set, alone_at}
@@ -91,6 +91,17 @@ pub inside_set : (size : ℕ) (xs : List ℕ) (i n : ℕ) → AllByRecursion (In
 inside_set size [] i n all is = tt
 inside_set size (x ∷ xs) zero n all is = (is, all.1)
 inside_set size (x ∷ xs) (suc i) n all is = (all.0, inside_set size xs i n all.1 is)
+
+-- one place with a block whose bit is clear
+pub clear_set : (t : TableState) (old xs : List ℕ) (i n : ℕ) → AddsClear t old xs → i < length xs → bit t n ≡ 0 → AddsClear t old (slice_set xs i n)
+clear_set t old xs i n so_far below clear m there = ⊎_elim
+    (λ (is : m ≡ n). inr (ap (bit t) is ∙ clear))
+    (λ (other : m ≡ n → ⊥). so_far m (let set = times_set m xs i n below in let none = times_tail m n [] other in omega arith))
+    (cases_eq m n)
+
+-- one list after the other
+pub clear_on : (t t' : TableState) → t' ≡ record t { held = t'.held } → (xs ys zs : List ℕ) → AddsClear t xs ys → AddsClear t' ys zs → AddsClear t xs zs
+clear_on t t' same xs ys zs first second n there = ⊎_elim (λ old. first n old) (λ clear. inr (ap (λ (u : TableState). bit u n) (sym same) ∙ clear)) (second n there)
 
 -- A block that is held once and stands in a list once stands there once still, as blocks are taken for others.
 pub few_more : (xs ys : List ℕ) (i n : ℕ) → i < length ys → times n (slice_set ys i n) ≡ 1 → ((m : ℕ) → times m xs ≤ 1 → times m ys ≤ 1) → (m : ℕ) → times m xs ≤ 1 → times m (slice_set ys i n) ≤ 1

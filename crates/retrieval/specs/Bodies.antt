@@ -1,5 +1,5 @@
 -- Bodies: the words of a version, and the blocks that may be written where they change.
-use Rattle.std.specs.Prelude.{◌≡◌, ℕ, ◌<◌, List, length, slice_index, IfSome}
+use Rattle.std.specs.Prelude.{◌≡◌, ◌⊎◌, ◌<◌, ℕ, List, length, IfSome, slice_index}
 use Rattle.std.specs.List.{AllByRecursion}
 use Rattle.blockdisk.specs.Disk.{Contents}
 use Rattle.meaning.specs.Maps.{times}
@@ -13,6 +13,10 @@ AreWhole contents blocks = AllByRecursion (λ n. IfSome (contents n) (λ words. 
 pub record IsOwn (t : TableState) (blocks : List ℕ) (n : ℕ) : Type 0 where
   pub clear : bit t n ≡ 0
   pub alone : holds t n ≡ times n blocks
+
+-- Each block of the new list stands in the old one, or its bit is clear.
+abbrev pub AddsClear : TableState → List ℕ → List ℕ → Type 0
+AddsClear t old new = (n : ℕ) → 0 < times n new → (0 < times n old) ⊎ (bit t n ≡ 0)
 
 -- The blocks of a list that are held once, for it, stand at the same places of another list.
 abbrev pub KeepsOwn : TableState → List ℕ → List ℕ → Type 0

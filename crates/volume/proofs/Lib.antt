@@ -33,6 +33,8 @@ pub mod LiveBodies
 pub mod PinnedFiles
 pub mod ReadWords
 pub mod MakingDirectories
+pub mod PuttingCore
+pub mod PuttingDisk
 pub mod BeginningCounts
 pub mod StillHeld
 pub mod Growing

@@ -137,7 +137,7 @@ gone_directories size m new key v whole was ended others =
     directories_known_on m.versions.slots new (gone_stay m.versions.slots new key v was ended others) (core_of m).known.directories m.directories.items whole.keyed
 
 -- the map with other counts in its table
-counts_whole : (size : ℕ) (k : Known) (held : List ℕ) (booked : ℕ) → IsWholeMap size k → IsWholeMap size (record k { table = record k.table { held = held; booked = booked } })
+pub counts_whole : (size : ℕ) (k : Known) (held : List ℕ) (booked : ℕ) → IsWholeMap size k → IsWholeMap size (record k { table = record k.table { held = held; booked = booked } })
 counts_whole size k held booked whole = record {
   volume = whole.volume;
   size_is = whole.size_is;

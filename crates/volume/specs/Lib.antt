@@ -11,5 +11,6 @@ pub mod Queries
 pub mod Making
 pub mod Live
 pub mod LiveCores
+pub mod Putting
 pub mod Pins
 pub mod Beginning

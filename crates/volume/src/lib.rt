@@ -19,7 +19,10 @@
 //!    new directory, and where it answers Ok for the latter alone; each other answer but `Device` leaves disk
 //!    and map as they were. After `Device` and `Failed` the volume has failed, and no other answer changes
 //!    whether it has. (`crash`, `done`, `refused`, `device`, `gone`, `serves`)
-//! 7. `Device` comes exactly with one more failure of the disk, on every disk. (`failed`, `served`)
+//! 7. `put_words` writes blocks that no file and no other version has: whatever a crash leaves at any moment of
+//!    it stands for the files from before. At Ok the version has its body with the words put; after a refusal
+//!    and after `NoMemory` all is as before. (`quiet`, `rests`, `put`, `others`, `kept`)
+//! 8. `Device` comes exactly with one more failure of the disk, on every disk. (`failed`, `served`)
 //!
 //! Between two calls the volume knows the map of its disk: the chains of its directories with their entries
 //! in the order of the disk, for each entry where its version lies, and the allocation table with what is
@@ -59,6 +62,9 @@ mod pending;
 #[cfg(test)]
 mod pin_tests;
 mod pins;
+mod put;
+#[cfg(test)]
+mod put_tests;
 mod query;
 mod read;
 mod regions;

@@ -1,0 +1,154 @@
+-- A version that is being written has other blocks: what is in core stays whole.
+use Rattle.std.proofs.Common.{◌≡◌, ◌⊎◌, ⊎_elim, inl, inr, ℕ, zero, suc, ◌+◌, ◌-◌, ◌<◌, ◌≤◌, List, [], ◌∷◌, length, slice_index, slice_set, Option, Some, None, IfSome, IsSome, slice_index_or, refl, sym, ap, subst, ◌∙◌, arith}
+use Rattle.std.proofs.lemmas.Bool.{cases_eq, cases_lt}
+use Rattle.std.specs.List.{AllByRecursion}
+use Rattle.std.specs.Ordering.{nat_cmp}
+use Rattle.std.specs.FinMap.Entries.{find}
+use Rattle.meaning.specs.Costs.{cost_of_blocks, directory_cost}
+use Rattle.meaning.specs.Directories.{MasterEntry}
+use Rattle.meaning.specs.Faults.{InSpace}
+use Rattle.meaning.specs.Maps.{total, times}
+use Rattle.alloctab.specs.TableState.{TableState, bit, holds}
+use Rattle.retrieval.specs.Versions.{VersionState}
+use Rattle.volume.specs.Known.{KnownDirectory, reaches_in_known}
+use Rattle.volume.specs.Live.{VolumeCore, pending_at, pending_reaches, pending_cost, creates, growths, IsWholePending, IsWholeCore}
+use Rattle.volume.specs.Putting.{IsReady, Regrows, Regrown}
+use Rattle.volume.specs.declared.pending.PendingVersion.{PendingVersion}
+use Rattle.volume.proofs.FoundDirectories.{all_times_at}
+use Rattle.volume.proofs.LiveTotals.{total_updated, core_uses_one}
+use Rattle.volume.proofs.MakingDirectories.{whole_fixed}
+use Rattle.volume.proofs.Pinning.{each_slot, total_at, all_updated, counts_whole}
+
+-- directories grow by as many entries as before
+growths_same : (old new : List (Option PendingVersion)) → ((ppn : ℕ) → total (creates ppn) new ≡ total (creates ppn) old) → (es : List MasterEntry) (ds : List KnownDirectory) → growths new es ds ≡ growths old es ds
+growths_same old new same [] ds = refl
+growths_same old new same (e ∷ es) [] = refl
+growths_same old new same (e ∷ es) (d ∷ ds) =
+    let here = ap (λ (n : ℕ). directory_cost (length d.chain.entries + n)) (same e.0) in
+    let rest = growths_same old new same es ds in
+    omega arith
+
+-- a directory's chain is a part of what it reaches
+chains_within : (n : ℕ) (ds : List KnownDirectory) → total (λ (d : KnownDirectory). times n d.chain.blocks) ds ≤ total (reaches_in_known n) ds
+chains_within n [] = omega arith
+chains_within n (d ∷ ds) = let rest = chains_within n ds in omega arith
+
+module _ (size : ℕ) (c : VolumeCore) (whole : IsWholeCore size c) (key : ℕ) (p : PendingVersion) (was : pending_at c.pending key ≡ Some p) where
+  pub waits : IsWholePending size p
+  waits = subst (λ o. IfSome o (IsWholePending size)) was (each_slot (λ o. IfSome o (IsWholePending size)) tt c.pending whole.waiting key)
+
+  -- words can be put into it
+  pub ready : IsReady size c.known.table p.version
+  ready = record {
+    fixed = whole_fixed size c.known whole.map;
+    inside = waits.inside;
+    counted = waits.whole.counted;
+    few = waits.whole.few;
+    held = λ n.
+        let part = total_at (pending_reaches n) refl c.pending key in
+        let here = ap (pending_reaches n) was in
+        let all = whole.held n in
+        omega arith;
+    used = let one = core_uses_one size c whole key p was in omega arith;
+    cost =
+        let part = total_at pending_cost refl c.pending key in
+        let here = ap pending_cost was in
+        let all = whole.booked in
+        omega arith;
+    fits = whole.fits;
+  }
+
+  module _ (t : TableState) (pending : List (Option PendingVersion)) (v : VersionState) (is : Regrown size c.known.table t pending key p v)
+      (others : (k : ℕ) → (k ≡ key → ⊥) → pending_at pending k ≡ pending_at c.pending k) where
+    grown : Regrows size c.known.table t p.version v
+    grown = is.1
+
+    new_total : (f : Option PendingVersion → ℕ) → f None ≡ 0 → total f pending + f (Some p) ≡ total f c.pending + f (Some (record p { version = v }))
+    new_total f none =
+        let all = total_updated f none c.pending pending key (Some (record p { version = v })) is.0 others in
+        let here = ap f was in
+        omega arith
+
+    new_creates : (ppn : ℕ) → total (creates ppn) pending ≡ total (creates ppn) c.pending
+    new_creates ppn =
+        let all = new_total (creates ppn) refl in
+        let same : creates ppn (Some (record p { version = v })) ≡ creates ppn (Some p) = refl in
+        omega arith
+
+    new_waits : IsWholePending size (record p { version = v })
+    new_waits = record {
+      whole = record { counted = grown.counted; few = grown.few; few_ribs = let none = ap (λ (l : List ℕ). length l) (grown.ribs ∙ waits.bare) in omega arith };
+      inside = grown.inside;
+      bare = grown.ribs ∙ waits.bare;
+    }
+
+    -- a block that is held was held, or its bit was clear and it is one of the version
+    held_or_new : (n : ℕ) → 0 < holds t n → (0 < holds c.known.table n) ⊎ ((bit c.known.table n ≡ 0) × (0 < times n v.blocks))
+    held_or_new n some = ⊎_elim
+        (λ was_held. inl was_held)
+        (λ unheld.
+        let sum = grown.held n in
+        let part = ready.held n in
+        let stands : 0 < times n v.blocks = omega arith in
+        ⊎_elim (λ old. absurd (omega arith)) (λ clear. inr (clear, stands)) (grown.clear n stands))
+        (cases_lt 0 (holds c.known.table n))
+
+    -- one whose bit is clear stands in no chain
+    clear_apart : (n : ℕ) → bit c.known.table n ≡ 0 → times n c.known.master.blocks + total (λ d. times n d.chain.blocks) c.known.directories ≡ 0
+    clear_apart n clear =
+        let is = whole.map.bits n in
+        let most = chains_within n c.known.directories in
+        omega arith
+
+    regrown_whole : IsWholeCore size (record c { known = record c.known { table = record c.known.table { held = t.held; booked = t.booked } }; pending = pending })
+    regrown_whole = record {
+      map = counts_whole size c.known t.held t.booked whole.map;
+      keyed = whole.keyed;
+      standing = whole.standing;
+      waiting = all_updated (λ o. IfSome o (IsWholePending size)) c.pending pending key others tt whole.waiting (subst (λ o. IfSome o (IsWholePending size)) (sym is.0) new_waits);
+      pinned = whole.pinned;
+      housed = λ ppn absent. new_creates ppn ∙ whole.housed ppn absent;
+      held = λ n.
+          let all = new_total (pending_reaches n) refl in
+          let sum = grown.held n in
+          let before = whole.held n in
+          omega arith;
+      inside = λ n some. ⊎_elim (λ old. whole.inside n old) (λ new. all_times_at (InSpace size) v.blocks n grown.inside new.1) (held_or_new n some);
+      apart = λ n some. ⊎_elim (λ old. whole.apart n old) (λ new. clear_apart n new.0) (held_or_new n some);
+      fits = grown.fits;
+      booked =
+          let all = new_total pending_cost refl in
+          let sum = grown.booked in
+          let before = whole.booked in
+          let same = growths_same c.pending pending new_creates c.known.master.entries c.known.directories in
+          omega arith;
+    }
+
+    pub put_whole : IsWholeCore size (record c { known = record c.known { table = t }; pending = pending })
+    put_whole = subst (λ (u : TableState). IsWholeCore size (record c { known = record c.known { table = u }; pending = pending })) (sym grown.table) regrown_whole
+
+-- One version in its slot.
+
+pub some_of : {X : Type 0} (o : Option X) → IsSome o → (x : X) × (o ≡ Some x)
+some_of None is = absurd (cc)
+some_of (Some x) is = (x, refl)
+
+-- the value in a slot is another
+set_at : {X : Type 0} (slots : List (Option X)) (key : ℕ) (q : X) (x : Option X) → slice_index_or slots key None ≡ Some q → slice_index_or (slice_set slots key x) key None ≡ x
+set_at [] key q x is = cc
+set_at (o ∷ os) zero q x is = refl
+set_at (o ∷ os) (suc key) q x is = set_at os key q x is
+
+-- as it was
+pub regrows_same : (size : ℕ) (t : TableState) (v : VersionState) → IsReady size t v → Regrows size t t v v
+regrows_same size t v is = record { counted = is.counted; few = is.few; ribs = refl; inside = is.inside; clear = λ n there. inl there; table = refl; held = λ n. refl; booked = refl; fits = is.fits }
+
+module _ (slots : List (Option PendingVersion)) (key : ℕ) (q p : PendingVersion) (got : Some q ≡ pending_at slots key) (was : pending_at slots key ≡ Some p) where
+  pub same_version : q ≡ p
+  same_version = let both : Some q ≡ Some p = got ∙ was in cc
+
+  pub now_put : (v : VersionState) → pending_at (slice_set slots key (Some (record q { version = v }))) key ≡ Some (record p { version = v })
+  now_put v = set_at slots key q (Some (record q { version = v })) (sym got) ∙ ap (λ (u : PendingVersion). Some (record u { version = v })) same_version
+
+  pub regrown_same : (size : ℕ) (t : TableState) → IsReady size t p.version → (v : VersionState) × Regrown size t t (slice_set slots key (Some q)) key p v
+  regrown_same size t is = (p.version, (set_at slots key q (Some q) (sym got) ∙ ap (λ (u : PendingVersion). Some u) same_version, regrows_same size t p.version is))

@@ -1,0 +1,36 @@
+use Rattle.std.proofs.Common.{◌≡◌, ℕ, List, length, Some, slice_set, sym, subst}
+use Rattle.blockdisk.specs.Laws.{touches_start}
+use Rattle.meaning.specs.Retrieval.{HasBody}
+use Rattle.meaning.specs.Splices.{splice, length_after}
+use Rattle.retrieval.specs.Bodies.{IsOwn}
+use Rattle.retrieval.specs.Versions.{VersionState}
+use Rattle.volume.specs.Live.{pending_at}
+use Rattle.volume.specs.declared.pending.PendingVersion.{PendingVersion}
+use Rattle.volume.proofs.PuttingCore.{same_version, now_put, regrown_same}
+use Rattle.volume.proofs.put.put_pending.Goals as goal
+
+pub growth-requires-clause-few : goal.growth-requires-clause-few
+growth-requires-clause-few g c = (c.requires.ready c.in-Some.pending.now (sym c.in-Some.ensures.value)).few
+
+pub returns-in_default-growth-clause-touched : goal.returns-in_default-growth-clause-touched
+returns-in_default-growth-clause-touched g c h p was = touches_start (IsOwn c.args.table.now p.version.blocks) (g.D.Disk.state c.args.disk.now)
+
+pub returns-in-Some-clause-touched : goal.returns-in-Some-clause-touched
+returns-in-Some-clause-touched g c h p was = touches_start (IsOwn c.args.table.now p.version.blocks) (g.D.Disk.state c.args.disk.now)
+
+pub returns-in-Some-clause-grown : goal.returns-in-Some-clause-grown
+returns-in-Some-clause-grown g c p was =
+    regrown_same c.args.pending.now.slots c.args.key c.in-Some.pending.now p c.in-Some.ensures.value was (g.D.Disk.state c.args.disk.now).size c.args.table.now (c.requires.ready p was)
+
+pub returns-in-Ok-clause-put : goal.returns-in-Ok-clause-put
+returns-in-Ok-clause-put g c p was =
+    let s = g.D.Disk.state c.args.disk.now in
+    let s' = g.D.Disk.state c.put_booked.new.disk in
+    let slots = slice_set c.args.pending.now.slots c.args.key (Some (record c.in-Some.pending.now { version = c.put_booked.new.version })) in
+    let same = same_version c.args.pending.now.slots c.args.key c.in-Some.pending.now p c.in-Some.ensures.value was in
+    let now = now_put c.args.pending.now.slots c.args.key c.in-Some.pending.now p c.in-Some.ensures.value was c.put_booked.new.version in (
+      c.put_booked.new.version,
+      now,
+      subst (λ (q : PendingVersion). c.put_booked.new.version.words ≡ length_after q.version.words c.args.block (length c.args.words.now)) same c.in-Ok.ensures.length,
+      subst (λ (q : PendingVersion). s.honest → (body : List ℕ) → length body ≡ q.version.words → HasBody s.contents q.version.blocks body → HasBody s'.contents c.put_booked.new.version.blocks (splice body c.args.block c.args.words.now)) same c.in-Ok.ensures.body,
+    )

@@ -1,0 +1,42 @@
+-- Words are put into a version that is being written: what this does to it and to the table.
+use Rattle.std.specs.Prelude.{◌≡◌, ℕ, ◌+◌, ◌*◌, ◌^◌, ◌<◌, ◌≤◌, List, length, Option, Some}
+use Rattle.std.specs.List.{AllByRecursion}
+use Rattle.meaning.specs.Costs.{blocks_of, cost_of_blocks}
+use Rattle.meaning.specs.Faults.{InSpace}
+use Rattle.meaning.specs.Maps.{times}
+use Rattle.meaning.specs.Retrieval.{most_blocks}
+use Rattle.alloctab.specs.TableState.{TableState, holds, uses}
+use Rattle.retrieval.specs.Bodies.{AddsClear}
+use Rattle.retrieval.specs.Versions.{VersionState}
+use Rattle.retrieval.specs.Writing.{IsFixed}
+use Rattle.volume.specs.declared.pending.PendingVersion.{PendingVersion}
+use Rattle.volume.specs.Live.{pending_at}
+
+-- A version that words can be put into: it is whole, its blocks are held, and what it costs is booked, with
+-- a block more than are in use.
+pub record IsReady (size : ℕ) (t : TableState) (v : VersionState) : Type 0 where
+  pub fixed : IsFixed t
+  pub inside : AllByRecursion (InSpace size) v.blocks
+  pub counted : length v.blocks ≡ blocks_of v.words
+  pub few : v.words ≤ most_blocks * 128
+  pub held : (n : ℕ) → times n v.blocks ≤ holds t n
+  pub used : uses t < t.booked
+  pub cost : cost_of_blocks (length v.blocks) ≤ t.booked
+  pub fits : t.booked < 2 ^ 63
+
+-- A version has other blocks, those are held, and what they cost is booked.
+pub record Regrows (size : ℕ) (t t' : TableState) (old new : VersionState) : Type 0 where
+  pub counted : length new.blocks ≡ blocks_of new.words
+  pub few : new.words ≤ most_blocks * 128
+  pub ribs : new.ribs ≡ old.ribs
+  pub inside : AllByRecursion (InSpace size) new.blocks
+  -- a block that it had not has its bit clear
+  pub clear : AddsClear t old.blocks new.blocks
+  pub table : t' ≡ record t { held = t'.held; booked = t'.booked }
+  pub held : (n : ℕ) → holds t' n + times n old.blocks ≡ holds t n + times n new.blocks
+  pub booked : t'.booked + cost_of_blocks (length old.blocks) ≡ t.booked + cost_of_blocks (length new.blocks)
+  pub fits : t'.booked < 2 ^ 63
+
+-- The version under this key is so.
+abbrev pub Regrown : ℕ → TableState → TableState → List (Option PendingVersion) → ℕ → PendingVersion → VersionState → Type 0
+Regrown size t t' pending key p v = (pending_at pending key ≡ Some (record p { version = v })) × Regrows size t t' p.version v

@@ -1,0 +1,266 @@
+ghost use Rattle.std.specs.Prelude.{◌≡◌, ◌↔◌, ◌⊎◌, ◌+◌, ◌-◌, ◌*◌, ◌<◌, ◌≤◌, ℕ, List, true, false, length, None, Some, IfNone, IfSome, IsSome, OnOk, IsErrOf};
+ghost use Rattle.std.specs.List.{AllByRecursion};
+ghost use Rattle.blockdisk.specs.Disk.{LeavesOnly, SameDisk, Touches, one_more};
+ghost use Rattle.meaning.specs.declared.code.ErrorCode.{ErrorCode};
+ghost use Rattle.meaning.specs.declared.code.ErrorCode.TheVariants.{NoRoom};
+ghost use Rattle.meaning.specs.Costs.{blocks_of, cost_of_blocks, version_cost};
+ghost use Rattle.meaning.specs.Faults.{InSpace};
+ghost use Rattle.meaning.specs.Files.{File, Files};
+ghost use Rattle.meaning.specs.Maps.{times};
+ghost use Rattle.meaning.specs.Regions.{IsVolumeSize};
+ghost use Rattle.meaning.specs.Retrieval.{HasBody, most_blocks};
+ghost use Rattle.meaning.specs.Splices.{splice, length_after};
+ghost use Rattle.meaning.specs.Stands.{Stands};
+ghost use Rattle.alloctab.specs.TableState.{holds, space, uses};
+ghost use Rattle.retrieval.specs.Bodies.{IsOwn};
+ghost use Rattle.retrieval.specs.Versions.{VersionState};
+ghost use Rattle.retrieval.specs.Writing.{IsFixed};
+ghost use Rattle.retrieval.specs.declared.error.BodyError.TheVariants as body;
+ghost use Rattle.volume.specs.Live.{IsWholeCore, pending_at};
+ghost use Rattle.volume.specs.LiveCores.{core_of};
+ghost use Rattle.volume.specs.Putting.{IsReady, Regrows, Regrown};
+ghost use Rattle.volume.specs.Rest.{IsSound, RestsAt};
+ghost use Rattle.volume.specs.declared.error.CallError.TheVariants.{Refused, Device, Failed, NoMemory};
+ghost use Rattle.volume.specs.declared.pending.PendingVersion.{PendingVersion};
+
+use crate::CallError;
+use crate::cost::version_cost;
+use crate::handles::Pending;
+use crate::live::LiveMap;
+use crate::map::Volume;
+use crate::pending::PendingVersion;
+use alloctab::Table;
+use blockdisk::Disk;
+use meaning::ErrorCode;
+use retrieval::{BodyError, Version, put_words};
+use slab::Slab;
+use words36::{BLOCK_WORDS, Word};
+
+/// How many words a file may have: 16384 blocks of them.
+const MOST_WORDS: u64 = 16384 * 128;
+
+/// How many words a body of `words` has once `count` are put at block `block`, counted from 1; `None` where
+/// that is more than a file may have.
+fn length_with(words: u32, block: u32, count: usize) -> Option<u32>
+    requires first { 0 < block }
+    requires some { 0 < count }
+    requires few { words ≤ most_blocks * 128 }
+    ensures length { IfSome result (λ after. after ≡ length_after words block count) }
+    ensures few { IfSome result (λ after. after ≤ most_blocks * 128) }
+    ensures none { IfNone result (most_blocks * 128 < length_after words block count) }
+{
+    let start = u64::from(block - 1) * BLOCK_WORDS as u64;
+    let count = count as u64;
+    if start > MOST_WORDS || count > MOST_WORDS - start {
+        return None;
+    }
+    Some(words.max((start + count) as u32))
+}
+
+/// By how many blocks a version costs more once so many words are put; `None` where no file may have as many
+/// words as it has then.
+fn growth(version: &Version, block: u32, count: usize) -> Option<u32>
+    requires counted { length version.now.blocks ≡ blocks_of version.now.words }
+    requires first { 0 < block }
+    requires some { 0 < count }
+    requires few { version.now.words ≤ most_blocks * 128 }
+    ensures more { IfSome result (λ more. more + cost_of_blocks (length version.now.blocks) ≡ version_cost (length_after version.now.words block count)) }
+    ensures few { IfSome result (λ more. length_after version.now.words block count ≤ most_blocks * 128) }
+    ensures none { IfNone result (most_blocks * 128 < length_after version.now.words block count) }
+{
+    let after = length_with(version.length(), block, count)?;
+    let blocks = after.div_ceil(BLOCK_WORDS as u32);
+    Some(blocks + 1 + blocks.saturating_sub(112).div_ceil(126) - version_cost(version))
+}
+
+/// Puts words into a version, once so many blocks more are booked as it costs more then. Where they can't be
+/// put, as many stay booked as the version costs.
+///
+/// # Errors
+///
+/// As of `retrieval::put_words`. After `Device` the version is as long as its blocks.
+fn put_booked<D: Disk>(
+    disk: &mut D,
+    table: &mut Table,
+    version: &mut Version,
+    more: u32,
+    block: u32,
+    words: &[Word],
+) -> Result<(), BodyError>
+    requires volume { IsVolumeSize (D.state disk.old).size }
+    requires size { table.old.size ≡ (D.state disk.old).size }
+    requires fixed { IsFixed table.old }
+    requires inside { AllByRecursion (InSpace (D.state disk.old).size) version.old.blocks }
+    requires counted { length version.old.blocks ≡ blocks_of version.old.words }
+    requires held { (n : ℕ) → times n version.old.blocks ≤ holds table.old n }
+    requires first { 0 < block }
+    requires some { 0 < length words.now }
+    requires fits { length_after version.old.words block (length words.now) ≤ most_blocks * 128 }
+    requires used { uses table.old < table.old.booked }
+    requires cost { cost_of_blocks (length version.old.blocks) ≤ table.old.booked }
+    requires more { more + cost_of_blocks (length version.old.blocks) ≡ version_cost (length_after version.old.words block (length words.now)) }
+    requires room { table.old.booked + more ≤ space table.old.size }
+
+    ensures body { (D.state disk.old).honest → OnOk result ((body : List ℕ) → length body ≡ version.old.words → HasBody (D.state disk.old).contents version.old.blocks body → HasBody (D.state disk.new).contents version.new.blocks (splice body block words.now)) }
+    ensures length { OnOk result (version.new.words ≡ length_after version.old.words block (length words.now)) }
+    ensures grown { Regrows (D.state disk.old).size table.old table.new version.old version.new }
+    ensures touched { (D.state disk.old).honest → Touches (IsOwn table.old version.old.blocks) (D.state disk.old) (D.state disk.new) }
+    ensures memory { IsErrOf result body.NoMemory → (table.new ≡ table.old) × (version.new ≡ version.old) × (disk.new ≡ disk.old) }
+    ensures damaged { (D.state disk.old).honest → (k : ℕ) → IsErrOf result (body.BadData k) → (0 < times k version.old.blocks) × ((D.state disk.old).contents k ≡ None) }
+    ensures same { SameDisk (D.state disk.old) (D.state disk.new) }
+    ensures failed { IsErrOf result body.Device → (D.state disk.new).failures ≡ one_more (D.state disk.old).failures }
+    ensures served { (IsErrOf result body.Device → ⊥) → (D.state disk.new).failures ≡ (D.state disk.old).failures }
+{
+    let cost = version_cost(version) + more;
+    table.book(more);
+    match put_words(disk, table, version, block, words) {
+        Ok(()) => Ok(()),
+        Err(BodyError::Device) => {
+            version.set_length((version.blocks().len() * BLOCK_WORDS) as u32); // some blocks may be new
+            table.unbook(cost - version_cost(version));
+            Err(BodyError::Device)
+        }
+        Err(error) => {
+            table.unbook(more);
+            Err(error)
+        }
+    }
+}
+
+/// Puts words into the version under a key.
+///
+/// # Errors
+///
+/// `Refused` with `NoRoom` where it would be longer than a file may be, or cost more than there is room for;
+/// `NoMemory` where the list of its blocks finds no room. All is as before then. `Failed` where a block of it
+/// is damaged; `Device` where the device failed.
+fn put_pending<D: Disk>(
+    disk: &mut D,
+    table: &mut Table,
+    pending: &mut Slab<PendingVersion>,
+    key: usize,
+    block: u32,
+    words: &[Word],
+) -> Result<(), CallError>
+    requires volume { IsVolumeSize (D.state disk.old).size }
+    requires size { table.old.size ≡ (D.state disk.old).size }
+    requires there { IsSome (pending_at pending.old.slots key) }
+    requires ready { (p : PendingVersion) → pending_at pending.old.slots key ≡ Some p → IsReady (D.state disk.old).size table.old p.version }
+    requires first { 0 < block }
+    requires some { 0 < length words.now }
+
+    ensures put { OnOk result ((p : PendingVersion) → pending_at pending.old.slots key ≡ Some p → (v : VersionState) × (pending_at pending.new.slots key ≡ Some (record p { version = v })) × (v.words ≡ length_after p.version.words block (length words.now))
+        × ((D.state disk.old).honest → (body : List ℕ) → length body ≡ p.version.words → HasBody (D.state disk.old).contents p.version.blocks body → HasBody (D.state disk.new).contents v.blocks (splice body block words.now))) }
+    ensures grown { (p : PendingVersion) → pending_at pending.old.slots key ≡ Some p → (v : VersionState) × Regrown (D.state disk.old).size table.old table.new pending.new.slots key p v }
+    ensures others { (k : ℕ) → (k ≡ key → ⊥) → pending_at pending.new.slots k ≡ pending_at pending.old.slots k }
+    ensures touched { (D.state disk.old).honest → (p : PendingVersion) → pending_at pending.old.slots key ≡ Some p → Touches (IsOwn table.old p.version.blocks) (D.state disk.old) (D.state disk.new) }
+
+    ensures room { (p : PendingVersion) → pending_at pending.old.slots key ≡ Some p
+        → (IsErrOf result (Refused NoRoom) ↔ ((most_blocks * 128 < length_after p.version.words block (length words.now))
+        ⊎ (space table.old.size < table.old.booked + (version_cost (length_after p.version.words block (length words.now)) - version_cost p.version.words)))) }
+    ensures codes { (code : ErrorCode) → IsErrOf result (Refused code) → code ≡ NoRoom }
+    ensures refused { (code : ErrorCode) → IsErrOf result (Refused code) → (disk.new ≡ disk.old) × (table.new ≡ table.old) × (pending.new.slots ≡ pending.old.slots) }
+    ensures memory { IsErrOf result NoMemory → (disk.new ≡ disk.old) × (table.new ≡ table.old) × (pending.new.slots ≡ pending.old.slots) }
+    ensures damaged { (D.state disk.old).honest → (p : PendingVersion) → pending_at pending.old.slots key ≡ Some p → IsErrOf result Failed → (k : ℕ) × (0 < times k p.version.blocks) × ((D.state disk.old).contents k ≡ None) }
+
+    ensures same { SameDisk (D.state disk.old) (D.state disk.new) }
+    ensures failed { IsErrOf result Device → (D.state disk.new).failures ≡ one_more (D.state disk.old).failures }
+    ensures served { (IsErrOf result Device → ⊥) → (D.state disk.new).failures ≡ (D.state disk.old).failures }
+{
+    let Some(pending) = pending.get_mut(key) else {
+        unreachable!() // there is a version
+    };
+    let version = &mut pending.version;
+    let more = match growth(version, block, words.len()) {
+        Some(more) if table.can_book(more) => more,
+        _ => return Err(CallError::Refused(ErrorCode::NoRoom)),
+    };
+    match put_booked(disk, table, version, more, block, words) {
+        Ok(()) => Ok(()),
+        Err(BodyError::NoMemory) => Err(CallError::NoMemory),
+        Err(BodyError::Device) => Err(CallError::Device),
+        Err(BodyError::BadData(_)) => Err(CallError::Failed),
+    }
+}
+
+impl<D: Disk> Volume<D> {
+    /// Puts words at block `block` of a version that is being written, counted from 1: over what stands there,
+    /// and behind zeros where the version ends before. No words change nothing. A crash finds the files as
+    /// they were, since only blocks are written that no file and no reader has.
+    ///
+    /// # Errors
+    ///
+    /// `Failed` where the volume failed before. `Refused` with `NoRoom` where the version would have more than
+    /// 16384 blocks, or where what it costs more exceeds the room; `NoMemory` where core can't grow. All is as
+    /// before then. `Device` where the device failed, and the volume with it; `Failed`, and the volume with
+    /// it, where a block of the version that was written is damaged.
+    pub fn put_words(
+        &mut self,
+        pending: Pending,
+        block: u32,
+        words: &[Word],
+    ) -> Result<(), CallError>
+        requires sound { IsSound (D.state self.old.disk) (core_of self.old.map) self.old.failed }
+        requires live { IsSome (pending_at (core_of self.old.map).pending pending.key) }
+        requires first { 0 < block }
+
+        ensures sound { IsSound (D.state self.new.disk) (core_of self.new.map) self.new.failed }
+
+        // Its writes are quiet: whatever a crash leaves at any moment stands for the files from before.
+        ensures quiet { (D.state self.old.disk).honest → (f : Files File) → RestsAt (D.state self.old.disk) f
+            → LeavesOnly (D.state self.old.disk) (D.state self.new.disk) (λ c. Stands (D.state self.old.disk).size c f) }
+        ensures rests { (D.state self.old.disk).honest → (f : Files File) → RestsAt (D.state self.old.disk) f → RestsAt (D.state self.new.disk) f }
+        // At Ok the version has the words put.
+        ensures put { OnOk result ((p : PendingVersion) → pending_at (core_of self.old.map).pending pending.key ≡ Some p
+            → (v : VersionState) × (pending_at (core_of self.new.map).pending pending.key ≡ Some (record p { version = v })) × (v.words ≡ length_after p.version.words block (length words.now))
+            × ((D.state self.old.disk).honest → (body : List ℕ) → length body ≡ p.version.words → HasBody (D.state self.old.disk).contents p.version.blocks body → HasBody (D.state self.new.disk).contents v.blocks (splice body block words.now))) }
+        // It is there still, whatever the answer.
+        ensures stays { IsSome (pending_at (core_of self.new.map).pending pending.key) }
+        // All other versions stay, and their blocks do.
+        ensures others { (k : ℕ) → (k ≡ pending.key → ⊥) → pending_at (core_of self.new.map).pending k ≡ pending_at (core_of self.old.map).pending k }
+        ensures live { (core_of self.new.map).live ≡ (core_of self.old.map).live }
+        ensures keys { (core_of self.new.map).keys ≡ (core_of self.old.map).keys }
+        ensures known { (core_of self.new.map).known ≡ record (core_of self.old.map).known { table = (core_of self.new.map).known.table } }
+        ensures kept { (D.state self.old.disk).honest → (p : PendingVersion) → pending_at (core_of self.old.map).pending pending.key ≡ Some p → (n : ℕ) → (IsOwn (core_of self.old.map).known.table p.version.blocks n → ⊥)
+            → (D.state self.new.disk).contents n ≡ (D.state self.old.disk).contents n }
+
+        // Which error comes when, and what it leaves.
+        ensures failed { self.old.failed ≡ true → IsErrOf result Failed }
+        ensures given_up { IsErrOf result Failed → (self.old.failed ≡ true) ⊎ ((D.state self.old.disk).honest → ⊥) }
+        ensures room { self.old.failed ≡ false → (p : PendingVersion) → pending_at (core_of self.old.map).pending pending.key ≡ Some p
+            → (IsErrOf result (Refused NoRoom) ↔ ((0 < length words.now) × ((most_blocks * 128 < length_after p.version.words block (length words.now))
+            ⊎ (space (D.state self.old.disk).size < (core_of self.old.map).known.table.booked + (version_cost (length_after p.version.words block (length words.now)) - version_cost p.version.words))))) }
+        ensures codes { (code : ErrorCode) → IsErrOf result (Refused code) → code ≡ NoRoom }
+        ensures refused { (code : ErrorCode) → IsErrOf result (Refused code) → (self.new.disk ≡ self.old.disk) × (core_of self.new.map ≡ core_of self.old.map) }
+        ensures memory { IsErrOf result NoMemory → (self.new.disk ≡ self.old.disk) × (core_of self.new.map ≡ core_of self.old.map) }
+        ensures device { IsErrOf result Device → self.new.failed ≡ true }
+        ensures gone { IsErrOf result Failed → self.new.failed ≡ true }
+        ensures still { (IsErrOf result Device → ⊥) → (IsErrOf result Failed → ⊥) → self.new.failed ≡ self.old.failed }
+        ensures counted { IsErrOf result Device → (D.state self.new.disk).failures ≡ one_more (D.state self.old.disk).failures }
+        ensures served { (IsErrOf result Device → ⊥) → (D.state self.new.disk).failures ≡ (D.state self.old.disk).failures }
+        ensures same { SameDisk (D.state self.old.disk) (D.state self.new.disk) }
+    {
+        if self.failed {
+            return Err(CallError::Failed);
+        }
+        if words.is_empty() {
+            return Ok(());
+        }
+        let map = &mut self.map;
+        match put_pending(
+            &mut self.disk,
+            &mut map.table,
+            &mut map.pending,
+            pending.key,
+            block,
+            words,
+        ) {
+            Ok(()) => Ok(()),
+            Err(error @ (CallError::Device | CallError::Failed)) => {
+                self.failed = true; // nothing of core is used any more
+                Err(error)
+            }
+            Err(error) => Err(error),
+        }
+    }
+}
