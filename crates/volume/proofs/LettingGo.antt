@@ -19,14 +19,14 @@ held_inside held b there = ⊎_elim (λ below. below) (λ past. absurd (by (get_
 held_less : (held : List ℕ) (b : ℕ) → 0 < slice_index held b → (n : ℕ) → slice_index (slice_set held b (slice_index held b - 1)) n + times n (b ∷ []) ≡ slice_index held n
 held_less held b there n = ⊎_elim
     (λ (is : n ≡ b).
-        let here = ap (slice_index (slice_set held b (slice_index held b - 1))) is ∙ get_or-set_same held b (slice_index held b - 1) 0 (held_inside held b there) in
-        let was = ap (slice_index held) is in
-        let one = times_head n b [] is in
-        omega arith)
+    let here = ap (slice_index (slice_set held b (slice_index held b - 1))) is ∙ get_or-set_same held b (slice_index held b - 1) 0 (held_inside held b there) in
+    let was = ap (slice_index held) is in
+    let one = times_head n b [] is in
+    omega arith)
     (λ other.
-        let same = get_or-set_other held b n (slice_index held b - 1) 0 other in
-        let none = times_tail n b [] other in
-        omega arith) (cases_eq n b)
+    let same = get_or-set_other held b n (slice_index held b - 1) 0 other in
+    let none = times_tail n b [] other in
+    omega arith) (cases_eq n b)
 
 module _ (old now : List ℕ) (blocks : List ℕ) (i b : ℕ) (below : i < length blocks) (is : b ≡ get_or blocks i 0) (so_far : (n : ℕ) → slice_index now n + times n (take i blocks) ≡ slice_index old n) where
   times_next : (n : ℕ) → times n (take (i + 1) blocks) ≡ times n (take i blocks) + times n (b ∷ [])

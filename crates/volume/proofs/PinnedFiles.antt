@@ -98,12 +98,12 @@ pub pin_refused : (s : DiskState) (c : VolumeCore) (files : Files File) → Hold
 pin_refused s c files holds ppn name live error answer is none = ⊎_elim
     (λ absent. subst (IsPinAnswer s.contents live name answer) (sym (directory_none s c.known files holds ppn absent.0)) (is ∙ ap Err absent.1))
     (λ there.
-        let found = holds.held.known.each there.0 (ppn, there.1) there.3 there.2.is there.4 in
-        let get_is : get files ppn ≡ Some (directory_of found.0) = ap (λ fs. get fs ppn) (sym holds.files_are) ∙ get-map_values nat_cmp_total directory_of holds.map.directories ppn ∙ ap (option_map directory_of) found.1 in
-        let no_prime : option_map (λ (f : StoredFile). f.prime) (get found.0.files name) ≡ None =
-            sym (get-map_values name_total (λ (f : StoredFile). f.prime) found.0.files name) ∙ ap (λ m. get m name) found.2.names ∙ get-from_entries name_total there.3.chain.entries name ∙ there.5 in
-        let no_file : get (directory_of found.0).files name ≡ None = get-map_values name_total (λ (f : StoredFile). f.file) found.0.files name ∙ by (get found.0.files name) no_prime in
-        subst (IsPinAnswer s.contents live name answer) (sym get_is) (subst (IsFilePinned s.contents live answer) (sym no_file) (is ∙ ap Err there.6)))
+    let found = holds.held.known.each there.0 (ppn, there.1) there.3 there.2.is there.4 in
+    let get_is : get files ppn ≡ Some (directory_of found.0) = ap (λ fs. get fs ppn) (sym holds.files_are) ∙ get-map_values nat_cmp_total directory_of holds.map.directories ppn ∙ ap (option_map directory_of) found.1 in
+    let no_prime : option_map (λ (f : StoredFile). f.prime) (get found.0.files name) ≡ None =
+    sym (get-map_values name_total (λ (f : StoredFile). f.prime) found.0.files name) ∙ ap (λ m. get m name) found.2.names ∙ get-from_entries name_total there.3.chain.entries name ∙ there.5 in
+    let no_file : get (directory_of found.0).files name ≡ None = get-map_values name_total (λ (f : StoredFile). f.file) found.0.files name ∙ by (get found.0.files name) no_prime in
+    subst (IsPinAnswer s.contents live name answer) (sym get_is) (subst (IsFilePinned s.contents live answer) (sym no_file) (is ∙ ap Err there.6)))
     none
   where
     by : (was : Option StoredFile) → option_map (λ (f : StoredFile). f.prime) was ≡ None → option_map (λ (f : StoredFile). f.file) was ≡ None
@@ -124,10 +124,10 @@ pinned_sound s c c' failed ppn name key sound is whole same here others = record
   rest = λ h ok. subst (IsAtRest s) (ap (λ x. x.known) (sym same)) (sound.rest h ok);
   read = λ h ok k v at some. ⊎_elim
       (λ (this : k ≡ key).
-          let holds = at_rest_holds s c failed sound h ok in
-          let v_is : record is.version { readers = is.version.readers + 1 } ≡ v = some_same (sym here ∙ ap (slot c'.live) (sym this) ∙ at) in
-          let file = key_file s c holds.0 holds.1 ppn name key is in
-          subst (λ (w : LiveVersion). HasSomeBody s.contents w.version) v_is (file_body s.contents is.version file.file file.version_is))
+      let holds = at_rest_holds s c failed sound h ok in
+      let v_is : record is.version { readers = is.version.readers + 1 } ≡ v = some_same (sym here ∙ ap (slot c'.live) (sym this) ∙ at) in
+      let file = key_file s c holds.0 holds.1 ppn name key is in
+      subst (λ (w : LiveVersion). HasSomeBody s.contents w.version) v_is (file_body s.contents is.version file.file file.version_is))
       (λ other. sound.read h ok k v (sym (others k other) ∙ at) some) (cases_eq k key);
   written = λ h ok k p at. sound.written h ok k p (ap (λ x. pending_at x.pending k) (sym same) ∙ at);
 }
@@ -148,8 +148,8 @@ unpinned_sound s c c' failed key v sound was whole pending known bits stays gone
       record { map = own.map; rest = record { shut = own.rest.shut; all = λ contents left. held_by own.map contents (own.rest.all contents left) } };
   read = λ h ok k w at more. ⊎_elim
       (λ (this : k ≡ key).
-          let now = ap (slot c'.live) (sym this) ∙ at in
-          by_case w now (sound.read h ok key v was some) v.is_current refl)
+      let now = ap (slot c'.live) (sym this) ∙ at in
+      by_case w now (sound.read h ok key v was some) v.is_current refl)
       (λ other. sound.read h ok k w (sym (others k other) ∙ at) more) (cases_eq k key);
   written = λ h ok k p at. sound.written h ok k p (ap (λ x. pending_at x k) (sym pending) ∙ at);
 }

@@ -59,15 +59,15 @@ module _ (old new : List (Option LiveVersion)) (key : ℕ) (v : LiveVersion) (re
   still_counted : StayCurrent old new
   still_counted k w there current = ⊎_elim
       (λ (same : k ≡ key).
-          let both : Some v ≡ Some w = sym was ∙ sym (ap (slot old) same) ∙ there in
-          let is : v ≡ w = cc in
-          record {
-            version = record v { readers = readers };
-            there = ap (slot new) same ∙ now;
-            known = ap as_known is;
-            at = ap (λ u. u.at) is;
-            current = ap (λ u. u.is_current) is ∙ current;
-          })
+      let both : Some v ≡ Some w = sym was ∙ sym (ap (slot old) same) ∙ there in
+      let is : v ≡ w = cc in
+      record {
+        version = record v { readers = readers };
+        there = ap (slot new) same ∙ now;
+        known = ap as_known is;
+        at = ap (λ u. u.at) is;
+        current = ap (λ u. u.is_current) is ∙ current;
+      })
       (λ other. record { version = w; there = others k other ∙ there; known = refl; at = refl; current = current }) (cases_eq k key)
 
   same_total : (f : Option LiveVersion → ℕ) → f None ≡ 0 → f (Some (record v { readers = readers })) ≡ f (Some v) → total f new ≡ total f old
@@ -84,10 +84,10 @@ pinned_with : (c : VolumeCore) (new : List (Option LiveVersion)) (key : ℕ) (v 
     → ((k : ℕ) → (k ≡ key → ⊥) → slot new k ≡ slot c.live k) → ArePinned new c.known.directories
 pinned_with c new key v readers pinned stands now others k w is some current = ⊎_elim
     (λ (same : k ≡ key).
-        let both : Some w ≡ Some (record v { readers = readers }) = sym is ∙ ap (slot new) same ∙ now in
-        let is_w : w ≡ record v { readers = readers } = cc in
-        subst (λ (u : LiveVersion). (n : ℕ) → times n (blocks_reached u.at u.version) ≤ total (reaches_in_known n) c.known.directories) (sym is_w)
-        (stands (subst (λ (u : LiveVersion). 0 < u.readers) is_w some) (ap (λ u. u.is_current) (sym is_w) ∙ current)))
+    let both : Some w ≡ Some (record v { readers = readers }) = sym is ∙ ap (slot new) same ∙ now in
+    let is_w : w ≡ record v { readers = readers } = cc in
+    subst (λ (u : LiveVersion). (n : ℕ) → times n (blocks_reached u.at u.version) ≤ total (reaches_in_known n) c.known.directories) (sym is_w)
+    (stands (subst (λ (u : LiveVersion). 0 < u.readers) is_w some) (ap (λ u. u.is_current) (sym is_w) ∙ current)))
     (λ other. pinned k w (sym (others k other) ∙ is) some current) (cases_eq k key)
 
 -- with another number of readers
@@ -125,10 +125,10 @@ readers_whole size m versions key readers (Some v) stands was there counted othe
 gone_stay : (old new : List (Option LiveVersion)) (key : ℕ) (v : LiveVersion) → slot old key ≡ Some v → v.is_current ≡ false → ((k : ℕ) → (k ≡ key → ⊥) → slot new k ≡ slot old k) → StayCurrent old new
 gone_stay old new key v was ended others k w there current = ⊎_elim
     (λ (same : k ≡ key).
-        let both : Some v ≡ Some w = sym was ∙ sym (ap (slot old) same) ∙ there in
-        let is : v ≡ w = cc in
-        let no : true ≡ false = sym current ∙ sym (ap (λ u. u.is_current) is) ∙ ended in
-        absurd (cc))
+    let both : Some v ≡ Some w = sym was ∙ sym (ap (slot old) same) ∙ there in
+    let is : v ≡ w = cc in
+    let no : true ≡ false = sym current ∙ sym (ap (λ u. u.is_current) is) ∙ ended in
+    absurd (cc))
     (λ other. record { version = w; there = others k other ∙ there; known = refl; at = refl; current = current }) (cases_eq k key)
 
 pub gone_directories : (size : ℕ) (m : LiveMap) (new : List (Option LiveVersion)) (key : ℕ) (v : LiveVersion) → IsWholeCore size (core_of m) → slot m.versions.slots key ≡ Some v → v.is_current ≡ false

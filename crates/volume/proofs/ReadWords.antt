@@ -51,10 +51,10 @@ module _ (size : ℕ) (c : VolumeCore) (whole : IsWholeCore size c) (table : IsT
   set_below : (n : ℕ) → 0 < bit c.known.table n → n < size
   set_below n some = ⊎_elim (λ below. below)
       (λ past.
-          let long = table.bits_are in
-          let same = whole.map.size_is in
-          let none : bit c.known.table n ≡ 0 = ap digit (get_or_past c.known.table.bits n false (omega arith)) in
-          absurd (omega arith)) (cases_lt n size)
+      let long = table.bits_are in
+      let same = whole.map.size_is in
+      let none : bit c.known.table n ≡ 0 = ap digit (get_or_past c.known.table.bits n false (omega arith)) in
+      absurd (omega arith)) (cases_lt n size)
 
   read_inside : (key : ℕ) (v : LiveVersion) → slot c.live key ≡ Some v → 0 < v.readers → (n : ℕ) → 0 < times n v.version.blocks → InSpace size n
   read_inside key v is some n there = record { from = (read_used size c whole key v is some n there).from; below = by v.is_current refl }

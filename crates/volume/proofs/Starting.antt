@@ -96,7 +96,7 @@ pub stood_before : (s s' s'' : DiskState) (known : Known) (m : DiskMap) → s'.s
 stood_before s s' s'' known m size size' recovered none reads held =
     let there : SettledStands s.size s'.contents (files_of m) = (m, subst (λ (n : ℕ). HasMap n s'.contents m) size held.stands, refl) in
     let before : Stands s.size s.contents (files_of m) =
-        (recovered.settled, recovered.is_settled, stands_ignores_gate s.size (files_of m) s'.contents recovered.settled (λ n out. sym (recovered.others n out)) there) in
+    (recovered.settled, recovered.is_settled, stands_ignores_gate s.size (files_of m) s'.contents recovered.settled (λ n out. sym (recovered.others n out)) there) in
     (files_of m, before, rest_files s s' s'' (files_of m) size size' recovered none reads before)
 
 -- Faults.

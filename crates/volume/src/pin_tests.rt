@@ -33,11 +33,7 @@ fn ppn_of(rt: &impl Abort, programmer: u32) -> Ppn {
 }
 
 /// The volume on a disk, with FOO.TXT of [10,20] pinned, or why not.
-fn open_and_pin<D: Disk + Drop>(
-    rt: &impl Abort,
-    alloc: Global,
-    disk: D,
-) -> Option<(Volume<D>, Pin)>
+fn open_and_pin<D: Disk + Drop>(rt: &impl Abort, alloc: Global, disk: D) -> Option<(Volume<D>, Pin)>
     ensures { IfSome result (λ pinned. IsSound (D.state pinned.0.disk) (core_of pinned.0.map) pinned.0.failed × IsReadable (core_of pinned.0.map) (Pinned pinned.1)) }
 {
     let Ok(mut volume) = Volume::open(alloc, disk) else {
@@ -133,7 +129,13 @@ fn a_pinned_file_is_read(rt: HostRuntime) -> Result<(), Fail> {
     let Some((mut volume, pin)) = open_and_pin(&rt, rt.alloc(), disk) else {
         panic!(rt; "V1 is refused");
     };
-    for (block, count, words) in [(1, 2, 2), (1, 1, 1), (1, 200, 2), (2, 5, 0), (u32::MAX, 5, 0)] {
+    for (block, count, words) in [
+        (1, 2, 2),
+        (1, 1, 1),
+        (1, 200, 2),
+        (2, 5, 0),
+        (u32::MAX, 5, 0),
+    ] {
         assert!(rt; block > 0);
         let read = match read(rt.alloc(), &mut volume, pin, block, count) {
             Ok(read) => read,

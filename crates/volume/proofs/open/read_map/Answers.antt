@@ -111,7 +111,7 @@ returns-clause-booked g c =
     let master = c.in_ok-master.master in
     let directories = c.in_ok-master.directories in
     let booked : c.book_map.new.table ≡ record c.in_ok-table.table { booked = cost_of_known (viewed master_view master) (map known_directory directories.items) } =
-        c.book_map.ensures ∙ (λ i. record c.in_ok-table.table { booked = cost_of_known (viewed master_view master) (map known_directory (c.deref.ensures.value i)) }) in
+    c.book_map.ensures ∙ (λ i. record c.in_ok-table.table { booked = cost_of_known (viewed master_view master) (map known_directory (c.deref.ensures.value i)) }) in
     read_booked s.size then.size (record { master = viewed master_view master; directories = map known_directory directories.items; table = c.book_map.new.table }) c.in_ok-table.table sizes booked c.in_ok-table.ensures.unheld
 
 pub returns-clause-whole : goal.returns-clause-whole
@@ -124,9 +124,9 @@ returns-clause-whole g c =
     let master = c.in_ok-master.master in
     let directories = c.in_ok-master.directories in
     let aligned : length (map known_directory directories.items) ≡ length (map master_view master.entries) =
-        length-map directories.items known_directory ∙ c.in_ok-master.ensures.aligned ∙ sym (length-map master.entries master_view) in
+    length-map directories.items known_directory ∙ c.in_ok-master.ensures.aligned ∙ sym (length-map master.entries master_view) in
     let booked : c.book_map.new.table ≡ record c.in_ok-table.table { booked = cost_of_known (viewed master_view master) (map known_directory directories.items) } =
-        c.book_map.ensures ∙ (λ i. record c.in_ok-table.table { booked = cost_of_known (viewed master_view master) (map known_directory (c.deref.ensures.value i)) }) in
+    c.book_map.ensures ∙ (λ i. record c.in_ok-table.table { booked = cost_of_known (viewed master_view master) (map known_directory (c.deref.ensures.value i)) }) in
     read_whole s.size now.size then.size (record { master = viewed master_view master; directories = map known_directory directories.items; table = c.book_map.new.table }) c.in_ok-table.table c.read_tree.new.reached size sizes
     c.in_ok-first.ensures.volume c.in_ok-master.ensures.chain c.in_ok-master.ensures.inside aligned c.in_ok-master.ensures.whole booked
     c.in_ok-table.ensures.size c.in_ok-table.ensures.unchanged c.in_ok-table.ensures.wanted c.in_ok-master.ensures.marked
