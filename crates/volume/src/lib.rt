@@ -69,6 +69,8 @@ mod query;
 mod read;
 mod regions;
 mod start;
+#[cfg(test)]
+mod use_tests;
 mod words;
 
 pub use error::{CallError, VolumeError};

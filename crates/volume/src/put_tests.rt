@@ -45,7 +45,7 @@ fn open_and_begin<D: Disk + Drop>(
 }
 
 /// Puts words into a version.
-fn put<D: Disk>(
+pub(crate) fn put<D: Disk>(
     volume: &mut Volume<D>,
     pending: Pending,
     block: u32,
