@@ -29,6 +29,8 @@
 
 mod begin;
 #[cfg(test)]
+mod begin_tests;
+#[cfg(test)]
 mod call_tests;
 mod cost;
 mod discard;

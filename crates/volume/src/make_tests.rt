@@ -1,6 +1,6 @@
 ghost use Rattle.std.specs.Prelude.{IfOk};
 ghost use Rattle.blockdisk.specs.Memory.{memory_state};
-ghost use Rattle.volume.specs.Cores.{known_of};
+ghost use Rattle.volume.specs.LiveCores.{core_of};
 ghost use Rattle.volume.specs.Rest.{IsSound};
 
 use crate::open_tests::{SIZE, beginning, booked, expect_block, load, word};
@@ -41,7 +41,7 @@ fn ppn_of(rt: &impl Abort, n: u8) -> Ppn {
 
 /// Opens the volume on a disk in memory.
 fn open(alloc: Global, disk: MemDisk) -> Result<Volume<MemDisk>, VolumeError>
-    ensures { IfOk result (λ volume. IsSound (memory_state volume.disk) (known_of volume.map) volume.failed) }
+    ensures { IfOk result (λ volume. IsSound (memory_state volume.disk) (core_of volume.map) volume.failed) }
 {
     match Volume::open(alloc, disk) {
         Ok(volume) => Ok(volume),
@@ -51,7 +51,7 @@ fn open(alloc: Global, disk: MemDisk) -> Result<Volume<MemDisk>, VolumeError>
 
 /// A fresh volume of 64 blocks, on a disk with room to record so many writes and syncs more.
 fn fresh(rt: &impl Abort, alloc: Global, calls: u16) -> Result<Volume<MemDisk>, VolumeError>
-    ensures { IfOk result (λ volume. IsSound (memory_state volume.disk) (known_of volume.map) volume.failed) }
+    ensures { IfOk result (λ volume. IsSound (memory_state volume.disk) (core_of volume.map) volume.failed) }
 {
     let mut disk = MemDisk::new(alloc, SIZE, BEFORE + usize::from(calls))?;
     for n in 0..SIZE {
@@ -63,8 +63,8 @@ fn fresh(rt: &impl Abort, alloc: Global, calls: u16) -> Result<Volume<MemDisk>, 
 
 /// Makes the directories [1,n] for these n, with protection 775. Each leaves a block less.
 fn make_each(rt: &impl Abort, alloc: Global, volume: &mut Volume<MemDisk>, first: u8, end: u8)
-    requires { IsSound (memory_state volume.old.disk) (known_of volume.old.map) volume.old.failed }
-    ensures { IsSound (memory_state volume.new.disk) (known_of volume.new.map) volume.new.failed }
+    requires { IsSound (memory_state volume.old.disk) (core_of volume.old.map) volume.old.failed }
+    ensures { IsSound (memory_state volume.new.disk) (core_of volume.new.map) volume.new.failed }
 {
     for n in first..end {
         let before = volume.room();
