@@ -98,13 +98,7 @@ fn begin_each(
 {
     let mut pendings = Vec::new(alloc);
     for n in first..end {
-        pendings.push(begin(
-            rt,
-            alloc,
-            volume,
-            prime_of(rt, 0o20, numbered(n)),
-            1,
-        ))?;
+        pendings.push(begin(rt, alloc, volume, prime_of(rt, 0o20, numbered(n)), 1))?;
     }
     Ok(pendings)
 }
