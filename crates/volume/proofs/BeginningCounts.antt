@@ -1,5 +1,5 @@
 -- What is being created in a directory, counted over a slab's entries.
-use Rattle.std.proofs.Common.{◌≡◌, ℕ, ◌+◌, ◌≤◌, ◌==◌, Bool, true, false, if◌then◌else◌, List, [], ◌∷◌, length, Option, Some, None, refl, ap, arith}
+use Rattle.std.proofs.Common.{◌≡◌, ℕ, ◌+◌, ◌≤◌, ◌==◌, Bool, true, false, if◌then◌else◌, List, [], ◌∷◌, Option, Some, None, refl, ap, arith}
 use Rattle.meaning.specs.Maps.{total}
 use Rattle.slab.specs.Slab.{entries_from}
 use Rattle.volume.specs.Live.{creates}

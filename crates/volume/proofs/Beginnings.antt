@@ -2,14 +2,12 @@
 use Rattle.std.proofs.Common.{◌≡◌, ◌↔◌, IsTrue, ℕ, zero, suc, ◌+◌, ◌<◌, ◌≤◌, ◌^◌, Bool, true, false, List, [], ◌∷◌, map, length, slice_get, get_or, Option, Some, None, is_none, is_some, not, IfSome, IfNone, refl, sym, ap, subst, ◌∙◌, arith, ⊎_elim}
 use Rattle.std.proofs.lemmas.Bool.{cases_lt}
 use Rattle.std.proofs.lemmas.List.{length-map}
-use Rattle.std.specs.List.{AllByRecursion}
 use Rattle.std.specs.Ordering.{nat_cmp}
 use Rattle.std.specs.FinMap.Entries.{find}
 use Rattle.words36.specs.declared.names.FileName.{FileName}
 use Rattle.meaning.specs.Costs.{cost_of_blocks}
 use Rattle.meaning.specs.Directories.{FileEntry}
 use Rattle.meaning.specs.Files.{name_cmp}
-use Rattle.meaning.specs.Maps.{total}
 use Rattle.meaning.proofs.MapLaws.{some_same}
 use Rattle.directory.specs.Edits.{StandsAt}
 use Rattle.retrieval.specs.declared.prime.Prime.{Prime}
@@ -17,8 +15,8 @@ use Rattle.volume.specs.declared.live.LiveDirectory.{LiveDirectory}
 use Rattle.volume.specs.declared.live.LiveMap.{LiveMap}
 use Rattle.volume.specs.declared.pending.PendingVersion.{PendingVersion}
 use Rattle.volume.specs.Cores.{master_view}
-use Rattle.volume.specs.Known.{Known, KnownDirectory}
-use Rattle.volume.specs.Live.{VolumeCore, pending_cost, pending_reaches, creates, IsWholePending, IsWholeCore}
+use Rattle.volume.specs.Known.{KnownDirectory}
+use Rattle.volume.specs.Live.{VolumeCore, pending_cost, pending_reaches, IsWholePending, IsWholeCore}
 use Rattle.volume.specs.LiveCores.{core_of, live_directory}
 use Rattle.volume.specs.Beginning.{begin_cost, entries_with, begun, is_absent, IsDirectoryOf}
 use Rattle.volume.proofs.Growing.{absent_at, one_place, Adds, added_total, created_elsewhere, added_growths}

@@ -1,23 +1,20 @@
 -- A version that is dropped: what is taken back, and that core stays whole.
-use Rattle.std.proofs.Common.{◌≡◌, ℕ, ◌+◌, ◌-◌, ◌<◌, ◌≤◌, ◌^◌, Bool, true, false, List, [], ◌∷◌, length, slice_get, slice_index, Option, Some, None, IfSome, IsSome, refl, sym, ap, subst, ◌∙◌, arith, if◌then◌else◌}
-use Rattle.std.specs.List.{AllByRecursion}
+use Rattle.std.proofs.Common.{◌≡◌, ℕ, ◌+◌, ◌<◌, ◌≤◌, ◌^◌, Bool, true, false, List, length, slice_get, slice_index, Option, Some, None, IfSome, refl, sym, ap, subst, arith, if◌then◌else◌}
 use Rattle.std.specs.Ordering.{nat_cmp}
 use Rattle.std.specs.FinMap.Entries.{find}
-use Rattle.meaning.specs.Costs.{directory_cost, cost_of_blocks}
-use Rattle.meaning.specs.Directories.{MasterEntry}
+use Rattle.meaning.specs.Costs.{cost_of_blocks}
 use Rattle.meaning.specs.Maps.{total, times}
 use Rattle.meaning.specs.Retrieval.{most_blocks}
 use Rattle.meaning.specs.Room.{growth}
-use Rattle.meaning.proofs.MapLaws.{some_none}
 use Rattle.alloctab.specs.TableState.{holds}
 use Rattle.slab.specs.Slab.{Slab, get, Updates}
 use Rattle.volume.specs.declared.pending.PendingVersion.{PendingVersion}
-use Rattle.volume.specs.Known.{Known, KnownDirectory}
-use Rattle.volume.specs.Live.{VolumeCore, pending_at, pending_cost, pending_reaches, creates, growths, IsWholePending, IsWholeCore}
-use Rattle.volume.specs.Beginning.{entries_with, IsDirectoryOf}
+use Rattle.volume.specs.Known.{KnownDirectory}
+use Rattle.volume.specs.Live.{VolumeCore, pending_cost, pending_reaches, creates, growths, IsWholePending, IsWholeCore}
+use Rattle.volume.specs.Beginning.{IsDirectoryOf}
 use Rattle.volume.proofs.Costing.{few_blocks}
 use Rattle.volume.proofs.Growing.{Adds, added_total, added_growths, kept_growths, created_once, entries_few}
-use Rattle.volume.proofs.Pinning.{each_slot, all_updated, total_at}
+use Rattle.volume.proofs.Pinning.{each_slot, all_updated}
 use Rattle.volume.proofs.StillHeld.{counting, counts_whole}
 
 -- the version that was taken out

@@ -1,21 +1,19 @@
 -- What the directories cost with the entries that are being created in them, when one version comes or goes.
-use Rattle.std.proofs.Common.{◌≡◌, ℕ, zero, suc, ◌+◌, ◌-◌, ◌/◌, ◌<◌, ◌≤◌, ◌==◌, ◌^◌, max, Bool, true, false, if◌then◌else◌, List, [], ◌∷◌, length, slice_get, slice_index_or, Option, Some, None, is_none, IfSome, IfNone, refl, sym, ap, subst, ◌∙◌, arith, eqb}
+use Rattle.std.proofs.Common.{◌≡◌, ℕ, zero, suc, ◌+◌, ◌-◌, ◌<◌, ◌≤◌, ◌==◌, ◌^◌, Bool, true, false, if◌then◌else◌, List, [], ◌∷◌, length, slice_get, Option, Some, None, refl, sym, ap, ◌∙◌, arith}
 use Rattle.std.proofs.lemmas.Bool.Decides.{nat_tests}
 use Rattle.std.specs.List.{AllByRecursion}
 use Rattle.std.specs.Ordering.{nat_cmp}
 use Rattle.std.specs.Cmp.{nat_cmp_total}
 use Rattle.std.specs.FinMap.Entries.{find}
-use Rattle.meaning.specs.Costs.{directory_cost, cost_of_blocks}
+use Rattle.meaning.specs.Costs.{directory_cost}
 use Rattle.meaning.specs.Directories.{MasterEntry}
 use Rattle.meaning.specs.Maps.{EachOnce, total}
 use Rattle.meaning.specs.Room.{growth}
 use Rattle.meaning.proofs.MapLaws.{some_same, some_none}
 use Rattle.meaning.proofs.MapLists.{find_first, find_tail_none}
-use Rattle.directory.specs.Edits.{StandsAt}
 use Rattle.volume.specs.declared.pending.PendingVersion.{PendingVersion}
 use Rattle.volume.specs.Known.{KnownVersion, KnownDirectory, IsWholeDirectory, cost_of_version, cost_of_directory}
 use Rattle.volume.specs.Live.{VolumeCore, pending_at, pending_cost, creates, growths, IsWholeCore}
-use Rattle.volume.specs.Beginning.{IsDirectoryOf}
 use Rattle.volume.proofs.BeginningCounts.{creates_few}
 use Rattle.volume.proofs.LiveTotals.{total_updated}
 

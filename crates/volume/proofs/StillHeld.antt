@@ -1,5 +1,5 @@
 -- Core and disk agree while versions are begun and dropped: the map is the one that it was.
-use Rattle.std.proofs.Common.{◌≡◌, ℕ, Bool, false, List, [], Option, Some, None, refl, sym, ap, subst, ◌∙◌, ⊎_elim}
+use Rattle.std.proofs.Common.{◌≡◌, ℕ, Bool, List, [], Some, None, refl, sym, ap, subst, ◌∙◌, ⊎_elim}
 use Rattle.std.proofs.lemmas.Bool.{cases_eq}
 use Rattle.blockdisk.specs.Disk.{Contents, DiskState}
 use Rattle.meaning.specs.Stands.{DiskMap}

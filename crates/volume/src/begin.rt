@@ -26,7 +26,7 @@ use slab::Slab;
 use std::alloc::Global;
 use words36::Ppn;
 
-/// How many entries of a block of a directory there are.
+/// How many entries a block of a directory has.
 const BLOCK_ENTRIES: u64 = 42;
 
 /// 1 for a version that will be a new entry of this directory, else 0.

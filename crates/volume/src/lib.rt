@@ -32,6 +32,8 @@
 
 mod begin;
 #[cfg(test)]
+mod begin_tests;
+#[cfg(test)]
 mod call_tests;
 mod cost;
 mod discard;

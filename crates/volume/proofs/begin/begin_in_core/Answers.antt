@@ -1,4 +1,4 @@
-use Rattle.std.proofs.Common.{◌≡◌, ◌+◌, ◌<◌, ◌≤◌, Bool, ℕ, Some, refl, sym, ap, subst, ◌∙◌, arith}
+use Rattle.std.proofs.Common.{◌+◌, Bool, ℕ, Some, refl, sym, ap, subst, ◌∙◌, arith}
 use Rattle.alloctab.specs.TableState.{TableState}
 use Rattle.volume.specs.Beginning.{begin_cost, entries_with, begun}
 use Rattle.volume.specs.Live.{IsWholeCore}

@@ -1,4 +1,4 @@
-use Rattle.std.proofs.Common.{◌≡◌, ◌+◌, length, ap, ◌∙◌, arith}
+use Rattle.std.proofs.Common.{length, ap, ◌∙◌, arith}
 use Rattle.volume.proofs.BeginningCounts.{created, created_from}
 use Rattle.volume.proofs.begin.creations.Goals as goal
 

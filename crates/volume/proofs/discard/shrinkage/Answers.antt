@@ -1,4 +1,4 @@
-use Rattle.std.proofs.Common.{◌<◌, map, arith}
+use Rattle.std.proofs.Common.{arith}
 use Rattle.std.proofs.lemmas.List.{length-map}
 use Rattle.volume.specs.Cores.{master_view}
 use Rattle.volume.specs.LiveCores.{core_of, live_directory}
