@@ -60,6 +60,25 @@ pub(crate) fn put<D: Disk>(
     volume.put_words(pending, block, words)
 }
 
+/// Puts a word, which is answered so, and leaves so much room.
+fn expect_put<D: Disk>(
+    rt: &impl Abort,
+    volume: &mut Volume<D>,
+    pending: Pending,
+    block: u32,
+    wanted: Result<(), CallError>,
+    room: i64,
+)
+    requires sound { IsSound (D.state volume.old.disk) (core_of volume.old.map) volume.old.failed }
+    requires live { IsSome (pending_at (core_of volume.old.map).pending pending.key) }
+    requires first { 0 < block }
+    ensures sound { IsSound (D.state volume.new.disk) (core_of volume.new.map) volume.new.failed }
+    ensures live { IsSome (pending_at (core_of volume.new.map).pending pending.key) }
+{
+    assert!(rt; put(volume, pending, block, &[word(7)]) == wanted);
+    assert_eq!(rt; volume.room(), room);
+}
+
 /// The words of a version from a block on.
 fn read<D: Disk>(
     alloc: Global,
@@ -115,20 +134,14 @@ fn a_version_takes_all_room(rt: HostRuntime) -> Result<(), Fail> {
         panic!(rt; "no version is begun");
     };
     let full = Err(CallError::Refused(ErrorCode::NoRoom));
-    for (block, wanted, room) in [
-        (45, full, 44),
-        (16384, full, 44),
-        (16385, full, 44),
-        (u32::MAX, full, 44),
-        (44, Ok(()), 0),
-        (45, full, 0),
-        (44, Ok(()), 0),
-        (1, Ok(()), 0),
-    ] {
-        assert!(rt; block > 0);
-        assert!(rt; put(&mut volume, pending, block, &[word(7)]) == wanted);
-        assert_eq!(rt; volume.room(), room);
-    }
+    expect_put(&rt, &mut volume, pending, 45, full, 44);
+    expect_put(&rt, &mut volume, pending, 16384, full, 44);
+    expect_put(&rt, &mut volume, pending, 16385, full, 44);
+    expect_put(&rt, &mut volume, pending, u32::MAX, full, 44);
+    expect_put(&rt, &mut volume, pending, 44, Ok(()), 0);
+    expect_put(&rt, &mut volume, pending, 45, full, 0);
+    expect_put(&rt, &mut volume, pending, 44, Ok(()), 0);
+    expect_put(&rt, &mut volume, pending, 1, Ok(()), 0);
     Ok(())
 }
 
@@ -168,11 +181,13 @@ fn each_allocation_of_a_put_refused(rt: HostRuntime) {
     let Some((mut volume, pending)) = open_and_begin(&rt, rt.alloc(), disk) else {
         return;
     };
-    if put(&mut volume, pending, 1, &[word(7)]) == Err(CallError::NoMemory) {
+    let first = put(&mut volume, pending, 1, &[word(7)]);
+    if first == Err(CallError::NoMemory) {
         assert_eq!(rt; volume.room(), 44);
-        assert!(rt; put(&mut volume, pending, 1, &[word(7)]) == Ok(()));
+        expect_put(&rt, &mut volume, pending, 1, Ok(()), 43);
+    } else {
+        assert!(rt; first == Ok(()) && volume.room() == 43);
     }
-    assert_eq!(rt; volume.room(), 43);
 }
 
 /// A disk in memory of which blocks are found damaged from some read on. It is called dishonest.
