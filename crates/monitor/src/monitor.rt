@@ -29,8 +29,7 @@ pub struct Monitor<D: Disk> {
 impl<D: Disk> Model for Monitor<D> {
     ghost use Rattle.monitor.specs.States.{MonitorState};
     ghost use Rattle.std.specs.Prelude.{◌≡◌};
-    ghost use Rattle.meaning.specs.Maps.{total};
-    ghost use Rattle.volume.specs.Live.{held_cost};
+    ghost use Rattle.volume.specs.Live.{cost_beyond};
     ghost use Rattle.volume.specs.LiveCores.{core_of};
     ghost use Rattle.volume.specs.Rest.{IsSound};
 
@@ -38,8 +37,8 @@ impl<D: Disk> Model for Monitor<D> {
 
     ghost view = { λ m. record { disk = m.volume.disk; map = core_of m.volume.map; failed = m.volume.failed; jobs = m.jobs } };
 
-    // Until channels have sides nobody holds a version that is no longer current.
-    ghost invariant = { λ m. IsSound (D.state m.volume.disk) (core_of m.volume.map) m.volume.failed × (total held_cost (core_of m.volume.map).live ≡ 0) };
+    // Until channels have sides nothing is booked beyond the files.
+    ghost invariant = { λ m. IsSound (D.state m.volume.disk) (core_of m.volume.map) m.volume.failed × (cost_beyond (core_of m.volume.map) ≡ 0) };
 }
 
 impl<D: Disk> Monitor<D> {

@@ -1,12 +1,11 @@
-ghost use Rattle.std.specs.Prelude.{◌≡◌, ◌+◌, ◌<◌, ◌^◌, ℕ, Some, IfSome};
-ghost use Rattle.volume.specs.Live.{slot};
+ghost use Rattle.std.specs.Prelude.{◌<◌, IfSome};
+ghost use Rattle.blockdisk.specs.Memory.{memory_state};
 ghost use Rattle.volume.specs.LiveCores.{core_of};
 ghost use Rattle.volume.specs.Pins.{IsReadable};
 ghost use Rattle.volume.specs.Rest.{IsSound};
 ghost use Rattle.volume.specs.declared.handles.VersionHandle.TheVariants.{Pinned};
-ghost use Rattle.volume.specs.declared.live.LiveVersion.{LiveVersion};
 
-use crate::open_tests::v1;
+use crate::open_tests::{v1, word};
 use crate::{CallError, Pin, VersionHandle, Volume};
 use blockdisk::{Disk, Fault, MemDisk};
 use meaning::ErrorCode;
@@ -20,7 +19,7 @@ const WORDS: [u64; 2] = [0o442131446236, 0o064240000000];
 
 fn file_name(name: u64) -> FileName {
     FileName {
-        name: Word::from_bits(name),
+        name: word(name),
         ext: Half::from_bits(0o647064),
     }
 }
@@ -151,6 +150,16 @@ fn a_pinned_file_is_read(rt: HostRuntime) -> Result<(), Fail> {
     Ok(())
 }
 
+/// Makes a directory while a version is pinned.
+fn make_beside(rt: &impl Abort, alloc: Global, volume: &mut Volume<MemDisk>, pin: Pin)
+    requires sound { IsSound (memory_state volume.old.disk) (core_of volume.old.map) volume.old.failed }
+    requires live { IsReadable (core_of volume.old.map) (Pinned pin) }
+    ensures sound { IsSound (memory_state volume.new.disk) (core_of volume.new.map) volume.new.failed }
+    ensures live { IsReadable (core_of volume.new.map) (Pinned pin) }
+{
+    assert!(rt; volume.make_dir(alloc, ppn_of(rt, 0o30), 0o775) == Ok(()));
+}
+
 /// A reader reads on while a directory is made.
 #[test]
 fn a_reader_sees_no_directory_made(rt: HostRuntime) -> Result<(), Fail> {
@@ -158,29 +167,34 @@ fn a_reader_sees_no_directory_made(rt: HostRuntime) -> Result<(), Fail> {
     let Some((mut volume, pin)) = open_and_pin(&rt, rt.alloc(), disk) else {
         panic!(rt; "V1 is refused");
     };
-    assert!(rt; volume.make_dir(rt.alloc(), ppn_of(&rt, 0o30), 0o775) == Ok(()));
+    make_beside(&rt, rt.alloc(), &mut volume, pin);
     assert_eq!(rt; volume.room(), 44);
-    match volume.get_words(rt.alloc(), VersionHandle::Pinned(pin), 1, 1) {
-        Ok(read) => assert!(rt; read.as_slice() == [Word::from_bits(WORDS[0])].as_slice()),
+    match read(rt.alloc(), &mut volume, pin, 1, 1) {
+        Ok(read) => assert!(rt; read.as_slice() == [word(WORDS[0])].as_slice()),
         Err(_refused) => panic!(rt; "the file isn't read"),
     }
     Ok(())
 }
 
-#[test]
-fn what_is_not_there_is_not_pinned(rt: HostRuntime) -> Result<(), Fail> {
-    let disk = v1(&rt, rt.alloc(), 1)?;
-    let Ok(mut volume) = Volume::open(rt.alloc(), disk) else {
-        panic!(rt; "V1 is refused");
+/// Why a file of V1 isn't pinned.
+fn refusal(rt: &impl Abort, alloc: Global, programmer: u32, name: u64) -> Option<CallError> {
+    let Ok(disk) = v1(rt, alloc, 1) else {
+        return None;
     };
-    let foo = file_name(0o465757000000);
-    let elsewhere = volume.pin(ppn_of(&rt, 0o30), &foo);
-    assert!(rt; elsewhere == Err(CallError::Refused(ErrorCode::NoDirectory)));
-    let other = volume.pin(ppn_of(&rt, 0o20), &file_name(1));
-    assert!(rt; other == Err(CallError::Refused(ErrorCode::NotFound)));
-    volume.failed = true;
-    assert!(rt; volume.pin(ppn_of(&rt, 0o20), &foo) == Err(CallError::Failed));
-    Ok(())
+    let Ok(mut volume) = Volume::open(alloc, disk) else {
+        return None;
+    };
+    volume.pin(ppn_of(rt, programmer), &file_name(name)).err()
+}
+
+#[test]
+fn what_is_not_there_is_not_pinned(rt: HostRuntime) {
+    let foo = 0o465757000000;
+    let elsewhere = refusal(&rt, rt.alloc(), 0o30, foo);
+    assert!(rt; elsewhere == Some(CallError::Refused(ErrorCode::NoDirectory)));
+    let other = refusal(&rt, rt.alloc(), 0o20, 1);
+    assert!(rt; other == Some(CallError::Refused(ErrorCode::NotFound)));
+    assert!(rt; refusal(&rt, rt.alloc(), 0o20, foo) == None);
 }
 
 /// The disk fails at each of its reads in turn: the file's block is read last, and where that fails the volume
@@ -225,5 +239,4 @@ fn each_allocation_of_a_read_refused(rt: HostRuntime) {
     if first == Err(CallError::NoMemory) {
         assert!(rt; read(rt.alloc(), &mut volume, pin, 1, 2).is_ok());
     }
-    volume.unpin(pin);
 }

@@ -1,14 +1,12 @@
-ghost use Rattle.std.specs.Prelude.{◌<◌, IsSome, IfSome, IfOk};
+ghost use Rattle.std.specs.Prelude.{◌<◌, IsSome, IfSome};
 ghost use Rattle.blockdisk.specs.Memory.{memory_state};
 ghost use Rattle.volume.specs.Live.{pending_at};
 ghost use Rattle.volume.specs.LiveCores.{core_of};
-ghost use Rattle.volume.specs.Pins.{IsReadable};
 ghost use Rattle.volume.specs.Rest.{IsSound};
-ghost use Rattle.volume.specs.declared.handles.VersionHandle.TheVariants.{Pinned};
 
-use crate::open_tests::{v1, word};
+use crate::open_tests::word;
 use crate::put_tests::put;
-use crate::{CallError, Pending, Pin, VersionHandle, Volume};
+use crate::{CallError, Pending, Volume};
 use blockdisk::MemDisk;
 use meaning::ErrorCode;
 use retrieval::{Mode, Prime};
@@ -111,75 +109,4 @@ fn a_volume_is_filled_and_emptied(rt: HostRuntime) -> Result<(), Fail> {
     volume.discard(pending);
     assert_eq!(rt; volume.room(), 47);
     Ok(())
-}
-
-/// V1 with FOO.TXT pinned.
-fn open_and_pin(rt: &impl Abort, alloc: Global) -> Option<(Volume<MemDisk>, Pin)>
-    ensures { IfSome result (λ pinned. IsSound (memory_state pinned.0.disk) (core_of pinned.0.map) pinned.0.failed × IsReadable (core_of pinned.0.map) (Pinned pinned.1)) }
-{
-    let Ok(disk) = v1(rt, alloc, 1000) else {
-        return None;
-    };
-    let Ok(mut volume) = Volume::open(alloc, disk) else {
-        return None;
-    };
-    match volume.pin(ppn_of(rt), &file_name(0o465757000000)) {
-        Ok(pin) => Some((volume, pin)),
-        Err(_refused) => None,
-    }
-}
-
-/// Reads the two words of FOO.TXT in V1.
-fn expect_foo(rt: &impl Abort, alloc: Global, volume: &mut Volume<MemDisk>, pin: Pin)
-    requires sound { IsSound (memory_state volume.old.disk) (core_of volume.old.map) volume.old.failed }
-    requires live { IsReadable (core_of volume.old.map) (Pinned pin) }
-    ensures sound { IsSound (memory_state volume.new.disk) (core_of volume.new.map) volume.new.failed }
-    ensures live { IsReadable (core_of volume.new.map) (Pinned pin) }
-{
-    let foo = [word(0o442131446236), word(0o064240000000)];
-    match volume.get_words(alloc, VersionHandle::Pinned(pin), 1, 200) {
-        Ok(read) => assert!(rt; read.as_slice() == foo.as_slice()),
-        Err(_refused) => panic!(rt; "the file isn't read"),
-    }
-}
-
-/// A reader reads the words of his version while another one of the same name is written and dropped.
-#[test]
-fn a_reader_reads_on(rt: HostRuntime) -> Result<(), Fail> {
-    let Some((mut volume, pin)) = open_and_pin(&rt, rt.alloc()) else {
-        panic!(rt; "V1 is refused");
-    };
-    let Some(pending) = write_beside(&rt, rt.alloc(), &mut volume, pin) else {
-        panic!(rt; "the words aren't put");
-    };
-    expect_foo(&rt, rt.alloc(), &mut volume, pin);
-    volume.discard(pending);
-    assert_eq!(rt; volume.room(), 45);
-    Ok(())
-}
-
-/// Writes three blocks of another version of the file that is pinned.
-fn write_beside(
-    rt: &impl Abort,
-    alloc: Global,
-    volume: &mut Volume<MemDisk>,
-    pin: Pin,
-) -> Option<Pending>
-    requires sound { IsSound (memory_state volume.old.disk) (core_of volume.old.map) volume.old.failed }
-    requires live { IsReadable (core_of volume.old.map) (Pinned pin) }
-    ensures sound { IsSound (memory_state volume.new.disk) (core_of volume.new.map) volume.new.failed }
-    ensures live { IsReadable (core_of volume.new.map) (Pinned pin) }
-    ensures pending { IfSome result (λ pending. IsSome (pending_at (core_of volume.new.map).pending pending.key)) }
-{
-    let Ok(words) = vec![in alloc; word(0o777777777777); 3 * BLOCK_WORDS] else {
-        return None;
-    };
-    let Ok(pending) = volume.begin(alloc, prime_of(rt, 0o465757000000)) else {
-        return None;
-    };
-    expect_foo(rt, alloc, volume, pin);
-    match volume.put_words(pending, 1, words.as_slice()) {
-        Ok(()) => Some(pending),
-        Err(_refused) => None,
-    }
 }

@@ -8,8 +8,8 @@ use Rattle.meaning.specs.Regions.{space_start}
 use Rattle.meaning.specs.Jobs.{State}
 use Rattle.meaning.specs.Room.{room, booked}
 use Rattle.meaning.specs.Costs.{cost_of_files}
-use Rattle.meaning.specs.Maps.{total}
-use Rattle.volume.specs.Live.{held_cost}
+use Rattle.volume.specs.Live.{cost_beyond}
+use Rattle.volume.specs.LiveCores.{core_of}
 use Rattle.monitor.specs.Serving.{pack_of, IsClosed, IsState}
 use Rattle.monitor.proofs.Rooms.{booked_rest}
 use Rattle.monitor.proofs.monitor.Monitor.room.Goals as goal
@@ -23,7 +23,7 @@ returns g c =
     (λ h s state.
     let d = g.D.Disk.state c.self.inside.volume.disk in
     let costs = booked_rest s (subst (AllByRecursion IsClosed) (sym state.1.jobs_are) state.1.closed) state.1.serials in
-    let held = total held_cost c.self.inside.volume.map.versions.slots in
-    let none : held ≡ 0 = c.self.invariant.1 in
-    let all : cost_of_files (without_serials s.files) + held ≡ booked s = omega arith in
+    let beyond = cost_beyond (core_of c.self.inside.volume.map) in
+    let none : beyond ≡ 0 = c.self.invariant.1 in
+    let all : cost_of_files (without_serials s.files) + beyond ≡ booked s = omega arith in
     to_z-of_z w64 c.room.result (fits c.room.result c.room.type_inv) ∙ c.room.ensures h state.0 (without_serials s.files) state.1.files ∙ ap (λ n. pos (d.size - space_start d.size) -ℤ pos n) all)

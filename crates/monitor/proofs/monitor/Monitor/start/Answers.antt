@@ -1,13 +1,14 @@
 use Rattle.std.proofs.Common.{sym, subst, ◌∙◌}
 use Rattle.std.specs.List.{AllByRecursion}
 use Rattle.volume.specs.Rest.{RestsAt}
-use Rattle.volume.proofs.LiveOpening.{none_costs}
+use Rattle.volume.specs.LiveCores.{core_of}
+use Rattle.volume.proofs.LiveOpening.{none_beyond}
 use Rattle.monitor.specs.Serving.{IsClosed}
 use Rattle.monitor.proofs.Rooms.{none_open}
 use Rattle.monitor.proofs.monitor.Monitor.start.Goals as goal
 
 pub invariant_of-result : goal.invariant_of-result
-invariant_of-result g c = (c.in_ok-volume.ensures.sound, none_costs c.in_ok-volume.volume.map.versions.slots c.in_ok-volume.ensures.unread)
+invariant_of-result g c = (c.in_ok-volume.ensures.sound, none_beyond (core_of c.in_ok-volume.volume.map) c.in_ok-volume.ensures.unread c.in_ok-volume.ensures.unwritten)
 
 pub returns-in-Ok-clause-started : goal.returns-in-Ok-clause-started
 returns-in-Ok-clause-started g c h files stands s start = (
