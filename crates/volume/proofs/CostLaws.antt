@@ -1,33 +1,21 @@
 -- What is known in core costs what the files cost, and no more blocks are in use than that.
-use Rattle.std.proofs.Common.{◌≡◌, ℕ, zero, suc, ◌+◌, ◌==◌, if◌then◌else◌, ◌<◌, ◌≤◌, Bool, true, false, List, [], ◌∷◌, length, slice_get, replicate, Some, None, ◌≢◌, refl, sym, ap, subst, ◌∙◌, arith, Ordering, slice_index, ⊎_elim}
-use Rattle.std.proofs.lemmas.Bool.Decides.{nat_tests}
-use Rattle.std.proofs.lemmas.List.{get_or-replicate, get_or_past, length-replicate}
-use Rattle.std.proofs.lemmas.Bool.{cases_lt}
+use Rattle.std.proofs.Common.{◌≡◌, ℕ, suc, if◌then◌else◌, Bool, true, false, List, [], ◌∷◌, length, slice_get, Some, None, ◌≢◌, refl, sym, ap, ◌∙◌, arith, Ordering}
 use Rattle.std.specs.List.{AllByRecursion, AllZip}
 use Rattle.std.specs.Ordering.{nat_cmp, eq_by_cmp}
 use Rattle.std.specs.Cmp.{IsTotalOrder, nat_cmp_total}
 use Rattle.std.specs.FinMap.{IsAntisymmetric, nat_cmp-IsAntisymmetric}
 use Rattle.std.specs.FinMap.Entries.{find}
-use Rattle.blockdisk.specs.Disk.{Contents}
 use Rattle.meaning.specs.Maps.{FinMap, EachOnce, get, remove, size, from_entries, map_values, sum_over, total}
 use Rattle.meaning.specs.Costs.{version_cost, cost_of_blocks, directory_cost, cost_of_files}
 use Rattle.meaning.specs.Costs as costs
-use Rattle.meaning.specs.Counts.{sum_below, size_of_map}
-use Rattle.meaning.specs.Directories.{file_words, IsFileEntry, master_words, IsMasterEntry, FileEntry}
+use Rattle.meaning.specs.Directories.{FileEntry}
 use Rattle.meaning.specs.Faults.{IsMasterEntryOf}
-use Rattle.meaning.specs.Regions.{IsVolumeSize, space_start}
-use Rattle.meaning.specs.Table.{table_bit, fixed}
-use Rattle.meaning.specs.Stands.{StoredDirectory, DiskMap, directory_of, files_of, entry_of, HasMap}
-use Rattle.meaning.proofs.ChainEdits.{chain_length}
-use Rattle.meaning.proofs.Counting.{set_bits}
-use Rattle.meaning.proofs.MapCosts.{map_costs}
+use Rattle.meaning.specs.Stands.{StoredDirectory, DiskMap, directory_of, files_of, entry_of}
 use Rattle.meaning.proofs.MapLaws.{some_none, apart, get-remove_other}
 use Rattle.meaning.proofs.MapSums.{sum-empty, sum-remove, size-remove, empty_of_size, size-from_entries, size-map_values, sum-map_values}
 use Rattle.meaning.proofs.Names.{name_total, name_exact}
-use Rattle.alloctab.specs.Lists.{digit, flag_at}
-use Rattle.alloctab.specs.TableState.{TableState, bit, holds, used, used_in_space, space}
 use Rattle.directory.specs.Chains.{IsChain}
-use Rattle.volume.specs.Known.{Known, KnownVersion, KnownDirectory, IsKnownFile, IsKnownDirectory, IsKnownMap, IsHeld, IsWholeVersion, IsWholeDirectory, IsWholeMap, cost_of_version, cost_of_directory, cost_of_known}
+use Rattle.volume.specs.Known.{Known, KnownVersion, KnownDirectory, IsKnownFile, IsKnownDirectory, IsKnownMap, IsWholeVersion, IsWholeDirectory, cost_of_version, cost_of_directory, cost_of_known}
 
 -- Two lists beside each other, place by place.
 

@@ -1,15 +1,13 @@
 -- The words of versions that are read or written stay where their blocks do, and those are in use.
-use Rattle.std.proofs.Common.{◌≡◌, ℕ, zero, suc, ◌+◌, ◌<◌, ◌≤◌, Bool, true, false, if◌then◌else◌, List, length, Option, Some, None, refl, sym, ap, subst, ◌∙◌, arith, ⊎_elim}
+use Rattle.std.proofs.Common.{◌≡◌, ℕ, ◌<◌, ◌≤◌, Bool, true, false, if◌then◌else◌, Some, refl, sym, ap, ◌∙◌, arith, ⊎_elim}
 use Rattle.std.proofs.lemmas.Bool.{cases_lt}
 use Rattle.blockdisk.specs.Disk.{Contents, DiskState}
 use Rattle.meaning.specs.Maps.{times, total}
 use Rattle.meaning.specs.Regions.{space_start}
-use Rattle.meaning.specs.Retrieval.{HasBody}
-use Rattle.meaning.specs.Table.{fixed}
 use Rattle.meaning.proofs.DiskMaps.{fixed_below}
 use Rattle.meaning.proofs.MapSums.{times-append}
 use Rattle.meaning.proofs.Versions.{body_kept}
-use Rattle.alloctab.specs.TableState.{bit, holds, IsFree}
+use Rattle.alloctab.specs.TableState.{holds, IsFree}
 use Rattle.retrieval.specs.Versions.{VersionState}
 use Rattle.volume.specs.declared.live.LiveVersion.{LiveVersion}
 use Rattle.volume.specs.declared.pending.PendingVersion.{PendingVersion}

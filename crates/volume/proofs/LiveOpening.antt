@@ -1,5 +1,5 @@
 -- What is kept in core of a map that was read is whole: all of its versions are current, and nobody holds any.
-use Rattle.std.proofs.Common.{◌≡◌, ℕ, ◌+◌, ◌^◌, ◌<◌, ◌≤◌, Bool, true, List, [], ◌∷◌, length, replicate, slice_index, Option, Some, None, IfSome, if◌then◌else◌, refl, sym, ap, subst, ◌∙◌, arith, ⊎_elim}
+use Rattle.std.proofs.Common.{◌≡◌, ℕ, ◌^◌, ◌<◌, ◌≤◌, Bool, List, [], ◌∷◌, length, replicate, slice_index, Option, Some, None, IfSome, if◌then◌else◌, refl, sym, ap, subst, ◌∙◌, arith, ⊎_elim}
 use Rattle.std.proofs.lemmas.Bool.{cases_lt}
 use Rattle.std.proofs.lemmas.List.{get_or-replicate, get_or_past, length-replicate}
 use Rattle.std.specs.List.{AllByRecursion, AllZip}
@@ -9,7 +9,7 @@ use Rattle.meaning.specs.Directories.{MasterEntry}
 use Rattle.alloctab.specs.TableState.{holds}
 use Rattle.volume.specs.declared.live.LiveVersion.{LiveVersion}
 use Rattle.volume.specs.Known.{Known, KnownDirectory, blocks_reached, cost_of_known, IsWholeMap, IsBooked}
-use Rattle.volume.specs.Live.{VolumeCore, as_known, slot, IsKeyed, IsFirstRead, AreStanding, held_reaches, held_cost, pending_reaches, pending_cost, creates, growths, cost_beyond, AreWaiting, IsWholeCore}
+use Rattle.volume.specs.Live.{VolumeCore, slot, IsKeyed, IsFirstRead, AreStanding, held_reaches, held_cost, pending_reaches, pending_cost, creates, growths, cost_beyond, AreWaiting, IsWholeCore}
 use Rattle.volume.proofs.Answering.{map_few}
 use Rattle.volume.proofs.LiveLookups.{standing_at}
 

@@ -1,5 +1,5 @@
 -- What a call that makes a directory says of the disk, from what is known of core and of its calls.
-use Rattle.std.proofs.Common.{◌≡◌, ℕ, ◌+◌, ◌<◌, ◌≤◌, ◌⊎◌, inl, inr, ⊎_elim, Bool, true, false, List, [], ◌∷◌, ◌++◌, length, replicate, slice_index, ◌-◌, ◌^◌, Option, Some, None, Err, IsErrOf, refl, sym, ◌∙◌, ap, subst, arith}
+use Rattle.std.proofs.Common.{◌≡◌, ℕ, ◌+◌, ◌<◌, ◌≤◌, ◌⊎◌, inl, inr, ⊎_elim, Bool, true, false, List, [], ◌∷◌, ◌++◌, length, replicate, slice_index, ◌-◌, Option, Some, None, Err, IsErrOf, refl, sym, ◌∙◌, ap, subst, arith}
 use Rattle.std.proofs.Common.{length-append}
 use Rattle.std.proofs.lemmas.Bool.{cases_eq}
 use Rattle.std.specs.List.{AllByRecursion, AllZip}
@@ -20,7 +20,7 @@ use Rattle.meaning.specs.Faults.{InSpace}
 use Rattle.meaning.proofs.MapLaws.{some_none}
 use Rattle.meaning.proofs.MapLists.{find-append_both}
 use Rattle.meaning.proofs.MapSums.{times-append}
-use Rattle.meaning.proofs.DiskMaps.{stands_same, bit-le-one, fixed_below}
+use Rattle.meaning.proofs.DiskMaps.{stands_same, fixed_below}
 use Rattle.meaning.proofs.ChangedFiles.{files_made as files_of_made}
 use Rattle.changeset.specs.Crashes.{IsGateOrLog}
 use Rattle.changeset.specs.Puts.{IsPutIn}

@@ -10,7 +10,7 @@ use Rattle.meaning.specs.Maps.{times}
 use Rattle.meaning.specs.Log.{IsTarget, targets, with_puts}
 use Rattle.meaning.specs.Regions.{table_blocks, table_start, space_start}
 use Rattle.meaning.specs.Faults.{InSpace}
-use Rattle.alloctab.specs.TableState.{TableState, IsTable, IsFree, IsChanged, bit, holds, space, used_in_space, changed_blocks, with_bit, with_held}
+use Rattle.alloctab.specs.TableState.{TableState, IsTable, IsFree, IsChanged, bit, holds, used_in_space, changed_blocks, with_bit, with_held}
 use Rattle.alloctab.specs.TableLaws.{holds-with_held_same, bit-with_bit_other, bit-taken, changed-with_bit_same, changed-with_bit_other, sound-with_bit, sound-with_held, sound-booked, changed_blocks-le, changed_blocks-le-most}
 use Rattle.alloctab.specs.Changes.{IsChangedBlock, SpellsTable}
 use Rattle.retrieval.specs.Writing.{Takes, IsFixed}

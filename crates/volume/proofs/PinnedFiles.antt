@@ -1,12 +1,10 @@
 -- The version of a file under its key: its blocks stand in the directories, and have the words of the file.
-use Rattle.std.proofs.Common.{◌≡◌, ◌⊎◌, inl, inr, ⊎_elim, ℕ, zero, suc, ◌+◌, ◌-◌, ◌<◌, ◌≤◌, Bool, true, false, List, [], ◌∷◌, length, slice_get, Option, Some, None, option_map, Result, Ok, Err, refl, sym, ap, subst, ◌∙◌, arith}
+use Rattle.std.proofs.Common.{◌≡◌, ◌⊎◌, inl, inr, ⊎_elim, ℕ, zero, suc, ◌+◌, ◌-◌, ◌<◌, ◌≤◌, Bool, true, false, List, [], ◌∷◌, slice_get, Option, Some, None, option_map, Result, Ok, Err, refl, sym, ap, subst, ◌∙◌, arith}
 use Rattle.std.specs.Cmp.{nat_cmp_total}
-use Rattle.std.specs.Ordering.{nat_cmp}
-use Rattle.std.specs.FinMap.Entries.{find}
 use Rattle.words36.specs.declared.names.FileName.{FileName}
 use Rattle.blockdisk.specs.Disk.{Contents, DiskState}
 use Rattle.meaning.specs.Directories.{FileEntry}
-use Rattle.meaning.specs.Files.{File, Files, name_cmp}
+use Rattle.meaning.specs.Files.{File, Files}
 use Rattle.meaning.specs.Maps.{get, total, times}
 use Rattle.meaning.specs.Retrieval.{HasBody}
 use Rattle.meaning.specs.Directories.{master_words}
@@ -17,13 +15,9 @@ use Rattle.std.proofs.lemmas.Bool.{cases_eq}
 use Rattle.meaning.proofs.MapLaws.{some_none, some_same}
 use Rattle.meaning.proofs.MapLists.{get-map_values, get-from_entries}
 use Rattle.meaning.proofs.Names.{name_total}
-use Rattle.directory.specs.Edits.{StandsAt}
-use Rattle.retrieval.specs.Modes.{mode_number}
 use Rattle.volume.specs.declared.error.CallError.{CallError}
-use Rattle.volume.specs.declared.error.CallError.TheVariants.{Refused}
 use Rattle.volume.specs.declared.handles.Pin.{Pin}
 use Rattle.volume.specs.declared.live.LiveVersion.{LiveVersion}
-use Rattle.volume.specs.Facts.{facts_of, known_facts}
 use Rattle.volume.specs.Known.{Known, KnownVersion, KnownDirectory, IsKnownMap, IsHeld, blocks_reached, reaches_in_entries, reaches_in_known}
 use Rattle.volume.specs.Live.{VolumeCore, slot, pending_at, as_known, IsWholeCore}
 use Rattle.volume.specs.Pins.{IsKeyOf, IsNoFile, IsVersionOf, IsFilePinned, IsPinAnswer}

@@ -1,15 +1,13 @@
 -- A version with another number of readers, or one that goes: what is in core stays whole.
-use Rattle.std.proofs.Common.{◌≡◌, ◌↔◌, IsTrue, ℕ, zero, suc, ◌+◌, ◌<◌, ◌≤◌, Bool, true, false, if◌then◌else◌, List, [], ◌∷◌, ◌++◌, map, filter_map, length, replicate, slice_index, Option, Some, None, IfSome, IsSome, slice_index_or, refl, sym, ap, subst, ◌∙◌, arith, ⊎_elim}
-use Rattle.std.proofs.lemmas.Bool.{cases_eq, cases_lt}
-use Rattle.std.proofs.lemmas.List.{get_or-replicate, get_or_past, length-replicate}
+use Rattle.std.proofs.Common.{◌≡◌, ◌↔◌, IsTrue, ℕ, zero, suc, ◌+◌, ◌<◌, ◌≤◌, Bool, true, false, if◌then◌else◌, List, [], ◌∷◌, map, filter_map, length, slice_index, Option, Some, None, IfSome, IsSome, slice_index_or, refl, sym, ap, subst, ◌∙◌, arith, ⊎_elim}
+use Rattle.std.proofs.lemmas.Bool.{cases_eq}
 use Rattle.std.specs.List.{AllByRecursion, cons_option}
 use Rattle.std.specs.Option.{option_map}
 use Rattle.meaning.specs.Costs.{cost_of_blocks}
 use Rattle.meaning.specs.Maps.{total, times}
 use Rattle.meaning.specs.Retrieval.{most_blocks}
-use Rattle.meaning.proofs.Lists.{times_here}
 use Rattle.alloctab.specs.TableState.{TableState, holds}
-use Rattle.volume.specs.Known.{Known, blocks_reached, reaches_in_known, cost_of_known, IsWholeVersion, IsWholeMap}
+use Rattle.volume.specs.Known.{Known, blocks_reached, reaches_in_known, IsWholeVersion, IsWholeMap}
 use Rattle.volume.specs.Live.{VolumeCore, as_known, slot, held_reaches, held_cost, ArePinned, IsWholeCore}
 use Rattle.slab.specs.Slab.{Slab, Updates}
 use Rattle.volume.specs.LiveCores.{core_of, known_at, live_directory}

@@ -1,6 +1,6 @@
 -- Words are put into a version that is being written: what is read and written besides it stays, and no crash
 -- sees the writes.
-use Rattle.std.proofs.Common.{◌≡◌, ◌⊎◌, inl, inr, ⊎_elim, ℕ, zero, suc, ◌+◌, ◌<◌, ◌≤◌, Bool, true, false, if◌then◌else◌, List, [], ◌∷◌, length, Option, Some, None, slice_index_or, refl, sym, ap, subst, ◌∙◌, arith}
+use Rattle.std.proofs.Common.{◌≡◌, inl, inr, ⊎_elim, ℕ, zero, suc, ◌+◌, ◌<◌, ◌≤◌, Bool, true, false, if◌then◌else◌, List, [], ◌∷◌, length, Option, Some, None, slice_index_or, refl, sym, ap, subst, ◌∙◌, arith}
 use Rattle.std.proofs.lemmas.Bool.{cases_eq, cases_lt}
 use Rattle.std.specs.List.{AllZip}
 use Rattle.blockdisk.specs.Disk.{Contents, DiskState, MayLeave, SameDisk, SameOutside, Touches, LeavesOnly}
@@ -13,13 +13,13 @@ use Rattle.meaning.specs.Quiet.{DifferInFree}
 use Rattle.meaning.specs.Regions.{space_start}
 use Rattle.meaning.specs.Retrieval.{HasBody}
 use Rattle.meaning.specs.Splices.{splice, length_after}
-use Rattle.meaning.specs.Stands.{DiskMap, Stands, files_of, reaches}
+use Rattle.meaning.specs.Stands.{DiskMap, Stands, reaches}
 use Rattle.meaning.specs.Table.{table_bit, fixed}
 use Rattle.meaning.proofs.DiskMaps.{fixed_below, quiet, quiet_bits}
 use Rattle.meaning.proofs.MapLaws.{some_none}
 use Rattle.meaning.proofs.MapSums.{times-append}
 use Rattle.meaning.proofs.SpliceLaws.{length-splice}
-use Rattle.alloctab.specs.TableState.{TableState, bit, holds}
+use Rattle.alloctab.specs.TableState.{TableState, bit}
 use Rattle.retrieval.specs.Bodies.{IsOwn}
 use Rattle.retrieval.specs.Versions.{VersionState}
 use Rattle.volume.specs.declared.live.LiveVersion.{LiveVersion}

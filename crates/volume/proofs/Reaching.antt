@@ -1,5 +1,5 @@
 -- How often a block stands in what core knows, entry by entry and directory by directory.
-use Rattle.std.proofs.Common.{◌≡◌, ℕ, suc, ◌+◌, ◌<◌, List, [], ◌∷◌, ◌++◌, map, length, get_or, take, refl, sym, ap, subst, ◌∙◌, arith}
+use Rattle.std.proofs.Common.{◌≡◌, ℕ, ◌+◌, ◌<◌, List, [], ◌∷◌, ◌++◌, map, length, get_or, take, sym, ap, ◌∙◌, arith}
 use Rattle.std.proofs.lemmas.List.{length-map, length-take, map-append}
 use Rattle.meaning.specs.Maps.{times, total}
 use Rattle.meaning.specs.Directories.{FileEntry}

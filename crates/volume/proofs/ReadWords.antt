@@ -1,5 +1,5 @@
 -- Words that are read: what stays, and that a version which can be read has its words.
-use Rattle.std.proofs.Common.{◌≡◌, ℕ, ◌+◌, ◌<◌, ◌≤◌, Bool, true, false, if◌then◌else◌, List, [], ◌∷◌, length, Option, Some, None, option_map, IfSome, refl, sym, ap, subst, ◌∙◌, arith, ⊎_elim}
+use Rattle.std.proofs.Common.{◌≡◌, ℕ, ◌<◌, Bool, true, false, if◌then◌else◌, List, [], ◌∷◌, Option, Some, None, option_map, IfSome, refl, sym, ap, subst, ◌∙◌, arith, ⊎_elim}
 use Rattle.std.proofs.lemmas.Bool.{cases_eq, cases_lt}
 use Rattle.std.proofs.lemmas.List.{get_or_past}
 use Rattle.std.specs.List.{AllByRecursion, AllZip}
@@ -9,23 +9,22 @@ use Rattle.changeset.specs.Rest.{AtRest}
 use Rattle.changeset.specs.PutLaws.{times_tail}
 use Rattle.meaning.specs.Faults.{InSpace}
 use Rattle.meaning.specs.Files.{File, Files}
-use Rattle.meaning.specs.Maps.{times, total}
-use Rattle.meaning.specs.Retrieval.{HasBody}
+use Rattle.meaning.specs.Maps.{times}
 use Rattle.meaning.specs.Stands.{SettledStands}
 use Rattle.meaning.proofs.Lists.{times_here, times_later}
 use Rattle.meaning.proofs.MapLaws.{some_none, some_same}
 use Rattle.meaning.proofs.MapSums.{times-append}
 use Rattle.alloctab.specs.Lists.{digit}
-use Rattle.alloctab.specs.TableState.{IsTable, bit, holds}
+use Rattle.alloctab.specs.TableState.{IsTable, bit}
 use Rattle.retrieval.specs.Versions.{VersionState}
 use Rattle.volume.specs.declared.handles.VersionHandle.{VersionHandle}
 use Rattle.volume.specs.declared.handles.VersionHandle.TheVariants.{Pinned, Pending}
 use Rattle.volume.specs.declared.live.LiveVersion.{LiveVersion}
 use Rattle.volume.specs.declared.pending.PendingVersion.{PendingVersion}
-use Rattle.volume.specs.Known.{blocks_reached, reaches_in_known, IsHeld}
-use Rattle.volume.specs.Live.{VolumeCore, slot, pending_at, held_reaches, IsWholePending, IsWholeCore}
+use Rattle.volume.specs.Known.{blocks_reached, IsHeld}
+use Rattle.volume.specs.Live.{VolumeCore, slot, held_reaches, IsWholePending, IsWholeCore}
 use Rattle.volume.specs.Pins.{version_under, IsReadable}
-use Rattle.volume.specs.Rest.{HasSomeBody, IsAtRest, IsSound, RestsAt}
+use Rattle.volume.specs.Rest.{HasSomeBody, IsSound, RestsAt}
 use Rattle.volume.proofs.LiveBodies.{read_used, body_stays}
 use Rattle.volume.proofs.Pinning.{total_at, each_slot}
 use Rattle.volume.proofs.Starting.{rest_read}

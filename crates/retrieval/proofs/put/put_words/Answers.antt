@@ -8,13 +8,13 @@ use Rattle.meaning.specs.Maps.{times}
 use Rattle.meaning.specs.Retrieval.{HasBody}
 use Rattle.meaning.specs.Splices.{splice}
 use Rattle.alloctab.specs.TableState.{holds}
-use Rattle.retrieval.specs.Bodies.{AreWhole, IsOwn, AddsClear, KeepsOwn}
+use Rattle.retrieval.specs.Bodies.{IsOwn, AddsClear, KeepsOwn}
 use Rattle.retrieval.specs.Placing.{IsPlaced}
 use Rattle.retrieval.specs.Versions.{VersionState}
 use Rattle.retrieval.proofs.Growing.{grown, grown_keeps, after_some}
 use Rattle.retrieval.proofs.Holding.{used_le_uses}
 use Rattle.retrieval.proofs.Placed.{clear_on, size_same, booked_same, fixed_on, room_on, same_on, held_on, own_before, held_again}
-use Rattle.retrieval.proofs.Putting.{whole_put, body_put}
+use Rattle.retrieval.proofs.Putting.{body_put}
 use Rattle.retrieval.proofs.Parts.{whole_from}
 use Rattle.retrieval.proofs.put.put_words.Goals as goal
 

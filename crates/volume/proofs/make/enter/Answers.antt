@@ -1,5 +1,4 @@
-use Rattle.std.proofs.Common.{◌≡◌, List, [], ◌∷◌, ◌++◌, map, filter_map, ◌∙◌, ap}
-use Rattle.std.proofs.lemmas.List.{map-append}
+use Rattle.std.proofs.Common.{◌≡◌, [], ◌∷◌, ◌++◌, filter_map, ◌∙◌, ap}
 use Rattle.directory.specs.Chains.{viewed}
 use Rattle.volume.specs.Cores.{file_view}
 use Rattle.volume.specs.LiveCores.{core_of, live_directory, known_at}

@@ -1,8 +1,7 @@
-use Rattle.std.proofs.Common.{◌≡◌, ◌<◌, inr, map, length, get_or, slice_get, Some, refl, sym, ap, ◌∙◌, arith}
+use Rattle.std.proofs.Common.{inr, map, refl, sym, ap, ◌∙◌, arith}
 use Rattle.std.proofs.lemmas.List.{length-map}
 use Rattle.meaning.proofs.MapLaws.{some_same}
 use Rattle.volume.specs.Cores.{master_view, file_view}
-use Rattle.volume.specs.Live.{as_known}
 use Rattle.volume.specs.LiveCores.{live_directory}
 use Rattle.volume.proofs.Answering.{placed}
 use Rattle.volume.proofs.LiveLookups.{as_many, keyed_at, kept_at, current_at}

@@ -3,8 +3,6 @@ use Rattle.blockdisk.specs.Laws.{touches_start}
 use Rattle.meaning.specs.Retrieval.{HasBody}
 use Rattle.meaning.specs.Splices.{splice, length_after}
 use Rattle.retrieval.specs.Bodies.{IsOwn}
-use Rattle.retrieval.specs.Versions.{VersionState}
-use Rattle.volume.specs.Live.{pending_at}
 use Rattle.volume.specs.declared.pending.PendingVersion.{PendingVersion}
 use Rattle.volume.proofs.PuttingCore.{same_version, now_put, regrown_same}
 use Rattle.volume.proofs.put.put_pending.Goals as goal

@@ -1,10 +1,8 @@
-use Rattle.std.proofs.Common.{◌≡◌, ℕ, ◌<◌, length, map, slice_get, Some, option_copied, refl, sym, ap, ◌∙◌, arith}
+use Rattle.std.proofs.Common.{◌≡◌, length, map, Some, option_copied, refl, sym, ap, ◌∙◌, arith}
 use Rattle.std.proofs.lemmas.List.{length-map}
-use Rattle.volume.specs.declared.live.LiveVersion.{LiveVersion}
 use Rattle.volume.specs.Cores.{file_view}
 use Rattle.volume.specs.Known.{IsWholeVersion}
 use Rattle.volume.specs.Live.{slot, as_known}
-use Rattle.volume.specs.LiveCores.{live_directory}
 use Rattle.meaning.proofs.MapLaws.{some_none, some_same}
 use Rattle.volume.proofs.LiveLookups.{as_many, kept_at, standing_at}
 use Rattle.volume.proofs.query.named_facts.Goals as goal

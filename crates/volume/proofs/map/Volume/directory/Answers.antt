@@ -1,7 +1,7 @@
 use Rattle.std.proofs.Common.{◌≡◌, Ok, Err, Some, get_or, refl, sym, ap, ◌∙◌}
 use Rattle.std.proofs.lemmas.Result.{err_from_is_err_and}
 use Rattle.volume.specs.Cores.{master_view}
-use Rattle.volume.specs.LiveCores.{core_of, live_directory}
+use Rattle.volume.specs.LiveCores.{core_of}
 use Rattle.volume.specs.Queries.{protection_answer}
 use Rattle.volume.proofs.Answering.{rest_holds, directory_none, directory_protection, viewed_get}
 use Rattle.volume.proofs.map.Volume.directory.Goals as goal

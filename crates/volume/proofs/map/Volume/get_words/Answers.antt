@@ -1,6 +1,4 @@
-use Rattle.std.proofs.Common.{inr, ℕ, List, Some, sym, ap, subst}
-use Rattle.std.specs.List.{AllByRecursion}
-use Rattle.meaning.specs.Faults.{InSpace}
+use Rattle.std.proofs.Common.{inr}
 use Rattle.volume.specs.LiveCores.{core_of}
 use Rattle.volume.proofs.Opening.{reads_of}
 use Rattle.volume.proofs.ReadWords.{rests_read, sound_read, readable_inside, readable_body, undamaged}

@@ -1,12 +1,9 @@
-use Rattle.std.proofs.Common.{◌≡◌, ◌+◌, ◌<◌, ◌≤◌, ℕ, true, Option, Some, Err, IfSome, refl, sym, ap, subst, ◌∙◌, arith, ⊎_elim}
+use Rattle.std.proofs.Common.{◌≡◌, ◌+◌, ◌≤◌, ℕ, true, Option, Err, IfSome, sym, ap, subst, ◌∙◌}
 use Rattle.std.proofs.lemmas.Result.{err_from_is_err_and}
-use Rattle.std.proofs.lemmas.Bool.{cases_eq}
 use Rattle.meaning.specs.Maps.{times, total}
 use Rattle.volume.specs.declared.live.LiveVersion.{LiveVersion}
 use Rattle.volume.specs.Known.{blocks_reached, reaches_in_known}
-use Rattle.volume.specs.Live.{VolumeCore, slot}
 use Rattle.volume.specs.LiveCores.{core_of}
-use Rattle.volume.specs.Rest.{IsAtRest, HasSomeBody}
 use Rattle.volume.proofs.Answering.{rest_holds}
 use Rattle.volume.proofs.PinnedFiles.{key_stands, key_file, pin_answered, pin_refused, pinned_sound}
 use Rattle.volume.proofs.map.Volume.pin.Goals as goal

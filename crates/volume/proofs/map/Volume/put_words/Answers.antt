@@ -1,4 +1,4 @@
-use Rattle.std.proofs.Common.{◌≡◌, inr, Bool, false, refl, sym, subst}
+use Rattle.std.proofs.Common.{inr, Bool, refl, sym, subst}
 use Rattle.volume.specs.Live.{pending_at}
 use Rattle.volume.specs.LiveCores.{core_of}
 use Rattle.volume.specs.Rest.{IsSound}
