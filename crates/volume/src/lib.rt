@@ -5,9 +5,9 @@
 //!    for the log's images, and the first block of the master directory. (`stands`, `settled`, `bare`,
 //!    `touched`)
 //! 2. `Volume::open` recovers the disk first and then reads every block that it reaches, each once. Where it
-//!    answers Ok on an honest disk, the contents have the map that is kept in core, the files are those
-//!    that the disk stood for before, the gate is closed and no block is open. (`sound`, `files`,
-//!    `settled`)
+//!    answers Ok on an honest disk, the disk stood for some files, nothing but the recovery was done to it, the
+//!    contents have the map that is kept in core, the files are those that the disk stood for before, the gate
+//!    is closed and no block is open. (`sound`, `recovered`, `stood`, `files`, `settled`)
 //! 3. Each refusal of `open` names a fault that stands in the disk as it is handed back; but for a fault of
 //!    the device that disk was recovered, or nothing was written. (`refused`, `kept`)
 //! 4. A crash at any moment of `open` leaves what stands for whatever something stood for that a crash could
@@ -17,12 +17,16 @@
 //!    touch no disk. (`value`, `listed`, `refused`)
 //! 6. A crash at any moment of `make_dir` leaves what stands for the files before it or for those with the
 //!    new directory, and where it answers Ok for the latter alone; each other answer but `Device` leaves disk
-//!    and map as they were. After `Device` and `Failed` the volume has failed, and no other answer changes
-//!    whether it has. (`crash`, `done`, `refused`, `device`, `gone`, `serves`)
-//! 7. `put_words` writes blocks that no file and no other version has: whatever a crash leaves at any moment of
+//!    and map as they were. After `Device` the volume has failed, and no other answer changes whether it has.
+//!    (`crash`, `done`, `refused`, `device`, `still`)
+//! 7. `pin` holds the version that a file has, and `unpin` lets it go; `begin` books what a version costs
+//!    without words, and `discard` gives back what is booked and held for it. None of them touches the disk.
+//!    `get_words` gives the words of a version that is pinned or being written, and writes nothing. (`value`,
+//!    `pinned`, `gone`, `begun`, `words`, `reads`, `untouched`)
+//! 8. `put_words` writes blocks that no file and no other version has: whatever a crash leaves at any moment of
 //!    it stands for the files from before. At Ok the version has its body with the words put; after a refusal
 //!    and after `NoMemory` all is as before. (`quiet`, `rests`, `put`, `others`, `kept`)
-//! 8. `Device` comes exactly with one more failure of the disk, on every disk. (`failed`, `served`)
+//! 9. `Device` comes exactly with one more failure of the disk, on every disk. (`failed`, `served`)
 //!
 //! Between two calls the volume knows the map of its disk: the chains of its directories with their entries
 //! in the order of the disk, for each entry where its version lies, and the allocation table with what is
