@@ -1,14 +1,23 @@
-//! What a volume asks of its disk, counted: the blocks that `open` reads, and the writes and syncs of a
-//! `make_dir`. With `--time` also how long `open` takes, beside a plain read of the same blocks.
+//! What a volume asks of its disk, counted: the blocks that `open` reads, the writes and syncs of a `make_dir`,
+//! and for files of 0 to 1024 blocks, created and superseded, the calls of `put_words` and of `publish`, beside
+//! the fewest writes and syncs that a publication can make. With `--time` also how many times as long `open`
+//! takes as a plain read of the same blocks, and the publication of 1024 blocks as a plain copy of its words.
 #![tactic(auto)]
 
+ghost use Rattle.std.specs.Prelude.{IfOk};
+ghost use Rattle.blockdisk.specs.Memory.{memory_state};
+ghost use Rattle.volume.specs.LiveCores.{core_of};
+ghost use Rattle.volume.specs.Rest.{IsSound};
+
 mod counting;
+mod files;
 mod full;
 mod volumes;
 
 use anyhow::Result;
 use blockdisk::{Disk, MemDisk};
 use counting::CountingDisk;
+use files::{FileCalls, LEAST_SYNCS, least_writes, prime_of_foo, publish_file, words_of_file};
 use full::{TABLE, full_image};
 use std::alloc::Global;
 use std::env;
@@ -16,9 +25,17 @@ use std::rt::{Clock, Env};
 use std::time::Instant;
 use volume::{LARGEST_VOLUME, SMALLEST_VOLUME, Volume};
 use volumes::{make_directory, make_volume, open, reached};
+use words36::{BLOCK_WORDS, Word};
 
 /// Room to record the writes and syncs of `init` and of an `open`, and of one `make_dir`.
 const CALLS: usize = 32;
+
+/// Room to record the writes and syncs of `init`, of an `open`, of one `make_dir`, and of a file of 1024 blocks
+/// that is written twice.
+const FILE_CALLS: usize = 4096;
+
+/// 1 MiB of the image in blocks.
+const MEBIBYTE: u16 = 1024;
 
 /// How many blocks of the disk a block of the allocation table stands for.
 const BLOCKS_IN_TABLE: u32 = 4608;
@@ -82,11 +99,82 @@ fn largest(rt: &(impl Print + Clock), alloc: Global, is_timed: bool) -> Result<(
     Ok(())
 }
 
+/// A volume whose table is one block, with one directory.
+fn volume_for_files(alloc: Global) -> Result<Volume<CountingDisk<MemDisk>>>
+    ensures { IfOk result (λ volume. IsSound (memory_state volume.disk.inner) (core_of volume.map) volume.failed) }
+{
+    let disk = MemDisk::new(alloc, BLOCKS_IN_TABLE, FILE_CALLS)?;
+    let made = make_volume(alloc, disk, 1)?;
+    open(alloc, CountingDisk::new(made.disk))
+}
+
+/// Prints what the disk was called for while a file of so many blocks was written.
+fn print_written(rt: &impl Print, blocks: u16, act: &str, calls: &FileCalls) -> Result<()> {
+    let FileCalls { put, published } = calls;
+    let least = least_writes(blocks);
+    println!(rt; "{BLOCKS_IN_TABLE} blocks, 1 directory, file of {blocks} blocks {act}")?;
+    println!(rt;
+        "  put_words: {} blocks read, {} written, {} syncs",
+        put.reads, put.writes, put.syncs
+    )?;
+    println!(rt;
+        "  publish: {} writes, {} syncs; least {least} and {LEAST_SYNCS}",
+        published.writes, published.syncs
+    )?;
+    Ok(())
+}
+
+/// A file of so many blocks is created, and superseded by one of the same size.
+fn with_file(rt: &impl Print, alloc: Global, blocks: u16) -> Result<()> {
+    let mut volume = volume_for_files(alloc)?;
+    let words = words_of_file(alloc, blocks)?;
+    let created = publish_file(alloc, &mut volume, prime_of_foo()?, words.as_slice())?;
+    print_written(rt, blocks, "created", &created)?;
+    let superseded = publish_file(alloc, &mut volume, prime_of_foo()?, words.as_slice())?;
+    print_written(rt, blocks, "superseded", &superseded)
+}
+
+/// Copies words into the blocks of a disk, each block once.
+fn copy_plainly(disk: &mut MemDisk, words: &[Word]) -> Result<()> {
+    let (blocks, _) = words.as_chunks::<BLOCK_WORDS>();
+    for (n, block) in (0..u32::MAX).zip(blocks) {
+        if n >= disk.blocks() {
+            break;
+        }
+        disk.write(n, block)?;
+    }
+    Ok(())
+}
+
+/// Publishes 1 MiB, and prints how many times as long that takes as a plain copy.
+fn print_published(rt: &(impl Print + Clock), alloc: Global) -> Result<()> {
+    let mut volume = volume_for_files(alloc)?;
+    let prime = prime_of_foo()?;
+    let words = words_of_file(alloc, MEBIBYTE)?;
+    let start = Instant::now(rt)?;
+    publish_file(alloc, &mut volume, prime, words.as_slice())?;
+    let published = start.elapsed(rt)?;
+    let mut disk = MemDisk::new(alloc, u32::from(MEBIBYTE), FILE_CALLS)?;
+    let start = Instant::now(rt)?;
+    copy_plainly(&mut disk, words.as_slice())?;
+    let copied = start.elapsed(rt)?;
+    let ratio = published.div_duration_f64(copied);
+    println!(rt; "  publish: {ratio:.1} times a plain copy of {MEBIBYTE} blocks")?;
+    Ok(())
+}
+
 fn main(rt: HostRuntime) -> Result<()> {
     let is_timed = env::args(&rt)?.any(|word| word.as_str() == "--time");
     for directories in [0, 42, 43] {
         with_directories(&rt, rt.alloc(), SMALLEST_VOLUME, directories)?;
     }
     with_directories(&rt, rt.alloc(), LARGEST_VOLUME, 4200)?;
-    largest(&rt, rt.alloc(), is_timed)
+    largest(&rt, rt.alloc(), is_timed)?;
+    for blocks in [0, 1, 112, 113, MEBIBYTE] {
+        with_file(&rt, rt.alloc(), blocks)?;
+    }
+    if is_timed {
+        print_published(&rt, rt.alloc())?;
+    }
+    Ok(())
 }

@@ -14,7 +14,7 @@ use std::io::{Read, Write};
 use words36::{Moment, Ppn};
 
 impl<D: Disk> FileService for Monitor<D> {
-    ghost machine = { λ m. machine_of (D.state m.disk) m.failed m.jobs };
+    ghost machine = { λ m. machine_of (D.state m.disk) m.map m.failed m.jobs };
 
     fn login(&mut self, alloc: Global, job: u32, owner: Ppn, words: u32) -> Reply {
         Monitor::login(self, alloc, job, owner, words)
@@ -46,7 +46,7 @@ pub fn session<R: Read, W: Write, D: Disk>(
     moment: Moment,
 ) -> Result<Tally, SessionError>
     ensures { Session (R.remaining reader.old) (R.remaining reader.new) (W.contents writer.old) (W.contents writer.new)
-        (machine_of (D.state monitor.old.disk) monitor.old.failed monitor.old.jobs) (machine_of (D.state monitor.new.disk) monitor.new.failed monitor.new.jobs)
+        (machine_of (D.state monitor.old.disk) monitor.old.map monitor.old.failed monitor.old.jobs) (machine_of (D.state monitor.new.disk) monitor.new.map monitor.new.failed monitor.new.jobs)
         moment result }
 {
     converse(alloc, reader, writer, monitor, moment)

@@ -9,4 +9,5 @@ mod ChainPuts
 mod Editing
 mod EditedEntries
 mod Steps
+mod Rooms
 mod Listing

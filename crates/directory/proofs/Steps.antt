@@ -1,7 +1,7 @@
 -- The steps of the code: chains as they are seen, and the puts of their blocks.
 -- `inside` is a chain as it is kept, and `old` the same one as clauses see it.
 use Rattle.std.proofs.Common.{◌≡◌, ◌⊎◌, inl, inr, ℕ, zero, suc, ◌-◌, ◌*◌, ◌/◌, ◌<◌, ◌≤◌, Bool, List, [], ◌∷◌, ◌++◌, map, length, take, drop, get_or, swap_remove, slice_set, Option, Some, None, is_some, MatchOption, option_to_list, IsTrue, IsFalse, Result, Ok, Err, OnOk, append-nil, refl, sym, ap, subst, ◌∙◌, Ordering, arith, length-append}
-use Rattle.std.proofs.lemmas.List.{length-map, map-append, map-set, map_push, take-map, drop-map, length-set, length-take-le}
+use Rattle.std.proofs.lemmas.List.{length-map, map-append, map-set, take-map, drop-map, length-set, length-take-le}
 use Rattle.std.proofs.lemmas.Option.{slice_get-get_or}
 use Rattle.std.specs.Cmp.{IsTotalOrder}
 use Rattle.std.specs.FinMap.{IsAntisymmetric}
@@ -51,9 +51,9 @@ module _ {E K V : Type 0} {R : K → K → Ordering} (o : IsTotalOrder R) (IsEnt
   IsFitting chain block = MatchOption block (length chain.entries ≡ 42 * length chain.blocks → ⊥) (λ n. (length chain.entries ≡ 42 * length chain.blocks) × (times n chain.blocks ≡ 0))
 
   pub appended_sound : (inside old : ChainState E) (e : E) (block : Option ℕ) (ns : List ℕ) (es : List E) → inside ≡ old → IsChain R IsEntry (viewed view inside) → find R (view e).0 (map view old.entries) ≡ None → IsFitting old block → IsEntry (view e)
-      → ns ≡ inside.blocks ++ option_to_list block → es ≡ inside.entries ++ e ∷ [] → IsChain R IsEntry (viewed view (record { blocks = ns; entries = es }))
+      → ns ≡ inside.blocks ++ option_to_list block → map view es ≡ map view inside.entries ++ view e ∷ [] → IsChain R IsEntry (viewed view (record { blocks = ns; entries = es }))
   appended_sound inside old e block ns es is sound absent fits good blocks_are entries_are =
-      subst (λ (s : ChainState (K × V)). IsChain R IsEntry s) (λ j. record { blocks = sym blocks_are j; entries = (sym (map_push view inside.entries e) ∙ ap (map view) (sym entries_are)) j })
+      subst (λ (s : ChainState (K × V)). IsChain R IsEntry s) (λ j. record { blocks = sym blocks_are j; entries = sym entries_are j })
       (step block (subst (λ (s : ChainState E). IsFitting s block) (sym is) fits))
     where
       absent' : find R (view e).0 (map view inside.entries) ≡ None
@@ -70,7 +70,7 @@ module _ {E K V : Type 0} {R : K → K → Ordering} (o : IsTotalOrder R) (IsEnt
     last_put chain k = block_put words chain (length chain.blocks - k)
 
     pub appended_put : (inside old : ChainState E) (e : E) (block : Option ℕ) (ns ms : List ℕ) (es fs : List E) (b : Bool) (before after : List Put) → inside ≡ old → IsChain R IsEntry (viewed view inside) → find R (view e).0 (map view old.entries) ≡ None
-        → IsFitting old block → IsEntry (view e) → ns ≡ inside.blocks ++ option_to_list block → es ≡ inside.entries ++ e ∷ [] → ms ≡ ns → fs ≡ es → b ≡ is_some block
+        → IsFitting old block → IsEntry (view e) → ns ≡ inside.blocks ++ option_to_list block → map view es ≡ map view inside.entries ++ view e ∷ [] → ms ≡ ns → fs ≡ es → b ≡ is_some block
         → (IsFalse b → after ≡ replaced (last_put (record { blocks = ms; entries = map view fs }) 1) before)
         → (IsTrue b → after ≡ replaced (last_put (record { blocks = ms; entries = map view fs }) 1) (replaced (last_put (record { blocks = ms; entries = map view fs }) 2) before))
         → PutsChain words (viewed view old) (viewed view (record { blocks = ns; entries = es })) before after
@@ -91,7 +91,7 @@ module _ {E K V : Type 0} {R : K → K → Ordering} (o : IsTotalOrder R) (IsEnt
         made x = record { blocks = inside.blocks ++ option_to_list x; entries = map view inside.entries ++ view e ∷ [] }
 
         now : (x : Option ℕ) → block ≡ x → made x ≡ viewed view (record { blocks = ns; entries = es })
-        now x at = λ j. record { blocks = (ap (λ y. inside.blocks ++ option_to_list y) (sym at) ∙ sym blocks_are) j; entries = (sym (map_push view inside.entries e) ∙ ap (map view) (sym entries_are)) j }
+        now x at = λ j. record { blocks = (ap (λ y. inside.blocks ++ option_to_list y) (sym at) ∙ sym blocks_are) j; entries = sym entries_are j }
 
         slices : viewed view (record { blocks = ms; entries = fs }) ≡ viewed view (record { blocks = ns; entries = es })
         slices = λ j. record { blocks = same_blocks j; entries = map view (same_entries j) }
@@ -149,10 +149,7 @@ module _ {E K V : Type 0} {R : K → K → Ordering} (o : IsTotalOrder R) (IsEnt
         → from_entries {R = R} (map view new.entries) ≡ insert (remove (from_entries (map view old.entries)) k) (view e).0 (view e).1
     renamed_map exact alone sound = ap from_entries seen ∙ map_renamed o exact (map view old.entries) i k v (view e) sound.each_once at alone
 
-  module _ (old new : ChainState E) (e : E) (block : Option ℕ) (done : new ≡ record { blocks = old.blocks ++ option_to_list block; entries = old.entries ++ e ∷ [] }) (none : find R (view e).0 (map view old.entries) ≡ None) where
-    more : map view new.entries ≡ map view old.entries ++ view e ∷ []
-    more = ap (λ (s : ChainState E). map view s.entries) done ∙ map_push view old.entries e
-
+  module _ (old new : ChainState E) (e : E) (more : map view new.entries ≡ map view old.entries ++ view e ∷ []) (none : find R (view e).0 (map view old.entries) ≡ None) where
     pub appended_items : map view new.entries ≡ inserted R (map view old.entries) (view e)
     appended_items = more ∙ sym (inserted_new o (map view old.entries) (view e) none)
 

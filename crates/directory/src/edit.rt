@@ -103,7 +103,7 @@ impl<E: Entry> Chain<E> {
     }
 
     /// Puts an entry whose key stands nowhere else in the place of another.
-    fn replace(&mut self, i: usize, entry: E, set: &mut ChangeSet)
+    pub(crate) fn replace(&mut self, i: usize, entry: E, set: &mut ChangeSet)
         requires within { i < length self.old.entries }
         requires alone { find E.order (E.view entry).0 (take i (map E.view self.old.entries) ++ drop (suc i) (map E.view self.old.entries)) ≡ None }
         requires room { length set.old < most_puts }
@@ -131,7 +131,8 @@ impl<E: Entry> Chain<E> {
         requires absent { find E.order (E.view entry).0 (map E.view self.old.entries) ≡ None }
         requires block { MatchOption block (length self.old.entries ≡ 42 * length self.old.blocks → ⊥) (λ n. (length self.old.entries ≡ 42 * length self.old.blocks) × (times n self.old.blocks ≡ 0)) }
         requires room { length set.old + 2 ≤ most_puts }
-        ensures done { OnOk result (self.new ≡ record { blocks = self.old.blocks ++ option_to_list block; entries = self.old.entries ++ entry ∷ [] }) }
+        ensures entries { OnOk result (map E.view self.new.entries ≡ map E.view self.old.entries ++ E.view entry ∷ []) }
+        ensures blocks { OnOk result (self.new.blocks ≡ self.old.blocks ++ option_to_list block) }
         ensures put { PutsChain E.words_of (viewed E.view self.old) (viewed E.view self.new) set.old set.new }
         ensures few { length set.new ≤ length set.old + 2 }
         ensures err { IfErr result (λ error. error ≡ NoMemory) }
@@ -177,7 +178,7 @@ fn put_hole<E: Entry>(blocks: &[u32], entries: &[E], k: usize, set: &mut ChangeS
 /// # Errors
 ///
 /// `NoMemory` where one of them finds none; nothing changes then.
-fn push_entry<E: Entry>(
+pub(crate) fn push_entry<E: Entry>(
     blocks: &mut Vec<u32>,
     entries: &mut Vec<E>,
     block: Option<u32>,
@@ -203,7 +204,7 @@ fn push_entry<E: Entry>(
 }
 
 /// Puts the last block of a chain, and before it the block that has come to name it, where it is new.
-fn put_end<E: Entry>(blocks: &[u32], entries: &[E], is_new: bool, set: &mut ChangeSet)
+pub(crate) fn put_end<E: Entry>(blocks: &[u32], entries: &[E], is_new: bool, set: &mut ChangeSet)
     requires begun { 42 * length blocks.now ≤ length entries.now + 42 }
     requires some { 0 < length blocks.now }
     requires two { IsTrue is_new → 1 < length blocks.now }

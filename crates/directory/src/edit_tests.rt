@@ -11,7 +11,7 @@ use std::test::Fail;
 use words36::{Block, FileName, Half};
 
 /// The key of a file: the numbers of its name and its extension.
-fn name(name: u64, ext: u32) -> FileName {
+pub(crate) fn name(name: u64, ext: u32) -> FileName {
     FileName {
         name: word(name),
         ext: Half::new(ext).unwrap_or(Half::from_bits(0)),
@@ -20,7 +20,7 @@ fn name(name: u64, ext: u32) -> FileName {
 
 /// A chain of so many files in the blocks 20, 21 and 22. Their names are the numbers from 1 on, and their
 /// prime blocks are 100.
-fn chain_of(
+pub(crate) fn chain_of(
     rt: &impl Abort,
     alloc: Global,
     count: u64,
@@ -40,7 +40,7 @@ fn chain_of(
 }
 
 /// A block that isn't among these.
-fn fresh_block(rt: &impl Abort, blocks: &[u32]) -> u32
+pub(crate) fn fresh_block(rt: &impl Abort, blocks: &[u32]) -> u32
     ensures { times result blocks.now ≡ 0 }
 {
     if blocks == [20].as_slice() {
@@ -81,7 +81,7 @@ fn remove(
 }
 
 /// Whether there is a put of these words for a block.
-fn is_put(set: &ChangeSet, n: u32, words: &Block) -> bool {
+pub(crate) fn is_put(set: &ChangeSet, n: u32, words: &Block) -> bool {
     set.puts()
         .iter()
         .any(|put| put.block == n && put.words == *words)

@@ -1,23 +1,33 @@
 -- What the monitor answers to an event is what the machine does.
-use Rattle.std.proofs.Common.{◌≡◌, ◌<◌, ◌+◌, ℕ, Bool, true, false, List, [], ◌∷◌, ◌++◌, Option, Some, refl, sym, ap, subst, ◌∙◌, ◌⊎◌, inl, inr, arith}
+use Rattle.std.proofs.Common.{◌≡◌, ◌<◌, ◌≤◌, ◌+◌, ℕ, Bool, true, false, nat_lt, List, [], ◌∷◌, ◌++◌, Option, None, Some, refl, sym, ap, subst, ◌∙◌, ◌⊎◌, inl, inr, arith}
 use Rattle.std.proofs.lemmas.Bool.Decides.{nat_tests}
-use Rattle.std.specs.Prelude.{◌==◌, slice_set}
+use Rattle.std.specs.Prelude.{◌==◌, if◌then◌else◌, option_map, slice_set, slice_index_or}
+use Rattle.words36.specs.declared.moment.Moment.{Moment}
 use Rattle.blockdisk.specs.Disk.{DiskState}
+use Rattle.meaning.specs.Files.{Files}
 use Rattle.meaning.specs.Maps.{total}
 use Rattle.meaning.specs.Published.{Version}
-use Rattle.meaning.specs.Jobs.{Job, State, with_job}
+use Rattle.meaning.specs.Jobs as machine
+use Rattle.meaning.specs.Jobs.{State, slot, job_at, with_job}
 use Rattle.meaning.specs.Room.{Pack, current, held, has_serial}
-use Rattle.meaning.specs.Runs.{Service, Serving, Broken, Answers, IsFresh, Steps, is_plain}
+use Rattle.meaning.specs.Runs.{Service, Serving, Broken, Answers, IsFresh, Steps, is_plain, takes_memory}
 use Rattle.meaning.specs.Outcomes.{settled}
-use Rattle.meaning.specs.Sessions.{login_answer, new_job}
-use Rattle.meaning.specs.Step.{step}
+use Rattle.meaning.specs.Sessions.{login_answer}
+use Rattle.meaning.specs.Sound.{IsSound}
+use Rattle.meaning.specs.Step.{step, call_of, on_job}
+use Rattle.meaning.specs.declared.call.Call.{Call}
 use Rattle.meaning.specs.declared.call.Event.{Event}
-use Rattle.meaning.specs.declared.call.Event.TheVariants.{Login}
+use Rattle.meaning.specs.declared.call.Event.TheVariants.{Login, Call as Calls}
 use Rattle.meaning.specs.declared.call.Reply.{Reply}
 use Rattle.meaning.specs.declared.call.Reply.TheVariants.{Done, Value, Refused, Stopped, NoChannel, AddressCheck, NoJob, NoMemory, Device, Failed, DateRange}
-use Rattle.std.specs.List.{AllByRecursion}
-use Rattle.monitor.specs.Serving.{IsClosed, IsState, Serves}
-use Rattle.monitor.proofs.Rooms.{still_closed}
+use Rattle.meaning.proofs.SoundEvents.{sound_step}
+use Rattle.volume.specs.Live.{VolumeCore, held_cost}
+use Rattle.monitor.specs.Dropping.{Drops}
+use Rattle.monitor.specs.Serving.{pack_of, IsState, Serves, AreKeyed}
+use Rattle.monitor.specs.Sides.{Writing, job_of, jobs_of, state_of, new_job}
+use Rattle.monitor.specs.declared.job.Job.{Job}
+use Rattle.monitor.proofs.Dropped.{drops_none}
+use Rattle.monitor.proofs.SideLists.{map-set, slot-map}
 
 -- There is always a serial that no version has: the sum of all and one more.
 
@@ -31,17 +41,17 @@ none_has : (vs : List Version) (k : ℕ) → summed vs < k → has_serial k vs �
 none_has [] k less = refl
 none_has (v ∷ vs) k less = cc (differs v.serial k (omega (arith, less)), none_has vs k (omega (arith, less)))
 
-abbrev next_serial : State → ℕ
+abbrev pub next_serial : State → ℕ
 next_serial s = summed (current s ++ held s) + 1
 
-is_fresh : (s : State) → IsFresh s (next_serial s)
+pub is_fresh : (s : State) → IsFresh s (next_serial s)
 is_fresh s = none_has (current s ++ held s) (next_serial s) (omega arith)
 
 -- An event that chooses no serial.
 pub steps_on : (pack : Pack) (s : State) (event : Event) (reply : Reply) (after : State) → ((serial : ℕ) → step pack serial s event ≡ (reply, after)) → Steps pack s event reply after
 steps_on pack s event reply after steps = (next_serial s, is_fresh s, steps (next_serial s))
 
-is_done : (reply : Reply) → (reply ≡ Done) ⊎ (reply ≡ Done → ⊥)
+pub is_done : (reply : Reply) → (reply ≡ Done) ⊎ (reply ≡ Done → ⊥)
 is_done Done = inl refl
 is_done (Value word) = inr (λ e. cc e)
 is_done (Refused code) = inr (λ e. cc e)
@@ -68,64 +78,169 @@ settled_other Device done other not_done = refl
 settled_other Failed done other not_done = refl
 settled_other DateRange done other not_done = refl
 
+pub settled_with : {A : Type 0} (reply : Reply) (done : A) (other : Reply → A) → (reply ≡ Done → ⊥) → settled reply done other ≡ (reply, other reply)
+settled_with Done done other not_done = absurd (not_done refl)
+settled_with (Value word) done other not_done = refl
+settled_with (Refused code) done other not_done = refl
+settled_with (Stopped status) done other not_done = refl
+settled_with NoChannel done other not_done = refl
+settled_with AddressCheck done other not_done = refl
+settled_with NoJob done other not_done = refl
+settled_with NoMemory done other not_done = refl
+settled_with Device done other not_done = refl
+settled_with Failed done other not_done = refl
+settled_with DateRange done other not_done = refl
+
+pub settled_reply : {A : Type 0} (reply : Reply) (done : A) (other : Reply → A) → (settled reply done other).0 ≡ reply
+settled_reply Done done other = refl
+settled_reply (Value word) done other = refl
+settled_reply (Refused code) done other = refl
+settled_reply (Stopped status) done other = refl
+settled_reply NoChannel done other = refl
+settled_reply AddressCheck done other = refl
+settled_reply NoJob done other = refl
+settled_reply NoMemory done other = refl
+settled_reply Device done other = refl
+settled_reply Failed done other = refl
+settled_reply DateRange done other = refl
+
+pub contrary : {b : Bool} → b ≡ false → b ≡ true → ⊥
+contrary not is = cc (not, is)
+
+-- A service that serves is in a state.
+pub in_state : (d : DiskState) (map : VolumeCore) (failed : Bool) (jobs : List (Option Job)) (P : Service → Type 0) → failed ≡ false → ((s : State) → IsState d map jobs s → P (Serving s))
+    → (service : Service) → Serves d map failed jobs service → P service
+in_state d map failed jobs P serves by Broken broken = absurd (contrary serves broken)
+in_state d map failed jobs P serves by (Serving s) state = by s state.1
+
+-- the state, by what the jobs stand for
+pub state_is : (s : State) (w : ℕ → Writing) (jobs : List (Option Job)) → s.jobs ≡ jobs_of w jobs → s ≡ state_of s.files w jobs
+state_is s w jobs is = λ i. record s { jobs = is i }
+
+-- An event that leaves the disk and the files as they were, and drops at most what was being written.
+module _ (d : DiskState) (map map' : VolumeCore) (failed : Bool) (jobs jobs' : List (Option Job)) (keyed : AreKeyed map'.pending jobs') (dropped : (keys : List ℕ) × Drops map map' keys) where
+  pub same_files : (s : State) (state : IsState d map jobs s) → IsSound (state_of s.files state.written jobs') → IsState d map' jobs' (state_of s.files state.written jobs')
+  same_files s state sound = record {
+    files = state.files;
+    serials = state.serials;
+    written = state.written;
+    versions = λ key p at. state.versions key p (dropped.1.stay key p at);
+    absent = λ key p at new. state.absent key p (dropped.1.stay key p at) new;
+    keyed = keyed;
+    jobs_are = refl;
+    unread = λ key v at. state.unread key v (sym (ap (λ vs. slice_index_or vs key None) dropped.1.live) ∙ at);
+    unheld = ap (total held_cost) dropped.1.live ∙ state.unheld;
+    sound = sound;
+  }
+
+  -- it answers as the machine's row does, whatever is being written
+  pub row : (pack : Pack) (event : Event) (reply : Reply) → ((serial : ℕ) (files : Files Version) (w : ℕ → Writing) → step pack serial (state_of files w jobs) event ≡ (reply, state_of files w jobs'))
+      → failed ≡ false → (old : Service) → Serves d map failed jobs old → (new : Service) × Serves d map' failed jobs' new × Answers pack old event reply new
+  row pack event reply by serves = in_state d map failed jobs (λ old. (new : Service) × Serves d map' failed jobs' new × Answers pack old event reply new) serves (λ s state.
+      let after = state_of s.files state.written jobs' in
+      let steps : (serial : ℕ) → step pack serial s event ≡ (reply, after) = λ serial. subst (λ t. step pack serial t event ≡ (reply, after)) (sym (state_is s state.written jobs state.jobs_are)) (by serial s.files state.written) in
+      let sound = subst (λ (r : Reply × State). IsSound r.1) (steps (next_serial s)) (sound_step pack (next_serial s) s event (is_fresh s) state.sound) in
+      (Serving after, (serves, same_files s state sound), inl (steps_on pack s event reply after steps)))
+
+-- An event that goes on to a state that the monitor stands for after it.
+pub goes_on : (d : DiskState) (map' : VolumeCore) (failed : Bool) (jobs' : List (Option Job)) (pack : Pack) (event : Event) (reply : Reply) (s after : State) → failed ≡ false → IsSound s → ((serial : ℕ) → step pack serial s event ≡ (reply, after))
+    → (IsSound after → IsState d map' jobs' after) → (new : Service) × Serves d map' failed jobs' new × Answers pack (Serving s) event reply new
+goes_on d map' failed jobs' pack event reply s after serves sound steps state =
+    let still = subst (λ (r : Reply × State). IsSound r.1) (steps (next_serial s)) (sound_step pack (next_serial s) s event (is_fresh s) sound) in
+    (Serving after, (serves, state still), inl (steps_on pack s event reply after steps))
+
+-- An event that finds no memory leaves all as it was.
+pub wanting : (d : DiskState) (map : VolumeCore) (failed : Bool) (jobs : List (Option Job)) (pack : Pack) (event : Event) (reply : Reply) → failed ≡ false → reply ≡ NoMemory
+    → ((s : State) → is_plain ((step pack 0 s event).0) ≡ false) → ((s : State) → takes_memory s event ≡ true)
+    → (old : Service) → Serves d map failed jobs old → (new : Service) × Serves d map failed jobs new × Answers pack old event reply new
+wanting d map failed jobs pack event reply serves none plain takes =
+    in_state d map failed jobs (λ old. (new : Service) × Serves d map failed jobs new × Answers pack old event reply new) serves (λ s state. (Serving s, (serves, state), inr (none, refl, plain s, takes s)))
+
+-- Calls.
+
+after : (a b : ℕ) → a < b → nat_lt a b ≡ true
+after a b less = grind (arith, nat_tests)
+
+not_after : (a b : ℕ) → b ≤ a → nat_lt a b ≡ false
+not_after a b less = grind (arith, nat_tests)
+
+pub slot_of : (w : ℕ → Writing) (jobs : List (Option Job)) (n : ℕ) (o : Option Job) → slot jobs n ≡ o → slot (jobs_of w jobs) n ≡ option_map (job_of w) o
+slot_of w jobs n o is = slot-map (job_of w) jobs n ∙ ap (option_map (job_of w)) is
+
+-- a job's new record, as the machine has it
+pub job_set : (files : Files Version) (w : ℕ → Writing) (jobs : List (Option Job)) (n : ℕ) (job : Job) → with_job (state_of files w jobs) n (job_of w job) ≡ state_of files w (slice_set jobs n (Some job))
+job_set files w jobs n job = ap (λ js. record { files = files; jobs = js }) (sym (map-set (option_map (job_of w)) jobs n (Some job)))
+
+module _ (d : DiskState) (jobs : List (Option Job)) (n : ℕ) (call : Call) (moment : Moment) (serial : ℕ) (files : Files Version) (w : ℕ → Writing) where
+  abbrev before : State
+  before = state_of files w jobs
+
+  pub late : 4095 < moment.date → step (pack_of d) serial before (Calls n call moment) ≡ (DateRange, before)
+  late past = ap (λ b. if b then (DateRange, before) else on_job before (job_at before n) (λ job. call_of (pack_of d) serial before n job call moment)) (after 4095 moment.date past)
+
+  asked : moment.date ≤ 4095 → (o : Option Job) → slot jobs n ≡ o
+      → step (pack_of d) serial before (Calls n call moment) ≡ on_job before (option_map (job_of w) o) (λ job. call_of (pack_of d) serial before n job call moment)
+  asked timely o is =
+      ap (λ b. if b then (DateRange, before) else on_job before (job_at before n) (λ job. call_of (pack_of d) serial before n job call moment)) (not_after 4095 moment.date timely)
+      ∙ ap (λ o. on_job before o (λ job. call_of (pack_of d) serial before n job call moment)) (slot_of w jobs n o is)
+
+  pub no_job : moment.date ≤ 4095 → slot jobs n ≡ None → step (pack_of d) serial before (Calls n call moment) ≡ (NoJob, before)
+  no_job timely none = asked timely None none
+
+  pub called : moment.date ≤ 4095 → (job : Job) → slot jobs n ≡ Some job → step (pack_of d) serial before (Calls n call moment) ≡ call_of (pack_of d) serial before n (job_of w job) call moment
+  called timely job there = asked timely (Some job) there
+
 -- Logging in.
-module _ (pack : Pack) (d : DiskState) (failed : Bool) (jobs jobs' : List (Option Job)) (n ppn words : ℕ) where
-  abbrev Leads : Service → Reply → Type 0
-  Leads old reply = (new : Service) × Serves d failed jobs' new × Answers pack old (Login n ppn words) reply new
 
-  done : (s : State) → failed ≡ false → IsState d jobs s → login_answer n words ≡ Done → jobs' ≡ slice_set jobs n (Some (new_job ppn words)) → Leads (Serving s) Done
-  done s serves state answer set = (
-    Serving (with_job s n (new_job ppn words)),
-    (
-      serves,
-      record {
-        files = state.files;
-        serials = state.serials;
-        jobs_are = ap (λ slots. slice_set slots n (Some (new_job ppn words))) state.jobs_are ∙ sym set;
-        closed = subst (AllByRecursion IsClosed) (sym set) (still_closed jobs n (Some (new_job ppn words)) state.closed refl);
-      },
-    ),
-    inl (steps_on pack s (Login n ppn words) Done (with_job s n (new_job ppn words))
-        (λ serial. ap (λ reply. settled reply (with_job s n (new_job ppn words)) (λ r. s)) answer)),
-  )
+login_done : (pack : Pack) (jobs jobs' : List (Option Job)) (n ppn words : ℕ) → login_answer n words ≡ Done → jobs' ≡ slice_set jobs n (Some (new_job ppn words))
+    → (serial : ℕ) (files : Files Version) (w : ℕ → Writing) → step pack serial (state_of files w jobs) (Login n ppn words) ≡ (Done, state_of files w jobs')
+login_done pack jobs jobs' n ppn words answer set serial files w =
+    ap (λ r. settled r (with_job (state_of files w jobs) n (job_of w (new_job ppn words))) (λ x. state_of files w jobs)) answer
+    ∙ ap (λ s. (Done, s)) (job_set files w jobs n (new_job ppn words) ∙ ap (state_of files w) (sym set))
 
-  same : (s : State) → IsState d jobs s → jobs' ≡ jobs → IsState d jobs' s
-  same s state kept = record { files = state.files; serials = state.serials; jobs_are = state.jobs_are ∙ sym kept; closed = subst (AllByRecursion IsClosed) (sym kept) state.closed }
+login_refused : (pack : Pack) (jobs : List (Option Job)) (n ppn words : ℕ) (reply : Reply) → reply ≡ login_answer n words → (reply ≡ Done → ⊥)
+    → (serial : ℕ) (files : Files Version) (w : ℕ → Writing) → step pack serial (state_of files w jobs) (Login n ppn words) ≡ (reply, state_of files w jobs)
+login_refused pack jobs n ppn words reply answer not_done serial files w =
+    ap (λ r. settled r (with_job (state_of files w jobs) n (job_of w (new_job ppn words))) (λ x. state_of files w jobs)) (sym answer)
+    ∙ settled_other reply (with_job (state_of files w jobs) n (job_of w (new_job ppn words))) (state_of files w jobs) not_done
 
-  refused : (s : State) (reply : Reply) → failed ≡ false → IsState d jobs s → reply ≡ login_answer n words → (reply ≡ Done → ⊥) → jobs' ≡ jobs → Leads (Serving s) reply
-  refused s reply serves state answer not_done kept = (
-    Serving s,
-    (serves, same s state kept),
-    inl (steps_on pack s (Login n ppn words) reply s
-        (λ serial. ap (λ r. settled r (with_job s n (new_job ppn words)) (λ x. s)) (sym answer) ∙ settled_other reply (with_job s n (new_job ppn words)) s not_done)),
-  )
+module _ (pack : Pack) (d : DiskState) (map map' : VolumeCore) (failed : Bool) (jobs jobs' : List (Option Job)) (n ppn words : ℕ) where
+  abbrev Leads : Reply → Service → Type 0
+  Leads reply old = (new : Service) × Serves d map' failed jobs' new × Answers pack old (Login n ppn words) reply new
 
-  wanting : (s : State) (reply : Reply) → failed ≡ false → IsState d jobs s → reply ≡ NoMemory → login_answer n words ≡ Done → jobs' ≡ jobs → Leads (Serving s) reply
-  wanting s reply serves state none answer kept = (
-    Serving s,
-    (serves, same s state kept),
-    inr (none, refl, ap (λ r. is_plain (settled r (with_job s n (new_job ppn words)) (λ x. s)).0) answer, refl),
-  )
+  -- where nothing is changed
+  kept : (reply : Reply) → (jobs' ≡ jobs) × (map' ≡ map) → ((old : Service) → Serves d map failed jobs old → (new : Service) × Serves d map failed jobs new × Answers pack old (Login n ppn words) reply new)
+      → (old : Service) → Serves d map failed jobs old → Leads reply old
+  kept reply same leads old state =
+      let led = leads old state in
+      (led.0, subst (λ js. Serves d map' failed js led.0) (sym same.0) (subst (λ m. Serves d m failed jobs led.0) (sym same.1) led.1), led.2)
 
-  pub login_answered : (reply : Reply) → failed ≡ false → (reply ≡ login_answer n words) ⊎ ((reply ≡ NoMemory) × (login_answer n words ≡ Done))
-      → (reply ≡ Done → jobs' ≡ slice_set jobs n (Some (new_job ppn words))) → ((reply ≡ Done → ⊥) → jobs' ≡ jobs) → (old : Service) → Serves d failed jobs old → Leads old reply
-  login_answered reply serves answer set kept Broken broken = absurd (wrong failed serves broken)
+  pub login_answered : (reply : Reply) → failed ≡ false → AreKeyed map.pending jobs → AreKeyed map'.pending jobs' → (keys : List ℕ) × Drops map map' keys
+      → (reply ≡ login_answer n words) ⊎ ((reply ≡ NoMemory) × (login_answer n words ≡ Done))
+      → (reply ≡ Done → jobs' ≡ slice_set jobs n (Some (new_job ppn words))) → ((reply ≡ Done → ⊥) → (jobs' ≡ jobs) × (map' ≡ map)) → (old : Service) → Serves d map failed jobs old → Leads reply old
+  login_answered reply serves keyed keyed' dropped (inl answer) set same = by_reply (is_done reply)
     where
-      wrong : (b : Bool) → b ≡ false → b ≡ true → ⊥
-      wrong b not is = cc (not, is)
-  login_answered reply serves (inl answer) set kept (Serving s) state = by_reply reply (is_done reply) answer set kept
+      by_reply : (reply ≡ Done) ⊎ (reply ≡ Done → ⊥) → (old : Service) → Serves d map failed jobs old → Leads reply old
+      by_reply (inl is) =
+          subst (λ r. (old : Service) → Serves d map failed jobs old → Leads r old) (sym is)
+          (row d map map' failed jobs jobs' keyed' dropped pack (Login n ppn words) Done (login_done pack jobs jobs' n ppn words (sym answer ∙ is) (set is)) serves)
+      by_reply (inr not_done) =
+          kept reply (same not_done) (row d map map failed jobs jobs keyed ([], drops_none map) pack (Login n ppn words) reply (login_refused pack jobs n ppn words reply answer not_done) serves)
+  login_answered reply serves keyed keyed' dropped (inr wants) set same =
+      kept reply (same (λ e. cc (e, wants.0))) (wanting d map failed jobs pack (Login n ppn words) reply serves wants.0
+      (λ s. ap (λ r. is_plain (settled r (with_job s n (machine_job ppn words)) (λ x. s)).0) wants.1) (λ s. refl))
     where
-      by_reply : (reply : Reply) → (reply ≡ Done) ⊎ (reply ≡ Done → ⊥) → reply ≡ login_answer n words → (reply ≡ Done → jobs' ≡ slice_set jobs n (Some (new_job ppn words)))
-          → ((reply ≡ Done → ⊥) → jobs' ≡ jobs) → Leads (Serving s) reply
-      by_reply reply (inl is) answer set kept = subst (λ r. Leads (Serving s) r) (sym is) (done s serves state.1 (sym answer ∙ is) (set is))
-      by_reply reply (inr not_done) answer set kept = refused s reply serves state.1 answer not_done (kept not_done)
-  login_answered reply serves (inr wants) set kept (Serving s) state = wanting s reply serves state.1 wants.0 wants.1 (kept (λ e. cc (e, wants.0)))
+      machine_job : ℕ → ℕ → machine.Job
+      machine_job ppn words = job_of (λ key. record { place = record { ppn = 0; name = record { name = 0; ext = 0 } }; file = record { protection = 0; mode = 0; time = 0; date = 0; body = [] } }) (new_job ppn words)
 
 -- A service that has failed.
-pub failed_answered : (pack : Pack) (d : DiskState) (failed : Bool) (jobs : List (Option Job)) (event : Event) → failed ≡ true → (old : Service) → Serves d failed jobs old
-    → (new : Service) × Serves d failed jobs new × Answers pack old event Failed new
-failed_answered pack d failed jobs event broken Broken was = (Broken, was, refl)
-failed_answered pack d failed jobs event broken (Serving s) state = absurd (wrong failed broken state.0)
-  where
-    wrong : (b : Bool) → b ≡ true → b ≡ false → ⊥
-    wrong b is not = cc (is, not)
+pub failed_answered : (pack : Pack) (d : DiskState) (map : VolumeCore) (failed : Bool) (jobs : List (Option Job)) (event : Event) → failed ≡ true → (old : Service) → Serves d map failed jobs old
+    → (new : Service) × Serves d map failed jobs new × Answers pack old event Failed new
+failed_answered pack d map failed jobs event broken Broken was = (Broken, was, refl)
+failed_answered pack d map failed jobs event broken (Serving s) state = absurd (contrary state.0 broken)
+
+-- The disk is the one that it was.
+pub on_disk : {D : Type 0} (state : D → DiskState) (old new : D) (failed failed' : Bool) (map : VolumeCore) (jobs : List (Option Job)) (A : Service → Type 0) → (new ≡ old) × (failed' ≡ failed)
+    → (after : Service) × Serves (state old) map failed jobs after × A after → (after : Service) × Serves (state new) map failed' jobs after × A after
+on_disk state old new failed failed' map jobs A same led =
+    (led.0, subst (λ disk. Serves (state disk) map failed' jobs led.0) (sym same.0) (subst (λ b. Serves (state old) map b jobs led.0) (sym same.1) led.1), led.2)

@@ -1,15 +1,14 @@
 -- What the monitor lists is what the machine lists.
-use Rattle.std.proofs.Common.{◌≡◌, ℕ, Bool, true, false, List, [], ◌∷◌, map, Option, Some, None, Result, Ok, Err, refl, sym, ap, ◌∙◌, ◌⊎◌, inr}
+use Rattle.std.proofs.Common.{◌≡◌, ℕ, true, false, List, [], ◌∷◌, map, Option, Some, None, Result, Ok, Err, refl, sym, ap, ◌∙◌, ◌⊎◌, inr}
 use Rattle.std.specs.Prelude.{if◌then◌else◌, option_map}
 use Rattle.std.specs.Cmp.{nat_cmp_total}
 use Rattle.words36.specs.declared.names.FileName.{FileName}
-use Rattle.blockdisk.specs.Disk.{DiskState}
 use Rattle.meaning.specs.Maps.{get, entries}
 use Rattle.meaning.specs.Files.{File, Directory, map_directory}
 use Rattle.meaning.specs.Published.{Version, without_serials}
 use Rattle.meaning.specs.Jobs.{Job, State, slot}
 use Rattle.meaning.specs.Rights.{directory_digit, may_look}
-use Rattle.meaning.specs.Runs.{Service, Serving, Broken, IsNoJob}
+use Rattle.meaning.specs.Runs.{IsNoJob}
 use Rattle.meaning.specs.Sessions.{entry, list, list_for, listed}
 use Rattle.meaning.specs.declared.entry.Entry.{Entry}
 use Rattle.meaning.specs.declared.code.ErrorCode.TheVariants.{NoDirectory}
@@ -21,23 +20,10 @@ use Rattle.volume.specs.Queries.{line, protection_answer, IsListRefusal}
 use Rattle.volume.specs.declared.error.CallError.{CallError}
 use Rattle.volume.specs.declared.error.CallError.TheVariants.{Refused, Device, NoMemory, Failed}
 use Rattle.monitor.specs.Lists.{reply_of}
-use Rattle.monitor.specs.Serving.{IsState, Serves}
-
--- A service that serves is in a state.
-pub in_state : (d : DiskState) (failed : Bool) (jobs : List (Option Job)) (P : Service → Type 0) → failed ≡ false → ((s : State) → IsState d jobs s → P (Serving s))
-    → (service : Service) → Serves d failed jobs service → P service
-in_state d failed jobs P serves by Broken broken = absurd (wrong failed serves broken)
-  where
-    wrong : (b : Bool) → b ≡ false → b ≡ true → ⊥
-    wrong b not is = cc (not, is)
-in_state d failed jobs P serves by (Serving s) state = by s state.1
 
 -- the one, or that memory was wanting
 abbrev IsAnswer : Result (List Entry) Reply → Result (List Entry) Reply → Type 0
 IsAnswer answer right = (answer ≡ right) ⊎ ((answer ≡ Err replies.NoMemory) × (IsNoJob right → ⊥))
-
-pub contrary : {b : Bool} → b ≡ false → b ≡ true → ⊥
-contrary not is = cc (not, is)
 
 lines_are : (es : List (FileName × Version)) → map line (map (λ e. (e.0, e.1.file)) es) ≡ map entry es
 lines_are [] = refl

@@ -1,43 +1,69 @@
--- What is booked while no channel is open: what the files cost, without their serials.
-use Rattle.std.proofs.Common.{◌≡◌, ℕ, zero, suc, ◌+◌, List, [], ◌∷◌, ◌++◌, length, flat_map, Option, Some, None, refl, ap, ◌∙◌, arith, append-nil}
-use Rattle.std.specs.Prelude.{replicate, slice_set, ◌==◌, ◌&&◌, if◌then◌else◌}
-use Rattle.std.specs.List.{AllByRecursion}
+-- What is booked: what the files cost, without their serials, and what is being written.
+use Rattle.std.proofs.Common.{◌≡◌, ℕ, ◌+◌, Bool, true, false, List, [], ◌∷◌, ◌++◌, length, map, flat_map, Option, Some, None, refl, sym, ap, ◌∙◌, arith, append-nil}
+use Rattle.std.specs.Prelude.{◌==◌, ◌&&◌, if◌then◌else◌, option_map, filter_map}
+use Rattle.std.specs.List.{cons_option}
 use Rattle.std.specs.Cmp.{nat_cmp_total}
+use Rattle.blockdisk.specs.Disk.{DiskState}
 use Rattle.meaning.specs.Maps.{entries, values, size, total, sum_over, sum_entries}
 use Rattle.meaning.specs.Files.{Files, Directory, map_directory}
-use Rattle.meaning.specs.Costs.{version_cost, directory_cost, cost_of_directory, cost_of_files}
+use Rattle.meaning.specs.Costs.{version_cost, cost_of_blocks, directory_cost, cost_of_directory, cost_of_files}
 use Rattle.meaning.specs.Published.{Version, without_serials}
-use Rattle.meaning.specs.Jobs.{Job, Output, State, is_create, no_jobs}
-use Rattle.meaning.specs.Room.{outputs_of, outputs, held_by, held, current, distinct_cost, booked}
+use Rattle.meaning.specs.Jobs as machine
+use Rattle.meaning.specs.Jobs.{State, is_create}
+use Rattle.meaning.specs.Room.{outputs_of, outputs, held_by, held, version_of, current, distinct_cost, pending_creations, pending_cost, booked}
+use Rattle.meaning.specs.Room as room
 use Rattle.meaning.specs.Runs.{AreDistinct}
 use Rattle.meaning.proofs.Names.{name_total}
 use Rattle.meaning.proofs.MapSums.{total-map, size-map_values, sum-map_values}
-use Rattle.monitor.specs.Serving.{IsClosed}
+use Rattle.volume.specs.Live.{VolumeCore, pending_at, creates, cost_beyond, IsWholePending, IsWholeCore}
+use Rattle.volume.specs.Live as live
+use Rattle.volume.specs.declared.pending.PendingVersion.{PendingVersion}
+use Rattle.volume.proofs.Answering.{Holds}
+use Rattle.monitor.specs.Serving.{IsSide, IsState}
+use Rattle.monitor.specs.Sides.{Writing, side_of, sides_in, sides, kind_of, output_of, channel_of, job_of, jobs_of}
+use Rattle.monitor.specs.declared.output.Output.{Output}
+use Rattle.monitor.specs.declared.channel.Channel.{Channel}
+use Rattle.monitor.specs.declared.job.Job.{Job}
+use Rattle.monitor.proofs.Growths.{growths_are}
+use Rattle.monitor.proofs.SideLists.{each-as}
+use Rattle.monitor.proofs.SideSums.{all_at, sum_sides}
 
--- No channel is open.
+-- The machine's output sides, and what it holds.
 
-held_none : (job : Option Job) → IsClosed job → held_by job ≡ []
-held_none None closed = refl
-held_none (Some job) closed = ap (λ channels. held_by (Some (record job { channels = channels }))) closed
+module _ (w : ℕ → Writing) where
+  cons_shown : (o : Option Output) (os : List Output) → cons_option (option_map (output_of w) o) (map (output_of w) os) ≡ map (output_of w) (cons_option o os)
+  cons_shown None os = refl
+  cons_shown (Some o) os = refl
 
-outputs_none : (job : Option Job) → IsClosed job → outputs_of job ≡ []
-outputs_none None closed = refl
-outputs_none (Some job) closed = ap (λ channels. outputs_of (Some (record job { channels = channels }))) closed
+  channel_sides : (cs : List (Option Channel)) → filter_map room.output_of (map (option_map (channel_of w)) cs) ≡ map (output_of w) (filter_map side_of cs)
+  channel_sides [] = refl
+  channel_sides (None ∷ cs) = channel_sides cs
+  channel_sides (Some c ∷ cs) = ap (cons_option (option_map (output_of w) c.output)) (channel_sides cs) ∙ cons_shown c.output (filter_map side_of cs)
 
-none_of : {X Y : Type 0} (f : X → List Y) (P : X → Type 0) → ((x : X) → P x → f x ≡ []) → (xs : List X) → AllByRecursion P xs → flat_map f xs ≡ []
-none_of f P none [] all = refl
-none_of f P none (x ∷ xs) all = ap (λ ys. ys ++ flat_map f xs) (none x all.0) ∙ none_of f P none xs all.1
+  job_sides : (o : Option Job) → outputs_of (option_map (job_of w) o) ≡ map (output_of w) (sides_in o)
+  job_sides None = refl
+  job_sides (Some job) = channel_sides job.channels
 
-pub nothing_held : (s : State) → AllByRecursion IsClosed s.jobs → held s ≡ []
-nothing_held s closed = none_of held_by IsClosed held_none s.jobs closed
+  map-append : {A B : Type 0} (f : A → B) (xs ys : List A) → map f (xs ++ ys) ≡ map f xs ++ map f ys
+  map-append f [] ys = refl
+  map-append f (x ∷ xs) ys = ap (λ zs. f x ∷ zs) (map-append f xs ys)
 
-pub nothing_written : (s : State) → AllByRecursion IsClosed s.jobs → outputs s ≡ []
-nothing_written s closed = none_of outputs_of IsClosed outputs_none s.jobs closed
+  pub sides_are : (jobs : List (Option Job)) → flat_map outputs_of (jobs_of w jobs) ≡ map (output_of w) (sides jobs)
+  sides_are [] = refl
+  sides_are (j ∷ jobs) = (λ i. job_sides j i ++ sides_are jobs i) ∙ sym (map-append (output_of w) (sides_in j) (sides jobs))
 
-pub still_closed : (jobs : List (Option Job)) (n : ℕ) (job : Option Job) → AllByRecursion IsClosed jobs → IsClosed job → AllByRecursion IsClosed (slice_set jobs n job)
-still_closed [] n job all closed = all
-still_closed (j ∷ jobs) zero job all closed = (closed, all.1)
-still_closed (j ∷ jobs) (suc n) job all closed = (all.0, still_closed jobs n job all.1 closed)
+  channel_holds : (cs : List (Option Channel)) → filter_map version_of (map (option_map (channel_of w)) cs) ≡ []
+  channel_holds [] = refl
+  channel_holds (None ∷ cs) = channel_holds cs
+  channel_holds (Some c ∷ cs) = channel_holds cs
+
+  job_holds : (o : Option Job) → held_by (option_map (job_of w) o) ≡ []
+  job_holds None = refl
+  job_holds (Some job) = channel_holds job.channels
+
+  pub nothing_held : (jobs : List (Option Job)) → flat_map held_by (jobs_of w jobs) ≡ []
+  nothing_held [] = refl
+  nothing_held (j ∷ jobs) = (λ i. job_holds j i ++ nothing_held jobs i)
 
 -- Versions with serials of their own cost what each costs.
 
@@ -76,7 +102,7 @@ shown d =
     let each = costs_in d in
     omega (arith, names, files, each)
 
-abbrev booked_of : Files Version → List Version → List Output → ℕ
+abbrev booked_of : Files Version → List Version → List machine.Output → ℕ
 booked_of files versions outs =
     (directory_cost (size files) + sum_entries (λ ppn d. directory_cost (size d.files + total (λ o. if is_create o.kind && (o.place.ppn == ppn) then 1 else 0) outs)) files)
     + distinct_cost (flat_map (λ d. values d.files) (values files) ++ versions) + total (λ o. version_cost (length o.pending.body)) outs
@@ -96,13 +122,42 @@ booked_alone files distinct =
     plain : (n : ℕ) → n + 0 ≡ n
     plain n = omega arith
 
-pub booked_rest : (s : State) → AllByRecursion IsClosed s.jobs → AreDistinct (current s) → booked s ≡ cost_of_files (without_serials s.files)
-booked_rest s closed distinct = ap (λ versions. booked_of s.files versions (outputs s)) (nothing_held s closed) ∙ ap (λ outs. booked_of s.files [] outs) (nothing_written s closed) ∙ booked_alone s.files distinct
+-- What is being written.
 
--- nobody is logged in
-all_none : (n : ℕ) → AllByRecursion IsClosed (replicate n None)
-all_none zero = tt
-all_none (suc n) = (tt, all_none n)
+abbrev one_if : Bool → ℕ
+one_if b = if b then 1 else 0
 
-pub none_open : AllByRecursion IsClosed no_jobs
-none_open = all_none 65
+module _ (d : DiskState) (map : VolumeCore) (jobs : List (Option Job)) (s : State) (state : IsState d map jobs s) where
+  -- the sum over output sides is the one over versions
+  pub sum_is : (f : machine.Output → ℕ) (g : Option PendingVersion → ℕ) → g None ≡ 0
+      → ((o : Output) (p : PendingVersion) → pending_at map.pending o.pending.key ≡ Some p → IsSide map.pending o → f (output_of state.written o) ≡ g (Some p)) → total f (outputs s) ≡ total g map.pending
+  sum_is f g none each =
+      ap (λ js. total f (flat_map outputs_of js)) state.jobs_are ∙ ap (total f) (sides_are state.written jobs) ∙ total-map f (output_of state.written) (sides jobs)
+      ∙ sum_sides g none (λ o. f (output_of state.written o)) (sides jobs) map.pending state.keyed.once
+      (each-as (IsSide map.pending) (λ o. (p : PendingVersion) → pending_at map.pending o.pending.key ≡ Some p → f (output_of state.written o) ≡ g (Some p)) (λ o side p at. each o p at side) (sides jobs) state.keyed.each)
+
+  pub creations_are : (ppn : ℕ) → pending_creations s ppn ≡ total (creates ppn) map.pending
+  creations_are ppn = sum_is (λ o. if is_create o.kind && (o.place.ppn == ppn) then 1 else 0) (creates ppn) refl
+      (λ o p at side. let place = ap (λ l. l.ppn) (state.versions o.pending.key p at).place in both (is_create (kind_of o.kind)) p.is_new ((state.written o.pending.key).place.ppn == ppn) (p.prime.ppn == ppn) (sym (side.kind p at)) (ap (λ n. n == ppn) place))
+    where
+      both : (a b x y : Bool) → a ≡ b → x ≡ y → one_if (a && x) ≡ (if b then one_if y else 0)
+      both true b x y e f = λ i. if e i then one_if (f i) else 0
+      both false b x y e f = ap (λ c. if c then one_if y else 0) e
+
+  pub costs_are : IsWholeCore d.size map → room.pending_cost s ≡ total live.pending_cost map.pending
+  costs_are whole = sum_is (λ o. version_cost (length o.pending.body)) live.pending_cost refl
+      (λ o p at side. ap version_cost (state.versions o.pending.key p at).words ∙ ap cost_of_blocks (sym (all_at (IsWholePending d.size) map.pending o.pending.key p whole.waiting at).whole.counted))
+
+  nothing : held s ≡ []
+  nothing = ap (flat_map held_by) state.jobs_are ∙ nothing_held state.written jobs
+
+  -- what is booked of the disk
+  pub booked_is : IsWholeCore d.size map → Holds d map.known (without_serials s.files) → booked s ≡ cost_of_files (without_serials s.files) + cost_beyond map
+  booked_is whole holds =
+      let alone = booked_alone s.files state.serials in
+      let costs = costs_are whole in
+      let grown = total_same (λ e. directory_cost (size e.1.files + pending_creations s e.0)) (λ e. directory_cost (size e.1.files + total (creates e.0) map.pending)) (λ e. ap (λ n. directory_cost (size e.1.files + n)) (creations_are e.0)) (entries s.files) in
+      let growth = growths_are d map.known s.files holds whole.map map.pending in
+      let held = ap (λ vs. distinct_cost (current s ++ vs)) nothing in
+      let unheld = state.unheld in
+      omega arith

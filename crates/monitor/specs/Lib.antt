@@ -1,5 +1,13 @@
 pub mod Replies
-pub mod Resets
+pub mod Sides
 pub mod States
 pub mod Serving
+pub mod Dropping
+pub mod Rows
+pub mod Finding
+pub mod Entering
+pub mod Calls
+pub mod Putting
+pub mod DirectoryRows
 pub mod Lists
+pub mod Publishing

@@ -1,6 +1,6 @@
 -- What events are answered with, whatever the disk does.
-use Rattle.std.specs.Prelude.{◌≡◌, ◌⊎◌, ℕ, nat_lt, if◌then◌else◌, Option, None, Some}
-use Rattle.meaning.specs.Jobs.{Job}
+use Rattle.std.specs.Prelude.{◌≡◌, ◌⊎◌, ℕ, nat_lt, if◌then◌else◌, length, Option, None, Some, slice_index}
+use Rattle.monitor.specs.declared.job.Job.{Job}
 use Rattle.meaning.specs.declared.call.Reply.{Reply}
 use Rattle.meaning.specs.declared.call.Reply.TheVariants.{Done, Value, Refused, Stopped, NoChannel, AddressCheck, NoJob, NoMemory, Device, Failed, DateRange}
 
@@ -26,3 +26,13 @@ reset_of (Some job) = Done
 -- the same at a date
 abbrev pub reset_answer : ℕ → Option Job → Reply
 reset_answer date job = if nat_lt 4095 date then DateRange else reset_of job
+
+-- a word that is put into the core of a job that there is, or of none
+abbrev pub deposit_of : ℕ → Option Job → Reply
+deposit_of address None = NoJob
+deposit_of address (Some job) = if nat_lt address (length job.core) then Done else AddressCheck
+
+-- a word of it that is asked for
+abbrev pub examine_of : ℕ → Option Job → Reply
+examine_of address None = NoJob
+examine_of address (Some job) = if nat_lt address (length job.core) then Value (slice_index job.core address) else AddressCheck

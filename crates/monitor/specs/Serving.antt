@@ -1,31 +1,81 @@
 -- How a monitor stands for a state of the file machine.
-use Rattle.std.specs.Prelude.{◌≡◌, Bool, true, false, List, Option, None, Some}
+use Rattle.std.specs.Prelude.{◌≡◌, ℕ, ◌<◌, Bool, true, false, List, length, Option, None, Some}
 use Rattle.std.specs.List.{AllByRecursion}
 use Rattle.blockdisk.specs.Disk.{DiskState}
-use Rattle.meaning.specs.Jobs.{Job, State, all_closed}
-use Rattle.meaning.specs.Published.{without_serials}
+use Rattle.meaning.specs.Jobs.{State, is_create}
+use Rattle.meaning.specs.Maps.{times, total}
+use Rattle.meaning.specs.Published.{file_at, without_serials}
+use Rattle.meaning.specs.Retrieval.{HasBody}
 use Rattle.meaning.specs.Room.{Pack, current}
 use Rattle.meaning.specs.Runs.{Service, Serving, Broken, AreDistinct}
+use Rattle.meaning.specs.Sound.{IsSound}
+use Rattle.meaning.specs.Stands.{place_of}
+use Rattle.retrieval.specs.Modes.{mode_number}
+use Rattle.volume.specs.Live.{VolumeCore, pending_at, held_cost}
+use Rattle.volume.specs.Live as live
+use Rattle.volume.specs.Publishing.{IsPlaced}
 use Rattle.volume.specs.Rest.{RestsAt}
+use Rattle.volume.specs.declared.live.LiveVersion.{LiveVersion}
+use Rattle.volume.specs.declared.pending.PendingVersion.{PendingVersion}
+use Rattle.monitor.specs.Sides.{Writing, kind_of, jobs_of, keys_of, sides}
+use Rattle.monitor.specs.declared.output.Output.{Output}
+use Rattle.monitor.specs.declared.job.Job.{Job}
 
 -- the disk of a monitor, in layout 1
 abbrev pub pack_of : DiskState → Pack
 pack_of d = record { layout = 1; blocks = d.size }
 
--- every channel of a job is closed
-abbrev pub IsClosed : Option Job → Type 0
-IsClosed None = Unit {0}
-IsClosed (Some job) = job.channels ≡ all_closed
+-- What core keeps, whatever the disk does.
 
--- Whatever a crash leaves of the disk stands for the files, each of which has a serial of its own; and these are the
--- jobs.
-pub record IsState (d : DiskState) (jobs : List (Option Job)) (s : State) : Type 0 where
+-- 1 where there is one
+abbrev pub present : Option PendingVersion → ℕ
+present None = 0
+present (Some p) = 1
+
+-- The block that an output side writes next is one of a file, and a file that it creates is new in its directory.
+pub record IsSide (pending : List (Option PendingVersion)) (o : Output) : Type 0 where
+  pub starts : 0 < o.next
+  pub kind : (p : PendingVersion) → pending_at pending o.pending.key ≡ Some p → p.is_new ≡ is_create (kind_of o.kind)
+
+-- Each version that is being written belongs to one output side, and each output side writes one.
+pub record AreKeyed (pending : List (Option PendingVersion)) (jobs : List (Option Job)) : Type 0 where
+  pub once : (key : ℕ) → times key (keys_of (sides jobs)) ≡ present (pending_at pending key)
+  pub each : AllByRecursion (IsSide pending) (sides jobs)
+
+-- A version that is being written may be published under its name, in its directory; and no other one has its place.
+pub record ArePlaced (c : VolumeCore) : Type 0 where
+  pub each : (key : ℕ) (p : PendingVersion) → pending_at c.pending key ≡ Some p → IsPlaced c p
+  pub single : (k key : ℕ) (p q : PendingVersion) → pending_at c.pending k ≡ Some p → pending_at c.pending key ≡ Some q → p.prime.ppn ≡ q.prime.ppn → p.prime.file ≡ q.prime.file → k ≡ key
+
+-- What the disk has of it.
+
+-- what is written is the version that the volume has
+pub record IsWriting (d : DiskState) (p : PendingVersion) (w : Writing) : Type 0 where
+  pub place : w.place ≡ place_of p.prime.ppn p.prime.file
+  pub protection : w.file.protection ≡ p.prime.protection
+  pub mode : w.file.mode ≡ mode_number p.prime.mode
+  pub time : w.file.time ≡ p.prime.moment.minute
+  pub date : w.file.date ≡ p.prime.moment.date
+  pub words : length w.file.body ≡ p.version.words
+  pub body : HasBody d.contents p.version.blocks w.file.body
+
+-- Whatever a crash leaves of the disk stands for the files, each of which has a serial of its own; and the jobs are
+-- these, where each output side writes what the volume writes under its key.
+pub record IsState (d : DiskState) (map : VolumeCore) (jobs : List (Option Job)) (s : State) : Type 0 where
   pub files : RestsAt d (without_serials s.files)
   pub serials : AreDistinct (current s)
-  pub jobs_are : s.jobs ≡ jobs
-  pub closed : AllByRecursion IsClosed jobs
+  pub written : ℕ → Writing
+  pub versions : (key : ℕ) (p : PendingVersion) → pending_at map.pending key ≡ Some p → IsWriting d p (written key)
+  -- a name that is being created is absent
+  pub absent : (key : ℕ) (p : PendingVersion) → pending_at map.pending key ≡ Some p → p.is_new ≡ true → file_at s.files (written key).place ≡ None
+  pub keyed : AreKeyed map.pending jobs
+  pub jobs_are : s.jobs ≡ jobs_of written jobs
+  -- nobody reads a version, and there is none but those that files have
+  pub unread : (key : ℕ) (v : LiveVersion) → live.slot map.live key ≡ Some v → v.readers ≡ 0
+  pub unheld : total held_cost map.live ≡ 0
+  pub sound : IsSound s
 
 -- What the service is that the monitor stands for: it serves from a state, or has failed.
-abbrev pub Serves : DiskState → Bool → List (Option Job) → Service → Type 0
-Serves d failed jobs (Serving s) = (failed ≡ false) × IsState d jobs s
-Serves d failed jobs Broken = failed ≡ true
+abbrev pub Serves : DiskState → VolumeCore → Bool → List (Option Job) → Service → Type 0
+Serves d map failed jobs (Serving s) = (failed ≡ false) × IsState d map jobs s
+Serves d map failed jobs Broken = failed ≡ true

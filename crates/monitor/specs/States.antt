@@ -1,6 +1,6 @@
 -- A monitor as a value: its disk, what it knows of it, whether it has failed, and the jobs.
 use Rattle.std.specs.Prelude.{Bool, List, Option}
-use Rattle.meaning.specs.Jobs.{Job}
+use Rattle.monitor.specs.declared.job.Job.{Job}
 use Rattle.volume.specs.Live.{VolumeCore}
 
 pub record MonitorState (D : Type 0) : Type 0 where

@@ -1,42 +1,89 @@
-ghost use Rattle.std.specs.Prelude.{◌≡◌, ◌⊎◌, ◌↔◌, ◌≤◌, true, false, Some, None, slice_set, slice_index, IsTrue};
-ghost use Rattle.meaning.specs.Jobs.{Job as JobRecord, slot};
+ghost use Rattle.std.specs.Prelude.{◌≡◌, ◌⊎◌, ◌↔◌, ℕ, List, true, false, Some, None, slice_set, IsTrue, IsFalse};
+ghost use Rattle.meaning.specs.Jobs.{slot};
 ghost use Rattle.meaning.specs.Runs.{Service, Answers};
-ghost use Rattle.meaning.specs.Sessions.{login_answer, new_job};
+ghost use Rattle.meaning.specs.Sessions.{login_answer};
 ghost use Rattle.meaning.specs.declared.call.Call.TheVariants.{Reset};
 ghost use Rattle.meaning.specs.declared.call.Event.TheVariants.{Login, Call as Calls};
 ghost use Rattle.meaning.specs.declared.call.Reply.TheVariants.{Done, Failed, NoMemory};
+ghost use Rattle.volume.specs.LiveCores.{core_of};
+ghost use Rattle.volume.specs.Rest.{IsSound};
+ghost use Rattle.monitor.specs.Dropping.{Drops};
 ghost use Rattle.monitor.specs.Replies.{reset_answer};
-ghost use Rattle.monitor.specs.Resets.{reset_job};
-ghost use Rattle.monitor.specs.Serving.{pack_of, Serves};
+ghost use Rattle.monitor.specs.Serving.{pack_of, Serves, AreKeyed, ArePlaced};
+ghost use Rattle.monitor.specs.Sides.{new_job, reset_job};
+ghost use Rattle.monitor.specs.declared.job.Job.{Job as JobRecord};
 
-use crate::job::{Job, Jobs, LARGEST_JOB};
+use crate::dropping::drop_job;
+use crate::job::{CHANNELS, Job, Jobs, LARGEST_JOB};
 use crate::monitor::Monitor;
 use blockdisk::Disk;
 use meaning::Reply;
 use std::alloc::Global;
 use usercore::{Core, CoreError};
+use volume::Volume;
 use words36::{Moment, Ppn};
 
 /// The last date that layout 1 holds: 4-Jan-75.
-const LAST_DATE: u32 = 4095;
+pub const LAST_DATE: u32 = 4095;
 
 /// Logs a job in, whoever had its number before.
-fn log_in(alloc: Global, jobs: &mut Jobs, number: u32, ppn: Ppn, words: u32) -> Reply
+fn log_in<D: Disk>(
+    alloc: Global,
+    volume: &mut Volume<D>,
+    jobs: &mut Jobs,
+    number: u32,
+    ppn: Ppn,
+    words: u32,
+) -> Reply
+    requires sound { IsSound (D.state volume.old.disk) (core_of volume.old.map) volume.old.failed }
+    requires keyed { AreKeyed (core_of volume.old.map).pending jobs.old }
+    requires placed { ArePlaced (core_of volume.old.map) }
+    ensures sound { IsSound (D.state volume.new.disk) (core_of volume.new.map) volume.new.failed }
+    ensures keyed { AreKeyed (core_of volume.new.map).pending jobs.new }
+    ensures placed { ArePlaced (core_of volume.new.map) }
+    ensures dropped { (keys : List ℕ) × Drops (core_of volume.old.map) (core_of volume.new.map) keys }
+    ensures untouched { (volume.new.disk ≡ volume.old.disk) × (volume.new.failed ≡ volume.old.failed) }
     ensures answered { (result ≡ login_answer number words) ⊎ ((result ≡ NoMemory) × (login_answer number words ≡ Done)) }
     ensures done { result ≡ Done → jobs.new ≡ slice_set jobs.old number (Some (new_job ppn words)) }
-    ensures kept { (result ≡ Done → ⊥) → jobs.new ≡ jobs.old }
+    ensures kept { (result ≡ Done → ⊥) → (jobs.new ≡ jobs.old) × (core_of volume.new.map ≡ core_of volume.old.map) }
 {
     if number == 0 || number > LARGEST_JOB {
         return Reply::NoJob;
     }
     match Core::new(alloc, words) {
         Ok(core) => {
-            jobs.log_in(number, Job { ppn, core });
+            drop_job(volume, jobs, number);
+            let job = Job {
+                ppn,
+                core,
+                channels: [None; CHANNELS],
+            };
+            jobs.put(number, job);
             Reply::Done
         }
         Err(CoreError::AddressCheck) => Reply::AddressCheck,
         Err(CoreError::NoMemory) => Reply::NoMemory,
     }
+}
+
+/// Resets the job of a number. Answers whether there is one.
+pub fn reset<D: Disk>(volume: &mut Volume<D>, jobs: &mut Jobs, number: u32) -> bool
+    requires sound { IsSound (D.state volume.old.disk) (core_of volume.old.map) volume.old.failed }
+    requires keyed { AreKeyed (core_of volume.old.map).pending jobs.old }
+    requires placed { ArePlaced (core_of volume.old.map) }
+    ensures sound { IsSound (D.state volume.new.disk) (core_of volume.new.map) volume.new.failed }
+    ensures keyed { AreKeyed (core_of volume.new.map).pending jobs.new }
+    ensures placed { ArePlaced (core_of volume.new.map) }
+    ensures dropped { (keys : List ℕ) × Drops (core_of volume.old.map) (core_of volume.new.map) keys }
+    ensures untouched { (volume.new.disk ≡ volume.old.disk) × (volume.new.failed ≡ volume.old.failed) }
+    ensures found { IsTrue result → (job : JobRecord) × (slot jobs.old number ≡ Some job) × (jobs.new ≡ slice_set jobs.old number (Some (reset_job job))) }
+    ensures none { IsFalse result → (slot jobs.old number ≡ None) × (jobs.new ≡ jobs.old) × (core_of volume.new.map ≡ core_of volume.old.map) }
+{
+    let Some(_there) = jobs.job(number) else {
+        return false;
+    };
+    drop_job(volume, jobs, number);
+    jobs.reset(number)
 }
 
 impl<D: Disk> Monitor<D> {
@@ -47,19 +94,19 @@ impl<D: Disk> Monitor<D> {
     /// The answer is `Done`; `NoJob` for another number; `AddressCheck` for another number of words; `NoMemory`
     /// where the core finds no room; or `Failed`. Where it isn't `Done` nothing is changed.
     pub fn login(&mut self, alloc: Global, job: u32, ppn: Ppn, words: u32) -> Reply
-        ensures answered { (old : Service) → Serves (D.state self.old.disk) self.old.failed self.old.jobs old
-            → (new : Service) × Serves (D.state self.new.disk) self.new.failed self.new.jobs new
+        ensures answered { (old : Service) → Serves (D.state self.old.disk) self.old.map self.old.failed self.old.jobs old
+            → (new : Service) × Serves (D.state self.new.disk) self.new.map self.new.failed self.new.jobs new
             × Answers (pack_of (D.state self.old.disk)) old (Login job ppn words) result new }
-        ensures kept { self.new ≡ record self.old { jobs = self.new.jobs } }
+        ensures kept { self.new ≡ record self.old { map = self.new.map; jobs = self.new.jobs } }
         ensures failed { result ≡ Failed ↔ IsTrue self.old.failed }
         ensures value { self.old.failed ≡ false → (result ≡ login_answer job words) ⊎ ((result ≡ NoMemory) × (login_answer job words ≡ Done)) }
         ensures done { result ≡ Done → self.new.jobs ≡ slice_set self.old.jobs job (Some (new_job ppn words)) }
-        ensures refused { (result ≡ Done → ⊥) → self.new.jobs ≡ self.old.jobs }
+        ensures refused { (result ≡ Done → ⊥) → (self.new.jobs ≡ self.old.jobs) × (self.new.map ≡ self.old.map) }
     {
         if self.volume.failed {
             return Reply::Failed;
         }
-        log_in(alloc, &mut self.jobs, job, ppn, words)
+        log_in(alloc, &mut self.volume, &mut self.jobs, job, ppn, words)
     }
 
     /// Resets a job, as the call RESET does: all its channels are closed, and the right half of word 121 (octal)
@@ -68,14 +115,14 @@ impl<D: Disk> Monitor<D> {
     /// The answer is `Done`; `DateRange` where the moment's date is above 4095, which layout 1 can't hold;
     /// `NoJob` where no job of that number is logged in; or `Failed`. It wants no memory and touches no disk.
     pub fn reset(&mut self, job: u32, moment: Moment) -> Reply
-        ensures answered { (old : Service) → Serves (D.state self.old.disk) self.old.failed self.old.jobs old
-            → (new : Service) × Serves (D.state self.new.disk) self.new.failed self.new.jobs new
+        ensures answered { (old : Service) → Serves (D.state self.old.disk) self.old.map self.old.failed self.old.jobs old
+            → (new : Service) × Serves (D.state self.new.disk) self.new.map self.new.failed self.new.jobs new
             × Answers (pack_of (D.state self.old.disk)) old (Calls job Reset moment) result new }
-        ensures kept { self.new ≡ record self.old { jobs = self.new.jobs } }
+        ensures kept { self.new ≡ record self.old { map = self.new.map; jobs = self.new.jobs } }
         ensures failed { result ≡ Failed ↔ IsTrue self.old.failed }
         ensures value { self.old.failed ≡ false → result ≡ reset_answer moment.date (slot self.old.jobs job) }
         ensures done { result ≡ Done → (there : JobRecord) × (slot self.old.jobs job ≡ Some there) × (self.new.jobs ≡ slice_set self.old.jobs job (Some (reset_job there))) }
-        ensures refused { (result ≡ Done → ⊥) → self.new.jobs ≡ self.old.jobs }
+        ensures refused { (result ≡ Done → ⊥) → (self.new.jobs ≡ self.old.jobs) × (self.new.map ≡ self.old.map) }
     {
         if self.volume.failed {
             return Reply::Failed;
@@ -83,7 +130,7 @@ impl<D: Disk> Monitor<D> {
         if moment.date > LAST_DATE {
             return Reply::DateRange;
         }
-        if !self.jobs.reset(job) {
+        if !reset(&mut self.volume, &mut self.jobs, job) {
             return Reply::NoJob;
         }
         Reply::Done

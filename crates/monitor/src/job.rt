@@ -1,7 +1,9 @@
-ghost use Rattle.std.specs.Prelude.{◌≡◌, ◌≤◌, None, IfOk, Some, IfSome, IsTrue, IsFalse, slice_set};
-ghost use Rattle.meaning.specs.Jobs.{Job as JobRecord, no_jobs, slot};
-ghost use Rattle.monitor.specs.Resets.{reset_job};
+ghost use Rattle.std.specs.Prelude.{◌≡◌, None, IfOk, Some, IfSome, IsTrue, IsFalse, slice_set};
+ghost use Rattle.meaning.specs.Jobs.{slot};
+ghost use Rattle.monitor.specs.Sides.{no_jobs, reset_job};
+ghost use Rattle.monitor.specs.declared.job.Job.{Job as JobRecord};
 
+use crate::channel::Channel;
 use blockdisk::NoMemory;
 use std::alloc::{AllocError, Global};
 use std::marker::Model;
@@ -14,21 +16,36 @@ pub const LARGEST_JOB: u32 = 64;
 /// How many slots there are for jobs: one for each number from 1 on, and one for 0 that stays empty.
 const SLOTS: usize = 65;
 
-/// A job that is logged in. Its sixteen channels are closed.
+/// How many channels a job has.
+pub const CHANNELS: usize = 16;
+
+/// A job that is logged in.
 #[derive(Drop)]
 pub struct Job {
     /// Whose job it is.
     pub ppn: Ppn,
     /// Its core.
     pub core: Core,
+    /// Its channels, each open or closed.
+    pub channels: [Option<Channel>; CHANNELS],
 }
 
-impl Model for Job {
-    ghost use Rattle.meaning.specs.Jobs.{Job as JobRecord, all_closed};
+impl Job {
+    /// The open channel of a number.
+    pub fn channel(&self, number: u32) -> Option<Channel>
+        ensures { result ≡ slot self.now.channels number }
+    {
+        *self.channels.get(number as usize)?
+    }
 
-    ghost Value = { JobRecord };
-
-    ghost view = { λ j. record { ppn = j.ppn; core = j.core; channels = all_closed } };
+    /// Opens a channel, or closes it; a number above 15 names none.
+    pub fn set_channel(&mut self, number: u32, channel: Option<Channel>)
+        ensures { self.new ≡ record self.old { channels = slice_set self.old.channels number channel } }
+    {
+        if (number as usize) < CHANNELS {
+            self.channels[number as usize] = channel;
+        }
+    }
 }
 
 /// The jobs that are logged in, by their numbers.
@@ -39,7 +56,7 @@ pub struct Jobs {
 
 impl Model for Jobs {
     ghost use Rattle.std.specs.Prelude.{◌≡◌, List, Option, length};
-    ghost use Rattle.meaning.specs.Jobs.{Job as JobRecord};
+    ghost use Rattle.monitor.specs.declared.job.Job.{Job as JobRecord};
 
     ghost Value = { List (Option JobRecord) };
 
@@ -81,28 +98,38 @@ impl Jobs {
         self.slots.get(number as usize)?.as_ref()
     }
 
-    /// Logs a job in.
-    pub fn log_in(&mut self, number: u32, job: Job)
-        requires { number ≤ 64 }
-        ensures { self.new ≡ slice_set self.old number (Some job) }
+    /// Takes a job out of its slot, to be put back.
+    pub fn take(&mut self, number: u32) -> Option<Job>
+        ensures found { IfSome result (λ job. (slot self.old number ≡ Some job) × (self.new ≡ slice_set self.old number None)) }
+        ensures none { result ≡ None → (slot self.old number ≡ None) × (self.new ≡ self.old) }
     {
-        self.slots[number as usize] = Some(job);
+        let Some(_there) = self.job(number) else {
+            return None;
+        };
+        self.slots[number as usize].take()
     }
 
-    /// Resets a job: the next ring of buffers goes where its first one does. Answers whether there is one of
-    /// that number.
+    /// Puts a job into its slot; one of another number than 0 to 64 is lost.
+    pub fn put(&mut self, number: u32, job: Job)
+        ensures { self.new ≡ slice_set self.old number (Some job) }
+    {
+        if let Some(slot) = self.slots.get_mut(number as usize) {
+            *slot = Some(job);
+        }
+    }
+
+    /// Resets a job: its channels are closed, and the next ring of buffers goes where its first one does. Answers
+    /// whether there is one of that number.
     pub fn reset(&mut self, number: u32) -> bool
         ensures found { IsTrue result → (job : JobRecord) × (slot self.old number ≡ Some job) × (self.new ≡ slice_set self.old number (Some (reset_job job))) }
         ensures none { IsFalse result → (slot self.old number ≡ None) × (self.new ≡ self.old) }
     {
-        let Some(_there) = self.job(number) else {
-            return false;
-        };
-        let Some(mut job) = self.slots[number as usize].take() else {
+        let Some(mut job) = self.take(number) else {
             return false;
         };
         job.core.reset_rings();
-        self.slots[number as usize] = Some(job);
+        job.channels = [None; CHANNELS];
+        self.put(number, job);
         true
     }
 }

@@ -11,21 +11,51 @@
 //!    (`value`, `done`, `refused`)
 //! 4. `list` gives the list of a directory that the machine gives, by name and then by extension.
 //!    (`listed`) On every disk it is refused by few replies, and never by the device. (`nobody`, `only`)
-//! 5. `room` and `blocks` are the volume's. `finish` gives the disk back as it stands.
-//! 6. A monitor that has failed answers Failed to every event, and no other does. (`failed`)
+//! 5. `deposit` and `examine` put and show a word of a job's core as the machine does. (`answered`, `value`)
+//! 6. `call` answers OPEN in dump mode, ENTER, USETO and RESET as the machine's rows do, or wants memory where
+//!    the machine may, and leaves the state of that row. (`answered`) None of them touches the disk.
+//! 7. Each version that the volume writes belongs to one output side of a job, and may be published under its
+//!    name. (`AreKeyed`, `ArePlaced`)
+//! 8. `room` and `blocks` are the volume's. `finish` gives the disk back as it stands.
+//! 9. A monitor that has failed answers Failed to every event, and no other does. (`failed`)
 //!
-//! The calls on channels aren't served yet: every channel of a job is closed.
+//! The rows of OUT, MakeDir, CLOSE and RELEAS are proved as functions of one job; `call` doesn't serve them yet.
 #![tactic(auto)]
 
+mod call;
+#[cfg(test)]
+mod call_tests;
+mod channel;
+mod close;
+mod dropping;
+mod enter;
 mod event;
+mod found;
 mod job;
 mod laws;
 mod list;
+mod makedir;
 mod monitor;
+mod open;
+mod out;
+mod output;
+mod publishing;
+#[cfg(test)]
+mod publishing_tests;
+mod serve;
+mod serve_writing;
+mod status;
 #[cfg(test)]
 mod tests;
+mod useto;
+mod words;
+#[cfg(test)]
+mod writing_tests;
 
+pub use call::Call;
+pub use channel::Channel;
 pub use job::{Job, Jobs};
 pub use laws::files_have_a_start;
 pub use monitor::Monitor;
+pub use output::{Kind, Output};
 pub use volume::VolumeError as StartError;

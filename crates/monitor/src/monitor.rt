@@ -7,7 +7,7 @@ ghost use Rattle.meaning.specs.Published.{without_serials};
 ghost use Rattle.meaning.specs.Room.{room};
 ghost use Rattle.meaning.specs.Runs.{Service, Serving, IsStart};
 ghost use Rattle.meaning.specs.Stands.{Stands};
-ghost use Rattle.monitor.specs.Serving.{pack_of, IsState, Serves};
+ghost use Rattle.monitor.specs.Serving.{pack_of, Serves};
 ghost use Rattle.volume.specs.Meets.{Refuses};
 ghost use Rattle.volume.specs.Rest.{StandsLike, StandsLikeBefore};
 ghost use Rattle.volume.specs.declared.error.VolumeError.TheVariants.{Device};
@@ -27,9 +27,9 @@ pub struct Monitor<D: Disk> {
 }
 
 impl<D: Disk> Model for Monitor<D> {
+    ghost use Rattle.std.specs.Prelude.{◌≡◌, false};
     ghost use Rattle.monitor.specs.States.{MonitorState};
-    ghost use Rattle.std.specs.Prelude.{◌≡◌};
-    ghost use Rattle.volume.specs.Live.{cost_beyond};
+    ghost use Rattle.monitor.specs.Serving.{AreKeyed, ArePlaced};
     ghost use Rattle.volume.specs.LiveCores.{core_of};
     ghost use Rattle.volume.specs.Rest.{IsSound};
 
@@ -37,8 +37,9 @@ impl<D: Disk> Model for Monitor<D> {
 
     ghost view = { λ m. record { disk = m.volume.disk; map = core_of m.volume.map; failed = m.volume.failed; jobs = m.jobs } };
 
-    // Until channels have sides nothing is booked beyond the files.
-    ghost invariant = { λ m. IsSound (D.state m.volume.disk) (core_of m.volume.map) m.volume.failed × (cost_beyond (core_of m.volume.map) ≡ 0) };
+    // A publication that the device fails leaves core between the two.
+    ghost invariant = { λ m. IsSound (D.state m.volume.disk) (core_of m.volume.map) m.volume.failed
+        × (m.volume.failed ≡ false → AreKeyed (core_of m.volume.map).pending m.jobs × ArePlaced (core_of m.volume.map)) };
 }
 
 impl<D: Disk> Monitor<D> {
@@ -49,11 +50,11 @@ impl<D: Disk> Monitor<D> {
     /// The refusals of `Volume::open`, with the disk handed back.
     pub fn start(alloc: Global, disk: D) -> Result<Monitor<D>, (StartError, D)>
         ensures started { (D.state disk).honest → (files : Files File) → Stands (D.state disk).size (D.state disk).contents files
-            → (s : State) → IsStart files s → IfOk result (λ m. Serves (D.state m.disk) m.failed m.jobs (Serving s)) }
+            → (s : State) → IsStart files s → IfOk result (λ m. Serves (D.state m.disk) m.map m.failed m.jobs (Serving s)) }
         // It starts only where the disk stands for some files, and nothing but the recovery was written.
         ensures recovered { (D.state disk).honest → IfOk result (λ m. IsRecovered (D.state disk).size (D.state disk).contents (D.state m.disk).contents) }
         ensures stood { (D.state disk).honest → IfOk result (λ m. (files : Files File) × Stands (D.state disk).size (D.state disk).contents files
-            × ((s : State) → IsStart files s → Serves (D.state m.disk) m.failed m.jobs (Serving s))) }
+            × ((s : State) → IsStart files s → Serves (D.state m.disk) m.map m.failed m.jobs (Serving s))) }
         ensures settled { (D.state disk).honest → IfOk result (λ m. NoneOpen (D.state m.disk)) }
         ensures crash { (D.state disk).honest → IfOk result (λ m. LeavesOnly (D.state disk) (D.state m.disk) (StandsLikeBefore (D.state disk))) }
         ensures synced { (D.state disk).honest → IfOk result (λ m. (t : ℕ) × LeavesFrom t (D.state disk) (D.state m.disk) (StandsLike (D.state disk))) }
@@ -87,7 +88,7 @@ impl<D: Disk> Monitor<D> {
     /// How many blocks are left when all is booked; it may be below 0. Nothing is promised of it where the
     /// monitor has failed.
     pub fn room(&self) -> i64
-        ensures { (D.state self.now.disk).honest → (s : State) → Serves (D.state self.now.disk) self.now.failed self.now.jobs (Serving s)
+        ensures { (D.state self.now.disk).honest → (s : State) → Serves (D.state self.now.disk) self.now.map self.now.failed self.now.jobs (Serving s)
             → result ≡ room (pack_of (D.state self.now.disk)) s }
     {
         self.volume.room()

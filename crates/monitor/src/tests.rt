@@ -6,7 +6,7 @@ use std::process::Abort;
 use std::test::Fail;
 use words36::{BLOCK_WORDS, Block, Moment, Ppn, Word};
 
-fn word(number: u64) -> Word {
+pub(crate) fn word(number: u64) -> Word {
     Word::new(number).unwrap_or(Word::ZERO)
 }
 
@@ -21,10 +21,10 @@ fn put(rt: &impl Abort, disk: &mut MemDisk, n: u32, words: &[u64]) {
 }
 
 /// An image of 64 blocks, written out by hand: [10,20] with protection 775, and in it FOO.TXT of two words, with
-/// protection 057, of 4-Jan-75.
-fn image(rt: &impl Abort, alloc: Global) -> Result<MemDisk, NoMemory> {
+/// protection 057, of 4-Jan-75. The disk has room to record so many writes and syncs.
+pub(crate) fn image(rt: &impl Abort, alloc: Global, calls: usize) -> Result<MemDisk, NoMemory> {
     let home = [0o465154634562, 1, 0o100, 1, 0o11, 0o17];
-    let mut disk = MemDisk::new(alloc, 64, 8)?;
+    let mut disk = MemDisk::new(alloc, 64, calls)?;
     put(rt, &mut disk, 1, &home);
     put(rt, &mut disk, 2, &home);
     put(rt, &mut disk, 14, &[0o777777400000]);
@@ -65,8 +65,12 @@ fn image(rt: &impl Abort, alloc: Global) -> Result<MemDisk, NoMemory> {
 }
 
 /// A monitor over the image, with this word for the protection of [10,20].
-fn start(rt: &impl Abort, alloc: Global, protection: u64) -> Result<Monitor<MemDisk>, NoMemory> {
-    let mut disk = image(rt, alloc)?;
+pub(crate) fn start(
+    rt: &impl Abort,
+    alloc: Global,
+    protection: u64,
+) -> Result<Monitor<MemDisk>, NoMemory> {
+    let mut disk = image(rt, alloc, 32)?;
     let master = [0, 1, 0o000010000020, protection, 0o20];
     put(rt, &mut disk, 15, &master);
     match Monitor::start(alloc, disk) {
@@ -76,7 +80,7 @@ fn start(rt: &impl Abort, alloc: Global, protection: u64) -> Result<Monitor<MemD
 }
 
 /// What a login as the job of these halves, octal, answers.
-fn login(
+pub(crate) fn login(
     monitor: &mut Monitor<MemDisk>,
     alloc: Global,
     job: u32,

@@ -2,7 +2,7 @@
 use Rattle.std.proofs.Common.{◌≡◌, ⊎_elim, inl, inr, ℕ, ◌+◌, ◌-◌, ◌<◌, List, [], ◌∷◌, ◌++◌, length, max, take, drop, refl, sym, ◌∙◌, ap, subst, arith, ◌≤◌}
 use Rattle.std.specs.Prelude.{slice_index}
 use Rattle.std.specs.List.{AllByRecursion}
-use Rattle.std.proofs.lemmas.Bool.{cases_lt}
+use Rattle.std.proofs.lemmas.Bool.{cases_eq, cases_lt}
 use Rattle.std.proofs.lemmas.Bool.Decides.{nat_tests}
 use Rattle.std.proofs.lemmas.List.{length-append, get_or_append_left}
 use Rattle.meaning.specs.Faults.{InSpace}
@@ -10,11 +10,12 @@ use Rattle.meaning.specs.Maps.{times}
 use Rattle.meaning.specs.Splices.{length_after, block_start}
 use Rattle.meaning.proofs.MapSums.{times-append}
 use Rattle.meaning.proofs.Walking.{all_times}
+use Rattle.changeset.specs.PutLaws.{times_head, times_tail}
 use Rattle.alloctab.specs.TableState.{TableState, IsTable, bit, holds, with_held, uses}
 use Rattle.alloctab.specs.TableLaws.{sound-with_held}
-use Rattle.retrieval.specs.Bodies.{AddsClear, KeepsOwn}
-use Rattle.retrieval.specs.Writing.{Takes, IsFixed}
-use Rattle.retrieval.proofs.Taking.{free_in_space, may_be_written, takes_none, all_of}
+use Rattle.retrieval.specs.Bodies.{AddsFree, KeepsOwn}
+use Rattle.retrieval.specs.Writing.{Takes, AreApart, IsFixed}
+use Rattle.retrieval.proofs.Taking.{free_in_space, may_be_written, takes_none, takes_apart, all_of}
 use Rattle.retrieval.proofs.Holding.{holds_taken, uses-with_held}
 use Rattle.retrieval.proofs.Placed.{bits_same}
 
@@ -41,13 +42,20 @@ pub all_append : (P : ℕ → Type 0) (xs ys : List ℕ) → AllByRecursion P xs
 all_append P [] ys a b = b
 all_append P (x ∷ xs) ys a b = (a.0, all_append P xs ys a.1 b)
 
+apart_once : (n : ℕ) (ns : List ℕ) → AreApart ns → times n ns ≤ 1
+apart_once n [] apart = omega arith
+apart_once n (m ∷ ns) apart = ⊎_elim
+    (λ (is : n ≡ m). let here = times_head n m ns is in let none = ap (λ (z : ℕ). times z ns) is in let others = apart.0 in omega arith)
+    (λ (other : n ≡ m → ⊥). let here = times_tail n m ns other in let rest = apart_once n ns apart.1 in omega arith)
+    (cases_eq n m)
+
 -- Free blocks of the table stand behind those of the list.
 pub record IsGrown (size : ℕ) (t t' : TableState) (xs xs' : List ℕ) : Type 0 where
   pub table : t' ≡ record t { held = t'.held }
   pub held : (n : ℕ) → holds t' n + times n xs ≡ holds t n + times n xs'
   pub used : uses t' ≡ uses t + (length xs' - length xs)
   pub inside : AllByRecursion (InSpace size) xs'
-  pub clear : AddsClear t xs xs'
+  pub adds : ((n : ℕ) → times n xs ≤ holds t n) → AddsFree t xs xs'
   pub front : (j : ℕ) → j < length xs → slice_index xs' j ≡ slice_index xs j
   pub longer : length xs ≤ length xs'
   -- what was held is none of the new ones
@@ -59,10 +67,17 @@ grown_by size t t' xs ns is sound fixed inside takes = record {
   held = λ n. let a = takes_holds t ns t' sound takes n in let b = times-append n xs ns in omega arith;
   used = let a = takes_uses t ns t' sound fixed takes in let b = length-append xs ns in omega arith;
   inside = all_append (InSpace size) xs ns inside (all_times (InSpace size) ns (λ n there. (may_be_written size t ns t' is sound fixed takes n there).1));
-  clear = λ n there. ⊎_elim
-      (λ old. inl old)
-      (λ none. inr (may_be_written size t ns t' is sound fixed takes n (let parts = times-append n xs ns in omega arith)).0.clear)
-      (cases_lt 0 (times n xs));
+  adds = λ held n.
+      let parts = times-append n xs ns in
+      ⊎_elim
+      (λ there.
+      let free = (may_be_written size t ns t' is sound fixed takes n there).0 in
+      let none = free.unheld in
+      let all = held n in
+      let once = apart_once n ns (takes_apart t ns t' sound fixed takes) in
+      inr (free, omega arith))
+      (λ none. inl (omega arith))
+      (cases_lt 0 (times n ns));
   front = λ j below. get_or_append_left xs ns 0 j below;
   longer = let b = length-append xs ns in omega arith;
   others = λ n some. let a = takes_none t ns t' sound fixed takes n (λ free. let b = free.unheld in omega arith) in let b = times-append n xs ns in omega arith;

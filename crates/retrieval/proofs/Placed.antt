@@ -2,14 +2,14 @@
 use Rattle.std.proofs.Common.{◌≡◌, ◌⊎◌, ⊎_elim, inl, inr, ℕ, zero, suc, ◌+◌, ◌<◌, ◌≤◌, List, [], ◌∷◌, Some, length, refl, sym, ◌∙◌, ap, subst, arith}
 use Rattle.std.specs.Prelude.{slice_index, slice_set}
 use Rattle.std.specs.List.{AllByRecursion}
-use Rattle.std.proofs.lemmas.Bool.{cases_eq}
+use Rattle.std.proofs.lemmas.Bool.{cases_eq, cases_lt}
 use Rattle.std.proofs.lemmas.List.{get_or-set_same, get_or-set_other, length-set}
 use Rattle.blockdisk.specs.Disk.{Contents}
 use Rattle.meaning.specs.Faults.{InSpace}
 use Rattle.meaning.specs.Maps.{times}
 use Rattle.changeset.specs.PutLaws.{times_tail}
-use Rattle.alloctab.specs.TableState.{TableState, bit, holds, space}
-use Rattle.retrieval.specs.Bodies.{IsOwn, AddsClear, KeepsOwn}
+use Rattle.alloctab.specs.TableState.{TableState, IsFree, bit, holds, space}
+use Rattle.retrieval.specs.Bodies.{IsOwn, AddsClear, AddsFree, KeepsOwn}
 use Rattle.retrieval.specs.Writing.{IsFixed}
 use Rattle.retrieval.specs.Placing.{IsNewBlock, HoldsNew, IsPlaced}
 use Rattle.retrieval.proofs.Holding.{times_set, alone_at}
@@ -86,22 +86,46 @@ module _ (t t' : TableState) (same : t' ≡ record t { held = t'.held }) where
     pub held_again : (t'' : TableState) (xs'' : List ℕ) → ((n : ℕ) → holds t'' n + times n xs' ≡ holds t' n + times n xs'') → (n : ℕ) → holds t'' n + times n xs ≡ holds t n + times n xs''
     held_again t'' xs'' next n = let a = held n in let b = next n in omega arith
 
+    -- one list after the other
+    pub adds_on : (xs'' : List ℕ) → ((n : ℕ) → times n xs ≤ holds t n) → AddsFree t xs xs' → AddsFree t' xs' xs'' → AddsFree t xs xs''
+    adds_on xs'' all first second n = ⊎_elim
+        (λ fewer. ⊎_elim (λ old. inl (omega arith)) (λ free. inr (free.0, let once = free.1 in omega arith)) (first n))
+        (λ free.
+        let a = held n in
+        let b = all n in
+        let none = free.0.unheld in
+        let once = free.1 in
+        ⊎_elim
+        (λ (some : 0 < times n xs). inl (omega arith))
+        (λ new. inr (record { clear = sym (bits_same n) ∙ free.0.clear; unheld = omega arith }, once))
+        (cases_lt 0 (times n xs)))
+        (second n)
+
 -- one place of a list in the free space
 pub inside_set : (size : ℕ) (xs : List ℕ) (i n : ℕ) → AllByRecursion (InSpace size) xs → InSpace size n → AllByRecursion (InSpace size) (slice_set xs i n)
 inside_set size [] i n all is = tt
 inside_set size (x ∷ xs) zero n all is = (is, all.1)
 inside_set size (x ∷ xs) (suc i) n all is = (all.0, inside_set size xs i n all.1 is)
 
--- one place with a block whose bit is clear
-pub clear_set : (t : TableState) (old xs : List ℕ) (i n : ℕ) → AddsClear t old xs → i < length xs → bit t n ≡ 0 → AddsClear t old (slice_set xs i n)
-clear_set t old xs i n so_far below clear m there = ⊎_elim
-    (λ (is : m ≡ n). inr (ap (bit t) is ∙ clear))
-    (λ (other : m ≡ n → ⊥). so_far m (let set = times_set m xs i n below in let none = times_tail m n [] other in omega arith))
+-- one place with a block of the old list's own, which is free where it isn't one of the list
+pub adds_set : (t : TableState) (old xs : List ℕ) (i n : ℕ) → AddsFree t old xs → i < length xs → times n (slice_set xs i n) ≡ 1 → IsOwn t old n → AddsFree t old (slice_set xs i n)
+adds_set t old xs i n so_far below once own m = ⊎_elim
+    (λ (is : m ≡ n). subst (λ (z : ℕ). (times z (slice_set xs i n) ≤ times z old) ⊎ (IsFree t z × (times z (slice_set xs i n) ≤ 1))) (sym is) here)
+    (λ (other : m ≡ n → ⊥).
+    let set = times_set m xs i n below in
+    let none = times_tail m n [] other in
+    ⊎_elim (λ fewer. inl (omega arith)) (λ free. inr (free.0, let one = free.1 in omega arith)) (so_far m))
     (cases_eq m n)
+  where
+    here : (times n (slice_set xs i n) ≤ times n old) ⊎ (IsFree t n × (times n (slice_set xs i n) ≤ 1))
+    here = ⊎_elim
+        (λ (some : 0 < times n old). inl (omega arith))
+        (λ none. inr (record { clear = own.clear; unheld = let alone = own.alone in omega arith }, omega arith))
+        (cases_lt 0 (times n old))
 
--- one list after the other
-pub clear_on : (t t' : TableState) → t' ≡ record t { held = t'.held } → (xs ys zs : List ℕ) → AddsClear t xs ys → AddsClear t' ys zs → AddsClear t xs zs
-clear_on t t' same xs ys zs first second n there = ⊎_elim (λ old. first n old) (λ clear. inr (ap (λ (u : TableState). bit u n) (sym same) ∙ clear)) (second n there)
+-- a block that was free has its bit clear
+pub adds_clear : (t : TableState) (old new : List ℕ) → AddsFree t old new → AddsClear t old new
+adds_clear t old new adds n there = ⊎_elim (λ fewer. inl (omega arith)) (λ free. inr free.0.clear) (adds n)
 
 -- A block that is held once and stands in a list once stands there once still, as blocks are taken for others.
 pub few_more : (xs ys : List ℕ) (i n : ℕ) → i < length ys → times n (slice_set ys i n) ≡ 1 → ((m : ℕ) → times m xs ≤ 1 → times m ys ≤ 1) → (m : ℕ) → times m xs ≤ 1 → times m (slice_set ys i n) ≤ 1

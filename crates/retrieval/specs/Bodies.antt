@@ -1,9 +1,9 @@
 -- Bodies: the words of a version, and the blocks that may be written where they change.
-use Rattle.std.specs.Prelude.{◌≡◌, ◌⊎◌, ◌<◌, ℕ, List, length, IfSome, slice_index}
+use Rattle.std.specs.Prelude.{◌≡◌, ◌⊎◌, ◌<◌, ◌≤◌, ℕ, List, length, IfSome, slice_index}
 use Rattle.std.specs.List.{AllByRecursion}
 use Rattle.blockdisk.specs.Disk.{Contents}
 use Rattle.meaning.specs.Maps.{times}
-use Rattle.alloctab.specs.TableState.{TableState, bit, holds}
+use Rattle.alloctab.specs.TableState.{TableState, IsFree, bit, holds}
 
 -- Each of these blocks that isn't damaged holds 128 words.
 abbrev pub AreWhole : Contents → List ℕ → Type 0
@@ -13,6 +13,10 @@ AreWhole contents blocks = AllByRecursion (λ n. IfSome (contents n) (λ words. 
 pub record IsOwn (t : TableState) (blocks : List ℕ) (n : ℕ) : Type 0 where
   pub clear : bit t n ≡ 0
   pub alone : holds t n ≡ times n blocks
+
+-- Of each block there are no more in the new list than in the old one, or it was free, and stands there once.
+abbrev pub AddsFree : TableState → List ℕ → List ℕ → Type 0
+AddsFree t old new = (n : ℕ) → (times n new ≤ times n old) ⊎ (IsFree t n × (times n new ≤ 1))
 
 -- Each block of the new list stands in the old one, or its bit is clear.
 abbrev pub AddsClear : TableState → List ℕ → List ℕ → Type 0

@@ -22,7 +22,8 @@
 //!    before; none is written that another version reaches, and the table holds one for the other.
 //!    (`body`, `length`, `counted`, `touched`, `held`)
 //! 9. Memory is taken for the lists of blocks and for the words that are read, and a `Version` whose growth
-//!    is refused stays as it was.
+//!    is refused stays as it was. `take_retrieval_blocks` and `write_retrieval_blocks` do what `write_version`
+//!    does in a list that was found before, of as many places as `rib_count` says.
 #![tactic(auto)]
 
 mod body;
@@ -56,4 +57,4 @@ pub use prime::Prime;
 pub use put::put_words;
 pub use read::read_version;
 pub use version::Version;
-pub use write::write_version;
+pub use write::{rib_count, take_retrieval_blocks, write_retrieval_blocks, write_version};

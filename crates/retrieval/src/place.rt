@@ -6,7 +6,7 @@ ghost use Rattle.meaning.specs.Costs.{blocks_of};
 ghost use Rattle.meaning.specs.Faults.{InSpace};
 ghost use Rattle.meaning.specs.Maps.{times};
 ghost use Rattle.alloctab.specs.TableState.{holds, space, uses, bit};
-ghost use Rattle.retrieval.specs.Bodies.{IsOwn, AddsClear, KeepsOwn};
+ghost use Rattle.retrieval.specs.Bodies.{IsOwn, AddsFree, KeepsOwn};
 ghost use Rattle.retrieval.specs.Placing.{IsPlaced};
 ghost use Rattle.retrieval.specs.Writing.{IsFixed};
 
@@ -79,7 +79,7 @@ pub(crate) fn write_places<D: Disk>(
     ensures version { version.new ≡ record version.old { blocks = version.new.blocks } }
     ensures long { length version.new.blocks ≡ length version.old.blocks }
     ensures inside { AllByRecursion (InSpace (D.state disk.old).size) version.new.blocks }
-    ensures clear { AddsClear table.old version.old.blocks version.new.blocks }
+    ensures adds { AddsFree table.old version.old.blocks version.new.blocks }
     ensures table { table.new ≡ record table.old { held = table.new.held } }
     ensures held { (n : ℕ) → holds table.new n + times n version.old.blocks ≡ holds table.old n + times n version.new.blocks }
     ensures used { uses table.new ≡ uses table.old }

@@ -8,7 +8,7 @@ ghost use Rattle.meaning.specs.Regions.{IsVolumeSize};
 ghost use Rattle.meaning.specs.Retrieval.{HasBody, most_blocks};
 ghost use Rattle.meaning.specs.Splices.{splice, length_after};
 ghost use Rattle.alloctab.specs.TableState.{uses, holds, space};
-ghost use Rattle.retrieval.specs.Bodies.{AreWhole, IsOwn, AddsClear, KeepsOwn};
+ghost use Rattle.retrieval.specs.Bodies.{AreWhole, IsOwn, AddsFree, KeepsOwn};
 ghost use Rattle.retrieval.specs.Placing.{Stays};
 ghost use Rattle.retrieval.specs.Writing.{IsFixed};
 ghost use Rattle.retrieval.specs.declared.error.BodyError.TheVariants.{BadData, Device, NoMemory};
@@ -93,7 +93,7 @@ pub fn put_words<D: Disk>(
     // Whatever the answer.
     ensures ribs { version.new.ribs ≡ version.old.ribs }
     ensures inside { AllByRecursion (InSpace (D.state disk.old).size) version.new.blocks }
-    ensures clear { AddsClear table.old version.old.blocks version.new.blocks }
+    ensures adds { AddsFree table.old version.old.blocks version.new.blocks }
     ensures few { length version.new.blocks ≤ blocks_of (length_after version.old.words block (length words.now)) }
     ensures table { table.new ≡ record table.old { held = table.new.held } }
     ensures held { (n : ℕ) → holds table.new n + times n version.old.blocks ≡ holds table.old n + times n version.new.blocks }

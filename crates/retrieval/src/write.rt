@@ -105,20 +105,39 @@ pub(crate) fn take_blocks(table: &mut Table, blocks: &mut [u32])
     }
 }
 
-/// How many ribs so many blocks ask for.
-fn rib_count(blocks: usize) -> usize
+/// How many ribs so many data blocks ask for. A rib is a block with the pointers to up to 126 data blocks of a version:
+/// those for which its prime block, with the first 112, has no place.
+pub fn rib_count(blocks: usize) -> usize
     ensures { result ≡ rib_count blocks }
 {
     let others = blocks.saturating_sub(PRIME_POINTERS as usize);
     others.div_ceil(EXTENSION_POINTERS as usize)
 }
 
-/// Writes the ribs of a version, and its prime block last.
+/// Takes the blocks that the retrieval blocks of a version will have: its prime block, which is answered, and
+/// its ribs. `ribs` is a list that was found for these, with a place for each; what it holds isn't looked at.
+pub fn take_retrieval_blocks(table: &mut Table, version: &mut Version, mut ribs: Vec<u32>) -> u32
+    requires fixed { IsFixed table.old }
+    requires booked { used_in_space table.old + (1 + length ribs.items) ≤ table.old.booked }
+    requires room { table.old.booked ≤ space table.old.size }
+    ensures kept { version.new ≡ record version.old { ribs = version.new.ribs } }
+    ensures count { length version.new.ribs ≡ length ribs.items }
+    ensures taken { Takes table.old (result ∷ version.new.ribs) table.new }
+{
+    let _booked = table.booked(); // which says that the table is sound
+    let at = take_block(table);
+    take_blocks(table, ribs.as_mut_slice());
+    version.set_ribs(ribs);
+    at
+}
+
+/// Writes the retrieval blocks of a version into the blocks that were taken for them: the ribs, and the prime
+/// block `at` last.
 ///
 /// # Errors
 ///
 /// `Device` where the device failed; the blocks may then hold anything.
-fn write_blocks<D: Disk>(
+pub fn write_retrieval_blocks<D: Disk>(
     disk: &mut D,
     at: u32,
     prime: &Prime,
@@ -191,13 +210,11 @@ pub fn write_version<D: Disk>(
     ensures served { (IsErrOf result Device → ⊥) → (D.state disk.new).failures ≡ (D.state disk.old).failures }
 {
     // Memory first, so that a refused growth leaves everything alone.
-    let mut ribs = vec![in alloc; 0; rib_count(version.blocks().len())]?;
+    let ribs = vec![in alloc; 0; rib_count(version.blocks().len())]?;
     let _booked = table.booked(); // which says that the table is sound
     let _place = (prime.ppn.word(), prime.file.ext.bits()); // which say that the place fits its words
-    let at = take_block(table);
-    take_blocks(table, ribs.as_mut_slice());
-    version.set_ribs(ribs);
-    match write_blocks(disk, at, prime, version) {
+    let at = take_retrieval_blocks(table, version, ribs);
+    match write_retrieval_blocks(disk, at, prime, version) {
         Ok(()) => Ok(at),
         Err(_) => Err(RetrievalError::Device),
     }

@@ -9,7 +9,10 @@ ghost use Rattle.retrieval.specs.Reading.{IsReadAs};
 ghost use Rattle.retrieval.specs.Writing.{IsFixed, rib_count};
 ghost use Rattle.retrieval.specs.declared.error.RetrievalError.TheVariants.{BadRetrieval};
 
-use crate::{Mode, Prime, RetrievalError, Version, read_version, write_version};
+use crate::{
+    Mode, Prime, RetrievalError, Version, read_version, rib_count, take_retrieval_blocks,
+    write_retrieval_blocks, write_version,
+};
 use alloctab::{Reached, Table, TableError};
 use blockdisk::{Disk, MemDisk, NoMemory};
 use std::alloc::Global;
@@ -132,6 +135,66 @@ fn versions_written_and_read_back(rt: HostRuntime) -> Result<(), Fail> {
         assert!(rt; read.ribs() == version.ribs());
         assert_eq!(rt; read.ribs().len(), ribs as usize);
     }
+    Ok(())
+}
+
+/// Whether a block of a disk has these words in these places.
+fn has_words(rt: &impl Abort, disk: &mut MemDisk, n: u32, words: &[(usize, u64)]) -> bool {
+    assert!(rt; n < disk.blocks());
+    let Ok(block) = disk.read(n) else {
+        return false;
+    };
+    for &(i, number) in words {
+        if block.get(i).copied() != Some(word(number)) {
+            return false;
+        }
+    }
+    true
+}
+
+/// A version of 239 blocks takes three more: 15 is its prime block, and 16 and 17 are its ribs, the first of them
+/// full and the second with one pointer.
+#[test]
+fn two_ribs_in_a_list_found_before(rt: HostRuntime) -> Result<(), Fail> {
+    let mut disk = disk_of(&rt, rt.alloc(), 8)?;
+    assert!(rt; disk.blocks() == SIZE);
+    let mut table = table_of(&rt, rt.alloc(), &mut disk, 242)?;
+    let mut version = version_of(rt.alloc(), 239)?;
+    let ribs = vec![in rt.alloc(); 0; rib_count(version.blocks().len())]?;
+    let at = take_retrieval_blocks(&mut table, &mut version, ribs);
+    assert_eq!(rt; at, 15);
+    let answer = write_retrieval_blocks(&mut disk, at, &foo(&rt), &version);
+    assert_eq!(rt; answer, Ok(()));
+    assert!(rt; version.ribs() == [16, 17].as_slice());
+    let head = [
+        (0, 0o625142000000),
+        (3, 0o057740217777),
+        (5, 239 * 128),
+        (6, 112),
+        (7, 16),
+    ];
+    assert!(rt; has_words(&rt, &mut disk, 15, &head));
+    let pointers = [
+        (16, 0o1000000 + 500),
+        (17, 0o1000000 + 502),
+        (127, 0o1000000 + 722),
+    ];
+    assert!(rt; has_words(&rt, &mut disk, 15, &pointers));
+    let full = [
+        (0, 0o706242000176),
+        (1, 17),
+        (2, 0o1000000 + 724),
+        (127, 0o1000000 + 974),
+    ];
+    assert!(rt; has_words(&rt, &mut disk, 16, &full));
+    let last = [
+        (0, 0o706242000001),
+        (1, 0),
+        (2, 0o1000000 + 976),
+        (3, 0),
+        (127, 0),
+    ];
+    assert!(rt; has_words(&rt, &mut disk, 17, &last));
     Ok(())
 }
 

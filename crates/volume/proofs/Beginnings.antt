@@ -1,5 +1,5 @@
 -- A version that is begun: what it costs, and that core stays whole.
-use Rattle.std.proofs.Common.{◌≡◌, ◌↔◌, IsTrue, ℕ, zero, suc, ◌+◌, ◌<◌, ◌≤◌, ◌^◌, Bool, true, false, List, [], ◌∷◌, map, length, slice_get, get_or, Option, Some, None, is_none, is_some, not, IfSome, IfNone, refl, sym, ap, subst, ◌∙◌, arith, ⊎_elim}
+use Rattle.std.proofs.Common.{◌≡◌, ◌↔◌, IsTrue, ℕ, zero, suc, ◌+◌, ◌<◌, ◌≤◌, Bool, true, false, List, [], ◌∷◌, map, length, slice_get, get_or, Option, Some, None, is_none, is_some, not, IfSome, IfNone, refl, sym, ap, subst, ◌∙◌, arith, ⊎_elim}
 use Rattle.std.proofs.lemmas.Bool.{cases_lt}
 use Rattle.std.proofs.lemmas.List.{length-map}
 use Rattle.std.specs.Ordering.{nat_cmp}
@@ -19,6 +19,7 @@ use Rattle.volume.specs.Known.{KnownDirectory}
 use Rattle.volume.specs.Live.{VolumeCore, pending_cost, pending_reaches, IsWholePending, IsWholeCore}
 use Rattle.volume.specs.LiveCores.{core_of, live_directory}
 use Rattle.volume.specs.Beginning.{begin_cost, entries_with, begun, is_absent, IsDirectoryOf}
+use Rattle.alloctab.specs.TableState.{space}
 use Rattle.volume.proofs.Growing.{absent_at, one_place, Adds, added_total, created_elsewhere, added_growths}
 use Rattle.volume.proofs.Pinning.{all_updated}
 use Rattle.volume.proofs.StillHeld.{counts_whole}
@@ -28,12 +29,6 @@ pub place_of : {A B : Type 0} (f : A → B) (xs : List A) (i : ℕ) (x d : A) �
 place_of f [] i x d below is = absurd (omega arith)
 place_of f (y ∷ ys) zero x d below is = ap (λ z. Some (f z)) (sym is)
 place_of f (y ∷ ys) (suc i) x d below is = place_of f ys i x d (omega arith) is
-
--- something stands at each place
-pub some_at : {A : Type 0} (xs : List A) (i : ℕ) → i < length xs → (x : A) × (slice_get xs i ≡ Some x)
-some_at [] i below = absurd (omega arith)
-some_at (x ∷ xs) zero below = (x, refl)
-some_at (x ∷ xs) (suc i) below = some_at xs i (omega arith)
 
 -- the directory at the place of its entry
 pub directory_at : (size : ℕ) (m : LiveMap) (ppn i : ℕ) (v : ℕ × ℕ) (x : LiveDirectory) → IsWholeCore size (core_of m) → StandsAt nat_cmp (map master_view m.master.entries) ppn v i → x ≡ get_or m.directories.items i x
@@ -71,20 +66,22 @@ begun_pending : (size : ℕ) (prime : Prime) (is_new : Bool) → IsWholePending 
 begun_pending size prime is_new = record { whole = record { counted = refl; few = omega arith; few_ribs = omega arith }; inside = tt; bare = refl }
 
 pub begun_whole : (size : ℕ) (c : VolumeCore) (pending : List (Option PendingVersion)) (key : ℕ) (prime : Prime) (is_new : Bool) (i : ℕ) (v : ℕ × ℕ) (d : KnownDirectory) (booked : ℕ) → IsWholeCore size c → Adds c.pending pending key (begun prime is_new)
-    → slice_get c.known.master.entries i ≡ Some (prime.ppn, v) → slice_get c.known.directories i ≡ Some d → booked ≡ c.known.table.booked + begin_cost is_new (entries_with c d prime.ppn) → booked < 2 ^ 63
+    → slice_get c.known.master.entries i ≡ Some (prime.ppn, v) → slice_get c.known.directories i ≡ Some d → booked ≡ c.known.table.booked + begin_cost is_new (entries_with c d prime.ppn) → booked ≤ space size
     → IsWholeCore size (record c { known = record c.known { table = record c.known.table { booked = booked } }; pending = pending })
 begun_whole size c pending key prime is_new i v d booked whole adds is at costs fits = record {
   map = counts_whole size c.known c.known.table.held booked whole.map;
   keyed = whole.keyed;
   standing = whole.standing;
   waiting = all_updated (λ o. IfSome o (IsWholePending size)) c.pending pending key adds.others tt whole.waiting (subst (λ o. IfSome o (IsWholePending size)) (sym adds.here) (begun_pending size prime is_new));
-  pinned = whole.pinned;
+  current = whole.current;
   housed = λ ppn none.
       created_elsewhere c.pending pending key (begun prime is_new) adds ppn (λ same. absent_at c.known.master.entries i prime.ppn v is (ap (λ (q : ℕ). find nat_cmp q c.known.master.entries) (sym same) ∙ none)) ∙ whole.housed ppn none;
   held = λ n. let more = added_total c.pending pending key (begun prime is_new) adds (pending_reaches n) refl in let was = whole.held n in omega arith;
+  own = λ n some. let more = added_total c.pending pending key (begun prime is_new) adds (pending_reaches n) refl in whole.own n (omega arith);
   inside = whole.inside;
   apart = whole.apart;
-  fits = fits;
+  fits = let large = whole.map.volume.large in omega arith;
+  within = λ some. fits;
   booked =
       let grown = added_growths c.pending pending key (begun prime is_new) adds c.known.master.entries c.known.directories i v d whole.map.chain.each_once is at in
       let more = added_total c.pending pending key (begun prime is_new) adds pending_cost refl in

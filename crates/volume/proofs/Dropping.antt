@@ -79,12 +79,17 @@ module _ (size : ℕ) (c : VolumeCore) (whole : IsWholeCore size c) (less : List
       keyed = whole.keyed;
       standing = whole.standing;
       waiting = all_updated (λ o. IfSome o (IsWholePending size)) c.pending less key (λ k other. sym (adds.others k other)) tt whole.waiting (subst (λ o. IfSome o (IsWholePending size)) (sym adds.vacant) tt);
-      pinned = whole.pinned;
+      current = whole.current;
       housed = λ ppn none. let more = added_total less c.pending key p adds (creates ppn) refl in let all = whole.housed ppn none in omega arith;
       held = λ n. let more = added_total less c.pending key p adds (pending_reaches n) refl in let was = whole.held n in omega (arith, fewer n);
+      own = λ n some. let more = added_total less c.pending key p adds (pending_reaches n) refl in let few = whole.own n (omega arith) in omega (arith, fewer n);
       inside = λ n there. whole.inside n (omega (arith, fewer n));
       apart = λ n there. whole.apart n (omega (arith, fewer n));
       fits = let fits = whole.fits in omega arith;
+      within = λ some.
+          let more = added_total less c.pending key p adds pending_cost refl in
+          let most = whole.within (omega arith) in
+          omega arith;
       booked =
           let more = added_total less c.pending key p adds pending_cost refl in
           let was = whole.booked in

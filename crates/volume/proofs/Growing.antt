@@ -44,7 +44,7 @@ one_place (e ∷ es) (suc i) (suc j) k v w once is is' = let rest = one_place es
 abbrev pub share : List (Option PendingVersion) → ℕ → KnownDirectory → ℕ
 share pending ppn d = directory_cost (length d.chain.entries + total (creates ppn) pending) - directory_cost (length d.chain.entries)
 
-cost_rises : (n m : ℕ) → directory_cost n ≤ directory_cost (n + m)
+pub cost_rises : (n m : ℕ) → directory_cost n ≤ directory_cost (n + m)
 cost_rises n m = grind (arith, nat_tests)
 
 share_more : (n m : ℕ) → directory_cost (n + (m + 1)) - directory_cost n ≡ (directory_cost (n + m) - directory_cost n) + growth (n + m)

@@ -1,22 +1,25 @@
 -- Versions that get keys: those with keys keep them, and what is known of them.
-use Rattle.std.proofs.Common.{◌≡◌, ℕ, suc, ◌+◌, ◌<◌, true, List, [], ◌∷◌, ◌++◌, map, filter_map, length, get_or, take, Option, Some, None, IfSome, slice_index_or, refl, sym, ap, subst, ◌∙◌, arith, ⊎_elim}
+use Rattle.std.proofs.Common.{◌≡◌, ℕ, suc, ◌+◌, ◌<◌, Bool, true, if◌then◌else◌, List, [], ◌∷◌, ◌++◌, map, filter_map, length, get_or, take, Option, Some, None, IfSome, slice_index_or, refl, sym, ap, subst, ◌∙◌, arith, ⊎_elim}
 use Rattle.std.proofs.lemmas.Bool.{cases_eq}
-use Rattle.std.proofs.lemmas.List.{map-append, take_all}
+use Rattle.std.proofs.lemmas.List.{map-append, take_all, length-map, length-take-le}
 use Rattle.std.specs.List.{AllByRecursion, AllZip, cons_option, zip}
 use Rattle.std.proofs.lemmas.Slice.Zip.{length-zip, get_or-zip}
 use Rattle.std.specs.Option.{option_map}
 use Rattle.meaning.specs.Directories.{FileEntry}
+use Rattle.meaning.specs.Maps.{total, times}
 use Rattle.slab.specs.Slab.{Slab, Updates}
 use Rattle.volume.specs.Cores.{file_view, known_version, known_directory}
-use Rattle.volume.specs.Known.{KnownDirectory, IsWholeVersion}
-use Rattle.volume.specs.Live.{as_known, slot, IsCurrent, IsKeyed, IsFirstRead}
+use Rattle.volume.specs.Known.{KnownDirectory, blocks_reached, reaches_in_entries, IsWholeVersion}
+use Rattle.volume.specs.Live.{as_known, slot, current_reaches, entry_reaches, IsCurrent, IsKeyed, IsFirstRead}
 use Rattle.volume.specs.LiveCores.{known_at, live_directory}
 use Rattle.volume.specs.declared.live.LiveVersion.{LiveVersion}
 use Rattle.volume.specs.declared.live.LiveDirectory.{LiveDirectory}
 use Rattle.volume.specs.declared.files.StoredVersion.{StoredVersion}
 use Rattle.volume.specs.declared.map.StoredDirectory.{StoredDirectory}
 use Rattle.directory.specs.declared.file.FileEntry.{FileEntry as FileEntryOfCode}
-use Rattle.volume.proofs.Lookups.{zip_behind, viewed_more, viewed_at}
+use Rattle.volume.proofs.Lookups.{zip_behind, viewed_more, viewed_at, total-push}
+use Rattle.volume.proofs.LiveTotals.{total_updated}
+use Rattle.volume.proofs.Reaching.{entries_push}
 
 -- each key with a version keeps it
 abbrev pub Stay : List (Option LiveVersion) → List (Option LiveVersion) → Type 0
@@ -111,6 +114,14 @@ module _ (old new : Slab LiveVersion) (key : ℕ) (v : LiveVersion) (vacant : sl
       filter_map_push (known_at new.slots) keys key (as_known v) (ap (option_map as_known) kept.changed)
       ∙ ap (λ vs. vs ++ as_known v ∷ []) (known_on old.slots new.slots (all_stay old.slots new.slots put_stay) es keys zip)
 
+  -- its blocks are reached by one current version more
+  pub put_current : (n : ℕ) → v.is_current ≡ true → total (current_reaches n) new.slots ≡ total (current_reaches n) old.slots + times n (blocks_reached v.at v.version)
+  put_current n current =
+      let all = total_updated (current_reaches n) refl old.slots new.slots key (Some v) kept.changed kept.others in
+      let none = ap (current_reaches n) vacant in
+      let here = ap (λ (b : Bool). if b then times n (blocks_reached v.at v.version) else 0) current in
+      omega arith
+
 -- the pair that a loop over two lists beside each other is at
 pub zip_at : {A B : Type 0} (xs : List A) (ys : List B) (i : ℕ) (x : A) (y : B) → i < length (zip xs ys) → (x, y) ≡ get_or (zip xs ys) i (x, y)
     → (i < length xs) × (x ≡ get_or xs i x) × (i < length ys) × (y ≡ get_or ys i y)
@@ -149,6 +160,17 @@ module _ (entries : List FileEntryOfCode) (stored : List StoredVersion) (i n : �
       ∙ ap (λ vs. vs ++ known_version s ∷ []) so_far
       ∙ sym (ap (λ m. map known_version (take m stored)) next ∙ viewed_more known_version stored i s at.2 at.3)
 
+  pub next_current : (m : ℕ) (before : ℕ) → total (current_reaches m) old.slots ≡ before + reaches_in_entries m (map file_view (take i entries)) (map known_version (take i stored))
+      → total (current_reaches m) new.slots ≡ before + reaches_in_entries m (map file_view (take n entries)) (map known_version (take n stored))
+  next_current m before so_far =
+      let one = put_current old new key (first_read e s) vacant kept m refl in
+      let front = ap (λ k. map file_view (take k entries)) next ∙ viewed_more file_view entries i e at.0 at.1 in
+      let back = ap (λ k. map known_version (take k stored)) next ∙ viewed_more known_version stored i s at.2 at.3 in
+      let same : length (map known_version (take i stored)) ≡ length (map file_view (take i entries)) =
+      length-map (take i stored) known_version ∙ length-take-le i stored (let b = at.2 in omega arith) ∙ sym (length-map (take i entries) file_view ∙ length-take-le i entries (let b = at.0 in omega arith)) in
+      let more = (λ j. reaches_in_entries m (front j) (back j)) ∙ entries_push m (map file_view (take i entries)) (map known_version (take i stored)) (file_view e) (known_version s) same in
+      omega arith
+
   pub next_read : AllByRecursion IsWholeVersion (map known_version stored) → ((k : ℕ) → IfSome (slot old.slots k) IsFirstRead) → (k : ℕ) → IfSome (slot new.slots k) IsFirstRead
   next_read whole = put_read old new key (first_read e s) vacant kept
       (record { current = refl; unread = refl; whole = viewed_at known_version stored i s at.2 at.3 IsWholeVersion whole })
@@ -173,6 +195,14 @@ module _ (stored : List StoredDirectory) (i n : ℕ) (d : StoredDirectory) (next
       ∙ map-append (live_directory new) live (l ∷ [])
       ∙ (λ j. (directories_known_on old new (all_stay old new stay) (map known_directory (take i stored)) live zip ∙ so_far) j ++ here j ∷ [])
       ∙ sym taken
+
+  pub next_directory_current : (m : ℕ) → live_directory new l ≡ known_directory d → map (live_directory old) live ≡ map known_directory (take i stored)
+      → total (current_reaches m) old ≡ entry_reaches m (map (live_directory old) live) → total (current_reaches m) new ≡ total (current_reaches m) old + reaches_in_entries m (map file_view d.chain.entries) (map known_version d.versions.items)
+      → total (current_reaches m) new ≡ entry_reaches m (map (live_directory new) live')
+  next_directory_current m here so_far before one =
+      let all = ap (entry_reaches m) (next_directory_known here so_far ∙ taken) ∙ total-push (λ (x : KnownDirectory). reaches_in_entries m x.chain.entries x.versions) (map known_directory (take i stored)) (known_directory d) in
+      let was = ap (entry_reaches m) so_far in
+      omega arith
 
 -- what holds of each slot holds of all
 pub all_slots : {X : Type 0} (P : Option X → Type 0) (slots : List (Option X)) → ((k : ℕ) → P (slice_index_or slots k None)) → AllByRecursion P slots

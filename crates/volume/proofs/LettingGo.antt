@@ -16,7 +16,7 @@ held_inside held b there = ⊎_elim (λ below. below) (λ past. absurd (by (get_
     by none = omega arith
 
 -- a block that is held once less
-held_less : (held : List ℕ) (b : ℕ) → 0 < slice_index held b → (n : ℕ) → slice_index (slice_set held b (slice_index held b - 1)) n + times n (b ∷ []) ≡ slice_index held n
+pub held_less : (held : List ℕ) (b : ℕ) → 0 < slice_index held b → (n : ℕ) → slice_index (slice_set held b (slice_index held b - 1)) n + times n (b ∷ []) ≡ slice_index held n
 held_less held b there n = ⊎_elim
     (λ (is : n ≡ b).
     let here = ap (slice_index (slice_set held b (slice_index held b - 1))) is ∙ get_or-set_same held b (slice_index held b - 1) 0 (held_inside held b there) in

@@ -13,9 +13,9 @@ use Rattle.volume.specs.declared.live.LiveVersion.{LiveVersion}
 use Rattle.volume.specs.declared.pending.PendingVersion.{PendingVersion}
 use Rattle.volume.specs.Known.{blocks_reached, reaches_in_known}
 use Rattle.volume.specs.Live.{VolumeCore, slot, pending_at, held_reaches, pending_reaches, IsWholeCore}
-use Rattle.volume.specs.Rest.{HasSomeBody, IsSound}
+use Rattle.volume.specs.Rest.{HasSomeBody, IsSound, KeepsRead, KeepsEachWritten}
 use Rattle.volume.proofs.MakingLaw.{bit_few}
-use Rattle.volume.proofs.Pinning.{total_at}
+use Rattle.volume.proofs.Pinning.{total_at, current_stands}
 
 pub record HaveBodies (contents : Contents) (c : VolumeCore) : Type 0 where
   pub read : (key : ℕ) (v : LiveVersion) → slot c.live key ≡ Some v → 0 < v.readers → HasSomeBody contents v.version
@@ -52,7 +52,7 @@ module _ (size : ℕ) (c : VolumeCore) (whole : IsWholeCore size c) where
       stands = let parts = times-append n v.version.ribs v.version.blocks in omega arith
 
       by : (b : Bool) → v.is_current ≡ b → IsUsed size c n
-      by true current = reached_used n (let most = whole.pinned key v is some current n in let here = stands in omega arith)
+      by true current = reached_used n (let most = current_stands size c whole key v is current n in let here = stands in omega arith)
       by false ended = held_used n
           (let part = total_at (held_reaches n) refl c.live key in
           let here = ap (held_reaches n) is ∙ ap (λ (b : Bool). if b then 0 else times n (blocks_reached v.at v.version)) ended in
@@ -66,6 +66,12 @@ module _ (size : ℕ) (c : VolumeCore) (whole : IsWholeCore size c) where
       let here = ap (pending_reaches n) is in
       let all = whole.held n in
       omega arith)
+
+  pub used_read : (old new : Contents) → ((n : ℕ) → IsUsed size c n → new n ≡ old n) → KeepsRead old new c
+  used_read old new same key v is some n there = same n (read_used key v is some n there)
+
+  pub used_written : (old new : Contents) → ((n : ℕ) → IsUsed size c n → new n ≡ old n) → KeepsEachWritten old new c
+  used_written old new same key p is n there = same n (written_used key p is n there)
 
 pub body_stays : (old new : Contents) (v : VersionState) → HasSomeBody old v → ((n : ℕ) → 0 < times n v.blocks → new n ≡ old n) → HasSomeBody new v
 body_stays old new v has same = (has.0, has.1, body_kept old new v.blocks has.0 has.2 same)

@@ -9,7 +9,7 @@ use Rattle.meaning.specs.Directories.{MasterEntry}
 use Rattle.alloctab.specs.TableState.{holds}
 use Rattle.volume.specs.declared.live.LiveVersion.{LiveVersion}
 use Rattle.volume.specs.Known.{Known, KnownDirectory, blocks_reached, cost_of_known, IsWholeMap, IsBooked}
-use Rattle.volume.specs.Live.{VolumeCore, slot, IsKeyed, IsFirstRead, AreStanding, held_reaches, held_cost, pending_reaches, pending_cost, creates, growths, cost_beyond, AreWaiting, IsWholeCore}
+use Rattle.volume.specs.Live.{VolumeCore, slot, IsKeyed, IsFirstRead, AreStanding, held_reaches, held_cost, current_reaches, entry_reaches, pending_reaches, pending_cost, creates, growths, cost_beyond, AreWaiting, IsWholeCore}
 use Rattle.volume.proofs.Answering.{map_few}
 use Rattle.volume.proofs.LiveLookups.{standing_at}
 
@@ -46,19 +46,21 @@ none_beyond c read none =
 first_at : (live : List (Option LiveVersion)) (key : ℕ) (v : LiveVersion) → AllByRecursion (λ o. IfSome o IsFirstRead) live → slot live key ≡ Some v → IsFirstRead v
 first_at live key v all is = standing_at IsFirstRead live key v all is
 
-pub kept_whole : (size : ℕ) (k : Known) (c : VolumeCore) → IsWholeMap size k → IsBooked size k → c.known ≡ k → AllZip (IsKeyed c.live) c.known.directories c.keys → AllByRecursion (λ o. IfSome o IsFirstRead) c.live → c.pending ≡ [] → IsWholeCore size c
-kept_whole size k c whole booked same keyed read none =
+pub kept_whole : (size : ℕ) (k : Known) (c : VolumeCore) → IsWholeMap size k → IsBooked size k → c.known ≡ k → AllZip (IsKeyed c.live) c.known.directories c.keys → AllByRecursion (λ o. IfSome o IsFirstRead) c.live → c.pending ≡ [] → ((n : ℕ) → total (current_reaches n) c.live ≡ entry_reaches n c.known.directories) → IsWholeCore size c
+kept_whole size k c whole booked same keyed read none current =
     let unheld : (n : ℕ) → holds c.known.table n ≡ 0 = λ n. ap (λ (x : Known). holds x.table n) same ∙ ap (λ l. slice_index l n) booked.unheld ∙ replicate_none size n in
     record {
       map = subst (IsWholeMap size) (sym same) whole;
       keyed = keyed;
       standing = all_standing c.live read;
       waiting = subst (AreWaiting size) (sym none) tt;
-      pinned = λ key v is some current. absurd (let unread = (first_at c.live key v read is).unread in omega arith);
+      current = current;
       housed = λ ppn absent. ap (total (creates ppn)) none;
       held = λ n. let held = none_held n c.live read in let waits = ap (total (pending_reaches n)) none in let free = unheld n in omega arith;
+      own = λ n some. absurd (let waits = ap (total (pending_reaches n)) none in omega arith);
       inside = λ n some. let none = unheld n in absurd (omega arith);
       apart = λ n some. let none = unheld n in absurd (omega arith);
+      within = λ some. absurd (let beyond = none_beyond c read none in omega arith);
       fits = subst (λ (x : Known). x.table.booked < 2 ^ 63) (sym same) (map_few size k whole booked);
       booked = let b = subst (λ (x : Known). x.table.booked ≡ cost_of_known x.master x.directories) (sym same) booked.booked in let beyond = none_beyond c read none in omega arith;
     }

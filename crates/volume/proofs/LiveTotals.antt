@@ -1,5 +1,6 @@
 -- Sums over what is kept in core: a slot that is another, and that no more blocks are in use than are booked.
-use Rattle.std.proofs.Common.{◌≡◌, ℕ, zero, suc, ◌+◌, ◌≤◌, Bool, true, false, cond, eqb, ltb, if◌then◌else◌, ◌==◌, List, [], ◌∷◌, length, Option, Some, None, IfSome, slice_index_or, refl, sym, ap, ◌∙◌, arith, length-append, add-suc}
+use Rattle.std.proofs.Common.{◌≡◌, ℕ, zero, suc, ◌+◌, ◌-◌, ◌<◌, ◌≤◌, ⊎_elim, Bool, true, false, cond, eqb, ltb, if◌then◌else◌, ◌==◌, List, [], ◌∷◌, length, Option, Some, None, IfSome, slice_index_or, refl, sym, ap, subst, ◌∙◌, arith, length-append, add-suc}
+use Rattle.std.proofs.lemmas.Bool.{cases_lt}
 use Rattle.std.proofs.lemmas.Bool.Decides.{nat_tests}
 use Rattle.std.specs.List.{AllByRecursion}
 use Rattle.meaning.specs.Counts.{sum_below}
@@ -8,10 +9,11 @@ use Rattle.meaning.specs.Maps.{total, times}
 use Rattle.meaning.specs.Regions.{space_start}
 use Rattle.meaning.specs.Table.{fixed}
 use Rattle.alloctab.specs.TableState.{bit, holds, used, uses, used_in_space, space}
+use Rattle.retrieval.specs.Writing.{rib_count}
 use Rattle.volume.specs.declared.live.LiveVersion.{LiveVersion}
 use Rattle.volume.specs.declared.pending.PendingVersion.{PendingVersion}
 use Rattle.volume.specs.Known.{KnownVersion, KnownDirectory, blocks_reached, reaches_in_entries, reaches_in_known, known_reaches, cost_of_version, cost_of_directory, IsWholeVersion, IsWholeDirectory}
-use Rattle.volume.specs.Live.{VolumeCore, as_known, held_reaches, held_cost, pending_reaches, pending_cost, IsWholePending, IsWholeCore}
+use Rattle.volume.specs.Live.{VolumeCore, as_known, held_reaches, held_cost, pending_reaches, pending_cost, growths, IsWholePending, IsWholeCore}
 
 -- A slot that is another.
 
@@ -166,6 +168,18 @@ waiting_one (None ∷ os) (suc key) p is = let rest = waiting_one os key p is in
 waiting_one (Some q ∷ os) zero p is = let rest = waiting_cost os in omega arith
 waiting_one (Some q ∷ os) (suc key) p is = let rest = waiting_one os key p is in omega arith
 
+-- and as many more as they have ribs
+waiting_ribs : (pending : List (Option PendingVersion)) (key : ℕ) (p : PendingVersion) → slice_index_or pending key None ≡ Some p → total pending_blocks pending + (1 + rib_count (length p.version.blocks)) ≤ total pending_cost pending
+waiting_ribs [] key p is = cc
+waiting_ribs (None ∷ os) zero p is = cc
+waiting_ribs (None ∷ os) (suc key) p is = let rest = waiting_ribs os key p is in omega arith
+waiting_ribs (Some q ∷ os) zero p is =
+    let rest = waiting_cost os in
+    let same : q ≡ p = cc in
+    let blocks = ap (λ (x : PendingVersion). length x.version.blocks) same in
+    subst (λ (n : ℕ). total pending_blocks (Some q ∷ os) + (1 + rib_count n) ≤ total pending_cost (Some q ∷ os)) blocks (omega arith)
+waiting_ribs (Some q ∷ os) (suc key) p is = let rest = waiting_ribs os key p is in omega arith
+
 -- What is in use.
 
 past_fixed : (size i : ℕ) → fixed size (space_start size + i) ≡ 0
@@ -175,7 +189,7 @@ same_stretch : (f g : ℕ → ℕ) (k : ℕ) → ((i : ℕ) → f i ≡ g i) →
 same_stretch f g zero same = refl
 same_stretch f g (suc k) same = let a = same k in let r = same_stretch f g k same in omega arith
 
-uses_by : (size : ℕ) (c : VolumeCore) → IsWholeCore size c → (more : ℕ) → total pending_blocks c.pending + more ≤ total pending_cost c.pending → uses c.known.table + more ≤ c.known.table.booked
+uses_by : (size : ℕ) (c : VolumeCore) → IsWholeCore size c → (more : ℕ) → total pending_blocks c.pending + more ≤ growths c.pending c.known.master.entries c.known.directories + total pending_cost c.pending → uses c.known.table + more ≤ c.known.table.booked
 uses_by size c whole more waits =
     let t = c.known.table in
     let s = space_start t.size in
@@ -206,7 +220,34 @@ core_uses size c whole = let few = waiting_cost c.pending in let all = uses_by s
 
 -- and one more where a version is being written
 pub core_uses_one : (size : ℕ) (c : VolumeCore) → IsWholeCore size c → (key : ℕ) (p : PendingVersion) → slice_index_or c.pending key None ≡ Some p → uses c.known.table + 1 ≤ c.known.table.booked
-core_uses_one size c whole key p is = uses_by size c whole 1 (waiting_one c.pending key p is)
+core_uses_one size c whole key p is = let one = waiting_one c.pending key p is in uses_by size c whole 1 (omega arith)
+
+-- and as many as it still asks for, with what the directories grow by
+pub core_uses_more : (size : ℕ) (c : VolumeCore) → IsWholeCore size c → (key : ℕ) (p : PendingVersion) → slice_index_or c.pending key None ≡ Some p → (more : ℕ) → more ≤ growths c.pending c.known.master.entries c.known.directories
+    → uses c.known.table + (more + (1 + rib_count (length p.version.blocks))) ≤ c.known.table.booked
+core_uses_more size c whole key p is more few = let ribs = waiting_ribs c.pending key p is in uses_by size c whole (more + (1 + rib_count (length p.version.blocks))) (omega arith)
+
+stretch_at : (f : ℕ → ℕ) (k i : ℕ) → i < k → f i ≤ sum_below f k
+stretch_at f zero i below = absurd (omega arith)
+stretch_at f (suc k) i below = ⊎_elim (λ less. let r = stretch_at f k i less in omega arith) (λ past. let same : i ≡ k = omega arith in let here = ap f same in omega arith) (cases_lt i k)
+
+-- a block is held no more often than blocks are booked
+pub core_holds : (size : ℕ) (c : VolumeCore) → IsWholeCore size c → (n : ℕ) → holds c.known.table n ≤ c.known.table.booked
+core_holds size c whole n = ⊎_elim
+    (λ some.
+    let t = c.known.table in
+    let inside = whole.inside n some in
+    let from = inside.from in
+    let below = inside.below in
+    let same = whole.map.size_is in
+    let starts = ap space_start same in
+    let i = n - space_start t.size in
+    let place : space_start t.size + i ≡ n = omega arith in
+    let part = stretch_at (λ k. bit t (space_start t.size + k) + holds t (space_start t.size + k)) (space t.size) i (omega arith) in
+    let here = ap (holds t) place in
+    let all = core_uses size c whole in
+    omega arith)
+    (λ none. omega arith) (cases_lt 0 (holds c.known.table n))
 
 used_once : (b h : ℕ) → (if b + h == 0 then 0 else 1) ≤ b + h
 used_once zero zero = grind (arith, nat_tests)

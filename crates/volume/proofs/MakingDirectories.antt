@@ -26,10 +26,10 @@ use Rattle.changeset.specs.Crashes.{IsGateOrLog}
 use Rattle.changeset.specs.Puts.{IsPutIn}
 use Rattle.changeset.specs.PutLaws.{times_head, times_tail, with_puts_here, with_puts_later}
 use Rattle.changeset.specs.Rest.{AtRest, SettlesTo}
-use Rattle.alloctab.specs.TableState.{bit, holds, IsFree}
+use Rattle.alloctab.specs.TableState.{bit, holds, space, IsFree}
 use Rattle.retrieval.specs.Writing.{IsFixed}
-use Rattle.volume.specs.Known.{KnownDirectory, Known, IsHeld, reaches_in_known, known_reaches, IsWholeDirectory, IsWholeMap, cost_of_directory, cost_of_known}
-use Rattle.volume.specs.Live.{VolumeCore, slot, IsKeyed, AreStanding, held_reaches, held_cost, pending_reaches, pending_cost, creates, growths, AreWaiting, IsWholeCore}
+use Rattle.volume.specs.Known.{KnownDirectory, Known, IsHeld, reaches_in_entries, reaches_in_known, known_reaches, IsWholeDirectory, IsWholeMap, cost_of_directory, cost_of_known}
+use Rattle.volume.specs.Live.{VolumeCore, IsKeyed, AreStanding, held_reaches, held_cost, current_reaches, entry_reaches, pending_reaches, pending_cost, creates, growths, AreWaiting, IsWholeCore}
 use Rattle.volume.specs.declared.pending.PendingVersion.{PendingVersion}
 use Rattle.volume.specs.Making.{LeadsTo, IsAligned, bare_known, entry_made, map_made, files_made, IsMade}
 use Rattle.volume.specs.Rest.{IsAtRest, IsSound, RestsAt, StandsForEither}
@@ -197,9 +197,10 @@ module _ (size : ℕ) (k k' : Known) (ppn protection first : ℕ) (puts : List P
             (subst (AllZip (IsKeyed c.live) c'.known.directories) (sym keys) (subst (λ ds. AllZip (IsKeyed c.live) ds (c.keys ++ [] ∷ [])) (sym directories) (zip_behind (IsKeyed c.live) c.known.directories c.keys (bare_known first) [] core.keyed tt)));
         standing = subst AreStanding (sym live) core.standing;
         waiting = subst (AreWaiting size) (sym pending) core.waiting;
-        pinned = λ key v is some current n.
-            let stands = core.pinned key v (ap (λ l. slot l key) (sym live) ∙ is) some current n in
-            let more = ap (total (reaches_in_known n)) directories ∙ total-push (reaches_in_known n) c.known.directories (bare_known first) in
+        current = λ n.
+            let same = ap (total (current_reaches n)) live in
+            let more = ap (entry_reaches n) directories ∙ total-push (λ (d : KnownDirectory). reaches_in_entries n d.chain.entries d.versions) c.known.directories (bare_known first) in
+            let was = core.current n in
             omega arith;
         housed = λ q absent.
             let entries : c'.known.master.entries ≡ c.known.master.entries ++ entry_made ppn protection first ∷ [] = ap (λ x. x.master.entries) is ∙ made.entered.entries ∙ ap (λ x. x.master.entries ++ entry_made ppn protection first ∷ []) (sym was) in
@@ -209,6 +210,17 @@ module _ (size : ℕ) (k k' : Known) (ppn protection first : ℕ) (puts : List P
             let was = core.held n in
             let held = ap (total (held_reaches n)) live in
             let waits = ap (total (pending_reaches n)) pending in
+            omega arith;
+        own = λ n some.
+            let waits = ap (total (pending_reaches n)) pending in
+            let few = core.own n (omega arith) in
+            let sum = core.held n in
+            let there : 0 < holds k.table n = subst (λ x. 0 < holds x.table n) was (omega arith) in
+            let new = not_free n (first ∷ made.grown) (λ free. let none = free.unheld in omega arith) made.free in
+            let bits = made.taken.bits n in
+            let same = ap (λ l. slice_index l n) table in
+            let bits_was = ap (λ x. bit x.table n) was in
+            let bits_is = ap (λ x. bit x.table n) is in
             omega arith;
         inside = λ n some. core.inside n (subst (λ l. 0 < slice_index l n) table some);
         apart = λ n some.
@@ -226,6 +238,7 @@ module _ (size : ℕ) (k k' : Known) (ppn protection first : ℕ) (puts : List P
             let large = whole.volume.large in
             let e = ap (λ x. x.table.booked) is in
             omega arith;
+        within = λ some. subst (λ (x : Known). x.table.booked ≤ space size) (sym is) made.room;
         booked =
             let a = made.taken.booked in
             let b = core.booked in

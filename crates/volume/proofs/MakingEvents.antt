@@ -1,5 +1,5 @@
 -- A free block is written, and then a set of puts is committed: what a crash leaves, and the end.
-use Rattle.std.proofs.Common.{◌≡◌, ◌⊎◌, inl, inr, ⊎_elim, ℕ, List, Some, refl, sym, subst, arith}
+use Rattle.std.proofs.Common.{◌≡◌, ◌⊎◌, inl, inr, ⊎_elim, ℕ, List, Some, Result, Ok, Err, OnOk, refl, sym, subst, arith}
 use Rattle.blockdisk.specs.Disk.{Contents, DiskState, MayLeave, NoneOpen, SameOutside, Touches, LeavesOnly}
 use Rattle.blockdisk.specs.Laws.{leaves_weaker, touches_wider, touches_on}
 use Rattle.changeset.specs.Crashes.{IsGateOrLog, IsShut, AllOrNone}
@@ -13,6 +13,11 @@ use Rattle.alloctab.specs.TableState.{bit}
 use Rattle.volume.specs.Known.{Known, IsHeld}
 use Rattle.volume.specs.Making.{LeadsTo, IsAligned}
 use Rattle.volume.proofs.MakingHeld.{ignores_log, ignores_free}
+
+-- what follows of three facts that hold where a call answers Ok
+pub on_ok_three : {T E : Type 0} {A B C X : Type 0} (result : Result T E) → (A → B → C → X) → OnOk result A → OnOk result B → OnOk result C → OnOk result X
+on_ok_three (Ok x) gives a b c = gives a b c
+on_ok_three (Err e) gives a b c = tt
 
 -- what the two calls write
 pub wrote : (fresh : ℕ) (puts : List Put) (s mid s' : DiskState) → mid.size ≡ s.size → Touches (λ n. n ≡ fresh) s mid → Touches (λ n. IsGateOrLog mid.size n ⊎ IsPutIn puts n) mid s'

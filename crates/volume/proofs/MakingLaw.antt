@@ -42,7 +42,7 @@ pushed_at [] x y (suc i) is = absurd (some_none (sym is))
 pushed_at (z ∷ xs) x y zero is = inl is
 pushed_at (z ∷ xs) x y (suc i) is = ⊎_elim (λ old. inl old) (λ new. inr (ap suc new.0, new.1)) (pushed_at xs x y i is)
 
-head_front : (xs ys : List ℕ) → 0 < length xs → head_or_zero (xs ++ ys) ≡ head_or_zero xs
+pub head_front : (xs ys : List ℕ) → 0 < length xs → head_or_zero (xs ++ ys) ≡ head_or_zero xs
 head_front [] ys some = absurd (omega arith)
 head_front (x ∷ xs) ys some = refl
 
@@ -53,16 +53,16 @@ one_digit false = omega arith
 pub bit_few : (t : TableState) (n : ℕ) → bit t n ≤ 1
 bit_few t n = one_digit (flag_at t.bits n)
 
-some_or_none : (n : ℕ) → (0 < n) ⊎ (n ≡ 0)
+pub some_or_none : (n : ℕ) → (0 < n) ⊎ (n ≡ 0)
 some_or_none zero = inr refl
 some_or_none (suc n) = inl (omega arith)
 
-none_mapped : {A B : Type 0} (f : A → B) (o : Option A) → option_map f o ≡ None → o ≡ None
+pub none_mapped : {A B : Type 0} (f : A → B) (o : Option A) → option_map f o ≡ None → o ≡ None
 none_mapped f None e = refl
 none_mapped f (Some x) e = absurd (some_none e)
 
 -- the bits where the blocks of the table stay
-bits_same : (size : ℕ) (old new : Contents) → ((i : ℕ) → i < table_blocks size → new (table_start size + i) ≡ old (table_start size + i)) → (n : ℕ) → table_bit size new n ≡ table_bit size old n
+pub bits_same : (size : ℕ) (old new : Contents) → ((i : ℕ) → i < table_blocks size → new (table_start size + i) ≡ old (table_start size + i)) → (n : ℕ) → table_bit size new n ≡ table_bit size old n
 bits_same size old new same n = by_case (ltb n (4608 * table_blocks size)) refl
   where
     by_case : (b : Bool) → ltb n (4608 * table_blocks size) ≡ b → cond b (bit_in (new (table_start size + n / 4608)) n) 0 ≡ cond b (bit_in (old (table_start size + n / 4608)) n) 0

@@ -16,6 +16,7 @@ use Rattle.alloctab.specs.Changes.{IsChangedBlock, SpellsTable}
 use Rattle.retrieval.specs.Writing.{Takes, IsFixed}
 use Rattle.meaning.proofs.Lists.{times_here, times_later}
 use Rattle.retrieval.proofs.Taking.{free_before, free_in_space, used_one_more, takes_each}
+use Rattle.volume.specs.Publishing.{Marks}
 use Rattle.volume.specs.Making.{taken, released, brought, Uses, with_booked, TakesBlocks, PutsTable}
 
 -- Given up.
@@ -122,6 +123,25 @@ module _ (t u t' : TableState) (ns : List ℕ) (before after : List Put) (uses :
           let inside : i < table_blocks u.size = changed_inside u at.i uses.sound at.changed in
           let place : n ≡ table_start u.size + i = at.block in
           ⊎_elim (λ low. omega arith) (λ high. omega arith) away
+
+-- The same of bits that were set and cleared.
+pub puts_marked : (t u t' : TableState) (before after : List Put) → Marks t u → t' ≡ record u { changed = replicate (table_blocks u.size) false }
+    → ((c : Contents) (n : ℕ) → (IsChangedBlock u n → ⊥) → with_puts after c n ≡ with_puts before c n) → ((c : Contents) → SpellsTable u (with_puts before c) (with_puts after c))
+    → (AllByRecursion (IsTarget u.size) (targets before) → AllByRecursion (IsTarget u.size) (targets after)) → length after ≤ length before + changed_blocks u → PutsTable t.size t t' before after
+puts_marked t u t' before after marks is others spells in_range few = subst (λ (n : ℕ). PutsTable n t t' before after) marks.size (record {
+  spells = λ c old n. (spells c).bits (λ m still. old m ∙ sym (marks.moved m still)) n ∙ ap (λ (v : TableState). bit v n) (sym is);
+  undamaged = λ c old i below. (spells c).undamaged i below (inl (old i below));
+  others = λ c n away. others c n (λ at. outside n at away);
+  in_range = in_range;
+  few = let most = changed_blocks-le u marks.sound in omega arith;
+})
+  where
+    outside : (n : ℕ) → IsChangedBlock u n → (n < table_start u.size) ⊎ (space_start u.size ≤ n) → ⊥
+    outside n at away =
+        let i = at.i in
+        let inside : i < table_blocks u.size = changed_inside u at.i marks.sound at.changed in
+        let place : n ≡ table_start u.size + i = at.block in
+        ⊎_elim (λ low. omega arith) (λ high. omega arith) away
 
 -- Where one block was taken, another one is still booked.
 pub second_booked : (t u : TableState) (n : ℕ) (grows : Bool) → grows ≡ true → IsTable t → IsFixed t → n < t.size → IsFree t n → u ≡ taken t n → used_in_space t + (if grows then 2 else 1) ≤ t.booked → used_in_space u < u.booked

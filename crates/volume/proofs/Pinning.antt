@@ -1,5 +1,5 @@
 -- A version with another number of readers, or one that goes: what is in core stays whole.
-use Rattle.std.proofs.Common.{◌≡◌, ◌↔◌, IsTrue, ℕ, zero, suc, ◌+◌, ◌<◌, ◌≤◌, Bool, true, false, if◌then◌else◌, List, [], ◌∷◌, map, filter_map, length, slice_index, Option, Some, None, IfSome, IsSome, slice_index_or, refl, sym, ap, subst, ◌∙◌, arith, ⊎_elim}
+use Rattle.std.proofs.Common.{◌≡◌, ◌↔◌, IsTrue, ℕ, zero, suc, ◌+◌, ◌≤◌, Bool, true, false, if◌then◌else◌, List, [], ◌∷◌, map, filter_map, length, slice_index, Option, Some, None, IfSome, IsSome, slice_index_or, refl, sym, ap, subst, ◌∙◌, arith, ⊎_elim}
 use Rattle.std.proofs.lemmas.Bool.{cases_eq}
 use Rattle.std.specs.List.{AllByRecursion, cons_option}
 use Rattle.std.specs.Option.{option_map}
@@ -7,8 +7,8 @@ use Rattle.meaning.specs.Costs.{cost_of_blocks}
 use Rattle.meaning.specs.Maps.{total, times}
 use Rattle.meaning.specs.Retrieval.{most_blocks}
 use Rattle.alloctab.specs.TableState.{TableState, holds}
-use Rattle.volume.specs.Known.{Known, blocks_reached, reaches_in_known, IsWholeVersion, IsWholeMap}
-use Rattle.volume.specs.Live.{VolumeCore, as_known, slot, held_reaches, held_cost, ArePinned, IsWholeCore}
+use Rattle.volume.specs.Known.{KnownDirectory, Known, blocks_reached, reaches_in_known, IsWholeVersion, IsWholeMap}
+use Rattle.volume.specs.Live.{VolumeCore, as_known, slot, held_reaches, held_cost, current_reaches, entry_reaches, IsWholeCore}
 use Rattle.slab.specs.Slab.{Slab, Updates}
 use Rattle.volume.specs.LiveCores.{core_of, known_at, live_directory}
 use Rattle.volume.specs.declared.live.LiveVersion.{LiveVersion}
@@ -74,49 +74,50 @@ module _ (old new : List (Option LiveVersion)) (key : ℕ) (v : LiveVersion) (re
       let here = ap f was in
       omega arith
 
--- a version that is pinned stands in a directory
-abbrev pub StandsIn : VolumeCore → LiveVersion → Type 0
-StandsIn c v = (n : ℕ) → times n (blocks_reached v.at v.version) ≤ total (reaches_in_known n) c.known.directories
+entries_within : (n : ℕ) (ds : List KnownDirectory) → entry_reaches n ds ≤ total (reaches_in_known n) ds
+entries_within n [] = omega arith
+entries_within n (d ∷ ds) = let rest = entries_within n ds in omega arith
 
-pinned_with : (c : VolumeCore) (new : List (Option LiveVersion)) (key : ℕ) (v : LiveVersion) (readers : ℕ) → ArePinned c.live c.known.directories → (0 < readers → v.is_current ≡ true → StandsIn c v) → slot new key ≡ Some (record v { readers = readers })
-    → ((k : ℕ) → (k ≡ key → ⊥) → slot new k ≡ slot c.live k) → ArePinned new c.known.directories
-pinned_with c new key v readers pinned stands now others k w is some current = ⊎_elim
-    (λ (same : k ≡ key).
-    let both : Some w ≡ Some (record v { readers = readers }) = sym is ∙ ap (slot new) same ∙ now in
-    let is_w : w ≡ record v { readers = readers } = cc in
-    subst (λ (u : LiveVersion). (n : ℕ) → times n (blocks_reached u.at u.version) ≤ total (reaches_in_known n) c.known.directories) (sym is_w)
-    (stands (subst (λ (u : LiveVersion). 0 < u.readers) is_w some) (ap (λ u. u.is_current) (sym is_w) ∙ current)))
-    (λ other. pinned k w (sym (others k other) ∙ is) some current) (cases_eq k key)
+-- a version that is current stands in a directory
+pub current_stands : (size : ℕ) (c : VolumeCore) → IsWholeCore size c → (key : ℕ) (v : LiveVersion) → slot c.live key ≡ Some v → v.is_current ≡ true → (n : ℕ) → times n (blocks_reached v.at v.version) ≤ total (reaches_in_known n) c.known.directories
+current_stands size c whole key v is current n =
+    let part = total_at (current_reaches n) refl c.live key in
+    let here = ap (current_reaches n) is ∙ ap (λ (b : Bool). if b then times n (blocks_reached v.at v.version) else 0) current in
+    let all = whole.current n in
+    let most = entries_within n c.known.directories in
+    omega arith
 
 -- with another number of readers
-pub counted_whole : (size : ℕ) (c : VolumeCore) (new : List (Option LiveVersion)) (key : ℕ) (v : LiveVersion) (readers : ℕ) → IsWholeCore size c → (0 < readers → v.is_current ≡ true → StandsIn c v) → slot c.live key ≡ Some v → slot new key ≡ Some (record v { readers = readers })
+pub counted_whole : (size : ℕ) (c : VolumeCore) (new : List (Option LiveVersion)) (key : ℕ) (v : LiveVersion) (readers : ℕ) → IsWholeCore size c → slot c.live key ≡ Some v → slot new key ≡ Some (record v { readers = readers })
     → ((k : ℕ) → (k ≡ key → ⊥) → slot new k ≡ slot c.live k) → IsWholeCore size (record c { live = new })
-counted_whole size c new key v readers whole stands was now others = record {
+counted_whole size c new key v readers whole was now others = record {
   map = whole.map;
   keyed = directories_keyed_on c.live new (still_counted c.live new key v readers was now others) c.known.directories c.keys whole.keyed;
   standing = all_updated (λ o. IfSome o (λ v. IsWholeVersion (as_known v))) c.live new key others tt whole.standing
       (subst (λ o. IfSome o (λ v. IsWholeVersion (as_known v))) (sym now)
       (subst (λ o. IfSome o (λ v. IsWholeVersion (as_known v))) was (each_slot (λ o. IfSome o (λ v. IsWholeVersion (as_known v))) tt c.live whole.standing key)));
   waiting = whole.waiting;
-  pinned = pinned_with c new key v readers whole.pinned stands now others;
+  current = λ n. same_total c.live new key v readers was now others (current_reaches n) refl refl ∙ whole.current n;
   housed = whole.housed;
   held = λ n. let before = whole.held n in let same = same_total c.live new key v readers was now others (held_reaches n) refl refl in omega arith;
+  own = whole.own;
   inside = whole.inside;
   apart = whole.apart;
   fits = whole.fits;
+  within = λ some. let same = same_total c.live new key v readers was now others held_cost refl refl in whole.within (omega arith);
   booked = let before = whole.booked in let same = same_total c.live new key v readers was now others held_cost refl refl in omega arith;
 }
 
 -- what holds of the core does so with other readers
-pub readers_whole : (size : ℕ) (m : LiveMap) (versions : Slab LiveVersion) (key : ℕ) (readers : ℕ → ℕ) (o : Option LiveVersion) → ((v : LiveVersion) → o ≡ Some v → 0 < readers v.readers → v.is_current ≡ true → StandsIn (core_of m) v) → slot m.versions.slots key ≡ o → IsSome o
+pub readers_whole : (size : ℕ) (m : LiveMap) (versions : Slab LiveVersion) (key : ℕ) (readers : ℕ → ℕ) (o : Option LiveVersion) → slot m.versions.slots key ≡ o → IsSome o
     → IfSome o (λ v. slot versions.slots key ≡ Some (record v { readers = readers v.readers })) → ((k : ℕ) → (k ≡ key → ⊥) → slot versions.slots k ≡ slot m.versions.slots k)
     → IsWholeCore size (core_of m) → IsWholeCore size (core_of (record m { versions = versions }))
-readers_whole size m versions key readers None stands was there counted others whole = absurd (cc)
-readers_whole size m versions key readers (Some v) stands was there counted others whole =
+readers_whole size m versions key readers None was there counted others whole = absurd (cc)
+readers_whole size m versions key readers (Some v) was there counted others whole =
     let c = core_of m in
     let same = same_directories m.versions.slots versions.slots key v (readers v.readers) was counted others m.directories.items in
     subst (IsWholeCore size) (λ i. record { known = record c.known { directories = sym same i }; keys = c.keys; live = versions.slots; pending = c.pending })
-    (counted_whole size c versions.slots key v (readers v.readers) whole (stands v refl) was counted others)
+    (counted_whole size c versions.slots key v (readers v.readers) whole was counted others)
 
 -- A version that goes.
 
@@ -157,16 +158,25 @@ gone_whole size c new key v held booked whole was ended now others less fewer = 
   keyed = directories_keyed_on c.live new (gone_stay c.live new key v was ended others) c.known.directories c.keys whole.keyed;
   standing = all_updated (λ o. IfSome o (λ v. IsWholeVersion (as_known v))) c.live new key others tt whole.standing (subst (λ o. IfSome o (λ v. IsWholeVersion (as_known v))) (sym now) tt);
   waiting = whole.waiting;
-  pinned = λ k w is some current. ⊎_elim (λ (same : k ≡ key). absurd (let none = sym now ∙ ap (slot new) (sym same) ∙ is in cc)) (λ other. whole.pinned k w (sym (others k other) ∙ is) some current) (cases_eq k key);
+  current = λ n.
+      let all = total_updated (current_reaches n) refl c.live new key None now others in
+      let here = ap (current_reaches n) was ∙ ap (λ (b : Bool). if b then times n (blocks_reached v.at v.version) else 0) ended in
+      let old = whole.current n in
+      omega arith;
   housed = whole.housed;
   held = λ n.
       let all = total_updated (held_reaches n) refl c.live new key None now others in
       let here = ap (held_reaches n) was ∙ ap (λ b. if b then 0 else times n (blocks_reached v.at v.version)) ended in
       let old = whole.held n in
       omega (arith, less n);
+  own = λ n some. let few = whole.own n some in omega (arith, less n);
   inside = λ n there. whole.inside n (omega (arith, less n));
   apart = λ n there. whole.apart n (omega (arith, less n));
   fits = let fits = whole.fits in omega arith;
+  within = λ some.
+      let all = total_updated held_cost refl c.live new key None now others in
+      let most = whole.within (omega arith) in
+      omega arith;
   booked =
       let all = total_updated held_cost refl c.live new key None now others in
       let here = ap held_cost was ∙ ap (λ b. if b then 0 else cost_of_blocks (length v.version.blocks)) ended in

@@ -26,7 +26,7 @@ growths_same old new same (e ∷ es) (d ∷ ds) =
     omega arith
 
 -- a directory's chain is a part of what it reaches
-chains_within : (n : ℕ) (ds : List KnownDirectory) → total (λ (d : KnownDirectory). times n d.chain.blocks) ds ≤ total (reaches_in_known n) ds
+pub chains_within : (n : ℕ) (ds : List KnownDirectory) → total (λ (d : KnownDirectory). times n d.chain.blocks) ds ≤ total (reaches_in_known n) ds
 chains_within n [] = omega arith
 chains_within n (d ∷ ds) = let rest = chains_within n ds in omega arith
 
@@ -52,7 +52,10 @@ module _ (size : ℕ) (c : VolumeCore) (whole : IsWholeCore size c) (key : ℕ) 
         let here = ap pending_cost was in
         let all = whole.booked in
         omega arith;
-    fits = whole.fits;
+    within =
+        let part = total_at pending_cost refl c.pending key in
+        let here = ap pending_cost was in
+        whole.within (omega arith);
   }
 
   module _ (t : TableState) (pending : List (Option PendingVersion)) (v : VersionState) (is : Regrown size c.known.table t pending key p v)
@@ -87,7 +90,7 @@ module _ (size : ℕ) (c : VolumeCore) (whole : IsWholeCore size c) (key : ℕ) 
         let sum = grown.held n in
         let part = ready.held n in
         let stands : 0 < times n v.blocks = omega arith in
-        ⊎_elim (λ old. absurd (omega arith)) (λ clear. inr (clear, stands)) (grown.clear n stands))
+        ⊎_elim (λ fewer. absurd (omega arith)) (λ free. inr (free.0.clear, stands)) (grown.adds n))
         (cases_lt 0 (holds c.known.table n))
 
     -- one whose bit is clear stands in no chain
@@ -103,16 +106,23 @@ module _ (size : ℕ) (c : VolumeCore) (whole : IsWholeCore size c) (key : ℕ) 
       keyed = whole.keyed;
       standing = whole.standing;
       waiting = all_updated (λ o. IfSome o (IsWholePending size)) c.pending pending key others tt whole.waiting (subst (λ o. IfSome o (IsWholePending size)) (sym is.0) new_waits);
-      pinned = whole.pinned;
+      current = whole.current;
       housed = λ ppn absent. new_creates ppn ∙ whole.housed ppn absent;
       held = λ n.
           let all = new_total (pending_reaches n) refl in
           let sum = grown.held n in
           let before = whole.held n in
           omega arith;
+      own = λ n some.
+          let all = new_total (pending_reaches n) refl in
+          let sum = grown.held n in
+          ⊎_elim
+          (λ fewer. let few = whole.own n (omega arith) in omega arith)
+          (λ free. let clear = free.0.clear in let unheld = free.0.unheld in let once = free.1 in omega arith) (grown.adds n);
       inside = λ n some. ⊎_elim (λ old. whole.inside n old) (λ new. all_times_at (InSpace size) v.blocks n grown.inside new.1) (held_or_new n some);
       apart = λ n some. ⊎_elim (λ old. whole.apart n old) (λ new. clear_apart n new.0) (held_or_new n some);
-      fits = grown.fits;
+      fits = let few = grown.within in let large = whole.map.volume.large in omega arith;
+      within = λ some. grown.within;
       booked =
           let all = new_total pending_cost refl in
           let sum = grown.booked in
@@ -138,7 +148,7 @@ set_at (o ∷ os) (suc key) q x is = set_at os key q x is
 
 -- as it was
 pub regrows_same : (size : ℕ) (t : TableState) (v : VersionState) → IsReady size t v → Regrows size t t v v
-regrows_same size t v is = record { counted = is.counted; few = is.few; ribs = refl; inside = is.inside; clear = λ n there. inl there; table = refl; held = λ n. refl; booked = refl; fits = is.fits }
+regrows_same size t v is = record { counted = is.counted; few = is.few; ribs = refl; inside = is.inside; adds = λ n. inl (omega arith); table = refl; held = λ n. refl; booked = refl; within = is.within }
 
 module _ (slots : List (Option PendingVersion)) (key : ℕ) (q p : PendingVersion) (got : Some q ≡ pending_at slots key) (was : pending_at slots key ≡ Some p) where
   pub same_version : q ≡ p

@@ -28,11 +28,11 @@ use Rattle.volume.specs.Known.{Known, IsHeld, blocks_reached}
 use Rattle.volume.specs.Live.{VolumeCore, slot, pending_at, held_reaches, pending_reaches, IsWholeCore}
 use Rattle.volume.specs.Making.{IsAligned}
 use Rattle.volume.specs.Putting.{Regrown}
-use Rattle.volume.specs.Rest.{IsAtRest, HasSomeBody, IsSound, RestsAt}
+use Rattle.volume.specs.Rest.{IsAtRest, HasSomeBody, IsSound, RestsAt, KeepsRead, KeepsWritten}
 use Rattle.volume.proofs.LiveBodies.{HaveBodies, body_stays}
 use Rattle.volume.proofs.MakingDirectories.{files_are, rest_for, sound_for, sound_failed, whole_fixed}
 use Rattle.volume.proofs.MakingHeld.{held_kept}
-use Rattle.volume.proofs.Pinning.{total_at}
+use Rattle.volume.proofs.Pinning.{total_at, current_stands}
 use Rattle.volume.proofs.PuttingCore.{put_whole}
 
 -- Quiet writes.
@@ -116,7 +116,7 @@ module _ (size : ℕ) (c : VolumeCore) (whole : IsWholeCore size c) (key : ℕ) 
 
       by : (b : Bool) → v.is_current ≡ b → ⊥
       by true current =
-          let most = whole.pinned k v is some current n in
+          let most = current_stands size c whole k v is current n in
           let here = stands in
           let bits = whole.map.bits n in
           let clear = own.clear in
@@ -139,6 +139,12 @@ module _ (size : ℕ) (c : VolumeCore) (whole : IsWholeCore size c) (key : ℕ) 
       let all = whole.held n in
       let alone = own.alone in
       omega arith
+
+  pub keeps_read : (old new : Contents) → SameOutside (IsOwn c.known.table p.version.blocks) old new → KeepsRead old new c
+  keeps_read old new same k v is some n there = same n (read_apart k v is some n there)
+
+  pub keeps_written : (old new : Contents) → SameOutside (IsOwn c.known.table p.version.blocks) old new → KeepsWritten old new c key
+  keeps_written old new same k q other is n there = same n (written_apart k q other is n there)
 
   -- the words of all versions after the words are put
   pub put_bodies : (s s' : DiskState) (failed : Bool) → IsSound s c failed → s.honest → failed ≡ false → SameOutside (IsOwn c.known.table p.version.blocks) s.contents s'.contents

@@ -26,7 +26,7 @@ use Rattle.volume.specs.Live.{VolumeCore, slot, held_reaches, IsWholePending, Is
 use Rattle.volume.specs.Pins.{version_under, IsReadable}
 use Rattle.volume.specs.Rest.{HasSomeBody, IsSound, RestsAt}
 use Rattle.volume.proofs.LiveBodies.{read_used, body_stays}
-use Rattle.volume.proofs.Pinning.{total_at, each_slot}
+use Rattle.volume.proofs.Pinning.{total_at, each_slot, current_stands}
 use Rattle.volume.proofs.Starting.{rest_read}
 
 -- Reading changes nothing.
@@ -62,7 +62,7 @@ module _ (size : ℕ) (c : VolumeCore) (whole : IsWholeCore size c) (table : IsT
       stands = let parts = times-append n v.version.ribs v.version.blocks in omega arith
 
       by : (b : Bool) → v.is_current ≡ b → n < size
-      by true current = set_below n (let most = whole.pinned key v is some current n in let here = stands in let is = whole.map.bits n in omega arith)
+      by true current = set_below n (let most = current_stands size c whole key v is current n in let here = stands in let is = whole.map.bits n in omega arith)
       by false ended = (whole.inside n
           (let part = total_at (held_reaches n) refl c.live key in
           let here = ap (held_reaches n) is ∙ ap (λ (b : Bool). if b then 0 else times n (blocks_reached v.at v.version)) ended in

@@ -14,3 +14,4 @@ pub mod LiveCores
 pub mod Putting
 pub mod Pins
 pub mod Beginning
+pub mod Publishing

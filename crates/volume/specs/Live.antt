@@ -9,10 +9,10 @@ use Rattle.meaning.specs.Maps.{total, times}
 use Rattle.meaning.specs.Costs.{cost_of_blocks, directory_cost}
 use Rattle.meaning.specs.Directories.{MasterEntry}
 use Rattle.meaning.specs.Faults.{InSpace}
-use Rattle.alloctab.specs.TableState.{holds}
+use Rattle.alloctab.specs.TableState.{bit, holds, space}
 use Rattle.volume.specs.declared.live.LiveVersion.{LiveVersion}
 use Rattle.volume.specs.declared.pending.PendingVersion.{PendingVersion}
-use Rattle.volume.specs.Known.{Known, KnownVersion, KnownDirectory, blocks_reached, reaches_in_known, cost_of_known, IsWholeVersion, IsWholeMap}
+use Rattle.volume.specs.Known.{Known, KnownVersion, KnownDirectory, blocks_reached, reaches_in_entries, cost_of_known, IsWholeVersion, IsWholeMap}
 
 pub record VolumeCore : Type 0 where
   pub known : Known
@@ -60,6 +60,15 @@ abbrev pub held_cost : Option LiveVersion → ℕ
 held_cost None = 0
 held_cost (Some v) = if v.is_current then 0 else cost_of_blocks (length v.version.blocks)
 
+-- How often it stands in one that is current.
+abbrev pub current_reaches : ℕ → Option LiveVersion → ℕ
+current_reaches n None = 0
+current_reaches n (Some v) = if v.is_current then times n (blocks_reached v.at v.version) else 0
+
+-- how often in the versions of all entries
+abbrev pub entry_reaches : ℕ → List KnownDirectory → ℕ
+entry_reaches n directories = total (λ d. reaches_in_entries n d.chain.entries d.versions) directories
+
 -- The same of a version that is being written.
 
 abbrev pub pending_reaches : ℕ → Option PendingVersion → ℕ
@@ -99,25 +108,25 @@ pub record IsWholePending (size : ℕ) (p : PendingVersion) : Type 0 where
 abbrev pub AreWaiting : ℕ → List (Option PendingVersion) → Type 0
 AreWaiting size pending = AllByRecursion (λ o. IfSome o (IsWholePending size)) pending
 
--- a version that readers hold and a file has: its blocks stand in the directories
-abbrev pub ArePinned : List (Option LiveVersion) → List KnownDirectory → Type 0
-ArePinned live directories =
-    (key : ℕ) (v : LiveVersion) → slot live key ≡ Some v → 0 < v.readers → v.is_current ≡ true → (n : ℕ) → times n (blocks_reached v.at v.version) ≤ total (reaches_in_known n) directories
-
 -- What is so in core, whatever the disk does.
 pub record IsWholeCore (size : ℕ) (c : VolumeCore) : Type 0 where
   pub map : IsWholeMap size c.known
   pub keyed : AllZip (IsKeyed c.live) c.known.directories c.keys
   pub standing : AreStanding c.live
   pub waiting : AreWaiting size c.pending
-  pub pinned : ArePinned c.live c.known.directories
+  -- the versions that are current are those of the entries
+  pub current : (n : ℕ) → total (current_reaches n) c.live ≡ entry_reaches n c.known.directories
   -- nothing is being created in a directory that isn't there
   pub housed : (ppn : ℕ) → find nat_cmp ppn c.known.master.entries ≡ None → total (creates ppn) c.pending ≡ 0
   -- a block is held as often as it stands in a version that is no longer current, or not yet
   pub held : (n : ℕ) → holds c.known.table n ≡ total (held_reaches n) c.live + total (pending_reaches n) c.pending
   pub inside : (n : ℕ) → 0 < holds c.known.table n → InSpace size n
+  -- a block of a version that is being written is in nothing else
+  pub own : (n : ℕ) → 0 < total (pending_reaches n) c.pending → bit c.known.table n + holds c.known.table n ≤ 1
   -- no block that is held stands in a chain
   pub apart : (n : ℕ) → 0 < holds c.known.table n → times n c.known.master.blocks + total (λ d. times n d.chain.blocks) c.known.directories ≡ 0
   -- what the map costs is booked, and what is beyond
   pub fits : c.known.table.booked < 2 ^ 63
   pub booked : c.known.table.booked ≡ cost_of_known c.known.master c.known.directories + cost_beyond c
+  -- with anything booked beyond the map, all lies within the free space
+  pub within : 0 < cost_beyond c → c.known.table.booked ≤ space size

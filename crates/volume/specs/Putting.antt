@@ -1,12 +1,12 @@
 -- Words are put into a version that is being written: what this does to it and to the table.
-use Rattle.std.specs.Prelude.{◌≡◌, ℕ, ◌+◌, ◌*◌, ◌^◌, ◌<◌, ◌≤◌, List, length, Option, Some}
+use Rattle.std.specs.Prelude.{◌≡◌, ℕ, ◌+◌, ◌*◌, ◌<◌, ◌≤◌, List, length, Option, Some}
 use Rattle.std.specs.List.{AllByRecursion}
 use Rattle.meaning.specs.Costs.{blocks_of, cost_of_blocks}
 use Rattle.meaning.specs.Faults.{InSpace}
 use Rattle.meaning.specs.Maps.{times}
 use Rattle.meaning.specs.Retrieval.{most_blocks}
-use Rattle.alloctab.specs.TableState.{TableState, holds, uses}
-use Rattle.retrieval.specs.Bodies.{AddsClear}
+use Rattle.alloctab.specs.TableState.{TableState, holds, uses, space}
+use Rattle.retrieval.specs.Bodies.{AddsFree}
 use Rattle.retrieval.specs.Versions.{VersionState}
 use Rattle.retrieval.specs.Writing.{IsFixed}
 use Rattle.volume.specs.declared.pending.PendingVersion.{PendingVersion}
@@ -22,7 +22,7 @@ pub record IsReady (size : ℕ) (t : TableState) (v : VersionState) : Type 0 whe
   pub held : (n : ℕ) → times n v.blocks ≤ holds t n
   pub used : uses t < t.booked
   pub cost : cost_of_blocks (length v.blocks) ≤ t.booked
-  pub fits : t.booked < 2 ^ 63
+  pub within : t.booked ≤ space size
 
 -- A version has other blocks, those are held, and what they cost is booked.
 pub record Regrows (size : ℕ) (t t' : TableState) (old new : VersionState) : Type 0 where
@@ -30,12 +30,12 @@ pub record Regrows (size : ℕ) (t t' : TableState) (old new : VersionState) : T
   pub few : new.words ≤ most_blocks * 128
   pub ribs : new.ribs ≡ old.ribs
   pub inside : AllByRecursion (InSpace size) new.blocks
-  -- a block that it had not has its bit clear
-  pub clear : AddsClear t old.blocks new.blocks
+  -- a block that it had not was free
+  pub adds : AddsFree t old.blocks new.blocks
   pub table : t' ≡ record t { held = t'.held; booked = t'.booked }
   pub held : (n : ℕ) → holds t' n + times n old.blocks ≡ holds t n + times n new.blocks
   pub booked : t'.booked + cost_of_blocks (length old.blocks) ≡ t.booked + cost_of_blocks (length new.blocks)
-  pub fits : t'.booked < 2 ^ 63
+  pub within : t'.booked ≤ space size
 
 -- The version under this key is so.
 abbrev pub Regrown : ℕ → TableState → TableState → List (Option PendingVersion) → ℕ → PendingVersion → VersionState → Type 0

@@ -2,6 +2,7 @@
 use Rattle.std.specs.Prelude.{◌≡◌, ◌⊎◌, ◌<◌, ℕ, Bool, false, List, length, Some}
 use Rattle.blockdisk.specs.Disk.{Contents, DiskState, MayLeave}
 use Rattle.meaning.specs.Files.{File, Files}
+use Rattle.meaning.specs.Maps.{times}
 use Rattle.meaning.specs.Stands.{DiskMap, SettledStands, Stands}
 use Rattle.changeset.specs.Rest.{AtRest}
 use Rattle.volume.specs.Known.{Known, IsHeld}
@@ -43,3 +44,15 @@ StandsLikeBefore s c = (d : Contents) × MayLeave s d × ((files : Files File) �
 -- it stands for whatever the contents at s stand for
 abbrev pub StandsLike : DiskState → Contents → Type 0
 StandsLike s c = (files : Files File) → Stands s.size s.contents files → Stands s.size c files
+
+-- The blocks of the versions that readers hold stay.
+abbrev pub KeepsRead : Contents → Contents → VolumeCore → Type 0
+KeepsRead old new c = (key : ℕ) (v : LiveVersion) → slot c.live key ≡ Some v → 0 < v.readers → (n : ℕ) → 0 < times n v.version.blocks → new n ≡ old n
+
+-- So do those of the versions that are being written,
+abbrev pub KeepsEachWritten : Contents → Contents → VolumeCore → Type 0
+KeepsEachWritten old new c = (k : ℕ) (p : PendingVersion) → pending_at c.pending k ≡ Some p → (n : ℕ) → 0 < times n p.version.blocks → new n ≡ old n
+
+-- or those of all of them but for this one.
+abbrev pub KeepsWritten : Contents → Contents → VolumeCore → ℕ → Type 0
+KeepsWritten old new c key = (k : ℕ) (p : PendingVersion) → (k ≡ key → ⊥) → pending_at c.pending k ≡ Some p → (n : ℕ) → 0 < times n p.version.blocks → new n ≡ old n

@@ -1,12 +1,12 @@
 ghost use Rattle.std.specs.Prelude.{◌≡◌, ◌⊎◌, ◌≤◌, OnOk, IsErrOf, length};
 ghost use Rattle.std.specs.List.{AllByRecursion};
-ghost use Rattle.blockdisk.specs.Disk.{LeavesOnly, Touches, SameDisk, one_more};
+ghost use Rattle.blockdisk.specs.Disk.{LeavesOnly, Touches, NoneOpen, SameDisk, SameOutside, one_more};
 ghost use Rattle.blockdisk.specs.declared.fault.Fault.TheVariants.{Device, Damaged};
-ghost use Rattle.changeset.specs.Crashes.{IsGateOrLog};
+ghost use Rattle.changeset.specs.Crashes.{IsGateOrLog, IsShut, AllOrNone};
 ghost use Rattle.changeset.specs.Puts.{IsPutIn};
 ghost use Rattle.changeset.specs.Rest.{AtRest, SettlesTo};
 ghost use Rattle.meaning.specs.Faults.{InSpace};
-ghost use Rattle.meaning.specs.Log.{IsTarget, targets};
+ghost use Rattle.meaning.specs.Log.{IsTarget, targets, with_puts};
 ghost use Rattle.meaning.specs.Regions.{IsVolumeSize, log_images};
 ghost use Rattle.meaning.specs.Stands.{DiskMap};
 ghost use Rattle.alloctab.specs.TableState.{bit};
@@ -48,6 +48,28 @@ pub fn write_and_commit<D: Disk>(
     ensures served { OnOk result ((D.state disk.new).failures ≡ (D.state disk.old).failures) }
 {
     disk.write(fresh, words)?;
+    commit_puts(disk, set)
+}
+
+/// Makes the puts of a set, all or none. What was written before is durable first.
+///
+/// # Errors
+///
+/// `Device` where the device failed: recovery then finds all puts made, or none.
+pub fn commit_puts<D: Disk>(disk: &mut D, set: &ChangeSet) -> Result<(), Fault>
+    requires volume { IsVolumeSize (D.state disk.old).size }
+    requires in_range { AllByRecursion (IsTarget (D.state disk.old).size) (targets set.now) }
+    requires few { length set.now ≤ log_images (D.state disk.old).size }
+    ensures crash { (D.state disk.old).honest → IsShut (D.state disk.old) → LeavesOnly (D.state disk.old) (D.state disk.new) (AllOrNone set.now (D.state disk.old)) }
+    ensures all { (D.state disk.old).honest → OnOk result (SameOutside (IsGateOrLog (D.state disk.old).size) (with_puts set.now (D.state disk.old).contents) (D.state disk.new).contents) }
+    ensures settled { (D.state disk.old).honest → OnOk result (NoneOpen (D.state disk.new)) }
+    ensures shut { (D.state disk.old).honest → IsShut (D.state disk.old) → OnOk result (IsShut (D.state disk.new)) }
+    ensures touched { (D.state disk.old).honest → Touches (λ n. IsGateOrLog (D.state disk.old).size n ⊎ IsPutIn set.now n) (D.state disk.old) (D.state disk.new) }
+    ensures same { SameDisk (D.state disk.old) (D.state disk.new) }
+    ensures device { IsErrOf result Damaged → ⊥ }
+    ensures failed { IsErrOf result Device → (D.state disk.new).failures ≡ one_more (D.state disk.old).failures }
+    ensures served { OnOk result ((D.state disk.new).failures ≡ (D.state disk.old).failures) }
+{
     match commit(disk, set) {
         Ok(()) => Ok(()),
         Err(LogError::Device) => Err(Fault::Device),

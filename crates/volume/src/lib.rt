@@ -18,15 +18,19 @@
 //! 6. A crash at any moment of `make_dir` leaves what stands for the files before it or for those with the
 //!    new directory, and where it answers Ok for the latter alone; each other answer but `Device` leaves disk
 //!    and map as they were. After `Device` the volume has failed, and no other answer changes whether it has.
-//!    (`crash`, `done`, `refused`, `device`, `still`)
+//!    No block changes of a version that is read or being written. (`crash`, `done`, `refused`, `device`,
+//!    `still`, `readers`, `writers`)
 //! 7. `pin` holds the version that a file has, and `unpin` lets it go; `begin` books what a version costs
 //!    without words, and `discard` gives back what is booked and held for it. None of them touches the disk.
 //!    `get_words` gives the words of a version that is pinned or being written, and writes nothing. (`value`,
 //!    `pinned`, `gone`, `begun`, `words`, `reads`, `untouched`)
 //! 8. `put_words` writes blocks that no file and no other version has: whatever a crash leaves at any moment of
 //!    it stands for the files from before. At Ok the version has its body with the words put; after a refusal
-//!    and after `NoMemory` all is as before. (`quiet`, `rests`, `put`, `others`, `kept`)
-//! 9. `Device` comes exactly with one more failure of the disk, on every disk. (`failed`, `served`)
+//!    and after `NoMemory` all is as before. (`quiet`, `rests`, `put`, `others`, `kept`, `readers`, `writers`)
+//! 9. `publish` makes a version the file of its name, its last words put, by one change: whatever a crash leaves at any
+//!    moment of it stands for the files from before, or for these with the version. At Ok it is the latter. All
+//!    versions that readers hold stay, and their blocks do. (`crash`, `done`, `published`, `held`, `readers`, `writers`)
+//! 10. `Device` comes exactly with one more failure of the disk, on every disk. (`failed`, `served`)
 //!
 //! Between two calls the volume knows the map of its disk: the chains of its directories with their entries
 //! in the order of the disk, for each entry where its version lies, and the allocation table with what is
@@ -37,8 +41,11 @@
 mod begin;
 #[cfg(test)]
 mod begin_tests;
+mod blocks;
 #[cfg(test)]
 mod call_tests;
+#[cfg(test)]
+mod chain_tests;
 mod cost;
 mod discard;
 mod error;
@@ -68,6 +75,9 @@ mod pending;
 #[cfg(test)]
 mod pin_tests;
 mod pins;
+mod publish;
+#[cfg(test)]
+mod publish_tests;
 mod put;
 #[cfg(test)]
 mod put_tests;
@@ -75,6 +85,10 @@ mod query;
 mod read;
 mod regions;
 mod start;
+#[cfg(test)]
+mod supersede_tests;
+mod supplies;
+mod turn;
 #[cfg(test)]
 mod use_tests;
 mod words;

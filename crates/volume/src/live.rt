@@ -6,8 +6,8 @@ ghost use Rattle.meaning.specs.Retrieval.{most_blocks};
 ghost use Rattle.alloctab.specs.TableState.{holds};
 ghost use Rattle.slab.specs.Slab.{Updates};
 ghost use Rattle.volume.specs.Cores.{file_view, known_of, known_version, known_directory};
-ghost use Rattle.volume.specs.Known.{blocks_reached, reaches_in_known, IsWholeVersion, IsWholeMap};
-ghost use Rattle.volume.specs.Live.{IsCurrent, IsKeyed, IsFirstRead, IsWholeCore, slot};
+ghost use Rattle.volume.specs.Known.{blocks_reached, reaches_in_entries, IsWholeVersion, IsWholeMap};
+ghost use Rattle.volume.specs.Live.{IsCurrent, IsKeyed, IsFirstRead, IsWholeCore, slot, current_reaches, entry_reaches};
 ghost use Rattle.volume.specs.LiveCores.{core_of, known_at, live_directory};
 ghost use Rattle.volume.specs.declared.live.LiveVersion.{LiveVersion};
 
@@ -98,6 +98,7 @@ fn keep_versions(
     ensures read { OnOk result ((key : ℕ) → IfSome (slot versions.new.slots key) IsFirstRead) }
     ensures keyed { IfOk result (λ keys. AllZip (λ e key. IsCurrent versions.new.slots key e.1) (map file_view entries.now) keys.items) }
     ensures known { IfOk result (λ keys. filter_map (known_at versions.new.slots) keys.items ≡ map known_version stored.items) }
+    ensures current { OnOk result ((n : ℕ) → total (current_reaches n) versions.new.slots ≡ total (current_reaches n) versions.old.slots + reaches_in_entries n (map file_view entries.now) (map known_version stored.items)) }
 {
     let mut keys = Vec::new(alloc);
     for (entry, version) in entries.iter().zip(stored) {
@@ -122,6 +123,7 @@ fn keep_directory(
     ensures read { OnOk result ((key : ℕ) → IfSome (slot versions.new.slots key) IsFirstRead) }
     ensures keyed { IfOk result (λ live. IsKeyed versions.new.slots (known_directory directory) live.keys.items) }
     ensures known { IfOk result (λ live. live_directory versions.new.slots live ≡ known_directory directory) }
+    ensures current { OnOk result ((n : ℕ) → total (current_reaches n) versions.new.slots ≡ total (current_reaches n) versions.old.slots + reaches_in_entries n (map file_view directory.chain.entries) (map known_version directory.versions.items)) }
 {
     let StoredDirectory {
         chain,
@@ -142,6 +144,7 @@ pub fn keep(alloc: Global, map: DiskMap) -> Result<LiveMap, NoMemory>
     ensures keyed { IfOk result (λ live. AllZip (IsKeyed (core_of live).live) (core_of live).known.directories (core_of live).keys) }
     ensures read { IfOk result (λ live. AllByRecursion (λ o. IfSome o IsFirstRead) (core_of live).live) }
     ensures none { IfOk result (λ live. (core_of live).pending ≡ []) }
+    ensures current { IfOk result (λ live. (n : ℕ) → total (current_reaches n) (core_of live).live ≡ entry_reaches n (core_of live).known.directories) }
 {
     let DiskMap {
         master,
@@ -229,7 +232,6 @@ fn let_go(table: &mut Table, version: &LiveVersion)
 pub fn pin_version(map: &mut LiveMap, key: usize)
     requires there { IsSome (slot (core_of map.old).live key) }
     requires few { IfSome (slot (core_of map.old).live key) (λ v. v.readers + 1 < 2 ^ 32) }
-    requires stands { IfSome (slot (core_of map.old).live key) (λ v. v.is_current ≡ true → (n : ℕ) → times n (blocks_reached v.at v.version) ≤ total (reaches_in_known n) (core_of map.old).known.directories) }
     ensures core { (core_of map.new) ≡ record (core_of map.old) { live = (core_of map.new).live } }
     ensures pinned { (v : LiveVersion) → slot (core_of map.old).live key ≡ Some v → slot (core_of map.new).live key ≡ Some (record v { readers = v.readers + 1 }) }
     ensures others { (k : ℕ) → (k ≡ key → ⊥) → slot (core_of map.new).live k ≡ slot (core_of map.old).live k }

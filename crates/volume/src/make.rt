@@ -14,7 +14,7 @@ ghost use Rattle.retrieval.specs.Writing.{Takes, IsFixed};
 ghost use Rattle.volume.specs.Live.{IsWholeCore};
 ghost use Rattle.volume.specs.LiveCores.{core_of};
 ghost use Rattle.volume.specs.Making.{brought, Uses, TakesBlocks, PutsTable, growth, fresh_list, files_made, IsEntered, IsMade};
-ghost use Rattle.volume.specs.Rest.{IsSound, RestsAt, StandsForEither};
+ghost use Rattle.volume.specs.Rest.{IsSound, RestsAt, StandsForEither, KeepsRead, KeepsEachWritten};
 ghost use Rattle.volume.specs.declared.error.CallError.TheVariants.{Refused, Device, Failed};
 
 use crate::CallError;
@@ -39,7 +39,7 @@ pub struct FreshBlocks {
 }
 
 /// Takes a free block. There is one where fewer are used than are booked.
-fn take_block(table: &mut Table) -> u32
+pub(crate) fn take_block(table: &mut Table) -> u32
     requires used { used_in_space table.old < table.old.booked }
     requires room { table.old.booked ≤ space table.old.size }
     ensures free { (result < table.old.size) × IsFree table.old result }
@@ -85,7 +85,7 @@ fn give_back(table: &mut Table, fresh: FreshBlocks)
 }
 
 /// Sets the bit of a block that was taken, and holds it no longer.
-fn use_block(table: &mut Table, n: u32)
+pub(crate) fn use_block(table: &mut Table, n: u32)
     requires inside { n < table.old.size }
     requires held { 0 < holds table.old n }
     ensures { table.new ≡ brought table.old n }
@@ -240,6 +240,8 @@ impl<D: Disk> Volume<D> {
         ensures pending { (core_of self.new.map).pending ≡ (core_of self.old.map).pending }
         ensures kept { (D.state self.old.disk).honest → (n : ℕ) → space_start (D.state self.old.disk).size ≤ n → times n (core_of self.old.map).known.master.blocks ≡ 0 → (IsFree (core_of self.old.map).known.table n → ⊥)
             → (D.state self.new.disk).contents n ≡ (D.state self.old.disk).contents n }
+        ensures readers { (D.state self.old.disk).honest → KeepsRead (D.state self.old.disk).contents (D.state self.new.disk).contents (core_of self.old.map) }
+        ensures writers { (D.state self.old.disk).honest → KeepsEachWritten (D.state self.old.disk).contents (D.state self.new.disk).contents (core_of self.old.map) }
 
         // Which error comes when, and what it leaves.
         ensures refused { (IsErrOf result Device → ⊥) → OnErr result ((self.new.disk ≡ self.old.disk) × (core_of self.new.map ≡ core_of self.old.map)) }

@@ -1,4 +1,4 @@
-ghost use Rattle.std.specs.Prelude.{◌<◌, IfSome};
+ghost use Rattle.std.specs.Prelude.{◌≡◌, ◌<◌, IfSome};
 ghost use Rattle.blockdisk.specs.Memory.{memory_state};
 ghost use Rattle.volume.specs.LiveCores.{core_of};
 ghost use Rattle.volume.specs.Pins.{IsReadable};
@@ -32,7 +32,11 @@ fn ppn_of(rt: &impl Abort, programmer: u32) -> Ppn {
 }
 
 /// The volume on a disk, with FOO.TXT of [10,20] pinned, or why not.
-fn open_and_pin<D: Disk + Drop>(rt: &impl Abort, alloc: Global, disk: D) -> Option<(Volume<D>, Pin)>
+pub(crate) fn open_and_pin<D: Disk + Drop>(
+    rt: &impl Abort,
+    alloc: Global,
+    disk: D,
+) -> Option<(Volume<D>, Pin)>
     ensures { IfSome result (λ pinned. IsSound (D.state pinned.0.disk) (core_of pinned.0.map) pinned.0.failed × IsReadable (core_of pinned.0.map) (Pinned pinned.1)) }
 {
     let Ok(mut volume) = Volume::open(alloc, disk) else {
@@ -45,7 +49,7 @@ fn open_and_pin<D: Disk + Drop>(rt: &impl Abort, alloc: Global, disk: D) -> Opti
 }
 
 /// What is read of a pinned version from a block on.
-fn read<D: Disk>(
+pub(crate) fn read<D: Disk>(
     alloc: Global,
     volume: &mut Volume<D>,
     pin: Pin,
@@ -57,6 +61,7 @@ fn read<D: Disk>(
     requires first { 0 < block }
     ensures sound { IsSound (D.state volume.new.disk) (core_of volume.new.map) volume.new.failed }
     ensures live { IsReadable (core_of volume.new.map) (Pinned pin) }
+    ensures map { volume.new.map ≡ volume.old.map }
 {
     volume.get_words(alloc, VersionHandle::Pinned(pin), block, count)
 }

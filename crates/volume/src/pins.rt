@@ -86,6 +86,7 @@ impl<D: Disk> Volume<D> {
             × ((core_of self.new.map).known.table.booked + cost_of_blocks (length v.version.blocks) ≡ (core_of self.old.map).known.table.booked) }
         ensures others { (k : ℕ) → (k ≡ pin.key → ⊥) → slot (core_of self.new.map).live k ≡ slot (core_of self.old.map).live k }
         ensures pending { (core_of self.new.map).pending ≡ (core_of self.old.map).pending }
+        ensures keys { (core_of self.new.map).keys ≡ (core_of self.old.map).keys }
         ensures known { (core_of self.new.map).known ≡ record (core_of self.old.map).known { table = (core_of self.new.map).known.table } }
         ensures untouched { (self.new.disk ≡ self.old.disk) × (self.new.failed ≡ self.old.failed) }
     {

@@ -19,7 +19,7 @@ ghost use Rattle.retrieval.specs.declared.error.BodyError.TheVariants as body;
 ghost use Rattle.volume.specs.Live.{IsWholeCore, pending_at};
 ghost use Rattle.volume.specs.LiveCores.{core_of};
 ghost use Rattle.volume.specs.Putting.{IsReady, Regrows, Regrown};
-ghost use Rattle.volume.specs.Rest.{IsSound, RestsAt};
+ghost use Rattle.volume.specs.Rest.{IsSound, RestsAt, KeepsRead, KeepsWritten};
 ghost use Rattle.volume.specs.declared.error.CallError.TheVariants.{Refused, Device, Failed, NoMemory};
 ghost use Rattle.volume.specs.declared.pending.PendingVersion.{PendingVersion};
 
@@ -41,7 +41,7 @@ const MOST_WORDS: u64 = 16384 * 128;
 
 /// How many words a body of `words` has once `count` are put at block `block`, counted from 1; `None` where
 /// that is more than a file may have.
-fn length_with(words: u32, block: u32, count: usize) -> Option<u32>
+pub(crate) fn length_with(words: u32, block: u32, count: usize) -> Option<u32>
     requires first { 0 < block }
     requires some { 0 < count }
     requires few { words ≤ most_blocks * 128 }
@@ -59,7 +59,7 @@ fn length_with(words: u32, block: u32, count: usize) -> Option<u32>
 
 /// By how many blocks a version costs more once so many words are put; `None` where no file may have as many
 /// words as it has then.
-fn growth(version: &Version, block: u32, count: usize) -> Option<u32>
+pub(crate) fn growth(version: &Version, block: u32, count: usize) -> Option<u32>
     requires counted { length version.now.blocks ≡ blocks_of version.now.words }
     requires first { 0 < block }
     requires some { 0 < count }
@@ -219,10 +219,14 @@ impl<D: Disk> Volume<D> {
         // All other versions stay, and their blocks do.
         ensures others { (k : ℕ) → (k ≡ pending.key → ⊥) → pending_at (core_of self.new.map).pending k ≡ pending_at (core_of self.old.map).pending k }
         ensures live { (core_of self.new.map).live ≡ (core_of self.old.map).live }
+        ensures versions { self.new.map.versions ≡ self.old.map.versions }
         ensures keys { (core_of self.new.map).keys ≡ (core_of self.old.map).keys }
         ensures known { (core_of self.new.map).known ≡ record (core_of self.old.map).known { table = (core_of self.new.map).known.table } }
         ensures kept { (D.state self.old.disk).honest → (p : PendingVersion) → pending_at (core_of self.old.map).pending pending.key ≡ Some p → (n : ℕ) → (IsOwn (core_of self.old.map).known.table p.version.blocks n → ⊥)
             → (D.state self.new.disk).contents n ≡ (D.state self.old.disk).contents n }
+        // So no reader and no other writer sees that a block of theirs changes.
+        ensures readers { (D.state self.old.disk).honest → KeepsRead (D.state self.old.disk).contents (D.state self.new.disk).contents (core_of self.old.map) }
+        ensures writers { (D.state self.old.disk).honest → KeepsWritten (D.state self.old.disk).contents (D.state self.new.disk).contents (core_of self.old.map) pending.key }
 
         // Which error comes when, and what it leaves.
         ensures failed { self.old.failed ≡ true → IsErrOf result Failed }

@@ -80,7 +80,7 @@ fn expect_put<D: Disk>(
 }
 
 /// The words of a version from a block on.
-fn read<D: Disk>(
+pub(crate) fn read<D: Disk>(
     alloc: Global,
     volume: &mut Volume<D>,
     pending: Pending,
@@ -187,6 +187,31 @@ fn each_allocation_of_a_put_refused(rt: HostRuntime) {
         expect_put(&rt, &mut volume, pending, 1, Ok(()), 43);
     } else {
         assert!(rt; first == Ok(()) && volume.room() == 43);
+    }
+}
+
+/// The same where a version that has words grows: after `NoMemory` it has its words, and no block more.
+#[test]
+fn each_allocation_of_a_longer_version_refused(rt: HostRuntime) {
+    let Ok(disk) = v1(&rt, rt.alloc(), 100) else {
+        return;
+    };
+    let Some((mut volume, pending)) = open_and_begin(&rt, rt.alloc(), disk) else {
+        return;
+    };
+    if put(&mut volume, pending, 1, &[word(7)]) != Ok(()) {
+        return;
+    }
+    let longer = put(&mut volume, pending, 40, &[word(8)]);
+    if longer == Err(CallError::NoMemory) {
+        assert_eq!(rt; volume.room(), 43);
+        match read(rt.alloc(), &mut volume, pending, 1) {
+            Ok(words) => assert!(rt; words.as_slice() == [word(7)].as_slice()),
+            Err(_refused) => panic!(rt; "the version isn't read"),
+        }
+        expect_put(&rt, &mut volume, pending, 40, Ok(()), 4);
+    } else {
+        assert!(rt; longer == Ok(()) && volume.room() == 4);
     }
 }
 

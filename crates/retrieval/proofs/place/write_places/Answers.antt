@@ -5,11 +5,10 @@ use Rattle.std.proofs.lemmas.List.{length-set}
 use Rattle.blockdisk.specs.Laws.{same_disk_start, same_disk_on, touches_start, touches_write}
 use Rattle.meaning.specs.Faults.{InSpace}
 use Rattle.meaning.specs.Maps.{times}
-use Rattle.alloctab.specs.TableState.{TableState, bit}
-use Rattle.retrieval.specs.Bodies.{IsOwn, AddsClear, KeepsOwn}
+use Rattle.retrieval.specs.Bodies.{IsOwn, AddsFree, KeepsOwn}
 use Rattle.retrieval.specs.Placing.{IsPlaced}
 use Rattle.retrieval.specs.Versions.{VersionState}
-use Rattle.retrieval.proofs.Placed.{placed_none, placed_more, same_on, size_same, own_before, held_again, inside_set, clear_set, few_more, stays_more}
+use Rattle.retrieval.proofs.Placed.{placed_none, placed_more, same_on, size_same, own_before, held_again, inside_set, adds_set, few_more, stays_more}
 use Rattle.retrieval.proofs.place.write_places.Goals as goal
 
 pub loop-i-init : goal.loop-i-init
@@ -22,7 +21,7 @@ loop-i-init g c =
       version = refl;
       long = refl;
       inside = c.requires.inside;
-      clear = λ n there. inl there;
+      adds = λ n. inl (omega arith);
       table = refl;
       held = λ n. refl;
       used = refl;
@@ -41,16 +40,18 @@ returns-in_err-write-clause-touched g c h =
     (own_before t c.own_place-n.new.table same xs c.own_place-n.new.version.blocks held c.own_place-n.result c.own_place-n.ensures.own)
     (c.loop-i.invariant.touched h) (c.write.ensures.writes (c.loop-i.invariant.same.honest h))
 
-pub returns-in_err-write-clause-clear : goal.returns-in_err-write-clause-clear
-returns-in_err-write-clause-clear g c =
+pub returns-in_err-write-clause-adds : goal.returns-in_err-write-clause-adds
+returns-in_err-write-clause-adds g c =
     let t = c.args.table.now in
     let xs = c.args.version.now.blocks in
     let n = c.own_place-n.result in
     let i = c.loop-i.i in
     let same = same_on t c.loop-i.table c.loop-i.invariant.table c.own_place-n.new.table c.own_place-n.ensures.table in
+    let held = held_again t c.loop-i.table c.loop-i.invariant.table xs c.loop-i.version.blocks c.loop-i.invariant.held c.own_place-n.new.table c.own_place-n.new.version.blocks c.own_place-n.ensures.held in
     let blocks_are : c.own_place-n.new.version.blocks ≡ slice_set c.loop-i.version.blocks i n = ap (λ (v : VersionState). v.blocks) c.own_place-n.ensures.version in
     let below : i < length c.loop-i.version.blocks = let a = c.loop-i.invariant.long in let b = c.requires.fits in let d = c.loop-i-test.true in omega arith in
-    subst (AddsClear t xs) (sym blocks_are) (clear_set t xs c.loop-i.version.blocks i n c.loop-i.invariant.clear below (ap (λ (u : TableState). bit u n) (sym same) ∙ c.own_place-n.ensures.own.clear))
+    subst (AddsFree t xs) (sym blocks_are) (adds_set t xs c.loop-i.version.blocks i n c.loop-i.invariant.adds below (subst (λ (l : List ℕ). times n l ≡ 1) blocks_are c.own_place-n.ensures.alone)
+    (own_before t c.own_place-n.new.table same xs c.own_place-n.new.version.blocks held n c.own_place-n.ensures.own))
 
 pub returns-in_err-write-clause-stays : goal.returns-in_err-write-clause-stays
 returns-in_err-write-clause-stays g c =
@@ -83,8 +84,8 @@ loop-i-preserved g c =
       version = c.own_place-n.ensures.version ∙ sym (ap (λ (v : VersionState). record v { blocks = slice_set c.loop-i.version.blocks i n }) (sym c.loop-i.invariant.version)) ∙ ap (λ (l : List ℕ). record c.args.version.now { blocks = l }) (sym blocks_are);
       long = ap length blocks_are ∙ length-set c.loop-i.version.blocks i n ∙ c.loop-i.invariant.long;
       inside = subst (AllByRecursion (InSpace s.size)) (sym blocks_are) (inside_set s.size c.loop-i.version.blocks i n c.loop-i.invariant.inside (subst (λ (z : ℕ). InSpace z n) size c.own_place-n.ensures.inside));
-      clear = subst (AddsClear t xs) (sym blocks_are) (clear_set t xs c.loop-i.version.blocks i n c.loop-i.invariant.clear below
-          (ap (λ (u : TableState). bit u n) (sym same) ∙ c.own_place-n.ensures.own.clear));
+      adds = subst (AddsFree t xs) (sym blocks_are) (adds_set t xs c.loop-i.version.blocks i n c.loop-i.invariant.adds below (subst (λ (l : List ℕ). times n l ≡ 1) blocks_are c.own_place-n.ensures.alone)
+          (own_before t c.own_place-n.new.table same xs c.own_place-n.new.version.blocks held n c.own_place-n.ensures.own));
       table = same;
       held = held;
       used = c.own_place-n.ensures.used ∙ c.loop-i.invariant.used;

@@ -4,7 +4,7 @@ use Rattle.blockdisk.specs.Disk.{SameDisk, Touches}
 use Rattle.meaning.specs.Faults.{InSpace}
 use Rattle.meaning.specs.Maps.{times}
 use Rattle.alloctab.specs.TableState.{holds, uses}
-use Rattle.retrieval.specs.Bodies.{IsOwn, AddsClear, KeepsOwn}
+use Rattle.retrieval.specs.Bodies.{IsOwn, AddsFree, KeepsOwn}
 use Rattle.retrieval.specs.Placing.{IsPlaced}
 use Rattle.retrieval.proofs.place.write_places.Given as goal
 
@@ -16,7 +16,7 @@ invariant-loop-i g l = record {
   version : l.version ≡ record l.fn.version { blocks = l.version.blocks };
   long : length l.version.blocks ≡ length l.fn.version.blocks;
   inside : AllByRecursion (InSpace (g.D.Disk.state l.fn.disk).size) l.version.blocks;
-  clear : AddsClear l.fn.table l.fn.version.blocks l.version.blocks;
+  adds : AddsFree l.fn.table l.fn.version.blocks l.version.blocks;
   table : l.table ≡ record l.fn.table { held = l.table.held };
   held : (n : ℕ) → holds l.table n + times n l.fn.version.blocks ≡ holds l.fn.table n + times n l.version.blocks;
   used : uses l.table ≡ uses l.fn.table;

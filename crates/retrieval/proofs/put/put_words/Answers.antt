@@ -8,12 +8,12 @@ use Rattle.meaning.specs.Maps.{times}
 use Rattle.meaning.specs.Retrieval.{HasBody}
 use Rattle.meaning.specs.Splices.{splice}
 use Rattle.alloctab.specs.TableState.{holds}
-use Rattle.retrieval.specs.Bodies.{IsOwn, AddsClear, KeepsOwn}
+use Rattle.retrieval.specs.Bodies.{IsOwn, AddsFree, KeepsOwn}
 use Rattle.retrieval.specs.Placing.{IsPlaced}
 use Rattle.retrieval.specs.Versions.{VersionState}
 use Rattle.retrieval.proofs.Growing.{grown, grown_keeps, after_some}
 use Rattle.retrieval.proofs.Holding.{used_le_uses}
-use Rattle.retrieval.proofs.Placed.{clear_on, size_same, booked_same, fixed_on, room_on, same_on, held_on, own_before, held_again}
+use Rattle.retrieval.proofs.Placed.{size_same, booked_same, fixed_on, room_on, same_on, held_on, own_before, held_again, adds_on}
 use Rattle.retrieval.proofs.Putting.{body_put}
 use Rattle.retrieval.proofs.Parts.{whole_from}
 use Rattle.retrieval.proofs.put.put_words.Goals as goal
@@ -275,15 +275,15 @@ returns-in-Err-clause-touched g c h =
     touches_on (IsOwn t xs) s s1 s2 (still_touches (IsOwn t xs) s s1 (keeps_still s s1 (c.prepare.ensures.keeps h)))
     (touches_wider (IsOwn t1 xs1) (IsOwn t xs) s1 s2 (own_before t t1 grown'.table xs xs1 grown'.held) (c.write_places.ensures.touched (c.prepare.ensures.same.honest h)))
 
-pub returns-in-Ok-clause-clear : goal.returns-in-Ok-clause-clear
-returns-in-Ok-clause-clear g c =
+pub returns-in-Ok-clause-adds : goal.returns-in-Ok-clause-adds
+returns-in-Ok-clause-adds g c =
     let t = c.args.table.now in
     let xs = c.args.version.now.blocks in
     let t1 = c.fill.new.table in
     let xs1 = c.fill.new.self.blocks in
     let grown' = grown (g.D.Disk.state c.args.disk.now).size c.args.table.now c.fill.new.table c.args.version.now.blocks _ c.prepare.new.version.blocks c.fill.new.self.blocks (length c.blocks-had.result.now) c.requires.size
     c.booked-booked.ensures.sound c.requires.fixed c.requires.inside (ap length c.blocks-had.ensures) (ap (λ (v : VersionState). v.blocks) c.in_ok-kept.ensures.ok) (ap (λ (v : VersionState). v.blocks) c.fill.ensures.kept) c.fill.ensures.taken in
-    subst (AddsClear t xs) (sym (ap (λ (v : VersionState). v.blocks) c.set_length.ensures)) (clear_on t t1 grown'.table xs xs1 c.write_places.new.version.blocks grown'.clear c.write_places.ensures.clear)
+    subst (AddsFree t xs) (sym (ap (λ (v : VersionState). v.blocks) c.set_length.ensures)) (adds_on t t1 grown'.table xs xs1 grown'.held c.write_places.new.version.blocks c.requires.held (grown'.adds c.requires.held) c.write_places.ensures.adds)
 
 pub returns-in-Ok-clause-few : goal.returns-in-Ok-clause-few
 returns-in-Ok-clause-few g c =
@@ -301,15 +301,15 @@ returns-in-Ok-clause-few g c =
     let set = ap (λ (v : VersionState). length v.blocks) c.set_length.ensures in
     omega arith
 
-pub returns-in-Err-clause-clear : goal.returns-in-Err-clause-clear
-returns-in-Err-clause-clear g c =
+pub returns-in-Err-clause-adds : goal.returns-in-Err-clause-adds
+returns-in-Err-clause-adds g c =
     let t = c.args.table.now in
     let xs = c.args.version.now.blocks in
     let t1 = c.fill.new.table in
     let xs1 = c.fill.new.self.blocks in
     let grown' = grown (g.D.Disk.state c.args.disk.now).size c.args.table.now c.fill.new.table c.args.version.now.blocks _ c.prepare.new.version.blocks c.fill.new.self.blocks (length c.blocks-had.result.now) c.requires.size
     c.booked-booked.ensures.sound c.requires.fixed c.requires.inside (ap length c.blocks-had.ensures) (ap (λ (v : VersionState). v.blocks) c.in_ok-kept.ensures.ok) (ap (λ (v : VersionState). v.blocks) c.fill.ensures.kept) c.fill.ensures.taken in
-    clear_on t t1 grown'.table xs xs1 c.write_places.new.version.blocks grown'.clear c.write_places.ensures.clear
+    adds_on t t1 grown'.table xs xs1 grown'.held c.write_places.new.version.blocks c.requires.held (grown'.adds c.requires.held) c.write_places.ensures.adds
 
 pub returns-in-Err-clause-few : goal.returns-in-Err-clause-few
 returns-in-Err-clause-few g c =

@@ -2,7 +2,7 @@ use Rattle.std.proofs.Common.{arith}
 use Rattle.std.proofs.lemmas.List.{length-map}
 use Rattle.volume.specs.Cores.{master_view}
 use Rattle.volume.specs.LiveCores.{core_of, live_directory}
-use Rattle.volume.proofs.Beginnings.{some_at}
+use Rattle.volume.proofs.MakingHeld.{element_at}
 use Rattle.volume.proofs.discard.shrinkage.Goals as goal
 
 pub returns-clause-value : goal.returns-clause-value
@@ -13,5 +13,5 @@ returns-clause-value c new =
     let entries = length-map core.master.entries master_view in
     let directories = length-map core.directories.items (live_directory core.versions.slots) in
     let aligned = c.requires.aligned in
-    let there = some_at (core_of core).known.directories c.in-Ok.place (omega arith) in
+    let there = element_at (core_of core).known.directories c.in-Ok.place (omega arith) in
     (there.0, (c.in-Ok.place, stands.0, stands.1, there.1), c.growth_at.ensures.value there.0 there.1)

@@ -3,7 +3,7 @@ use Rattle.blockdisk.specs.Disk.{Touches}
 use Rattle.blockdisk.specs.Laws.{writes_touches, touches_wider}
 use Rattle.changeset.specs.Crashes.{IsGateOrLog}
 use Rattle.changeset.specs.Puts.{IsPutIn}
-use Rattle.volume.proofs.MakingEvents.{wrote, mid_rest, written_leaves, committed_leaves, committed_rest}
+use Rattle.volume.proofs.MakingEvents.{on_ok_three, wrote, mid_rest, written_leaves, committed_leaves, committed_rest}
 use Rattle.volume.proofs.event.write_and_commit.Goals as goal
 
 pub returns-in_err-write-clause-crash : goal.returns-in_err-write-clause-crash
@@ -20,46 +20,30 @@ returns-in_err-write-clause-touched g c h =
     touches_wider (λ n. n ≡ c.args.fresh) (λ n. (n ≡ c.args.fresh) ⊎ (IsGateOrLog s.size n ⊎ IsPutIn c.args.set.now n)) s mid (λ n is. inl is)
     (writes_touches (λ n. n ≡ c.args.fresh) c.args.fresh s mid refl (c.write.ensures.writes h))
 
-pub returns-in-Ok-clause-crash : goal.returns-in-Ok-clause-crash
-returns-in-Ok-clause-crash g c h k k' m m' a a' rest clear leads =
+pub returns-clause-crash : goal.returns-clause-crash
+returns-clause-crash g c h k k' m m' a a' rest clear leads =
     let s = g.D.Disk.state c.args.disk.now in
     let mid = g.D.Disk.state c.write.new.self in
     let quiet : Touches (λ n. n ≡ c.args.fresh) s mid = writes_touches (λ n. n ≡ c.args.fresh) c.args.fresh s mid refl (c.write.ensures.writes h) in
     let h' = c.write.ensures.same.honest h in
     let still = mid_rest c.args.fresh c.args.words.now c.args.set.now s mid mid k k' m m' a a' rest clear c.requires.fresh c.write.ensures.same.size quiet in
-    committed_leaves c.args.fresh c.args.words.now c.args.set.now s mid (g.D.Disk.state c.commit.new.disk) k k' m m' a a' rest clear c.requires.fresh c.write.ensures.same.size quiet
-    (λ d left. g.met.D.Disk.only_now c.args.disk.now d h left) leads (c.in_ok-write.ensures.put h) (c.commit.ensures.crash h' still.shut)
+    committed_leaves c.args.fresh c.args.words.now c.args.set.now s mid (g.D.Disk.state c.commit_puts.new.disk) k k' m m' a a' rest clear c.requires.fresh c.write.ensures.same.size quiet
+    (λ d left. g.met.D.Disk.only_now c.args.disk.now d h left) leads (c.in_ok-write.ensures.put h) (c.commit_puts.ensures.crash h' still.shut)
 
-pub returns-in-Err-Device-clause-crash : goal.returns-in-Err-Device-clause-crash
-returns-in-Err-Device-clause-crash g c h k k' m m' a a' rest clear leads =
+pub returns-clause-done : goal.returns-clause-done
+returns-clause-done g c h k k' m m' a a' rest clear leads =
     let s = g.D.Disk.state c.args.disk.now in
     let mid = g.D.Disk.state c.write.new.self in
     let quiet : Touches (λ n. n ≡ c.args.fresh) s mid = writes_touches (λ n. n ≡ c.args.fresh) c.args.fresh s mid refl (c.write.ensures.writes h) in
     let h' = c.write.ensures.same.honest h in
     let still = mid_rest c.args.fresh c.args.words.now c.args.set.now s mid mid k k' m m' a a' rest clear c.requires.fresh c.write.ensures.same.size quiet in
-    committed_leaves c.args.fresh c.args.words.now c.args.set.now s mid (g.D.Disk.state c.commit.new.disk) k k' m m' a a' rest clear c.requires.fresh c.write.ensures.same.size quiet
-    (λ d left. g.met.D.Disk.only_now c.args.disk.now d h left) leads (c.in_ok-write.ensures.put h) (c.commit.ensures.crash h' still.shut)
+    on_ok_three c.commit_puts.result
+    (committed_rest c.args.fresh c.args.words.now c.args.set.now s mid (g.D.Disk.state c.commit_puts.new.disk) k k' m m' a a' rest clear c.requires.fresh c.write.ensures.same.size quiet leads (c.in_ok-write.ensures.put h))
+    (c.commit_puts.ensures.all h') (c.commit_puts.ensures.settled h') (c.commit_puts.ensures.shut h' still.shut)
 
-pub returns-in-Ok-clause-done : goal.returns-in-Ok-clause-done
-returns-in-Ok-clause-done g c h k k' m m' a a' rest clear leads =
+pub returns-clause-touched : goal.returns-clause-touched
+returns-clause-touched g c h =
     let s = g.D.Disk.state c.args.disk.now in
     let mid = g.D.Disk.state c.write.new.self in
-    let quiet : Touches (λ n. n ≡ c.args.fresh) s mid = writes_touches (λ n. n ≡ c.args.fresh) c.args.fresh s mid refl (c.write.ensures.writes h) in
-    let h' = c.write.ensures.same.honest h in
-    let still = mid_rest c.args.fresh c.args.words.now c.args.set.now s mid mid k k' m m' a a' rest clear c.requires.fresh c.write.ensures.same.size quiet in
-    committed_rest c.args.fresh c.args.words.now c.args.set.now s mid (g.D.Disk.state c.commit.new.disk) k k' m m' a a' rest clear c.requires.fresh c.write.ensures.same.size quiet
-    leads (c.in_ok-write.ensures.put h) (c.in-Ok.ensures.all h') (c.in-Ok.ensures.settled h') (c.in-Ok.ensures.shut h' still.shut)
-
-pub returns-in-Ok-clause-touched : goal.returns-in-Ok-clause-touched
-returns-in-Ok-clause-touched g c h =
-    let s = g.D.Disk.state c.args.disk.now in
-    let mid = g.D.Disk.state c.write.new.self in
-    wrote c.args.fresh c.args.set.now s mid (g.D.Disk.state c.commit.new.disk) c.write.ensures.same.size
-    (writes_touches (λ n. n ≡ c.args.fresh) c.args.fresh s mid refl (c.write.ensures.writes h)) (c.commit.ensures.touched (c.write.ensures.same.honest h))
-
-pub returns-in-Err-Device-clause-touched : goal.returns-in-Err-Device-clause-touched
-returns-in-Err-Device-clause-touched g c h =
-    let s = g.D.Disk.state c.args.disk.now in
-    let mid = g.D.Disk.state c.write.new.self in
-    wrote c.args.fresh c.args.set.now s mid (g.D.Disk.state c.commit.new.disk) c.write.ensures.same.size
-    (writes_touches (λ n. n ≡ c.args.fresh) c.args.fresh s mid refl (c.write.ensures.writes h)) (c.commit.ensures.touched (c.write.ensures.same.honest h))
+    wrote c.args.fresh c.args.set.now s mid (g.D.Disk.state c.commit_puts.new.disk) c.write.ensures.same.size
+    (writes_touches (λ n. n ≡ c.args.fresh) c.args.fresh s mid refl (c.write.ensures.writes h)) (c.commit_puts.ensures.touched (c.write.ensures.same.honest h))

@@ -6,7 +6,7 @@ use Rattle.volume.specs.Cores.{file_view, known_version, known_directory}
 use Rattle.volume.specs.Known.{IsWholeDirectory}
 use Rattle.volume.specs.Live.{IsFirstRead}
 use Rattle.volume.proofs.Lookups.{viewed_at}
-use Rattle.volume.proofs.Keeping.{next_directory_keyed, next_directory_known, all_slots}
+use Rattle.volume.proofs.Keeping.{next_directory_keyed, next_directory_known, next_directory_current, all_slots}
 use Rattle.volume.proofs.live.keep.Goals as goal
 
 pub keep_directory-requires-clause-aligned : goal.keep_directory-requires-clause-aligned
@@ -42,6 +42,7 @@ loop-directory-preserved c =
       read = kept.read;
       keyed = next_directory_keyed stored i _ d more turn.0 turn.1 _ _ kept.stay _ _ l pushed so_far.keyed kept.keyed;
       known = next_directory_known stored i _ d more turn.0 turn.1 _ _ kept.stay _ _ l pushed so_far.keyed kept.known so_far.known;
+      current = λ n. next_directory_current stored i _ d more turn.0 turn.1 _ _ kept.stay _ _ l pushed so_far.keyed n kept.known so_far.known (so_far.current n) (kept.current n);
     }
 
 pub returns-clause-read : goal.returns-clause-read

@@ -1,7 +1,8 @@
 use Rattle.std.proofs.Common.{◌≡◌, ℕ, map, length, take, IfSome}
 use Rattle.std.specs.List.{AllZip}
+use Rattle.meaning.specs.Maps.{total}
 use Rattle.volume.specs.Cores.{known_directory}
-use Rattle.volume.specs.Live.{IsKeyed, IsFirstRead, slot}
+use Rattle.volume.specs.Live.{IsKeyed, IsFirstRead, current_reaches, entry_reaches, slot}
 use Rattle.volume.specs.LiveCores.{live_directory}
 use Rattle.volume.proofs.live.keep.Given as goal
 
@@ -10,4 +11,5 @@ invariant-loop-directory l = record {
   read : (key : ℕ) → IfSome (slot l.versions.slots key) IsFirstRead;
   keyed : AllZip (IsKeyed l.versions.slots) (map known_directory (take (length l.yielded) l.fn.map.directories.items)) (map (λ d. d.keys.items) l.directories.items);
   known : map (live_directory l.versions.slots) l.directories.items ≡ map known_directory (take (length l.yielded) l.fn.map.directories.items);
+  current : (n : ℕ) → total (current_reaches n) l.versions.slots ≡ entry_reaches n (map (live_directory l.versions.slots) l.directories.items);
 }

@@ -1,11 +1,13 @@
-use Rattle.std.proofs.Common.{◌≡◌, refl, sym, [], ◌∷◌, ◌++◌, map, length, ap, ◌∙◌, rules}
+use Rattle.std.proofs.Common.{◌≡◌, refl, sym, [], ◌∷◌, ◌++◌, ◌+◌, map, length, ap, ◌∙◌, rules}
 use Rattle.std.proofs.lemmas.Iterator.{YieldsList-from_slice, YieldsList-from_zip}
 use Rattle.std.proofs.lemmas.Iterator.Adapters.{YieldsList-from_vec}
 use Rattle.std.proofs.lemmas.Iterator.Consumers.{YieldsList-turn, YieldsList-end}
 use Rattle.std.proofs.lemmas.List.{length_push}
 use Rattle.volume.specs.Cores.{file_view, known_version}
-use Rattle.volume.specs.Live.{IsCurrent}
-use Rattle.volume.proofs.Keeping.{zip_at, zip_all, zip_same, next_keyed, next_known, next_read, put_stay, first_read}
+use Rattle.meaning.specs.Maps.{total}
+use Rattle.volume.specs.Known.{reaches_in_entries}
+use Rattle.volume.specs.Live.{IsCurrent, current_reaches}
+use Rattle.volume.proofs.Keeping.{zip_at, zip_all, zip_same, next_keyed, next_known, next_current, next_read, put_stay, first_read}
 use Rattle.volume.proofs.live.keep_versions.Goals as goal
 
 pub loop-entry-preserved : goal.loop-entry-preserved
@@ -29,6 +31,7 @@ loop-entry-preserved c =
       read = next_read entries stored i _ e s more at old new _ _ key pushed kept.vacant kept.kept so_far.keyed c.requires.whole so_far.read;
       keyed = next_keyed entries stored i _ e s more at old new _ _ key pushed kept.vacant kept.kept so_far.keyed;
       known = next_known entries stored i _ e s more at old new _ _ key pushed kept.vacant kept.kept so_far.keyed so_far.known;
+      current = λ m. next_current entries stored i _ e s more at old new _ _ key pushed kept.vacant kept.kept so_far.keyed m _ (so_far.current m);
     }
 
 pub returns-clause-keyed : goal.returns-clause-keyed
@@ -46,3 +49,11 @@ returns-clause-known c =
     let end = YieldsList-end (YieldsList-from_zip (YieldsList-from_slice entries cc) (YieldsList-from_vec stored (cc) (cc))) c.loop-entry.yielded _ c.loop-entry.yielded_by _ c.next.new.self c.in-None.is c.next.ensures.steps in
     let all = zip_all entries stored (length c.loop-entry.yielded) end.1 c.requires.aligned in
     c.loop-entry.invariant.known ∙ ap (map known_version) (sym all.1)
+
+pub returns-clause-current : goal.returns-clause-current
+returns-clause-current c m =
+    let entries = c.args.entries.now in
+    let stored = c.args.stored.items in
+    let end = YieldsList-end (YieldsList-from_zip (YieldsList-from_slice entries cc) (YieldsList-from_vec stored (cc) (cc))) c.loop-entry.yielded _ c.loop-entry.yielded_by _ c.next.new.self c.in-None.is c.next.ensures.steps in
+    let all = zip_all entries stored (length c.loop-entry.yielded) end.1 c.requires.aligned in
+    c.loop-entry.invariant.current m ∙ (λ i. total (current_reaches m) c.args.versions.now.slots + reaches_in_entries m (map file_view (sym all.0 i)) (map known_version (sym all.1 i)))

@@ -1,7 +1,9 @@
-use Rattle.std.proofs.Common.{◌≡◌, ℕ, Some, map, filter_map, length, take, IfSome}
+use Rattle.std.proofs.Common.{◌≡◌, ℕ, ◌+◌, Some, map, filter_map, length, take, IfSome}
 use Rattle.std.specs.List.{AllZip}
+use Rattle.meaning.specs.Maps.{total}
+use Rattle.volume.specs.Known.{reaches_in_entries}
 use Rattle.volume.specs.Cores.{file_view, known_version}
-use Rattle.volume.specs.Live.{IsCurrent, IsFirstRead, slot}
+use Rattle.volume.specs.Live.{IsCurrent, IsFirstRead, current_reaches, slot}
 use Rattle.volume.specs.LiveCores.{known_at}
 use Rattle.volume.specs.declared.live.LiveVersion.{LiveVersion}
 use Rattle.volume.proofs.live.keep_versions.Given as goal
@@ -12,4 +14,5 @@ invariant-loop-entry l = record {
   read : (key : ℕ) → IfSome (slot l.versions.slots key) IsFirstRead;
   keyed : AllZip (λ e key. IsCurrent l.versions.slots key e.1) (map file_view (take (length l.yielded) l.fn.entries)) l.keys.items;
   known : filter_map (known_at l.versions.slots) l.keys.items ≡ map known_version (take (length l.yielded) l.fn.stored.items);
+  current : (n : ℕ) → total (current_reaches n) l.versions.slots ≡ total (current_reaches n) l.fn.versions.slots + reaches_in_entries n (map file_view (take (length l.yielded) l.fn.entries)) (map known_version (take (length l.yielded) l.fn.stored.items));
 }

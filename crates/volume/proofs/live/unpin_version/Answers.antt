@@ -1,4 +1,4 @@
-use Rattle.std.proofs.Common.{◌-◌, refl, sym, ◌∙◌, arith}
+use Rattle.std.proofs.Common.{◌-◌, refl, sym, ◌∙◌}
 use Rattle.volume.specs.LiveCores.{core_of}
 use Rattle.volume.proofs.Pinning.{readers_whole, gone_directories, gone_core, has_ended, ended_held, ended_booked, ended_few}
 use Rattle.volume.proofs.live.unpin_version.Goals as goal
@@ -34,5 +34,4 @@ returns-in-Some-clause-whole c size =
     gone_core size m c.try_remove.new.self c.let_go.new.table c.args.key c.in-Some.version was ended c.try_remove.ensures.updates c.let_go.ensures.rest c.let_go.ensures.held c.let_go.ensures.booked
 
 pub returns-else-goes_with_reader-clause-whole : goal.returns-else-goes_with_reader-clause-whole
-returns-else-goes_with_reader-clause-whole c size = readers_whole size c.args.map.now c.remove_reader.new.versions c.args.key (λ n. n - 1) _
-    (λ v is more current. c.requires.whole.1.pinned c.args.key v is (omega arith) current) refl c.requires.there c.remove_reader.ensures.counted c.remove_reader.ensures.others
+returns-else-goes_with_reader-clause-whole c size = readers_whole size c.args.map.now c.remove_reader.new.versions c.args.key (λ n. n - 1) _ refl c.requires.there c.remove_reader.ensures.counted c.remove_reader.ensures.others

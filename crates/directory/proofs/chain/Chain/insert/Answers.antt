@@ -21,11 +21,11 @@ returns-in-Some-clause-map g c =
 
 pub returns-clause-items : goal.returns-clause-items
 returns-clause-items g c =
-    on_ok c.append.result c.append.ensures.done
-    (λ done. appended_items g.met.E.Entry.total g.E.Entry.IsEntry g.E.Entry.view c.args.self.now c.append.new.self c.args.entry c.if-needs_block.block done (subst (λ q. find g.E.Entry.order q (map g.E.Entry.view c.args.self.now.entries) ≡ None) c.key.ensures c.in_default.ensures.none))
+    on_ok c.append.result c.append.ensures.entries
+    (λ more. appended_items g.met.E.Entry.total g.E.Entry.IsEntry g.E.Entry.view c.args.self.now c.append.new.self c.args.entry more (subst (λ q. find g.E.Entry.order q (map g.E.Entry.view c.args.self.now.entries) ≡ None) c.key.ensures c.in_default.ensures.none))
 
 pub returns-clause-map : goal.returns-clause-map
 returns-clause-map g c =
-    on_ok c.append.result c.append.ensures.done
-    (λ done. appended_map g.met.E.Entry.total g.E.Entry.IsEntry g.E.Entry.view c.args.self.now c.append.new.self c.args.entry c.if-needs_block.block done (subst (λ q. find g.E.Entry.order q (map g.E.Entry.view c.args.self.now.entries) ≡ None) c.key.ensures c.in_default.ensures.none)
+    on_ok c.append.result c.append.ensures.entries
+    (λ more. appended_map g.met.E.Entry.total g.E.Entry.IsEntry g.E.Entry.view c.args.self.now c.append.new.self c.args.entry more (subst (λ q. find g.E.Entry.order q (map g.E.Entry.view c.args.self.now.entries) ≡ None) c.key.ensures c.in_default.ensures.none)
     g.met.E.Entry.exact)

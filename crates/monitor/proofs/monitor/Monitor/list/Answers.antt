@@ -1,17 +1,20 @@
-use Rattle.std.proofs.Common.{◌≡◌, ◌∙◌, refl, sym, ap, subst, inl, Some, Result, Ok, Err, List}
+use Rattle.std.proofs.Common.{◌≡◌, ◌∙◌, refl, sym, ap, subst, inl, Result, Ok, Err, List}
 use Rattle.meaning.specs.declared.entry.Entry.{Entry}
 use Rattle.meaning.specs.declared.call.Reply.{Reply}
 use Rattle.meaning.specs.declared.call.Reply.TheVariants.{Refused}
 use Rattle.meaning.specs.Published.{without_serials}
 use Rattle.meaning.specs.Runs.{Service, Lists}
 use Rattle.monitor.specs.Serving.{Serves}
-use Rattle.monitor.proofs.Listing.{in_state, absent, forbidden, given, unlisted, contrary}
+use Rattle.volume.specs.LiveCores.{core_of}
+use Rattle.monitor.specs.Sides.{jobs_of}
+use Rattle.monitor.proofs.Answering.{in_state, slot_of, contrary}
+use Rattle.monitor.proofs.Listing.{absent, forbidden, given, unlisted}
 use Rattle.monitor.proofs.monitor.Monitor.list.Goals as goal
 
 pub returns-in-Err-clause-listed : goal.returns-in-Err-clause-listed
 returns-in-Err-clause-listed g c =
-    subst (λ m. (g.D.Disk.state m.disk).honest → (service : Service) → Serves (g.D.Disk.state m.disk) m.failed m.jobs service
-    → (answer : Result (List Entry) Reply) × (answer ≡ Err (Refused c.number.result)) × Lists service c.args.job c.args.ppn answer service) c.self.view_is (λ h. in_state (g.D.Disk.state c.self.inside.volume.disk) c.self.inside.volume.failed c.self.inside.jobs
+    subst (λ m. (g.D.Disk.state m.disk).honest → (service : Service) → Serves (g.D.Disk.state m.disk) m.map m.failed m.jobs service
+    → (answer : Result (List Entry) Reply) × (answer ≡ Err (Refused c.number.result)) × Lists service c.args.job c.args.ppn answer service) c.self.view_is (λ h. in_state (g.D.Disk.state c.self.inside.volume.disk) (core_of c.self.inside.volume.map) c.self.inside.volume.failed c.self.inside.jobs
     (λ service. (answer : Result (List Entry) Reply) × (answer ≡ Err (Refused c.number.result)) × Lists service c.args.job c.args.ppn answer service)
     c.if-self.false
     (λ s state. (
@@ -20,14 +23,14 @@ returns-in-Err-clause-listed g c =
       (
         refl,
         inl (ap (λ n. Err (Refused n)) c.number.ensures
-            ∙ sym (absent s c.self.inside.jobs c.args.job c.args.ppn _ state.jobs_are (c.in-Some.ensures.found ∙ ap Some (sym c.asking.view_is)) _ (c.in-Err.ensures.value h c.if-self.false (without_serials s.files) state.files))),
+            ∙ sym (absent s (jobs_of state.written c.self.inside.jobs) c.args.job c.args.ppn _ state.jobs_are (slot_of state.written c.self.inside.jobs c.args.job _ c.in-Some.ensures.found) _ (c.in-Err.ensures.value h c.if-self.false (without_serials s.files) state.files))),
       ),
     )))
 
 pub returns-then-not-dir_right-clause-listed : goal.returns-then-not-dir_right-clause-listed
 returns-then-not-dir_right-clause-listed g c =
-    subst (λ m. (g.D.Disk.state m.disk).honest → (service : Service) → Serves (g.D.Disk.state m.disk) m.failed m.jobs service
-    → (answer : Result (List Entry) Reply) × (answer ≡ Err (Refused c.number-then-not-dir_right.result)) × Lists service c.args.job c.args.ppn answer service) c.self.view_is (λ h. in_state (g.D.Disk.state c.self.inside.volume.disk) c.self.inside.volume.failed c.self.inside.jobs
+    subst (λ m. (g.D.Disk.state m.disk).honest → (service : Service) → Serves (g.D.Disk.state m.disk) m.map m.failed m.jobs service
+    → (answer : Result (List Entry) Reply) × (answer ≡ Err (Refused c.number-then-not-dir_right.result)) × Lists service c.args.job c.args.ppn answer service) c.self.view_is (λ h. in_state (g.D.Disk.state c.self.inside.volume.disk) (core_of c.self.inside.volume.map) c.self.inside.volume.failed c.self.inside.jobs
     (λ service. (answer : Result (List Entry) Reply) × (answer ≡ Err (Refused c.number-then-not-dir_right.result)) × Lists service c.args.job c.args.ppn answer service)
     c.if-self.false
     (λ s state. (
@@ -36,15 +39,15 @@ returns-then-not-dir_right-clause-listed g c =
       (
         refl,
         inl (ap (λ n. Err (Refused n)) c.number-then-not-dir_right.ensures
-            ∙ sym (forbidden s c.self.inside.jobs c.args.job c.args.ppn _ state.jobs_are (c.in-Some.ensures.found ∙ ap Some (sym c.asking.view_is)) c.in-Ok.protection (c.in-Ok.ensures.value h c.if-self.false (without_serials s.files) state.files)
+            ∙ sym (forbidden s (jobs_of state.written c.self.inside.jobs) c.args.job c.args.ppn _ state.jobs_are (slot_of state.written c.self.inside.jobs c.args.job _ c.in-Some.ensures.found) c.in-Ok.protection (c.in-Ok.ensures.value h c.if-self.false (without_serials s.files) state.files)
             (sym c.dir_right.ensures.allowed ∙ c.if-not-dir_right.true))),
       ),
     )))
 
 pub returns-in-Ok-list-clause-listed : goal.returns-in-Ok-list-clause-listed
 returns-in-Ok-list-clause-listed g c =
-    subst (λ m. (g.D.Disk.state m.disk).honest → (service : Service) → Serves (g.D.Disk.state m.disk) m.failed m.jobs service
-    → (answer : Result (List Entry) Reply) × (answer ≡ Ok c.in-Ok-list.lines.items) × Lists service c.args.job c.args.ppn answer service) c.self.view_is (λ h. in_state (g.D.Disk.state c.self.inside.volume.disk) c.self.inside.volume.failed c.self.inside.jobs
+    subst (λ m. (g.D.Disk.state m.disk).honest → (service : Service) → Serves (g.D.Disk.state m.disk) m.map m.failed m.jobs service
+    → (answer : Result (List Entry) Reply) × (answer ≡ Ok c.in-Ok-list.lines.items) × Lists service c.args.job c.args.ppn answer service) c.self.view_is (λ h. in_state (g.D.Disk.state c.self.inside.volume.disk) (core_of c.self.inside.volume.map) c.self.inside.volume.failed c.self.inside.jobs
     (λ service. (answer : Result (List Entry) Reply) × (answer ≡ Ok c.in-Ok-list.lines.items) × Lists service c.args.job c.args.ppn answer service)
     c.if-self.false
     (λ s state. (
@@ -53,15 +56,15 @@ returns-in-Ok-list-clause-listed g c =
       (
         refl,
         inl
-            (sym (given s c.self.inside.jobs c.args.job c.args.ppn _ state.jobs_are (c.in-Some.ensures.found ∙ ap Some (sym c.asking.view_is)) c.in-Ok.protection (c.in-Ok.ensures.value h c.if-self.false (without_serials s.files) state.files)
+            (sym (given s (jobs_of state.written c.self.inside.jobs) c.args.job c.args.ppn _ state.jobs_are (slot_of state.written c.self.inside.jobs c.args.job _ c.in-Some.ensures.found) c.in-Ok.protection (c.in-Ok.ensures.value h c.if-self.false (without_serials s.files) state.files)
             c.in-Ok-list.lines.items (sym c.dir_right.ensures.allowed ∙ c.if-not-dir_right.false) (c.in-Ok-list.ensures.listed h c.if-self.false (without_serials s.files) state.files))),
       ),
     )))
 
 pub returns-in-Err-list-clause-listed : goal.returns-in-Err-list-clause-listed
 returns-in-Err-list-clause-listed g c =
-    subst (λ m. (g.D.Disk.state m.disk).honest → (service : Service) → Serves (g.D.Disk.state m.disk) m.failed m.jobs service
-    → (answer : Result (List Entry) Reply) × (answer ≡ Err c.reply_of.result) × Lists service c.args.job c.args.ppn answer service) c.self.view_is (λ h. in_state (g.D.Disk.state c.self.inside.volume.disk) c.self.inside.volume.failed c.self.inside.jobs
+    subst (λ m. (g.D.Disk.state m.disk).honest → (service : Service) → Serves (g.D.Disk.state m.disk) m.map m.failed m.jobs service
+    → (answer : Result (List Entry) Reply) × (answer ≡ Err c.reply_of.result) × Lists service c.args.job c.args.ppn answer service) c.self.view_is (λ h. in_state (g.D.Disk.state c.self.inside.volume.disk) (core_of c.self.inside.volume.map) c.self.inside.volume.failed c.self.inside.jobs
     (λ service. (answer : Result (List Entry) Reply) × (answer ≡ Err c.reply_of.result) × Lists service c.args.job c.args.ppn answer service)
     c.if-self.false
     (λ s state. (
@@ -69,7 +72,7 @@ returns-in-Err-list-clause-listed g c =
       refl,
       (
         refl,
-        unlisted s c.self.inside.jobs c.args.job c.args.ppn _ state.jobs_are (c.in-Some.ensures.found ∙ ap Some (sym c.asking.view_is)) c.in-Ok.protection (c.in-Ok.ensures.value h c.if-self.false (without_serials s.files) state.files)
+        unlisted s (jobs_of state.written c.self.inside.jobs) c.args.job c.args.ppn _ state.jobs_are (slot_of state.written c.self.inside.jobs c.args.job _ c.in-Some.ensures.found) c.in-Ok.protection (c.in-Ok.ensures.value h c.if-self.false (without_serials s.files) state.files)
             c.in-Err-list.error c.reply_of.result (sym c.dir_right.ensures.allowed ∙ c.if-not-dir_right.false) c.in-Err-list.ensures.only c.reply_of.ensures
             (λ e. (c.in-Err-list.ensures.refused h c.if-self.false (without_serials s.files) state.files).0 (ap Err e)) (λ e. contrary c.if-self.false (c.in-Err-list.ensures.failed.0 (ap Err e))),
       ),

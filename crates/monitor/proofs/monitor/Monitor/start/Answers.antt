@@ -1,24 +1,16 @@
-use Rattle.std.proofs.Common.{sym, subst, ◌∙◌}
-use Rattle.std.specs.List.{AllByRecursion}
-use Rattle.volume.specs.Rest.{RestsAt}
 use Rattle.volume.specs.LiveCores.{core_of}
-use Rattle.volume.proofs.LiveOpening.{none_beyond}
-use Rattle.monitor.specs.Serving.{IsClosed}
-use Rattle.monitor.proofs.Rooms.{none_open}
+use Rattle.monitor.proofs.Started.{started, start_keyed}
+use Rattle.monitor.proofs.Placing.{placed_none}
 use Rattle.monitor.proofs.monitor.Monitor.start.Goals as goal
 
 pub invariant_of-result : goal.invariant_of-result
-invariant_of-result g c = (c.in_ok-volume.ensures.sound, none_beyond (core_of c.in_ok-volume.volume.map) c.in_ok-volume.ensures.unread c.in_ok-volume.ensures.unwritten)
+invariant_of-result g c = (c.in_ok-volume.ensures.sound, λ serves. (start_keyed (core_of c.in_ok-volume.volume.map).pending c.in-Ok.jobs c.in_ok-volume.ensures.unwritten c.in-Ok.ensures, placed_none (core_of c.in_ok-volume.volume.map) c.in_ok-volume.ensures.unwritten))
 
 pub returns-in-Ok-clause-started : goal.returns-in-Ok-clause-started
 returns-in-Ok-clause-started g c h files stands s start = (
   c.in_ok-volume.ensures.serves,
-  record {
-    files = subst (RestsAt (g.D.Disk.state c.in_ok-volume.volume.disk)) (sym start.files) (c.in_ok-volume.ensures.files h files stands);
-    serials = start.serials;
-    jobs_are = start.jobs ∙ sym c.in-Ok.ensures;
-    closed = subst (AllByRecursion IsClosed) (sym c.in-Ok.ensures) none_open;
-  },
+  started (g.D.Disk.state c.in_ok-volume.volume.disk) (core_of c.in_ok-volume.volume.map) c.in-Ok.jobs s files (c.in_ok-volume.ensures.files h files stands) c.in_ok-volume.ensures.unread c.in_ok-volume.ensures.unwritten
+      c.in-Ok.ensures start,
 )
 
 pub returns-in-Ok-clause-stood : goal.returns-in-Ok-clause-stood

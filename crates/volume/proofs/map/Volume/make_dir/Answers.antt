@@ -3,7 +3,7 @@ use Rattle.volume.specs.Live.{VolumeCore}
 use Rattle.volume.specs.LiveCores.{core_of}
 use Rattle.volume.specs.Making.{IsMade}
 use Rattle.volume.specs.Rest.{IsSound}
-use Rattle.volume.proofs.LiveBodies.{bodies_stay, bodies_of}
+use Rattle.volume.proofs.LiveBodies.{bodies_stay, bodies_of, used_read, used_written}
 use Rattle.volume.proofs.MakingDirectories.{sound_for, sound_failed, made_core, puts_in_range, not_written, made_crash, made_rest, made_at, made_done}
 use Rattle.volume.proofs.map.Volume.make_dir.Goals as goal
 
@@ -108,3 +108,51 @@ returns-in-Err-write_and_commit-clause-sound g c =
     let made : IsMade s.size k k' c.args.ppn c.args.protection c.in-Ok.first c.make_in_core.new.set =
     subst (λ (b : ℕ). IsMade b k k' c.args.ppn c.args.protection c.in-Ok.first c.make_in_core.new.set) c.requires.sound.whole.map.size_is c.in-Ok.ensures.made in
     sound_failed s s' (core_of c.make_in_core.new.core) true c.write_and_commit.ensures.same.size (made_core s.size k k' c.args.ppn c.args.protection c.in-Ok.first c.make_in_core.new.set whole made (core_of c.args.self.now.map) (core_of c.make_in_core.new.core) c.requires.sound.whole refl refl c.make_in_core.ensures.live c.make_in_core.ensures.pending c.in-Ok.ensures.keys) refl
+
+pub returns-in-Ok-write_and_commit-clause-readers : goal.returns-in-Ok-write_and_commit-clause-readers
+returns-in-Ok-write_and_commit-clause-readers g c h =
+    let s = g.D.Disk.state c.args.self.now.disk in
+    let s' = g.D.Disk.state c.write_and_commit.new.disk in
+    let k = (core_of c.args.self.now.map).known in
+    let k' = (core_of c.make_in_core.new.core).known in
+    let whole = c.requires.sound.whole.map in
+    let made : IsMade s.size k k' c.args.ppn c.args.protection c.in-Ok.first c.make_in_core.new.set =
+    subst (λ (b : ℕ). IsMade b k k' c.args.ppn c.args.protection c.in-Ok.first c.make_in_core.new.set) c.requires.sound.whole.map.size_is c.in-Ok.ensures.made in
+    used_read s.size (core_of c.args.self.now.map) c.requires.sound.whole s.contents s'.contents
+    (λ n is. (c.write_and_commit.ensures.touched h).contents n (not_written s.size k k' c.args.ppn c.args.protection c.in-Ok.first c.make_in_core.new.set whole made n is.from is.apart is.used))
+
+pub returns-in-Ok-write_and_commit-clause-writers : goal.returns-in-Ok-write_and_commit-clause-writers
+returns-in-Ok-write_and_commit-clause-writers g c h =
+    let s = g.D.Disk.state c.args.self.now.disk in
+    let s' = g.D.Disk.state c.write_and_commit.new.disk in
+    let k = (core_of c.args.self.now.map).known in
+    let k' = (core_of c.make_in_core.new.core).known in
+    let whole = c.requires.sound.whole.map in
+    let made : IsMade s.size k k' c.args.ppn c.args.protection c.in-Ok.first c.make_in_core.new.set =
+    subst (λ (b : ℕ). IsMade b k k' c.args.ppn c.args.protection c.in-Ok.first c.make_in_core.new.set) c.requires.sound.whole.map.size_is c.in-Ok.ensures.made in
+    used_written s.size (core_of c.args.self.now.map) c.requires.sound.whole s.contents s'.contents
+    (λ n is. (c.write_and_commit.ensures.touched h).contents n (not_written s.size k k' c.args.ppn c.args.protection c.in-Ok.first c.make_in_core.new.set whole made n is.from is.apart is.used))
+
+pub returns-in-Err-write_and_commit-clause-readers : goal.returns-in-Err-write_and_commit-clause-readers
+returns-in-Err-write_and_commit-clause-readers g c h =
+    let s = g.D.Disk.state c.args.self.now.disk in
+    let s' = g.D.Disk.state c.write_and_commit.new.disk in
+    let k = (core_of c.args.self.now.map).known in
+    let k' = (core_of c.make_in_core.new.core).known in
+    let whole = c.requires.sound.whole.map in
+    let made : IsMade s.size k k' c.args.ppn c.args.protection c.in-Ok.first c.make_in_core.new.set =
+    subst (λ (b : ℕ). IsMade b k k' c.args.ppn c.args.protection c.in-Ok.first c.make_in_core.new.set) c.requires.sound.whole.map.size_is c.in-Ok.ensures.made in
+    used_read s.size (core_of c.args.self.now.map) c.requires.sound.whole s.contents s'.contents
+    (λ n is. (c.write_and_commit.ensures.touched h).contents n (not_written s.size k k' c.args.ppn c.args.protection c.in-Ok.first c.make_in_core.new.set whole made n is.from is.apart is.used))
+
+pub returns-in-Err-write_and_commit-clause-writers : goal.returns-in-Err-write_and_commit-clause-writers
+returns-in-Err-write_and_commit-clause-writers g c h =
+    let s = g.D.Disk.state c.args.self.now.disk in
+    let s' = g.D.Disk.state c.write_and_commit.new.disk in
+    let k = (core_of c.args.self.now.map).known in
+    let k' = (core_of c.make_in_core.new.core).known in
+    let whole = c.requires.sound.whole.map in
+    let made : IsMade s.size k k' c.args.ppn c.args.protection c.in-Ok.first c.make_in_core.new.set =
+    subst (λ (b : ℕ). IsMade b k k' c.args.ppn c.args.protection c.in-Ok.first c.make_in_core.new.set) c.requires.sound.whole.map.size_is c.in-Ok.ensures.made in
+    used_written s.size (core_of c.args.self.now.map) c.requires.sound.whole s.contents s'.contents
+    (λ n is. (c.write_and_commit.ensures.touched h).contents n (not_written s.size k k' c.args.ppn c.args.protection c.in-Ok.first c.make_in_core.new.set whole made n is.from is.apart is.used))

@@ -1,11 +1,8 @@
-use Rattle.std.proofs.Common.{◌≡◌, ◌+◌, ◌≤◌, ℕ, true, Option, Err, IfSome, sym, ap, subst, ◌∙◌}
+use Rattle.std.proofs.Common.{◌+◌, Err, ap, ◌∙◌}
 use Rattle.std.proofs.lemmas.Result.{err_from_is_err_and}
-use Rattle.meaning.specs.Maps.{times, total}
-use Rattle.volume.specs.declared.live.LiveVersion.{LiveVersion}
-use Rattle.volume.specs.Known.{blocks_reached, reaches_in_known}
 use Rattle.volume.specs.LiveCores.{core_of}
 use Rattle.volume.proofs.Answering.{rest_holds}
-use Rattle.volume.proofs.PinnedFiles.{key_stands, key_file, pin_answered, pin_refused, pinned_sound}
+use Rattle.volume.proofs.PinnedFiles.{key_file, pin_answered, pin_refused, pinned_sound}
 use Rattle.volume.proofs.map.Volume.pin.Goals as goal
 
 pub returns-in_err-key-clause-value : goal.returns-in_err-key-clause-value
@@ -15,13 +12,6 @@ returns-in_err-key-clause-value g c honest alive files rest =
     let holds = rest_holds s core c.args.self.now.failed c.requires.sound honest alive files rest in
     let p = err_from_is_err_and c.from_residual.result c.from_residual.ensures.1 in
     pin_refused s core files holds c.args.ppn c.args.name.now core.live c.in_err-key.field-0.0 c.from_residual.result (p.1 ∙ ap Err p.2) c.in_err-key.ensures.none
-
-pub pin_version-requires-clause-stands : goal.pin_version-requires-clause-stands
-pin_version-requires-clause-stands g c =
-    let is = c.in_ok-key.ensures.found in
-    let core = core_of c.args.self.now.map in
-    subst (λ (o : Option LiveVersion). IfSome o (λ v. v.is_current ≡ true → (n : ℕ) → times n (blocks_reached v.at v.version) ≤ total (reaches_in_known n) core.known.directories)) (sym is.here)
-    (λ current n. key_stands core c.args.ppn c.args.name.now c.in_ok-key.key is n)
 
 pub returns-clause-pinned : goal.returns-clause-pinned
 returns-clause-pinned g c = let is = c.in_ok-key.ensures.found in (is.version, is.here, c.pin_version.ensures.pinned is.version is.here)

@@ -4,7 +4,7 @@ use Rattle.volume.specs.LiveCores.{core_of}
 use Rattle.volume.specs.Rest.{IsSound}
 use Rattle.volume.specs.declared.pending.PendingVersion.{PendingVersion}
 use Rattle.volume.proofs.PuttingCore.{some_of, ready}
-use Rattle.volume.proofs.PuttingDisk.{none_damaged, put_failed, put_done, crash_finds, rest_finds}
+use Rattle.volume.proofs.PuttingDisk.{keeps_read, keeps_written, none_damaged, put_failed, put_done, crash_finds, rest_finds}
 use Rattle.volume.proofs.map.Volume.put_words.Goals as goal
 
 pub put_pending-requires-clause-ready : goal.put_pending-requires-clause-ready
@@ -102,3 +102,57 @@ returns-in-Ok-clause-sound g c =
     let put = c.in-Ok.ensures.put p there.1 in
     subst (λ (b : Bool). IsSound s' new b) (sym c.if-self.false)
     (put_done s s' core sound c.put_pending.ensures.same c.args.pending.key p there.1 c.put_pending.new.table c.put_pending.new.pending.slots grown.0 grown.1 c.put_pending.ensures.others (λ h. c.put_pending.ensures.touched h p there.1) put.0 c.args.block c.args.words.now put.1 put.2 put.3)
+
+pub returns-in-Err-Device-clause-readers : goal.returns-in-Err-Device-clause-readers
+returns-in-Err-Device-clause-readers g c h =
+    let s = g.D.Disk.state c.args.self.now.disk in
+    let s' = g.D.Disk.state c.put_pending.new.disk in
+    let core = core_of c.args.self.now.map in
+    let there = some_of (pending_at core.pending c.args.pending.key) c.requires.live in
+    let p : PendingVersion = there.0 in
+    keeps_read s.size core c.requires.sound.whole c.args.pending.key p there.1 s.contents s'.contents (c.put_pending.ensures.touched h p there.1).contents
+
+pub returns-in-Err-Device-clause-writers : goal.returns-in-Err-Device-clause-writers
+returns-in-Err-Device-clause-writers g c h =
+    let s = g.D.Disk.state c.args.self.now.disk in
+    let s' = g.D.Disk.state c.put_pending.new.disk in
+    let core = core_of c.args.self.now.map in
+    let there = some_of (pending_at core.pending c.args.pending.key) c.requires.live in
+    let p : PendingVersion = there.0 in
+    keeps_written s.size core c.requires.sound.whole c.args.pending.key p there.1 s.contents s'.contents (c.put_pending.ensures.touched h p there.1).contents
+
+pub returns-in-Err-clause-readers : goal.returns-in-Err-clause-readers
+returns-in-Err-clause-readers g c h =
+    let s = g.D.Disk.state c.args.self.now.disk in
+    let s' = g.D.Disk.state c.put_pending.new.disk in
+    let core = core_of c.args.self.now.map in
+    let there = some_of (pending_at core.pending c.args.pending.key) c.requires.live in
+    let p : PendingVersion = there.0 in
+    keeps_read s.size core c.requires.sound.whole c.args.pending.key p there.1 s.contents s'.contents (c.put_pending.ensures.touched h p there.1).contents
+
+pub returns-in-Err-clause-writers : goal.returns-in-Err-clause-writers
+returns-in-Err-clause-writers g c h =
+    let s = g.D.Disk.state c.args.self.now.disk in
+    let s' = g.D.Disk.state c.put_pending.new.disk in
+    let core = core_of c.args.self.now.map in
+    let there = some_of (pending_at core.pending c.args.pending.key) c.requires.live in
+    let p : PendingVersion = there.0 in
+    keeps_written s.size core c.requires.sound.whole c.args.pending.key p there.1 s.contents s'.contents (c.put_pending.ensures.touched h p there.1).contents
+
+pub returns-in-Ok-clause-readers : goal.returns-in-Ok-clause-readers
+returns-in-Ok-clause-readers g c h =
+    let s = g.D.Disk.state c.args.self.now.disk in
+    let s' = g.D.Disk.state c.put_pending.new.disk in
+    let core = core_of c.args.self.now.map in
+    let there = some_of (pending_at core.pending c.args.pending.key) c.requires.live in
+    let p : PendingVersion = there.0 in
+    keeps_read s.size core c.requires.sound.whole c.args.pending.key p there.1 s.contents s'.contents (c.put_pending.ensures.touched h p there.1).contents
+
+pub returns-in-Ok-clause-writers : goal.returns-in-Ok-clause-writers
+returns-in-Ok-clause-writers g c h =
+    let s = g.D.Disk.state c.args.self.now.disk in
+    let s' = g.D.Disk.state c.put_pending.new.disk in
+    let core = core_of c.args.self.now.map in
+    let there = some_of (pending_at core.pending c.args.pending.key) c.requires.live in
+    let p : PendingVersion = there.0 in
+    keeps_written s.size core c.requires.sound.whole c.args.pending.key p there.1 s.contents s'.contents (c.put_pending.ensures.touched h p there.1).contents

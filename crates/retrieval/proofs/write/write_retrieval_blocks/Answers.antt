@@ -6,7 +6,7 @@ use Rattle.retrieval.specs.Writing.{extensions_of}
 use Rattle.meaning.specs.Maps.{times}
 use Rattle.retrieval.specs.Primes.{with_length}
 use Rattle.retrieval.proofs.Writing.{retrieved_on, behind, drop_min, is_in, in_later, is_mode}
-use Rattle.retrieval.proofs.write.write_blocks.Goals as goal
+use Rattle.retrieval.proofs.write.write_retrieval_blocks.Goals as goal
 
 pub returns-clause-written : goal.returns-clause-written
 returns-clause-written g c h =

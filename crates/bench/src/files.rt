@@ -1,0 +1,98 @@
+ghost use Rattle.std.specs.Prelude.{◌≡◌, ◌+◌, ◌*◌, ◌<◌, IfOk, OnOk, length};
+ghost use Rattle.meaning.specs.Files.{File, Files};
+ghost use Rattle.retrieval.specs.Writing.{rib_count};
+ghost use Rattle.volume.specs.LiveCores.{core_of};
+ghost use Rattle.volume.specs.Publishing.{file_of, files_published};
+ghost use Rattle.volume.specs.Rest.{IsSound, RestsAt};
+
+use crate::counting::{Calls, CountingDisk};
+use anyhow::{Context, Result};
+use blockdisk::Disk;
+use retrieval::{Mode, Prime};
+use std::alloc::Global;
+use volume::Volume;
+use words36::{BLOCK_WORDS, FileName, Half, Moment, Ppn, Word};
+
+/// FOO in SIXBIT.
+const FOO: u64 = 0o465757000000;
+
+/// The protection of the file.
+const PROTECTION: u16 = 0o057;
+
+/// So many blocks of a file have their pointers in its prime block.
+const PRIME_POINTERS: u32 = 112;
+
+/// And so many in each of its ribs.
+const RIB_POINTERS: u32 = 126;
+
+/// The puts of a publication where the table is one block: that one, and the directory's.
+const PUTS: u32 = 2;
+
+/// The fewest syncs of a publication: those of one commit.
+pub const LEAST_SYNCS: u32 = 4;
+
+/// The calls of a disk while a file was written.
+#[derive(Clone, Copy)]
+pub struct FileCalls {
+    /// While its words were put.
+    pub put: Calls,
+    /// While it was published.
+    pub published: Calls,
+}
+
+/// The fewest writes of the publication of a file of so many blocks, where the table is one block: its
+/// retrieval blocks, and a commit, which for k puts makes 2k + 3.
+pub fn least_writes(blocks: u16) -> u32
+    ensures { result ≡ 1 + rib_count blocks + (2 * 2 + 3) }
+{
+    let ribs = u32::from(blocks)
+        .saturating_sub(PRIME_POINTERS)
+        .div_ceil(RIB_POINTERS);
+    1 + ribs + 2 * PUTS + 3
+}
+
+/// What the prime block of FOO in the directory [1,1] says.
+pub fn prime_of_foo() -> Result<Prime>
+    ensures { IfOk result (λ prime. 0 < prime.file.name) }
+{
+    let file = FileName {
+        name: Word::from_bits(FOO),
+        ext: Half::from_bits(0),
+    };
+    let ppn = Ppn::new(1, 1).context("no such number")?;
+    let moment = Moment::new(0, 0)?;
+    Prime::new(file, ppn, PROTECTION, Mode::Dump, moment).context("no such file")
+}
+
+/// The words of a file of so many blocks.
+pub fn words_of_file(alloc: Global, blocks: u16) -> Result<Vec<Word>>
+    ensures { IfOk result (λ words. length words.items ≡ blocks * 128) }
+{
+    Ok(vec![in alloc; Word::from_bits(FOO); usize::from(blocks) * BLOCK_WORDS]?)
+}
+
+/// Writes a file with these words and publishes it, in the place of the one that has its name, or as a new one.
+/// Answers what the disk was called for.
+pub fn publish_file<D: Disk>(
+    alloc: Global,
+    volume: &mut Volume<CountingDisk<D>>,
+    prime: Prime,
+    words: &[Word],
+) -> Result<FileCalls>
+    requires sound { IsSound (D.state volume.old.disk.inner) (core_of volume.old.map) volume.old.failed }
+    requires named { 0 < prime.file.name }
+    ensures sound { IsSound (D.state volume.new.disk.inner) (core_of volume.new.map) volume.new.failed }
+    ensures done { (D.state volume.old.disk.inner).honest → (f : Files File) → RestsAt (D.state volume.old.disk.inner) f
+        → OnOk result (RestsAt (D.state volume.new.disk.inner) (files_published f prime.ppn prime.file (file_of prime words.now))) }
+{
+    let pending = volume.begin(alloc, prime)?;
+    let begun = volume.disk.calls();
+    volume.put_words(pending, 1, words)?;
+    let written = volume.disk.calls();
+    volume.publish(alloc, pending, 1, &[])?;
+    let published = volume.disk.calls();
+    Ok(FileCalls {
+        put: written.since(begun),
+        published: published.since(written),
+    })
+}

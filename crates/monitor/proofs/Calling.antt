@@ -1,0 +1,47 @@
+-- A call's row, by the job that makes it.
+use Rattle.std.proofs.Common.{◌≡◌, ℕ, List, Option, Some, refl, sym, ap, ◌∙◌, inr, arith}
+use Rattle.std.specs.Prelude.{option_map, slice_set, option_to_list, filter_map}
+use Rattle.std.specs.List.{AllByRecursion}
+use Rattle.meaning.specs.Jobs as machine
+use Rattle.meaning.specs.Jobs.{State, slot, channel_at, job_at, with_channel, with_job}
+use Rattle.meaning.proofs.SlotLaws.{set-slot}
+use Rattle.volume.specs.Live.{pending_at}
+use Rattle.volume.specs.declared.pending.PendingVersion.{PendingVersion}
+use Rattle.monitor.specs.Rows.{Keeps, IsOldOrNew}
+use Rattle.monitor.specs.Serving.{IsSide}
+use Rattle.monitor.specs.Sides.{Writing, side_of, channel_of, job_of}
+use Rattle.monitor.specs.declared.channel.Channel.{Channel}
+use Rattle.monitor.specs.declared.job.Job.{Job}
+use Rattle.monitor.proofs.SideLists.{count, count-channel, each-channel, map-set, slot-map}
+
+-- the channel of a number, as the machine has it
+pub channel_is : (w : ℕ → Writing) (job : Job) (number : ℕ) (o : Option Channel) → slot job.channels number ≡ o → channel_at (job_of w job) number ≡ option_map (channel_of w) o
+channel_is w job number o is = slot-map (channel_of w) job.channels number ∙ ap (option_map (channel_of w)) is
+
+-- a channel that is set
+pub channel_set : (w : ℕ → Writing) (job : Job) (number : ℕ) (x : Option Channel) → with_channel (job_of w job) number (option_map (channel_of w) x) ≡ job_of w (record job { channels = slice_set job.channels number x })
+channel_set w job number x = ap (λ cs. record { ppn = job.ppn; core = job.core; channels = cs }) (sym (map-set (option_map (channel_of w)) job.channels number x))
+
+-- a job that is not changed
+pub job_same : (s : State) (n : ℕ) (job : machine.Job) → job_at s n ≡ Some job → s ≡ with_job s n job
+job_same s n job there = ap (λ js. record s { jobs = js }) (sym (set-slot s.jobs n job there))
+
+-- Versions and output sides.
+
+old_or_new : (pending : List (Option PendingVersion)) (key : ℕ) (p : PendingVersion) → pending_at pending key ≡ Some p → IsOldOrNew (pending_at pending key) p
+old_or_new pending key p at = inr (p, at, refl)
+
+pub keeps_same : (pending : List (Option PendingVersion)) (job : Job) → Keeps pending pending job job
+keeps_same pending job = record { once = λ key. refl; known = old_or_new pending; each = λ all. all }
+
+-- a channel is another one, which writes the same version or none
+pub keeps_channel : (pending : List (Option PendingVersion)) (job : Job) (number : ℕ) (x : Option Channel) → ((key : ℕ) → count key (option_to_list (side_of x)) ≡ count key (option_to_list (side_of (slot job.channels number))))
+    → (AllByRecursion (IsSide pending) (filter_map side_of job.channels) → AllByRecursion (IsSide pending) (option_to_list (side_of x))) → Keeps pending pending job (record job { channels = slice_set job.channels number x })
+keeps_channel pending job number x same side = record {
+  once = λ key.
+      let set = count-channel key job.channels number x (λ e. same key ∙ ap (λ o. count key (option_to_list (side_of o))) e) in
+      let alike = same key in
+      omega arith;
+  known = old_or_new pending;
+  each = λ all. each-channel (IsSide pending) job.channels number x all (side all);
+}

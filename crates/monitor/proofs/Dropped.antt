@@ -1,0 +1,138 @@
+-- Versions are dropped one by one, with the output sides that wrote them.
+use Rattle.std.proofs.Common.{◌≡◌, ◌≢◌, ℕ, ◌+◌, ◌<◌, ◌≤◌, Bool, true, false, List, [], ◌∷◌, length, take, get_or, Option, Some, None, refl, sym, ap, subst, ◌∙◌, ⊎_elim, arith}
+use Rattle.std.specs.Prelude.{◌==◌, slice_set, filter_map, option_to_list, IsTrue, IsFalse}
+use Rattle.std.proofs.lemmas.Bool.{eqb-true, eq-eqb}
+use Rattle.std.specs.List.{AllByRecursion}
+use Rattle.meaning.specs.Jobs.{slot}
+use Rattle.meaning.specs.Maps.{times}
+use Rattle.meaning.proofs.MapLaws.{some_none}
+use Rattle.meaning.proofs.MapSums.{times_head, times_other}
+use Rattle.volume.specs.Known.{Known}
+use Rattle.volume.specs.Live.{VolumeCore, pending_at}
+use Rattle.volume.specs.declared.pending.PendingVersion.{PendingVersion}
+use Rattle.monitor.specs.Dropping.{Drops}
+use Rattle.monitor.specs.Rows.{Keeps}
+use Rattle.monitor.specs.Serving.{present, IsSide, AreKeyed}
+use Rattle.monitor.specs.Sides.{side_of, sides_in, sides, keys_of, reset_job}
+use Rattle.monitor.specs.declared.channel.Channel.{Channel}
+use Rattle.monitor.specs.declared.output.Output.{Output}
+use Rattle.monitor.specs.declared.job.Job.{Job}
+use Rattle.monitor.proofs.SideLists.{count, count-set, count-slot, count-more, count-within, take_all, each-set, each-slot, each-as, each_counted, each-both}
+
+-- two keys
+pub same_or_not : {P : Type 0} (k key : ℕ) → (k ≡ key → P) → (k ≢ key → P) → P
+same_or_not {P} k key same other = by (k == key) refl
+  where
+    by : (b : Bool) → (k == key) ≡ b → P
+    by true e = same (eqb-true k key e)
+    by false e = other (λ is. let yes = eq-eqb k key is in cc)
+
+pub drops_none : (c : VolumeCore) → Drops c c []
+drops_none c = record { gone = λ key. omega arith; stay = λ key p at. at; live = refl; known = refl }
+
+-- one is dropped
+pub drops_one : (c c' : VolumeCore) (key : ℕ) → 1 ≤ present (pending_at c.pending key) → pending_at c'.pending key ≡ None → ((k : ℕ) → (k ≡ key → ⊥) → pending_at c'.pending k ≡ pending_at c.pending k) → c'.live ≡ c.live
+    → c'.known ≡ record c.known { table = c'.known.table } → Drops c c' (key ∷ [])
+drops_one c c' key there gone others live known = record {
+  gone = λ k. same_or_not k key
+      (λ is. subst (λ (n : ℕ). present (pending_at c'.pending n) + times n (key ∷ []) ≡ present (pending_at c.pending n)) (sym is) (here (pending_at c.pending key) there))
+      (λ apart. let none = times_other k key [] apart in let same = ap present (others k apart) in omega arith);
+  stay = λ k p at. same_or_not k key
+      (λ is. absurd (some_none (sym at ∙ ap (pending_at c'.pending) is ∙ gone)))
+      (λ apart. sym (others k apart) ∙ at);
+  live = live;
+  known = known;
+}
+  where
+    here : (o : Option PendingVersion) → 1 ≤ present o → present (pending_at c'.pending key) + times key (key ∷ []) ≡ present o
+    here None there = absurd (omega arith)
+    here (Some p) there = let none = ap present gone in let one = times_head key [] in omega arith
+
+-- more are dropped
+pub drops_on : (a b c : VolumeCore) (xs ys zs : List ℕ) → Drops a b xs → Drops b c ys → ((key : ℕ) → times key zs ≡ times key xs + times key ys) → Drops a c zs
+drops_on a b c xs ys zs first second all = record {
+  gone = λ key. let f = first.gone key in let s = second.gone key in let z = all key in omega arith;
+  stay = λ key p at. first.stay key p (second.stay key p at);
+  live = second.live ∙ first.live;
+  known = second.known ∙ ap (λ (k : Known). record k { table = c.known.table }) first.known;
+}
+
+-- The channels up to a place have dropped what they wrote.
+module _ (a b : VolumeCore) (cs : List (Option Channel)) (i : ℕ) (o : Option Output) (below : i < length cs) (is : o ≡ side_of (get_or cs i None)) (dropped : Drops a b (keys_of (filter_map side_of (take i cs)))) where
+  pub next_live : ((key : ℕ) → times key (keys_of (filter_map side_of cs)) ≤ present (pending_at a.pending key)) → (key : ℕ) → times key (keys_of (option_to_list o)) ≤ present (pending_at b.pending key)
+  next_live live key = let l = live key in let d = dropped.gone key in let w = count-within key cs (i + 1) in let m = count-more key cs i o below is in omega arith
+
+  pub dropped_more : (c : VolumeCore) → Drops b c (keys_of (option_to_list o)) → Drops a c (keys_of (filter_map side_of (take (i + 1) cs)))
+  dropped_more c next = drops_on a b c _ _ _ dropped next (λ key. count-more key cs i o below is)
+
+pub dropped_all : (a b : VolumeCore) (cs : List (Option Channel)) (i : ℕ) → length cs ≤ i → Drops a b (keys_of (filter_map side_of (take i cs))) → Drops a b (keys_of (filter_map side_of cs))
+dropped_all a b cs i le dropped = subst (λ xs. Drops a b (keys_of (filter_map side_of xs))) (take_all cs i le) dropped
+
+-- A side that is there stays one.
+pub side_stays : (old new : List (Option PendingVersion)) → ((key : ℕ) (p : PendingVersion) → pending_at new key ≡ Some p → pending_at old key ≡ Some p) → (jobs : List (Option Job))
+    → AllByRecursion (IsSide old) (sides jobs) → AllByRecursion (IsSide new) (sides jobs)
+side_stays old new stay jobs all = each-as (IsSide old) (IsSide new) (λ o is. record { starts = is.starts; kind = λ p at. is.kind p (stay o.pending.key p at) }) (sides jobs) all
+
+-- The job of a slot is another one, with no output side, and what it wrote is dropped.
+pub closed_keyed : (c c' : VolumeCore) (jobs : List (Option Job)) (n : ℕ) (x : Option Job) → AreKeyed c.pending jobs → Drops c c' (keys_of (sides_in (slot jobs n))) → sides_in x ≡ [] → AreKeyed c'.pending (slice_set jobs n x)
+closed_keyed c c' jobs n x keyed dropped none = record {
+  once = λ key.
+      let bare = ap (count key) none in
+      let set = count-set key jobs n x (λ e. bare) in
+      let was = keyed.once key in
+      let gone = dropped.gone key in
+      omega arith;
+  each = side_stays c.pending c'.pending dropped.stay (slice_set jobs n x) (each-set (IsSide c.pending) jobs n x keyed.each (subst (AllByRecursion (IsSide c.pending)) (sym none) tt));
+}
+
+-- a job that is there has what it writes
+pub job_live : (c : VolumeCore) (jobs : List (Option Job)) (n : ℕ) (job : Job) → AreKeyed c.pending jobs → slot jobs n ≡ Some job → (key : ℕ) → count key (filter_map side_of job.channels) ≤ present (pending_at c.pending key)
+job_live c jobs n job keyed there key =
+    let once = keyed.once key in
+    let part = count-slot key jobs n in
+    let here = ap (λ o. count key (sides_in o)) there in
+    omega arith
+
+-- a job is reset, where there is one
+pub reset_keyed : (c c' : VolumeCore) (jobs jobs' : List (Option Job)) (n : ℕ) (result : Bool) → AreKeyed c.pending jobs → Drops c c' (keys_of (sides_in (slot jobs n)))
+    → (IsTrue result → (job : Job) × (slot jobs n ≡ Some job) × (jobs' ≡ slice_set jobs n (Some (reset_job job)))) → (IsFalse result → (slot jobs n ≡ None) × (jobs' ≡ jobs)) → AreKeyed c'.pending jobs'
+reset_keyed c c' jobs jobs' n true keyed dropped found none =
+    let done = found refl in
+    subst (AreKeyed c'.pending) (sym done.2) (closed_keyed c c' jobs n (Some (reset_job done.0)) keyed dropped refl)
+reset_keyed c c' jobs jobs' n false keyed dropped found none =
+    let same = none refl in
+    subst (AreKeyed c'.pending) (sym same.1) (record {
+      once = λ key. let gone = dropped.gone key in let was = keyed.once key in let here = ap (λ o. count key (sides_in o)) same.0 in omega arith;
+      each = side_stays c.pending c'.pending dropped.stay jobs keyed.each;
+    })
+
+-- The job of a slot is another one, with the same output sides.
+pub job_keyed : (pending : List (Option PendingVersion)) (jobs : List (Option Job)) (n : ℕ) (x : Option Job) → AreKeyed pending jobs → sides_in x ≡ sides_in (slot jobs n) → AreKeyed pending (slice_set jobs n x)
+job_keyed pending jobs n x keyed same = record {
+  once = λ key. let set = count-set key jobs n x (λ e. ap (count key) (same ∙ ap sides_in e)) in let was = keyed.once key in let alike = ap (count key) same in omega arith;
+  each = each-set (IsSide pending) jobs n x keyed.each (subst (AllByRecursion (IsSide pending)) (sym same) (each-slot (IsSide pending) jobs n keyed.each));
+}
+
+-- The job of a slot is another one, and versions have come and gone with its output sides.
+pub keeps_keyed : (pending pending' : List (Option PendingVersion)) (jobs : List (Option Job)) (n : ℕ) (job job' : Job) → AreKeyed pending jobs → slot jobs n ≡ Some job → Keeps pending pending' job job' → AreKeyed pending' (slice_set jobs n (Some job'))
+keeps_keyed pending pending' jobs n job job' keyed there keeps = record {
+  once = λ key.
+      let set = count-set key jobs n (Some job') (λ e. absurd (some_none (sym there ∙ e))) in
+      let was = keyed.once key in
+      let kept = keeps.once key in
+      let here = ap (λ o. count key (sides_in o)) there in
+      omega arith;
+  each = each-set (IsSide pending') jobs n (Some job') all (keeps.each (subst (λ o. AllByRecursion (IsSide pending') (sides_in o)) there (each-slot (IsSide pending') jobs n all)));
+}
+  where
+    still : (o : Output) → IsSide pending o → 1 ≤ count o.pending.key (sides jobs) → IsSide pending' o
+    still o is counted = record {
+      starts = is.starts;
+      kind = λ p at. ⊎_elim
+          (λ none. absurd (let once = keyed.once o.pending.key in let zero = ap present none in omega arith))
+          (λ (old : (q : PendingVersion) × (pending_at pending o.pending.key ≡ Some q) × (p.is_new ≡ q.is_new)). old.2 ∙ is.kind old.0 old.1)
+          (keeps.known o.pending.key p at);
+    }
+
+    all : AllByRecursion (IsSide pending') (sides jobs)
+    all = each-both (IsSide pending) (λ o. 1 ≤ count o.pending.key (sides jobs)) (IsSide pending') still (sides jobs) keyed.each (each_counted (sides jobs))

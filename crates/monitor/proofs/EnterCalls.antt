@@ -1,0 +1,215 @@
+-- ENTER is served as the machine serves it.
+use Rattle.std.proofs.Common.{◌≡◌, ◌<◌, ◌≤◌, ℕ, ◌+◌, ◌%◌, Bool, true, false, List, [], ◌∷◌, Option, None, Some, refl, sym, ap, subst, ◌∙◌, inl, inr, ⊎_elim, arith, slice_index, slice_set}
+use Rattle.std.specs.Prelude.{is_none, option_map, option_to_list, slice_index_or}
+use Rattle.words36.specs.declared.moment.Moment.{Moment}
+use Rattle.blockdisk.specs.Disk.{DiskState}
+use Rattle.meaning.specs.Entering.{protection_or, new_file, enter, enter_answer, enter_done, entered, output_opened}
+use Rattle.meaning.specs.Files.{File, Files, Place, map_directory}
+use Rattle.meaning.specs.Jobs as machine
+use Rattle.meaning.specs.Jobs.{State, slot, channel_at, with_channel, with_job, is_create, cleared}
+use Rattle.meaning.specs.Looking.{place_at, digit_at, with_attributes}
+use Rattle.meaning.specs.Maps.{get, times, total}
+use Rattle.meaning.specs.Opening.{dump_mode}
+use Rattle.meaning.specs.Outcomes.{settled, refused_at}
+use Rattle.meaning.specs.Published.{Version, without_serials, file_in, file_at}
+use Rattle.meaning.specs.Runs.{Service, Serving, Answers}
+use Rattle.meaning.specs.Stands.{place_of}
+use Rattle.meaning.specs.Step.{step, on_channel, of_job}
+use Rattle.meaning.specs.declared.call.Call.TheVariants.{Enter}
+use Rattle.meaning.specs.declared.call.Event.TheVariants.{Call as Calls}
+use Rattle.meaning.specs.declared.call.Reply.TheVariants.{Done}
+use Rattle.meaning.proofs.MapLaws.{some_same}
+use Rattle.meaning.proofs.MapSums.{times_head, times_other}
+use Rattle.meaning.proofs.SlotLaws.{none_some}
+use Rattle.retrieval.specs.Modes.{mode_number}
+use Rattle.retrieval.specs.declared.prime.Prime.{Prime}
+use Rattle.volume.specs.Beginning.{begun, is_absent}
+use Rattle.volume.specs.Live.{VolumeCore, pending_at, held_cost}
+use Rattle.volume.specs.Rest.{IsSound, RestsAt}
+use Rattle.volume.specs.declared.pending.PendingVersion.{PendingVersion}
+use Rattle.volume.proofs.Answering.{rest_holds}
+use Rattle.monitor.specs.Entering.{IsEntering, IsEnterAnswer}
+use Rattle.monitor.specs.Entering as entering
+use Rattle.monitor.specs.Finding.{IsKnown, found_file, found_in, protection_for, file_begun}
+use Rattle.monitor.specs.Rows.{Keeps}
+use Rattle.monitor.specs.Serving.{pack_of, present, IsSide, AreKeyed, IsWriting, IsState, Serves}
+use Rattle.monitor.specs.Sides.{Writing, side_of, kind_of, output_of, channel_of, job_of, state_of}
+use Rattle.monitor.specs.declared.channel.Channel.{Channel}
+use Rattle.monitor.specs.declared.output.Kind.{Kind}
+use Rattle.monitor.specs.declared.output.Kind.TheVariants.{Create, Supersede}
+use Rattle.monitor.specs.declared.output.Output.{Output}
+use Rattle.monitor.specs.declared.job.Job.{Job}
+use Rattle.monitor.proofs.Answering.{state_is, job_set, called, goes_on}
+use Rattle.monitor.proofs.Beginning.{IsKnownAs, home_of}
+use Rattle.monitor.proofs.Calling.{channel_is, channel_set}
+use Rattle.monitor.proofs.Dropped.{same_or_not, keeps_keyed}
+use Rattle.monitor.proofs.EnterServing.{with_writing, with_same, with_other, jobs_same}
+use Rattle.monitor.proofs.Entering.{at_place}
+use Rattle.monitor.proofs.Growths.{shown_at}
+use Rattle.monitor.proofs.Knowing.{known}
+use Rattle.monitor.proofs.SideLists.{count, count-channel, each-channel}
+use Rattle.meaning.proofs.MapLists.{get-map_values}
+use Rattle.meaning.proofs.Names.{name_total}
+
+-- The output side that is opened.
+
+same_kind : (kind : Kind) → is_create (kind_of kind) ≡ true → kind_of kind ≡ machine.Create
+same_kind Create e = refl
+same_kind Supersede e = cc e
+
+other_kind : (kind : Kind) → is_create (kind_of kind) ≡ false → kind_of kind ≡ machine.Supersede
+other_kind Create e = cc e
+other_kind Supersede e = refl
+
+module _ (w : ℕ → Writing) (job : Job) (c : Channel) (e : ℕ) (moment : Moment) (q : Place) (digit : ℕ) (kind : Kind) (prime : Prime) (directory : ℕ) (mode : mode_number prime.mode ≡ dump_mode) (at : prime.moment ≡ moment) where
+  file_is : (protection : ℕ) → prime.protection ≡ protection → new_file protection (channel_of w c) moment ≡ file_begun prime
+  file_is protection is =
+      let p = sym is in let m = sym mode in let t = ap (λ (x : Moment). x.minute) (sym at) in let d = ap (λ (x : Moment). x.date) (sym at) in
+      λ i. record { protection = p i; mode = m i; time = t i; date = d i; body = [] }
+
+  opened_is : (was : Option Version) → is_none was ≡ is_create (kind_of kind) → ((v : Version) → was ≡ Some v → v.file.protection < 512)
+      → prime.protection ≡ protection_for (found_file directory (option_map (λ (v : Version). v.file) was)) (protection_or (slice_index job.core (e + 2)) 0o057)
+      → output_opened (job_of w job) (channel_of w c) e moment q digit None was ≡ record { place = q; kind = kind_of kind; pending = file_begun prime; next = 1 }
+  opened_is None is few protection =
+      let k = sym (same_kind kind (sym is)) in let f = file_is _ protection in
+      λ i. record { place = q; kind = k i; pending = f i; next = 1 }
+  opened_is (Some v) is few protection =
+      let k = sym (other_kind kind (sym is)) in
+      let less = few v refl in
+      let small : v.file.protection % 512 ≡ v.file.protection = omega arith in
+      let f = file_is v.file.protection (protection ∙ small) in
+      λ i. record { place = q; kind = k i; pending = f i; next = 1 }
+
+module _ (d : DiskState) (map map' : VolumeCore) (jobs jobs' : List (Option Job)) (n : ℕ) (job job' : Job) (ch e : ℕ) (moment : Moment) (c : Channel) (key : ℕ) (prime : Prime)
+    (there : slot jobs n ≡ Some job) (set : jobs' ≡ slice_set jobs n (Some job')) (enters : IsEntering map map' job job' ch e moment c key prime) (keyed : AreKeyed map.pending jobs) where
+  -- the new side
+  abbrev out : Output
+  out = record { pending = record { key = key }; kind = enters.kind; next = 1 }
+
+  keeps : Keeps map.pending map'.pending job job'
+  keeps = subst (Keeps map.pending map'.pending job) (sym enters.job_is) (record {
+    once = λ k.
+        let moved = count-channel k job.channels ch (Some (entering.entered c key enters.kind)) (λ none. absurd (none_some (sym none ∙ enters.there))) in
+        let was = ap (λ o. count k (option_to_list (side_of o))) enters.there ∙ ap (λ o. count k (option_to_list o)) enters.free in
+        let grown = more k in
+        omega arith;
+    known = λ k p at. same_or_not k key (λ same. inl (ap (pending_at map.pending) same ∙ enters.begun.vacant)) (λ apart. inr (p, sym (enters.begun.others k apart) ∙ at, refl));
+    each = λ all. each-channel (IsSide map'.pending) job.channels ch (Some (entering.entered c key enters.kind)) all (
+      record {
+        starts = omega arith;
+        kind = λ p at. ap (λ (v : PendingVersion). v.is_new) (some_same (sym at ∙ enters.begun.here)) ∙ enters.kind_is;
+      },
+      tt,
+    );
+  })
+    where
+      more : (k : ℕ) → present (pending_at map'.pending k) ≡ present (pending_at map.pending k) + times k (key ∷ [])
+      more k = same_or_not k key
+          (λ same. subst (λ (i : ℕ). present (pending_at map'.pending i) ≡ present (pending_at map.pending i) + times i (key ∷ [])) (sym same)
+          (let here = ap present enters.begun.here in let none = ap present enters.begun.vacant in let one = times_head key [] in omega arith))
+          (λ apart. let same = ap present (enters.begun.others k apart) in let none = times_other k key [] apart in omega arith)
+
+  pub enter_keyed : AreKeyed map'.pending jobs'
+  enter_keyed = subst (AreKeyed map'.pending) (sym set) (keeps_keyed map.pending map'.pending jobs n job job' keyed there keeps)
+
+  module _ (sound : IsSound d map false) (honest : d.honest) (timely : moment.date ≤ 4095)
+      (row : (s : State) → IsKnown d map s → (w : ℕ → Writing) → IsEnterAnswer (pack_of d) s (job_of w job) (job_of w job') (channel_at (job_of w job) ch) e Done)
+      (protection : (files : Files File) → RestsAt d files → prime.protection ≡ protection_for (found_in (get files prime.ppn) prime.file) (protection_or (slice_index job.core (e + 2)) 0o057)) where
+    abbrev new_writing : Writing
+    new_writing = record { place = place_of prime.ppn prime.file; file = file_begun prime }
+
+    module _ (s : State) (state : IsState d map jobs s) where
+      abbrev w : ℕ → Writing
+      w = with_writing state.written key new_writing
+
+      -- the same state
+      abbrev t : State
+      t = state_of s.files w jobs
+
+      t_is : s ≡ t
+      t_is =
+          state_is s w jobs (state.jobs_are ∙ sym (jobs_same state.written key new_writing jobs (keyed.once key ∙ ap present enters.begun.vacant)))
+
+      t_known : IsKnown d map t
+      t_known = subst (IsKnown d map) t_is (known d map jobs s state sound honest)
+
+      -- where it is
+      directory : IsKnownAs s.files prime.ppn prime.file enters.begun.directory
+      directory = home_of d map s.files (rest_holds d map false sound honest refl (without_serials s.files) state.files) sound.whole.map prime.ppn prime.file enters.begun.directory enters.begun.there
+
+      place_is : place_of prime.ppn prime.file ≡ place_at (job_of w job) e
+      place_is = at_place w job e prime.ppn prime.file enters.at.ppn enters.at.name enters.at.ext
+
+      found_is : file_at s.files (place_of prime.ppn prime.file) ≡ get directory.directory.files prime.file
+      found_is = ap (λ o. file_in o prime.file) directory.there
+
+      answer : enter_answer (pack_of d) t (job_of w job) (channel_of w c) e (place_at (job_of w job) e) ≡ Done
+      answer = ⊎_elim (λ none. absurd (cc none.0)) (λ is. is.0)
+          (subst (λ o. IsEnterAnswer (pack_of d) t (job_of w job) (job_of w job') o e Done) (channel_is w job ch (Some c) enters.there) (row t t_known w))
+
+      opens : output_opened (job_of w job) (channel_of w c) e moment (place_at (job_of w job) e) (digit_at t (job_of w job) (place_at (job_of w job) e)) None (file_at s.files (place_at (job_of w job) e)) ≡ output_of w out
+      opens =
+          ap (λ p. output_opened (job_of w job) (channel_of w c) e moment p (digit_at t (job_of w job) p) None (file_at s.files p)) (sym place_is)
+          ∙ ap (output_opened (job_of w job) (channel_of w c) e moment (place_of prime.ppn prime.file) (digit_at t (job_of w job) (place_of prime.ppn prime.file)) None) found_is
+          ∙ opened_is w job c e moment (place_of prime.ppn prime.file) (digit_at t (job_of w job) (place_of prime.ppn prime.file)) enters.kind prime directory.directory.protection (ap mode_number enters.at.mode) enters.at.moment_is
+          (get directory.directory.files prime.file) (sym directory.absent ∙ enters.kind_is) directory.few
+          (protection (without_serials s.files) state.files ∙ ap (λ f. protection_for f (protection_or (slice_index job.core (e + 2)) 0o057))
+          (ap (λ o. found_in o prime.file) (shown_at s.files prime.ppn ∙ ap (option_map (map_directory (λ (v : Version). v.file))) directory.there) ∙ ap (found_file directory.directory.protection) (get-map_values name_total (λ (v : Version). v.file) directory.directory.files prime.file)))
+          ∙ (let x = sym (with_same state.written key new_writing) in λ i. record { place = (x i).place; kind = kind_of enters.kind; pending = (x i).file; next = 1 })
+
+      -- the row
+      row_is : (serial : ℕ) → step (pack_of d) serial t (Calls n (Enter ch e) moment) ≡ (Done, state_of s.files w jobs')
+      row_is serial =
+          called d jobs n (Enter ch e) moment serial s.files w timely job there
+          ∙ ap (λ o. on_channel t o (λ x. of_job t n (enter (pack_of d) t (job_of w job) ch x e moment))) (channel_is w job ch (Some c) enters.there)
+          ∙ ap (of_job t n)
+          (ap (λ r. settled r (enter_done (pack_of d) t (job_of w job) ch (channel_of w c) e moment (place_at (job_of w job) e)) (refused_at (job_of w job) e)) answer
+          ∙ ap (λ o. (Done, entered (pack_of d) (job_of w job) ch (channel_of w c) e None o)) opens
+          ∙ ap (λ (x : Writing). (Done, with_channel (record (job_of w job) { core = with_attributes 1 job.core e x.file }) ch (Some (channel_of w (entering.entered c key enters.kind))))) (with_same state.written key new_writing)
+          ∙ ap (λ j. (Done, j)) (channel_set w (record job { core = with_attributes 1 job.core e (file_begun prime) }) ch (Some (entering.entered c key enters.kind)) ∙ ap (job_of w) (sym enters.job_is)))
+          ∙ ap (λ x. (Done, x)) (job_set s.files w jobs n job' ∙ ap (state_of s.files w) (sym set))
+
+      -- what is written under the new key
+      begins : (k : ℕ) (p : PendingVersion) → pending_at map'.pending k ≡ Some p → k ≡ key → p ≡ begun prime (is_absent prime.file enters.begun.directory)
+      begins k p at same = some_same (sym at ∙ ap (pending_at map'.pending) same ∙ enters.begun.here)
+
+      new_version : (k : ℕ) (p : PendingVersion) → pending_at map'.pending k ≡ Some p → k ≡ key → IsWriting d p (w k)
+      new_version k p at same =
+          subst (λ v. IsWriting d v (w k)) (sym (begins k p at same))
+          (subst (IsWriting d (begun prime (is_absent prime.file enters.begun.directory))) (sym (ap w same ∙ with_same state.written key new_writing)) (record {
+            place = refl;
+            protection = refl;
+            mode = refl;
+            time = refl;
+            date = refl;
+            words = refl;
+            body = record { each = []; undamaged = tt; whole = tt; body_is = refl };
+          }))
+
+      new_absent : (k : ℕ) (p : PendingVersion) → pending_at map'.pending k ≡ Some p → k ≡ key → p.is_new ≡ true → file_at s.files (w k).place ≡ None
+      new_absent k p at same is_new =
+          ap (λ (x : Writing). file_at s.files x.place) (ap w same ∙ with_same state.written key new_writing) ∙ found_is
+          ∙ gone (get directory.directory.files prime.file) (sym directory.absent ∙ ap (λ (v : PendingVersion). v.is_new) (sym (begins k p at same)) ∙ is_new)
+        where
+          gone : (o : Option Version) → is_none o ≡ true → o ≡ None
+          gone None e = refl
+          gone (Some v) e = cc e
+
+      pub entered_leads : (failed : Bool) → failed ≡ false → (new : Service) × Serves d map' failed jobs' new × Answers (pack_of d) (Serving s) (Calls n (Enter ch e) moment) Done new
+      entered_leads failed serves =
+          goes_on d map' failed jobs' (pack_of d) (Calls n (Enter ch e) moment) Done s (state_of s.files w jobs') serves state.sound
+          (λ serial. subst (λ x. step (pack_of d) serial x (Calls n (Enter ch e) moment) ≡ (Done, state_of s.files w jobs')) (sym t_is) (row_is serial))
+          (λ still. record {
+            files = state.files;
+            serials = state.serials;
+            written = w;
+            versions = λ k p at. same_or_not k key (new_version k p at)
+                (λ apart. subst (IsWriting d p) (sym (with_other state.written key new_writing k apart)) (state.versions k p (sym (enters.begun.others k apart) ∙ at)));
+            absent = λ k p at is_new. same_or_not k key (λ same. new_absent k p at same is_new)
+                (λ apart. ap (λ (x : Writing). file_at s.files x.place) (with_other state.written key new_writing k apart) ∙ state.absent k p (sym (enters.begun.others k apart) ∙ at) is_new);
+            keyed = enter_keyed;
+            jobs_are = refl;
+            unread = λ key v at. state.unread key v (sym (ap (λ vs. slice_index_or vs key None) enters.begun.live) ∙ at);
+            unheld = ap (λ live. total held_cost live) enters.begun.live ∙ state.unheld;
+            sound = still;
+          })

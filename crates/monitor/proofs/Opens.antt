@@ -1,0 +1,101 @@
+-- OPEN answers as the machine does.
+use Rattle.std.proofs.Common.{◌≡◌, ◌<◌, ◌≤◌, ◌+◌, ℕ, Bool, true, false, nat_le, List, ◌++◌, Option, None, Some, refl, sym, ap, subst, ◌∙◌, arith, slice_set}
+use Rattle.std.proofs.lemmas.Bool.Decides.{nat_tests}
+use Rattle.std.proofs.lemmas.Bool.{eqb-true}
+use Rattle.std.specs.Prelude.{◌==◌, ◌||◌, not, if◌then◌else◌, is_some, option_map, option_to_list}
+use Rattle.meaning.specs.Cores.{lies_outside, after_writes}
+use Rattle.meaning.specs.Jobs as machine
+use Rattle.meaning.specs.Jobs.{State, slot, channel_at, job_at, with_job, improper_mode}
+use Rattle.meaning.specs.Opening.{disk, dump_mode, mode_at, device_at, output_header_at, input_header_at, misses_headers, open_answer, open_done, opens, header_opened, core_opened, channel_opened}
+use Rattle.meaning.specs.Rings.{is_buffered}
+use Rattle.meaning.specs.Outcomes.{settled}
+use Rattle.meaning.specs.Step.{of_job}
+use Rattle.meaning.specs.declared.call.Call.TheVariants.{Open}
+use Rattle.meaning.specs.declared.call.Reply.{Reply}
+use Rattle.meaning.specs.declared.call.Reply.TheVariants.{Done, Refused, Stopped, NoChannel, AddressCheck}
+use Rattle.monitor.specs.Rows.{IsRow, Keeps, improper_at, opened_at, open_unserved, unserved}
+use Rattle.monitor.specs.Sides.{Writing, side_of, channel_of, job_of}
+use Rattle.monitor.specs.declared.channel.Channel.{Channel}
+use Rattle.monitor.specs.declared.job.Job.{Job}
+use Rattle.monitor.specs.Serving.{IsSide}
+use Rattle.volume.specs.declared.pending.PendingVersion.{PendingVersion}
+use Rattle.std.specs.List.{AllByRecursion}
+use Rattle.monitor.proofs.Answering.{settled_other}
+use Rattle.monitor.proofs.Calling.{channel_is, channel_set, job_same, keeps_channel}
+use Rattle.monitor.proofs.SideLists.{count}
+
+fits : (n : ℕ) → n < 16 → nat_le n 15 ≡ true
+fits n few = grind (arith, nat_tests)
+
+past : (n : ℕ) → 16 ≤ n → nat_le n 15 ≡ false
+past n many = grind (arith, nat_tests)
+
+-- the answer, by its tests
+abbrev chain : Bool → Bool → Bool → Bool → ℕ → Reply
+chain outside misses taken improper mode = if outside || misses then AddressCheck else if taken then Refused 5 else if improper then Stopped (improper_mode + mode) else Done
+
+some_shown : {A B : Type 0} (f : A → B) (o : Option A) → is_some (option_map f o) ≡ is_some o
+some_shown f None = refl
+some_shown f (Some x) = refl
+
+module _ (job : Job) (number a : ℕ) where
+  abbrev pub taken : Bool
+  taken = is_some (slot job.channels number)
+
+  pub answer_is : (w : ℕ → Writing) (b c d e : Bool) → lies_outside job.core a 3 ≡ b → misses_headers job.core a ≡ c → taken ≡ d → improper_at job.core a ≡ e → open_answer (job_of w job) number a ≡ chain b c d e (mode_at job.core a)
+  answer_is w b c d e p q r t =
+      let at : is_some (channel_at (job_of w job) number) ≡ d = ap is_some (channel_is w job number (slot job.channels number) refl) ∙ some_shown (channel_of w) (slot job.channels number) ∙ r in
+      λ i. chain (p i) (q i) (at i) (t i) (mode_at job.core a)
+
+  pub no_channel_row : 16 ≤ number → IsRow job job (Open number a) NoChannel
+  no_channel_row many pack serial s n w moment there =
+      ap (λ b. if b then of_job s n (opens (job_of w job) number a) else (NoChannel, s)) (past number many) ∙ ap (λ t. (NoChannel, t)) (job_same s n (job_of w job) there)
+
+  pub refused_row : number < 16 → (reply : Reply) → ((w : ℕ → Writing) → open_answer (job_of w job) number a ≡ reply) → (reply ≡ Done → ⊥) → IsRow job job (Open number a) reply
+  refused_row few reply answer other pack serial s n w moment there =
+      ap (λ b. if b then of_job s n (opens (job_of w job) number a) else (NoChannel, s)) (fits number few)
+      ∙ ap (of_job s n) (ap (λ r. settled r (open_done (job_of w job) number a) (λ x. job_of w job)) (answer w) ∙ settled_other reply (open_done (job_of w job) number a) (job_of w job) other)
+
+  -- neither buffered nor improper: it is the dump mode
+  dump : is_buffered (mode_at job.core a) ≡ false → improper_at job.core a ≡ false → mode_at job.core a ≡ dump_mode
+  dump plain proper = eqb-true (mode_at job.core a) dump_mode (by (device_at job.core a == disk) (is_buffered (mode_at job.core a)) (mode_at job.core a == dump_mode) plain proper)
+    where
+      by : (x b m : Bool) → b ≡ false → (not x || not (b || m)) ≡ false → m ≡ true
+      by false b m e f = cc f
+      by true true m e f = cc e
+      by true false false e f = cc f
+      by true false true e f = refl
+
+  -- the core with the headers of rings
+  abbrev opened_core : List ℕ
+  opened_core = after_writes job.core (header_opened (mode_at job.core a) (output_header_at job.core a) ++ header_opened (mode_at job.core a) (input_header_at job.core a))
+
+  pub done_row : number < 16 → ((w : ℕ → Writing) → open_answer (job_of w job) number a ≡ Done) → is_buffered (mode_at job.core a) ≡ false → improper_at job.core a ≡ false → IsRow job (record job { channels = slice_set job.channels number (Some (opened_at job.core a)) }) (Open number a) Done
+  done_row few answer plain proper pack serial s n w moment there =
+      ap (λ b. if b then of_job s n (opens (job_of w job) number a) else (NoChannel, s)) (fits number few)
+      ∙ ap (of_job s n) (ap (λ r. settled r (open_done (job_of w job) number a) (λ x. job_of w job)) (answer w)
+      ∙ ap (λ j. (Done, j)) (ap (λ core. machine.with_channel (record (job_of w job) { core = core }) number (Some (channel_opened job.core a))) unbuffered ∙ ap (λ m. machine.with_channel (job_of w job) number (Some (with_mode m))) (dump plain proper) ∙ channel_set w job number (Some (opened_at job.core a))))
+    where
+      with_mode : ℕ → machine.Channel
+      with_mode m = record { mode = m; input_header = input_header_at job.core a; output_header = output_header_at job.core a; status = mode_at job.core a; input = None; output = None }
+
+      unbuffered : core_opened job.core a ≡ job.core
+      unbuffered = ap (λ b. if b then opened_core else job.core) plain
+
+  pub unserved_is : number < 16 → (w : ℕ → Writing) (reply : Reply) → open_answer (job_of w job) number a ≡ reply → unserved (mode_at job.core a) reply ≡ open_unserved (job_of w job) number a
+  unserved_is few w reply answer = ap (unserved (mode_at job.core a)) (sym answer) ∙ ap (λ b. if b then unserved (mode_at job.core a) (open_answer (job_of w job) number a) else NoChannel) (sym (fits number few))
+
+  pub no_channel_unserved : 16 ≤ number → (w : ℕ → Writing) → NoChannel ≡ open_unserved (job_of w job) number a
+  no_channel_unserved many w = ap (λ b. if b then unserved (mode_at job.core a) (open_answer (job_of w job) number a) else NoChannel) (sym (past number many))
+
+-- a channel that is opened writes nothing
+pub keeps_opened : (pending : List (Option PendingVersion)) (job : Job) (number : ℕ) (c : Channel) → is_some (slot job.channels number) ≡ false → c.output ≡ None → Keeps pending pending job (record job { channels = slice_set job.channels number (Some c) })
+keeps_opened pending job number c free none =
+    keeps_channel pending job number (Some c) (λ key. ap (λ o. count key (option_to_list o)) none ∙ by key (slot job.channels number) free) (λ all. subst (λ o. AllByRecursion (IsSide pending) (option_to_list o)) (sym none) tt)
+  where
+    by : (key : ℕ) (o : Option Channel) → is_some o ≡ false → 0 ≡ count key (option_to_list (side_of o))
+    by key None e = refl
+    by key (Some x) e = cc e
+
+pub opened_back : (job : Job) (number a : ℕ) (c : Channel) (job' : Job) → c ≡ opened_at job.core a → job' ≡ record job { channels = slice_set job.channels number (Some c) } → job' ≡ record job { channels = slice_set job.channels number (Some (opened_at job.core a)) }
+opened_back job number a c job' is set = set ∙ ap (λ x. record job { channels = slice_set job.channels number (Some x) }) is

@@ -1,0 +1,102 @@
+use Rattle.std.proofs.Common.{rules, ◌≡◌, ◌*◌, ◌<◌, ◌≤◌, ◌^◌, length, Some, Err, refl, sym, ap, subst, ◌∙◌, inl, arith, slice_set}
+use Rattle.meaning.specs.Retrieval.{most_blocks}
+use Rattle.meaning.specs.Splices.{length_after}
+use Rattle.meaning.specs.declared.code.ErrorCode.TheVariants.{NoRoom}
+use Rattle.volume.specs.declared.error.CallError.TheVariants.{Refused}
+use Rattle.volume.specs.Live.{VolumeCore}
+use Rattle.volume.specs.LiveCores.{core_of}
+use Rattle.monitor.specs.Putting.{moved, IsOut}
+use Rattle.monitor.specs.Rows.{Keeps}
+use Rattle.monitor.proofs.Calling.{keeps_same}
+use Rattle.monitor.proofs.Outs.{version_there, version_live, its_side, next_fits, not_refused, keeps_put}
+use Rattle.monitor.proofs.Usetos.{keeps_status}
+use Rattle.monitor.proofs.out.out.Goals as goal
+
+pub returns-in_default-clause-keeps : goal.returns-in_default-clause-keeps
+returns-in_default-clause-keeps g c alive = keeps_same (core_of c.args.volume.now.map).pending c.args.job.now
+
+pub returns-in_default-output-clause-keeps : goal.returns-in_default-output-clause-keeps
+returns-in_default-output-clause-keeps g c alive = keeps_same (core_of c.args.volume.now.map).pending c.args.job.now
+
+pub returns-in-Err-AddressCheck-clause-keeps : goal.returns-in-Err-AddressCheck-clause-keeps
+returns-in-Err-AddressCheck-clause-keeps g c alive = keeps_same (core_of c.args.volume.now.map).pending c.args.job.now
+
+pub returns-in-Err-NoMemory-clause-keeps : goal.returns-in-Err-NoMemory-clause-keeps
+returns-in-Err-NoMemory-clause-keeps g c alive = keeps_same (core_of c.args.volume.now.map).pending c.args.job.now
+
+pub put_words-requires-clause-live : goal.put_words-requires-clause-live
+put_words-requires-clause-live g c =
+    version_live (core_of c.args.volume.now.map).pending c.args.job.now c.args.number c.in-Some.channel (sym c.channel.ensures ∙ c.in-Some.is) c.in-Some-output.output c.in-Some-output.is c.requires.live
+
+pub put_words-requires-clause-first : goal.put_words-requires-clause-first
+put_words-requires-clause-first g c =
+    (its_side (core_of c.args.volume.now.map).pending c.args.job.now c.args.number c.in-Some.channel (sym c.channel.ensures ∙ c.in-Some.is) c.in-Some-output.output c.in-Some-output.is c.requires.sides).starts
+
+pub moved-moved-requires-clause-fits : goal.moved-moved-requires-clause-fits
+moved-moved-requires-clause-fits g c =
+    let p = version_there (core_of c.args.volume.now.map).pending c.args.job.now c.args.number c.in-Some.channel (sym c.channel.ensures ∙ c.in-Some.is) c.in-Some-output.output c.in-Some-output.is c.requires.live in
+    let first = (its_side (core_of c.args.volume.now.map).pending c.args.job.now c.args.number c.in-Some.channel (sym c.channel.ensures ∙ c.in-Some.is) c.in-Some-output.output c.in-Some-output.is c.requires.sides).starts in
+    let counted : c.len.result ≡ length c.as_slice.result.now = omega (arith, c.in-Ok.words.ok, c.len.ensures, ap length c.as_slice.ensures.value) in
+    let few : c.len.result ≤ 0o400000 = omega (arith, c.in-Ok.words.ok, c.len.ensures, c.in-Ok.ensures.few) in
+    let small : c.in-Some-output.output.next < 2 ^ 32 = search rules in
+    next_fits p.0.version.words c.in-Some-output.output.next c.len.result first small few
+    (λ some long. not_refused c.put_words.result c.in-Ok-put_words.field-0 (Refused NoRoom) c.in-Ok-put_words.is (c.put_words.ensures.room c.requires.serves p.0 p.1) (omega (arith, some, counted), inl (subst (λ n. most_blocks * 128 < length_after p.0.version.words c.in-Some-output.output.next n) counted long)))
+
+pub returns-in-Ok-put_words-clause-outcome : goal.returns-in-Ok-put_words-clause-outcome
+returns-in-Ok-put_words-clause-outcome g c =
+    let counted : c.len.result ≡ length c.as_slice.result.now = omega (arith, c.in-Ok.words.ok, c.len.ensures, ap length c.as_slice.ensures.value) in (
+      record {
+        channel = c.in-Some.channel;
+        there = sym c.channel.ensures ∙ c.in-Some.is;
+        output = c.in-Some-output.output;
+        side = c.in-Some-output.is;
+        words = c.as_slice.result.now;
+        found = c.in-Ok.ensures.words ∙ ap Some (sym c.as_slice.ensures.value);
+      },
+      c.set_channel.ensures ∙ ap (λ x. record c.args.job.now { channels = slice_set c.args.job.now.channels c.args.number (Some x) }) c.moved-moved.ensures
+          ∙ ap (λ n. record c.args.job.now { channels = slice_set c.args.job.now.channels c.args.number (Some (moved c.in-Some.channel c.in-Some-output.output n)) }) counted,
+      λ p at. let put = c.in-Ok-put_words.ensures.put p at in record {
+        fits = not_refused c.put_words.result c.in-Ok-put_words.field-0 (Refused NoRoom) c.in-Ok-put_words.is (c.put_words.ensures.room c.requires.serves p at);
+        version = put.0;
+        here = put.1;
+        length_is = put.2;
+        body = put.3;
+      },
+    )
+
+pub returns-in-Ok-put_words-clause-keeps : goal.returns-in-Ok-put_words-clause-keeps
+returns-in-Ok-put_words-clause-keeps g c alive =
+    let p = version_there (core_of c.args.volume.now.map).pending c.args.job.now c.args.number c.in-Some.channel (sym c.channel.ensures ∙ c.in-Some.is) c.in-Some-output.output c.in-Some-output.is c.requires.live in
+    let put = c.in-Ok-put_words.ensures.put p.0 p.1 in
+    keeps_put (core_of c.args.volume.now.map).pending (core_of c.put_words.new.self.map).pending c.args.job.now c.set_channel.new.self c.args.number c.in-Some.channel (sym c.channel.ensures ∙ c.in-Some.is) c.in-Some-output.output c.in-Some-output.is c.len.result
+    (c.set_channel.ensures ∙ ap (λ x. record c.args.job.now { channels = slice_set c.args.job.now.channels c.args.number (Some x) }) c.moved-moved.ensures) p.0 p.1 put.0 put.1 c.put_words.ensures.others
+
+pub returns-in-Err-Refused-clause-outcome : goal.returns-in-Err-Refused-clause-outcome
+returns-in-Err-Refused-clause-outcome g c =
+    subst (IsOut (g.D.Disk.state c.args.volume.now.disk) (g.D.Disk.state c.put_words.new.self.disk) (core_of c.args.volume.now.map) (core_of c.put_words.new.self.map)
+    ((c.put_words.new.self.disk ≡ c.args.volume.now.disk) × (core_of c.put_words.new.self.map ≡ core_of c.args.volume.now.map)) c.args.job.now c.stop.new.job c.args.number c.args.address) (sym c.stop.ensures.answered) (
+      record {
+        channel = c.in-Some.channel;
+        there = sym c.channel.ensures ∙ c.in-Some.is;
+        output = c.in-Some-output.output;
+        side = c.in-Some-output.is;
+        words = c.as_slice.result.now;
+        found = c.in-Ok.ensures.words ∙ ap Some (sym c.as_slice.ensures.value);
+      },
+      refl,
+      c.stop.ensures.kept,
+      (λ p at. (c.put_words.ensures.room c.requires.serves p at).0 (c.in-Err-Refused.is ∙ ap Err c.in-Err-Refused.field-0-is ∙ ap (λ code. Err (Refused code)) (c.put_words.ensures.codes c.in-Err-Refused.field-0-0 (c.in-Err-Refused.is ∙ ap Err c.in-Err-Refused.field-0-is)))),
+      c.put_words.ensures.refused c.in-Err-Refused.field-0-0 (c.in-Err-Refused.is ∙ ap Err c.in-Err-Refused.field-0-is),
+    )
+
+pub returns-in-Err-Refused-clause-keeps : goal.returns-in-Err-Refused-clause-keeps
+returns-in-Err-Refused-clause-keeps g c alive =
+    let same = c.put_words.ensures.refused c.in-Err-Refused.field-0-0 (c.in-Err-Refused.is ∙ ap Err c.in-Err-Refused.field-0-is) in
+    subst (λ (core : VolumeCore). Keeps (core_of c.args.volume.now.map).pending core.pending c.args.job.now c.stop.new.job) (sym same.1)
+    (keeps_status c.args.job.now c.args.number 0 c.in-Some.channel (sym c.channel.ensures ∙ c.in-Some.is) (core_of c.args.volume.now.map).pending c.stop.new.job _ c.stop.ensures.kept)
+
+pub returns-in-Err-NoMemory-put_words-clause-keeps : goal.returns-in-Err-NoMemory-put_words-clause-keeps
+returns-in-Err-NoMemory-put_words-clause-keeps g c alive =
+    let same = c.put_words.ensures.memory (c.in-Err-NoMemory-put_words.is ∙ ap Err c.in-Err-NoMemory-put_words.field-0-is) in
+    subst (λ (core : VolumeCore). Keeps (core_of c.args.volume.now.map).pending core.pending c.args.job.now c.args.job.now) (sym same.1)
+    (keeps_same (core_of c.args.volume.now.map).pending c.args.job.now)

@@ -1,0 +1,41 @@
+-- What an ENTER does to a job and to what a volume keeps.
+use Rattle.std.specs.Prelude.{◌≡◌, ◌⊎◌, ℕ, false, Option, None, Some, slice_set}
+use Rattle.words36.specs.declared.moment.Moment.{Moment}
+use Rattle.meaning.specs.Entering.{enter_answer}
+use Rattle.meaning.specs.Jobs as machine
+use Rattle.meaning.specs.Jobs.{State, slot, cleared, is_create}
+use Rattle.meaning.specs.Looking.{place_at, with_attributes}
+use Rattle.meaning.specs.Outcomes.{refused_at}
+use Rattle.meaning.specs.Room.{Pack}
+use Rattle.meaning.specs.Runs.{is_plain}
+use Rattle.meaning.specs.declared.call.Reply.{Reply}
+use Rattle.meaning.specs.declared.call.Reply.TheVariants.{Done, NoChannel, NoMemory}
+use Rattle.retrieval.specs.declared.prime.Prime.{Prime}
+use Rattle.volume.specs.Beginning.{is_absent, IsBegun}
+use Rattle.volume.specs.Live.{VolumeCore}
+use Rattle.monitor.specs.Finding.{file_begun, IsPrimeAt}
+use Rattle.monitor.specs.Sides.{kind_of}
+use Rattle.monitor.specs.declared.channel.Channel.{Channel}
+use Rattle.monitor.specs.declared.job.Job.{Job}
+use Rattle.monitor.specs.declared.output.Kind.{Kind}
+
+-- the channel with an output side that has written nothing
+abbrev pub entered : Channel → ℕ → Kind → Channel
+entered c key kind = record c { status = cleared c.status; output = Some (record { pending = record { key = key }; kind = kind; next = 1 }) }
+
+-- A version is begun under this key, with this prime block, for a channel that had no output side.
+pub record IsEntering (c c' : VolumeCore) (job job' : Job) (number address : ℕ) (moment : Moment) (channel : Channel) (key : ℕ) (prime : Prime) : Type 0 where
+  pub there : slot job.channels number ≡ Some channel
+  pub free : channel.output ≡ None
+  pub begun : IsBegun c c' key prime
+  pub at : IsPrimeAt job address moment prime
+  pub kind : Kind
+  pub kind_is : is_absent prime.file begun.directory ≡ is_create (kind_of kind)
+  pub job_is : job' ≡ record job { core = with_attributes 1 job.core address (file_begun prime); channels = slice_set job.channels number (Some (entered channel key kind)) }
+
+-- What is answered on this channel, and what every answer but Done leaves of the job.
+abbrev pub IsEnterAnswer : Pack → State → machine.Job → machine.Job → Option machine.Channel → ℕ → Reply → Type 0
+IsEnterAnswer pack s job job' None e reply = (reply ≡ NoChannel) × (job' ≡ job)
+IsEnterAnswer pack s job job' (Some c) e reply =
+    ((reply ≡ NoMemory) × (is_plain (enter_answer pack s job c e (place_at job e)) ≡ false) × (job' ≡ job))
+    ⊎ ((enter_answer pack s job c e (place_at job e) ≡ reply) × ((reply ≡ Done → ⊥) → job' ≡ refused_at job e reply))

@@ -1,0 +1,110 @@
+-- What a volume has of a place, and what an ENTER may do there.
+use Rattle.std.specs.Prelude.{◌≡◌, ℕ, ◌+◌, ◌%◌, ◌==◌, ◌&&◌, not, Bool, false, if◌then◌else◌, List, [], Option, None, Some, Result, Ok, Err, slice_index}
+use Rattle.std.specs.List.{list_any}
+use Rattle.words36.specs.declared.names.FileName.{FileName}
+use Rattle.words36.specs.declared.moment.Moment.{Moment}
+use Rattle.words36.specs.Words.{left}
+use Rattle.blockdisk.specs.Disk.{DiskState}
+use Rattle.meaning.specs.declared.code.ErrorCode.{ErrorCode}
+use Rattle.meaning.specs.declared.code.ErrorCode.TheVariants.{NotFound, NoDirectory, Protection, BeingModified}
+use Rattle.meaning.specs.Codes.{number_of}
+use Rattle.meaning.specs.Entering.{begin_answer}
+use Rattle.meaning.specs.Files.{File, Directory, Place}
+use Rattle.meaning.specs.Jobs as machine
+use Rattle.meaning.specs.Jobs.{State}
+use Rattle.meaning.specs.Looking.{own_if_zero, has_no_directory}
+use Rattle.meaning.specs.Maps.{get, total}
+use Rattle.meaning.specs.Published.{without_serials, same_place}
+use Rattle.meaning.specs.Rights.{file_digit, directory_digit, may_look, may_create, may_supersede}
+use Rattle.meaning.specs.Room.{Pack, is_claimed, pending_creations, booked}
+use Rattle.meaning.specs.Runs.{is_plain}
+use Rattle.meaning.specs.Stands.{place_of}
+use Rattle.meaning.specs.declared.call.Reply.{Reply}
+use Rattle.meaning.specs.declared.call.Reply.TheVariants as replies
+use Rattle.retrieval.specs.Modes.{mode_number}
+use Rattle.retrieval.specs.declared.mode.Mode.TheVariants.{Dump}
+use Rattle.retrieval.specs.declared.prime.Prime.{Prime}
+use Rattle.volume.specs.Live.{VolumeCore, creates}
+use Rattle.volume.specs.Rest.{RestsAt}
+use Rattle.volume.specs.declared.error.CallError.{CallError}
+use Rattle.volume.specs.declared.error.CallError.TheVariants as errors
+use Rattle.volume.specs.declared.pending.PendingVersion.{PendingVersion}
+use Rattle.monitor.specs.Sides.{kind_of}
+use Rattle.monitor.specs.declared.found.Found.{Found}
+use Rattle.monitor.specs.declared.found.Found.TheVariants as found
+use Rattle.monitor.specs.declared.output.Kind.{Kind}
+use Rattle.monitor.specs.declared.output.Kind.TheVariants.{Create, Supersede}
+use Rattle.monitor.specs.declared.job.Job.{Job}
+use Rattle.monitor.specs.declared.output.Output.{Output}
+
+-- a place is claimed where a version is being written for it
+
+abbrev pub claims_at : Place → Option PendingVersion → Bool
+claims_at place None = false
+claims_at place (Some p) = same_place (place_of p.prime.ppn p.prime.file) place
+
+abbrev pub claims : List (Option PendingVersion) → Place → Bool
+claims pending place = list_any (claims_at place) pending
+
+-- What a volume knows of a state: its files, and what is booked, being created and claimed.
+pub record IsKnown (d : DiskState) (map : VolumeCore) (s : State) : Type 0 where
+  pub files : RestsAt d (without_serials s.files)
+  pub booked_is : booked s ≡ map.known.table.booked
+  pub creations : (ppn : ℕ) → pending_creations s ppn ≡ total (creates ppn) map.pending
+  pub claimed : (place : Place) → is_claimed s place ≡ claims map.pending place
+
+-- What stands at a name.
+
+abbrev pub found_file : ℕ → Option File → Found
+found_file protection None = found.Absent protection
+found_file protection (Some f) = found.Present protection f.protection
+
+abbrev pub found_in : Option (Directory File) → FileName → Found
+found_in None name = found.NoDirectory
+found_in (Some d) name = found_file d.protection (get d.files name)
+
+-- How a job may begin to write there, or why not: `who` asks, in the directory of `owner`.
+
+abbrev pub begun_as : Kind → Bool → Bool → Bool → Result Kind ErrorCode
+begun_as kind may is_zero is_claimed = if is_zero then Err NotFound else if not may then Err Protection else if is_claimed then Err BeingModified else Ok kind
+
+abbrev pub allowed : Found → ℕ → ℕ → Bool → Bool → Result Kind ErrorCode
+allowed found.NoDirectory who owner is_zero is_claimed = Err NoDirectory
+allowed (found.Absent p) who owner is_zero is_claimed = begun_as Create (may_create (directory_digit p who owner)) is_zero is_claimed
+allowed (found.Present p q) who owner is_zero is_claimed = begun_as Supersede (may_look (directory_digit p who owner) && may_supersede (file_digit q who owner)) is_zero is_claimed
+
+-- the protection of what is written: that which is asked for, or the old file's, which has three digits
+abbrev pub protection_for : Found → ℕ → ℕ
+protection_for found.NoDirectory asked = asked
+protection_for (found.Absent p) asked = asked
+protection_for (found.Present p q) asked = q % 512
+
+-- a file with nothing in it, by its prime block
+abbrev pub file_begun : Prime → File
+file_begun prime = record { protection = prime.protection; mode = mode_number prime.mode; time = prime.moment.minute; date = prime.moment.date; body = [] }
+
+abbrev pub output_begun : Output → Prime → machine.Output
+output_begun o prime = record { place = place_of prime.ppn prime.file; kind = kind_of o.kind; pending = file_begun prime; next = o.next }
+
+-- what is answered, as the machine does; for want of memory only where it looks further
+abbrev pub IsAnswer : {X : Type 0} → Result X CallError → Reply → Type 0
+IsAnswer (Ok x) reply = reply ≡ replies.Done
+IsAnswer (Err (errors.Refused code)) reply = reply ≡ replies.Refused (number_of code)
+IsAnswer (Err errors.Device) reply = ⊥
+IsAnswer (Err errors.NoMemory) reply = is_plain reply ≡ false
+IsAnswer (Err errors.Failed) reply = ⊥
+
+-- The prime block is that of the place which the words at an address name.
+pub record IsPrimeAt (job : Job) (address : ℕ) (moment : Moment) (prime : Prime) : Type 0 where
+  pub ppn : prime.ppn ≡ own_if_zero (slice_index job.core (address + 3)) job.ppn
+  pub name : prime.file.name ≡ slice_index job.core address
+  pub ext : prime.file.ext ≡ left (slice_index job.core (address + 1))
+  pub mode : prime.mode ≡ Dump
+  pub moment_is : prime.moment ≡ moment
+
+-- what the machine answers to an ENTER that may still begin, on a channel without sides
+abbrev pub begin_answer_at : Pack → State → machine.Job → Place → Reply
+begin_answer_at pack s job place =
+    if has_no_directory s place then replies.Refused 1
+    else if place.name.name == 0 then replies.Refused 0
+    else begin_answer pack s job None place

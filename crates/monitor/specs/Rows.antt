@@ -1,0 +1,62 @@
+-- What a call does to the job that makes it, as the machine's row has it.
+use Rattle.std.specs.Prelude.{◌≡◌, ◌⊎◌, ℕ, ◌+◌, ◌==◌, ◌||◌, ◌&&◌, not, is_some, false, nat_le, Bool, if◌then◌else◌, List, Option, None, Some}
+use Rattle.std.specs.List.{AllByRecursion}
+use Rattle.words36.specs.declared.moment.Moment.{Moment}
+use Rattle.meaning.specs.Closing.{keeps_output, discards}
+use Rattle.meaning.specs.Jobs as machine
+use Rattle.meaning.specs.Jobs.{State, job_at, with_job, improper_mode}
+use Rattle.meaning.specs.Maps.{times}
+use Rattle.meaning.specs.Opening.{disk, mode_at, device_at, output_header_at, input_header_at, is_mode, open_answer}
+use Rattle.meaning.specs.Room.{Pack}
+use Rattle.meaning.specs.Step.{call_of}
+use Rattle.meaning.specs.declared.call.Call.{Call}
+use Rattle.meaning.specs.declared.call.Reply.{Reply}
+use Rattle.meaning.specs.declared.call.Reply.TheVariants.{Done, Stopped, NoChannel}
+use Rattle.volume.specs.Live.{pending_at}
+use Rattle.volume.specs.declared.pending.PendingVersion.{PendingVersion}
+use Rattle.monitor.specs.Serving.{present, IsSide}
+use Rattle.monitor.specs.Sides.{Writing, sides_in, keys_of, job_of}
+use Rattle.monitor.specs.declared.channel.Channel.{Channel}
+use Rattle.monitor.specs.declared.job.Job.{Job}
+
+-- The job is this one after the call, with this answer, whatever is being written; and nothing else changes.
+abbrev pub IsRow : Job → Job → Call → Reply → Type 0
+IsRow job job' call reply =
+    (pack : Pack) (serial : ℕ) (s : State) (n : ℕ) (written : ℕ → Writing) (moment : Moment) → job_at s n ≡ Some (job_of written job)
+    → call_of pack serial s n (job_of written job) call moment ≡ (reply, with_job s n (job_of written job'))
+
+-- a version that was not there, or is new in its directory as it was
+abbrev pub IsOldOrNew : Option PendingVersion → PendingVersion → Type 0
+IsOldOrNew was p = (was ≡ None) ⊎ ((q : PendingVersion) × (was ≡ Some q) × (p.is_new ≡ q.is_new))
+
+-- Versions come and go with the output sides of a job.
+pub record Keeps (pending pending' : List (Option PendingVersion)) (job job' : Job) : Type 0 where
+  pub once : (key : ℕ) → present (pending_at pending' key) + times key (keys_of (sides_in (Some job))) ≡ present (pending_at pending key) + times key (keys_of (sides_in (Some job')))
+  pub known : (key : ℕ) (p : PendingVersion) → pending_at pending' key ≡ Some p → IsOldOrNew (pending_at pending key) p
+  pub each : AllByRecursion (IsSide pending') (sides_in (Some job)) → AllByRecursion (IsSide pending') (sides_in (Some job'))
+
+-- OPEN.
+
+-- the device isn't the disk, or there is no such mode
+abbrev pub improper_at : List ℕ → ℕ → Bool
+improper_at core a = not (device_at core a == disk) || not (is_mode (mode_at core a))
+
+-- the channel that is opened
+abbrev pub opened_at : List ℕ → ℕ → Channel
+opened_at core a = record { input_header = input_header_at core a; output_header = output_header_at core a; status = mode_at core a; output = None }
+
+-- In a mode that has buffers it is stopped where the machine would go on.
+
+abbrev pub unserved : ℕ → Reply → Reply
+unserved mode Done = Stopped (improper_mode + mode)
+unserved mode reply = reply
+
+abbrev pub open_unserved : machine.Job → ℕ → ℕ → Reply
+open_unserved job number a = if nat_le number 15 then unserved (mode_at job.core a) (open_answer job number a) else NoChannel
+
+-- CLOSE.
+
+-- a channel has an output side, and closes it for good
+abbrev pub publishes_at : Option Channel → ℕ → Bool
+publishes_at None bits = false
+publishes_at (Some c) bits = is_some c.output && not (keeps_output bits) && not (discards bits)

@@ -1,0 +1,105 @@
+ghost use Rattle.std.specs.Prelude.{◌≡◌, ◌≤◌, ◌↔◌, ℕ, true, false, Some, IsTrue};
+ghost use Rattle.meaning.specs.Jobs.{slot};
+ghost use Rattle.meaning.specs.Opening.{mode_at};
+ghost use Rattle.meaning.specs.Rings.{is_buffered};
+ghost use Rattle.meaning.specs.Runs.{Service, Answers};
+ghost use Rattle.meaning.specs.declared.call.Event.TheVariants.{Call as Calls};
+ghost use Rattle.meaning.specs.declared.call.Reply.TheVariants.{NoMemory, Failed, Device};
+ghost use Rattle.volume.specs.LiveCores.{core_of};
+ghost use Rattle.volume.specs.Rest.{IsSound};
+ghost use Rattle.monitor.specs.Calls.{IsServed, IsLight, call_of};
+ghost use Rattle.monitor.specs.Rows.{open_unserved};
+ghost use Rattle.monitor.specs.Serving.{pack_of, Serves, AreKeyed, ArePlaced};
+ghost use Rattle.monitor.specs.Sides.{Writing, job_of};
+ghost use Rattle.monitor.specs.declared.job.Job.{Job as JobRecord};
+ghost use Rattle.monitor.specs.declared.call.Call.TheVariants.{Open};
+
+use crate::event::LAST_DATE;
+use crate::job::Jobs;
+use crate::monitor::Monitor;
+use crate::serve::{serve_enter, serve_open, serve_reset, serve_useto};
+use blockdisk::Disk;
+use meaning::Reply;
+use std::alloc::Global;
+use volume::Volume;
+use words36::Moment;
+
+/// A call of a job, as far as they are served: most name a channel, and with it an address in the job's core or a
+/// number.
+#[derive(Clone, Copy, Debug, PartialEq, Eq)]
+pub enum Call {
+    /// Opens a channel: the address of its three words.
+    Open(u32, u32),
+    /// Opens a file for writing: a channel, and the address of its four words.
+    Enter(u32, u32),
+    /// Names the block that is written next: a channel and the block, counted from 1.
+    Useto(u32, u32),
+    /// Closes all channels and drops what was not closed.
+    Reset,
+}
+
+/// A call of the job of a number, at a moment that the disk can hold.
+fn serve<D: Disk>(
+    alloc: Global,
+    volume: &mut Volume<D>,
+    jobs: &mut Jobs,
+    number: u32,
+    call: &Call,
+    moment: Moment,
+) -> Reply
+    requires sound { IsSound (D.state volume.old.disk) (core_of volume.old.map) volume.old.failed }
+    requires keyed { AreKeyed (core_of volume.old.map).pending jobs.old }
+    requires placed { ArePlaced (core_of volume.old.map) }
+    requires alive { volume.old.failed ≡ false }
+    requires timely { moment.date ≤ 4095 }
+    ensures sound { IsSound (D.state volume.new.disk) (core_of volume.new.map) volume.new.failed }
+    ensures keyed { AreKeyed (core_of volume.new.map).pending jobs.new }
+    ensures placed { ArePlaced (core_of volume.new.map) }
+    ensures untouched { (volume.new.disk ≡ volume.old.disk) × (volume.new.failed ≡ volume.old.failed) }
+    ensures only { (result ≡ Failed → ⊥) × (result ≡ Device → ⊥) }
+    ensures light { IsLight call.now → result ≡ NoMemory → ⊥ }
+    ensures unserved { (channel address : ℕ) → call.now ≡ Open channel address → (there : JobRecord) → slot jobs.old number ≡ Some there → is_buffered (mode_at there.core address) ≡ true
+        → (jobs.new ≡ jobs.old) × ((written : ℕ → Writing) → result ≡ open_unserved (job_of written there) channel address) }
+    ensures answered { (D.state volume.old.disk).honest → IsServed call.now (slot jobs.old number) → (old : Service) → Serves (D.state volume.old.disk) (core_of volume.old.map) volume.old.failed jobs.old old
+        → (new : Service) × Serves (D.state volume.new.disk) (core_of volume.new.map) volume.new.failed jobs.new new
+        × Answers (pack_of (D.state volume.old.disk)) old (Calls number (call_of call.now) moment) result new }
+{
+    match *call {
+        Call::Open(channel, address) => serve_open(volume, jobs, number, channel, address, moment),
+        Call::Enter(channel, address) => {
+            serve_enter(alloc, volume, jobs, number, channel, address, moment)
+        }
+        Call::Useto(channel, block) => serve_useto(volume, jobs, number, channel, block, moment),
+        Call::Reset => serve_reset(volume, jobs, number, moment),
+    }
+}
+
+impl<D: Disk> Monitor<D> {
+    /// A call of a job, at a moment.
+    ///
+    /// The answer is that of the call; `DateRange` where the moment's date is above 4095, which layout 1 can't hold;
+    /// `NoJob` where no job of that number is logged in; `NoChannel` where the channel isn't open, or where OPEN
+    /// names one above 15; `NoMemory` where core can't grow, with everything as before; or `Failed`. OPEN in a
+    /// mode with buffers is `Stopped` as one in a mode that there isn't.
+    pub fn call(&mut self, alloc: Global, job: u32, call: &Call, moment: Moment) -> Reply
+        ensures answered { (D.state self.old.disk).honest → IsServed call.now (slot self.old.jobs job) → (old : Service) → Serves (D.state self.old.disk) self.old.map self.old.failed self.old.jobs old
+            → (new : Service) × Serves (D.state self.new.disk) self.new.map self.new.failed self.new.jobs new
+            × Answers (pack_of (D.state self.old.disk)) old (Calls job (call_of call.now) moment) result new }
+        ensures kept { self.new ≡ record self.old { map = self.new.map; jobs = self.new.jobs } }
+        ensures failed { result ≡ Failed ↔ IsTrue self.old.failed }
+        // None of these touches the disk, and only ENTER takes memory.
+        ensures device { result ≡ Device → ⊥ }
+        ensures light { IsLight call.now → result ≡ NoMemory → ⊥ }
+        // OPEN in a mode with buffers.
+        ensures unserved { self.old.failed ≡ false → moment.date ≤ 4095 → (channel address : ℕ) → call.now ≡ Open channel address → (there : JobRecord) → slot self.old.jobs job ≡ Some there → is_buffered (mode_at there.core address) ≡ true
+            → (self.new.jobs ≡ self.old.jobs) × ((written : ℕ → Writing) → result ≡ open_unserved (job_of written there) channel address) }
+    {
+        if self.volume.failed {
+            return Reply::Failed;
+        }
+        if moment.date > LAST_DATE {
+            return Reply::DateRange;
+        }
+        serve(alloc, &mut self.volume, &mut self.jobs, job, call, moment)
+    }
+}

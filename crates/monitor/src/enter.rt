@@ -1,0 +1,353 @@
+ghost use Rattle.std.specs.Prelude.{◌≡◌, ◌==◌, ◌&&◌, ◌+◌, ◌%◌, ◌<◌, ◌≤◌, ℕ, false, Bool, IfOk, MatchResult, Ok, Err, IfSome, IfNone, IfErr, Some, OnErr, IsErrOf, IsTrue, slice_index};
+ghost use Rattle.words36.specs.Words.{left, IsPpn};
+ghost use Rattle.meaning.specs.Cores.{lies_outside};
+ghost use Rattle.meaning.specs.Entering.{protection_or, enter_answer, output_opened};
+ghost use Rattle.meaning.specs.Files.{File, Files};
+ghost use Rattle.meaning.specs.Jobs.{State, channel_at, is_create};
+ghost use Rattle.meaning.specs.Looking.{own_if_zero, place_at, with_attributes};
+ghost use Rattle.meaning.specs.Maps.{get};
+ghost use Rattle.meaning.specs.Published.{file_at, attributes};
+ghost use Rattle.meaning.specs.Rights.{directory_digit, file_digit, may_look, may_supersede};
+ghost use Rattle.meaning.specs.Stands.{place_of};
+ghost use Rattle.meaning.specs.declared.call.Reply.TheVariants.{Done, Failed, Device};
+ghost use Rattle.volume.specs.declared.error.CallError.TheVariants.{Failed as VolumeFailed, Device as VolumeDevice};
+ghost use Rattle.retrieval.specs.declared.mode.Mode.TheVariants.{Dump};
+ghost use Rattle.volume.specs.Beginning.{IsBegun};
+ghost use Rattle.volume.specs.Live.{pending_at};
+ghost use Rattle.volume.specs.LiveCores.{core_of};
+ghost use Rattle.volume.specs.Rest.{IsSound, RestsAt};
+ghost use Rattle.volume.specs.declared.pending.PendingVersion.{PendingVersion};
+ghost use Rattle.monitor.specs.Finding.{claims_at, claims, found_in, begun_as, allowed, protection_for, file_begun, IsKnown, IsAnswer, IsPrimeAt, begin_answer_at};
+ghost use Rattle.monitor.specs.Entering.{IsEntering, IsEnterAnswer};
+ghost use Rattle.monitor.specs.Serving.{pack_of, ArePlaced};
+ghost use Rattle.monitor.specs.declared.output.Kind.{Kind};
+ghost use Rattle.monitor.specs.Sides.{Writing, kind_of, job_of};
+
+use crate::channel::Channel;
+use crate::found::Found;
+use crate::job::Job;
+use crate::open::{lies_outside, word_at};
+use crate::output::{Kind, Output};
+use crate::status::{cleared, refuse};
+use blockdisk::Disk;
+use meaning::{Act, ErrorCode, Reply};
+use protect::{DirectoryAct, acts_are_nested, dir_right, right};
+use retrieval::{Mode, Prime};
+use slab::Slab;
+use std::alloc::Global;
+use usercore::Core;
+use volume::{CallError, Pending, PendingVersion as Version, Volume};
+use words36::{FileName, Half, Moment, Ppn, Word};
+
+/// What stands at a place of a volume.
+fn find<D: Disk>(volume: &Volume<D>, ppn: Ppn, file: &FileName) -> Found
+    requires sound { IsSound (D.state volume.now.disk) (core_of volume.now.map) volume.now.failed }
+    ensures { (D.state volume.now.disk).honest → volume.now.failed ≡ false → (files : Files File) → RestsAt (D.state volume.now.disk) files
+        → result ≡ found_in (get files ppn) file.now }
+{
+    let protection = match volume.directory(ppn) {
+        Ok(protection) => protection,
+        Err(_) => return Found::NoDirectory,
+    };
+    match volume.look(ppn, file) {
+        Ok(facts) => Found::Present(protection, facts.protection),
+        Err(_) => Found::Absent(protection),
+    }
+}
+
+/// Whether a version is being written for this place.
+fn is_of(version: &Version, ppn: Ppn, file: &FileName) -> bool
+    ensures { result ≡ claims_at (place_of ppn file.now) (Some version.now) }
+{
+    let prime = &version.prime;
+    prime.ppn == ppn && prime.file.name == file.name && prime.file.ext == file.ext
+}
+
+/// Whether a version is being written for a place.
+fn is_claimed(pending: &Slab<Version>, ppn: Ppn, file: &FileName) -> bool
+    ensures { result ≡ claims pending.now.slots (place_of ppn file.now) }
+{
+    for (_, version) in pending.iter() {
+        if is_of(version, ppn, file) {
+            return true;
+        }
+    }
+    false
+}
+
+/// Whether a job may take the place of a file, by the protections of its directory and its own.
+fn may_supersede(protection: u16, own: u16, who: Ppn, owner: Ppn) -> bool
+    ensures { result ≡ (may_look (directory_digit protection who owner) && may_supersede (file_digit own who owner)) }
+{
+    acts_are_nested();
+    dir_right(protection, who, owner, DirectoryAct::Look) && right(own, who, owner, Act::SUPERSEDE)
+}
+
+/// How a job begins to write that may do so, or why not.
+fn begin_as(kind: Kind, may: bool, is_zero: bool, is_claimed: bool) -> Result<Kind, ErrorCode>
+    ensures { result ≡ begun_as kind may is_zero is_claimed }
+{
+    if is_zero {
+        return Err(ErrorCode::NotFound);
+    }
+    if !may {
+        return Err(ErrorCode::Protection);
+    }
+    if is_claimed {
+        return Err(ErrorCode::BeingModified);
+    }
+    Ok(kind)
+}
+
+/// How a job may begin to write at a place, or why not.
+fn allow(
+    found: Found,
+    who: Ppn,
+    owner: Ppn,
+    is_zero: bool,
+    is_claimed: bool,
+) -> Result<Kind, ErrorCode>
+    ensures { result ≡ allowed found who owner is_zero is_claimed }
+{
+    match found {
+        Found::NoDirectory => Err(ErrorCode::NoDirectory),
+        Found::Absent(protection) => {
+            let may = dir_right(protection, who, owner, DirectoryAct::Create);
+            begin_as(Kind::Create, may, is_zero, is_claimed)
+        }
+        Found::Present(protection, own) => {
+            let may = may_supersede(protection, own, who, owner);
+            begin_as(Kind::Supersede, may, is_zero, is_claimed)
+        }
+    }
+}
+
+/// The protection of what is written: that which is asked for, or the old file's.
+fn protection_for(found: Found, asked: u16) -> u16
+    requires { asked < 512 }
+    ensures value { result ≡ protection_for found asked }
+    ensures few { result < 512 }
+{
+    match found {
+        Found::Present(_, own) => own % 0o1000, // three digits, as each file's are
+        _ => asked,
+    }
+}
+
+/// The protection in bits 0 to 8 of a word, or another where they are 0.
+pub fn protection_or(word: Word, default: u16) -> u16
+    requires { default < 512 }
+    ensures value { result ≡ protection_or word default }
+    ensures few { result < 512 }
+{
+    let protection = (word.bits() >> 27) as u16;
+    if protection == 0 { default } else { protection }
+}
+
+/// The directory that the words at an address name, 0 for the job's own.
+fn owner_at(job: &Job, address: u32) -> Option<Ppn>
+    requires { address + 4 ≤ 0o400000 }
+    ensures there { IfSome result (λ ppn. ppn ≡ own_if_zero (slice_index job.now.core (address + 3)) job.now.ppn) }
+    ensures none { IfNone result (IsPpn (own_if_zero (slice_index job.now.core (address + 3)) job.now.ppn) → ⊥) }
+{
+    let word = word_at(&job.core, address + 3);
+    if word.bits() == 0 {
+        return Some(job.ppn);
+    }
+    Ppn::from_word(word)
+}
+
+/// The name of a file that the words at an address name.
+fn name_at(core: &Core, address: u32) -> FileName
+    requires { address + 4 ≤ 0o400000 }
+    ensures { (result.name ≡ slice_index core.now address) × (result.ext ≡ left (slice_index core.now (address + 1))) }
+{
+    FileName {
+        name: word_at(core, address),
+        ext: word_at(core, address + 1).left(),
+    }
+}
+
+/// How an output side began that writes a version.
+fn kind_of<D: Disk>(volume: &Volume<D>, pending: Pending) -> Kind
+    ensures { (p : PendingVersion) → pending_at (core_of volume.now.map).pending pending.key ≡ Some p → p.is_new ≡ is_create (kind_of result) }
+{
+    match volume.map.pending.get(pending.key) {
+        Some(version) if version.is_new => Kind::Create,
+        _ => Kind::Supersede,
+    }
+}
+
+/// Protection, mode, time and date of a version in one word.
+fn attributes(prime: &Prime) -> Word
+    ensures { result ≡ attributes (file_begun prime.now) }
+{
+    let protection = u64::from(prime.protection) << 27;
+    let mode = prime.mode.number() << 23;
+    let time = u64::from(prime.moment.minute) << 12;
+    Word::from_bits(protection + mode + time + u64::from(prime.moment.date))
+}
+
+/// What the prime block says of the version that an ENTER of the words at an address writes.
+fn prime_for(
+    core: &Core,
+    address: u32,
+    ppn: Ppn,
+    file: FileName,
+    found: Found,
+    moment: Moment,
+) -> Prime
+    requires there { address + 4 ≤ 0o400000 }
+    requires timely { moment.date ≤ 4095 }
+    ensures ppn { result.ppn ≡ ppn }
+    ensures file { result.file ≡ file }
+    ensures mode { result.mode ≡ Dump }
+    ensures moment { result.moment ≡ moment }
+    ensures protection { result.protection ≡ protection_for found (protection_or (slice_index core.now (address + 2)) 0o057) }
+{
+    let asked = protection_or(word_at(core, address + 2), 0o057);
+    let protection = protection_for(found, asked);
+    match Prime::new(file, ppn, protection, Mode::Dump, moment) {
+        Some(prime) => prime,
+        None => unreachable!(), // it has three digits, and the date twelve bits
+    }
+}
+
+/// The same prime block once more.
+fn copy_of(prime: &Prime) -> Prime
+    ensures { result ≡ prime.now }
+{
+    *prime
+}
+
+/// What stands at a place where a job may begin to write, or why it may not.
+fn may_begin<D: Disk>(
+    volume: &Volume<D>,
+    who: Ppn,
+    owner: Ppn,
+    file: &FileName,
+) -> Result<Found, ErrorCode>
+    requires sound { IsSound (D.state volume.now.disk) (core_of volume.now.map) volume.now.failed }
+    ensures free { IfOk result (λ found. ((file.now.name == 0) ≡ false) × (claims (core_of volume.now.map).pending (place_of owner file.now) ≡ false)) }
+    ensures found { (D.state volume.now.disk).honest → volume.now.failed ≡ false → (files : Files File) → RestsAt (D.state volume.now.disk) files
+        → MatchResult result
+        (λ found. (found ≡ found_in (get files owner) file.now) × ((kind : Kind) × (allowed found who owner (file.now.name == 0) (claims (core_of volume.now.map).pending (place_of owner file.now)) ≡ Ok kind)))
+        (λ code. allowed (found_in (get files owner) file.now) who owner (file.now.name == 0) (claims (core_of volume.now.map).pending (place_of owner file.now)) ≡ Err code) }
+{
+    let found = find(volume, owner, file);
+    let claimed = is_claimed(&volume.map.pending, owner, file);
+    let is_zero = file.name.bits() == 0;
+    match allow(found, who, owner, is_zero, claimed) {
+        Ok(_kind) => Ok(found),
+        Err(code) => Err(code),
+    }
+}
+
+/// Begins the version that an ENTER of the words at an address writes, at the place that they name.
+///
+/// # Errors
+///
+/// `Refused` as the machine refuses; `NoMemory` where core can't grow. All is as before then.
+fn begin_at<D: Disk>(
+    alloc: Global,
+    volume: &mut Volume<D>,
+    job: &Job,
+    address: u32,
+    moment: Moment,
+) -> Result<(Pending, Prime), CallError>
+    requires sound { IsSound (D.state volume.old.disk) (core_of volume.old.map) volume.old.failed }
+    requires there { address + 4 ≤ 0o400000 }
+    requires timely { moment.date ≤ 4095 }
+    ensures sound { IsSound (D.state volume.new.disk) (core_of volume.new.map) volume.new.failed }
+    ensures untouched { (volume.new.disk ≡ volume.old.disk) × (volume.new.failed ≡ volume.old.failed) }
+    ensures begun { IfOk result (λ begun. IsBegun (core_of volume.old.map) (core_of volume.new.map) begun.0.key begun.1) }
+    ensures free { IfOk result (λ begun. ((begun.1.file.name == 0) ≡ false) × (claims (core_of volume.old.map).pending (place_of begun.1.ppn begun.1.file) ≡ false)) }
+    ensures same { OnErr result (core_of volume.new.map ≡ core_of volume.old.map) }
+    ensures only { (IsErrOf result VolumeFailed → IsTrue volume.old.failed) × (IsErrOf result VolumeDevice → ⊥) }
+    ensures prime { IfOk result (λ begun. IsPrimeAt job.now address moment begun.1) }
+    ensures protection { (D.state volume.old.disk).honest → volume.old.failed ≡ false → (files : Files File) → RestsAt (D.state volume.old.disk) files
+        → IfOk result (λ begun. begun.1.protection ≡ protection_for (found_in (get files begun.1.ppn) begun.1.file) (protection_or (slice_index job.now.core (address + 2)) 0o057)) }
+    ensures answered { (D.state volume.old.disk).honest → volume.old.failed ≡ false → (s : State) → IsKnown (D.state volume.old.disk) (core_of volume.old.map) s
+        → (written : ℕ → Writing) → IsAnswer result (begin_answer_at (pack_of (D.state volume.old.disk)) s (job_of written job.now) (place_at (job_of written job.now) address)) }
+{
+    let Some(ppn) = owner_at(job, address) else {
+        return Err(CallError::Refused(ErrorCode::NoDirectory));
+    };
+    let file = name_at(&job.core, address);
+    let found = match may_begin(volume, job.ppn, ppn, &file) {
+        Ok(found) => found,
+        Err(code) => return Err(CallError::Refused(code)),
+    };
+    let prime = prime_for(&job.core, address, ppn, file, found, moment);
+    let kept = copy_of(&prime);
+    match volume.begin(alloc, prime) {
+        Ok(pending) => Ok((pending, kept)),
+        Err(error) => Err(error),
+    }
+}
+
+/// Puts the attributes of a version that is begun into the second and third of the words at an address.
+fn put_attributes(core: &mut Core, address: u32, prime: &Prime)
+    requires { address + 4 ≤ 0o400000 }
+    ensures { core.new ≡ with_attributes 1 core.old address (file_begun prime.now) }
+{
+    let left = word_at(core, address + 1).left();
+    let _ = core.set_word(address + 1, Word::from_halves(left, Half::from_bits(0)));
+    let _ = core.set_word(address + 2, attributes(prime));
+}
+
+/// ENTER: opens an output side for the file that the four words at an address name: a new one, or one that will
+/// take the place of the file of that name. Its attributes are put into the words.
+pub fn enter<D: Disk>(
+    alloc: Global,
+    volume: &mut Volume<D>,
+    job: &mut Job,
+    number: u32,
+    address: u32,
+    moment: Moment,
+) -> Reply
+    requires sound { IsSound (D.state volume.old.disk) (core_of volume.old.map) volume.old.failed }
+    requires timely { moment.date ≤ 4095 }
+    requires alive { volume.old.failed ≡ false }
+    ensures sound { IsSound (D.state volume.new.disk) (core_of volume.new.map) volume.new.failed }
+    ensures untouched { (volume.new.disk ≡ volume.old.disk) × (volume.new.failed ≡ volume.old.failed) }
+    ensures only { (result ≡ Failed → ⊥) × (result ≡ Device → ⊥) }
+    ensures begun { result ≡ Done → (channel : Channel) × (key : ℕ) × (prime : Prime) × IsEntering (core_of volume.old.map) (core_of volume.new.map) job.old job.new number address moment channel key prime
+        × ((D.state volume.old.disk).honest → (files : Files File) → RestsAt (D.state volume.old.disk) files
+        → prime.protection ≡ protection_for (found_in (get files prime.ppn) prime.file) (protection_or (slice_index job.old.core (address + 2)) 0o057)) }
+    ensures placed { ArePlaced (core_of volume.old.map) → ArePlaced (core_of volume.new.map) }
+    ensures kept { (result ≡ Done → ⊥) → (core_of volume.new.map ≡ core_of volume.old.map) × (job.new ≡ record job.old { core = job.new.core }) }
+    ensures row { (D.state volume.old.disk).honest → (s : State) → IsKnown (D.state volume.old.disk) (core_of volume.old.map) s
+        → (written : ℕ → Writing) → IsEnterAnswer (pack_of (D.state volume.old.disk)) s (job_of written job.old) (job_of written job.new) (channel_at (job_of written job.old) number) address result }
+{
+    let Some(channel) = job.channel(number) else {
+        return Reply::NoChannel;
+    };
+    if lies_outside(&job.core, address, 4) {
+        return Reply::AddressCheck;
+    }
+    if channel.output.is_some() {
+        return refuse(&mut job.core, address, ErrorCode::Sequence);
+    }
+    match begin_at(alloc, volume, job, address, moment) {
+        Ok((pending, prime)) => {
+            let output = Output {
+                pending,
+                kind: kind_of(volume, pending),
+                next: 1,
+            };
+            put_attributes(&mut job.core, address, &prime);
+            let entered = Channel {
+                status: cleared(channel.status),
+                output: Some(output),
+                ..channel
+            };
+            job.set_channel(number, Some(entered));
+            Reply::Done
+        }
+        Err(CallError::Refused(code)) => refuse(&mut job.core, address, code),
+        Err(CallError::NoMemory) => Reply::NoMemory,
+        Err(CallError::Device) => Reply::Device,
+        Err(CallError::Failed) => Reply::Failed,
+    }
+}

@@ -1,0 +1,79 @@
+ghost use Rattle.std.specs.Prelude.{◌≡◌, ◌↔◌, ◌==◌, false, IsTrue};
+ghost use Rattle.blockdisk.specs.Disk.{LeavesOnly, SameDisk, one_more};
+ghost use Rattle.meaning.specs.Files.{File, Files};
+ghost use Rattle.meaning.specs.Rights.{system};
+ghost use Rattle.meaning.specs.declared.call.Reply.TheVariants.{Done, Device};
+ghost use Rattle.volume.specs.LiveCores.{core_of};
+ghost use Rattle.volume.specs.Making.{files_made};
+ghost use Rattle.volume.specs.Rest.{IsSound, RestsAt, StandsForEither, KeepsRead, KeepsEachWritten};
+ghost use Rattle.monitor.specs.DirectoryRows.{IsMakeDir, asked_owner, asked_protection};
+ghost use Rattle.monitor.specs.Rows.{Keeps};
+
+use crate::enter::protection_or;
+use crate::job::Job;
+use crate::open::{lies_outside, word_at};
+use crate::status::refuse;
+use blockdisk::Disk;
+use meaning::{ErrorCode, Reply};
+use std::alloc::Global;
+use volume::{CallError, Volume};
+use words36::Ppn;
+
+/// The protection of a directory for which none is asked.
+const DIRECTORY_PROTECTION: u16 = 0o775;
+
+/// Whose directories anybody's are: [1,2].
+fn is_system(ppn: Ppn) -> bool
+    ensures { result ≡ (ppn == system) }
+{
+    ppn.word().bits() == 0o000001000002
+}
+
+/// MakeDir: makes an empty directory, by the two words at an address: whose it is, and its protection in the nine
+/// high bits, 775 (octal) where they are 0.
+pub fn make_dir<D: Disk>(
+    alloc: Global,
+    volume: &mut Volume<D>,
+    job: &mut Job,
+    address: u32,
+) -> Reply
+    requires sound { IsSound (D.state volume.old.disk) (core_of volume.old.map) volume.old.failed }
+    requires serves { volume.old.failed ≡ false }
+
+    ensures sound { IsSound (D.state volume.new.disk) (core_of volume.new.map) volume.new.failed }
+    ensures outcome { IsMakeDir (D.state volume.old.disk).size (core_of volume.old.map) ((volume.new.disk ≡ volume.old.disk) × (core_of volume.new.map ≡ core_of volume.old.map)) job.old job.new address result }
+    ensures keeps { Keeps (core_of volume.old.map).pending (core_of volume.new.map).pending job.old job.new }
+    // A crash finds the files as they were, or with the directory.
+    ensures crash { (D.state volume.old.disk).honest → (f : Files File) → RestsAt (D.state volume.old.disk) f
+        → LeavesOnly (D.state volume.old.disk) (D.state volume.new.disk) (StandsForEither (D.state volume.old.disk).size f (files_made f (asked_owner job.old.core address) (asked_protection job.old.core address))) }
+    ensures done { (D.state volume.old.disk).honest → (f : Files File) → RestsAt (D.state volume.old.disk) f
+        → result ≡ Done → RestsAt (D.state volume.new.disk) (files_made f (asked_owner job.old.core address) (asked_protection job.old.core address)) }
+    // The versions in use stay.
+    ensures live { (core_of volume.new.map).live ≡ (core_of volume.old.map).live }
+    ensures pending { (core_of volume.new.map).pending ≡ (core_of volume.old.map).pending }
+    ensures readers { (D.state volume.old.disk).honest → KeepsRead (D.state volume.old.disk).contents (D.state volume.new.disk).contents (core_of volume.old.map) }
+    ensures writers { (D.state volume.old.disk).honest → KeepsEachWritten (D.state volume.old.disk).contents (D.state volume.new.disk).contents (core_of volume.old.map) }
+    // It blames the device where that failed.
+    ensures failed { IsTrue volume.new.failed ↔ (result ≡ Device) }
+    ensures counted { result ≡ Device → (D.state volume.new.disk).failures ≡ one_more (D.state volume.old.disk).failures }
+    ensures served { (result ≡ Device → ⊥) → (D.state volume.new.disk).failures ≡ (D.state volume.old.disk).failures }
+    ensures same { SameDisk (D.state volume.old.disk) (D.state volume.new.disk) }
+{
+    if lies_outside(&job.core, address, 2) {
+        return Reply::AddressCheck;
+    }
+    let Some(owner) = Ppn::from_word(word_at(&job.core, address)) else {
+        return refuse(&mut job.core, address, ErrorCode::NoDirectory);
+    };
+    if !is_system(job.ppn) && job.ppn != owner {
+        return refuse(&mut job.core, address, ErrorCode::Protection);
+    }
+    let protection = protection_or(word_at(&job.core, address + 1), DIRECTORY_PROTECTION);
+    match volume.make_dir(alloc, owner, protection) {
+        Ok(()) => Reply::Done,
+        Err(CallError::Refused(code)) => refuse(&mut job.core, address, code),
+        Err(CallError::NoMemory) => Reply::NoMemory,
+        Err(CallError::Device) => Reply::Device,
+        Err(CallError::Failed) => Reply::Failed,
+    }
+}

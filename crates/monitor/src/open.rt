@@ -1,0 +1,138 @@
+ghost use Rattle.std.specs.Prelude.{◌≡◌, ◌<◌, ◌≤◌, ◌+◌, ◌^◌, ℕ, true, false, List, Option, slice_index};
+ghost use Rattle.meaning.specs.Cores.{lies_outside};
+ghost use Rattle.meaning.specs.Opening.{mode_at, output_header_at, input_header_at, misses_header, misses_headers};
+ghost use Rattle.meaning.specs.Rings.{is_buffered};
+ghost use Rattle.meaning.specs.declared.call.Call.TheVariants.{Open};
+ghost use Rattle.meaning.specs.declared.call.Reply.TheVariants.{NoMemory, Failed, Device};
+ghost use Rattle.volume.specs.declared.pending.PendingVersion.{PendingVersion};
+ghost use Rattle.monitor.specs.Rows.{IsRow, Keeps, improper_at, opened_at, open_unserved};
+ghost use Rattle.monitor.specs.Sides.{Writing, job_of};
+
+use crate::channel::Channel;
+use crate::job::{CHANNELS, Job};
+use meaning::{ErrorCode, Reply};
+use usercore::Core;
+use words36::Word;
+
+/// DSK, in SIXBIT.
+const DISK: u64 = 0o446353000000;
+
+/// The number of the mode without buffers.
+const DUMP_MODE: u32 = 0o17;
+
+/// What OPEN reports of a device or a mode that there isn't.
+const IMPROPER_MODE: u32 = 0o400000;
+
+/// Whether not all of so many words from an address on are there.
+pub fn lies_outside(core: &Core, address: u32, count: usize) -> bool
+    requires { count < 2 ^ 32 }
+    ensures value { result ≡ lies_outside core.now address count }
+    ensures few { result ≡ false → address + count ≤ 0o400000 }
+{
+    core.length() < address as usize + count
+}
+
+/// The word at an address, 0 outside the core.
+pub fn word_at(core: &Core, address: u32) -> Word
+    ensures value { result ≡ slice_index core.now address }
+    ensures fits { result < 2 ^ 36 }
+{
+    core.word(address).unwrap_or(Word::ZERO)
+}
+
+/// The mode that the words at an address ask for.
+fn mode_at(core: &Core, address: u32) -> u32
+    ensures value { result ≡ mode_at core.now address }
+    ensures few { result < 16 }
+{
+    (word_at(core, address).bits() % 16) as u32
+}
+
+/// Whether a mode has buffers.
+fn is_buffered(mode: u32) -> bool
+    ensures { result ≡ is_buffered mode }
+{
+    mode <= 1 || mode == 0o10 || mode == 0o13 || mode == 0o14
+}
+
+/// The addresses of the headers of both rings that the words at an address name, the output's first.
+fn headers_at(core: &Core, address: u32) -> (u32, u32)
+    requires { address + 3 ≤ 0o400000 }
+    ensures { (result.0 ≡ output_header_at core.now address) × (result.1 ≡ input_header_at core.now address) }
+{
+    let headers = word_at(core, address + 2);
+    (headers.left().bits(), headers.right().bits())
+}
+
+/// Whether a header that is asked for isn't there.
+fn misses_header(core: &Core, header: u32) -> bool
+    ensures { result ≡ misses_header core.now header }
+{
+    header != 0 && lies_outside(core, header, 3)
+}
+
+/// Whether a ring's header that the words at an address ask for isn't there.
+fn misses_headers(core: &Core, address: u32) -> bool
+    requires { address + 3 ≤ 0o400000 }
+    ensures { result ≡ misses_headers core.now address }
+{
+    let (output, input) = headers_at(core, address);
+    is_buffered(mode_at(core, address))
+        && (misses_header(core, output) || misses_header(core, input))
+}
+
+/// Whether the device isn't the disk, or there is no such mode.
+fn is_improper(core: &Core, address: u32) -> bool
+    requires { address + 3 ≤ 0o400000 }
+    ensures { result ≡ improper_at core.now address }
+{
+    let mode = mode_at(core, address);
+    word_at(core, address + 1).bits() != DISK || !(is_buffered(mode) || mode == DUMP_MODE)
+}
+
+/// The channel that the words at an address open.
+fn opened(core: &Core, address: u32) -> Channel
+    requires { address + 3 ≤ 0o400000 }
+    ensures { result ≡ opened_at core.now address }
+{
+    let (output_header, input_header) = headers_at(core, address);
+    Channel {
+        input_header,
+        output_header,
+        status: mode_at(core, address),
+        output: None,
+    }
+}
+
+/// OPEN: opens a channel, 0 to 15, by the three words at an address: the mode in the low four bits, the device,
+/// and the addresses of the headers of the two rings. A mode with buffers isn't served: where all else is as it
+/// should be, it is answered as one that there isn't.
+pub fn open(job: &mut Job, number: u32, address: u32) -> Reply
+    ensures row { is_buffered (mode_at job.old.core address) ≡ false → IsRow job.old job.new (Open number address) result }
+    ensures unserved { is_buffered (mode_at job.old.core address) ≡ true → (job.new ≡ job.old) × ((written : ℕ → Writing) → result ≡ open_unserved (job_of written job.old) number address) }
+    ensures keeps { (pending : List (Option PendingVersion)) → Keeps pending pending job.old job.new }
+    ensures only { (result ≡ Failed → ⊥) × (result ≡ Device → ⊥) × (result ≡ NoMemory → ⊥) }
+{
+    if number as usize >= CHANNELS {
+        return Reply::NoChannel;
+    }
+    if lies_outside(&job.core, address, 3) {
+        return Reply::AddressCheck;
+    }
+    if misses_headers(&job.core, address) {
+        return Reply::AddressCheck;
+    }
+    if job.channel(number).is_some() {
+        return Reply::Refused(ErrorCode::Sequence.number());
+    }
+    let mode = mode_at(&job.core, address);
+    if is_improper(&job.core, address) {
+        return Reply::Stopped(IMPROPER_MODE + mode);
+    }
+    if is_buffered(mode) {
+        return Reply::Stopped(IMPROPER_MODE + mode); // no rings yet
+    }
+    let channel = opened(&job.core, address);
+    job.set_channel(number, Some(channel));
+    Reply::Done
+}

@@ -1,0 +1,140 @@
+ghost use Rattle.std.specs.Prelude.{◌≡◌, ◌⊎◌, ◌↔◌, ◌<◌, ◌≤◌, ◌+◌, ◌^◌, ℕ, false, IsTrue, All, IfOk, IfErr, IsErrOf, length, None, Some};
+ghost use Rattle.std.specs.List.{AllByRecursion};
+ghost use Rattle.blockdisk.specs.Disk.{LeavesOnly, SameDisk, one_more};
+ghost use Rattle.meaning.specs.CommandLists.{dump_list, word_count};
+ghost use Rattle.meaning.specs.Cores.{joined};
+ghost use Rattle.meaning.specs.Costs.{blocks_of};
+ghost use Rattle.meaning.specs.Files.{File, Files};
+ghost use Rattle.meaning.specs.Jobs.{slot};
+ghost use Rattle.meaning.specs.Maps.{times};
+ghost use Rattle.meaning.specs.Stands.{Stands};
+ghost use Rattle.usercore.specs.declared.error.CoreError.TheVariants.{AddressCheck, NoMemory};
+ghost use Rattle.meaning.specs.declared.call.Reply.TheVariants.{Device, Failed};
+ghost use Rattle.volume.specs.Live.{pending_at};
+ghost use Rattle.volume.specs.LiveCores.{core_of};
+ghost use Rattle.volume.specs.Rest.{IsSound, RestsAt, KeepsRead};
+ghost use Rattle.volume.specs.declared.pending.PendingVersion.{PendingVersion};
+ghost use Rattle.monitor.specs.Putting.{words_at, moved, IsOther, IsOut};
+ghost use Rattle.monitor.specs.Rows.{Keeps};
+ghost use Rattle.monitor.specs.Serving.{present, IsSide};
+ghost use Rattle.monitor.specs.Sides.{sides_in, keys_of};
+
+use crate::channel::Channel;
+use crate::job::Job;
+use crate::output::Output;
+use crate::status::{BLOCK_TOO_LARGE, cleared, stop};
+use blockdisk::Disk;
+use meaning::{ErrorCode, Reply};
+use std::alloc::Global;
+use usercore::{Area, Core, CoreError, word_count};
+use volume::{CallError, Volume};
+use words36::{BLOCK_WORDS, Word};
+
+/// The words of areas of a core, joined.
+///
+/// # Errors
+///
+/// `NoMemory` where they find no room.
+fn gathered(alloc: Global, core: &Core, areas: &[Area]) -> Result<Vec<Word>, CoreError>
+    requires within { All (λ area. area.first + area.count ≤ length core.now) areas.now }
+    requires few { word_count areas.now ≤ 0o400000 }
+    ensures words { IfOk result (λ words. words.items ≡ joined core.now areas.now) }
+    ensures few { IfOk result (λ words. length words.items ≤ 0o400000) }
+    ensures refused { IfErr result (λ error. error ≡ NoMemory) }
+{
+    let mut words = vec![in alloc; Word::ZERO; word_count(areas)]?;
+    core.gather(areas, words.as_mut_slice());
+    Ok(words)
+}
+
+/// The words that the command list at an address names, joined.
+///
+/// # Errors
+///
+/// `AddressCheck` where the list isn't as it should be; `NoMemory` where the words find no room.
+fn words_at(alloc: Global, core: &Core, address: u32) -> Result<Vec<Word>, CoreError>
+    ensures words { IfOk result (λ words. words_at core.now address ≡ Some words.items) }
+    ensures few { IfOk result (λ words. length words.items ≤ 0o400000) }
+    ensures none { IsErrOf result AddressCheck → dump_list core.now address ≡ None }
+    ensures some { IsErrOf result NoMemory → dump_list core.now address ≡ None → ⊥ }
+{
+    let areas = core.dump_list(address)?;
+    gathered(alloc, core, areas.as_slice())
+}
+
+/// A channel once so many words are put at the next block of its output side.
+fn moved(channel: Channel, output: Output, count: usize) -> Channel
+    requires fits { output.next + blocks_of count < 2 ^ 32 }
+    requires few { count ≤ 0o400000 }
+    ensures { result ≡ moved channel output count }
+{
+    let blocks = count.div_ceil(BLOCK_WORDS) as u32;
+    let output = Output {
+        next: output.next + blocks,
+        ..output
+    };
+    Channel {
+        status: cleared(channel.status),
+        output: Some(output),
+        ..channel
+    }
+}
+
+/// OUT: puts the words that the command list at an address names at the block that a channel writes next, and
+/// moves on behind them.
+pub fn out<D: Disk>(
+    alloc: Global,
+    volume: &mut Volume<D>,
+    job: &mut Job,
+    number: u32,
+    address: u32,
+) -> Reply
+    requires sound { IsSound (D.state volume.old.disk) (core_of volume.old.map) volume.old.failed }
+    requires serves { volume.old.failed ≡ false }
+    requires live { (key : ℕ) → times key (keys_of (sides_in (Some job.old))) ≤ present (pending_at (core_of volume.old.map).pending key) }
+    requires sides { AllByRecursion (IsSide (core_of volume.old.map).pending) (sides_in (Some job.old)) }
+
+    ensures sound { IsSound (D.state volume.new.disk) (core_of volume.new.map) volume.new.failed }
+    ensures outcome { IsOut (D.state volume.old.disk) (D.state volume.new.disk) (core_of volume.old.map) (core_of volume.new.map)
+        ((volume.new.disk ≡ volume.old.disk) × (core_of volume.new.map ≡ core_of volume.old.map)) job.old job.new number address result }
+    ensures keeps { volume.new.failed ≡ false → Keeps (core_of volume.old.map).pending (core_of volume.new.map).pending job.old job.new }
+    // A crash finds the files as they were.
+    ensures quiet { (D.state volume.old.disk).honest → (f : Files File) → RestsAt (D.state volume.old.disk) f
+        → LeavesOnly (D.state volume.old.disk) (D.state volume.new.disk) (λ c. Stands (D.state volume.old.disk).size c f) }
+    ensures rests { (D.state volume.old.disk).honest → (f : Files File) → RestsAt (D.state volume.old.disk) f → RestsAt (D.state volume.new.disk) f }
+    // No other version changes.
+    ensures others { (key : ℕ) → IsOther (slot job.old.channels number) key → pending_at (core_of volume.new.map).pending key ≡ pending_at (core_of volume.old.map).pending key }
+    ensures live { (core_of volume.new.map).live ≡ (core_of volume.old.map).live }
+    ensures known { (core_of volume.new.map).known ≡ record (core_of volume.old.map).known { table = (core_of volume.new.map).known.table } }
+    ensures readers { (D.state volume.old.disk).honest → KeepsRead (D.state volume.old.disk).contents (D.state volume.new.disk).contents (core_of volume.old.map) }
+    ensures writers { (D.state volume.old.disk).honest → (key : ℕ) (p : PendingVersion) → IsOther (slot job.old.channels number) key → pending_at (core_of volume.old.map).pending key ≡ Some p
+        → (n : ℕ) → 0 < times n p.version.blocks → (D.state volume.new.disk).contents n ≡ (D.state volume.old.disk).contents n }
+    // It fails with the volume, and blames the device where that failed.
+    ensures failed { IsTrue volume.new.failed ↔ ((result ≡ Device) ⊎ (result ≡ Failed)) }
+    ensures counted { result ≡ Device → (D.state volume.new.disk).failures ≡ one_more (D.state volume.old.disk).failures }
+    ensures served { (result ≡ Device → ⊥) → (D.state volume.new.disk).failures ≡ (D.state volume.old.disk).failures }
+    ensures same { SameDisk (D.state volume.old.disk) (D.state volume.new.disk) }
+{
+    let Some(channel) = job.channel(number) else {
+        return Reply::NoChannel;
+    };
+    let Some(output) = channel.output else {
+        return Reply::Refused(ErrorCode::Sequence.number());
+    };
+    let words = match words_at(alloc, &job.core, address) {
+        Ok(words) => words,
+        Err(CoreError::AddressCheck) => return Reply::AddressCheck,
+        Err(CoreError::NoMemory) => return Reply::NoMemory,
+    };
+    match volume.put_words(output.pending, output.next, words.as_slice()) {
+        Ok(()) => {
+            let moved = moved(channel, output, words.len());
+            job.set_channel(number, Some(moved));
+            Reply::Done
+        }
+        Err(CallError::Refused(_)) => stop(job, number, channel, BLOCK_TOO_LARGE),
+        Err(CallError::NoMemory) => Reply::NoMemory,
+        Err(CallError::Device) => Reply::Device,
+        Err(CallError::Failed) => Reply::Failed,
+    }
+}

@@ -1,0 +1,22 @@
+use volume::Pending;
+
+/// How an output side began.
+#[derive(Clone, Copy, Debug, PartialEq, Eq)]
+pub enum Kind {
+    /// Its name was absent.
+    Create,
+    /// It will take the place of a file.
+    Supersede,
+}
+
+/// The output side of a channel. Place, protection, mode and moment of what is written, and its words, are those of
+/// the version that the volume writes for it.
+#[derive(Clone, Copy, Debug, PartialEq, Eq)]
+pub struct Output {
+    /// The version.
+    pub pending: Pending,
+    /// How it began.
+    pub kind: Kind,
+    /// The block that is written next, counted from 1.
+    pub next: u32,
+}

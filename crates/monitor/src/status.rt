@@ -1,0 +1,46 @@
+ghost use Rattle.std.specs.Prelude.{◌≡◌, ◌+◌, ◌<◌, ◌^◌, Some, slice_set};
+ghost use Rattle.meaning.specs.Jobs.{cleared};
+ghost use Rattle.meaning.specs.Codes.{number_of};
+ghost use Rattle.meaning.specs.Cores.{with_right};
+ghost use Rattle.meaning.specs.declared.call.Reply.TheVariants.{Stopped, Refused};
+
+use crate::channel::Channel;
+use crate::job::Job;
+use crate::open::word_at;
+use meaning::{ErrorCode, Reply};
+use usercore::Core;
+use words36::{Half, Word};
+
+/// What a channel reports of a block that a file can't have, or has no room for.
+pub const BLOCK_TOO_LARGE: u32 = 0o40000;
+
+/// A status without the five bits that calls report.
+pub fn cleared(status: u32) -> u32
+    ensures value { result ≡ cleared status }
+    ensures few { result < 2 ^ 13 }
+{
+    status % 0o20000
+}
+
+/// Stops a call of a channel, which reports this bit.
+pub fn stop(job: &mut Job, number: u32, channel: Channel, bit: u32) -> Reply
+    requires { bit < 2 ^ 18 }
+    ensures answered { result ≡ Stopped (cleared channel.status + bit) }
+    ensures kept { job.new ≡ record job.old { channels = slice_set job.old.channels number (Some (record channel { status = cleared channel.status + bit })) } }
+{
+    let status = cleared(channel.status) + bit;
+    job.set_channel(number, Some(Channel { status, ..channel }));
+    Reply::Stopped(status)
+}
+
+/// Refuses a call that named a block of words: the code goes into the right half of the second of them.
+pub fn refuse(core: &mut Core, address: u32, code: ErrorCode) -> Reply
+    requires { address < 0o400000 }
+    ensures answered { result ≡ Refused (number_of code) }
+    ensures kept { core.new ≡ with_right core.old (address + 1) (number_of code) }
+{
+    let left = word_at(core, address + 1).left();
+    let number = Half::from_bits(code.number());
+    let _ = core.set_word(address + 1, Word::from_halves(left, number));
+    Reply::Refused(code.number())
+}

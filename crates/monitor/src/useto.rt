@@ -1,0 +1,39 @@
+ghost use Rattle.std.specs.Prelude.{◌≡◌, List, Option};
+ghost use Rattle.meaning.specs.declared.call.Call.TheVariants.{Useto};
+ghost use Rattle.meaning.specs.declared.call.Reply.TheVariants.{NoMemory, Failed, Device};
+ghost use Rattle.volume.specs.declared.pending.PendingVersion.{PendingVersion};
+ghost use Rattle.monitor.specs.Rows.{IsRow, Keeps};
+
+use crate::channel::Channel;
+use crate::job::Job;
+use crate::output::Output;
+use crate::status::{BLOCK_TOO_LARGE, cleared, stop};
+use meaning::{ErrorCode, Reply};
+
+/// USETO: names the block that a channel writes next, counted from 1.
+pub fn useto(job: &mut Job, number: u32, block: u32) -> Reply
+    ensures row { IsRow job.old job.new (Useto number block) result }
+    ensures keeps { (pending : List (Option PendingVersion)) → Keeps pending pending job.old job.new }
+    ensures only { (result ≡ Failed → ⊥) × (result ≡ Device → ⊥) × (result ≡ NoMemory → ⊥) }
+{
+    let Some(channel) = job.channel(number) else {
+        return Reply::NoChannel;
+    };
+    let Some(output) = channel.output else {
+        return Reply::Refused(ErrorCode::Sequence.number());
+    };
+    if block == 0 {
+        return stop(job, number, channel, BLOCK_TOO_LARGE);
+    }
+    let output = Output {
+        next: block,
+        ..output
+    };
+    let moved = Channel {
+        status: cleared(channel.status),
+        output: Some(output),
+        ..channel
+    };
+    job.set_channel(number, Some(moved));
+    Reply::Done
+}

@@ -1,0 +1,190 @@
+-- A version becomes the file of its name: which blocks are written for it, and that those of versions in use stay.
+use Rattle.std.proofs.Common.{◌≡◌, ℕ, zero, suc, ◌+◌, ◌<◌, ◌≤◌, ◌⊎◌, ⊎_elim, Bool, true, false, if◌then◌else◌, List, [], ◌∷◌, ◌++◌, length, Some, slice_get, refl, sym, ap, subst, ◌∙◌, arith}
+use Rattle.std.specs.List.{AllByRecursion}
+use Rattle.meaning.specs.declared.put.Put.{Put}
+use Rattle.meaning.specs.Costs.{blocks_of}
+use Rattle.meaning.specs.Faults.{InSpace}
+use Rattle.meaning.specs.Log.{IsTarget, targets}
+use Rattle.meaning.specs.Maps.{total, times}
+use Rattle.meaning.specs.Regions.{space_start}
+use Rattle.meaning.proofs.MapLaws.{some_same, some_none}
+use Rattle.meaning.proofs.MapSums.{times-append}
+use Rattle.meaning.proofs.QuietLaws.{each_times}
+use Rattle.meaning.proofs.Walking.{all_front, all_back}
+use Rattle.alloctab.specs.TableState.{holds, IsFree}
+use Rattle.changeset.specs.Crashes.{IsGateOrLog}
+use Rattle.changeset.specs.Puts.{IsPutIn}
+use Rattle.changeset.specs.PutLaws.{times_head}
+use Rattle.retrieval.specs.Writing.{AreApart}
+use Rattle.volume.specs.Known.{KnownDirectory, blocks_reached}
+use Rattle.volume.specs.Live.{VolumeCore, slot, pending_at, held_reaches, current_reaches, pending_reaches, entry_reaches, IsWholePending, IsWholeCore}
+use Rattle.volume.specs.Publishing.{before, Turns}
+use Rattle.volume.specs.declared.live.LiveVersion.{LiveVersion}
+use Rattle.volume.specs.declared.pending.PendingVersion.{PendingVersion}
+use Rattle.volume.proofs.LiveBodies.{IsUsed, read_used, written_used}
+use Rattle.volume.proofs.MakingLaw.{bit_few}
+use Rattle.volume.proofs.Marking.{all_weaker}
+use Rattle.volume.proofs.Pinning.{total_at}
+use Rattle.volume.proofs.PublishingPuts.{published_times, published_in_range, published_elsewhere}
+use Rattle.volume.proofs.PublishingSlots.{reaches_parts}
+use Rattle.volume.proofs.PuttingCore.{waits}
+
+-- The version that was put into core, under its new key, is the one that was written.
+pub record IsTurned (size : ℕ) (c c' : VolumeCore) (key : ℕ) (p : PendingVersion) (v : LiveVersion) (puts : List Put) : Type 0 where
+  pub turns : Turns size c c' key p v.at v.version.ribs puts
+  pub prime : v.prime ≡ p.prime
+  pub words : v.version.words ≡ p.version.words
+  pub blocks : v.version.blocks ≡ p.version.blocks
+
+pub turned_of : (size bits : ℕ) (c c' : VolumeCore) (key : ℕ) (p : PendingVersion) (v : LiveVersion) (puts : List Put) (current : ℕ) → bits ≡ size
+    → (at : ℕ) × (ribs : List ℕ) × (turns : Turns bits c c' key p at ribs puts) × (current ≡ turns.new_key) → Some v ≡ slot c'.live current → IsTurned size c c' key p v puts
+turned_of size bits c c' key p v puts current size_is turned there =
+    subst (λ (n : ℕ). IsTurned n c c' key p v puts) size_is
+    (subst (λ (u : LiveVersion). IsTurned bits c c' key p u puts) (sym (some_same (there ∙ ap (slot c'.live) turned.3 ∙ turned.2.here))) (record { turns = turned.2; prime = refl; words = refl; blocks = refl }))
+
+-- Lists.
+
+-- one element counts in a sum
+total_place : {A : Type 0} (f : A → ℕ) (xs : List A) (i : ℕ) (x : A) → slice_get xs i ≡ Some x → f x ≤ total f xs
+total_place f [] i x is = absurd (some_none (sym is))
+total_place f (y ∷ ys) zero x is = let same = ap f (some_same is) in omega arith
+total_place f (y ∷ ys) (suc i) x is = let rest = total_place f ys i x is in omega arith
+
+apart_once : (ns : List ℕ) → ((n : ℕ) → times n ns ≤ 1) → AreApart ns
+apart_once [] once = tt
+apart_once (n ∷ ns) once = (let head = times_head n n ns refl in let one = once n in omega arith, apart_once ns (λ k. let one = once k in omega arith))
+
+-- A block of a version in use: it stands in no chain.
+pub record IsKept (size : ℕ) (c : VolumeCore) (n : ℕ) : Type 0 where
+  pub from : space_start size ≤ n
+  pub apart : total (λ d. times n d.chain.blocks) c.known.directories ≡ 0
+  pub used : IsFree c.known.table n → ⊥
+
+module _ (size : ℕ) (c : VolumeCore) (whole : IsWholeCore size c) where
+  entry_apart : (n : ℕ) → 0 < entry_reaches n c.known.directories → total (λ d. times n d.chain.blocks) c.known.directories ≡ 0
+  entry_apart n some =
+      let parts = reaches_parts n c.known.directories in
+      let bits = whole.map.bits n in
+      let few = bit_few c.known.table n in
+      omega arith
+
+  held_apart : (n : ℕ) → 0 < holds c.known.table n → total (λ d. times n d.chain.blocks) c.known.directories ≡ 0
+  held_apart n some = let none = whole.apart n some in omega arith
+
+  pub read_kept : (k : ℕ) (v : LiveVersion) → slot c.live k ≡ Some v → 0 < v.readers → (n : ℕ) → 0 < times n v.version.blocks → IsKept size c n
+  read_kept k v is some n there = record { from = used.from; apart = by v.is_current refl; used = used.used }
+    where
+      used : IsUsed size c n
+      used = read_used size c whole k v is some n there
+
+      stands : 0 < times n (blocks_reached v.at v.version)
+      stands = let parts = times-append n v.version.ribs v.version.blocks in omega arith
+
+      by : (b : Bool) → v.is_current ≡ b → total (λ d. times n d.chain.blocks) c.known.directories ≡ 0
+      by true current = entry_apart n
+          (let part = total_at (current_reaches n) refl c.live k in
+          let here = ap (current_reaches n) is ∙ ap (λ (b : Bool). if b then times n (blocks_reached v.at v.version) else 0) current in
+          let all = whole.current n in
+          let one = stands in
+          omega arith)
+      by false ended = held_apart n
+          (let part = total_at (held_reaches n) refl c.live k in
+          let here = ap (held_reaches n) is ∙ ap (λ (b : Bool). if b then 0 else times n (blocks_reached v.at v.version)) ended in
+          let all = whole.held n in
+          let one = stands in
+          omega arith)
+
+  written_held : (k : ℕ) (q : PendingVersion) → pending_at c.pending k ≡ Some q → (n : ℕ) → 0 < times n q.version.blocks → 0 < holds c.known.table n
+  written_held k q is n there =
+      let part = total_at (pending_reaches n) refl c.pending k in
+      let here = ap (pending_reaches n) is in
+      let all = whole.held n in
+      omega arith
+
+  pub written_kept : (k : ℕ) (q : PendingVersion) → pending_at c.pending k ≡ Some q → (n : ℕ) → 0 < times n q.version.blocks → IsKept size c n
+  written_kept k q is n there =
+      let used = written_used size c whole k q is n there in
+      record { from = used.from; apart = held_apart n (written_held k q is n there); used = used.used }
+
+-- The blocks of one that is published.
+
+module _ (size : ℕ) (c c' : VolumeCore) (key : ℕ) (p : PendingVersion) (v : LiveVersion) (puts : List Put) (whole : IsWholeCore size c) (turned : IsTurned size c c' key p v puts) where
+  abbrev is : Turns size c c' key p v.at v.version.ribs puts
+  is = turned.turns
+
+  waiting : IsWholePending size p
+  waiting = waits size c whole key p is.written
+
+  inside : AllByRecursion (InSpace size) (v.at ∷ (v.version.ribs ++ p.version.blocks))
+  inside = all_back (InSpace size) is.published.grown (v.at ∷ (v.version.ribs ++ p.version.blocks)) is.published.inside
+
+  in_space : AllByRecursion (InSpace size) (v.at ∷ v.version.ribs)
+  in_space = (inside.0, all_front (InSpace size) v.version.ribs p.version.blocks inside.1)
+
+  parts : (n : ℕ) → times n (is.published.grown ++ (v.at ∷ (v.version.ribs ++ p.version.blocks))) ≡ times n is.published.grown + times n (v.at ∷ v.version.ribs) + times n p.version.blocks
+  parts n =
+      let a = times-append n is.published.grown (v.at ∷ (v.version.ribs ++ p.version.blocks)) in
+      let b = times-append n (v.at ∷ v.version.ribs) p.version.blocks in
+      omega arith
+
+  -- what the retrieval blocks are written with
+
+  pub retrieval_inside : AllByRecursion (λ n. n < size) (v.at ∷ v.version.ribs)
+  retrieval_inside = all_weaker (InSpace size) (λ n. n < size) (v.at ∷ v.version.ribs) (λ n there. there.below) in_space
+
+  pub retrieval_apart : AreApart (v.at ∷ v.version.ribs)
+  retrieval_apart = apart_once (v.at ∷ v.version.ribs) (λ n. let few = is.published.fresh n in let sum = parts n in omega arith)
+
+  pub retrieval_nonzero : times 0 v.version.ribs ≡ 0
+  retrieval_nonzero = by (times 0 v.version.ribs) refl
+    where
+      by : (n : ℕ) → times 0 v.version.ribs ≡ n → n ≡ 0
+      by zero none = refl
+      by (suc n) some = absurd (let from = (each_times (InSpace size) v.version.ribs 0 in_space.1 (omega arith)).from in omega arith)
+
+  pub version_words : v.version.words ≤ 2097152
+  version_words = let few = waiting.whole.few in let same = turned.words in omega arith
+
+  pub version_enough : length v.version.blocks ≡ blocks_of v.version.words
+  version_enough = ap (λ (l : List ℕ). length l) turned.blocks ∙ waiting.whole.counted ∙ ap blocks_of (sym turned.words)
+
+  pub version_fits : AllByRecursion (λ n. n < 262144) v.version.blocks
+  version_fits = subst (AllByRecursion (λ n. n < 262144)) (sym turned.blocks)
+      (all_weaker (InSpace size) (λ n. n < 262144) p.version.blocks (λ n there. let below = there.below in let large = whole.map.volume.large in omega arith) waiting.inside)
+
+  -- which blocks are written
+
+  pub retrieval_free : (n : ℕ) → 0 < times n (v.at ∷ v.version.ribs) → IsFree c.known.table n
+  retrieval_free n there = record {
+    clear = let few = is.published.fresh n in let sum = parts n in omega arith;
+    unheld = is.unheld n (let sum = times-append n is.published.grown (v.at ∷ v.version.ribs) in omega arith);
+  }
+
+  pub puts_in_range : AllByRecursion (IsTarget size) (targets puts)
+  puts_in_range = published_in_range size c.known c'.known p.prime.ppn p.prime.file v.at _ (before is.old) puts whole.map is.published
+
+  -- a block of a version in use isn't
+  pub kept_retrieved : (n : ℕ) → IsKept size c n → 0 < times n (v.at ∷ v.version.ribs) → ⊥
+  kept_retrieved n kept there = kept.used (retrieval_free n there)
+
+  grown_free : (n : ℕ) → 0 < times n is.published.grown → IsFree c.known.table n
+  grown_free n there = record {
+    clear = let few = is.published.fresh n in let sum = parts n in omega arith;
+    unheld = is.unheld n (let sum = times-append n is.published.grown (v.at ∷ v.version.ribs) in omega arith);
+  }
+
+  kept_chain : (n : ℕ) → IsKept size c n → times n is.published.directory'.chain.blocks ≡ 0
+  kept_chain n kept = by (times n is.published.grown) refl
+    where
+      by : (k : ℕ) → times n is.published.grown ≡ k → times n is.published.directory'.chain.blocks ≡ 0
+      by zero none =
+          let all = published_times size c.known c'.known p.prime.ppn p.prime.file v.at _ (before is.old) puts whole.map is.published n in
+          let part = total_place (λ (d : KnownDirectory). times n d.chain.blocks) c.known.directories is.published.place is.published.directory is.published.directory_at in
+          let apart = kept.apart in
+          omega arith
+      by (suc k) some = absurd (kept.used (grown_free n (omega arith)))
+
+  pub kept_put : (n : ℕ) → IsKept size c n → IsGateOrLog size n ⊎ IsPutIn puts n → ⊥
+  kept_put n kept = ⊎_elim
+      (λ log. let from = kept.from in let below = log.1 in omega arith)
+      (published_elsewhere size c.known c'.known p.prime.ppn p.prime.file v.at _ (before is.old) puts whole.map is.published n kept.from (kept_chain n kept))

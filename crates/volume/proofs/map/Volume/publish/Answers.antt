@@ -1,0 +1,87 @@
+use Rattle.std.proofs.Common.{◌↔◌, ◌⊎◌, ◌+◌, ◌-◌, ◌*◌, ◌<◌, ℕ, length, Err, IsErrOf, sym, ap, subst, ◌∙◌}
+use Rattle.meaning.specs.Costs.{version_cost}
+use Rattle.meaning.specs.Retrieval.{most_blocks}
+use Rattle.meaning.specs.Splices.{splice, length_after}
+use Rattle.meaning.proofs.MapLaws.{some_same}
+use Rattle.meaning.proofs.SpliceLaws.{length-splice}
+use Rattle.alloctab.specs.TableState.{space}
+use Rattle.directory.specs.Chains.{viewed}
+use Rattle.volume.specs.Cores.{file_view}
+use Rattle.volume.specs.Live.{VolumeCore, pending_at}
+use Rattle.volume.specs.LiveCores.{core_of}
+use Rattle.volume.specs.Publishing.{IsPlaced, IsSupplied}
+use Rattle.volume.specs.declared.error.CallError.TheVariants.{Refused}
+use Rattle.meaning.specs.declared.code.ErrorCode.TheVariants.{NoRoom}
+use Rattle.volume.specs.declared.pending.PendingVersion.{PendingVersion}
+use Rattle.volume.proofs.PuttingCore.{some_of}
+use Rattle.volume.proofs.Publications.{unchanged_leaves, quiet_leaves_either, both_leave, placed_on, supplied_on, ribs_on}
+use Rattle.volume.proofs.map.Volume.publish.Goals as goal
+
+pub returns-in_err-blocks-clause-crash : goal.returns-in_err-blocks-clause-crash
+returns-in_err-blocks-clause-crash g c h f rests p there body long has =
+    unchanged_leaves (g.D.Disk.state c.args.self.now.disk) f _ rests (λ d left. g.met.D.Disk.only_now c.args.self.now.disk d h left)
+
+pub returns-in_default-clause-crash : goal.returns-in_default-clause-crash
+returns-in_default-clause-crash g c h f rests p there body long has =
+    unchanged_leaves (g.D.Disk.state c.args.self.now.disk) f _ rests (λ d left. g.met.D.Disk.only_now c.args.self.now.disk d h left)
+
+pub returns-in-Err-clause-crash : goal.returns-in-Err-clause-crash
+returns-in-Err-clause-crash g c h f rests p there body long has =
+    quiet_leaves_either (g.D.Disk.state c.args.self.now.disk) (g.D.Disk.state c.put_words.new.self.disk) f _ (c.put_words.ensures.quiet h f rests)
+
+pub publish_written-requires-clause-placed : goal.publish_written-requires-clause-placed
+publish_written-requires-clause-placed g c q here =
+    let old = core_of c.args.self.now.map in
+    let core = core_of c.find_supplies.new.map in
+    let same = c.find_supplies.ensures.core in
+    let p = some_of (pending_at old.pending c.args.pending.key) c.requires.live in
+    let put = c.in-Ok-put_words.ensures.put p.0 (ap (λ (x : VolumeCore). pending_at x.pending c.args.pending.key) same ∙ p.1) in
+    subst (IsPlaced (core_of c.put_words.new.self.map)) (some_same (sym put.1 ∙ here))
+    (placed_on core (core_of c.put_words.new.self.map) c.put_words.ensures.known p.0 put.0 (subst (λ (x : VolumeCore). IsPlaced x p.0) (sym same) (c.requires.placed p.0 p.1)))
+
+pub publish_written-requires-clause-ribs : goal.publish_written-requires-clause-ribs
+publish_written-requires-clause-ribs g c q here =
+    let s' = g.D.Disk.state c.put_words.new.self.disk in
+    let old = core_of c.args.self.now.map in
+    let same = c.find_supplies.ensures.core in
+    let p = some_of (pending_at old.pending c.args.pending.key) c.requires.live in
+    let put = c.in-Ok-put_words.ensures.put p.0 (ap (λ (x : VolumeCore). pending_at x.pending c.args.pending.key) same ∙ p.1) in
+    let is = some_same (sym put.1 ∙ here) in
+    ribs_on s'.size (core_of c.put_words.new.self.map) c.args.pending.key q _ c.in_ok-blocks.blocks _ c.put_words.ensures.sound.whole here (ap (λ (x : PendingVersion). x.version.words) (sym is) ∙ put.2) (c.in_ok-blocks.ensures.blocks p.0 p.1) c.in-Ok.ensures.ribs
+
+pub publish_written-requires-clause-supplied : goal.publish_written-requires-clause-supplied
+publish_written-requires-clause-supplied g c q here =
+    let old = core_of c.args.self.now.map in
+    let core = core_of c.find_supplies.new.map in
+    let same = c.find_supplies.ensures.core in
+    let p = some_of (pending_at old.pending c.args.pending.key) c.requires.live in
+    let put = c.in-Ok-put_words.ensures.put p.0 (ap (λ (x : VolumeCore). pending_at x.pending c.args.pending.key) same ∙ p.1) in
+    let supplies = c.in-Ok.supplies in
+    subst (λ (x : PendingVersion). IsSupplied (core_of c.put_words.new.self.map) x (viewed file_view supplies.room) supplies.keys.items) (some_same (sym put.1 ∙ here))
+    (supplied_on core (core_of c.put_words.new.self.map) c.put_words.ensures.known c.put_words.ensures.keys p.0 put.0 (viewed file_view supplies.room) supplies.keys.items
+    (subst (λ (x : VolumeCore). IsSupplied x p.0 (viewed file_view supplies.room) supplies.keys.items) (sym same) (c.in-Ok.ensures.supplied p.0 p.1)))
+
+pub returns-in-Ok-put_words-clause-crash : goal.returns-in-Ok-put_words-clause-crash
+returns-in-Ok-put_words-clause-crash g c h f rests p there body long has =
+    let s = g.D.Disk.state c.args.self.now.disk in
+    let mid = g.D.Disk.state c.put_words.new.self.disk in
+    let put = c.in-Ok-put_words.ensures.put p (ap (λ (x : VolumeCore). pending_at x.pending c.args.pending.key) c.find_supplies.ensures.core ∙ there) in
+    let h' = c.put_words.ensures.same.honest h in
+    both_leave s mid (g.D.Disk.state c.publish_written.new.self.disk) f _ c.put_words.ensures.same.size (c.put_words.ensures.quiet h f rests)
+    (c.publish_written.ensures.crash h' f (c.put_words.ensures.rests h f rests) (record p { version = put.0 }) put.1 (splice body c.args.block c.args.words.now)
+    (length-splice body c.args.block c.args.words.now ∙ ap (λ (n : ℕ). length_after n c.args.block (length c.args.words.now)) long ∙ sym put.2) (put.3 h body long has))
+
+pub returns-in-Ok-put_words-clause-done : goal.returns-in-Ok-put_words-clause-done
+returns-in-Ok-put_words-clause-done g c h f rests p there body long has =
+    let put = c.in-Ok-put_words.ensures.put p (ap (λ (x : VolumeCore). pending_at x.pending c.args.pending.key) c.find_supplies.ensures.core ∙ there) in
+    let h' = c.put_words.ensures.same.honest h in
+    c.publish_written.ensures.done h' f (c.put_words.ensures.rests h f rests) (record p { version = put.0 }) put.1 (splice body c.args.block c.args.words.now)
+    (length-splice body c.args.block c.args.words.now ∙ ap (λ (n : ℕ). length_after n c.args.block (length c.args.words.now)) long ∙ sym put.2) (put.3 h body long has)
+
+pub returns-in-Err-clause-room : goal.returns-in-Err-clause-room
+returns-in-Err-clause-room g c alive p there =
+    let same = c.find_supplies.ensures.core in
+    let room = c.in-Err.ensures.room alive p (ap (λ (x : VolumeCore). pending_at x.pending c.args.pending.key) same ∙ there) in
+    let s = g.D.Disk.state c.args.self.now.disk in
+    let words = length_after p.version.words c.args.block (length c.args.words.now) in
+    subst (λ (x : VolumeCore). IsErrOf {T = Unit {0}} (Err c.in-Err.error) (Refused NoRoom) ↔ ((0 < length c.args.words.now) × ((most_blocks * 128 < words) ⊎ (space s.size < x.known.table.booked + (version_cost words - version_cost p.version.words))))) same room

@@ -1,0 +1,231 @@
+-- A version that was written becomes the file of its name: what this does to core, to the table and to the disk.
+use Rattle.std.specs.Prelude.{◌≡◌, ◌⊎◌, ℕ, ◌+◌, ◌/◌, ◌<◌, ◌≤◌, ◌==◌, true, false, if◌then◌else◌, List, [], ◌∷◌, ◌++◌, length, replicate, slice_get, slice_set, Option, None, Some, is_none}
+use Rattle.std.specs.List.{AllByRecursion, AllZip}
+use Rattle.std.specs.Ordering.{nat_cmp}
+use Rattle.std.specs.FinMap.Entries.{find}
+use Rattle.words36.specs.declared.names.FileName.{FileName}
+use Rattle.meaning.specs.declared.put.Put.{Put}
+use Rattle.meaning.specs.Changes.{file_put}
+use Rattle.meaning.specs.Costs.{cost_of_blocks}
+use Rattle.meaning.specs.Directories.{FileEntry, file_words, IsFileEntry}
+use Rattle.meaning.specs.Faults.{InSpace}
+use Rattle.meaning.specs.Files.{File, Files, Directory, name_cmp}
+use Rattle.meaning.specs.Maps.{get, insert, from_entries, total, times}
+use Rattle.alloctab.specs.TableState.{TableState, IsTable, IsChanged, IsFree, bit, holds}
+use Rattle.directory.specs.Chains.{ChainState, IsChain}
+use Rattle.directory.specs.Edits.{StandsAt, IsRoom, PutsChain}
+use Rattle.meaning.specs.Regions.{table_blocks}
+use Rattle.retrieval.specs.Modes.{mode_number}
+use Rattle.retrieval.specs.Versions.{VersionState}
+use Rattle.retrieval.specs.Writing.{rib_count}
+use Rattle.retrieval.specs.declared.prime.Prime.{Prime}
+use Rattle.volume.specs.Beginning.{is_absent, IsDirectoryOf}
+use Rattle.volume.specs.Known.{KnownVersion, KnownDirectory, Known, blocks_reached, reaches_in_entries, cost_of_version}
+use Rattle.volume.specs.Live.{VolumeCore, as_known, slot, pending_at, IsKeyed, held_reaches, held_cost}
+use Rattle.volume.specs.Making.{PutsTable}
+use Rattle.volume.specs.declared.live.LiveVersion.{LiveVersion}
+use Rattle.volume.specs.declared.pending.PendingVersion.{PendingVersion}
+
+-- The table.
+
+-- Where a bit is another, its block of the table is marked; and what was marked is.
+pub record Marks (t u : TableState) : Type 0 where
+  pub sound : IsTable u
+  pub size : u.size ≡ t.size
+  pub stays : (i : ℕ) → IsChanged t i → IsChanged u i
+  pub moved : (n : ℕ) → (IsChanged u (n / 4608) → ⊥) → bit u n ≡ bit t n
+
+-- The bits of these blocks are set, and nothing else changes.
+pub record SetsBits (t u : TableState) (blocks : List ℕ) : Type 0 where
+  pub marks : Marks t u
+  pub held : u.held ≡ t.held
+  pub booked : u.booked ≡ t.booked
+  pub bits : (n : ℕ) → bit u n ≡ bit t n + times n blocks
+
+-- They are cleared.
+pub record ClearsBits (t u : TableState) (blocks : List ℕ) : Type 0 where
+  pub marks : Marks t u
+  pub held : u.held ≡ t.held
+  pub booked : u.booked ≡ t.booked
+  pub bits : (n : ℕ) → bit u n + times n blocks ≡ bit t n
+
+-- Blocks that were held come into use: their bits are set, and each is held once less.
+pub record Brings (t u : TableState) (blocks : List ℕ) : Type 0 where
+  pub marks : Marks t u
+  pub booked : u.booked ≡ t.booked
+  pub bits : (n : ℕ) → bit u n ≡ bit t n + times n blocks
+  pub held : (n : ℕ) → holds u n + times n blocks ≡ holds t n
+
+-- A version that was being written comes into use, with prime block `at`, its ribs, and the block by which a chain grows:
+-- these were free.
+pub record BringsVersion (t u : TableState) (grown : List ℕ) (at : ℕ) (v : VersionState) : Type 0 where
+  pub marks : Marks t u
+  pub booked : u.booked ≡ t.booked
+  pub bits : (n : ℕ) → bit u n ≡ bit t n + times n (grown ++ blocks_reached at v)
+  pub held : (n : ℕ) → holds u n + times n v.blocks ≡ holds t n
+  pub fresh : (n : ℕ) → bit t n + times n (grown ++ blocks_reached at v) ≤ 1
+  pub free : (n : ℕ) → 0 < times n (grown ++ at ∷ v.ribs) → IsFree t n × InSpace t.size n
+
+-- A version goes out of use: its bits are cleared. While readers hold it, its blocks are held and its cost stays booked.
+pub record Retires (t u : TableState) (v : LiveVersion) (left : Option LiveVersion) : Type 0 where
+  pub marks : Marks t u
+  pub bits : (n : ℕ) → bit u n + times n (blocks_reached v.at v.version) ≡ bit t n
+  pub held : (n : ℕ) → holds u n ≡ holds t n + held_reaches n left
+  pub booked : u.booked + cost_of_blocks (length v.version.blocks) ≡ t.booked + held_cost left
+
+-- Files.
+
+-- the file that a version is, with these words
+abbrev pub file_of : Prime → List ℕ → File
+file_of prime body = record { protection = prime.protection; mode = mode_number prime.mode; time = prime.moment.minute; date = prime.moment.date; body = body }
+
+abbrev pub files_put_in : Option (Directory File) → Files File → ℕ → FileName → File → Files File
+files_put_in None files ppn name file = files
+files_put_in (Some d) files ppn name file = insert files ppn (file_put d name file)
+
+-- the files with this one under its name, in a directory that there is
+abbrev pub files_published : Files File → ℕ → FileName → File → Files File
+files_published files ppn name file = files_put_in (get files ppn) files ppn name file
+
+-- One directory.
+
+-- the version that an entry had, with its prime block
+abbrev pub Before : Type 0
+Before = Option (ℕ × KnownVersion)
+
+-- how often a block stands in it, and what it cost
+abbrev pub given_up : ℕ → Before → ℕ
+given_up n None = 0
+given_up n (Some v) = times n (blocks_reached v.0 v.1.version)
+
+abbrev pub cost_before : Before → ℕ
+cost_before None = 0
+cost_before (Some v) = cost_of_version v.1
+
+-- how many entries the directory has more without one before
+abbrev pub added : Before → ℕ
+added None = 1
+added (Some v) = 0
+
+-- The name has this version in the directory, or none.
+abbrev pub IsNamed : KnownDirectory → FileName → Before → Type 0
+IsNamed d name None = find name_cmp name d.chain.entries ≡ None
+IsNamed d name (Some v) = (i : ℕ) × StandsAt name_cmp d.chain.entries name v.0 i × (slice_get d.versions i ≡ Some v.1)
+
+-- The name has this prime block and version now: in the place of those before, or behind the others.
+pub record IsEntryPut (d d' : KnownDirectory) (name : FileName) (at : ℕ) (v : KnownVersion) (old : Before) : Type 0 where
+  pub was : IsNamed d name old
+  pub chain : IsChain name_cmp IsFileEntry d'.chain
+  pub aligned : length d'.versions ≡ length d'.chain.entries
+  pub count : length d'.chain.entries ≡ length d.chain.entries + added old
+  pub names : from_entries {R = name_cmp} d'.chain.entries ≡ insert (from_entries d.chain.entries) name at
+  -- each entry is the new one, or one of another name, as it was
+  pub each : (i : ℕ) (e : FileEntry) (u : KnownVersion) → slice_get d'.chain.entries i ≡ Some e → slice_get d'.versions i ≡ Some u
+      → ((e ≡ (name, at)) × (u ≡ v)) ⊎ ((e.0 ≡ name → ⊥) × (j : ℕ) × (slice_get d.chain.entries j ≡ Some e) × (slice_get d.versions j ≡ Some u))
+  pub reaches : (n : ℕ) → reaches_in_entries n d'.chain.entries d'.versions + given_up n old ≡ reaches_in_entries n d.chain.entries d.versions + times n (blocks_reached at v.version)
+  pub cost : total cost_of_version d'.versions + cost_before old ≡ total cost_of_version d.versions + cost_of_version v
+
+-- The map.
+
+-- The version under prime block `at` has become the file of its name in core, and these puts will make it so on
+-- the disk.
+pub record IsPublished (size : ℕ) (k k' : Known) (ppn : ℕ) (name : FileName) (at : ℕ) (v : KnownVersion) (old : Before) (puts : List Put) : Type 0 where
+  pub place : ℕ
+  pub word : ℕ × ℕ
+  pub there : StandsAt nat_cmp k.master.entries ppn word place
+  pub directory : KnownDirectory
+  pub directory' : KnownDirectory
+  pub directory_at : slice_get k.directories place ≡ Some directory
+  pub master : k'.master ≡ k.master
+  pub directories : k'.directories ≡ slice_set k.directories place directory'
+  -- the block that its chain takes, where its last one is full
+  pub grown : List ℕ
+  pub blocks : directory'.chain.blocks ≡ directory.chain.blocks ++ grown
+  pub entry : IsEntryPut directory directory' name at v old
+  pub chain_puts : List Put
+  pub put_chain : PutsChain file_words directory.chain directory'.chain [] chain_puts
+  pub few : length chain_puts ≤ 2
+  -- the blocks that come into use were in none
+  pub inside : AllByRecursion (InSpace size) (grown ++ blocks_reached at v.version)
+  pub fresh : (n : ℕ) → bit k.table n + times n (grown ++ blocks_reached at v.version) ≤ 1
+  pub size_is : k'.table.size ≡ k.table.size
+  pub bits : (n : ℕ) → bit k'.table n + given_up n old ≡ bit k.table n + times n (grown ++ blocks_reached at v.version)
+  pub put : PutsTable size k.table k'.table chain_puts puts
+
+-- Core.
+
+-- A version that was an entry's, with its key; there may have been none.
+abbrev pub Entered : Type 0
+Entered = Option (ℕ × LiveVersion)
+
+abbrev pub before : Entered → Before
+before None = None
+before (Some o) = Some (o.1.at, as_known o.1)
+
+-- what is left of it: nothing, or while readers hold it a version that is no longer current
+abbrev pub left_of : Entered → Option LiveVersion
+left_of None = None
+left_of (Some o) = if o.1.readers == 0 then None else Some (record o.1 { is_current = false })
+
+abbrev pub IsEnded : List (Option LiveVersion) → List (Option LiveVersion) → Entered → Type 0
+IsEnded live live' None = Unit {0}
+IsEnded live live' (Some o) = (slot live o.0 ≡ Some o.1) × (o.1.is_current ≡ true) × (slot live' o.0 ≡ left_of (Some o))
+
+abbrev pub HasOtherKey : Entered → ℕ → Type 0
+HasOtherKey None k = Unit {0}
+HasOtherKey (Some o) k = k ≡ o.0 → ⊥
+
+-- The version under `key`, which was being written, has become the file of its name, with prime block `at` and these ribs.
+pub record Turns (size : ℕ) (c c' : VolumeCore) (key : ℕ) (p : PendingVersion) (at : ℕ) (ribs : List ℕ) (puts : List Put) : Type 0 where
+  pub old : Entered
+  pub published : IsPublished size c.known c'.known p.prime.ppn p.prime.file at (record { prime = p.prime; version = record p.version { ribs = ribs } }) (before old) puts
+  pub few_ribs : length ribs ≡ rib_count (length p.version.blocks)
+  -- it is written no more
+  pub written : pending_at c.pending key ≡ Some p
+  pub gone : pending_at c'.pending key ≡ None
+  pub other_pending : (k : ℕ) → (k ≡ key → ⊥) → pending_at c'.pending k ≡ pending_at c.pending k
+  -- its name was new where it was to be
+  pub is_new : p.is_new ≡ is_none old
+  -- it is current, under a key of its own, and the one before is not
+  pub new_key : ℕ
+  pub vacant : slot c.live new_key ≡ None
+  pub here : slot c'.live new_key ≡ Some (record { prime = p.prime; version = record p.version { ribs = ribs }; at = at; readers = 0; is_current = true })
+  pub ended : IsEnded c.live c'.live old
+  pub others : (k : ℕ) → (k ≡ new_key → ⊥) → HasOtherKey old k → slot c'.live k ≡ slot c.live k
+  pub keyed : AllZip (IsKeyed c'.live) c'.known.directories c'.keys
+  -- its blocks are held no more; those of the one before are while readers hold it
+  pub unheld : (n : ℕ) → 0 < times n (published.grown ++ at ∷ ribs) → holds c.known.table n ≡ 0
+  pub held : (n : ℕ) → holds c'.known.table n + times n p.version.blocks ≡ holds c.known.table n + held_reaches n (left_of old)
+  pub booked : c'.known.table.booked + cost_before (before old) ≡ c.known.table.booked + held_cost (left_of old)
+  pub unchanged : c'.known.table.changed ≡ replicate (table_blocks size) false
+  -- no block is held past the end of the disk
+  pub sound : IsTable c'.known.table
+
+-- A version that may be published: its name isn't zero, its directory is there, and has an entry of its name just
+-- where the version isn't new.
+pub record IsPlaced (c : VolumeCore) (p : PendingVersion) : Type 0 where
+  pub named : 0 < p.prime.file.name
+  pub directory : KnownDirectory
+  pub there : IsDirectoryOf c p.prime.ppn directory
+  pub is_new : p.is_new ≡ is_absent p.prime.file directory
+
+-- Lists with a place for its entry and its key, where its name is new.
+pub record IsSupplied (c : VolumeCore) (p : PendingVersion) (room : ChainState FileEntry) (keys : List ℕ) : Type 0 where
+  pub fits : (d : KnownDirectory) → IsDirectoryOf c p.prime.ppn d → IsRoom name_cmp d.chain p.prime.file room
+  pub longer : (i : ℕ) (w : ℕ × ℕ) (d : KnownDirectory) (ks : List ℕ) → StandsAt nat_cmp c.known.master.entries p.prime.ppn w i → slice_get c.known.directories i ≡ Some d → slice_get c.keys i ≡ Some ks
+      → find name_cmp p.prime.file d.chain.entries ≡ None → (k : ℕ) × (keys ≡ ks ++ k ∷ [])
+
+-- What a publication does to core: the version has its last words put, so that it has so many, and turns into the file of its name.
+pub record IsPublishedCore (size : ℕ) (c c' : VolumeCore) (key : ℕ) (p : PendingVersion) (words : ℕ) : Type 0 where
+  -- core with the last words put
+  pub put : VolumeCore
+  pub version : VersionState
+  pub length_is : version.words ≡ words
+  pub live : put.live ≡ c.live
+  pub keys : put.keys ≡ c.keys
+  pub known : put.known ≡ record c.known { table = put.known.table }
+  pub others : (k : ℕ) → (k ≡ key → ⊥) → pending_at put.pending k ≡ pending_at c.pending k
+  pub at : ℕ
+  pub ribs : List ℕ
+  pub puts : List Put
+  pub turns : Turns size put c' key (record p { version = version }) at ribs puts

@@ -1,0 +1,57 @@
+ghost use Rattle.std.specs.Prelude.{◌≡◌, ◌+◌, ◌<◌, ◌≤◌, ◌^◌, ℕ};
+ghost use Rattle.meaning.specs.Maps.{times};
+ghost use Rattle.alloctab.specs.TableState.{IsTable, bit, holds};
+ghost use Rattle.volume.specs.Publishing.{SetsBits, ClearsBits, Brings};
+
+use crate::live::unhold_all;
+use alloctab::Table;
+
+/// Sets the bits of blocks, each of which is clear.
+pub(crate) fn set_all(table: &mut Table, blocks: &[u32])
+    requires sound { IsTable table.old }
+    requires inside { (n : ℕ) → 0 < times n blocks.now → n < table.old.size }
+    requires clear { (n : ℕ) → bit table.old n + times n blocks.now ≤ 1 }
+    ensures { SetsBits table.old table.new blocks.now }
+{
+    for &block in blocks {
+        table.set(block);
+    }
+}
+
+/// Clears the bits of blocks, each of which is set.
+pub(crate) fn clear_all(table: &mut Table, blocks: &[u32])
+    requires sound { IsTable table.old }
+    requires inside { (n : ℕ) → 0 < times n blocks.now → n < table.old.size }
+    requires set { (n : ℕ) → times n blocks.now ≤ bit table.old n }
+    ensures { ClearsBits table.old table.new blocks.now }
+{
+    for &block in blocks {
+        table.clear(block);
+    }
+}
+
+/// Holds each of these blocks once more.
+pub(crate) fn hold_all(table: &mut Table, blocks: &[u32])
+    requires sound { IsTable table.old }
+    requires inside { (n : ℕ) → 0 < times n blocks.now → n < table.old.size }
+    requires fits { (n : ℕ) → holds table.old n + times n blocks.now < 2 ^ 32 }
+    ensures held { (n : ℕ) → holds table.new n ≡ holds table.old n + times n blocks.now }
+    ensures rest { table.new ≡ record table.old { held = table.new.held } }
+    ensures sound { IsTable table.new }
+{
+    for &block in blocks {
+        table.hold(block);
+    }
+}
+
+/// Sets the bits of blocks that are held, and holds each once less.
+pub(crate) fn bring_all(table: &mut Table, blocks: &[u32])
+    requires sound { IsTable table.old }
+    requires held { (n : ℕ) → times n blocks.now ≤ holds table.old n }
+    requires clear { (n : ℕ) → bit table.old n + times n blocks.now ≤ 1 }
+    ensures { Brings table.old table.new blocks.now }
+{
+    set_all(table, blocks);
+    unhold_all(table, blocks);
+    let _booked = table.booked(); // any table is one as it should be
+}

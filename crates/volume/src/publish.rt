@@ -1,0 +1,206 @@
+ghost use Rattle.std.specs.Prelude.{◌≡◌, ◌⊎◌, ◌↔◌, ◌+◌, ◌-◌, ◌*◌, ◌<◌, ◌≤◌, ℕ, Bool, List, false, true, length, OnOk, OnErr, IfOk, IfErr, IsErrOf, IsSome, Some, None};
+ghost use Rattle.blockdisk.specs.Disk.{LeavesOnly, SameDisk, one_more};
+ghost use Rattle.meaning.specs.declared.code.ErrorCode.{ErrorCode};
+ghost use Rattle.meaning.specs.declared.code.ErrorCode.TheVariants.{NoRoom};
+ghost use Rattle.meaning.specs.declared.put.Put.{Put};
+ghost use Rattle.meaning.specs.Costs.{blocks_of, version_cost};
+ghost use Rattle.meaning.specs.Files.{File, Files};
+ghost use Rattle.meaning.specs.Maps.{times};
+ghost use Rattle.meaning.specs.Retrieval.{HasBody, most_blocks};
+ghost use Rattle.meaning.specs.Splices.{splice, length_after};
+ghost use Rattle.alloctab.specs.TableState.{space};
+ghost use Rattle.directory.specs.Chains.{viewed};
+ghost use Rattle.retrieval.specs.Versions.{VersionState};
+ghost use Rattle.retrieval.specs.Writing.{rib_count};
+ghost use Rattle.slab.specs.Slab.{HasRoomFor};
+ghost use Rattle.volume.specs.Cores.{file_view};
+ghost use Rattle.volume.specs.Live.{VolumeCore, slot, pending_at, IsWholeCore};
+ghost use Rattle.volume.specs.LiveCores.{core_of};
+ghost use Rattle.volume.specs.Publishing.{Turns, IsPlaced, IsPublishedCore, IsSupplied, file_of, files_published};
+ghost use Rattle.volume.specs.Rest.{IsSound, RestsAt, StandsForEither, KeepsRead, KeepsWritten};
+ghost use Rattle.volume.specs.declared.error.CallError.TheVariants.{Refused, Device, Failed, NoMemory};
+ghost use Rattle.volume.specs.declared.live.LiveVersion.{LiveVersion};
+ghost use Rattle.volume.specs.declared.pending.PendingVersion.{PendingVersion};
+
+use crate::CallError;
+use crate::event::commit_puts;
+use crate::handles::Pending;
+use crate::live::LiveMap;
+use crate::map::Volume;
+use crate::put::{growth, length_with};
+use crate::supplies::{Supplies, find_supplies};
+use crate::turn::make_current;
+use blockdisk::Disk;
+use changeset::ChangeSet;
+use meaning::ErrorCode;
+use retrieval::write_retrieval_blocks;
+use std::alloc::Global;
+use words36::{BLOCK_WORDS, Word};
+
+/// How many data blocks the version under a key has once so many words are put at a block, counted from 1.
+///
+/// # Errors
+///
+/// `Refused(NoRoom)` where they can't be put: no file may have as many, or they cost more than there is room for.
+fn last_blocks(map: &LiveMap, key: usize, block: u32, count: usize) -> Result<usize, CallError>
+    requires whole { IsWholeCore map.now.table.size (core_of map.now) }
+    requires there { IsSome (pending_at (core_of map.now).pending key) }
+    requires first { 0 < block }
+    ensures blocks { IfOk result (λ blocks. (p : PendingVersion) → pending_at (core_of map.now).pending key ≡ Some p → blocks ≡ blocks_of (length_after p.version.words block count)) }
+    ensures room { (p : PendingVersion) → pending_at (core_of map.now).pending key ≡ Some p
+        → (IsErrOf result (Refused NoRoom) ↔ ((0 < count) × ((most_blocks * 128 < length_after p.version.words block count)
+        ⊎ (space map.now.table.size < map.now.table.booked + (version_cost (length_after p.version.words block count) - version_cost p.version.words))))) }
+    ensures only { IfErr result (λ error. error ≡ Refused NoRoom) }
+{
+    let Some(pending) = map.pending.get(key) else {
+        unreachable!() // there is a version
+    };
+    let version = &pending.version;
+    if count == 0 {
+        return Ok(version.blocks().len());
+    }
+    match growth(version, block, count) {
+        Some(more) if map.table.can_book(more) => {}
+        _ => return Err(CallError::Refused(ErrorCode::NoRoom)),
+    }
+    match length_with(version.length(), block, count) {
+        Some(words) => Ok(words.div_ceil(BLOCK_WORDS as u32) as usize),
+        None => unreachable!(), // they can be put
+    }
+}
+
+impl<D: Disk> Volume<D> {
+    /// Publishes the version under a key, all of whose words are put: a plan in core with the puts that it asks
+    /// for, then its retrieval blocks, then the puts in one change.
+    ///
+    /// # Errors
+    ///
+    /// `Device` where the device failed, and the volume with it.
+    fn publish_written(&mut self, key: usize, supplies: Supplies) -> Result<(), CallError>
+        requires sound { IsSound (D.state self.old.disk) (core_of self.old.map) false }
+        requires alive { self.old.failed ≡ false }
+        requires there { IsSome (pending_at (core_of self.old.map).pending key) }
+        requires placed { (p : PendingVersion) → pending_at (core_of self.old.map).pending key ≡ Some p → IsPlaced (core_of self.old.map) p }
+        requires ribs { (p : PendingVersion) → pending_at (core_of self.old.map).pending key ≡ Some p → length supplies.ribs.items ≡ rib_count (length p.version.blocks) }
+        requires supplied { (p : PendingVersion) → pending_at (core_of self.old.map).pending key ≡ Some p → IsSupplied (core_of self.old.map) p (viewed file_view supplies.room) supplies.keys.items }
+        requires slot { HasRoomFor self.old.map.versions 1 }
+
+        ensures sound { IsSound (D.state self.new.disk) (core_of self.new.map) self.new.failed }
+        ensures turned { (p : PendingVersion) → pending_at (core_of self.old.map).pending key ≡ Some p
+            → (at : ℕ) × (ribs : List ℕ) × (puts : List Put) × Turns (D.state self.old.disk).size (core_of self.old.map) (core_of self.new.map) key p at ribs puts }
+        ensures crash { (D.state self.old.disk).honest → (f : Files File) → RestsAt (D.state self.old.disk) f → (p : PendingVersion) → pending_at (core_of self.old.map).pending key ≡ Some p
+            → (body : List ℕ) → length body ≡ p.version.words → HasBody (D.state self.old.disk).contents p.version.blocks body
+            → LeavesOnly (D.state self.old.disk) (D.state self.new.disk) (StandsForEither (D.state self.old.disk).size f (files_published f p.prime.ppn p.prime.file (file_of p.prime body))) }
+        ensures done { (D.state self.old.disk).honest → (f : Files File) → RestsAt (D.state self.old.disk) f → (p : PendingVersion) → pending_at (core_of self.old.map).pending key ≡ Some p
+            → (body : List ℕ) → length body ≡ p.version.words → HasBody (D.state self.old.disk).contents p.version.blocks body
+            → OnOk result (RestsAt (D.state self.new.disk) (files_published f p.prime.ppn p.prime.file (file_of p.prime body))) }
+        // The blocks of other versions stay.
+        ensures readers { (D.state self.old.disk).honest → (k : ℕ) (v : LiveVersion) → slot (core_of self.old.map).live k ≡ Some v → 0 < v.readers
+            → (n : ℕ) → 0 < times n v.version.blocks → (D.state self.new.disk).contents n ≡ (D.state self.old.disk).contents n }
+        ensures writers { (D.state self.old.disk).honest → (k : ℕ) (q : PendingVersion) → (k ≡ key → ⊥) → pending_at (core_of self.old.map).pending k ≡ Some q
+            → (n : ℕ) → 0 < times n q.version.blocks → (D.state self.new.disk).contents n ≡ (D.state self.old.disk).contents n }
+
+        ensures only { IfErr result (λ error. error ≡ Device) }
+        ensures device { IsErrOf result Device → self.new.failed ≡ true }
+        ensures still { OnOk result (self.new.failed ≡ false) }
+        ensures counted { IsErrOf result Device → (D.state self.new.disk).failures ≡ one_more (D.state self.old.disk).failures }
+        ensures served { OnOk result ((D.state self.new.disk).failures ≡ (D.state self.old.disk).failures) }
+        ensures same { SameDisk (D.state self.old.disk) (D.state self.new.disk) }
+    {
+        let mut set = ChangeSet::new();
+        let current = make_current(&mut self.map, key, supplies, &mut set);
+        let Some(version) = self.map.versions.get(current) else {
+            unreachable!() // it was put there
+        };
+        let written = write_retrieval_blocks(
+            &mut self.disk,
+            version.at,
+            &version.prime,
+            &version.version,
+        );
+        if written.is_err() {
+            self.failed = true; // nothing of core is used any more
+            return Err(CallError::Device);
+        }
+        match commit_puts(&mut self.disk, &set) {
+            Ok(()) => Ok(()),
+            Err(_) => {
+                self.failed = true; // nothing of core is used any more
+                Err(CallError::Device)
+            }
+        }
+    }
+
+    /// Publishes a version that is being written, once the words of a last buffer are put at block `block`, counted
+    /// from 1: it becomes the file of its name, in the place of the one before or as a new one, by one change of the
+    /// directory and the allocation table. A crash finds the files from before, or those with this one whole. The
+    /// version before stays for the readers that hold it, and takes its blocks until the last of them lets go.
+    ///
+    /// # Errors
+    ///
+    /// `Failed` where the volume failed before. `Refused` with `NoRoom` where the last words find no room, as of
+    /// `put_words`; `NoMemory` where core can't grow. All is as before then. `Device` where the device failed, and the
+    /// volume with it: a later start finds the files with the version, or those from before. `Failed`, and the
+    /// volume with it, where a block of the version that was written is damaged.
+    pub fn publish(
+        &mut self,
+        alloc: Global,
+        pending: Pending,
+        block: u32,
+        words: &[Word],
+    ) -> Result<(), CallError>
+        requires sound { IsSound (D.state self.old.disk) (core_of self.old.map) self.old.failed }
+        requires live { IsSome (pending_at (core_of self.old.map).pending pending.key) }
+        requires first { 0 < block }
+        // Nobody has made its name meanwhile, or taken it away, as claims see to.
+        requires placed { (p : PendingVersion) → pending_at (core_of self.old.map).pending pending.key ≡ Some p → IsPlaced (core_of self.old.map) p }
+
+        ensures sound { IsSound (D.state self.new.disk) (core_of self.new.map) self.new.failed }
+
+        // Let all that a crash may leave stand for f, and the version have this body. Then a crash at any moment leaves
+        // what stands for f, or for f with the version, its last words put, as the file of its name.
+        ensures crash { (D.state self.old.disk).honest → (f : Files File) → RestsAt (D.state self.old.disk) f → (p : PendingVersion) → pending_at (core_of self.old.map).pending pending.key ≡ Some p
+            → (body : List ℕ) → length body ≡ p.version.words → HasBody (D.state self.old.disk).contents p.version.blocks body
+            → LeavesOnly (D.state self.old.disk) (D.state self.new.disk) (StandsForEither (D.state self.old.disk).size f (files_published f p.prime.ppn p.prime.file (file_of p.prime (splice body block words.now)))) }
+        // At Ok all that a crash may leave stands for the latter.
+        ensures done { (D.state self.old.disk).honest → (f : Files File) → RestsAt (D.state self.old.disk) f → (p : PendingVersion) → pending_at (core_of self.old.map).pending pending.key ≡ Some p
+            → (body : List ℕ) → length body ≡ p.version.words → HasBody (D.state self.old.disk).contents p.version.blocks body
+            → OnOk result (RestsAt (D.state self.new.disk) (files_published f p.prime.ppn p.prime.file (file_of p.prime (splice body block words.now)))) }
+        // What it does to core, once the last words are put.
+        ensures published { OnOk result ((p : PendingVersion) → pending_at (core_of self.old.map).pending pending.key ≡ Some p → IsPublishedCore (D.state self.old.disk).size (core_of self.old.map) (core_of self.new.map) pending.key p (length_after p.version.words block (length words.now))) }
+        ensures gone { OnOk result (pending_at (core_of self.new.map).pending pending.key ≡ None) }
+        // All other versions stay, and their blocks do, whatever the answer.
+        ensures others { (k : ℕ) → (k ≡ pending.key → ⊥) → pending_at (core_of self.new.map).pending k ≡ pending_at (core_of self.old.map).pending k }
+        ensures held { (k : ℕ) (v : LiveVersion) → slot (core_of self.old.map).live k ≡ Some v → 0 < v.readers → (b : Bool) × (slot (core_of self.new.map).live k ≡ Some (record v { is_current = b })) }
+        ensures readers { (D.state self.old.disk).honest → KeepsRead (D.state self.old.disk).contents (D.state self.new.disk).contents (core_of self.old.map) }
+        ensures writers { (D.state self.old.disk).honest → KeepsWritten (D.state self.old.disk).contents (D.state self.new.disk).contents (core_of self.old.map) pending.key }
+
+        // Which error comes when, and what it leaves.
+        ensures failed { self.old.failed ≡ true → IsErrOf result Failed }
+        ensures given_up { IsErrOf result Failed → (self.old.failed ≡ true) ⊎ ((D.state self.old.disk).honest → ⊥) }
+        ensures room { self.old.failed ≡ false → (p : PendingVersion) → pending_at (core_of self.old.map).pending pending.key ≡ Some p
+            → (IsErrOf result (Refused NoRoom) ↔ ((0 < length words.now) × ((most_blocks * 128 < length_after p.version.words block (length words.now))
+            ⊎ (space (D.state self.old.disk).size < (core_of self.old.map).known.table.booked + (version_cost (length_after p.version.words block (length words.now)) - version_cost p.version.words))))) }
+        ensures codes { (code : ErrorCode) → IsErrOf result (Refused code) → code ≡ NoRoom }
+        ensures refused { (code : ErrorCode) → IsErrOf result (Refused code) → (self.new.disk ≡ self.old.disk) × (core_of self.new.map ≡ core_of self.old.map) }
+        ensures memory { IsErrOf result NoMemory → (self.new.disk ≡ self.old.disk) × (core_of self.new.map ≡ core_of self.old.map) }
+        ensures device { IsErrOf result Device → self.new.failed ≡ true }
+        ensures ended { IsErrOf result Failed → self.new.failed ≡ true }
+        ensures still { (IsErrOf result Device → ⊥) → (IsErrOf result Failed → ⊥) → self.new.failed ≡ self.old.failed }
+        ensures counted { IsErrOf result Device → (D.state self.new.disk).failures ≡ one_more (D.state self.old.disk).failures }
+        ensures served { (IsErrOf result Device → ⊥) → (D.state self.new.disk).failures ≡ (D.state self.old.disk).failures }
+        ensures same { SameDisk (D.state self.old.disk) (D.state self.new.disk) }
+    {
+        if self.failed {
+            return Err(CallError::Failed);
+        }
+        let blocks = last_blocks(&self.map, pending.key, block, words.len())?;
+        let Ok(supplies) = find_supplies(&mut self.map, alloc, pending.key, blocks) else {
+            return Err(CallError::NoMemory);
+        };
+        match self.put_words(pending, block, words) {
+            Ok(()) => self.publish_written(pending.key, supplies),
+            Err(error) => Err(error),
+        }
+    }
+}

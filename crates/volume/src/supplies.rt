@@ -1,0 +1,77 @@
+ghost use Rattle.std.specs.Prelude.{◌≡◌, ◌++◌, ◌∷◌, [], length, IfOk, IsSome};
+ghost use Rattle.retrieval.specs.Writing.{rib_count};
+ghost use Rattle.slab.specs.Slab.{HasRoomFor};
+ghost use Rattle.directory.specs.Chains.{viewed};
+ghost use Rattle.volume.specs.Cores.{file_view};
+ghost use Rattle.volume.specs.Live.{pending_at, IsWholeCore};
+ghost use Rattle.volume.specs.LiveCores.{core_of};
+ghost use Rattle.volume.specs.Publishing.{IsPlaced, IsSupplied};
+ghost use Rattle.volume.specs.declared.pending.PendingVersion.{PendingVersion};
+
+use crate::live::LiveMap;
+use crate::query::directory_place;
+use blockdisk::NoMemory;
+use directory::{FileEntry, Room};
+use retrieval::rib_count;
+use std::alloc::Global;
+
+/// The memory that a publication takes, found before anything is written.
+#[derive(Drop)]
+pub(crate) struct Supplies {
+    /// A list with a place for each rib.
+    pub ribs: Vec<u32>,
+    /// Room for the entry in its directory.
+    pub room: Room<FileEntry>,
+    /// The keys of the directory's versions with a place behind, where the entry is new.
+    pub keys: Vec<usize>,
+}
+
+/// These keys, with a place behind them.
+fn longer(alloc: Global, keys: &[usize]) -> Result<Vec<usize>, NoMemory>
+    ensures { IfOk result (λ longer. longer.items ≡ keys.now ++ 0 ∷ []) }
+{
+    let mut longer = Vec::new(alloc);
+    longer.extend_from_slice(keys)?;
+    match longer.push(0) {
+        Ok(()) => Ok(longer),
+        Err(_) => Err(NoMemory),
+    }
+}
+
+/// Finds the memory that the publication of the version under a key takes, once it has so many data blocks.
+///
+/// # Errors
+///
+/// `NoMemory` where there is none.
+pub(crate) fn find_supplies(
+    map: &mut LiveMap,
+    alloc: Global,
+    key: usize,
+    blocks: usize,
+) -> Result<Supplies, NoMemory>
+    requires whole { IsWholeCore map.old.table.size (core_of map.old) }
+    requires there { IsSome (pending_at (core_of map.old).pending key) }
+    requires placed { (p : PendingVersion) → pending_at (core_of map.old).pending key ≡ Some p → IsPlaced (core_of map.old) p }
+    ensures core { core_of map.new ≡ core_of map.old }
+    ensures ribs { IfOk result (λ supplies. length supplies.ribs.items ≡ rib_count blocks) }
+    ensures supplied { IfOk result (λ supplies. (p : PendingVersion) → pending_at (core_of map.old).pending key ≡ Some p → IsSupplied (core_of map.old) p (viewed file_view supplies.room) supplies.keys.items) }
+    ensures slot { IfOk result (λ supplies. HasRoomFor map.new.versions 1) }
+{
+    let Some(version) = map.pending.get(key) else {
+        unreachable!() // there is one
+    };
+    let Ok(place) = directory_place(&map.master, version.prime.ppn) else {
+        unreachable!() // its directory is there
+    };
+    let Some(entry) = FileEntry::new(version.prime.file, 0) else {
+        unreachable!() // its name isn't zero
+    };
+    let directory = &map.directories[place];
+    let Ok(room) = directory.chain.room_for(alloc, &entry) else {
+        return Err(NoMemory);
+    };
+    let keys = longer(alloc, &directory.keys)?;
+    let ribs = vec![in alloc; 0; rib_count(blocks)]?;
+    map.versions.reserve(1)?;
+    Ok(Supplies { ribs, room, keys })
+}
