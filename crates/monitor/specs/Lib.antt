@@ -11,3 +11,4 @@ pub mod Putting
 pub mod DirectoryRows
 pub mod Lists
 pub mod Publishing
+pub mod Events
