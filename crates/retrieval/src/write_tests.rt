@@ -161,6 +161,7 @@ fn two_ribs_in_a_list_found_before(rt: HostRuntime) -> Result<(), Fail> {
     let mut table = table_of(&rt, rt.alloc(), &mut disk, 242)?;
     let mut version = version_of(rt.alloc(), 239)?;
     let ribs = vec![in rt.alloc(); 0; rib_count(version.blocks().len())]?;
+    let _booked = table.booked(); // which says that the table is sound
     let at = take_retrieval_blocks(&mut table, &mut version, ribs);
     assert_eq!(rt; at, 15);
     let answer = write_retrieval_blocks(&mut disk, at, &foo(&rt), &version);
