@@ -1,18 +1,20 @@
 -- What is said of a call, whichever it is.
-use Rattle.std.proofs.Common.{◌≡◌, ◌<◌, ℕ, Bool, false, List, [], Option}
+use Rattle.std.proofs.Common.{◌≡◌, ◌⊎◌, ◌<◌, ℕ, Bool, false, List, [], Option, sym, subst, ◌∙◌, ⊎_elim}
+use Rattle.std.specs.Prelude.{◌↔◌, IsTrue}
 use Rattle.words36.specs.declared.moment.Moment.{Moment}
-use Rattle.blockdisk.specs.Disk.{DiskState}
+use Rattle.blockdisk.specs.Disk.{DiskState, SameDisk}
+use Rattle.blockdisk.specs.Laws.{same_disk_start}
 use Rattle.meaning.specs.Jobs.{slot}
 use Rattle.meaning.specs.Runs.{Service, Answers}
 use Rattle.meaning.specs.declared.call.Event.TheVariants.{Call as Calls}
 use Rattle.meaning.specs.declared.call.Reply.{Reply}
-use Rattle.meaning.specs.declared.call.Reply.TheVariants.{DateRange}
+use Rattle.meaning.specs.declared.call.Reply.TheVariants.{DateRange, Device, Failed}
 use Rattle.volume.specs.Live.{VolumeCore}
 use Rattle.monitor.specs.Calls.{IsServed, call_of}
 use Rattle.monitor.specs.Serving.{pack_of, Serves, AreKeyed}
 use Rattle.monitor.specs.declared.call.Call.{Call}
 use Rattle.monitor.specs.declared.job.Job.{Job}
-use Rattle.monitor.proofs.Answering.{row, late}
+use Rattle.monitor.proofs.Answering.{row, late, contrary}
 use Rattle.monitor.proofs.Dropped.{drops_none}
 
 abbrev pub IsCalled : DiskState → VolumeCore → Bool → List (Option Job) → DiskState → VolumeCore → Bool → List (Option Job) → ℕ → Moment → Reply → Call → Type 0
@@ -23,3 +25,11 @@ IsCalled d map failed jobs d' map' failed' jobs' n moment reply call =
 pub called_late : (d : DiskState) (map : VolumeCore) (failed : Bool) (jobs : List (Option Job)) (n : ℕ) (call : Call) (moment : Moment) → failed ≡ false → 4095 < moment.date → AreKeyed map.pending jobs → IsCalled d map failed jobs d map failed jobs n moment DateRange call
 called_late d map failed jobs n call moment serves past keyed served =
     row d map map failed jobs jobs keyed ([], drops_none map) (pack_of d) (Calls n (call_of call) moment) DateRange (λ serial files w. late d jobs n (call_of call) moment serial files w past) serves
+
+-- A call that leaves the disk alone.
+
+pub quiet_failed : (failed failed' : Bool) (reply : Reply) → failed ≡ false → failed' ≡ failed → (reply ≡ Failed → ⊥) × (reply ≡ Device → ⊥) → IsTrue failed' ↔ ((reply ≡ Device) ⊎ (reply ≡ Failed))
+quiet_failed failed failed' reply alive same only = (λ t. absurd (contrary (same ∙ alive) t), λ e. ⊎_elim (λ x. absurd (only.1 x)) (λ x. absurd (only.0 x)) e)
+
+pub quiet_same : {D : Type 0} (state : D → DiskState) (old new : D) → new ≡ old → SameDisk (state old) (state new)
+quiet_same state old new same = subst (λ disk. SameDisk (state old) (state disk)) (sym same) (same_disk_start (state old))

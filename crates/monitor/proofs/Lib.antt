@@ -38,3 +38,5 @@ pub mod PublishedRows
 pub mod PublishedStates
 pub mod PublishedAnswers
 pub mod Placing
+pub mod Closings
+pub mod Untouched

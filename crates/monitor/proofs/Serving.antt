@@ -30,7 +30,7 @@ module _ (d : DiskState) (map : VolumeCore) (failed : Bool) (jobs : List (Option
       (row d map map failed jobs jobs keyed ([], drops_none map) (pack_of d) (Calls n call moment) NoJob (λ serial files w. no_job d jobs n call moment serial files w timely none) serves)
 
   -- a row of the job alone
-  row_is : (jobs' : List (Option Job)) (job job' : Job) (reply : Reply) → slot jobs n ≡ Some job → jobs' ≡ slice_set jobs n (Some job') → IsRow job job' call reply
+  pub row_is : (jobs' : List (Option Job)) (job job' : Job) (reply : Reply) → slot jobs n ≡ Some job → jobs' ≡ slice_set jobs n (Some job') → IsRow job job' call reply
       → (serial : ℕ) (files : Files Version) (w : ℕ → Writing) → step (pack_of d) serial (state_of files w jobs) (Calls n call moment) ≡ (reply, state_of files w jobs')
   row_is jobs' job job' reply there set is serial files w =
       called d jobs n call moment serial files w timely job there ∙ is (pack_of d) serial (state_of files w jobs) n w moment (slot_of w jobs n (Some job) there)

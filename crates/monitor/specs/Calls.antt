@@ -5,8 +5,9 @@ use Rattle.meaning.specs.Rings.{is_buffered}
 use Rattle.meaning.specs.declared.call.Call as machine
 use Rattle.meaning.specs.declared.call.Call.TheVariants as calls
 use Rattle.monitor.specs.declared.call.Call.{Call}
-use Rattle.monitor.specs.declared.call.Call.TheVariants.{Open, Enter, Useto, Reset}
+use Rattle.monitor.specs.declared.call.Call.TheVariants.{Open, Enter, Out, Close, Releas, Useto, Reset, MakeDir}
 use Rattle.monitor.specs.declared.job.Job.{Job}
+use Rattle.monitor.specs.Rows.{publishes_by}
 
 -- the mode at the address is none with buffers
 abbrev pub IsUnbuffered : ℕ → Option Job → Type 0
@@ -17,19 +18,31 @@ IsUnbuffered address (Some job) = is_buffered (mode_at job.core address) ≡ fal
 abbrev pub call_of : Call → machine.Call
 call_of (Open channel address) = calls.Open channel address
 call_of (Enter channel address) = calls.Enter channel address
+call_of (Out channel address) = calls.Out channel address
+call_of (Close channel bits) = calls.Close channel bits
+call_of (Releas channel) = calls.Releas channel
 call_of (Useto channel block) = calls.Useto channel block
 call_of Reset = calls.Reset
+call_of (MakeDir address) = calls.MakeDir address
 
 -- a call that is answered as the machine does: so far no ring is opened
 abbrev pub IsServed : Call → Option Job → Type 0
 IsServed (Open channel address) job = IsUnbuffered address job
 IsServed (Enter channel address) job = Unit {0}
+IsServed (Out channel address) job = Unit {0}
+IsServed (Close channel bits) job = Unit {0}
+IsServed (Releas channel) job = Unit {0}
 IsServed (Useto channel block) job = Unit {0}
 IsServed Reset job = Unit {0}
+IsServed (MakeDir address) job = Unit {0}
 
--- a call that takes no memory
-abbrev pub IsLight : Call → Type 0
-IsLight (Open channel address) = Unit {0}
-IsLight (Enter channel address) = ⊥
-IsLight (Useto channel block) = Unit {0}
-IsLight Reset = Unit {0}
+-- a call that takes no memory and leaves the disk alone, by the job that makes it
+abbrev pub IsLight : Call → Option Job → Type 0
+IsLight (Open channel address) job = Unit {0}
+IsLight (Enter channel address) job = ⊥
+IsLight (Out channel address) job = ⊥
+IsLight (Close channel bits) job = publishes_by channel bits job ≡ false
+IsLight (Releas channel) job = publishes_by channel 0 job ≡ false
+IsLight (Useto channel block) job = Unit {0}
+IsLight Reset job = Unit {0}
+IsLight (MakeDir address) job = ⊥

@@ -17,6 +17,7 @@ use Rattle.volume.specs.declared.pending.PendingVersion.{PendingVersion}
 use Rattle.monitor.specs.Serving.{present, IsSide}
 use Rattle.monitor.specs.Sides.{Writing, sides_in, keys_of, job_of}
 use Rattle.monitor.specs.declared.channel.Channel.{Channel}
+use Rattle.monitor.specs.declared.output.Output.{Output}
 use Rattle.monitor.specs.declared.job.Job.{Job}
 
 -- The job is this one after the call, with this answer, whatever is being written; and nothing else changes.
@@ -60,3 +61,15 @@ open_unserved job number a = if nat_le number 15 then unserved (mode_at job.core
 abbrev pub publishes_at : Option Channel → ℕ → Bool
 publishes_at None bits = false
 publishes_at (Some c) bits = is_some c.output && not (keeps_output bits) && not (discards bits)
+
+-- the same of a job's channel, where there is such a job
+abbrev pub publishes_by : ℕ → ℕ → Option Job → Bool
+publishes_by number bits None = false
+publishes_by number bits (Some job) = publishes_at (machine.slot job.channels number) bits
+
+-- The job's open channel has this output side, which a CLOSE with these bits publishes.
+pub record ClosesSide (job : Job) (number bits : ℕ) (c : Channel) (o : Output) : Type 0 where
+  pub there : machine.slot job.channels number ≡ Some c
+  pub side : c.output ≡ Some o
+  pub closes : keeps_output bits ≡ false
+  pub keeps : discards bits ≡ false

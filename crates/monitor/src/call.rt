@@ -1,4 +1,5 @@
-ghost use Rattle.std.specs.Prelude.{◌≡◌, ◌≤◌, ◌↔◌, ℕ, true, false, Some, IsTrue};
+ghost use Rattle.std.specs.Prelude.{◌≡◌, ◌⊎◌, ◌≤◌, ◌↔◌, ℕ, true, false, Some, IsTrue};
+ghost use Rattle.blockdisk.specs.Disk.{SameDisk, one_more};
 ghost use Rattle.meaning.specs.Jobs.{slot};
 ghost use Rattle.meaning.specs.Opening.{mode_at};
 ghost use Rattle.meaning.specs.Rings.{is_buffered};
@@ -8,6 +9,7 @@ ghost use Rattle.meaning.specs.declared.call.Reply.TheVariants.{NoMemory, Failed
 ghost use Rattle.volume.specs.LiveCores.{core_of};
 ghost use Rattle.volume.specs.Rest.{IsSound};
 ghost use Rattle.monitor.specs.Calls.{IsServed, IsLight, call_of};
+ghost use Rattle.monitor.specs.Events.{CallCrashes, IsIdle};
 ghost use Rattle.monitor.specs.Rows.{open_unserved};
 ghost use Rattle.monitor.specs.Serving.{pack_of, Serves, AreKeyed, ArePlaced};
 ghost use Rattle.monitor.specs.Sides.{Writing, job_of};
@@ -18,6 +20,8 @@ use crate::event::LAST_DATE;
 use crate::job::Jobs;
 use crate::monitor::Monitor;
 use crate::serve::{serve_enter, serve_open, serve_reset, serve_useto};
+use crate::serve_closing::{serve_close, serve_release};
+use crate::serve_writing::serve_out;
 use blockdisk::Disk;
 use meaning::Reply;
 use std::alloc::Global;
@@ -32,10 +36,18 @@ pub enum Call {
     Open(u32, u32),
     /// Opens a file for writing: a channel, and the address of its four words.
     Enter(u32, u32),
+    /// Writes words: a channel, and the address of a command list.
+    Out(u32, u32),
+    /// Closes a channel's sides: a channel, and bits that say which.
+    Close(u32, u32),
+    /// Closes both sides of a channel, and the channel.
+    Releas(u32),
     /// Names the block that is written next: a channel and the block, counted from 1.
     Useto(u32, u32),
     /// Closes all channels and drops what was not closed.
     Reset,
+    /// Makes a directory: the address of its two words.
+    MakeDir(u32),
 }
 
 /// A call of the job of a number, at a moment that the disk can hold.
@@ -53,11 +65,16 @@ fn serve<D: Disk>(
     requires alive { volume.old.failed ≡ false }
     requires timely { moment.date ≤ 4095 }
     ensures sound { IsSound (D.state volume.new.disk) (core_of volume.new.map) volume.new.failed }
-    ensures keyed { AreKeyed (core_of volume.new.map).pending jobs.new }
-    ensures placed { ArePlaced (core_of volume.new.map) }
-    ensures untouched { (volume.new.disk ≡ volume.old.disk) × (volume.new.failed ≡ volume.old.failed) }
-    ensures only { (result ≡ Failed → ⊥) × (result ≡ Device → ⊥) }
-    ensures light { IsLight call.now → result ≡ NoMemory → ⊥ }
+    ensures keyed { volume.new.failed ≡ false → AreKeyed (core_of volume.new.map).pending jobs.new }
+    ensures placed { volume.new.failed ≡ false → ArePlaced (core_of volume.new.map) }
+    ensures crash { CallCrashes (D.state volume.old.disk) (D.state volume.new.disk) (core_of volume.old.map) jobs.old number (call_of call.now) moment }
+    ensures idle { IsIdle result → volume.new.disk ≡ volume.old.disk }
+    ensures light { IsLight call.now (slot jobs.old number) → (result ≡ NoMemory → ⊥) × (volume.new.disk ≡ volume.old.disk) }
+    ensures failed { IsTrue volume.new.failed ↔ ((result ≡ Device) ⊎ (result ≡ Failed)) }
+    ensures blamed { (D.state volume.old.disk).honest → result ≡ Failed → ⊥ }
+    ensures counted { result ≡ Device → (D.state volume.new.disk).failures ≡ one_more (D.state volume.old.disk).failures }
+    ensures served { (result ≡ Device → ⊥) → (D.state volume.new.disk).failures ≡ (D.state volume.old.disk).failures }
+    ensures same { SameDisk (D.state volume.old.disk) (D.state volume.new.disk) }
     ensures unserved { (channel address : ℕ) → call.now ≡ Open channel address → (there : JobRecord) → slot jobs.old number ≡ Some there → is_buffered (mode_at there.core address) ≡ true
         → (jobs.new ≡ jobs.old) × ((written : ℕ → Writing) → result ≡ open_unserved (job_of written there) channel address) }
     ensures answered { (D.state volume.old.disk).honest → IsServed call.now (slot jobs.old number) → (old : Service) → Serves (D.state volume.old.disk) (core_of volume.old.map) volume.old.failed jobs.old old
@@ -69,8 +86,16 @@ fn serve<D: Disk>(
         Call::Enter(channel, address) => {
             serve_enter(alloc, volume, jobs, number, channel, address, moment)
         }
+        Call::Out(channel, address) => {
+            serve_out(alloc, volume, jobs, number, channel, address, moment)
+        }
+        Call::Close(channel, bits) => {
+            serve_close(alloc, volume, jobs, number, channel, bits, moment)
+        }
+        Call::Releas(channel) => serve_release(alloc, volume, jobs, number, channel, moment),
         Call::Useto(channel, block) => serve_useto(volume, jobs, number, channel, block, moment),
         Call::Reset => serve_reset(volume, jobs, number, moment),
+        Call::MakeDir(address) => serve_out(alloc, volume, jobs, number, 0, address, moment),
     }
 }
 
@@ -79,17 +104,25 @@ impl<D: Disk> Monitor<D> {
     ///
     /// The answer is that of the call; `DateRange` where the moment's date is above 4095, which layout 1 can't hold;
     /// `NoJob` where no job of that number is logged in; `NoChannel` where the channel isn't open, or where OPEN
-    /// names one above 15; `NoMemory` where core can't grow, with everything as before; or `Failed`. OPEN in a
-    /// mode with buffers is `Stopped` as one in a mode that there isn't.
+    /// names one above 15; `NoMemory` where core can't grow, with everything as before; `Device` where the device
+    /// failed, and then `Failed` to every call. A later start finds the files from before the call or those after
+    /// it. OPEN in a mode with buffers is `Stopped` as one in a mode that there isn't.
     pub fn call(&mut self, alloc: Global, job: u32, call: &Call, moment: Moment) -> Reply
         ensures answered { (D.state self.old.disk).honest → IsServed call.now (slot self.old.jobs job) → (old : Service) → Serves (D.state self.old.disk) self.old.map self.old.failed self.old.jobs old
             → (new : Service) × Serves (D.state self.new.disk) self.new.map self.new.failed self.new.jobs new
             × Answers (pack_of (D.state self.old.disk)) old (Calls job (call_of call.now) moment) result new }
-        ensures kept { self.new ≡ record self.old { map = self.new.map; jobs = self.new.jobs } }
-        ensures failed { result ≡ Failed ↔ IsTrue self.old.failed }
-        // None of these touches the disk, and only ENTER takes memory.
-        ensures device { result ≡ Device → ⊥ }
-        ensures light { IsLight call.now → result ≡ NoMemory → ⊥ }
+        // At any moment of it a crash leaves the files from before, or those after it.
+        ensures crash { CallCrashes (D.state self.old.disk) (D.state self.new.disk) self.old.map self.old.jobs job (call_of call.now) moment }
+        // Which calls, and which answers, leave the disk alone; and which calls take no memory.
+        ensures idle { IsIdle result → self.new.disk ≡ self.old.disk }
+        ensures light { IsLight call.now (slot self.old.jobs job) → (result ≡ NoMemory → ⊥) × (self.new.disk ≡ self.old.disk) }
+        // It fails with the device, and is Failed from then on; else only a broken promise of the disk makes it so.
+        ensures failed { IsTrue self.new.failed ↔ ((result ≡ Device) ⊎ (result ≡ Failed)) }
+        ensures broken { self.old.failed ≡ true → (result ≡ Failed) × (self.new ≡ self.old) }
+        ensures blamed { (D.state self.old.disk).honest → result ≡ Failed → self.old.failed ≡ true }
+        ensures counted { result ≡ Device → (D.state self.new.disk).failures ≡ one_more (D.state self.old.disk).failures }
+        ensures served { (result ≡ Device → ⊥) → (D.state self.new.disk).failures ≡ (D.state self.old.disk).failures }
+        ensures same { SameDisk (D.state self.old.disk) (D.state self.new.disk) }
         // OPEN in a mode with buffers.
         ensures unserved { self.old.failed ≡ false → moment.date ≤ 4095 → (channel address : ℕ) → call.now ≡ Open channel address → (there : JobRecord) → slot self.old.jobs job ≡ Some there → is_buffered (mode_at there.core address) ≡ true
             → (self.new.jobs ≡ self.old.jobs) × ((written : ℕ → Writing) → result ≡ open_unserved (job_of written there) channel address) }

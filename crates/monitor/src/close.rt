@@ -2,6 +2,7 @@ ghost use Rattle.std.specs.Prelude.{◌≡◌, ◌≤◌, ℕ, List, Option, Som
 ghost use Rattle.meaning.specs.Jobs.{slot};
 ghost use Rattle.meaning.specs.Maps.{times};
 ghost use Rattle.meaning.specs.declared.call.Call.TheVariants.{Close, Releas};
+ghost use Rattle.meaning.specs.declared.call.Reply.TheVariants.{NoMemory, Device, Failed};
 ghost use Rattle.volume.specs.Live.{pending_at};
 ghost use Rattle.volume.specs.LiveCores.{core_of};
 ghost use Rattle.volume.specs.Rest.{IsSound};
@@ -43,6 +44,7 @@ pub fn close<D: Disk>(volume: &mut Volume<D>, job: &mut Job, number: u32, bits: 
     ensures row { IsRow job.old job.new (Close number bits) result }
     ensures keeps { Keeps (core_of volume.old.map).pending (core_of volume.new.map).pending job.old job.new }
     ensures dropped { (keys : List ℕ) × Drops (core_of volume.old.map) (core_of volume.new.map) keys }
+    ensures only { (result ≡ Failed → ⊥) × (result ≡ Device → ⊥) × (result ≡ NoMemory → ⊥) }
 {
     let Some(channel) = job.channel(number) else {
         return Reply::NoChannel;
@@ -63,6 +65,7 @@ pub fn release(job: &mut Job, number: u32) -> Reply
     requires unpublished { publishes_at (slot job.old.channels number) 0 ≡ false }
     ensures row { IsRow job.old job.new (Releas number) result }
     ensures keeps { (pending : List (Option PendingVersion)) → Keeps pending pending job.old job.new }
+    ensures only { (result ≡ Failed → ⊥) × (result ≡ Device → ⊥) × (result ≡ NoMemory → ⊥) }
 {
     let Some(_open) = job.channel(number) else {
         return Reply::NoChannel;

@@ -43,6 +43,7 @@ mod publishing;
 #[cfg(test)]
 mod publishing_tests;
 mod serve;
+mod serve_closing;
 mod serve_writing;
 mod status;
 #[cfg(test)]

@@ -1,4 +1,4 @@
-use Rattle.std.proofs.Common.{◌≡◌, ◌≤◌, ℕ, true, false, Some, subst}
+use Rattle.std.proofs.Common.{◌≡◌, ◌≤◌, ℕ, true, false, Some, refl, subst}
 use Rattle.meaning.specs.Jobs.{slot}
 use Rattle.meaning.specs.Opening.{mode_at}
 use Rattle.meaning.specs.Rings.{is_buffered}
@@ -8,6 +8,9 @@ use Rattle.monitor.specs.declared.call.Call.TheVariants.{Open}
 use Rattle.monitor.specs.declared.job.Job.{Job}
 use Rattle.meaning.specs.declared.call.Reply.TheVariants.{DateRange}
 use Rattle.volume.specs.LiveCores.{core_of}
+use Rattle.monitor.specs.Calls.{call_of}
+use Rattle.monitor.specs.Events.{CallCrashes}
+use Rattle.monitor.proofs.Untouched.{untouched_crashes}
 use Rattle.monitor.proofs.Called.{IsCalled, called_late}
 use Rattle.monitor.proofs.monitor.Monitor.call.Goals as goal
 
@@ -27,3 +30,13 @@ returns-clause-unserved g c =
     subst (λ m. m.failed ≡ false → c.args.moment.date ≤ 4095 → (channel address : ℕ) → c.args.call.now ≡ Open channel address → (there : Job) → slot m.jobs c.args.job ≡ Some there → is_buffered (mode_at there.core address) ≡ true
     → (c.serve.new.jobs ≡ m.jobs) × ((written : ℕ → Writing) → c.serve.result ≡ open_unserved (job_of written there) channel address)) c.self.view_is
     (λ serves timely channel address asked there at buffered. c.serve.ensures.unserved channel address asked there at buffered)
+
+pub returns-then-self-clause-crash : goal.returns-then-self-clause-crash
+returns-then-self-clause-crash g c = untouched_crashes g.D.Disk.state g.met.D.Disk.only_now c.args.self.now.disk c.args.self.now.disk refl c.args.self.now.map c.args.self.now.jobs c.args.job (call_of c.args.call.now) c.args.moment
+
+pub returns-then-moment-gt-LAST_DATE-clause-crash : goal.returns-then-moment-gt-LAST_DATE-clause-crash
+returns-then-moment-gt-LAST_DATE-clause-crash g c = untouched_crashes g.D.Disk.state g.met.D.Disk.only_now c.args.self.now.disk c.args.self.now.disk refl c.args.self.now.map c.args.self.now.jobs c.args.job (call_of c.args.call.now) c.args.moment
+
+pub returns-clause-crash : goal.returns-clause-crash
+returns-clause-crash g c =
+    subst (λ m. CallCrashes (g.D.Disk.state m.disk) (g.D.Disk.state c.serve.new.volume.disk) m.map m.jobs c.args.job (call_of c.args.call.now) c.args.moment) c.self.view_is c.serve.ensures.crash

@@ -1,0 +1,104 @@
+-- CLOSE and RELEAS by the job of a number: what its row says of all jobs.
+use Rattle.std.proofs.Common.{◌≡◌, ◌≤◌, ℕ, Bool, true, false, List, Option, Some, None, refl, sym, ap, subst, ◌∙◌, ◌⊎◌, inl, inr, ⊎_elim, slice_set}
+use Rattle.std.specs.Prelude.{◌↔◌, IsTrue}
+use Rattle.words36.specs.declared.moment.Moment.{Moment}
+use Rattle.blockdisk.specs.Disk.{DiskState, one_more}
+use Rattle.meaning.specs.Jobs.{State, slot}
+use Rattle.meaning.specs.Runs.{Service, Serving, Answers}
+use Rattle.meaning.specs.declared.call.Call.{Call}
+use Rattle.meaning.specs.declared.call.Event.TheVariants.{Call as Calls}
+use Rattle.meaning.specs.declared.call.Reply.{Reply}
+use Rattle.meaning.specs.declared.call.Reply.TheVariants.{Done, Value, Refused, Stopped, NoChannel, AddressCheck, NoJob, NoMemory, Device, Failed, DateRange}
+use Rattle.meaning.proofs.MapLaws.{some_same}
+use Rattle.volume.specs.Live.{VolumeCore}
+use Rattle.monitor.specs.Dropping.{Drops}
+use Rattle.monitor.specs.Events.{CallCrashes, IsIdle}
+use Rattle.monitor.specs.Publishing.{IsPublishing, IsPublishRow, CrashesAsRow, StillStands}
+use Rattle.monitor.specs.Rows.{ClosesSide, IsRow, Keeps}
+use Rattle.monitor.specs.Serving.{pack_of, IsState, Serves, AreKeyed, ArePlaced}
+use Rattle.monitor.specs.declared.channel.Channel.{Channel}
+use Rattle.monitor.specs.declared.output.Output.{Output}
+use Rattle.monitor.specs.declared.job.Job.{Job}
+use Rattle.monitor.proofs.Answering.{row, in_state, contrary}
+use Rattle.monitor.proofs.Dropped.{keeps_keyed}
+use Rattle.monitor.proofs.Placing.{placed_dropped}
+use Rattle.monitor.proofs.Serving.{row_is}
+
+-- The side that is published is one of the job's.
+pub closes_here : (jobs : List (Option Job)) (n : ℕ) (job : Job) (channel bits : ℕ) (c : Channel) (o : Output) → slot jobs n ≡ Some job → (there : Job) × (slot jobs n ≡ Some there) × ClosesSide there channel bits c o → ClosesSide job channel bits c o
+closes_here jobs n job channel bits c o at closes = subst (λ j. ClosesSide j channel bits c o) (some_same (sym closes.1 ∙ at)) closes.2
+
+-- Where something is published.
+
+module _ (d d' : DiskState) (c c' : VolumeCore) (jobs jobs' : List (Option Job)) (n : ℕ) (job job' : Job) (moment : Moment) (there : slot jobs n ≡ Some job) (set : jobs' ≡ slice_set jobs n (Some job')) (timely : moment.date ≤ 4095) where
+  pub row_answered : (failed failed' : Bool) (call : Call) (reply : Reply) → failed ≡ false → ArePlaced c → d.honest → IsPublishRow d d' c c' failed' job job' call reply → (old : Service) → Serves d c failed jobs old
+      → (new : Service) × Serves d' c' failed' jobs' new × Answers (pack_of d) old (Calls n call moment) reply new
+  row_answered failed failed' call reply alive placed honest is =
+      in_state d c failed jobs (λ old. (new : Service) × Serves d' c' failed' jobs' new × Answers (pack_of d) old (Calls n call moment) reply new) alive (λ s state.
+      let led = is honest placed jobs n moment there timely s state in
+      (led.0, subst (λ js. Serves d' c' failed' js led.0) (sym set) led.1, led.2))
+
+  pub row_crashes : (call : Call) → CrashesAsRow d d' c job call → CallCrashes d d' c jobs n call moment
+  row_crashes call crashes honest s state = crashes honest jobs n moment there timely s state
+
+  pub row_stands : (failed' : Bool) → StillStands c c' failed' job job' → AreKeyed c.pending jobs → ArePlaced c → failed' ≡ false → AreKeyed c'.pending jobs' × ArePlaced c'
+  row_stands failed' stands keyed placed alive =
+      let is = stands jobs n there keyed placed alive in
+      (subst (AreKeyed c'.pending) (sym set) is.0, is.1)
+
+-- what is said of each answer
+module _ (d d' : DiskState) (c c' : VolumeCore) (failed failed' : Bool) (key : ℕ) where
+  pub publishing_failed : (reply : Reply) → IsPublishing d d' c c' failed failed' key reply → IsTrue failed' ↔ ((reply ≡ Device) ⊎ (reply ≡ Failed))
+  publishing_failed Done is = (λ t. absurd (contrary is.2 t), λ e. ⊎_elim (λ x. cc x) (λ x. cc x) e)
+  publishing_failed NoMemory is = (λ t. absurd (contrary is.1 t), λ e. ⊎_elim (λ x. cc x) (λ x. cc x) e)
+  publishing_failed Device is = (λ t. inl refl, λ e. is.1)
+  publishing_failed Failed is = (λ t. inr refl, λ e. is.1)
+  publishing_failed (Value word) is = absurd is
+  publishing_failed (Refused code) is = absurd is
+  publishing_failed (Stopped status) is = absurd is
+  publishing_failed NoChannel is = absurd is
+  publishing_failed AddressCheck is = absurd is
+  publishing_failed NoJob is = absurd is
+  publishing_failed DateRange is = absurd is
+
+  pub publishing_blamed : (reply : Reply) → failed ≡ false → IsPublishing d d' c c' failed failed' key reply → d.honest → reply ≡ Failed → ⊥
+  publishing_blamed reply alive is honest failure = ⊎_elim (λ t. contrary alive t) (λ never. never honest) (subst (IsPublishing d d' c c' failed failed' key) failure is).0
+
+  pub publishing_counted : (reply : Reply) → IsPublishing d d' c c' failed failed' key reply → reply ≡ Device → d'.failures ≡ one_more d.failures
+  publishing_counted reply is device = (subst (IsPublishing d d' c c' failed failed' key) device is).2
+
+  pub publishing_served : (reply : Reply) → IsPublishing d d' c c' failed failed' key reply → (reply ≡ NoMemory → d'.failures ≡ d.failures) → (reply ≡ Device → ⊥) → d'.failures ≡ d.failures
+  publishing_served Done is none other = is.3
+  publishing_served NoMemory is none other = none refl
+  publishing_served Device is none other = absurd (other refl)
+  publishing_served Failed is none other = is.2
+  publishing_served (Value word) is none other = absurd is
+  publishing_served (Refused code) is none other = absurd is
+  publishing_served (Stopped status) is none other = absurd is
+  publishing_served NoChannel is none other = absurd is
+  publishing_served AddressCheck is none other = absurd is
+  publishing_served NoJob is none other = absurd is
+  publishing_served DateRange is none other = absurd is
+
+  pub publishing_idle : (reply : Reply) → IsPublishing d d' c c' failed failed' key reply → IsIdle reply → reply ≡ NoMemory
+  publishing_idle Done is idle = absurd idle
+  publishing_idle NoMemory is idle = refl
+  publishing_idle Device is idle = absurd idle
+  publishing_idle Failed is idle = absurd idle
+  publishing_idle (Value word) is idle = absurd is
+  publishing_idle (Refused code) is idle = absurd is
+  publishing_idle (Stopped status) is idle = absurd is
+  publishing_idle NoChannel is idle = absurd is
+  publishing_idle AddressCheck is idle = absurd is
+  publishing_idle NoJob is idle = absurd is
+  publishing_idle DateRange is idle = absurd is
+
+-- Where what was written is dropped, if anything.
+module _ (d : DiskState) (c c' : VolumeCore) (failed : Bool) (jobs jobs' : List (Option Job)) (n : ℕ) (job job' : Job) (call : Call) (moment : Moment) (alive : failed ≡ false) (timely : moment.date ≤ 4095)
+    (there : slot jobs n ≡ Some job) (set : jobs' ≡ slice_set jobs n (Some job')) (keeps : Keeps c.pending c'.pending job job') where
+  pub dropping_keyed : AreKeyed c.pending jobs → AreKeyed c'.pending jobs'
+  dropping_keyed keyed = subst (AreKeyed c'.pending) (sym set) (keeps_keyed c.pending c'.pending jobs n job job' keyed there keeps)
+
+  pub dropping_answered : (reply : Reply) → AreKeyed c.pending jobs → (keys : List ℕ) × Drops c c' keys → IsRow job job' call reply → (old : Service) → Serves d c failed jobs old
+      → (new : Service) × Serves d c' failed jobs' new × Answers (pack_of d) old (Calls n call moment) reply new
+  dropping_answered reply keyed dropped is = row d c c' failed jobs jobs' (dropping_keyed keyed) dropped (pack_of d) (Calls n call moment) reply (row_is d c failed jobs n call moment alive timely jobs' job job' reply there set is) alive

@@ -1,0 +1,77 @@
+use Rattle.std.proofs.Common.{Some, refl, sym, ap, subst, ◌∙◌}
+use Rattle.std.specs.List.{AllByRecursion}
+use Rattle.meaning.specs.declared.call.Call.TheVariants.{Releas}
+use Rattle.blockdisk.specs.Disk.{DiskState}
+use Rattle.volume.specs.LiveCores.{core_of}
+use Rattle.monitor.specs.Serving.{IsSide}
+use Rattle.monitor.specs.Sides.{side_of, sides_in}
+use Rattle.monitor.proofs.Closings.{closes_here, row_answered, row_crashes, row_stands, publishing_failed, publishing_blamed, publishing_counted, publishing_served, publishing_idle}
+use Rattle.monitor.proofs.Dropped.{job_live}
+use Rattle.monitor.proofs.Outs.{version_live, its_side}
+use Rattle.monitor.proofs.Serving.{nobody}
+use Rattle.monitor.proofs.SideLists.{each-slot}
+use Rattle.monitor.proofs.Slots.{put_back}
+use Rattle.monitor.proofs.Untouched.{untouched_crashes}
+use Rattle.monitor.proofs.serve_closing.release_publishing.Goals as goal
+
+pub returns-in_default-clause-answered : goal.returns-in_default-clause-answered
+returns-in_default-clause-answered g c h =
+    nobody (g.D.Disk.state c.args.volume.now.disk) (core_of c.args.volume.now.map) c.args.volume.now.failed c.args.jobs.now c.args.number (Releas c.args.channel) c.args.moment c.requires.alive c.requires.timely c.take.new.self c.requires.keyed
+    (c.take.ensures.none c.in_default.is).0 (c.take.ensures.none c.in_default.is).1
+
+pub returns-in_default-clause-crash : goal.returns-in_default-clause-crash
+returns-in_default-clause-crash g c = untouched_crashes g.D.Disk.state g.met.D.Disk.only_now c.args.volume.now.disk c.args.volume.now.disk refl (core_of c.args.volume.now.map) c.args.jobs.now c.args.number (Releas c.args.channel) c.args.moment
+
+pub release_output-reply-requires-clause-there : goal.release_output-reply-requires-clause-there
+release_output-reply-requires-clause-there g c =
+    let here = (closes_here c.args.jobs.now c.args.number c.in-Some.job c.args.channel 0 c.args.closed.0 c.args.closed.1 c.in-Some.ensures.found.0 c.requires.closes) in
+    ap side_of here.there ∙ here.side
+
+pub release_output-reply-requires-clause-live : goal.release_output-reply-requires-clause-live
+release_output-reply-requires-clause-live g c =
+    let here = (closes_here c.args.jobs.now c.args.number c.in-Some.job c.args.channel 0 c.args.closed.0 c.args.closed.1 c.in-Some.ensures.found.0 c.requires.closes) in
+    version_live (core_of c.args.volume.now.map).pending c.in-Some.job c.args.channel c.args.closed.0 here.there c.args.closed.1 here.side (job_live (core_of c.args.volume.now.map) c.args.jobs.now c.args.number c.in-Some.job c.requires.keyed c.in-Some.ensures.found.0)
+
+pub release_output-reply-requires-clause-starts : goal.release_output-reply-requires-clause-starts
+release_output-reply-requires-clause-starts g c =
+    let here = (closes_here c.args.jobs.now c.args.number c.in-Some.job c.args.channel 0 c.args.closed.0 c.args.closed.1 c.in-Some.ensures.found.0 c.requires.closes) in
+    (its_side (core_of c.args.volume.now.map).pending c.in-Some.job c.args.channel c.args.closed.0 here.there c.args.closed.1 here.side (subst (λ o. AllByRecursion (IsSide (core_of c.args.volume.now.map).pending) (sides_in o)) c.in-Some.ensures.found.0
+    (each-slot (IsSide (core_of c.args.volume.now.map).pending) c.args.jobs.now c.args.number c.requires.keyed.each))).starts
+
+pub release_output-reply-requires-clause-placed : goal.release_output-reply-requires-clause-placed
+release_output-reply-requires-clause-placed g c p at = c.requires.placed.each c.args.closed.1.pending.key p at
+
+pub returns-clause-keyed : goal.returns-clause-keyed
+returns-clause-keyed g c alive =
+    (row_stands (g.D.Disk.state c.args.volume.now.disk) (g.D.Disk.state c.release_output-reply.new.volume.disk) (core_of c.args.volume.now.map) (core_of c.release_output-reply.new.volume.map) c.args.jobs.now c.put.new.self c.args.number c.in-Some.job c.release_output-reply.new.job c.args.moment c.in-Some.ensures.found.0 (put_back c.args.jobs.now c.take.new.self c.put.new.self c.args.number (Some c.release_output-reply.new.job) c.in-Some.ensures.found.1 c.put.ensures) c.requires.timely c.release_output-reply.new.volume.failed c.release_output-reply.ensures.stands c.requires.keyed c.requires.placed alive).0
+
+pub returns-clause-placed : goal.returns-clause-placed
+returns-clause-placed g c alive =
+    (row_stands (g.D.Disk.state c.args.volume.now.disk) (g.D.Disk.state c.release_output-reply.new.volume.disk) (core_of c.args.volume.now.map) (core_of c.release_output-reply.new.volume.map) c.args.jobs.now c.put.new.self c.args.number c.in-Some.job c.release_output-reply.new.job c.args.moment c.in-Some.ensures.found.0 (put_back c.args.jobs.now c.take.new.self c.put.new.self c.args.number (Some c.release_output-reply.new.job) c.in-Some.ensures.found.1 c.put.ensures) c.requires.timely c.release_output-reply.new.volume.failed c.release_output-reply.ensures.stands c.requires.keyed c.requires.placed alive).1
+
+pub returns-clause-answered : goal.returns-clause-answered
+returns-clause-answered g c h =
+    row_answered (g.D.Disk.state c.args.volume.now.disk) (g.D.Disk.state c.release_output-reply.new.volume.disk) (core_of c.args.volume.now.map) (core_of c.release_output-reply.new.volume.map) c.args.jobs.now c.put.new.self c.args.number c.in-Some.job c.release_output-reply.new.job c.args.moment c.in-Some.ensures.found.0 (put_back c.args.jobs.now c.take.new.self c.put.new.self c.args.number (Some c.release_output-reply.new.job) c.in-Some.ensures.found.1 c.put.ensures) c.requires.timely
+    c.args.volume.now.failed c.release_output-reply.new.volume.failed (Releas c.args.channel) c.release_output-reply.result c.requires.alive c.requires.placed h (c.release_output-reply.ensures.row c.requires.alive)
+
+pub returns-clause-crash : goal.returns-clause-crash
+returns-clause-crash g c =
+    row_crashes (g.D.Disk.state c.args.volume.now.disk) (g.D.Disk.state c.release_output-reply.new.volume.disk) (core_of c.args.volume.now.map) (core_of c.release_output-reply.new.volume.map) c.args.jobs.now c.put.new.self c.args.number c.in-Some.job c.release_output-reply.new.job c.args.moment c.in-Some.ensures.found.0 (put_back c.args.jobs.now c.take.new.self c.put.new.self c.args.number (Some c.release_output-reply.new.job) c.in-Some.ensures.found.1 c.put.ensures) c.requires.timely
+    (Releas c.args.channel) c.release_output-reply.ensures.crash
+
+pub returns-clause-failed : goal.returns-clause-failed
+returns-clause-failed g c = publishing_failed (g.D.Disk.state c.args.volume.now.disk) (g.D.Disk.state c.release_output-reply.new.volume.disk) (core_of c.args.volume.now.map) (core_of c.release_output-reply.new.volume.map) c.args.volume.now.failed c.release_output-reply.new.volume.failed c.args.closed.1.pending.key c.release_output-reply.result c.release_output-reply.ensures.answered
+
+pub returns-clause-blamed : goal.returns-clause-blamed
+returns-clause-blamed g c = publishing_blamed (g.D.Disk.state c.args.volume.now.disk) (g.D.Disk.state c.release_output-reply.new.volume.disk) (core_of c.args.volume.now.map) (core_of c.release_output-reply.new.volume.map) c.args.volume.now.failed c.release_output-reply.new.volume.failed c.args.closed.1.pending.key c.release_output-reply.result c.requires.alive c.release_output-reply.ensures.answered
+
+pub returns-clause-counted : goal.returns-clause-counted
+returns-clause-counted g c = publishing_counted (g.D.Disk.state c.args.volume.now.disk) (g.D.Disk.state c.release_output-reply.new.volume.disk) (core_of c.args.volume.now.map) (core_of c.release_output-reply.new.volume.map) c.args.volume.now.failed c.release_output-reply.new.volume.failed c.args.closed.1.pending.key c.release_output-reply.result c.release_output-reply.ensures.answered
+
+pub returns-clause-served : goal.returns-clause-served
+returns-clause-served g c =
+    publishing_served (g.D.Disk.state c.args.volume.now.disk) (g.D.Disk.state c.release_output-reply.new.volume.disk) (core_of c.args.volume.now.map) (core_of c.release_output-reply.new.volume.map) c.args.volume.now.failed c.release_output-reply.new.volume.failed c.args.closed.1.pending.key c.release_output-reply.result c.release_output-reply.ensures.answered
+    (λ none i. (g.D.Disk.state ((c.release_output-reply.ensures.memory none).0 i)).failures)
+
+pub returns-clause-idle : goal.returns-clause-idle
+returns-clause-idle g c idle = (c.release_output-reply.ensures.memory (publishing_idle (g.D.Disk.state c.args.volume.now.disk) (g.D.Disk.state c.release_output-reply.new.volume.disk) (core_of c.args.volume.now.map) (core_of c.release_output-reply.new.volume.map) c.args.volume.now.failed c.release_output-reply.new.volume.failed c.args.closed.1.pending.key c.release_output-reply.result c.release_output-reply.ensures.answered idle)).0
