@@ -38,3 +38,4 @@ pub mod PublishedRows
 pub mod PublishedStates
 pub mod PublishedAnswers
 pub mod Placing
+pub mod Untouched
