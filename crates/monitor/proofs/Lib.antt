@@ -39,3 +39,4 @@ pub mod PublishedStates
 pub mod PublishedAnswers
 pub mod Placing
 pub mod Untouched
+pub mod OutPlaced
