@@ -40,3 +40,4 @@ pub mod PublishedAnswers
 pub mod Placing
 pub mod Closings
 pub mod Untouched
+pub mod OutPlaced

@@ -31,7 +31,7 @@ use Rattle.monitor.proofs.OutCalls.{out_none, out_refused, out_unlisted, undecid
 use Rattle.monitor.proofs.Serving.{alone}
 
 -- a version of another side
-other_side : (o : Option Channel) (c : Channel) (x : Output) (k : ℕ) → o ≡ Some c → c.output ≡ Some x → (k ≡ x.pending.key → ⊥) → IsOther o k
+pub other_side : (o : Option Channel) (c : Channel) (x : Output) (k : ℕ) → o ≡ Some c → c.output ≡ Some x → (k ≡ x.pending.key → ⊥) → IsOther o k
 other_side o c x k there side apart = subst (λ y. IsOther y k) (sym there) (subst (λ y. IsOtherSide y k) (sym side) apart)
 
 -- it failed just where the device or the disk did

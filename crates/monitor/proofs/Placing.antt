@@ -1,4 +1,4 @@
--- Versions that are being written may be published under their names: they still may where others are dropped, begun or published.
+-- Versions that are being written may be published under their names: they still may where others are dropped, get words, are begun or published.
 use Rattle.std.proofs.Common.{◌≡◌, ◌<◌, ℕ, zero, suc, Bool, true, false, Option, Ok, List, [], ◌∷◌, slice_get, slice_set, Some, None, refl, sym, ap, subst, ◌∙◌, ⊎_elim, arith}
 use Rattle.std.proofs.lemmas.Bool.{cases_eq}
 use Rattle.std.specs.Prelude.{◌==◌, ◌&&◌, ◌||◌, is_none}
@@ -8,6 +8,7 @@ use Rattle.meaning.specs.Files.{Place}
 use Rattle.meaning.specs.Published.{same_place}
 use Rattle.meaning.specs.Rights.{may_look, may_create, may_supersede, directory_digit, file_digit}
 use Rattle.meaning.specs.Stands.{place_of}
+use Rattle.retrieval.specs.Versions.{VersionState}
 use Rattle.retrieval.specs.declared.prime.Prime.{Prime}
 use Rattle.monitor.specs.Finding.{claims_at, claims, begun_as, allowed}
 use Rattle.monitor.specs.declared.found.Found.{Found}
@@ -44,6 +45,28 @@ placed_dropped c c' keys drops placed = record {
   each = λ key p at. placed_on c c' drops.known p p.version (placed.each key p (drops.stay key p at));
   single = λ k key p q at here. placed.single k key p q (drops.stay k p at) (drops.stay key q here);
 }
+
+-- Words are put into one.
+
+pub placed_put : (c c' : VolumeCore) (key : ℕ) (p : PendingVersion) (v : VersionState) → pending_at c.pending key ≡ Some p → pending_at c'.pending key ≡ Some (record p { version = v }) → ((k : ℕ) → (k ≡ key → ⊥) → pending_at c'.pending k ≡ pending_at c.pending k)
+    → c'.known ≡ record c.known { table = c'.known.table } → ArePlaced c → ArePlaced c'
+placed_put c c' key p v at here others known placed = record {
+  each = λ k q there.
+      let was = before k q there in
+      subst (IsPlaced c') (sym was.2) (placed_on c c' known was.0 q.version (placed.each k was.0 was.1));
+  single = λ k j q r there too ppn file.
+      let x = before k q there in
+      let y = before j r too in
+      placed.single k j x.0 y.0 x.1 y.1 (sym (ap (λ (z : PendingVersion). z.prime.ppn) x.2) ∙ ppn ∙ ap (λ (z : PendingVersion). z.prime.ppn) y.2) (sym (ap (λ (z : PendingVersion). z.prime.file) x.2) ∙ file ∙ ap (λ (z : PendingVersion). z.prime.file) y.2);
+}
+  where
+    -- each was there, with words of its own
+    before : (k : ℕ) (q : PendingVersion) → pending_at c'.pending k ≡ Some q → (r : PendingVersion) × (pending_at c.pending k ≡ Some r) × (q ≡ record r { version = q.version })
+    before k q there = same_or_not k key
+        (λ same.
+        let is : q ≡ record p { version = v } = some_same (sym there ∙ ap (pending_at c'.pending) same ∙ here) in
+        (p, ap (pending_at c.pending) same ∙ at, is ∙ ap (λ (x : VersionState). record p { version = x }) (sym (ap (λ (z : PendingVersion). z.version) is))))
+        (λ apart. (q, sym (others k apart) ∙ there, refl))
 
 -- One is begun, whose place none has.
 

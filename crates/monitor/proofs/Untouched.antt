@@ -5,7 +5,6 @@ use Rattle.blockdisk.specs.Disk.{Contents, DiskState, MayLeave, LeavesOnly}
 use Rattle.blockdisk.specs.Laws.{leaves_start, leaves_weaker}
 use Rattle.changeset.specs.Rest.{rest_settles}
 use Rattle.meaning.specs.Files.{File, Files}
-use Rattle.meaning.specs.Jobs.{State}
 use Rattle.meaning.specs.Published.{without_serials}
 use Rattle.meaning.specs.Stands.{Stands, SettledStands}
 use Rattle.meaning.specs.declared.call.Call.{Call}

@@ -8,7 +8,8 @@ ghost use Rattle.meaning.specs.declared.call.Event.TheVariants.{Call as Calls};
 ghost use Rattle.meaning.specs.declared.call.Reply.TheVariants.{Device, Failed};
 ghost use Rattle.volume.specs.LiveCores.{core_of};
 ghost use Rattle.volume.specs.Rest.{IsSound, RestsAt};
-ghost use Rattle.monitor.specs.Serving.{pack_of, Serves, AreKeyed};
+ghost use Rattle.monitor.specs.Events.{CallCrashes, IsIdle};
+ghost use Rattle.monitor.specs.Serving.{pack_of, Serves, AreKeyed, ArePlaced};
 
 use crate::job::Jobs;
 use crate::out::out;
@@ -30,16 +31,22 @@ pub fn serve_out<D: Disk>(
 ) -> Reply
     requires sound { IsSound (D.state volume.old.disk) (core_of volume.old.map) volume.old.failed }
     requires keyed { AreKeyed (core_of volume.old.map).pending jobs.old }
+    requires placed { ArePlaced (core_of volume.old.map) }
     requires alive { volume.old.failed ≡ false }
     requires timely { moment.date ≤ 4095 }
     ensures sound { IsSound (D.state volume.new.disk) (core_of volume.new.map) volume.new.failed }
     ensures keyed { volume.new.failed ≡ false → AreKeyed (core_of volume.new.map).pending jobs.new }
+    ensures placed { volume.new.failed ≡ false → ArePlaced (core_of volume.new.map) }
     ensures answered { (D.state volume.old.disk).honest → (old : Service) → Serves (D.state volume.old.disk) (core_of volume.old.map) volume.old.failed jobs.old old
         → (new : Service) × Serves (D.state volume.new.disk) (core_of volume.new.map) volume.new.failed jobs.new new
         × Answers (pack_of (D.state volume.old.disk)) old (Calls number (Out channel address) moment) result new }
+    // A crash finds the files as they were.
+    ensures crash { CallCrashes (D.state volume.old.disk) (D.state volume.new.disk) (core_of volume.old.map) jobs.old number (Out channel address) moment }
     ensures quiet { (D.state volume.old.disk).honest → (f : Files File) → RestsAt (D.state volume.old.disk) f
         → LeavesOnly (D.state volume.old.disk) (D.state volume.new.disk) (λ c. Stands (D.state volume.old.disk).size c f) }
     ensures failed { IsTrue volume.new.failed ↔ ((result ≡ Device) ⊎ (result ≡ Failed)) }
+    ensures blamed { (D.state volume.old.disk).honest → result ≡ Failed → ⊥ }
+    ensures idle { IsIdle result → volume.new.disk ≡ volume.old.disk }
     ensures counted { result ≡ Device → (D.state volume.new.disk).failures ≡ one_more (D.state volume.old.disk).failures }
     ensures served { (result ≡ Device → ⊥) → (D.state volume.new.disk).failures ≡ (D.state volume.old.disk).failures }
     ensures same { SameDisk (D.state volume.old.disk) (D.state volume.new.disk) }

@@ -1,4 +1,4 @@
-use Rattle.std.proofs.Common.{Some, subst}
+use Rattle.std.proofs.Common.{Some, subst, refl}
 use Rattle.std.specs.List.{AllByRecursion}
 use Rattle.meaning.specs.declared.call.Call.TheVariants.{Out}
 use Rattle.volume.specs.LiveCores.{core_of}
@@ -7,9 +7,11 @@ use Rattle.monitor.specs.Serving.{IsSide}
 use Rattle.monitor.specs.Sides.{sides_in}
 use Rattle.monitor.proofs.Dropped.{job_live}
 use Rattle.monitor.proofs.OutAnswers.{out_keyed, out_answered}
+use Rattle.monitor.proofs.OutPlaced.{out_placed, out_blamed, out_idle}
 use Rattle.monitor.proofs.Serving.{nobody}
 use Rattle.monitor.proofs.SideLists.{each-slot}
 use Rattle.monitor.proofs.Slots.{put_back}
+use Rattle.monitor.proofs.Untouched.{untouched_crashes, quiet_crashes}
 use Rattle.monitor.proofs.serve_writing.serve_out.Goals as goal
 
 pub returns-in_default-clause-answered : goal.returns-in_default-clause-answered
@@ -37,3 +39,24 @@ returns-clause-answered g c h =
     c.in-Some.ensures.found.0 (put_back c.args.jobs.now c.take.new.self c.put.new.self c.args.number (Some c.out-reply.new.job) c.in-Some.ensures.found.1 c.put.ensures) c.requires.alive c.requires.timely c.requires.keyed c.out-reply.ensures.keeps
     (subst (IsSound (g.D.Disk.state c.args.volume.now.disk) (core_of c.args.volume.now.map)) c.requires.alive c.requires.sound)
     h (c.out-reply.ensures.rests h) c.out-reply.ensures.others c.out-reply.ensures.live (c.out-reply.ensures.writers h) c.out-reply.result c.out-reply.ensures.outcome c.out-reply.ensures.failed
+
+pub returns-in_default-clause-crash : goal.returns-in_default-clause-crash
+returns-in_default-clause-crash g c =
+    untouched_crashes g.D.Disk.state g.met.D.Disk.only_now c.args.volume.now.disk c.args.volume.now.disk refl (core_of c.args.volume.now.map) c.args.jobs.now c.args.number (Out c.args.channel c.args.address) c.args.moment
+
+pub returns-clause-crash : goal.returns-clause-crash
+returns-clause-crash g c =
+    quiet_crashes (g.D.Disk.state c.args.volume.now.disk) (g.D.Disk.state c.out-reply.new.volume.disk) (core_of c.args.volume.now.map) c.args.jobs.now c.args.number (Out c.args.channel c.args.address) c.args.moment c.out-reply.ensures.quiet
+
+pub returns-clause-placed : goal.returns-clause-placed
+returns-clause-placed g c alive =
+    out_placed g.D.Disk.state c.args.volume.now.disk c.out-reply.new.volume.disk (core_of c.args.volume.now.map) (core_of c.out-reply.new.volume.map) c.in-Some.job c.out-reply.new.job c.args.channel c.args.address c.out-reply.new.volume.failed
+    (job_live (core_of c.args.volume.now.map) c.args.jobs.now c.args.number c.in-Some.job c.requires.keyed c.in-Some.ensures.found.0) c.out-reply.ensures.others c.out-reply.ensures.known c.requires.placed alive c.out-reply.result c.out-reply.ensures.outcome c.out-reply.ensures.failed
+
+pub returns-clause-blamed : goal.returns-clause-blamed
+returns-clause-blamed g c h is =
+    out_blamed g.D.Disk.state c.args.volume.now.disk c.out-reply.new.volume.disk (core_of c.args.volume.now.map) (core_of c.out-reply.new.volume.map) c.in-Some.job c.out-reply.new.job c.args.channel c.args.address c.out-reply.result c.out-reply.ensures.outcome h is
+
+pub returns-clause-idle : goal.returns-clause-idle
+returns-clause-idle g c idle =
+    out_idle g.D.Disk.state c.args.volume.now.disk c.out-reply.new.volume.disk (core_of c.args.volume.now.map) (core_of c.out-reply.new.volume.map) c.in-Some.job c.out-reply.new.job c.args.channel c.args.address c.out-reply.result c.out-reply.ensures.outcome idle
