@@ -28,6 +28,8 @@ pub mod OutCalls
 pub mod OutAnswers
 pub mod MakeDirServing
 pub mod MakeDirCalls
+pub mod MakeDirStates
+pub mod MakeDirAnswers
 pub mod EnterCalls
 pub mod EnterRefusals
 pub mod EnterAnswers

@@ -12,6 +12,7 @@ use Rattle.meaning.specs.Maps.{get, size}
 use Rattle.meaning.specs.Published.{Version, without_serials}
 use Rattle.meaning.specs.Rights.{system}
 use Rattle.meaning.specs.Room.{booked, exceeds_room, growth}
+use Rattle.meaning.specs.Runs.{is_plain}
 use Rattle.meaning.specs.declared.call.Reply.{Reply}
 use Rattle.meaning.specs.declared.call.Reply.TheVariants.{Done, Refused, AddressCheck}
 use Rattle.alloctab.specs.TableState.{space}
@@ -89,3 +90,12 @@ module _ (d : DiskState) (c : VolumeCore) (files : Files Version) (w : ℕ → W
   pub may_make : early_answer job.ppn job.core e ≡ Done → IsAbsent c owner → (IsCrowded d.size c → ⊥) → make_answer (pack_of d) t (job_of w job) e owner ≡ Done
   may_make is absent fits =
       undecided is ∙ ap (λ o. rest (is_some o) crowded) (none_there d c files holds owner absent) ∙ ap (rest false) (test_is ∙ not_after (space d.size) _ (λ past. fits (omega (arith, past))))
+
+  -- where directories are looked at, the answer isn't one that is found before memory and the disk are needed
+  pub not_plain : early_answer job.ppn job.core e ≡ Done → is_plain (make_answer (pack_of d) t (job_of w job) e owner) ≡ false
+  not_plain is = ap is_plain (undecided is) ∙ by (is_some (get files owner)) crowded
+    where
+      by : (there full : Bool) → is_plain (rest there full) ≡ false
+      by true full = refl
+      by false true = refl
+      by false false = refl

@@ -25,7 +25,7 @@ use Rattle.meaning.proofs.MapLaws.{some_same, some_none, get-insert_other}
 use Rattle.meaning.proofs.MapLists.{get-from_entries}
 use Rattle.meaning.proofs.Names.{name_total, name_exact}
 use Rattle.directory.specs.Edits.{StandsAt}
-use Rattle.volume.specs.Beginning.{begun, is_absent, IsBegun}
+use Rattle.volume.specs.Beginning.{begun, is_absent, IsBegun, IsDirectoryOf}
 use Rattle.volume.specs.Known.{KnownDirectory}
 use Rattle.volume.specs.Live.{VolumeCore, pending_at}
 use Rattle.volume.specs.Publishing.{IsPlaced, IsPublishedCore}
@@ -198,3 +198,15 @@ module _ (size : ℕ) (c c' : VolumeCore) (key : ℕ) (p : PendingVersion) (word
         let second : j ≡ key → ⊥ = λ same. some_none (sym there ∙ ap (pending_at c'.pending) same ∙ gone) in
         placed.single k j q r (sym (others k first) ∙ at) (sym (others j second) ∙ there);
   }
+
+-- A directory is made.
+pub placed_made : (c c' : VolumeCore) → c'.pending ≡ c.pending → ((owner : ℕ) (d : KnownDirectory) → IsDirectoryOf c owner d → IsDirectoryOf c' owner d) → ArePlaced c → ArePlaced c'
+placed_made c c' pending stays placed = record {
+  each = λ key p at.
+      let was = placed.each key p (before key p at) in
+      record { named = was.named; directory = was.directory; there = stays p.prime.ppn was.directory was.there; is_new = was.is_new };
+  single = λ k key p q at here. placed.single k key p q (before k p at) (before key q here);
+}
+  where
+    before : (key : ℕ) (p : PendingVersion) → pending_at c'.pending key ≡ Some p → pending_at c.pending key ≡ Some p
+    before key p at = ap (λ ps. pending_at ps key) (sym pending) ∙ at

@@ -49,7 +49,7 @@ IsMakeDir size c same job job' e (Refused code) =
     × ((early_answer job.ppn job.core e ≡ Refused code) ⊎ ((early_answer job.ppn job.core e ≡ Done) × IsRefusedBy size c (asked_owner job.core e) code))
 IsMakeDir size c same job job' e AddressCheck = (job' ≡ job) × same × (early_answer job.ppn job.core e ≡ AddressCheck)
 IsMakeDir size c same job job' e NoMemory = (job' ≡ job) × same × (early_answer job.ppn job.core e ≡ Done)
-IsMakeDir size c same job job' e Device = (job' ≡ job) × (early_answer job.ppn job.core e ≡ Done)
+IsMakeDir size c same job job' e Device = (job' ≡ job) × (early_answer job.ppn job.core e ≡ Done) × IsAbsent c (asked_owner job.core e) × (IsCrowded size c → ⊥)
 IsMakeDir size c same job job' e (Value word) = ⊥
 IsMakeDir size c same job job' e (Stopped status) = ⊥
 IsMakeDir size c same job job' e NoChannel = ⊥

@@ -1,8 +1,10 @@
-ghost use Rattle.std.specs.Prelude.{◌≡◌, ◌↔◌, ◌==◌, false, IsTrue};
+ghost use Rattle.std.specs.Prelude.{◌≡◌, ◌↔◌, ◌==◌, ℕ, false, IsTrue};
 ghost use Rattle.blockdisk.specs.Disk.{LeavesOnly, SameDisk, one_more};
 ghost use Rattle.meaning.specs.Files.{File, Files};
 ghost use Rattle.meaning.specs.Rights.{system};
 ghost use Rattle.meaning.specs.declared.call.Reply.TheVariants.{Done, Device};
+ghost use Rattle.volume.specs.Beginning.{IsDirectoryOf};
+ghost use Rattle.volume.specs.Known.{KnownDirectory};
 ghost use Rattle.volume.specs.LiveCores.{core_of};
 ghost use Rattle.volume.specs.Making.{files_made};
 ghost use Rattle.volume.specs.Rest.{IsSound, RestsAt, StandsForEither, KeepsRead, KeepsEachWritten};
@@ -48,9 +50,10 @@ pub fn make_dir<D: Disk>(
         → LeavesOnly (D.state volume.old.disk) (D.state volume.new.disk) (StandsForEither (D.state volume.old.disk).size f (files_made f (asked_owner job.old.core address) (asked_protection job.old.core address))) }
     ensures done { (D.state volume.old.disk).honest → (f : Files File) → RestsAt (D.state volume.old.disk) f
         → result ≡ Done → RestsAt (D.state volume.new.disk) (files_made f (asked_owner job.old.core address) (asked_protection job.old.core address)) }
-    // The versions in use stay.
+    // The versions in use stay, and so does each directory in its place.
     ensures live { (core_of volume.new.map).live ≡ (core_of volume.old.map).live }
     ensures pending { (core_of volume.new.map).pending ≡ (core_of volume.old.map).pending }
+    ensures directories { (owner : ℕ) (d : KnownDirectory) → IsDirectoryOf (core_of volume.old.map) owner d → IsDirectoryOf (core_of volume.new.map) owner d }
     ensures readers { (D.state volume.old.disk).honest → KeepsRead (D.state volume.old.disk).contents (D.state volume.new.disk).contents (core_of volume.old.map) }
     ensures writers { (D.state volume.old.disk).honest → KeepsEachWritten (D.state volume.old.disk).contents (D.state volume.new.disk).contents (core_of volume.old.map) }
     // It blames the device where that failed.

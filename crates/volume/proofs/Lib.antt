@@ -33,6 +33,7 @@ pub mod LiveBodies
 pub mod PinnedFiles
 pub mod ReadWords
 pub mod MakingDirectories
+pub mod MakingPlaces
 pub mod PuttingCore
 pub mod PuttingDisk
 pub mod BeginningCounts

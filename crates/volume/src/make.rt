@@ -11,6 +11,8 @@ ghost use Rattle.meaning.specs.Regions.{IsVolumeSize, space_start};
 ghost use Rattle.meaning.specs.Faults.{InSpace};
 ghost use Rattle.alloctab.specs.TableState.{TableState, IsTable, IsFree, bit, holds, space, used_in_space, with_held};
 ghost use Rattle.retrieval.specs.Writing.{Takes, IsFixed};
+ghost use Rattle.volume.specs.Beginning.{IsDirectoryOf};
+ghost use Rattle.volume.specs.Known.{KnownDirectory};
 ghost use Rattle.volume.specs.Live.{IsWholeCore};
 ghost use Rattle.volume.specs.LiveCores.{core_of};
 ghost use Rattle.volume.specs.Making.{brought, Uses, TakesBlocks, PutsTable, growth, fresh_list, files_made, IsEntered, IsMade};
@@ -242,6 +244,8 @@ impl<D: Disk> Volume<D> {
             → (D.state self.new.disk).contents n ≡ (D.state self.old.disk).contents n }
         ensures readers { (D.state self.old.disk).honest → KeepsRead (D.state self.old.disk).contents (D.state self.new.disk).contents (core_of self.old.map) }
         ensures writers { (D.state self.old.disk).honest → KeepsEachWritten (D.state self.old.disk).contents (D.state self.new.disk).contents (core_of self.old.map) }
+        // So does each directory in its place.
+        ensures directories { (owner : ℕ) (d : KnownDirectory) → IsDirectoryOf (core_of self.old.map) owner d → IsDirectoryOf (core_of self.new.map) owner d }
 
         // Which error comes when, and what it leaves.
         ensures refused { (IsErrOf result Device → ⊥) → OnErr result ((self.new.disk ≡ self.old.disk) × (core_of self.new.map ≡ core_of self.old.map)) }

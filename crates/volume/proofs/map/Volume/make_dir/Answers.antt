@@ -5,6 +5,7 @@ use Rattle.volume.specs.Making.{IsMade}
 use Rattle.volume.specs.Rest.{IsSound}
 use Rattle.volume.proofs.LiveBodies.{bodies_stay, bodies_of, used_read, used_written}
 use Rattle.volume.proofs.MakingDirectories.{sound_for, sound_failed, made_core, puts_in_range, not_written, made_crash, made_rest, made_at, made_done}
+use Rattle.volume.proofs.MakingPlaces.{directory_stays}
 use Rattle.volume.proofs.map.Volume.make_dir.Goals as goal
 
 pub returns-in-Err-clause-sound : goal.returns-in-Err-clause-sound
@@ -156,3 +157,11 @@ returns-in-Err-write_and_commit-clause-writers g c h =
     subst (λ (b : ℕ). IsMade b k k' c.args.ppn c.args.protection c.in-Ok.first c.make_in_core.new.set) c.requires.sound.whole.map.size_is c.in-Ok.ensures.made in
     used_written s.size (core_of c.args.self.now.map) c.requires.sound.whole s.contents s'.contents
     (λ n is. (c.write_and_commit.ensures.touched h).contents n (not_written s.size k k' c.args.ppn c.args.protection c.in-Ok.first c.make_in_core.new.set whole made n is.from is.apart is.used))
+
+pub returns-in-Ok-write_and_commit-clause-directories : goal.returns-in-Ok-write_and_commit-clause-directories
+returns-in-Ok-write_and_commit-clause-directories g c =
+    directory_stays c.args.self.now.map.table.size (core_of c.args.self.now.map) (core_of c.make_in_core.new.core) c.args.ppn c.args.protection c.in-Ok.first c.make_in_core.new.set c.in-Ok.ensures.made
+
+pub returns-in-Err-write_and_commit-clause-directories : goal.returns-in-Err-write_and_commit-clause-directories
+returns-in-Err-write_and_commit-clause-directories g c =
+    directory_stays c.args.self.now.map.table.size (core_of c.args.self.now.map) (core_of c.make_in_core.new.core) c.args.ppn c.args.protection c.in-Ok.first c.make_in_core.new.set c.in-Ok.ensures.made
