@@ -21,7 +21,7 @@ use crate::job::Jobs;
 use crate::monitor::Monitor;
 use crate::serve::{serve_enter, serve_open, serve_reset, serve_useto};
 use crate::serve_closing::{serve_close, serve_release};
-use crate::serve_writing::serve_out;
+use crate::serve_writing::{serve_make_dir, serve_out};
 use blockdisk::Disk;
 use meaning::Reply;
 use std::alloc::Global;
@@ -95,7 +95,7 @@ fn serve<D: Disk>(
         Call::Releas(channel) => serve_release(alloc, volume, jobs, number, channel, moment),
         Call::Useto(channel, block) => serve_useto(volume, jobs, number, channel, block, moment),
         Call::Reset => serve_reset(volume, jobs, number, moment),
-        Call::MakeDir(address) => serve_out(alloc, volume, jobs, number, 0, address, moment),
+        Call::MakeDir(address) => serve_make_dir(alloc, volume, jobs, number, address, moment),
     }
 }
 

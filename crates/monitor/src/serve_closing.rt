@@ -142,7 +142,9 @@ pub fn serve_close<D: Disk>(
     ensures light { publishes_by channel bits (slot jobs.old number) ≡ false → (result ≡ NoMemory → ⊥) × (volume.new.disk ≡ volume.old.disk) }
 {
     match closed_side(jobs, number, channel, bits) {
-        Some(closed) => close_publishing(alloc, volume, jobs, number, channel, bits, closed, moment),
+        Some(closed) => close_publishing(
+            alloc, volume, jobs, number, channel, bits, closed, moment,
+        ),
         None => close_quietly(volume, jobs, number, channel, bits, moment),
     }
 }
