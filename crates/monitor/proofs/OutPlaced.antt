@@ -1,4 +1,4 @@
--- OUT, by its answer: the versions that are being written may still be published, a disk that isn't touched is as it was.
+-- OUT, by its answer: what is being written may still be published, and a disk that isn't touched is as it was.
 use Rattle.std.proofs.Common.{◌≡◌, ◌≤◌, ℕ, Bool, false, Some, refl, sym, subst, ◌⊎◌, inl, inr}
 use Rattle.std.specs.Prelude.{◌↔◌, IsTrue}
 use Rattle.blockdisk.specs.Disk.{DiskState}

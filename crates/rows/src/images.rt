@@ -10,16 +10,16 @@ use words36::{BLOCK_WORDS, Block, FileName, Half, Ppn, Word};
 const SIZE: usize = 65536;
 
 /// The home copies, in blocks 1 and 2. The table is block 14, the free space begins at 15.
-const HOME: [u64; 6] = [0o465154634562, 1, 0o100, 1, 0o11, 0o17];
+pub(crate) const HOME: [u64; 6] = [0o465154634562, 1, 0o100, 1, 0o11, 0o17];
 
 /// The master directory, in block 15: [10,20] with protection 775.
-const MASTER: [u64; 5] = [0, 1, 0o000010000020, 0o775000000000, 0o20];
+pub(crate) const MASTER: [u64; 5] = [0, 1, 0o000010000020, 0o775000000000, 0o20];
 
 /// The directory [10,20], in block 16: FOO.TXT.
-const DIRECTORY: [u64; 5] = [0, 1, 0o465757000000, 0o647064000000, 0o21];
+pub(crate) const DIRECTORY: [u64; 5] = [0, 1, 0o465757000000, 0o647064000000, 0o21];
 
 /// The prime block of FOO.TXT, in block 17: two words, in block 18.
-const PRIME: [u64; 17] = [
+pub(crate) const PRIME: [u64; 17] = [
     0o625142000000,
     0o465757000000,
     0o647064000000,
@@ -38,6 +38,9 @@ const PRIME: [u64; 17] = [
     0,
     0o000001000022,
 ];
+
+/// The words of FOO.TXT.
+pub(crate) const WORDS: [u64; 2] = [0o442131446236, 0o064240000000];
 
 /// Each word of an open gate.
 const OPEN: u64 = 0o252525252525;
@@ -61,7 +64,7 @@ fn v1(rt: &impl Abort, alloc: Global) -> Result<Vec<u8>, AllocError> {
     put(rt, image, 15, &MASTER);
     put(rt, image, 16, &DIRECTORY);
     put(rt, image, 17, &PRIME);
-    put(rt, image, 18, &[0o442131446236, 0o064240000000]);
+    put(rt, image, 18, &WORDS);
     Ok(bytes)
 }
 

@@ -1,6 +1,8 @@
-//! Tests that cross the crates: what a volume does on an image, from the bytes of a file up. There is no
-//! code here beside them.
+//! Tests that cross the crates: what a volume does on an image, from the bytes of a file up, and what a monitor
+//! answers to the calls of its jobs, one after the other. There is no code here beside them.
 #![tactic(auto)]
 
 #[cfg(test)]
 mod images;
+#[cfg(test)]
+mod monitor_rows;
