@@ -12,14 +12,15 @@
 //! 4. `list` gives the list of a directory that the machine gives, by name and then by extension.
 //!    (`listed`) On every disk it is refused by few replies, and never by the device. (`nobody`, `only`)
 //! 5. `deposit` and `examine` put and show a word of a job's core as the machine does. (`answered`, `value`)
-//! 6. `call` answers OPEN in dump mode, ENTER, USETO and RESET as the machine's rows do, or wants memory where
-//!    the machine may, and leaves the state of that row. (`answered`) None of them touches the disk.
+//! 6. `call` answers OPEN, ENTER, OUT, USETO, CLOSE, RELEAS, RESET and MakeDir, in dump mode, as the machine's
+//!    rows do, or wants memory where the machine may, or blames the device; and leaves the state of that row.
+//!    (`answered`) At any moment of it a crash leaves the files from before, or those of that row. (`crash`)
+//!    Which answers, and which calls, leave the disk alone is said beside. (`idle`, `light`)
 //! 7. Each version that the volume writes belongs to one output side of a job, and may be published under its
 //!    name. (`AreKeyed`, `ArePlaced`)
 //! 8. `room` and `blocks` are the volume's. `finish` gives the disk back as it stands.
-//! 9. A monitor that has failed answers Failed to every event, and no other does. (`failed`)
-//!
-//! The rows of OUT, MakeDir, CLOSE and RELEAS are proved as functions of one job; `call` doesn't serve them yet.
+//! 9. A monitor that has failed answers Failed to every event and changes nothing. It fails with the device; on an
+//!    honest disk with nothing else. (`failed`, `broken`, `blamed`, `counted`, `served`)
 #![tactic(auto)]
 
 mod call;
