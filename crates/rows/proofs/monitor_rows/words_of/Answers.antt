@@ -1,0 +1,7 @@
+use Rattle.std.proofs.Common.{◌+◌, arith}
+use Rattle.rows.proofs.monitor_rows.words_of.Goals as goal
+
+pub get_words-requires-clause-live : goal.get_words-requires-clause-live
+get_words-requires-clause-live g c =
+    let pinned = c.in-Ok-pin.ensures.pinned in
+    (record pinned.0 { readers = pinned.0.readers + 1 }, pinned.2, omega arith)
