@@ -5,7 +5,7 @@ use Rattle.meaning.specs.Rings.{is_buffered}
 use Rattle.meaning.specs.declared.call.Call as machine
 use Rattle.meaning.specs.declared.call.Call.TheVariants as calls
 use Rattle.monitor.specs.declared.call.Call.{Call}
-use Rattle.monitor.specs.declared.call.Call.TheVariants.{Open, Enter, Out, Close, Releas, Useto, Reset, MakeDir}
+use Rattle.monitor.specs.declared.call.Call.TheVariants.{Open, Enter, Out, Close, Releas, Useto, Getsts, Reset, MakeDir}
 use Rattle.monitor.specs.declared.job.Job.{Job}
 use Rattle.monitor.specs.Rows.{publishes_by}
 
@@ -22,6 +22,7 @@ call_of (Out channel address) = calls.Out channel address
 call_of (Close channel bits) = calls.Close channel bits
 call_of (Releas channel) = calls.Releas channel
 call_of (Useto channel block) = calls.Useto channel block
+call_of (Getsts channel) = calls.Getsts channel
 call_of Reset = calls.Reset
 call_of (MakeDir address) = calls.MakeDir address
 
@@ -33,6 +34,7 @@ IsServed (Out channel address) job = Unit {0}
 IsServed (Close channel bits) job = Unit {0}
 IsServed (Releas channel) job = Unit {0}
 IsServed (Useto channel block) job = Unit {0}
+IsServed (Getsts channel) job = Unit {0}
 IsServed Reset job = Unit {0}
 IsServed (MakeDir address) job = Unit {0}
 
@@ -44,5 +46,6 @@ IsLight (Out channel address) job = ⊥
 IsLight (Close channel bits) job = publishes_by channel bits job ≡ false
 IsLight (Releas channel) job = publishes_by channel 0 job ≡ false
 IsLight (Useto channel block) job = Unit {0}
+IsLight (Getsts channel) job = Unit {0}
 IsLight Reset job = Unit {0}
 IsLight (MakeDir address) job = ⊥

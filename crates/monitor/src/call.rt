@@ -17,6 +17,7 @@ ghost use Rattle.monitor.specs.declared.job.Job.{Job as JobRecord};
 ghost use Rattle.monitor.specs.declared.call.Call.TheVariants.{Open};
 
 use crate::event::LAST_DATE;
+use crate::getsts::serve_getsts;
 use crate::job::Jobs;
 use crate::monitor::Monitor;
 use crate::serve::{serve_enter, serve_open, serve_reset, serve_useto};
@@ -44,6 +45,8 @@ pub enum Call {
     Releas(u32),
     /// Names the block that is written next: a channel and the block, counted from 1.
     Useto(u32, u32),
+    /// Asks for a channel's status.
+    Getsts(u32),
     /// Closes all channels and drops what was not closed.
     Reset,
     /// Makes a directory: the address of its two words.
@@ -94,6 +97,7 @@ fn serve<D: Disk>(
         }
         Call::Releas(channel) => serve_release(alloc, volume, jobs, number, channel, moment),
         Call::Useto(channel, block) => serve_useto(volume, jobs, number, channel, block, moment),
+        Call::Getsts(channel) => serve_getsts(volume, jobs, number, channel, moment),
         Call::Reset => serve_reset(volume, jobs, number, moment),
         Call::MakeDir(address) => serve_make_dir(alloc, volume, jobs, number, address, moment),
     }

@@ -32,6 +32,7 @@ mod dropping;
 mod enter;
 mod event;
 mod found;
+mod getsts;
 mod job;
 mod laws;
 mod list;

@@ -1,4 +1,4 @@
-use Rattle.std.proofs.Common.{◌≡◌, sym, ap, subst, ◌∙◌}
+use Rattle.std.proofs.Common.{◌≡◌, refl, sym, ap, subst, ◌∙◌}
 use Rattle.meaning.specs.Jobs.{slot}
 use Rattle.meaning.specs.Opening.{mode_at}
 use Rattle.meaning.specs.Rings.{is_buffered}
@@ -133,3 +133,17 @@ returns-in-Close-clause-light g c light = c.serve_close.ensures.light (subst (λ
 
 pub returns-in-Releas-clause-light : goal.returns-in-Releas-clause-light
 returns-in-Releas-clause-light g c light = c.serve_release.ensures.light (subst (λ call. IsLight call (slot c.args.jobs.now c.args.number)) c.in-Releas.is light)
+
+pub returns-in-Getsts-clause-answered : goal.returns-in-Getsts-clause-answered
+returns-in-Getsts-clause-answered g c h =
+    subst (IsCalled (g.D.Disk.state c.args.volume.now.disk) (core_of c.args.volume.now.map) c.args.volume.now.failed c.args.jobs.now (g.D.Disk.state c.args.volume.now.disk) (core_of c.args.volume.now.map) c.args.volume.now.failed c.args.jobs.now
+    c.args.number c.args.moment c.serve_getsts.result) (sym c.in-Getsts.is) (λ served. c.serve_getsts.ensures.answered)
+
+pub returns-in-Getsts-clause-crash : goal.returns-in-Getsts-clause-crash
+returns-in-Getsts-clause-crash g c = untouched_crashes g.D.Disk.state g.met.D.Disk.only_now c.args.volume.now.disk c.args.volume.now.disk refl (core_of c.args.volume.now.map) c.args.jobs.now c.args.number (call_of c.args.call.now) c.args.moment
+
+pub returns-in-Getsts-clause-failed : goal.returns-in-Getsts-clause-failed
+returns-in-Getsts-clause-failed g c = quiet_failed c.args.volume.now.failed c.args.volume.now.failed c.serve_getsts.result c.requires.alive refl (c.serve_getsts.ensures.only.0, c.serve_getsts.ensures.only.1)
+
+pub returns-in-Getsts-clause-same : goal.returns-in-Getsts-clause-same
+returns-in-Getsts-clause-same g c = quiet_same g.D.Disk.state c.args.volume.now.disk c.args.volume.now.disk refl
