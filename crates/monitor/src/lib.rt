@@ -12,9 +12,9 @@
 //! 4. `list` gives the list of a directory that the machine gives, by name and then by extension.
 //!    (`listed`) On every disk it is refused by few replies, and never by the device. (`nobody`, `only`)
 //! 5. `deposit` and `examine` put and show a word of a job's core as the machine does. (`answered`, `value`)
-//! 6. `call` answers OPEN, ENTER, OUT, USETO, CLOSE, RELEAS, RESET and MakeDir, in dump mode, as the machine's
-//!    rows do, or wants memory where the machine may, or blames the device; and leaves the state of that row.
-//!    (`answered`) At any moment of it a crash leaves the files from before, or those of that row. (`crash`)
+//! 6. `call` answers OPEN, ENTER, OUT, USETO, CLOSE, RELEAS, GETSTS, RESET and MakeDir, in dump mode, as the
+//!    machine's rows do, or wants memory where the machine may, or blames the device; and leaves the state of that
+//!    row. (`answered`) At any moment of it a crash leaves the files from before, or those of that row. (`crash`)
 //!    Which answers, and which calls, leave the disk alone is said beside. (`idle`, `light`)
 //! 7. Each version that the volume writes belongs to one output side of a job, and may be published under its
 //!    name. (`AreKeyed`, `ArePlaced`)
