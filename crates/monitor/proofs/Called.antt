@@ -1,5 +1,5 @@
 -- What is said of a call, whichever it is.
-use Rattle.std.proofs.Common.{◌≡◌, ◌⊎◌, ◌<◌, ℕ, Bool, false, List, [], Option, sym, subst, ◌∙◌, ⊎_elim}
+use Rattle.std.proofs.Common.{◌≡◌, ◌⊎◌, ◌<◌, ℕ, Bool, true, false, List, [], Option, refl, sym, subst, ◌∙◌, ⊎_elim}
 use Rattle.std.specs.Prelude.{◌↔◌, IsTrue}
 use Rattle.words36.specs.declared.moment.Moment.{Moment}
 use Rattle.blockdisk.specs.Disk.{DiskState, SameDisk}
@@ -8,7 +8,7 @@ use Rattle.meaning.specs.Jobs.{slot}
 use Rattle.meaning.specs.Runs.{Service, Answers}
 use Rattle.meaning.specs.declared.call.Event.TheVariants.{Call as Calls}
 use Rattle.meaning.specs.declared.call.Reply.{Reply}
-use Rattle.meaning.specs.declared.call.Reply.TheVariants.{DateRange, Device, Failed}
+use Rattle.meaning.specs.declared.call.Reply.TheVariants.{DateRange, NoMemory, Device, Failed}
 use Rattle.volume.specs.Live.{VolumeCore}
 use Rattle.monitor.specs.Calls.{IsServed, call_of}
 use Rattle.monitor.specs.Serving.{pack_of, Serves, AreKeyed}
@@ -33,3 +33,8 @@ quiet_failed failed failed' reply alive same only = (λ t. absurd (contrary (sam
 
 pub quiet_same : {D : Type 0} (state : D → DiskState) (old new : D) → new ≡ old → SameDisk (state old) (state new)
 quiet_same state old new same = subst (λ disk. SameDisk (state old) (state disk)) (sym same) (same_disk_start (state old))
+
+-- A call that finds no memory doesn't fail.
+pub still_serves : (failed failed' : Bool) (reply : Reply) → failed ≡ false → IsTrue failed' ↔ ((reply ≡ Device) ⊎ (reply ≡ Failed)) → reply ≡ NoMemory → failed' ≡ failed
+still_serves failed false reply alive fails none = sym alive
+still_serves failed true reply alive fails none = ⊎_elim (λ e. let wrong = sym none ∙ e in cc) (λ e. let wrong = sym none ∙ e in cc) (fails.0 refl)

@@ -73,6 +73,7 @@ fn serve<D: Disk>(
     ensures crash { CallCrashes (D.state volume.old.disk) (D.state volume.new.disk) (core_of volume.old.map) jobs.old number (call_of call.now) moment }
     ensures idle { IsIdle result → volume.new.disk ≡ volume.old.disk }
     ensures light { IsLight call.now (slot jobs.old number) → (result ≡ NoMemory → ⊥) × (volume.new.disk ≡ volume.old.disk) }
+    ensures memory { result ≡ NoMemory → (volume.new.disk ≡ volume.old.disk) × (core_of volume.new.map ≡ core_of volume.old.map) × (volume.new.failed ≡ volume.old.failed) × (jobs.new ≡ jobs.old) }
     ensures failed { IsTrue volume.new.failed ↔ ((result ≡ Device) ⊎ (result ≡ Failed)) }
     ensures blamed { (D.state volume.old.disk).honest → result ≡ Failed → ⊥ }
     ensures counted { result ≡ Device → (D.state volume.new.disk).failures ≡ one_more (D.state volume.old.disk).failures }
@@ -120,6 +121,7 @@ impl<D: Disk> Monitor<D> {
         // Which calls, and which answers, leave the disk alone; and which calls take no memory.
         ensures idle { IsIdle result → self.new.disk ≡ self.old.disk }
         ensures light { IsLight call.now (slot self.old.jobs job) → (result ≡ NoMemory → ⊥) × (self.new.disk ≡ self.old.disk) }
+        ensures memory { result ≡ NoMemory → self.new ≡ self.old }
         // It fails with the device, and is Failed from then on; else only a broken promise of the disk makes it so.
         ensures failed { IsTrue self.new.failed ↔ ((result ≡ Device) ⊎ (result ≡ Failed)) }
         ensures broken { self.old.failed ≡ true → (result ≡ Failed) × (self.new ≡ self.old) }

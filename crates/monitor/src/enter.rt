@@ -9,7 +9,7 @@ ghost use Rattle.meaning.specs.Maps.{get};
 ghost use Rattle.meaning.specs.Published.{file_at, attributes};
 ghost use Rattle.meaning.specs.Rights.{directory_digit, file_digit, may_look, may_supersede};
 ghost use Rattle.meaning.specs.Stands.{place_of};
-ghost use Rattle.meaning.specs.declared.call.Reply.TheVariants.{Done, Failed, Device};
+ghost use Rattle.meaning.specs.declared.call.Reply.TheVariants.{Done, NoMemory, Failed, Device};
 ghost use Rattle.volume.specs.declared.error.CallError.TheVariants.{Failed as VolumeFailed, Device as VolumeDevice};
 ghost use Rattle.retrieval.specs.declared.mode.Mode.TheVariants.{Dump};
 ghost use Rattle.volume.specs.Beginning.{IsBegun};
@@ -317,6 +317,7 @@ pub fn enter<D: Disk>(
         → prime.protection ≡ protection_for (found_in (get files prime.ppn) prime.file) (protection_or (slice_index job.old.core (address + 2)) 0o057)) }
     ensures placed { ArePlaced (core_of volume.old.map) → ArePlaced (core_of volume.new.map) }
     ensures kept { (result ≡ Done → ⊥) → (core_of volume.new.map ≡ core_of volume.old.map) × (job.new ≡ record job.old { core = job.new.core }) }
+    ensures memory { result ≡ NoMemory → job.new ≡ job.old }
     ensures row { (D.state volume.old.disk).honest → (s : State) → IsKnown (D.state volume.old.disk) (core_of volume.old.map) s
         → (written : ℕ → Writing) → IsEnterAnswer (pack_of (D.state volume.old.disk)) s (job_of written job.old) (job_of written job.new) (channel_at (job_of written job.old) number) address result }
 {

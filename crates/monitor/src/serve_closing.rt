@@ -96,6 +96,7 @@ fn close_publishing<D: Disk>(
         × Answers (pack_of (D.state volume.old.disk)) old (Calls number (Close channel bits) moment) result new }
     ensures crash { CallCrashes (D.state volume.old.disk) (D.state volume.new.disk) (core_of volume.old.map) jobs.old number (Close channel bits) moment }
     ensures idle { IsIdle result → volume.new.disk ≡ volume.old.disk }
+    ensures memory { result ≡ NoMemory → (volume.new.disk ≡ volume.old.disk) × (core_of volume.new.map ≡ core_of volume.old.map) × (volume.new.failed ≡ volume.old.failed) × (jobs.new ≡ jobs.old) }
     ensures failed { IsTrue volume.new.failed ↔ ((result ≡ Device) ⊎ (result ≡ Failed)) }
     ensures blamed { (D.state volume.old.disk).honest → result ≡ Failed → ⊥ }
     ensures counted { result ≡ Device → (D.state volume.new.disk).failures ≡ one_more (D.state volume.old.disk).failures }
@@ -134,6 +135,7 @@ pub fn serve_close<D: Disk>(
         × Answers (pack_of (D.state volume.old.disk)) old (Calls number (Close channel bits) moment) result new }
     ensures crash { CallCrashes (D.state volume.old.disk) (D.state volume.new.disk) (core_of volume.old.map) jobs.old number (Close channel bits) moment }
     ensures idle { IsIdle result → volume.new.disk ≡ volume.old.disk }
+    ensures memory { result ≡ NoMemory → (volume.new.disk ≡ volume.old.disk) × (core_of volume.new.map ≡ core_of volume.old.map) × (volume.new.failed ≡ volume.old.failed) × (jobs.new ≡ jobs.old) }
     ensures failed { IsTrue volume.new.failed ↔ ((result ≡ Device) ⊎ (result ≡ Failed)) }
     ensures blamed { (D.state volume.old.disk).honest → result ≡ Failed → ⊥ }
     ensures counted { result ≡ Device → (D.state volume.new.disk).failures ≡ one_more (D.state volume.old.disk).failures }
@@ -204,6 +206,7 @@ fn release_publishing<D: Disk>(
         × Answers (pack_of (D.state volume.old.disk)) old (Calls number (Releas channel) moment) result new }
     ensures crash { CallCrashes (D.state volume.old.disk) (D.state volume.new.disk) (core_of volume.old.map) jobs.old number (Releas channel) moment }
     ensures idle { IsIdle result → volume.new.disk ≡ volume.old.disk }
+    ensures memory { result ≡ NoMemory → (volume.new.disk ≡ volume.old.disk) × (core_of volume.new.map ≡ core_of volume.old.map) × (volume.new.failed ≡ volume.old.failed) × (jobs.new ≡ jobs.old) }
     ensures failed { IsTrue volume.new.failed ↔ ((result ≡ Device) ⊎ (result ≡ Failed)) }
     ensures blamed { (D.state volume.old.disk).honest → result ≡ Failed → ⊥ }
     ensures counted { result ≡ Device → (D.state volume.new.disk).failures ≡ one_more (D.state volume.old.disk).failures }
@@ -241,6 +244,7 @@ pub fn serve_release<D: Disk>(
         × Answers (pack_of (D.state volume.old.disk)) old (Calls number (Releas channel) moment) result new }
     ensures crash { CallCrashes (D.state volume.old.disk) (D.state volume.new.disk) (core_of volume.old.map) jobs.old number (Releas channel) moment }
     ensures idle { IsIdle result → volume.new.disk ≡ volume.old.disk }
+    ensures memory { result ≡ NoMemory → (volume.new.disk ≡ volume.old.disk) × (core_of volume.new.map ≡ core_of volume.old.map) × (volume.new.failed ≡ volume.old.failed) × (jobs.new ≡ jobs.old) }
     ensures failed { IsTrue volume.new.failed ↔ ((result ≡ Device) ⊎ (result ≡ Failed)) }
     ensures blamed { (D.state volume.old.disk).honest → result ≡ Failed → ⊥ }
     ensures counted { result ≡ Device → (D.state volume.new.disk).failures ≡ one_more (D.state volume.old.disk).failures }

@@ -1,4 +1,4 @@
-use Rattle.std.proofs.Common.{Some, subst}
+use Rattle.std.proofs.Common.{Some, sym, subst, ◌∙◌}
 use Rattle.meaning.specs.Runs.{Answers}
 use Rattle.meaning.specs.declared.call.Call.TheVariants.{Enter}
 use Rattle.meaning.specs.declared.call.Event.TheVariants.{Call as Calls}
@@ -8,7 +8,7 @@ use Rattle.monitor.specs.Serving.{pack_of}
 use Rattle.monitor.proofs.Answering.{on_disk}
 use Rattle.monitor.proofs.EnterAnswers.{enters_keyed, enter_answered}
 use Rattle.monitor.proofs.Serving.{nobody}
-use Rattle.monitor.proofs.Slots.{put_back}
+use Rattle.monitor.proofs.Slots.{put_back, unchanged}
 use Rattle.monitor.proofs.serve.serve_enter.Goals as goal
 
 pub returns-in_default-clause-answered : goal.returns-in_default-clause-answered
@@ -30,3 +30,8 @@ returns-clause-answered g c h old state =
     (enter_answered d map (core_of c.enter-reply.new.volume.map) c.args.jobs.now c.put.new.self c.args.number c.in-Some.job c.enter-reply.new.job c.args.channel c.args.address c.args.moment
     c.enter-reply.result c.in-Some.ensures.found.0 (put_back c.args.jobs.now c.take.new.self c.put.new.self c.args.number (Some c.enter-reply.new.job) c.in-Some.ensures.found.1 c.put.ensures) c.requires.keyed c.enter-reply.ensures.begun c.enter-reply.ensures.kept
     c.args.volume.now.failed c.requires.alive (subst (IsSound d map) c.requires.alive c.requires.sound) h c.requires.timely (c.enter-reply.ensures.row h) old state)
+
+pub returns-clause-memory : goal.returns-clause-memory
+returns-clause-memory g c none =
+    let kept = c.enter-reply.ensures.kept (λ e. let wrong = sym none ∙ e in cc) in
+    (c.enter-reply.ensures.untouched.0, kept.0, c.enter-reply.ensures.untouched.1, unchanged c.args.jobs.now c.put.new.self c.args.number c.in-Some.job c.enter-reply.new.job c.in-Some.ensures.found.0 (put_back c.args.jobs.now c.take.new.self c.put.new.self c.args.number (Some c.enter-reply.new.job) c.in-Some.ensures.found.1 c.put.ensures) (c.enter-reply.ensures.memory none))

@@ -10,7 +10,8 @@ use Rattle.monitor.proofs.Dropped.{job_live}
 use Rattle.monitor.proofs.Outs.{version_live, its_side}
 use Rattle.monitor.proofs.Serving.{nobody}
 use Rattle.monitor.proofs.SideLists.{each-slot}
-use Rattle.monitor.proofs.Slots.{put_back}
+use Rattle.monitor.proofs.Called.{still_serves}
+use Rattle.monitor.proofs.Slots.{put_back, unchanged}
 use Rattle.monitor.proofs.Untouched.{untouched_crashes}
 use Rattle.monitor.proofs.serve_closing.close_publishing.Goals as goal
 
@@ -78,3 +79,8 @@ returns-clause-served g c =
 
 pub returns-clause-idle : goal.returns-clause-idle
 returns-clause-idle g c idle = (c.close_output-reply.ensures.memory (publishing_idle (g.D.Disk.state c.args.volume.now.disk) (g.D.Disk.state c.close_output-reply.new.volume.disk) (core_of c.args.volume.now.map) (core_of c.close_output-reply.new.volume.map) c.args.volume.now.failed c.close_output-reply.new.volume.failed c.args.closed.1.pending.key c.close_output-reply.result c.close_output-reply.ensures.answered idle)).0
+
+pub returns-clause-memory : goal.returns-clause-memory
+returns-clause-memory g c none =
+    let same = c.close_output-reply.ensures.memory none in
+    (same.0, same.1, still_serves c.args.volume.now.failed c.close_output-reply.new.volume.failed c.close_output-reply.result c.requires.alive (returns-clause-failed g c) none, unchanged c.args.jobs.now c.put.new.self c.args.number c.in-Some.job c.close_output-reply.new.job c.in-Some.ensures.found.0 (put_back c.args.jobs.now c.take.new.self c.put.new.self c.args.number (Some c.close_output-reply.new.job) c.in-Some.ensures.found.1 c.put.ensures) (c.close_output-reply.ensures.kept (λ e. let wrong = sym none ∙ e in cc)))

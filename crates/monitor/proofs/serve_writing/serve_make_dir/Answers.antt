@@ -2,10 +2,12 @@ use Rattle.std.proofs.Common.{◌≡◌, Some, subst}
 use Rattle.meaning.specs.declared.call.Call.TheVariants.{MakeDir}
 use Rattle.volume.specs.LiveCores.{core_of}
 use Rattle.volume.specs.Rest.{IsSound}
+use Rattle.monitor.specs.DirectoryRows.{IsMakeDir}
 use Rattle.monitor.proofs.MakeDirAnswers.{idle_crashes, never_failed, fails_by, idle_same, made_keyed, crashes_by, make_dir_answered}
 use Rattle.monitor.proofs.Placing.{placed_made}
 use Rattle.monitor.proofs.Serving.{nobody}
-use Rattle.monitor.proofs.Slots.{put_back}
+use Rattle.monitor.proofs.Called.{still_serves}
+use Rattle.monitor.proofs.Slots.{put_back, unchanged}
 use Rattle.monitor.proofs.serve_writing.serve_make_dir.Goals as goal
 
 pub returns-in_default-clause-answered : goal.returns-in_default-clause-answered
@@ -57,3 +59,8 @@ pub returns-clause-idle : goal.returns-clause-idle
 returns-clause-idle g c =
     idle_same (g.D.Disk.state c.args.volume.now.disk).size (core_of c.args.volume.now.map) (c.make_dir-reply.new.volume.disk ≡ c.args.volume.now.disk) (core_of c.make_dir-reply.new.volume.map ≡ core_of c.args.volume.now.map) c.in-Some.job c.make_dir-reply.new.job c.args.address
     c.make_dir-reply.result c.make_dir-reply.ensures.outcome
+
+pub returns-clause-memory : goal.returns-clause-memory
+returns-clause-memory g c none =
+    let is = subst (IsMakeDir (g.D.Disk.state c.args.volume.now.disk).size (core_of c.args.volume.now.map) ((c.make_dir-reply.new.volume.disk ≡ c.args.volume.now.disk) × (core_of c.make_dir-reply.new.volume.map ≡ core_of c.args.volume.now.map)) c.in-Some.job c.make_dir-reply.new.job c.args.address) none c.make_dir-reply.ensures.outcome in
+    (is.1.0, is.1.1, still_serves c.args.volume.now.failed c.make_dir-reply.new.volume.failed c.make_dir-reply.result c.requires.alive (returns-clause-failed g c) none, unchanged c.args.jobs.now c.put.new.self c.args.number c.in-Some.job c.make_dir-reply.new.job c.in-Some.ensures.found.0 (put_back c.args.jobs.now c.take.new.self c.put.new.self c.args.number (Some c.make_dir-reply.new.job) c.in-Some.ensures.found.1 c.put.ensures) is.0)

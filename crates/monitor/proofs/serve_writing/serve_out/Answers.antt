@@ -1,8 +1,9 @@
-use Rattle.std.proofs.Common.{Some, subst, refl}
+use Rattle.std.proofs.Common.{◌≡◌, Some, subst, refl}
 use Rattle.std.specs.List.{AllByRecursion}
 use Rattle.meaning.specs.declared.call.Call.TheVariants.{Out}
 use Rattle.volume.specs.LiveCores.{core_of}
 use Rattle.volume.specs.Rest.{IsSound}
+use Rattle.monitor.specs.Putting.{IsOut}
 use Rattle.monitor.specs.Serving.{IsSide}
 use Rattle.monitor.specs.Sides.{sides_in}
 use Rattle.monitor.proofs.Dropped.{job_live}
@@ -10,7 +11,8 @@ use Rattle.monitor.proofs.OutAnswers.{out_keyed, out_answered}
 use Rattle.monitor.proofs.OutPlaced.{out_placed, out_blamed, out_idle}
 use Rattle.monitor.proofs.Serving.{nobody}
 use Rattle.monitor.proofs.SideLists.{each-slot}
-use Rattle.monitor.proofs.Slots.{put_back}
+use Rattle.monitor.proofs.Called.{still_serves}
+use Rattle.monitor.proofs.Slots.{put_back, unchanged}
 use Rattle.monitor.proofs.Untouched.{untouched_crashes, quiet_crashes}
 use Rattle.monitor.proofs.serve_writing.serve_out.Goals as goal
 
@@ -60,3 +62,8 @@ returns-clause-blamed g c h is =
 pub returns-clause-idle : goal.returns-clause-idle
 returns-clause-idle g c idle =
     out_idle g.D.Disk.state c.args.volume.now.disk c.out-reply.new.volume.disk (core_of c.args.volume.now.map) (core_of c.out-reply.new.volume.map) c.in-Some.job c.out-reply.new.job c.args.channel c.args.address c.out-reply.result c.out-reply.ensures.outcome idle
+
+pub returns-clause-memory : goal.returns-clause-memory
+returns-clause-memory g c none =
+    let is = subst (IsOut (g.D.Disk.state c.args.volume.now.disk) (g.D.Disk.state c.out-reply.new.volume.disk) (core_of c.args.volume.now.map) (core_of c.out-reply.new.volume.map) ((c.out-reply.new.volume.disk ≡ c.args.volume.now.disk) × (core_of c.out-reply.new.volume.map ≡ core_of c.args.volume.now.map)) c.in-Some.job c.out-reply.new.job c.args.channel c.args.address) none c.out-reply.ensures.outcome in
+    (is.1.0, is.1.1, still_serves c.args.volume.now.failed c.out-reply.new.volume.failed c.out-reply.result c.requires.alive c.out-reply.ensures.failed none, unchanged c.args.jobs.now c.put.new.self c.args.number c.in-Some.job c.out-reply.new.job c.in-Some.ensures.found.0 (put_back c.args.jobs.now c.take.new.self c.put.new.self c.args.number (Some c.out-reply.new.job) c.in-Some.ensures.found.1 c.put.ensures) is.0)

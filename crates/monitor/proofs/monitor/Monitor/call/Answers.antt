@@ -1,4 +1,4 @@
-use Rattle.std.proofs.Common.{◌≡◌, ◌≤◌, ℕ, true, false, Some, refl, subst}
+use Rattle.std.proofs.Common.{◌≡◌, ◌≤◌, ℕ, true, false, Some, refl, subst, ◌∙◌}
 use Rattle.meaning.specs.Jobs.{slot}
 use Rattle.meaning.specs.Opening.{mode_at}
 use Rattle.meaning.specs.Rings.{is_buffered}
@@ -40,3 +40,11 @@ returns-then-moment-gt-LAST_DATE-clause-crash g c = untouched_crashes g.D.Disk.s
 pub returns-clause-crash : goal.returns-clause-crash
 returns-clause-crash g c =
     subst (λ m. CallCrashes (g.D.Disk.state m.disk) (g.D.Disk.state c.serve.new.volume.disk) m.map m.jobs c.args.job (call_of c.args.call.now) c.args.moment) c.self.view_is c.serve.ensures.crash
+
+pub returns-clause-memory : goal.returns-clause-memory
+returns-clause-memory g c none =
+    let same = c.serve.ensures.memory none in
+    let now : record { disk = c.serve.new.volume.disk; map = core_of c.serve.new.volume.map; failed = c.serve.new.volume.failed; jobs = c.serve.new.jobs }
+    ≡ record { disk = c.self.inside.volume.disk; map = core_of c.self.inside.volume.map; failed = c.self.inside.volume.failed; jobs = c.self.inside.jobs }
+    = λ i. record { disk = same.0 i; map = same.1 i; failed = same.2 i; jobs = same.3 i } in
+    now ∙ c.self.view_is
