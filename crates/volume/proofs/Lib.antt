@@ -57,3 +57,4 @@ pub mod PublishingBlocks
 pub mod PublishingEvents
 pub mod Publications
 pub mod CountedReaders
+pub mod PrimeBlocks
