@@ -58,3 +58,4 @@ pub mod PublishingEvents
 pub mod Publications
 pub mod CountedReaders
 pub mod PrimeBlocks
+pub mod OnePlace
