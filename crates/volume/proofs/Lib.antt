@@ -59,3 +59,4 @@ pub mod Publications
 pub mod CountedReaders
 pub mod PrimeBlocks
 pub mod OnePlace
+pub mod PublishedPlaces
