@@ -57,3 +57,6 @@ pub mod PublishingBlocks
 pub mod PublishingEvents
 pub mod Publications
 pub mod CountedReaders
+pub mod PrimeBlocks
+pub mod OnePlace
+pub mod PublishedPlaces

@@ -74,7 +74,7 @@ module _ (old new : List (Option LiveVersion)) (key : ℕ) (v : LiveVersion) (re
       let here = ap f was in
       omega arith
 
-entries_within : (n : ℕ) (ds : List KnownDirectory) → entry_reaches n ds ≤ total (reaches_in_known n) ds
+pub entries_within : (n : ℕ) (ds : List KnownDirectory) → entry_reaches n ds ≤ total (reaches_in_known n) ds
 entries_within n [] = omega arith
 entries_within n (d ∷ ds) = let rest = entries_within n ds in omega arith
 

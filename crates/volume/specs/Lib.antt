@@ -15,3 +15,4 @@ pub mod Putting
 pub mod Pins
 pub mod Beginning
 pub mod Publishing
+pub mod Places

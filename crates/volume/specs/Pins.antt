@@ -1,5 +1,5 @@
 -- Versions that readers hold.
-use Rattle.std.specs.Prelude.{◌≡◌, ◌⊎◌, ◌<◌, ℕ, List, length, Option, None, Some, option_map, slice_get, Result, Ok, Err}
+use Rattle.std.specs.Prelude.{◌≡◌, ◌⊎◌, ◌<◌, ℕ, true, List, length, Option, None, Some, option_map, slice_get, Result, Ok, Err}
 use Rattle.std.specs.Ordering.{nat_cmp}
 use Rattle.std.specs.FinMap.Entries.{find}
 use Rattle.words36.specs.declared.names.FileName.{FileName}
@@ -35,6 +35,7 @@ pub record IsKeyOf (c : VolumeCore) (ppn : ℕ) (name : FileName) (key : ℕ) : 
   pub here : slot c.live key ≡ Some version
   pub known : slice_get directory.versions index ≡ Some (as_known version)
   pub prime_is : version.at ≡ prime
+  pub current : version.is_current ≡ true
 
 -- There is no such directory, or no such name in it, as the refusal says.
 abbrev pub IsNoFile : VolumeCore → ℕ → FileName → CallError → Type 0

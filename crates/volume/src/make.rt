@@ -3,6 +3,7 @@ ghost use Rattle.std.specs.List.{AllByRecursion};
 ghost use Rattle.std.specs.Ordering.{nat_cmp};
 ghost use Rattle.std.specs.FinMap.Entries.{find};
 ghost use Rattle.blockdisk.specs.Disk.{LeavesOnly, SameDisk, one_more};
+ghost use Rattle.words36.specs.declared.names.FileName.{FileName};
 ghost use Rattle.meaning.specs.declared.code.ErrorCode.{ErrorCode};
 ghost use Rattle.meaning.specs.declared.code.ErrorCode.TheVariants.{NameExists, NoRoom};
 ghost use Rattle.meaning.specs.Files.{File, Files};
@@ -16,6 +17,7 @@ ghost use Rattle.volume.specs.Known.{KnownDirectory};
 ghost use Rattle.volume.specs.Live.{IsWholeCore};
 ghost use Rattle.volume.specs.LiveCores.{core_of};
 ghost use Rattle.volume.specs.Making.{brought, Uses, TakesBlocks, PutsTable, growth, fresh_list, files_made, IsEntered, IsMade};
+ghost use Rattle.volume.specs.Places.{prime_at};
 ghost use Rattle.volume.specs.Rest.{IsSound, RestsAt, StandsForEither, KeepsRead, KeepsEachWritten};
 ghost use Rattle.volume.specs.declared.error.CallError.TheVariants.{Refused, Device, Failed};
 
@@ -246,6 +248,8 @@ impl<D: Disk> Volume<D> {
         ensures writers { (D.state self.old.disk).honest → KeepsEachWritten (D.state self.old.disk).contents (D.state self.new.disk).contents (core_of self.old.map) }
         // So does each directory in its place.
         ensures directories { (owner : ℕ) (d : KnownDirectory) → IsDirectoryOf (core_of self.old.map) owner d → IsDirectoryOf (core_of self.new.map) owner d }
+        // And each of its files has its prime block.
+        ensures primes { (owner : ℕ) (name : FileName) (n : ℕ) → prime_at (core_of self.old.map) owner name ≡ Some n → prime_at (core_of self.new.map) owner name ≡ Some n }
 
         // Which error comes when, and what it leaves.
         ensures refused { (IsErrOf result Device → ⊥) → OnErr result ((self.new.disk ≡ self.old.disk) × (core_of self.new.map ≡ core_of self.old.map)) }

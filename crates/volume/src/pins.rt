@@ -8,6 +8,7 @@ ghost use Rattle.volume.specs.Known.{blocks_reached};
 ghost use Rattle.volume.specs.Live.{slot, IsWholeCore};
 ghost use Rattle.volume.specs.LiveCores.{core_of};
 ghost use Rattle.volume.specs.Pins.{IsKeyOf, IsNoFile, IsPinAnswer};
+ghost use Rattle.volume.specs.Places.{prime_at};
 ghost use Rattle.volume.specs.Queries.{IsPlainRefusal};
 ghost use Rattle.volume.specs.Rest.{IsSound, RestsAt};
 ghost use Rattle.volume.specs.declared.error.CallError.TheVariants.{Refused, Failed};
@@ -58,6 +59,8 @@ impl<D: Disk> Volume<D> {
         // One reader more of this version, and nothing else.
         ensures pinned { IfOk result (λ pin. (v : LiveVersion) × (slot (core_of self.old.map).live pin.key ≡ Some v) × (slot (core_of self.new.map).live pin.key ≡ Some (record v { readers = v.readers + 1 }))) }
         ensures others { IfOk result (λ pin. (k : ℕ) → (k ≡ pin.key → ⊥) → slot (core_of self.new.map).live k ≡ slot (core_of self.old.map).live k) }
+        // It is the one that the place has now.
+        ensures at { IfOk result (λ pin. (v : LiveVersion) × (slot (core_of self.old.map).live pin.key ≡ Some v) × (v.is_current ≡ true) × (prime_at (core_of self.old.map) ppn name.now ≡ Some v.at)) }
         ensures core { core_of self.new.map ≡ record (core_of self.old.map) { live = (core_of self.new.map).live } }
         ensures same { IsErr result → self.new.map ≡ self.old.map }
         ensures untouched { (self.new.disk ≡ self.old.disk) × (self.new.failed ≡ self.old.failed) }

@@ -48,6 +48,7 @@ returns-in-Some-clause-found c =
       here = kept.1;
       known = kept.2;
       prime_is = ap (λ v. v.at) (some_same (sym kept.1 ∙ current.there)) ∙ current.at;
+      current = ap (λ v. v.is_current) (some_same (sym kept.1 ∙ current.there)) ∙ current.current;
     }
 
 pub returns-in-None-clause-none : goal.returns-in-None-clause-none

@@ -5,7 +5,7 @@ use Rattle.volume.specs.Making.{IsMade}
 use Rattle.volume.specs.Rest.{IsSound}
 use Rattle.volume.proofs.LiveBodies.{bodies_stay, bodies_of, used_read, used_written}
 use Rattle.volume.proofs.MakingDirectories.{sound_for, sound_failed, made_core, puts_in_range, not_written, made_crash, made_rest, made_at, made_done}
-use Rattle.volume.proofs.MakingPlaces.{directory_stays}
+use Rattle.volume.proofs.MakingPlaces.{directory_stays, primes_stay}
 use Rattle.volume.proofs.map.Volume.make_dir.Goals as goal
 
 pub returns-in-Err-clause-sound : goal.returns-in-Err-clause-sound
@@ -165,3 +165,11 @@ returns-in-Ok-write_and_commit-clause-directories g c =
 pub returns-in-Err-write_and_commit-clause-directories : goal.returns-in-Err-write_and_commit-clause-directories
 returns-in-Err-write_and_commit-clause-directories g c =
     directory_stays c.args.self.now.map.table.size (core_of c.args.self.now.map) (core_of c.make_in_core.new.core) c.args.ppn c.args.protection c.in-Ok.first c.make_in_core.new.set c.in-Ok.ensures.made
+
+pub returns-in-Ok-write_and_commit-clause-primes : goal.returns-in-Ok-write_and_commit-clause-primes
+returns-in-Ok-write_and_commit-clause-primes g c =
+    primes_stay c.args.self.now.map.table.size (core_of c.args.self.now.map) (core_of c.make_in_core.new.core) c.args.ppn c.args.protection c.in-Ok.first c.make_in_core.new.set c.in-Ok.ensures.made
+
+pub returns-in-Err-write_and_commit-clause-primes : goal.returns-in-Err-write_and_commit-clause-primes
+returns-in-Err-write_and_commit-clause-primes g c =
+    primes_stay c.args.self.now.map.table.size (core_of c.args.self.now.map) (core_of c.make_in_core.new.core) c.args.ppn c.args.protection c.in-Ok.first c.make_in_core.new.set c.in-Ok.ensures.made

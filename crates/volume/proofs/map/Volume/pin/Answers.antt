@@ -1,8 +1,9 @@
-use Rattle.std.proofs.Common.{◌+◌, Err, ap, ◌∙◌}
+use Rattle.std.proofs.Common.{◌+◌, Err, Some, ap, sym, ◌∙◌}
 use Rattle.std.proofs.lemmas.Result.{err_from_is_err_and}
 use Rattle.volume.specs.LiveCores.{core_of}
 use Rattle.volume.proofs.Answering.{rest_holds}
 use Rattle.volume.proofs.PinnedFiles.{key_file, pin_answered, pin_refused, pinned_sound}
+use Rattle.volume.proofs.PrimeBlocks.{prime_of_place}
 use Rattle.volume.proofs.map.Volume.pin.Goals as goal
 
 pub returns-in_err-key-clause-value : goal.returns-in_err-key-clause-value
@@ -15,6 +16,12 @@ returns-in_err-key-clause-value g c honest alive files rest =
 
 pub returns-clause-pinned : goal.returns-clause-pinned
 returns-clause-pinned g c = let is = c.in_ok-key.ensures.found in (is.version, is.here, c.pin_version.ensures.pinned is.version is.here)
+
+pub returns-clause-at : goal.returns-clause-at
+returns-clause-at g c =
+    let is = c.in_ok-key.ensures.found in
+    let found = prime_of_place (core_of c.args.self.now.map).known.master.entries (core_of c.args.self.now.map).known.directories is.place c.args.ppn c.args.name.now is.word is.directory is.there is.directory_at in
+    (is.version, is.here, is.current, found ∙ is.at.found ∙ ap Some (sym is.prime_is))
 
 pub returns-clause-sound : goal.returns-clause-sound
 returns-clause-sound g c =
