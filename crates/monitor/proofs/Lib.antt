@@ -43,3 +43,4 @@ pub mod Placing
 pub mod Closings
 pub mod Untouched
 pub mod OutPlaced
+pub mod HeldRooms
