@@ -44,3 +44,4 @@ pub mod Closings
 pub mod Untouched
 pub mod OutPlaced
 pub mod Statuses
+pub mod HeldRooms

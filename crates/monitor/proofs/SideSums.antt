@@ -14,12 +14,12 @@ use Rattle.monitor.specs.declared.output.Output.{Output}
 use Rattle.monitor.proofs.Dropped.{same_or_not}
 use Rattle.monitor.proofs.SideLists.{count, each-as}
 
-emptied_at : {X : Type 0} (xs : List (Option X)) (n : ℕ) → slice_index_or (slice_set xs n None) n None ≡ None
+pub emptied_at : {X : Type 0} (xs : List (Option X)) (n : ℕ) → slice_index_or (slice_set xs n None) n None ≡ None
 emptied_at [] n = refl
 emptied_at (x ∷ xs) zero = refl
 emptied_at (x ∷ xs) (suc n) = emptied_at xs n
 
-emptied_other : {X : Type 0} (xs : List (Option X)) (n k : ℕ) → k ≢ n → slice_index_or (slice_set xs n None) k None ≡ slice_index_or xs k None
+pub emptied_other : {X : Type 0} (xs : List (Option X)) (n k : ℕ) → k ≢ n → slice_index_or (slice_set xs n None) k None ≡ slice_index_or xs k None
 emptied_other [] n k apart = refl
 emptied_other (x ∷ xs) zero zero apart = absurd (apart refl)
 emptied_other (x ∷ xs) zero (suc k) apart = refl

@@ -58,7 +58,7 @@ mod writing_tests;
 pub use call::Call;
 pub use channel::Channel;
 pub use job::{Job, Jobs};
-pub use laws::files_have_a_start;
+pub use laws::{files_have_a_start, held_versions_are_booked_once};
 pub use monitor::Monitor;
 pub use output::{Kind, Output};
 pub use volume::VolumeError as StartError;

@@ -1,0 +1,32 @@
+-- What readers hold: the versions that are pinned in core, and those that the machine has in their place.
+-- An input side has a pin, which names the version's key. As many readers may hold one version as there are.
+use Rattle.std.specs.Prelude.{◌≡◌, ℕ, ◌<◌, false, List, length, Option, Some, None}
+use Rattle.std.specs.List.{AllByRecursion}
+use Rattle.meaning.specs.Costs.{version_cost, cost_of_blocks}
+use Rattle.meaning.specs.Maps.{times}
+use Rattle.meaning.specs.Published.{Version}
+use Rattle.meaning.specs.Room.{has_serial}
+use Rattle.volume.specs.Live.{slot}
+use Rattle.volume.specs.declared.live.LiveVersion.{LiveVersion}
+
+-- how many readers the version of a slot has; none where there is no version
+abbrev pub readers_of : Option LiveVersion → ℕ
+readers_of None = 0
+readers_of (Some v) = v.readers
+
+-- Each version is held as often as its key stands in the list of pins.
+abbrev pub ArePinned : List (Option LiveVersion) → List ℕ → Type 0
+ArePinned live pins = (key : ℕ) → times key pins ≡ readers_of (slot live key)
+
+-- What readers hold, as the machine has it under each key: `now` are the versions that files have.
+pub record AreBooked (live : List (Option LiveVersion)) (now : List Version) (read : ℕ → Version) : Type 0 where
+  -- a version that is read costs in the machine what it costs in core
+  pub cost : (key : ℕ) (v : LiveVersion) → slot live key ≡ Some v → 0 < v.readers → version_cost (length (read key).file.body) ≡ cost_of_blocks (length v.version.blocks)
+  -- one that is current is that of a file, and another one isn't
+  pub current : (key : ℕ) (v : LiveVersion) → slot live key ≡ Some v → 0 < v.readers → has_serial (read key).serial now ≡ v.is_current
+  -- a version that nobody reads is current
+  pub unread : (key : ℕ) (v : LiveVersion) → slot live key ≡ Some v → v.is_current ≡ false → 0 < v.readers
+  -- two versions that are read have two serials
+  pub apart : (key other : ℕ) (v w : LiveVersion) → slot live key ≡ Some v → slot live other ≡ Some w → 0 < v.readers → 0 < w.readers → (read key).serial ≡ (read other).serial → key ≡ other
+  -- a file's version of the same serial has as many words
+  pub alike : (key : ℕ) (v : LiveVersion) → slot live key ≡ Some v → 0 < v.readers → AllByRecursion (λ x. x.serial ≡ (read key).serial → length x.file.body ≡ length (read key).file.body) now
