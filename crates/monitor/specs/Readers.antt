@@ -1,12 +1,16 @@
 -- What readers hold: the versions that are pinned in core, and those that the machine has in their place.
 -- An input side has a pin, which names the version's key. As many readers may hold one version as there are.
-use Rattle.std.specs.Prelude.{◌≡◌, ℕ, ◌<◌, false, List, length, Option, Some, None}
+use Rattle.std.specs.Prelude.{◌≡◌, ℕ, ◌<◌, true, false, List, length, flat_map, Option, Some, None}
 use Rattle.std.specs.List.{AllByRecursion}
+use Rattle.blockdisk.specs.Disk.{DiskState}
 use Rattle.meaning.specs.Costs.{version_cost, cost_of_blocks}
-use Rattle.meaning.specs.Maps.{times}
-use Rattle.meaning.specs.Published.{Version}
+use Rattle.meaning.specs.Files.{Files, Place}
+use Rattle.meaning.specs.Maps.{times, values}
+use Rattle.meaning.specs.Published.{Version, file_at}
 use Rattle.meaning.specs.Room.{has_serial}
-use Rattle.volume.specs.Live.{slot}
+use Rattle.volume.specs.Live.{VolumeCore, slot}
+use Rattle.volume.specs.Pins.{IsVersionOf}
+use Rattle.volume.specs.Places.{prime_at}
 use Rattle.volume.specs.declared.live.LiveVersion.{LiveVersion}
 
 -- how many readers the version of a slot has; none where there is no version
@@ -30,3 +34,16 @@ pub record AreBooked (live : List (Option LiveVersion)) (now : List Version) (re
   pub apart : (key other : ℕ) (v w : LiveVersion) → slot live key ≡ Some v → slot live other ≡ Some w → 0 < v.readers → 0 < w.readers → (read key).serial ≡ (read other).serial → key ≡ other
   -- a file's version of the same serial has as many words
   pub alike : (key : ℕ) (v : LiveVersion) → slot live key ≡ Some v → 0 < v.readers → AllByRecursion (λ x. x.serial ≡ (read key).serial → length x.file.body ≡ length (read key).file.body) now
+
+-- A version that is read, as the machine has it: the file of its place while it is current, and else none.
+pub record IsRead (d : DiskState) (c : VolumeCore) (files : Files Version) (v : LiveVersion) (x : Version) : Type 0 where
+  -- its blocks have the words that its readers find
+  pub version : IsVersionOf d.contents v x.file
+  pub current : v.is_current ≡ true → (place : Place) × (prime_at c place.ppn place.name ≡ Some v.at) × (file_at files place ≡ Some x)
+  pub past : v.is_current ≡ false → has_serial x.serial (flat_map (λ d. values d.files) (values files)) ≡ false
+
+-- All of them, under their keys; two of them have two serials, and what nobody reads is current.
+pub record AreRead (d : DiskState) (c : VolumeCore) (files : Files Version) (read : ℕ → Version) : Type 0 where
+  pub each : (key : ℕ) (v : LiveVersion) → slot c.live key ≡ Some v → 0 < v.readers → IsRead d c files v (read key)
+  pub unread : (key : ℕ) (v : LiveVersion) → slot c.live key ≡ Some v → v.is_current ≡ false → 0 < v.readers
+  pub apart : (key other : ℕ) (v w : LiveVersion) → slot c.live key ≡ Some v → slot c.live other ≡ Some w → 0 < v.readers → 0 < w.readers → (read key).serial ≡ (read other).serial → key ≡ other
