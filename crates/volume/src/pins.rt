@@ -56,11 +56,11 @@ impl<D: Disk> Volume<D> {
         ensures value { (D.state self.old.disk).honest → self.old.failed ≡ false → (files : Files File) → RestsAt (D.state self.old.disk) files
             → IsPinAnswer (D.state self.old.disk).contents (core_of self.new.map).live name.now result (get files ppn) }
 
+        // It is the version that core has for the place.
+        ensures at { IfOk result (λ pin. (v : LiveVersion) × (slot (core_of self.old.map).live pin.key ≡ Some v) × (v.is_current ≡ true) × (prime_at (core_of self.old.map) ppn name.now ≡ Some v.at)) }
         // One reader more of this version, and nothing else.
         ensures pinned { IfOk result (λ pin. (v : LiveVersion) × (slot (core_of self.old.map).live pin.key ≡ Some v) × (slot (core_of self.new.map).live pin.key ≡ Some (record v { readers = v.readers + 1 }))) }
         ensures others { IfOk result (λ pin. (k : ℕ) → (k ≡ pin.key → ⊥) → slot (core_of self.new.map).live k ≡ slot (core_of self.old.map).live k) }
-        // It is the one that the place has now.
-        ensures at { IfOk result (λ pin. (v : LiveVersion) × (slot (core_of self.old.map).live pin.key ≡ Some v) × (v.is_current ≡ true) × (prime_at (core_of self.old.map) ppn name.now ≡ Some v.at)) }
         ensures core { core_of self.new.map ≡ record (core_of self.old.map) { live = (core_of self.new.map).live } }
         ensures same { IsErr result → self.new.map ≡ self.old.map }
         ensures untouched { (self.new.disk ≡ self.old.disk) × (self.new.failed ≡ self.old.failed) }
