@@ -30,3 +30,9 @@ pub record AreBooked (live : List (Option LiveVersion)) (now : List Version) (re
   pub apart : (key other : ℕ) (v w : LiveVersion) → slot live key ≡ Some v → slot live other ≡ Some w → 0 < v.readers → 0 < w.readers → (read key).serial ≡ (read other).serial → key ≡ other
   -- a file's version of the same serial has as many words
   pub alike : (key : ℕ) (v : LiveVersion) → slot live key ≡ Some v → 0 < v.readers → AllByRecursion (λ x. x.serial ≡ (read key).serial → length x.file.body ≡ length (read key).file.body) now
+
+-- A rename leaves a version its serial and its words, but not its protection: so readers of one version may hold it
+-- with different ones.
+pub record IsReadAs (held read : Version) : Type 0 where
+  pub serial : held.serial ≡ read.serial
+  pub words : length held.file.body ≡ length read.file.body
