@@ -1,9 +1,9 @@
 -- What readers hold is booked once: beside what files have, each version that is read and no longer current
 -- costs what core has booked for it, however many readers there are.
-use Rattle.std.proofs.Common.{◌≡◌, ◌≢◌, ℕ, zero, suc, ◌+◌, ◌<◌, Bool, true, false, List, [], ◌∷◌, ◌++◌, length, map, ◌≤◌, not, append-nil, Option, Some, None, refl, sym, ap, subst, ◌∙◌, arith}
+use Rattle.std.proofs.Common.{◌≡◌, ◌≢◌, ℕ, zero, suc, ◌+◌, ◌<◌, Bool, true, false, not, List, [], ◌∷◌, ◌++◌, length, map, append-nil, Option, Some, None, refl, sym, ap, subst, ◌∙◌, arith}
 use Rattle.std.specs.Prelude.{◌==◌, ◌||◌, if◌then◌else◌, slice_index_or, slice_set}
 use Rattle.std.proofs.lemmas.Bool.{eqb-true, eq-eqb, ne_eqb}
-use Rattle.std.specs.List.{AllByRecursion}
+use Rattle.std.specs.List.{AllByRecursion, AllZip}
 use Rattle.meaning.specs.Costs.{version_cost, cost_of_blocks}
 use Rattle.meaning.specs.Maps.{total, times}
 use Rattle.meaning.specs.Published.{Version}
@@ -12,7 +12,7 @@ use Rattle.meaning.proofs.MapSums.{times_head, times_other}
 use Rattle.volume.specs.Live.{slot, held_cost}
 use Rattle.volume.specs.declared.live.LiveVersion.{LiveVersion}
 use Rattle.volume.proofs.LiveTotals.{total_updated}
-use Rattle.monitor.specs.Readers.{readers_of, ArePinned, AreBooked}
+use Rattle.monitor.specs.Readers.{readers_of, ArePinned, AreBooked, IsReadAs}
 use Rattle.monitor.proofs.Dropped.{same_or_not}
 use Rattle.monitor.proofs.SideSums.{emptied_at, emptied_other}
 
@@ -84,7 +84,7 @@ some_first : (k : ℕ) (ks : List ℕ) → 0 < times k (k ∷ ks)
 some_first k ks = let here = times_head k ks in omega arith
 
 module _ (read : ℕ → Version) where
-  -- two of the keys have two serials
+  -- two keys have two serials
   abbrev AreApart : List ℕ → Type 0
   AreApart pins = (key other : ℕ) → 0 < times key pins → 0 < times other pins → (read key).serial ≡ (read other).serial → key ≡ other
 
@@ -123,8 +123,10 @@ module _ (read : ℕ → Version) where
       where
         grows : (j : ℕ) → 0 < times j ks → 0 < times j (k ∷ ks)
         grows j some = omega arith
+
         joined : (a b c : ℕ) → a + (b + c) ≡ (a + b) + c
         joined a b c = omega arith
+
         unless_either : (a b : Bool) (c : ℕ) → unless (a || not b) c ≡ unless (not b) (unless a c)
         unless_either true true c = refl
         unless_either true false c = refl
@@ -147,8 +149,10 @@ module _ {X : Type 0} (g : Option X → ℕ) (none : g None ≡ 0) (f : ℕ → 
     where
       at_first : g (slice_index_or slots k None) ≡ f k
       at_first = counts k ∙ ap (λ b. unless b (f k)) (positive (times k (k ∷ ks)) (some_first k ks))
+
       at_other : (j : ℕ) → j ≢ k → g (slice_index_or slots j None) ≡ unless (times j ks == 0) (f j)
       at_other j apart = counts j ∙ ap (λ n. unless (n == 0) (f j)) (times_other j k ks apart)
+
       by : (n : ℕ) → times k ks ≡ n → ((less : List (Option X)) → Counts less ks → once f ks ≡ total g less) → once f (k ∷ ks) ≡ total g slots
       -- the last pin of the key: its slot is emptied
       by zero e others =
@@ -187,6 +191,7 @@ held_once live now read pins pinned booked =
         by : (was : Option LiveVersion) → slot live key ≡ was → (v : LiveVersion) × (slot live key ≡ Some v) × (0 < v.readers)
         by None is = let none = pinned key ∙ ap readers_of is in absurd (omega arith)
         by (Some v) is = let some' = pinned key ∙ ap readers_of is in (v, is, omega arith)
+
     costs : (key : ℕ) (was : Option LiveVersion) → slot live key ≡ was → held_cost (slot live key) ≡ unless (times key pins == 0) (adds_at read now key)
     costs key None is = ap held_cost is ∙ sym (ap (λ n. unless (n == 0) (adds_at read now key)) (pinned key ∙ ap readers_of is))
     costs key (Some v) is = ap held_cost is ∙ by v.readers refl ∙ sym (ap (λ n. unless (n == 0) (adds_at read now key)) (pinned key ∙ ap readers_of is))
@@ -194,8 +199,34 @@ held_once live now read pins pinned booked =
         unread : v.readers ≡ 0 → (b : Bool) → v.is_current ≡ b → held_cost (Some v) ≡ 0
         unread e true current = ap (λ b. unless b (cost_of_blocks (length v.version.blocks))) current
         unread e false current = let some = booked.unread key v is current in absurd (omega arith)
+
         by : (n : ℕ) → v.readers ≡ n → held_cost (Some v) ≡ unless (v.readers == 0) (adds_at read now key)
         by zero e = unread e v.is_current refl ∙ sym (ap (λ n. unless (n == 0) (adds_at read now key)) e)
         by (suc n) e =
             let some : 0 < v.readers = omega arith in
             sym (ap (λ b. unless b (adds_at read now key)) (positive v.readers some) ∙ (λ i. unless (booked.current key v is some i) (booked.cost key v is some i)))
+
+-- Versions with the same serials and as many words cost the same.
+
+same_serials : (n : ℕ) (vs ws : List Version) → AllZip IsReadAs vs ws → has_serial n vs ≡ has_serial n ws
+same_serials n [] [] same = refl
+same_serials n [] (w ∷ ws) same = absurd same
+same_serials n (v ∷ vs) [] same = absurd same
+same_serials n (v ∷ vs) (w ∷ ws) same = λ i. (same.0.serial i == n) || same_serials n vs ws same.1 i
+
+same_costs : (vs ws : List Version) → AllZip IsReadAs vs ws → distinct_cost vs ≡ distinct_cost ws
+same_costs [] [] same = refl
+same_costs [] (w ∷ ws) same = absurd same
+same_costs (v ∷ vs) [] same = absurd same
+same_costs (v ∷ vs) (w ∷ ws) same =
+    let here = ap (λ n. has_serial n vs) same.0.serial ∙ same_serials w.serial vs ws same.1 in
+    λ i. unless (here i) (version_cost (same.0.words i)) + same_costs vs ws same.1 i
+
+behind : (now vs ws : List Version) → AllZip IsReadAs vs ws → AllZip IsReadAs (now ++ vs) (now ++ ws)
+behind [] vs ws same = same
+behind (x ∷ xs) vs ws same = (record { serial = refl; words = refl }, behind xs vs ws same)
+
+-- So it is with versions that are not quite those under the keys.
+pub held_as_once : (live : List (Option LiveVersion)) (now : List Version) (read : ℕ → Version) (pins : List ℕ) (held : List Version) → AllZip IsReadAs held (map read pins)
+    → ArePinned live pins → AreBooked live now read → distinct_cost (now ++ held) ≡ distinct_cost now + total held_cost live
+held_as_once live now read pins held same pinned booked = same_costs (now ++ held) (now ++ map read pins) (behind now held (map read pins) same) ∙ held_once live now read pins pinned booked

@@ -47,3 +47,9 @@ pub record AreRead (d : DiskState) (c : VolumeCore) (files : Files Version) (rea
   pub each : (key : ℕ) (v : LiveVersion) → slot c.live key ≡ Some v → 0 < v.readers → IsRead d c files v (read key)
   pub unread : (key : ℕ) (v : LiveVersion) → slot c.live key ≡ Some v → v.is_current ≡ false → 0 < v.readers
   pub apart : (key other : ℕ) (v w : LiveVersion) → slot c.live key ≡ Some v → slot c.live other ≡ Some w → 0 < v.readers → 0 < w.readers → (read key).serial ≡ (read other).serial → key ≡ other
+
+-- A rename leaves a version its serial and its words, but not its protection: so readers of one version may hold it
+-- with different ones.
+pub record IsReadAs (held read : Version) : Type 0 where
+  pub serial : held.serial ≡ read.serial
+  pub words : length held.file.body ≡ length read.file.body
