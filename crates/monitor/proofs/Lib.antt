@@ -46,3 +46,4 @@ pub mod OutPlaced
 pub mod Statuses
 pub mod HeldRooms
 pub mod ReadBookings
+pub mod ReadStays

@@ -62,6 +62,7 @@ all_told (v ∷ vs) distinct = (
   where
     none : AllByRecursion (λ y. (y.serial == v.serial) ≡ false) vs
     none = none_has v.serial vs distinct.0
+
     told : (ws : List Version) → AllByRecursion (λ y. (y.serial == v.serial) ≡ false) ws → AllByRecursion (IsTold vs) ws → AllByRecursion (IsTold (v ∷ vs)) ws
     told [] others rest = tt
     told (w ∷ ws) others rest = (((λ same. absurd (not_same w.serial v.serial others.0 (sym same))), rest.0), told ws others.1 rest.1)
