@@ -45,3 +45,5 @@ pub mod Untouched
 pub mod OutPlaced
 pub mod Statuses
 pub mod HeldRooms
+pub mod ReadBookings
+pub mod ReadStays

@@ -44,6 +44,7 @@ mod output;
 mod publishing;
 #[cfg(test)]
 mod publishing_tests;
+mod reading_laws;
 mod serve;
 mod serve_closing;
 mod serve_writing;
@@ -61,4 +62,5 @@ pub use job::{Job, Jobs};
 pub use laws::{files_have_a_start, held_versions_are_booked_once};
 pub use monitor::Monitor;
 pub use output::{Kind, Output};
+pub use reading_laws::{what_is_read_is_booked, what_is_read_stays};
 pub use volume::VolumeError as StartError;
