@@ -45,3 +45,6 @@ pub mod Untouched
 pub mod OutPlaced
 pub mod Statuses
 pub mod HeldRooms
+pub mod HeldSerials
+pub mod ReadsPinned
+pub mod ReadsPublished
