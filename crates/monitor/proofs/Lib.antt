@@ -47,3 +47,6 @@ pub mod Statuses
 pub mod HeldRooms
 pub mod ReadBookings
 pub mod ReadStays
+pub mod HeldSerials
+pub mod ReadsPinned
+pub mod ReadsPublished

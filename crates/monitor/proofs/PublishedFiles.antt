@@ -48,17 +48,17 @@ put_elsewhere files place v q apart = by (get files place.ppn) refl
 
 -- Serials are distinct where each stands at most once.
 
-abbrev one_if : Bool → ℕ
+abbrev pub one_if : Bool → ℕ
 one_if true = 1
 one_if false = 0
 
-abbrev with_serial : ℕ → Version → ℕ
+abbrev pub with_serial : ℕ → Version → ℕ
 with_serial k v = one_if (v.serial == k)
 
-abbrev copies : ℕ → List Version → ℕ
+abbrev pub copies : ℕ → List Version → ℕ
 copies k vs = total (with_serial k) vs
 
-none_copies : (vs : List Version) (k : ℕ) → has_serial k vs ≡ false → copies k vs ≡ 0
+pub none_copies : (vs : List Version) (k : ℕ) → has_serial k vs ≡ false → copies k vs ≡ 0
 none_copies [] k none = refl
 none_copies (v ∷ vs) k none = by (v.serial == k) (none_copies vs k) none
   where
@@ -66,7 +66,7 @@ none_copies (v ∷ vs) k none = by (v.serial == k) (none_copies vs k) none
     by true rest e = let wrong = e in cc
     by false rest e = omega (arith, rest e)
 
-copies_none : (vs : List Version) (k : ℕ) → copies k vs ≡ 0 → has_serial k vs ≡ false
+pub copies_none : (vs : List Version) (k : ℕ) → copies k vs ≡ 0 → has_serial k vs ≡ false
 copies_none [] k none = refl
 copies_none (v ∷ vs) k none = by (v.serial == k) (copies_none vs k) none
   where
@@ -74,7 +74,7 @@ copies_none (v ∷ vs) k none = by (v.serial == k) (copies_none vs k) none
     by true rest e = absurd (omega (arith, e))
     by false rest e = rest (omega (arith, e))
 
-distinct_few : (vs : List Version) → AreDistinct vs → (k : ℕ) → copies k vs ≤ 1
+pub distinct_few : (vs : List Version) → AreDistinct vs → (k : ℕ) → copies k vs ≤ 1
 distinct_few [] distinct k = omega arith
 distinct_few (v ∷ vs) distinct k = by (v.serial == k) refl (distinct_few vs distinct.1 k)
   where
@@ -93,14 +93,14 @@ copies-joined : (k : ℕ) (ds : List (Directory Version)) → copies k (flat_map
 copies-joined k [] = refl
 copies-joined k (d ∷ ds) = total-append (with_serial k) (values d.files) (flat_map (λ (x : Directory Version). values x.files) ds) ∙ ap (λ n. copies k (values d.files) + n) (copies-joined k ds)
 
-abbrev versions_in : Files Version → List Version
+abbrev pub versions_in : Files Version → List Version
 versions_in files = flat_map (λ d. values d.files) (values files)
 
-copies-files : (k : ℕ) (files : Files Version) → copies k (versions_in files) ≡ sum_over (λ (d : Directory Version). copies k (values d.files)) files
+pub copies-files : (k : ℕ) (files : Files Version) → copies k (versions_in files) ≡ sum_over (λ (d : Directory Version). copies k (values d.files)) files
 copies-files k files = copies-joined k (values files) ∙ sym (sum-values (λ (d : Directory Version). copies k (values d.files)) files)
 
 -- with one more, whatever stood at its place
-copies-put : (files : Files Version) (place : Place) (v : Version) (k : ℕ) → copies k (versions_in (with_file files place v)) ≤ copies k (versions_in files) + with_serial k v
+pub copies-put : (files : Files Version) (place : Place) (v : Version) (k : ℕ) → copies k (versions_in (with_file files place v)) ≤ copies k (versions_in files) + with_serial k v
 copies-put files place v k = by (get files place.ppn) refl
   where
     by : (o : Option (Directory Version)) → get files place.ppn ≡ o → copies k (versions_in (with_file_in o files place v)) ≤ copies k (versions_in files) + with_serial k v

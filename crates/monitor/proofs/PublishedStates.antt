@@ -37,7 +37,7 @@ abbrev pub Unread : List (Option LiveVersion) → Type 0
 Unread vs = (key : ℕ) (v : LiveVersion) → live.slot vs key ≡ Some v → v.readers ≡ 0
 
 -- so nothing is left of a version that isn't current any more
-none_left : (v : LiveVersion) → v.readers ≡ 0 → left v ≡ None
+pub none_left : (v : LiveVersion) → v.readers ≡ 0 → left v ≡ None
 none_left v unread = ap (λ n. if n == 0 then None else Some (record v { is_current = false })) unread
 
 module _ (size : ℕ) (c c' : VolumeCore) (key : ℕ) (p : PendingVersion) (words : ℕ) (is : IsPublishedCore size c c' key p words) (unread : Unread c.live) where

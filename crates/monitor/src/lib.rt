@@ -33,6 +33,7 @@ mod enter;
 mod event;
 mod found;
 mod getsts;
+mod holding_laws;
 mod job;
 mod laws;
 mod list;
@@ -58,6 +59,7 @@ mod writing_tests;
 
 pub use call::Call;
 pub use channel::Channel;
+pub use holding_laws::{readers_come_and_go, readers_keep_what_is_superseded};
 pub use job::{Job, Jobs};
 pub use laws::{files_have_a_start, held_versions_are_booked_once};
 pub use monitor::Monitor;

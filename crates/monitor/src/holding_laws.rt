@@ -1,0 +1,51 @@
+ghost use Rattle.std.specs.Prelude.{◌≡◌, ◌⊎◌, ◌<◌, ◌+◌, ◌-◌, ◌==◌, ℕ, true, false, if◌then◌else◌, flat_map, Some, None};
+ghost use Rattle.meaning.specs.Files.{Files, Place};
+ghost use Rattle.meaning.specs.Maps.{values};
+ghost use Rattle.meaning.specs.Published.{Version, file_at, with_file};
+ghost use Rattle.meaning.specs.Runs.{AreDistinct};
+ghost use Rattle.meaning.specs.Stands.{place_of};
+ghost use Rattle.volume.specs.Live.{VolumeCore, slot, IsWholeCore};
+ghost use Rattle.volume.specs.Pins.{IsVersionOf};
+ghost use Rattle.volume.specs.Places.{prime_at};
+ghost use Rattle.volume.specs.Publishing.{IsPublishedCore};
+ghost use Rattle.volume.specs.Rest.{KeepsRead};
+ghost use Rattle.volume.specs.declared.live.LiveVersion.{LiveVersion};
+ghost use Rattle.volume.specs.declared.pending.PendingVersion.{PendingVersion};
+ghost use Rattle.monitor.specs.Readers.{AreRead};
+
+use blockdisk::Disk;
+
+/// Who reads a version keeps it where one is published: that of another place stays current there, and the one that
+/// is superseded is past. The new version has a serial that none has that is read.
+pub fn readers_keep_what_is_superseded<D: Disk>(old: &D, new: &D)
+    ensures { (c c' : VolumeCore) (files : Files Version) (read : ℕ → Version) (key : ℕ) (p : PendingVersion) (words : ℕ) (place : Place) (x : Version)
+        → AreRead (D.state old.now) c files read → IsWholeCore (D.state old.now).size c → IsPublishedCore (D.state old.now).size c c' key p words
+        → AreDistinct (flat_map (λ d. values d.files) (values files)) → place ≡ place_of p.prime.ppn p.prime.file
+        → ((k : ℕ) (v : LiveVersion) → slot c.live k ≡ Some v → 0 < v.readers → x.serial ≡ (read k).serial → ⊥)
+        → KeepsRead (D.state old.now).contents (D.state new.now).contents c
+        → AreRead (D.state new.now) c' (with_file files place x) read }
+{}
+
+/// A reader comes to the version that a place has now, or goes from the one that it holds. All others keep theirs.
+pub fn readers_come_and_go<D: Disk>(disk: &D)
+    ensures comes { (c c' : VolumeCore) (files : Files Version) (read : ℕ → Version) (key : ℕ) (place : Place) (x : Version)
+        → AreRead (D.state disk.now) c files read → IsWholeCore (D.state disk.now).size c → file_at files place ≡ Some x → AreDistinct (flat_map (λ d. values d.files) (values files))
+        → ((v : LiveVersion) × (slot c.live key ≡ Some v) × (slot c'.live key ≡ Some (record v { readers = v.readers + 1 })))
+        → ((k : ℕ) → (k ≡ key → ⊥) → slot c'.live k ≡ slot c.live k)
+        → c' ≡ record c { live = c'.live }
+        → ((v : LiveVersion) × (slot c.live key ≡ Some v) × (v.is_current ≡ true) × (prime_at c place.ppn place.name ≡ Some v.at))
+        → ((v : LiveVersion) × (slot c'.live key ≡ Some v) × IsVersionOf (D.state disk.now).contents v x.file)
+        → AreRead (D.state disk.now) c' files (λ k. if k == key then x else read k) }
+
+    // Where it was read before, it was this very version.
+    ensures again { (c : VolumeCore) (files : Files Version) (read : ℕ → Version) (key : ℕ) (v : LiveVersion) (place : Place) (x : Version)
+        → AreRead (D.state disk.now) c files read → IsWholeCore (D.state disk.now).size c → file_at files place ≡ Some x
+        → slot c.live key ≡ Some v → 0 < v.readers → v.is_current ≡ true → prime_at c place.ppn place.name ≡ Some v.at → read key ≡ x }
+    ensures goes { (c c' : VolumeCore) (files : Files Version) (read : ℕ → Version) (key : ℕ) (v : LiveVersion)
+        → AreRead (D.state disk.now) c files read → slot c.live key ≡ Some v → 0 < v.readers
+        → ((v.is_current ≡ true) ⊎ (1 < v.readers) → slot c'.live key ≡ Some (record v { readers = v.readers - 1 }))
+        → (v.is_current ≡ false → v.readers ≡ 1 → slot c'.live key ≡ None)
+        → ((k : ℕ) → (k ≡ key → ⊥) → slot c'.live k ≡ slot c.live k)
+        → c'.known ≡ record c.known { table = c'.known.table }
+        → AreRead (D.state disk.now) c' files read }
+{}
