@@ -43,3 +43,6 @@ pub mod Placing
 pub mod Closings
 pub mod Untouched
 pub mod OutPlaced
+pub mod Unstopped
+pub mod EventCrashes
+pub mod Listed

@@ -12,3 +12,4 @@ pub mod DirectoryRows
 pub mod Lists
 pub mod Publishing
 pub mod Events
+pub mod Runs

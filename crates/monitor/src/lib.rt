@@ -30,6 +30,7 @@ mod close;
 mod dropping;
 mod enter;
 mod event;
+mod events;
 mod found;
 mod job;
 mod laws;
@@ -55,6 +56,7 @@ mod writing_tests;
 
 pub use call::Call;
 pub use channel::Channel;
+pub use events::Event;
 pub use job::{Job, Jobs};
 pub use laws::files_have_a_start;
 pub use monitor::Monitor;
