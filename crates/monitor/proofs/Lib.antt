@@ -46,3 +46,4 @@ pub mod OutPlaced
 pub mod Unstopped
 pub mod EventCrashes
 pub mod Listed
+pub mod Along

@@ -1,12 +1,11 @@
 -- A list of events goes on by one event.
-use Rattle.std.proofs.Common.{◌≡◌, ◌⊎◌, inl, inr, ⊎_elim, ℕ, ◌+◌, Bool, true, false, List, [], ◌∷◌, ◌++◌, length, map, refl, sym, ap, subst, ◌∙◌, arith}
+use Rattle.std.proofs.Common.{◌≡◌, ◌⊎◌, inl, inr, ⊎_elim, ℕ, true, List, [], ◌∷◌, ◌++◌, length, map, refl, sym, ap, subst, ◌∙◌, arith}
 use Rattle.std.specs.List.{AllByRecursion}
-use Rattle.blockdisk.specs.Disk.{Contents, DiskState, MayLeave, LeavesOnly, SameDisk, one_more}
+use Rattle.blockdisk.specs.Disk.{DiskState, LeavesOnly, SameDisk, one_more}
 use Rattle.meaning.specs.Crashes.{StandsForState, StandsForEither, RunsOn}
 use Rattle.meaning.specs.Jobs.{State}
 use Rattle.meaning.specs.Room.{Pack}
 use Rattle.meaning.specs.Runs.{Service, Serving, Broken, Answers}
-use Rattle.meaning.specs.declared.call.Event as machine
 use Rattle.meaning.specs.declared.call.Reply.{Reply}
 use Rattle.meaning.specs.declared.call.Reply.TheVariants.{Done, Value, Refused, Stopped, NoChannel, AddressCheck, NoJob, NoMemory, Device, Failed, DateRange}
 use Rattle.meaning.proofs.CrashLaws.{runs_start, runs_served, runs_failed, runs_stay}

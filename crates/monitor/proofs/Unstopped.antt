@@ -1,5 +1,5 @@
 -- A call whose answer is no stop for a mode with buffers is answered as the machine does.
-use Rattle.std.proofs.Common.{◌≡◌, ◌⊎◌, inl, inr, ⊎_elim, ◌<◌, ◌≤◌, ◌+◌, ◌-◌, ℕ, Bool, true, false, List, [], Option, None, Some, refl, sym, ap, subst, ◌∙◌, arith, slice_set}
+use Rattle.std.proofs.Common.{◌≡◌, ◌⊎◌, inl, inr, ⊎_elim, ◌<◌, ◌≤◌, ◌+◌, ◌-◌, ℕ, Bool, true, false, [], Option, None, Some, refl, sym, subst, ◌∙◌, arith}
 use Rattle.std.specs.Prelude.{◌↔◌, ◌==◌, ◌||◌, not, is_some, IsTrue, if◌then◌else◌, nat_le}
 use Rattle.std.proofs.lemmas.Bool.{cases_lt}
 use Rattle.words36.specs.declared.moment.Moment.{Moment}
@@ -17,7 +17,7 @@ use Rattle.meaning.proofs.SlotLaws.{set-slot}
 use Rattle.monitor.specs.Calls.{IsServed, IsLight, call_of}
 use Rattle.monitor.specs.Rows.{IsRow, open_unserved, unserved}
 use Rattle.monitor.specs.Runs.{IsUnstopped, WasMade}
-use Rattle.monitor.specs.Serving.{pack_of, IsState, Serves}
+use Rattle.monitor.specs.Serving.{pack_of, Serves}
 use Rattle.monitor.specs.Sides.{Writing, job_of}
 use Rattle.monitor.specs.States.{MonitorState}
 use Rattle.monitor.specs.declared.call.Call.{Call}

@@ -1,18 +1,23 @@
 -- Lists of events, and what a crash among them leaves.
-use Rattle.std.specs.Prelude.{◌≡◌, ◌⊎◌, ◌-◌, ℕ, false, List, [], ◌∷◌}
+use Rattle.std.specs.Prelude.{◌≡◌, ◌⊎◌, ◌-◌, Bool, false, List, [], ◌∷◌, Option}
 use Rattle.std.specs.List.{AllByRecursion}
+use Rattle.blockdisk.specs.Disk.{DiskState}
+use Rattle.meaning.specs.Files.{File, Files}
 use Rattle.meaning.specs.Jobs.{State, improper_mode}
 use Rattle.meaning.specs.Rings.{is_buffered}
 use Rattle.meaning.specs.Room.{Pack}
-use Rattle.meaning.specs.Runs.{Service, Serving, Broken, Answers}
+use Rattle.meaning.specs.Runs.{Service, Serving, Broken, Answers, IsStart}
 use Rattle.meaning.specs.Step.{step}
 use Rattle.meaning.specs.declared.call.Event as machine
 use Rattle.meaning.specs.declared.call.Event.TheVariants as events
 use Rattle.meaning.specs.declared.call.Reply.{Reply}
 use Rattle.meaning.specs.declared.call.Reply.TheVariants.{Done, Value, Refused, Stopped, NoChannel, AddressCheck, NoJob, NoMemory, Device, Failed, DateRange}
+use Rattle.volume.specs.Live.{VolumeCore}
 use Rattle.monitor.specs.Calls.{call_of}
+use Rattle.monitor.specs.Serving.{Serves}
 use Rattle.monitor.specs.declared.call.Call.{Call}
 use Rattle.monitor.specs.declared.call.Call.TheVariants.{Open, Enter, Out, Close, Releas, Useto, Reset, MakeDir}
+use Rattle.monitor.specs.declared.job.Job.{Job}
 use Rattle.monitor.specs.declared.events.Event.{Event}
 use Rattle.monitor.specs.declared.events.Event.TheVariants.{Login, Deposit, Examine, Call as Calls}
 
@@ -77,8 +82,13 @@ FailsOnce (reply ∷ replies) = (reply ≡ Device → AllByRecursion (λ later. 
 -- those after these and the next one, which was running; and no third. An event that the disk failed is the last.
 abbrev pub IsAlong : Pack → Service → List machine.Event → List Reply → State → Type 0
 IsAlong pack Broken events replies found = ⊥
-IsAlong pack (Serving s) [] replies found = found ≡ s
-IsAlong pack (Serving s) (event ∷ events) [] found = found ≡ s
+IsAlong pack (Serving s) [] [] found = found ≡ s
+IsAlong pack (Serving s) [] (reply ∷ replies) found = ⊥
+IsAlong pack (Serving s) (event ∷ events) [] found = ⊥
 IsAlong pack (Serving s) (event ∷ events) (reply ∷ replies) found =
     (found ≡ s) ⊎ (found ≡ (step pack 0 s event).1)
     ⊎ ((mid : Service) × Answers pack (Serving s) event reply mid × IsAlong pack mid events replies found)
+
+-- The monitor serves these files, and nobody is logged in.
+abbrev pub ServesFiles : DiskState → VolumeCore → Bool → List (Option Job) → Files File → Type 0
+ServesFiles d map failed jobs files = (s : State) → IsStart files s → Serves d map failed jobs (Serving s)

@@ -31,6 +31,8 @@ mod dropping;
 mod enter;
 mod event;
 mod events;
+#[cfg(test)]
+mod events_tests;
 mod found;
 mod job;
 mod laws;
@@ -43,6 +45,7 @@ mod output;
 mod publishing;
 #[cfg(test)]
 mod publishing_tests;
+mod restart;
 mod serve;
 mod serve_closing;
 mod serve_writing;
@@ -61,4 +64,5 @@ pub use job::{Job, Jobs};
 pub use laws::files_have_a_start;
 pub use monitor::Monitor;
 pub use output::{Kind, Output};
+pub use restart::start_after_crash;
 pub use volume::VolumeError as StartError;

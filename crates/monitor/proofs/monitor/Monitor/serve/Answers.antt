@@ -1,13 +1,10 @@
-use Rattle.std.proofs.Common.{◌≡◌, true, List, [], ◌∷◌, ◌++◌, ◌+◌, length, take, refl, sym, ap, subst, ◌∙◌, arith, length-append}
+use Rattle.std.proofs.Common.{◌≡◌, [], ◌∷◌, ◌++◌, ◌+◌, length, take, refl, sym, ap, subst, ◌∙◌, arith, length-append}
 use Rattle.std.specs.Prelude.{is_ok, if◌then◌else◌}
 use Rattle.std.specs.List.{AllByRecursion}
 use Rattle.std.proofs.lemmas.List.{take_more, take_all, length-take-le}
-use Rattle.blockdisk.specs.Disk.{one_more}
 use Rattle.blockdisk.specs.Laws.{same_disk_start, same_disk_on}
-use Rattle.meaning.specs.declared.call.Reply.{Reply}
 use Rattle.meaning.specs.declared.call.Reply.TheVariants.{Device, Failed}
 use Rattle.monitor.specs.Runs.{TellsFault, FailsOnce}
-use Rattle.monitor.specs.declared.events.Event.{Event}
 use Rattle.monitor.proofs.Listed.{Ran, ran_start, ran_more, told_more, counted_more, served_more, failed_once, broken_more}
 use Rattle.monitor.proofs.monitor.Monitor.serve.Goals as goal
 
