@@ -149,13 +149,14 @@ module _ {D : Type 0} (state : D → DiskState) (old new : MonitorState D) (n : 
     ring_led s serves =
         let led = ring_old s serves in
         let on_old : Serves (state old.disk) old.map old.failed old.jobs led.0 = led.1 in
-        let failed_is : new.failed ≡ old.failed = same_failed ∙ sym alive in
-        (led.0,
+        let failed_is : new.failed ≡ old.failed = same_failed ∙ sym alive in (
+          led.0,
           subst (λ (d : D). Serves (state d) new.map new.failed new.jobs led.0) (sym same_disk)
-          (subst (λ m. Serves (state old.disk) m new.failed new.jobs led.0) (sym same_map)
-          (subst (λ f. Serves (state old.disk) old.map f new.jobs led.0) (sym failed_is)
-          (subst (λ js. Serves (state old.disk) old.map old.failed js led.0) (sym same_jobs) on_old))),
-          subst (λ x. Answers (pack_of (state old.disk)) s (Calls n (call_of x) moment) reply led.0) (sym asked) led.2)
+              (subst (λ m. Serves (state old.disk) m new.failed new.jobs led.0) (sym same_map)
+              (subst (λ f. Serves (state old.disk) old.map f new.jobs led.0) (sym failed_is)
+              (subst (λ js. Serves (state old.disk) old.map old.failed js led.0) (sym same_jobs) on_old))),
+          subst (λ x. Answers (pack_of (state old.disk)) s (Calls n (call_of x) moment) reply led.0) (sym asked) led.2,
+        )
 
   abbrev pub Unserved : Type 0
   Unserved =

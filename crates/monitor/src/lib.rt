@@ -18,6 +18,12 @@
 //!    name. (`AreKeyed`, `ArePlaced`)
 //! 8. `room` and `blocks` are the volume's. `finish` gives the disk back as it stands.
 //! 9. A monitor that has failed answers Failed to every event, and no other does. (`failed`)
+//! 10. `serve` serves any list of events, each of which is answered as the machine does; between the moment after one
+//!    event and the moment after the next a crash leaves the files before that event or those after it. A Device
+//!    counts as one failure of the disk, and all later replies are Failed. (`runs`, `counted`, `once`; `none` where
+//!    there was no memory) A run is said of lists of which no OPEN was stopped for a mode with buffers.
+//! 11. `start_after_crash` finds the files of a moment along such a list, and never a third; and it refuses the disk
+//!    for want of memory or a fault of the device alone. (`found`, `refused`, `between`)
 //!
 //! The rows of OUT, MakeDir, CLOSE and RELEAS are proved as functions of one job; `call` doesn't serve them yet.
 #![tactic(auto)]

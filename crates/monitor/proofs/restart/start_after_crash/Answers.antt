@@ -13,9 +13,12 @@ returns-clause-found g c h h' size t s events replies new runs left =
     let d = g.D.Disk.state c.args.stopped.now in
     let e = g.E.Disk.state c.args.left in
     let found = along (pack_of d) d (λ x is. g.met.D.Disk.only_now c.args.stopped.now x h is) e.contents t s events replies new runs left in
-    let files = without_serials found.0.files in
-    (found.0, found.1, ok_each (IsStart files) (λ u m. Serves (g.E.Disk.state m.disk) m.map m.failed m.jobs (Serving u)) c.start.result
-        (c.start.ensures.started h' files (subst (λ n. Stands n e.contents files) (sym size) found.2)))
+    let files = without_serials found.0.files in (
+      found.0,
+      found.1,
+      ok_each (IsStart files) (λ u m. Serves (g.E.Disk.state m.disk) m.map m.failed m.jobs (Serving u)) c.start.result
+          (c.start.ensures.started h' files (subst (λ n. Stands n e.contents files) (sym size) found.2)),
+    )
 
 pub returns-clause-refused : goal.returns-clause-refused
 returns-clause-refused g c h h' size t s events replies new runs left =
