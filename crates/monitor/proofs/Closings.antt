@@ -1,10 +1,10 @@
 -- CLOSE and RELEAS by the job of a number: what its row says of all jobs.
-use Rattle.std.proofs.Common.{◌≡◌, ◌≤◌, ℕ, Bool, true, false, List, Option, Some, None, refl, sym, ap, subst, ◌∙◌, ◌⊎◌, inl, inr, ⊎_elim, slice_set}
+use Rattle.std.proofs.Common.{◌≡◌, ◌≤◌, ℕ, Bool, false, List, Option, Some, refl, sym, subst, ◌∙◌, ◌⊎◌, inl, inr, ⊎_elim, slice_set}
 use Rattle.std.specs.Prelude.{◌↔◌, IsTrue}
 use Rattle.words36.specs.declared.moment.Moment.{Moment}
 use Rattle.blockdisk.specs.Disk.{DiskState, one_more}
-use Rattle.meaning.specs.Jobs.{State, slot}
-use Rattle.meaning.specs.Runs.{Service, Serving, Answers}
+use Rattle.meaning.specs.Jobs.{slot}
+use Rattle.meaning.specs.Runs.{Service, Answers}
 use Rattle.meaning.specs.declared.call.Call.{Call}
 use Rattle.meaning.specs.declared.call.Event.TheVariants.{Call as Calls}
 use Rattle.meaning.specs.declared.call.Reply.{Reply}
@@ -15,13 +15,12 @@ use Rattle.monitor.specs.Dropping.{Drops}
 use Rattle.monitor.specs.Events.{CallCrashes, IsIdle}
 use Rattle.monitor.specs.Publishing.{IsPublishing, IsPublishRow, CrashesAsRow, StillStands}
 use Rattle.monitor.specs.Rows.{ClosesSide, IsRow, Keeps}
-use Rattle.monitor.specs.Serving.{pack_of, IsState, Serves, AreKeyed, ArePlaced}
+use Rattle.monitor.specs.Serving.{pack_of, Serves, AreKeyed, ArePlaced}
 use Rattle.monitor.specs.declared.channel.Channel.{Channel}
 use Rattle.monitor.specs.declared.output.Output.{Output}
 use Rattle.monitor.specs.declared.job.Job.{Job}
 use Rattle.monitor.proofs.Answering.{row, in_state, contrary}
 use Rattle.monitor.proofs.Dropped.{keeps_keyed}
-use Rattle.monitor.proofs.Placing.{placed_dropped}
 use Rattle.monitor.proofs.Serving.{row_is}
 
 -- The side that is published is one of the job's.

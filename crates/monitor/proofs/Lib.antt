@@ -50,3 +50,7 @@ pub mod ReadStays
 pub mod HeldSerials
 pub mod ReadsPinned
 pub mod ReadsPublished
+pub mod Unstopped
+pub mod EventCrashes
+pub mod Listed
+pub mod Along

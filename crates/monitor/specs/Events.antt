@@ -1,5 +1,5 @@
 -- What a call does to the disk, whatever state the monitor stands for.
-use Rattle.std.specs.Prelude.{◌≡◌, ◌⊎◌, ℕ, List, Option}
+use Rattle.std.specs.Prelude.{◌⊎◌, ℕ, List, Option}
 use Rattle.words36.specs.declared.moment.Moment.{Moment}
 use Rattle.blockdisk.specs.Disk.{DiskState, LeavesOnly}
 use Rattle.meaning.specs.Jobs.{State}

@@ -1,11 +1,11 @@
-ghost use Rattle.std.specs.Prelude.{◌≡◌, ◌⊎◌, ◌≤◌, ◌↔◌, ℕ, true, false, Some, IsTrue};
+ghost use Rattle.std.specs.Prelude.{◌≡◌, ◌⊎◌, ◌<◌, ◌≤◌, ◌↔◌, ℕ, true, false, Some, IsTrue};
 ghost use Rattle.blockdisk.specs.Disk.{SameDisk, one_more};
 ghost use Rattle.meaning.specs.Jobs.{slot};
 ghost use Rattle.meaning.specs.Opening.{mode_at};
 ghost use Rattle.meaning.specs.Rings.{is_buffered};
 ghost use Rattle.meaning.specs.Runs.{Service, Answers};
 ghost use Rattle.meaning.specs.declared.call.Event.TheVariants.{Call as Calls};
-ghost use Rattle.meaning.specs.declared.call.Reply.TheVariants.{NoMemory, Failed, Device};
+ghost use Rattle.meaning.specs.declared.call.Reply.TheVariants.{NoMemory, Failed, Device, DateRange};
 ghost use Rattle.volume.specs.LiveCores.{core_of};
 ghost use Rattle.volume.specs.Rest.{IsSound};
 ghost use Rattle.monitor.specs.Calls.{IsServed, IsLight, call_of};
@@ -79,6 +79,7 @@ fn serve<D: Disk>(
     ensures counted { result ≡ Device → (D.state volume.new.disk).failures ≡ one_more (D.state volume.old.disk).failures }
     ensures served { (result ≡ Device → ⊥) → (D.state volume.new.disk).failures ≡ (D.state volume.old.disk).failures }
     ensures same { SameDisk (D.state volume.old.disk) (D.state volume.new.disk) }
+    ensures kept { (channel address : ℕ) → call.now ≡ Open channel address → core_of volume.new.map ≡ core_of volume.old.map }
     ensures unserved { (channel address : ℕ) → call.now ≡ Open channel address → (there : JobRecord) → slot jobs.old number ≡ Some there → is_buffered (mode_at there.core address) ≡ true
         → (jobs.new ≡ jobs.old) × ((written : ℕ → Writing) → result ≡ open_unserved (job_of written there) channel address) }
     ensures answered { (D.state volume.old.disk).honest → IsServed call.now (slot jobs.old number) → (old : Service) → Serves (D.state volume.old.disk) (core_of volume.old.map) volume.old.failed jobs.old old
@@ -129,7 +130,10 @@ impl<D: Disk> Monitor<D> {
         ensures counted { result ≡ Device → (D.state self.new.disk).failures ≡ one_more (D.state self.old.disk).failures }
         ensures served { (result ≡ Device → ⊥) → (D.state self.new.disk).failures ≡ (D.state self.old.disk).failures }
         ensures same { SameDisk (D.state self.old.disk) (D.state self.new.disk) }
-        // OPEN in a mode with buffers.
+        // A date that the disk can't hold.
+        ensures late { self.old.failed ≡ false → 4095 < moment.date → (result ≡ DateRange) × (self.new ≡ self.old) }
+        // OPEN leaves what is known of the disk; and in a mode with buffers the jobs too.
+        ensures kept { (channel address : ℕ) → call.now ≡ Open channel address → self.new.map ≡ self.old.map }
         ensures unserved { self.old.failed ≡ false → moment.date ≤ 4095 → (channel address : ℕ) → call.now ≡ Open channel address → (there : JobRecord) → slot self.old.jobs job ≡ Some there → is_buffered (mode_at there.core address) ≡ true
             → (self.new.jobs ≡ self.old.jobs) × ((written : ℕ → Writing) → result ≡ open_unserved (job_of written there) channel address) }
     {

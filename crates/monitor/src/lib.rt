@@ -21,6 +21,12 @@
 //! 8. `room` and `blocks` are the volume's. `finish` gives the disk back as it stands.
 //! 9. A monitor that has failed answers Failed to every event and changes nothing. It fails with the device; on an
 //!    honest disk with nothing else. (`failed`, `broken`, `blamed`, `counted`, `served`)
+//! 10. `serve` serves any list of events, each of which is answered as the machine does; between the moment after one
+//!    event and the moment after the next a crash leaves the files before that event or those after it. A Device
+//!    counts as one failure of the disk, and all later replies are Failed. (`runs`, `counted`, `once`; `none` where
+//!    there was no memory) A run is said of lists of which no OPEN was stopped for a mode with buffers.
+//! 11. `start_after_crash` finds the files of a moment along such a list, and never a third; and it refuses the disk
+//!    for want of memory or a fault of the device alone. (`found`, `refused`, `between`)
 #![tactic(auto)]
 
 mod call;
@@ -31,6 +37,9 @@ mod close;
 mod dropping;
 mod enter;
 mod event;
+mod events;
+#[cfg(test)]
+mod events_tests;
 mod found;
 mod getsts;
 mod holding_laws;
@@ -46,6 +55,7 @@ mod publishing;
 #[cfg(test)]
 mod publishing_tests;
 mod reading_laws;
+mod restart;
 mod serve;
 mod serve_closing;
 mod serve_writing;
@@ -60,9 +70,11 @@ mod writing_tests;
 pub use call::Call;
 pub use channel::Channel;
 pub use holding_laws::{readers_come_and_go, readers_keep_what_is_superseded};
+pub use events::Event;
 pub use job::{Job, Jobs};
 pub use laws::{files_have_a_start, held_versions_are_booked_once};
 pub use monitor::Monitor;
 pub use output::{Kind, Output};
 pub use reading_laws::{what_is_read_is_booked, what_is_read_stays};
+pub use restart::start_after_crash;
 pub use volume::VolumeError as StartError;

@@ -45,6 +45,7 @@ pub fn serve_open<D: Disk>(
     ensures untouched { (volume.new.disk ≡ volume.old.disk) × (volume.new.failed ≡ volume.old.failed) }
     ensures only { (result ≡ Failed → ⊥) × (result ≡ Device → ⊥) }
     ensures light { result ≡ NoMemory → ⊥ }
+    ensures kept { core_of volume.new.map ≡ core_of volume.old.map }
     ensures unserved { (there : JobRecord) → slot jobs.old number ≡ Some there → is_buffered (mode_at there.core address) ≡ true → (jobs.new ≡ jobs.old) × ((written : ℕ → Writing) → result ≡ open_unserved (job_of written there) channel address) }
     ensures answered { (D.state volume.old.disk).honest → IsUnbuffered address (slot jobs.old number) → (old : Service) → Serves (D.state volume.old.disk) (core_of volume.old.map) volume.old.failed jobs.old old
         → (new : Service) × Serves (D.state volume.new.disk) (core_of volume.new.map) volume.new.failed jobs.new new

@@ -1,10 +1,9 @@
-use Rattle.std.proofs.Common.{Some, refl, sym, ap, subst, ◌∙◌}
+use Rattle.std.proofs.Common.{Some, refl, subst}
 use Rattle.std.specs.List.{AllByRecursion}
 use Rattle.meaning.specs.declared.call.Call.TheVariants.{Close}
-use Rattle.blockdisk.specs.Disk.{DiskState}
 use Rattle.volume.specs.LiveCores.{core_of}
 use Rattle.monitor.specs.Serving.{IsSide}
-use Rattle.monitor.specs.Sides.{side_of, sides_in}
+use Rattle.monitor.specs.Sides.{sides_in}
 use Rattle.monitor.proofs.Closings.{closes_here, row_answered, row_crashes, row_stands, publishing_failed, publishing_blamed, publishing_counted, publishing_served, publishing_idle}
 use Rattle.monitor.proofs.Dropped.{job_live}
 use Rattle.monitor.proofs.Outs.{version_live, its_side}

@@ -9,7 +9,7 @@ use Rattle.monitor.proofs.Answering.{on_disk}
 use Rattle.monitor.proofs.Closings.{dropping_keyed, dropping_answered}
 use Rattle.monitor.proofs.Dropped.{job_live}
 use Rattle.monitor.proofs.Placing.{placed_dropped}
-use Rattle.monitor.proofs.Serving.{nobody, alone, alone_keyed}
+use Rattle.monitor.proofs.Serving.{nobody}
 use Rattle.monitor.proofs.Slots.{put_back}
 use Rattle.monitor.proofs.serve_closing.close_quietly.Goals as goal
 

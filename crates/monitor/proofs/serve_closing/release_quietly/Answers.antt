@@ -1,14 +1,7 @@
 use Rattle.std.proofs.Common.{Some, ap, sym, ◌∙◌}
-use Rattle.meaning.specs.Runs.{Answers}
 use Rattle.meaning.specs.declared.call.Call.TheVariants.{Releas}
-use Rattle.meaning.specs.declared.call.Event.TheVariants.{Call as Calls}
 use Rattle.volume.specs.LiveCores.{core_of}
 use Rattle.monitor.specs.Rows.{publishes_by}
-use Rattle.monitor.specs.Serving.{pack_of}
-use Rattle.monitor.proofs.Answering.{on_disk}
-use Rattle.monitor.proofs.Closings.{dropping_keyed, dropping_answered}
-use Rattle.monitor.proofs.Dropped.{job_live}
-use Rattle.monitor.proofs.Placing.{placed_dropped}
 use Rattle.monitor.proofs.Serving.{nobody, alone, alone_keyed}
 use Rattle.monitor.proofs.Slots.{put_back}
 use Rattle.monitor.proofs.serve_closing.release_quietly.Goals as goal

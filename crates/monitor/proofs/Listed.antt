@@ -1,0 +1,176 @@
+-- A list of events goes on by one event.
+use Rattle.std.proofs.Common.{◌≡◌, ◌⊎◌, inl, inr, ⊎_elim, ℕ, true, List, [], ◌∷◌, ◌++◌, length, map, refl, sym, ap, subst, ◌∙◌, arith}
+use Rattle.std.specs.List.{AllByRecursion}
+use Rattle.blockdisk.specs.Disk.{DiskState, LeavesOnly, SameDisk, one_more}
+use Rattle.meaning.specs.Crashes.{StandsForState, StandsForEither, RunsOn}
+use Rattle.meaning.specs.Jobs.{State}
+use Rattle.meaning.specs.Room.{Pack}
+use Rattle.meaning.specs.Runs.{Service, Serving, Broken, Answers}
+use Rattle.meaning.specs.declared.call.Reply.{Reply}
+use Rattle.meaning.specs.declared.call.Reply.TheVariants.{Done, Value, Refused, Stopped, NoChannel, AddressCheck, NoJob, NoMemory, Device, Failed, DateRange}
+use Rattle.meaning.proofs.CrashLaws.{runs_start, runs_served, runs_failed, runs_stay}
+use Rattle.monitor.specs.Runs.{event_of, WasServed, WereServed, TellsFault, FailsOnce}
+use Rattle.monitor.specs.Serving.{pack_of, Serves}
+use Rattle.monitor.specs.States.{MonitorState}
+use Rattle.monitor.specs.declared.events.Event.{Event}
+use Rattle.monitor.proofs.EventCrashes.{state_stands}
+
+-- Lists that are one longer.
+
+events_more : (events : List Event) (event : Event) → map event_of (events ++ event ∷ []) ≡ map event_of events ++ event_of event ∷ []
+events_more [] event = refl
+events_more (e ∷ events) event = ap (λ es. event_of e ∷ es) (events_more events event)
+
+served_parts : (events : List Event) (replies : List Reply) (event : Event) (reply : Reply) → length replies ≡ length events → WereServed (events ++ event ∷ []) (replies ++ reply ∷ []) → WereServed events replies × WasServed event reply
+served_parts [] [] event reply even served = (tt, served.0)
+served_parts [] (r ∷ replies) event reply even served = absurd (omega (arith, even))
+served_parts (e ∷ events) [] event reply even served = absurd (omega (arith, even))
+served_parts (e ∷ events) (r ∷ replies) event reply even served =
+    let rest = served_parts events replies event reply (omega (arith, even)) served.1 in
+    ((served.0, rest.0), rest.1)
+
+module _ {X : Type 0} (P : X → Type 0) where
+  pub all_more : (xs : List X) (x : X) → AllByRecursion P xs → P x → AllByRecursion P (xs ++ x ∷ [])
+  all_more [] x all is = (is, tt)
+  all_more (y ∷ xs) x all is = (all.0, all_more xs x all.1 is)
+
+  pub all_front : (xs : List X) (x : X) → AllByRecursion P (xs ++ x ∷ []) → AllByRecursion P xs × P x
+  all_front [] x all = (tt, all.0)
+  all_front (y ∷ xs) x all =
+      let rest = all_front xs x all.1 in
+      ((all.0, rest.0), rest.1)
+
+is_fault : (reply : Reply) → (reply ≡ Device) ⊎ (reply ≡ Device → ⊥)
+is_fault Done = inr (λ e. cc)
+is_fault (Value word) = inr (λ e. cc)
+is_fault (Refused code) = inr (λ e. cc)
+is_fault (Stopped status) = inr (λ e. cc)
+is_fault NoChannel = inr (λ e. cc)
+is_fault AddressCheck = inr (λ e. cc)
+is_fault NoJob = inr (λ e. cc)
+is_fault NoMemory = inr (λ e. cc)
+is_fault Device = inl refl
+is_fault Failed = inr (λ e. cc)
+is_fault DateRange = inr (λ e. cc)
+
+tells_parts : (replies : List Reply) (reply : Reply) → TellsFault (replies ++ reply ∷ []) → TellsFault replies ⊎ (reply ≡ Device)
+tells_parts [] reply tells = ⊎_elim (λ is. inr is) (λ none. absurd none) tells
+tells_parts (r ∷ replies) reply tells = ⊎_elim (λ is. inl (inl is)) (λ later. ⊎_elim (λ told. inl (inr told)) (λ is. inr is) (tells_parts replies reply later)) tells
+
+tells_or_not : (replies : List Reply) → TellsFault replies ⊎ AllByRecursion (λ reply. reply ≡ Device → ⊥) replies
+tells_or_not [] = inr tt
+tells_or_not (r ∷ replies) = ⊎_elim (λ is. inl (inl is)) (λ other. ⊎_elim (λ told. inl (inr told)) (λ none. inr (other, none)) (tells_or_not replies)) (is_fault r)
+
+once_more : (replies : List Reply) (reply : Reply) → FailsOnce replies → (TellsFault replies → reply ≡ Failed) → FailsOnce (replies ++ reply ∷ [])
+once_more [] reply once later = (λ e. tt, tt)
+once_more (r ∷ replies) reply once later = (λ e. all_more (λ x. x ≡ Failed) replies reply (once.0 e) (later (inl e)), once_more replies reply once.1 (λ told. later (inr told)))
+
+-- The run.
+
+-- the disk of a monitor, by how many blocks it has
+abbrev pack_with : ℕ → Pack
+pack_with n = record { layout = 1; blocks = n }
+
+module _ {D : Type 0} (state : D → DiskState) where
+  -- what was served so far, since the value `first`
+  abbrev pub Ran : MonitorState D → MonitorState D → List Event → List Reply → Type 0
+  Ran first now events replies =
+      (state first.disk).honest → WereServed events replies → (s : State) → Serves (state first.disk) first.map first.failed first.jobs (Serving s)
+      → (new : Service) × Serves (state now.disk) now.map now.failed now.jobs new
+      × RunsOn (pack_of (state first.disk)) (state now.disk) (state first.disk).clock (Serving s) (map event_of events) replies new
+
+  pub ran_start : (first : MonitorState D) → Ran first first [] []
+  ran_start first h served s serves = (Serving s, serves, runs_start (pack_of (state first.disk)) (state first.disk) s (state_stands (state first.disk) first.map first.jobs s serves.1))
+
+  module _ (first old new : MonitorState D) (events : List Event) (replies : List Reply) (event : Event) (reply : Reply) where
+    abbrev d : DiskState
+    d = state old.disk
+
+    abbrev d' : DiskState
+    d' = state new.disk
+
+    -- what one event ensures
+    abbrev pub IsAnswered : Type 0
+    IsAnswered =
+        d.honest → WasServed event reply → (s : Service) → Serves d old.map old.failed old.jobs s
+        → (t : Service) × Serves d' new.map new.failed new.jobs t × Answers (pack_of d) s (event_of event) reply t
+
+    abbrev pub Crashes : Type 0
+    Crashes = d.honest → (s : State) → Serves d old.map old.failed old.jobs (Serving s) → LeavesOnly d d' (StandsForEither (pack_of d) s (event_of event))
+
+    abbrev pub Stays : Type 0
+    Stays = old.failed ≡ true → (reply ≡ Failed) × (new ≡ old)
+
+    abbrev Goal : State → Type 0
+    Goal s =
+        (t : Service) × Serves d' new.map new.failed new.jobs t
+        × RunsOn (pack_of (state first.disk)) d' (state first.disk).clock (Serving s) (map event_of (events ++ event ∷ [])) (replies ++ reply ∷ []) t
+
+    longer : (m : DiskState) (r : Reply) (s : State) (t : Service) → RunsOn (pack_of (state first.disk)) m (state first.disk).clock (Serving s) (map event_of events ++ event_of event ∷ []) (replies ++ r ∷ []) t → reply ≡ r
+        → RunsOn (pack_of (state first.disk)) m (state first.disk).clock (Serving s) (map event_of (events ++ event ∷ [])) (replies ++ reply ∷ []) t
+    longer m r s t runs is =
+        subst (λ es. RunsOn (pack_of (state first.disk)) m (state first.disk).clock (Serving s) es (replies ++ reply ∷ []) t) (sym (events_more events event))
+        (subst (λ x. RunsOn (pack_of (state first.disk)) m (state first.disk).clock (Serving s) (map event_of events ++ event_of event ∷ []) (replies ++ x ∷ []) t) (sym is) runs)
+
+    stayed : (s : State) → old.failed ≡ true → RunsOn (pack_of (state first.disk)) d (state first.disk).clock (Serving s) (map event_of events) replies Broken → (reply ≡ Failed) × (new ≡ old) → Goal s
+    stayed s failed runs is = (
+      Broken,
+      ap (λ m. m.failed) is.1 ∙ failed,
+      subst (λ (m : MonitorState D). RunsOn (pack_of (state first.disk)) (state m.disk) (state first.disk).clock (Serving s) (map event_of (events ++ event ∷ [])) (replies ++ reply ∷ []) Broken) (sym is.1)
+          (longer d Failed s Broken (runs_stay (pack_of (state first.disk)) d (state first.disk).clock (Serving s) (map event_of events) replies (event_of event) runs) is.0),
+    )
+
+    went_on : (s u : State) → SameDisk (state first.disk) d' → RunsOn (pack_of (state first.disk)) d (state first.disk).clock (Serving s) (map event_of events) replies (Serving u)
+        → LeavesOnly d d' (StandsForEither (pack_of (state first.disk)) u (event_of event)) → (t : Service) → Serves d' new.map new.failed new.jobs t → Answers (pack_of (state first.disk)) (Serving u) (event_of event) reply t → Goal s
+    went_on s u same runs leaves Broken serves a =
+        (Broken, serves, longer d' reply s Broken (runs_failed (pack_of (state first.disk)) d d' u (event_of event) reply leaves (state first.disk).clock (Serving s) (map event_of events) replies runs a) refl)
+    went_on s u same runs leaves (Serving v) serves a = (
+      Serving v,
+      serves,
+      longer d' reply s (Serving v) (runs_served (pack_of (state first.disk)) d d' u (event_of event) reply leaves v (state first.disk).clock (Serving s) (map event_of events) replies runs a
+          (λ c left. subst (λ p. StandsForState p v c) (ap pack_with same.size) (state_stands d' new.map new.jobs v serves.1 c left))) refl,
+    )
+
+    pub ran_more : length replies ≡ length events → SameDisk (state first.disk) d → SameDisk (state first.disk) d' → IsAnswered → Crashes → Stays → Ran first old events replies → Ran first new (events ++ event ∷ []) (replies ++ reply ∷ [])
+    ran_more even same same' answered crash stays ran h served s serves =
+        let parts = served_parts events replies event reply even served in
+        let led = ran h parts.0 s serves in
+        on parts.1 led.0 led.1 led.2
+      where
+        size : pack_of d ≡ pack_of (state first.disk)
+        size = ap pack_with same.size
+
+        on : WasServed event reply → (mid : Service) → Serves d old.map old.failed old.jobs mid → RunsOn (pack_of (state first.disk)) d (state first.disk).clock (Serving s) (map event_of events) replies mid → Goal s
+        on is Broken failed runs = stayed s failed runs (stays failed)
+        on is (Serving u) mid runs =
+            let after = answered (same.honest h) is (Serving u) mid in
+            went_on s u same' runs (subst (λ p. LeavesOnly d d' (StandsForEither p u (event_of event))) size (crash (same.honest h) u mid)) after.0 after.1
+            (subst (λ p. Answers p (Serving u) (event_of event) reply after.0) size after.2)
+
+    -- Faults of the device.
+
+    pub told_more : Stays → (reply ≡ Device → new.failed ≡ true) → (TellsFault replies → old.failed ≡ true) → TellsFault (replies ++ reply ∷ []) → new.failed ≡ true
+    told_more stays failed told tells = ⊎_elim (λ before. ap (λ m. m.failed) (stays (told before)).1 ∙ told before) failed (tells_parts replies reply tells)
+
+    pub counted_more : Stays → (TellsFault replies → old.failed ≡ true) → (reply ≡ Device → d'.failures ≡ one_more d.failures) → ((reply ≡ Device → ⊥) → d'.failures ≡ d.failures)
+        → (AllByRecursion (λ x. x ≡ Device → ⊥) replies → d.failures ≡ (state first.disk).failures) → (TellsFault replies → d.failures ≡ one_more (state first.disk).failures)
+        → TellsFault (replies ++ reply ∷ []) → d'.failures ≡ one_more (state first.disk).failures
+    counted_more stays told counted served none some tells =
+        ⊎_elim (λ before. served (λ e. absurd (cc (e, (stays (told before)).0))) ∙ some before)
+        (λ is. counted is ∙ ap one_more (⊎_elim (λ before. absurd (cc (is, (stays (told before)).0))) none (tells_or_not replies)))
+        (tells_parts replies reply tells)
+
+    pub served_more : ((reply ≡ Device → ⊥) → d'.failures ≡ d.failures) → (AllByRecursion (λ x. x ≡ Device → ⊥) replies → d.failures ≡ (state first.disk).failures)
+        → AllByRecursion (λ x. x ≡ Device → ⊥) (replies ++ reply ∷ []) → d'.failures ≡ (state first.disk).failures
+    served_more served none all =
+        let parts = all_front (λ x. x ≡ Device → ⊥) replies reply all in
+        served parts.1 ∙ none parts.0
+
+    pub failed_once : Stays → (TellsFault replies → old.failed ≡ true) → FailsOnce replies → FailsOnce (replies ++ reply ∷ [])
+    failed_once stays told once = once_more replies reply once (λ before. (stays (told before)).0)
+
+    pub broken_more : Stays → (first.failed ≡ true → AllByRecursion (λ x. x ≡ Failed) replies × (old ≡ first)) → first.failed ≡ true → AllByRecursion (λ x. x ≡ Failed) (replies ++ reply ∷ []) × (new ≡ first)
+    broken_more stays broken failed =
+        let was = broken failed in
+        let is = stays (ap (λ m. m.failed) was.1 ∙ failed) in
+        (all_more (λ x. x ≡ Failed) replies reply was.0 is.0, is.1 ∙ was.1)
