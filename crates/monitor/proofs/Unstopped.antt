@@ -21,7 +21,7 @@ use Rattle.monitor.specs.Serving.{pack_of, Serves}
 use Rattle.monitor.specs.Sides.{Writing, job_of}
 use Rattle.monitor.specs.States.{MonitorState}
 use Rattle.monitor.specs.declared.call.Call.{Call}
-use Rattle.monitor.specs.declared.call.Call.TheVariants.{Open, Enter, Out, Close, Releas, Useto, Reset, MakeDir}
+use Rattle.monitor.specs.declared.call.Call.TheVariants.{Open, Enter, Out, Close, Releas, Useto, Getsts, Reset, MakeDir}
 use Rattle.monitor.specs.declared.job.Job.{Job}
 use Rattle.monitor.proofs.Answering.{row, late as too_late, contrary, in_state, failed_answered}
 use Rattle.monitor.proofs.Calling.{keeps_same}
@@ -52,6 +52,7 @@ served_or_ring (Out channel address) o = inl tt
 served_or_ring (Close channel bits) o = inl tt
 served_or_ring (Releas channel) o = inl tt
 served_or_ring (Useto channel block) o = inl tt
+served_or_ring (Getsts channel) o = inl tt
 served_or_ring Reset o = inl tt
 served_or_ring (MakeDir address) o = inl tt
 
