@@ -45,3 +45,4 @@ pub mod Untouched
 pub mod OutPlaced
 pub mod Statuses
 pub mod HeldRooms
+pub mod LookupAnswers

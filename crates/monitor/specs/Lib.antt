@@ -13,3 +13,4 @@ pub mod Lists
 pub mod Publishing
 pub mod Events
 pub mod Readers
+pub mod Inputs

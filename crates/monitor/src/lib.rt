@@ -33,9 +33,13 @@ mod enter;
 mod event;
 mod found;
 mod getsts;
+mod input;
 mod job;
 mod laws;
 mod list;
+mod lookup;
+#[cfg(test)]
+mod lookup_tests;
 mod makedir;
 mod monitor;
 mod open;
@@ -57,6 +61,7 @@ mod writing_tests;
 
 pub use call::Call;
 pub use channel::Channel;
+pub use input::Input;
 pub use job::{Job, Jobs};
 pub use laws::{files_have_a_start, held_versions_are_booked_once};
 pub use monitor::Monitor;
