@@ -65,7 +65,7 @@ fn readable<D: Disk>(
         return Err(ErrorCode::NotFound);
     }
     let Ok(facts) = volume.look(owner, file) else {
-        return Err(ErrorCode::NotFound);
+        return Err(ErrorCode::NotFound); // the directory has no such name
     };
     if !may_read(facts.protection, who, owner) {
         return Err(ErrorCode::Protection);
@@ -146,7 +146,7 @@ fn size_of(facts: &FileFacts) -> Half
     if facts.words <= MOST_WORDS {
         Half::from_bits((HALF_LIMIT - facts.words) % HALF_LIMIT)
     } else {
-        Half::from_bits(facts.blocks % HALF_LIMIT) // no file has more than half a word counts
+        Half::from_bits(facts.blocks % HALF_LIMIT) // no file has so many that half a word is short
     }
 }
 
