@@ -92,8 +92,8 @@ module _ (d : DiskState) (map : VolumeCore) (s : State) (known : IsKnown d map s
       ∙ (let shown = sym (shown_at s.files place.ppn) in λ i. begin_reply (allowed (found_in (shown i) place.name) job.ppn place.ppn (place.name.name == 0) (known.claimed place i)) (exceeds_room (pack_of d) s (1 + growth (entry_count s place.ppn))) (has_no_room (pack_of d) s))
 
   -- no directory has a number that is none
-  pub no_owner : (w : ℕ → Writing) (job : Job) (place : Place) → (IsPpn place.ppn → ⊥) → begin_answer_at (pack_of d) s (job_of w job) place ≡ replies.Refused 1
-  no_owner w job place none = ap (λ o. if is_none o then replies.Refused 1 else (if place.name.name == 0 then replies.Refused 0 else begin_answer (pack_of d) s (job_of w job) None place)) (gone (get s.files place.ppn) refl)
+  pub no_directory : (place : Place) → (IsPpn place.ppn → ⊥) → get s.files place.ppn ≡ None
+  no_directory place none = gone (get s.files place.ppn) refl
     where
       unnamed : (was : Option (ℕ × ℕ)) → find nat_cmp place.ppn map.known.master.entries ≡ was → find nat_cmp place.ppn map.known.master.entries ≡ None
       unnamed None is = is
@@ -104,6 +104,9 @@ module _ (d : DiskState) (map : VolumeCore) (s : State) (known : IsKnown d map s
       gone : (was : Option (Directory Version)) → get s.files place.ppn ≡ was → get s.files place.ppn ≡ None
       gone None is = is
       gone (Some x) is = absurd (listed d map s.files holds sound.whole.map place.ppn x is (unnamed (find nat_cmp place.ppn map.known.master.entries) refl))
+
+  pub no_owner : (w : ℕ → Writing) (job : Job) (place : Place) → (IsPpn place.ppn → ⊥) → begin_answer_at (pack_of d) s (job_of w job) place ≡ replies.Refused 1
+  no_owner w job place none = ap (λ o. if is_none o then replies.Refused 1 else (if place.name.name == 0 then replies.Refused 0 else begin_answer (pack_of d) s (job_of w job) None place)) (no_directory place none)
 
   pub refused : (w : ℕ → Writing) (job : Job) (place : Place) (code : ErrorCode) → may job.ppn place ≡ Err code → begin_answer_at (pack_of d) s (job_of w job) place ≡ replies.Refused (number_of code)
   refused w job place code is = reply_is w job place ∙ ap (λ r. begin_reply r (exceeds_room (pack_of d) s (1 + growth (entry_count s place.ppn))) (has_no_room (pack_of d) s)) is

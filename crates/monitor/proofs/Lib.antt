@@ -54,3 +54,4 @@ pub mod Unstopped
 pub mod EventCrashes
 pub mod Listed
 pub mod Along
+pub mod LookupAnswers

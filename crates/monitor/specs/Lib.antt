@@ -14,3 +14,4 @@ pub mod Publishing
 pub mod Events
 pub mod Readers
 pub mod Runs
+pub mod Inputs

@@ -145,7 +145,7 @@ pub fn protection_or(word: Word, default: u16) -> u16
 }
 
 /// The directory that the words at an address name, 0 for the job's own.
-fn owner_at(job: &Job, address: u32) -> Option<Ppn>
+pub fn owner_at(job: &Job, address: u32) -> Option<Ppn>
     requires { address + 4 ≤ 0o400000 }
     ensures there { IfSome result (λ ppn. ppn ≡ own_if_zero (slice_index job.now.core (address + 3)) job.now.ppn) }
     ensures none { IfNone result (IsPpn (own_if_zero (slice_index job.now.core (address + 3)) job.now.ppn) → ⊥) }
@@ -158,7 +158,7 @@ fn owner_at(job: &Job, address: u32) -> Option<Ppn>
 }
 
 /// The name of a file that the words at an address name.
-fn name_at(core: &Core, address: u32) -> FileName
+pub fn name_at(core: &Core, address: u32) -> FileName
     requires { address + 4 ≤ 0o400000 }
     ensures { (result.name ≡ slice_index core.now address) × (result.ext ≡ left (slice_index core.now (address + 1))) }
 {

@@ -1,0 +1,15 @@
+use volume::Pin;
+use words36::{FileName, Ppn};
+
+/// The input side of a channel: the version that LOOKUP found, which the volume holds for it.
+#[derive(Clone, Copy, Debug, PartialEq, Eq)]
+pub struct Input {
+    /// The version.
+    pub pin: Pin,
+    /// Whose directory it was found in.
+    pub ppn: Ppn,
+    /// Its name there.
+    pub file: FileName,
+    /// The block that is read next, counted from 1.
+    pub next: u32,
+}

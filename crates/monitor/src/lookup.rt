@@ -1,0 +1,164 @@
+ghost use Rattle.std.specs.Prelude.{◌≡◌, ◌+◌, ◌<◌, ◌≤◌, ◌^◌, ℕ, true, false, None, Some, [], ◌∷◌, IfOk, IfErr, OnErr, length};
+ghost use Rattle.words36.specs.Words.{join};
+ghost use Rattle.meaning.specs.Cores.{lies_outside, after_writes};
+ghost use Rattle.meaning.specs.Files.{File, Files};
+ghost use Rattle.meaning.specs.Jobs.{State, Channel};
+ghost use Rattle.meaning.specs.Looking.{place_at, size_word, with_attributes};
+ghost use Rattle.meaning.specs.Maps.{get};
+ghost use Rattle.meaning.specs.Published.{attributes};
+ghost use Rattle.meaning.specs.Rights.{file_digit, may_read};
+ghost use Rattle.meaning.specs.Stands.{place_of};
+ghost use Rattle.volume.specs.Live.{slot};
+ghost use Rattle.volume.specs.LiveCores.{core_of};
+ghost use Rattle.volume.specs.Places.{prime_at};
+ghost use Rattle.volume.specs.Queries.{IsShown};
+ghost use Rattle.volume.specs.Rest.{IsSound, RestsAt};
+ghost use Rattle.volume.specs.declared.live.LiveVersion.{LiveVersion};
+ghost use Rattle.monitor.specs.Finding.{IsKnown};
+ghost use Rattle.monitor.specs.Inputs.{HasShortFacts, IsReadAnswer, IsLookupAnswer, IsLookupRefusal};
+ghost use Rattle.monitor.specs.Sides.{Writing, job_of};
+
+use crate::enter::{name_at, owner_at};
+use crate::input::Input;
+use crate::job::Job;
+use crate::open::word_at;
+use blockdisk::Disk;
+use meaning::{Act, ErrorCode};
+use protect::{DirectoryAct, acts_are_nested, dir_right, right};
+use usercore::Core;
+use volume::{FileFacts, Volume};
+use words36::{FileName, Half, Ppn, Word};
+
+/// The most words of a file whose size is put as a number of words.
+const MOST_WORDS: u32 = 131_072;
+
+/// One more than the largest number of half a word.
+const HALF_LIMIT: u32 = 0o1000000;
+
+/// Whether a job may read a file of this protection.
+fn may_read(own: u16, who: Ppn, owner: Ppn) -> bool
+    ensures { result ≡ may_read (file_digit own who owner) }
+{
+    acts_are_nested();
+    right(own, who, owner, Act::READ)
+}
+
+/// The facts of the file at a place that a job may read, or why it may not.
+fn readable<D: Disk>(
+    volume: &Volume<D>,
+    who: Ppn,
+    owner: Ppn,
+    file: &FileName,
+) -> Result<FileFacts, ErrorCode>
+    requires sound { IsSound (D.state volume.now.disk) (core_of volume.now.map) volume.now.failed }
+    ensures found { (D.state volume.now.disk).honest → volume.now.failed ≡ false → (files : Files File) → RestsAt (D.state volume.now.disk) files
+        → IsReadAnswer who owner file.now (get files owner) result }
+    ensures only { IfErr result IsLookupRefusal }
+{
+    let Ok(protection) = volume.directory(owner) else {
+        return Err(ErrorCode::NoDirectory);
+    };
+    if !dir_right(protection, who, owner, DirectoryAct::Look) {
+        return Err(ErrorCode::Protection);
+    }
+    if file.name.bits() == 0 {
+        return Err(ErrorCode::NotFound);
+    }
+    let Ok(facts) = volume.look(owner, file) else {
+        return Err(ErrorCode::NotFound); // the directory has no such name
+    };
+    if !may_read(facts.protection, who, owner) {
+        return Err(ErrorCode::Protection);
+    }
+    Ok(facts)
+}
+
+/// The file that the four words at an address name, where the job may read it: its version, held for one reader
+/// more, and its facts.
+///
+/// # Errors
+///
+/// `NoDirectory` where there is no such directory, `NotFound` where it has no such file, `Protection` where the job
+/// may not look names up there, or not read the file. Nothing is held then.
+pub fn find_input<D: Disk>(
+    volume: &mut Volume<D>,
+    job: &Job,
+    address: u32,
+) -> Result<(Input, FileFacts), ErrorCode>
+    requires sound { IsSound (D.state volume.old.disk) (core_of volume.old.map) volume.old.failed }
+    requires there { address + 4 ≤ 0o400000 }
+    requires alive { volume.old.failed ≡ false }
+    requires few { (key : ℕ) (v : LiveVersion) → slot (core_of volume.old.map).live key ≡ Some v → v.readers + 1 < 2 ^ 32 }
+    ensures sound { IsSound (D.state volume.new.disk) (core_of volume.new.map) volume.new.failed }
+    ensures untouched { (volume.new.disk ≡ volume.old.disk) × (volume.new.failed ≡ volume.old.failed) }
+    ensures same { OnErr result (core_of volume.new.map ≡ core_of volume.old.map) }
+    ensures only { IfErr result IsLookupRefusal }
+
+    // The version is the one that core has for the place, which has one reader more; and nothing else.
+    ensures place { IfOk result (λ found. (written : ℕ → Writing) → place_of found.0.ppn found.0.file ≡ place_at (job_of written job.now) address) }
+    ensures next { IfOk result (λ found. found.0.next ≡ 1) }
+    ensures at { IfOk result (λ found. (v : LiveVersion) × (slot (core_of volume.old.map).live found.0.pin.key ≡ Some v) × (v.is_current ≡ true) × (prime_at (core_of volume.old.map) found.0.ppn found.0.file ≡ Some v.at)) }
+    ensures pinned { IfOk result (λ found. (v : LiveVersion) × (slot (core_of volume.old.map).live found.0.pin.key ≡ Some v) × (slot (core_of volume.new.map).live found.0.pin.key ≡ Some (record v { readers = v.readers + 1 }))) }
+    ensures others { IfOk result (λ found. (k : ℕ) → (k ≡ found.0.pin.key → ⊥) → slot (core_of volume.new.map).live k ≡ slot (core_of volume.old.map).live k) }
+    ensures core { core_of volume.new.map ≡ record (core_of volume.old.map) { live = (core_of volume.new.map).live } }
+
+    // It is answered as the machine answers on a channel without an output side, and the file is the machine's.
+    ensures answered { (D.state volume.old.disk).honest → (s : State) → IsKnown (D.state volume.old.disk) (core_of volume.old.map) s
+        → (written : ℕ → Writing) (c : Channel) → c.output ≡ None → lies_outside job.now.core address 4 ≡ false
+        → IsLookupAnswer (D.state volume.old.disk).contents (core_of volume.new.map).live s (job_of written job.now) c address result }
+{
+    let Some(ppn) = owner_at(job, address) else {
+        return Err(ErrorCode::NoDirectory);
+    };
+    let file = name_at(&job.core, address);
+    let facts = match readable(volume, job.ppn, ppn, &file) {
+        Ok(facts) => facts,
+        Err(code) => return Err(code),
+    };
+    match volume.pin(ppn, &file) {
+        Ok(pin) => {
+            let input = Input {
+                pin,
+                ppn,
+                file,
+                next: 1,
+            };
+            Ok((input, facts))
+        }
+        Err(_) => Err(ErrorCode::NotFound), // an honest disk has the file that was looked at
+    }
+}
+
+/// Protection, mode, time and date of a file in one word.
+fn attributes_of(facts: &FileFacts) -> Word
+    ensures { (file : File) → IsShown file facts.now → HasShortFacts file → result ≡ attributes file }
+{
+    let protection = u64::from(facts.protection % 0o1000) << 27; // three digits, as each file's are
+    let mode = facts.mode.number() << 23;
+    let time = u64::from(facts.moment.minute) << 12;
+    Word::from_bits(protection + mode + time + u64::from(facts.moment.date % 4096))
+}
+
+/// The size of a file as half a word: minus the number of its words, or that of its blocks where it is long.
+fn size_of(facts: &FileFacts) -> Half
+    ensures { (file : File) → IsShown file facts.now → HasShortFacts file → join result 0 ≡ size_word (length file.body) }
+{
+    if facts.words <= MOST_WORDS {
+        Half::from_bits((HALF_LIMIT - facts.words) % HALF_LIMIT)
+    } else {
+        Half::from_bits(facts.blocks % HALF_LIMIT) // no file has so many that half a word is short
+    }
+}
+
+/// Puts the attributes of a file and its size into the second, third and fourth of the words at an address.
+pub fn put_found(core: &mut Core, address: u32, facts: &FileFacts)
+    requires { address + 4 ≤ 0o400000 }
+    ensures { (file : File) → IsShown file facts.now → HasShortFacts file
+        → core.new ≡ after_writes (with_attributes 1 core.old address file) ((address + 3, size_word (length file.body)) ∷ []) }
+{
+    let left = word_at(core, address + 1).left();
+    let zero = Half::from_bits(0);
+    let _ = core.set_word(address + 1, Word::from_halves(left, zero));
+    let _ = core.set_word(address + 2, attributes_of(facts));
+    let _ = core.set_word(address + 3, Word::from_halves(size_of(facts), zero));
+}
