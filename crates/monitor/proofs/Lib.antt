@@ -43,5 +43,6 @@ pub mod Placing
 pub mod Closings
 pub mod Untouched
 pub mod OutPlaced
+pub mod Inputs
 pub mod Statuses
 pub mod HeldRooms

@@ -44,6 +44,7 @@ mod output;
 mod publishing;
 #[cfg(test)]
 mod publishing_tests;
+mod read_in;
 mod serve;
 mod serve_closing;
 mod serve_writing;
