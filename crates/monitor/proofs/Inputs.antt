@@ -1,12 +1,12 @@
 -- IN: the words that a list names, dealt out.
 use Rattle.std.proofs.Common.{◌≡◌, ℕ, zero, suc, ◌+◌, ◌-◌, ◌<◌, ◌≤◌, List, [], ◌∷◌, ◌++◌, length, take, drop, min, Option, Some, refl, sym, ap, subst, ◌∙◌, arith}
 use Rattle.std.specs.List.{All}
-use Rattle.std.proofs.lemmas.List.{drop-take}
+use Rattle.std.proofs.lemmas.List.{drop-take, length-drop, drop_all}
 use Rattle.std.proofs.lemmas.List.Elements.{All-head}
 use Rattle.meaning.specs.declared.area.Area.{Area}
 use Rattle.meaning.specs.Cores.{placed, dealt, after_writes}
 use Rattle.meaning.specs.CommandLists.{word_count}
-use Rattle.meaning.specs.Splices.{block_start}
+use Rattle.meaning.specs.Splices.{block_start, words_from}
 use Rattle.meaning.proofs.MapLaws.{some_same}
 
 take_front : (c m : ℕ) (xs : List ℕ) → c ≤ m → take c (take m xs) ≡ take c xs
@@ -50,6 +50,18 @@ module _ (listed : Option (List Area)) (found : List Area) (is : listed ≡ Some
         ∙ ap (after_writes core) (dealt_enough found words)
         ∙ ap (λ xs. after_writes core (dealt xs words)) same_areas
 
+    -- as many words as the areas and the body have
+    pub as_many : (body : List ℕ) (words block n : ℕ) → length body ≡ words → n ≡ min (word_count found) (words - block_start block) → n ≡ min (word_count areas) (length (words_from body block))
+    as_many body words block n long is =
+        is ∙ ap (λ m. min (word_count found) (m - block_start block)) (sym long)
+        ∙ ap (min (word_count found)) (sym (length-drop (block_start block) body))
+        ∙ ap (λ xs. min (word_count xs) (length (words_from body block))) same_areas
+
+    pub no_more : (words block n : ℕ) → n ≡ min (word_count found) (words - block_start block) → n ≤ word_count areas
+    no_more words block n is = subst (λ xs. n ≤ word_count xs) same_areas (omega (arith, is))
+
     -- a list that names words, and a body that ends before the block
-    pub ends_before : (words block : ℕ) → 0 < word_count found → min (word_count found) (words - block_start block) ≡ 0 → (0 < word_count areas) × (words ≤ block_start block)
-    ends_before words block some none = (subst (λ xs. 0 < word_count xs) same_areas some, omega (arith, some, none))
+    pub ends_before : (body : List ℕ) (words block : ℕ) → length body ≡ words → 0 < word_count found → min (word_count found) (words - block_start block) ≡ 0
+        → (0 < word_count areas) × (words_from body block ≡ [])
+    ends_before body words block long some none =
+        (subst (λ xs. 0 < word_count xs) same_areas some, drop_all (block_start block) body (omega (arith, long, some, none)))

@@ -1,11 +1,11 @@
-ghost use Rattle.std.specs.Prelude.{◌≡◌, ◌⊎◌, ◌↔◌, ◌+◌, ◌-◌, ◌<◌, ◌≤◌, ◌^◌, ℕ, List, [], false, IsTrue, All, length, min, None, Some};
+ghost use Rattle.std.specs.Prelude.{◌≡◌, ◌⊎◌, ◌↔◌, ◌+◌, ◌<◌, ◌≤◌, ℕ, List, [], false, IsTrue, All, length, min, None, Some};
 ghost use Rattle.blockdisk.specs.Disk.{SameDisk, one_more};
 ghost use Rattle.changeset.specs.Reads.{OnlyReads};
 ghost use Rattle.meaning.specs.CommandLists.{dump_list, word_count};
 ghost use Rattle.meaning.specs.Cores.{after_writes, dealt};
 ghost use Rattle.meaning.specs.Files.{File, Files};
 ghost use Rattle.meaning.specs.Retrieval.{HasBody};
-ghost use Rattle.meaning.specs.Splices.{block_start, words_from};
+ghost use Rattle.meaning.specs.Splices.{words_from};
 ghost use Rattle.meaning.specs.declared.area.Area.{Area as Words};
 ghost use Rattle.volume.specs.Live.{slot};
 ghost use Rattle.volume.specs.LiveCores.{core_of};
@@ -78,11 +78,12 @@ pub fn read_in<D: Disk>(
     ensures moved { (D.state volume.old.disk).honest → (v : LiveVersion) → slot (core_of volume.old.map).live pin.key ≡ Some v → (body : List ℕ) → length body ≡ v.version.words
         → HasBody (D.state volume.old.disk).contents v.version.blocks body → (areas : List Words) → dump_list core.old address ≡ Some areas
         → (n : ℕ) → result ≡ Moved n → core.new ≡ after_writes core.old (dealt areas (words_from body block)) }
-    // and, on every disk, as many as the list names or the body has.
-    ensures count { (v : LiveVersion) → slot (core_of volume.old.map).live pin.key ≡ Some v → (areas : List Words) → dump_list core.old address ≡ Some areas
-        → (n : ℕ) → result ≡ Moved n → n ≡ min (word_count areas) (v.version.words - block_start block) }
-    ensures at_end { (v : LiveVersion) → slot (core_of volume.old.map).live pin.key ≡ Some v → (areas : List Words) → dump_list core.old address ≡ Some areas
-        → result ≡ AtEnd → (0 < word_count areas) × (v.version.words ≤ block_start block) }
+    // and, on every disk, as many as the list names and the body has.
+    ensures number { (v : LiveVersion) → slot (core_of volume.old.map).live pin.key ≡ Some v → (body : List ℕ) → length body ≡ v.version.words → (areas : List Words) → dump_list core.old address ≡ Some areas
+        → (n : ℕ) → result ≡ Moved n → n ≡ min (word_count areas) (length (words_from body block)) }
+    ensures few { (areas : List Words) → dump_list core.old address ≡ Some areas → (n : ℕ) → result ≡ Moved n → n ≤ word_count areas }
+    ensures at_end { (v : LiveVersion) → slot (core_of volume.old.map).live pin.key ≡ Some v → (body : List ℕ) → length body ≡ v.version.words → (areas : List Words) → dump_list core.old address ≡ Some areas
+        → result ≡ AtEnd → (0 < word_count areas) × (words_from body block ≡ []) }
     ensures kept { ((n : ℕ) → 0 < n → result ≡ Moved n → ⊥) → core.new ≡ core.old }
     ensures length { length core.new ≡ length core.old }
 

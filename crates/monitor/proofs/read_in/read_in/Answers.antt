@@ -3,7 +3,7 @@ use Rattle.std.specs.Prelude.{option_map}
 use Rattle.meaning.specs.Splices.{block_start, words_from}
 use Rattle.meaning.specs.Cores.{after_writes, dealt}
 use Rattle.meaning.specs.CommandLists.{dump_list, word_count}
-use Rattle.monitor.proofs.Inputs.{names_none, none_dealt, all_dealt, ends_before}
+use Rattle.monitor.proofs.Inputs.{names_none, none_dealt, all_dealt, as_many, no_more, ends_before}
 use Rattle.monitor.proofs.read_in.read_in.Goals as goal
 
 pub returns-then-count-eq0-clause-named : goal.returns-then-count-eq0-clause-named
@@ -25,8 +25,19 @@ returns-in-Ok-get_words-clause-moved g c honest v there body long has areas list
     (c.as_slice-in-Ok-get_words-2.ensures.value ∙ read ∙ ap (λ count. take count words) (c.word_count-count.ensures ∙ ap word_count c.as_slice.ensures.value))
     ((c.fill.ensures.moved n is).1 ∙ ap (λ named. after_writes c.args.core.now (dealt named found)) c.as_slice-in-Ok-get_words.ensures.value)
 
+pub returns-in-Ok-get_words-clause-number : goal.returns-in-Ok-get_words-clause-number
+returns-in-Ok-get_words-clause-number g c v there body long areas listed n is =
+    let many : n ≡ min (word_count c.in-Ok.areas.items) (v.version.words - block_start c.args.block) = search rules in
+    as_many (dump_list c.args.core.now c.args.address) c.in-Ok.areas.items c.in-Ok.ensures.areas areas listed body v.version.words c.args.block n long many
+
+pub returns-in-Ok-get_words-clause-few : goal.returns-in-Ok-get_words-clause-few
+returns-in-Ok-get_words-clause-few g c areas listed n is =
+    let v = c.requires.live.0 in
+    let many : n ≡ min (word_count c.in-Ok.areas.items) (v.version.words - block_start c.args.block) = search rules in
+    no_more (dump_list c.args.core.now c.args.address) c.in-Ok.areas.items c.in-Ok.ensures.areas areas listed v.version.words c.args.block n many
+
 pub returns-in-Ok-get_words-clause-at_end : goal.returns-in-Ok-get_words-clause-at_end
-returns-in-Ok-get_words-clause-at_end g c v there areas listed is =
+returns-in-Ok-get_words-clause-at_end g c v there body long areas listed is =
     let some : 0 < word_count c.in-Ok.areas.items = search rules in
     let none : min (word_count c.in-Ok.areas.items) (v.version.words - block_start c.args.block) ≡ 0 = search rules in
-    ends_before (dump_list c.args.core.now c.args.address) c.in-Ok.areas.items c.in-Ok.ensures.areas areas listed v.version.words c.args.block some none
+    ends_before (dump_list c.args.core.now c.args.address) c.in-Ok.areas.items c.in-Ok.ensures.areas areas listed body v.version.words c.args.block long some none
