@@ -45,6 +45,8 @@ mod publishing;
 #[cfg(test)]
 mod publishing_tests;
 mod read_in;
+#[cfg(test)]
+mod read_in_tests;
 mod serve;
 mod serve_closing;
 mod serve_writing;
