@@ -43,6 +43,7 @@ pub mod Placing
 pub mod Closings
 pub mod Untouched
 pub mod OutPlaced
+pub mod Inputs
 pub mod Statuses
 pub mod HeldRooms
 pub mod ReadBookings

@@ -60,6 +60,9 @@ mod publishing;
 mod publishing_tests;
 mod reading_laws;
 mod restart;
+mod read_in;
+#[cfg(test)]
+mod read_in_tests;
 mod serve;
 mod serve_closing;
 mod serve_writing;

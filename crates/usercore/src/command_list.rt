@@ -19,6 +19,7 @@ impl Core {
     pub fn dump_list(&self, address: u32) -> Result<ArrayVec<Area, MAX_COMMANDS>, CoreError>
         ensures areas { IfOk result (λ areas. dump_list self.now address ≡ Some areas.items) }
         ensures within { IfOk result (λ areas. All (λ area. area.first + area.count ≤ length self.now) areas.items) }
+        ensures some { IfOk result (λ areas. All (λ area. 0 < area.count) areas.items) }
         ensures few { IfOk result (λ areas. word_count areas.items ≤ 0o400000) }
         ensures none { OnErr result (dump_list self.now address ≡ None) }
         ensures refused { IfErr result (λ error. error ≡ AddressCheck) }

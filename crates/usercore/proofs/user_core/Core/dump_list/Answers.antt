@@ -20,6 +20,7 @@ loop-looked-preserved-then-left-eq0 c =
       counted = omega arith;
       small = omega arith;
       within = c.loop-looked.invariant.within;
+      some = c.loop-looked.invariant.some;
     }
 
 pub returns-then-first-count-clause-none : goal.returns-then-first-count-clause-none
@@ -33,6 +34,7 @@ loop-looked-preserved c =
       counted = count_more _ _ _ _ _ c.push.ensures.items c.loop-looked.invariant.counted;
       small = omega arith;
       within = grind (arith, elements, c.push.ensures.items);
+      some = grind (arith, elements, c.push.ensures.items);
     }
 
 pub returns-clause-none : goal.returns-clause-none

@@ -1,4 +1,4 @@
-use Rattle.std.proofs.Common.{◌≡◌, ◌≤◌, ◌*◌, ◌-◌, ◌+◌, length}
+use Rattle.std.proofs.Common.{◌≡◌, ◌<◌, ◌≤◌, ◌*◌, ◌-◌, ◌+◌, length}
 use Rattle.std.specs.List.{All}
 use Rattle.arrayvec.specs.ArrayVec.{array_vec_len}
 use Rattle.meaning.specs.CommandLists.{areas_from, word_count}
@@ -12,4 +12,5 @@ invariant-loop-looked l = record {
   counted : l.total ≡ word_count l.areas.items;
   small : l.total ≤ 131072 * l._looked;
   within : All (λ area. area.first + area.count ≤ length l.self) l.areas.items;
+  some : All (λ area. 0 < area.count) l.areas.items;
 }

@@ -1,0 +1,116 @@
+ghost use Rattle.std.specs.Prelude.{◌≡◌, ◌⊎◌, ◌↔◌, ◌+◌, ◌<◌, ◌≤◌, ℕ, List, [], false, IsTrue, All, length, min, None, Some};
+ghost use Rattle.blockdisk.specs.Disk.{SameDisk, one_more};
+ghost use Rattle.changeset.specs.Reads.{OnlyReads};
+ghost use Rattle.meaning.specs.CommandLists.{dump_list, word_count};
+ghost use Rattle.meaning.specs.Cores.{after_writes, dealt};
+ghost use Rattle.meaning.specs.Files.{File, Files};
+ghost use Rattle.meaning.specs.Retrieval.{HasBody};
+ghost use Rattle.meaning.specs.Splices.{words_from};
+ghost use Rattle.meaning.specs.declared.area.Area.{Area as Words};
+ghost use Rattle.volume.specs.Live.{slot};
+ghost use Rattle.volume.specs.LiveCores.{core_of};
+ghost use Rattle.volume.specs.Pins.{IsReadable};
+ghost use Rattle.volume.specs.Rest.{IsSound, RestsAt};
+ghost use Rattle.volume.specs.declared.handles.VersionHandle.TheVariants.{Pinned};
+ghost use Rattle.volume.specs.declared.live.LiveVersion.{LiveVersion};
+ghost use Rattle.monitor.specs.declared.read_in.ReadIn.TheVariants.{Moved, AddressCheck, AtEnd, NoMemory, Device, Failed};
+
+use blockdisk::Disk;
+use std::alloc::Global;
+use usercore::{Area, Core, word_count};
+use volume::{CallError, Pin, VersionHandle, Volume};
+use words36::Word;
+
+/// How an IN ends.
+#[derive(Clone, Copy, Debug, PartialEq, Eq)]
+pub enum ReadIn {
+    /// So many words were moved: none where the list names none.
+    Moved(usize),
+    /// The command list isn't as it should be, or names words outside the core.
+    AddressCheck,
+    /// The body has no words from that block on.
+    AtEnd,
+    /// The words found no room: nothing was read.
+    NoMemory,
+    /// The device failed, and the volume with it.
+    Device,
+    /// A block is damaged, which no honest disk shows: the volume has failed.
+    Failed,
+}
+
+/// Deals out the words that were found, where there are any.
+fn fill(core: &mut Core, areas: &[Area], words: &[Word]) -> ReadIn
+    requires { All (λ area. area.first + area.count ≤ length core.old) areas.now }
+    ensures at_end { result ≡ AtEnd ↔ (words.now ≡ []) }
+    ensures moved { (n : ℕ) → result ≡ Moved n → (n ≡ length words.now) × (core.new ≡ after_writes core.old (dealt areas.now words.now)) }
+    ensures kept { result ≡ AtEnd → core.new ≡ core.old }
+    ensures length { length core.new ≡ length core.old }
+    ensures either { (result ≡ AtEnd) ⊎ ((n : ℕ) × (0 < n) × (result ≡ Moved n)) }
+{
+    if words.is_empty() {
+        return ReadIn::AtEnd;
+    }
+    core.deal(areas, words);
+    ReadIn::Moved(words.len())
+}
+
+/// Moves the words of a version's body from a block on into the areas of core that the command list at an
+/// address names. The whole list is read before anything is moved, and a list that names no words asks neither
+/// for memory nor for the disk.
+pub fn read_in<D: Disk>(
+    alloc: Global,
+    volume: &mut Volume<D>,
+    core: &mut Core,
+    pin: Pin,
+    block: u32,
+    address: u32,
+) -> ReadIn
+    requires sound { IsSound (D.state volume.old.disk) (core_of volume.old.map) volume.old.failed }
+    requires alive { volume.old.failed ≡ false }
+    requires live { IsReadable (core_of volume.old.map) (Pinned pin) }
+    requires first { 0 < block }
+
+    ensures sound { IsSound (D.state volume.new.disk) (core_of volume.new.map) volume.new.failed }
+    // The list decides on every disk.
+    ensures checked { result ≡ AddressCheck ↔ (dump_list core.old address ≡ None) }
+    ensures named { result ≡ Moved 0 ↔ (dump_list core.old address ≡ Some []) }
+    // The words are those of the body that was pinned,
+    ensures moved { (D.state volume.old.disk).honest → (v : LiveVersion) → slot (core_of volume.old.map).live pin.key ≡ Some v → (body : List ℕ) → length body ≡ v.version.words
+        → HasBody (D.state volume.old.disk).contents v.version.blocks body → (areas : List Words) → dump_list core.old address ≡ Some areas
+        → (n : ℕ) → result ≡ Moved n → core.new ≡ after_writes core.old (dealt areas (words_from body block)) }
+    // and, on every disk, as many as the list names and the body has.
+    ensures number { (v : LiveVersion) → slot (core_of volume.old.map).live pin.key ≡ Some v → (body : List ℕ) → length body ≡ v.version.words → (areas : List Words) → dump_list core.old address ≡ Some areas
+        → (n : ℕ) → result ≡ Moved n → n ≡ min (word_count areas) (length (words_from body block)) }
+    ensures few { (areas : List Words) → dump_list core.old address ≡ Some areas → (n : ℕ) → result ≡ Moved n → n ≤ word_count areas }
+    ensures at_end { (v : LiveVersion) → slot (core_of volume.old.map).live pin.key ≡ Some v → (body : List ℕ) → length body ≡ v.version.words → (areas : List Words) → dump_list core.old address ≡ Some areas
+        → result ≡ AtEnd → (0 < word_count areas) × (words_from body block ≡ []) }
+    ensures kept { ((n : ℕ) → 0 < n → result ≡ Moved n → ⊥) → core.new ≡ core.old }
+    ensures length { length core.new ≡ length core.old }
+
+    // Nothing is written, and the volume stays.
+    ensures reads { (D.state volume.old.disk).honest → OnlyReads (D.state volume.old.disk) (D.state volume.new.disk) }
+    ensures rests { (D.state volume.old.disk).honest → (files : Files File) → RestsAt (D.state volume.old.disk) files → RestsAt (D.state volume.new.disk) files }
+    ensures core { volume.new.map ≡ volume.old.map }
+    ensures idle { (result ≡ AddressCheck) ⊎ (result ≡ Moved 0) ⊎ (result ≡ NoMemory) → volume.new.disk ≡ volume.old.disk }
+    // It fails with the volume, and blames the device where that failed.
+    ensures failed { IsTrue volume.new.failed ↔ ((result ≡ Device) ⊎ (result ≡ Failed)) }
+    ensures blamed { result ≡ Failed → (D.state volume.old.disk).honest → ⊥ }
+    ensures counted { result ≡ Device → (D.state volume.new.disk).failures ≡ one_more (D.state volume.old.disk).failures }
+    ensures served { (result ≡ Device → ⊥) → (D.state volume.new.disk).failures ≡ (D.state volume.old.disk).failures }
+    ensures same { SameDisk (D.state volume.old.disk) (D.state volume.new.disk) }
+{
+    let Ok(areas) = core.dump_list(address) else {
+        return ReadIn::AddressCheck;
+    };
+    let count = word_count(areas.as_slice());
+    if count == 0 {
+        return ReadIn::Moved(0);
+    }
+    match volume.get_words(alloc, VersionHandle::Pinned(pin), block, count as u32) {
+        Ok(words) => fill(core, areas.as_slice(), words.as_slice()),
+        Err(CallError::NoMemory) => ReadIn::NoMemory,
+        Err(CallError::Device) => ReadIn::Device,
+        Err(CallError::Failed) => ReadIn::Failed,
+        Err(CallError::Refused(_)) => unreachable!(),
+    }
+}
