@@ -146,7 +146,7 @@ fn size_of(facts: &FileFacts) -> Half
     if facts.words <= MOST_WORDS {
         Half::from_bits((HALF_LIMIT - facts.words) % HALF_LIMIT)
     } else {
-        Half::from_bits(facts.blocks % HALF_LIMIT) // no file has so many that half a word is short
+        Half::from_bits(facts.blocks % HALF_LIMIT) // the blocks of a file fit into half a word
     }
 }
 
