@@ -29,7 +29,10 @@ fn read(rt: &impl Abort, alloc: Global, core: &mut Core, block: u32, address: u3
         name: word(0o465757000000),
         ext: Half::from_bits(0o647064),
     };
-    let (Ok(disk), Some(owner)) = (image(rt, alloc, 32), Ppn::new(0o10, 0o20)) else {
+    let Some(owner) = Ppn::new(0o10, 0o20) else {
+        panic!(rt; "no such number");
+    };
+    let Ok(disk) = image(rt, alloc, 32) else {
         panic!(rt; "no disk");
     };
     let Ok(mut volume) = Volume::open(alloc, disk) else {
@@ -37,7 +40,7 @@ fn read(rt: &impl Abort, alloc: Global, core: &mut Core, block: u32, address: u3
     };
     match volume.pin(owner, &name) {
         Ok(pin) => read_in(alloc, &mut volume, core, pin, block, address),
-        Err(_) => panic!(rt; "the file isn't there"),
+        Err(_refused) => panic!(rt; "the file isn't there"),
     }
 }
 
