@@ -39,19 +39,11 @@
 #![tactic(auto)]
 
 mod begin;
-#[cfg(test)]
-mod begin_tests;
 mod blocks;
-#[cfg(test)]
-mod call_tests;
-#[cfg(test)]
-mod chain_tests;
 mod cost;
 mod discard;
 mod error;
 mod event;
-#[cfg(test)]
-mod fault_tests;
 mod file_facts;
 #[cfg(test)]
 mod file_tests;
@@ -64,33 +56,19 @@ mod init_tests;
 mod list;
 mod live;
 mod make;
-#[cfg(test)]
-mod make_tests;
 mod map;
 mod marks;
 mod open;
-#[cfg(test)]
-mod open_tests;
 mod pending;
-#[cfg(test)]
-mod pin_tests;
 mod pins;
 mod publish;
-#[cfg(test)]
-mod publish_tests;
 mod put;
-#[cfg(test)]
-mod put_tests;
 mod query;
 mod read;
 mod regions;
 mod start;
-#[cfg(test)]
-mod supersede_tests;
 mod supplies;
 mod turn;
-#[cfg(test)]
-mod use_tests;
 mod words;
 
 pub use error::{CallError, VolumeError};

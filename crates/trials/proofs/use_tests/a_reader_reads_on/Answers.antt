@@ -1,0 +1,11 @@
+use Rattle.std.proofs.Common.{Option, IsSome, sym, ap, subst, ◌∙◌}
+use Rattle.volume.specs.Live.{pending_at}
+use Rattle.volume.specs.declared.pending.PendingVersion.{PendingVersion}
+use Rattle.trials.proofs.use_tests.a_reader_reads_on.Goals as goal
+
+pub read-requires-clause-live : goal.read-requires-clause-live
+read-requires-clause-live g c =
+    let key = c.begin_beside-new.result.key in
+    let apart = c.begin_beside-again.ensures.apart key c.discard_beside.ensures.other in
+    let stays = c.discard.ensures.others key apart ∙ ap (λ l. pending_at l key) c.unpin.ensures.pending in
+    subst (λ (o : Option PendingVersion). IsSome o) (sym stays) c.put_beside-4.ensures.other

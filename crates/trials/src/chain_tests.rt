@@ -1,0 +1,151 @@
+ghost use Rattle.blockdisk.specs.Memory.{memory_state};
+ghost use Rattle.volume.specs.LiveCores.{core_of};
+ghost use Rattle.volume.specs.Rest.{IsSound};
+
+use crate::open_tests::{beginning, expect_block, load};
+use crate::publish_tests::{file_name, fresh, open, ppn_of, publish, store, write};
+use blockdisk::MemDisk;
+use meaning::ErrorCode;
+use std::alloc::{AllocError, Global};
+use std::process::Abort;
+use std::test::Fail;
+use volume::{CallError, Volume};
+use words36::Block;
+
+/// The writes and syncs up to a volume with the directory [10,20] and 42 files of no words: of `init`, `open` and
+/// `make_dir`, and of each publication.
+const BEFORE: usize = 8 + 1 + 12 + 42 * 12;
+
+/// Those of a publication for which the directory grows, up to the write that opens the gate: the prime block, images
+/// of two blocks of the directory and one of a table block, the log header, and a sync.
+const SHUT: usize = 1 + 3 + 1 + 1;
+
+/// All of them: the gate is opened, then a sync; the images are written to their places, then a sync; the gate is
+/// closed, then a sync.
+const WHOLE: usize = SHUT + 2 + 4 + 2;
+
+/// Publishes files of no words with these names in [10,20]. Each leaves a block less.
+fn publish_each(rt: &impl Abort, alloc: Global, volume: &mut Volume<MemDisk>, first: u8, end: u8)
+    requires { IsSound (memory_state volume.old.disk) (core_of volume.old.map) volume.old.failed }
+    ensures { IsSound (memory_state volume.new.disk) (core_of volume.new.map) volume.new.failed }
+{
+    for n in first..end {
+        let room = volume.room().checked_sub(1);
+        store(rt, alloc, volume, u64::from(n), &[], room);
+    }
+}
+
+/// The directory [10,20] has the files of `publish_each`, so many of them, and there is so much room.
+fn expect_files(rt: &impl Abort, alloc: Global, volume: &Volume<MemDisk>, count: u8, room: i64)
+    requires { IsSound (memory_state volume.now.disk) (core_of volume.now.map) volume.now.failed }
+{
+    assert_eq!(rt; volume.room(), room);
+    match volume.list(alloc, ppn_of(rt)) {
+        Ok(lines) => {
+            assert_eq!(rt; lines.len(), usize::from(count));
+            for i in 0..count {
+                let name = file_name(u64::from(i) + 1);
+                let line = lines.as_slice().get(usize::from(i)).expect(rt, "a line");
+                assert!(rt; line.name == name && line.blocks == 0);
+                assert!(rt; volume.look(ppn_of(rt), &name).is_ok());
+            }
+        }
+        Err(_refused) => panic!(rt; "the directory isn't listed"),
+    }
+    let next = volume.look(ppn_of(rt), &file_name(u64::from(count) + 1));
+    assert!(rt; next == Err(CallError::Refused(ErrorCode::NotFound)));
+}
+
+/// A block of the directory that names this next block and has the files of `publish_each`, the first of them with
+/// this prime block and each other one with the block behind.
+fn directory_block(
+    alloc: Global,
+    next: u64,
+    first: u8,
+    count: u8,
+    prime: u8,
+) -> Result<Block, AllocError> {
+    let mut words = Vec::new(alloc);
+    words.push(next)?;
+    words.push(u64::from(count))?;
+    for i in 0..count {
+        words.push(u64::from(first) + u64::from(i))?;
+        words.push(0o647064000000)?;
+        words.push(u64::from(prime) + u64::from(i))?;
+    }
+    Ok(beginning(words.as_slice()))
+}
+
+/// A block of a directory has 42 entries. Of room 111 the 43rd file takes 2 blocks, for its prime block and for a
+/// block of the directory, and so does the 85th; one that takes the place of the 43rd takes no more.
+#[test]
+fn a_directory_grows_with_its_files(rt: HostRuntime) -> Result<(), Fail> {
+    let alloc = rt.alloc();
+    let mut volume = fresh(&rt, alloc, 128, 2000)?;
+    assert_eq!(rt; volume.room(), 111);
+    publish_each(&rt, alloc, &mut volume, 1, 43);
+    expect_files(&rt, alloc, &volume, 42, 69);
+    store(&rt, alloc, &mut volume, 43, &[], Some(67));
+    expect_files(&rt, alloc, &volume, 43, 67);
+    publish_each(&rt, alloc, &mut volume, 44, 85);
+    expect_files(&rt, alloc, &volume, 84, 26);
+    store(&rt, alloc, &mut volume, 85, &[], Some(24));
+    expect_files(&rt, alloc, &volume, 85, 24);
+    let mut volume = open(alloc, volume.disk)?;
+    expect_files(&rt, alloc, &volume, 85, 24);
+    store(&rt, alloc, &mut volume, 43, &[], Some(24));
+    expect_files(&rt, alloc, &volume, 85, 24);
+    Ok(())
+}
+
+/// The files take the blocks behind the directory's first block, 16, and each further block of the directory is taken
+/// before the prime block of the file that asks for it: 59 and 102.
+#[test]
+fn the_blocks_of_a_long_directory(rt: HostRuntime) -> Result<(), Fail> {
+    let alloc = rt.alloc();
+    let mut volume = fresh(&rt, alloc, 128, 2000)?;
+    publish_each(&rt, alloc, &mut volume, 1, 43);
+    store(&rt, alloc, &mut volume, 43, &[], Some(67));
+    publish_each(&rt, alloc, &mut volume, 44, 85);
+    store(&rt, alloc, &mut volume, 85, &[], Some(24));
+    let mut disk = volume.disk;
+    let first = directory_block(alloc, 59, 1, 42, 17)?;
+    expect_block(&rt, &mut disk, 16, &first);
+    let second = directory_block(alloc, 102, 43, 42, 60)?;
+    expect_block(&rt, &mut disk, 59, &second);
+    let third = directory_block(alloc, 0, 85, 1, 103)?;
+    expect_block(&rt, &mut disk, 102, &third);
+    let table = beginning(&[0o777777777777, 0o777777777777, 0o777777777760]);
+    expect_block(&rt, &mut disk, 14, &table);
+    Ok(())
+}
+
+/// The record has room for so many writes and syncs of the publication of a 43rd file, and the next one fails. When
+/// the disk is opened again the file is there, and the directory has grown, once the gate was opened.
+#[test]
+fn each_write_or_sync_of_a_growth_may_fail(rt: HostRuntime) -> Result<(), Fail> {
+    let alloc = rt.alloc();
+    for calls in 0..=WHOLE {
+        let mut volume = fresh(&rt, alloc, 128, BEFORE + calls)?;
+        publish_each(&rt, alloc, &mut volume, 1, 43);
+        let pending = write(&rt, alloc, &mut volume, 43, &[]);
+        let published = publish(alloc, &mut volume, pending, 1, &[]);
+        let is_done = calls == WHOLE;
+        let wanted = if is_done {
+            Ok(())
+        } else {
+            Err(CallError::Device)
+        };
+        assert!(rt; published == wanted);
+        assert!(rt; volume.failed != is_done);
+        let mut disk = volume.disk;
+        load(&rt, &mut disk, 0, &beginning(&[])); // the record is empty then
+        let volume = open(alloc, disk)?;
+        if calls > SHUT {
+            expect_files(&rt, alloc, &volume, 43, 67);
+        } else {
+            expect_files(&rt, alloc, &volume, 42, 69);
+        }
+    }
+    Ok(())
+}

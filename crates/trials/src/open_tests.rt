@@ -1,0 +1,272 @@
+use blockdisk::{Disk, Fault, MemDisk, NoMemory};
+use std::alloc::Global;
+use std::process::Abort;
+use std::test::Fail;
+use volume::{Volume, VolumeError};
+use words36::{BLOCK_WORDS, Block, Word};
+
+/// How many blocks vector V1 of the formats has. Its table is block 14, its free space begins at 15.
+pub(crate) const SIZE: u32 = 64;
+
+/// Each word of an open gate.
+pub(crate) const OPEN: u64 = 0o252525252525;
+
+/// The home copies of V1.
+pub(crate) const HOME: [u64; 6] = [0o465154634562, 1, 0o100, 1, 0o11, 0o17];
+
+/// The master directory of V1, which has [10,20] with protection 775.
+pub(crate) const MASTER: [u64; 5] = [0, 1, 0o000010000020, 0o775000000000, 0o20];
+
+/// The directory [10,20] of V1, which has FOO.TXT.
+pub(crate) const DIRECTORY: [u64; 5] = [0, 1, 0o465757000000, 0o647064000000, 0o21];
+
+pub(crate) fn word(number: u64) -> Word {
+    Word::new(number).unwrap_or(Word::ZERO)
+}
+
+/// A block that begins with these words, and is zero behind them.
+pub(crate) fn beginning(words: &[u64]) -> Block {
+    let mut block = [Word::ZERO; BLOCK_WORDS];
+    for (place, &number) in block.iter_mut().zip(words) {
+        *place = word(number);
+    }
+    block
+}
+
+/// The prime block of V1, with this protection word, length and first pointer.
+pub(crate) fn prime(attributes: u64, length: u64, pointer: u64) -> Block {
+    let mut block = beginning(&[
+        0o625142000000,
+        0o465757000000,
+        0o647064000000,
+        attributes,
+        0o000010000020,
+        length,
+        1,
+    ]);
+    block[16] = word(pointer);
+    block
+}
+
+pub(crate) fn load(rt: &impl Abort, disk: &mut MemDisk, n: u32, block: &Block) {
+    assert!(rt; n < disk.blocks());
+    disk.load(n, block);
+}
+
+pub(crate) fn put(rt: &impl Abort, disk: &mut MemDisk, n: u32, words: &[u64]) {
+    load(rt, disk, n, &beginning(words));
+}
+
+pub(crate) fn damage(rt: &impl Abort, disk: &mut MemDisk, n: u32) {
+    assert!(rt; n < disk.blocks());
+    disk.damage(n);
+}
+
+pub(crate) fn expect_block<D: Disk>(rt: &impl Abort, disk: &mut D, n: u32, block: &Block) {
+    assert!(rt; n < disk.blocks());
+    assert!(rt; disk.read(n) == Ok(*block));
+}
+
+/// V1, with room to record so many writes and syncs.
+pub(crate) fn v1(rt: &impl Abort, alloc: Global, calls: usize) -> Result<MemDisk, NoMemory> {
+    let mut disk = MemDisk::new(alloc, SIZE, calls)?;
+    put(rt, &mut disk, 1, &HOME);
+    put(rt, &mut disk, 2, &HOME);
+    put(rt, &mut disk, 14, &[0o777777400000]);
+    put(rt, &mut disk, 15, &MASTER);
+    put(rt, &mut disk, 16, &DIRECTORY);
+    let foo = prime(0o057000007777, 2, 0o000001000022);
+    load(rt, &mut disk, 17, &foo);
+    put(rt, &mut disk, 18, &[0o442131446236, 0o064240000000]);
+    Ok(disk)
+}
+
+/// V1 with block 15 damaged, a log that has it behind an open gate, and room for so many writes and syncs.
+pub(crate) fn v1_to_recover(
+    rt: &impl Abort,
+    alloc: Global,
+    calls: usize,
+) -> Result<MemDisk, NoMemory> {
+    let mut disk = v1(rt, alloc, calls)?;
+    damage(rt, &mut disk, 15);
+    load(rt, &mut disk, 3, &[word(OPEN); BLOCK_WORDS]);
+    put(rt, &mut disk, 4, &[0o545747000000, 1, 0o17]);
+    put(rt, &mut disk, 5, &MASTER);
+    Ok(disk)
+}
+
+/// What the volume on a disk has booked, or why it isn't opened.
+pub(crate) fn booked<D: Disk + Drop>(alloc: Global, disk: D) -> Result<u64, VolumeError> {
+    match Volume::open(alloc, disk) {
+        Ok(volume) => Ok(volume.map.table.booked()),
+        Err((error, _disk)) => Err(error),
+    }
+}
+
+#[test]
+fn v1_is_accepted(rt: HostRuntime) -> Result<(), Fail> {
+    let disk = v1(&rt, rt.alloc(), 1)?;
+    let Ok(volume) = Volume::open(rt.alloc(), disk) else {
+        panic!(rt; "V1 is refused");
+    };
+    assert!(rt; !volume.failed);
+    assert_eq!(rt; volume.map.table.booked(), 4);
+    assert!(rt; volume.map.table.can_book(45) && !volume.map.table.can_book(46));
+    assert!(rt; volume.map.master.blocks() == [15].as_slice());
+    let [directory] = volume.map.directories.as_slice() else {
+        panic!(rt; "another number of directories");
+    };
+    assert!(rt; directory.chain.blocks() == [16].as_slice());
+    let [key] = directory.keys.as_slice() else {
+        panic!(rt; "another number of files");
+    };
+    let Some(stored) = volume.map.versions.get(*key) else {
+        panic!(rt; "no version");
+    };
+    assert_eq!(rt; stored.at, 17);
+    assert!(rt; stored.is_current && stored.readers == 0);
+    assert_eq!(rt; stored.version.length(), 2);
+    assert!(rt; stored.version.blocks() == [18].as_slice());
+    assert_eq!(rt; stored.prime.protection, 0o057);
+    Ok(())
+}
+
+#[test]
+fn a_volume_is_recovered(rt: HostRuntime) -> Result<(), Fail> {
+    let disk = v1_to_recover(&rt, rt.alloc(), 5)?;
+    let Ok(mut volume) = Volume::open(rt.alloc(), disk) else {
+        panic!(rt; "V1 isn't recovered");
+    };
+    assert_eq!(rt; volume.map.table.booked(), 4);
+    expect_block(&rt, &mut volume.disk, 15, &beginning(&MASTER));
+    expect_block(&rt, &mut volume.disk, 3, &beginning(&[]));
+    Ok(())
+}
+
+/// The gate counts as closed, and nothing of the log is looked at.
+#[test]
+fn a_gate_with_another_word(rt: HostRuntime) -> Result<(), Fail> {
+    let mut disk = v1_to_recover(&rt, rt.alloc(), 5)?;
+    put(&rt, &mut disk, 15, &MASTER);
+    let mut gate = [word(OPEN); BLOCK_WORDS];
+    gate[77] = Word::ZERO;
+    load(&rt, &mut disk, 3, &gate);
+    let Ok(mut volume) = Volume::open(rt.alloc(), disk) else {
+        panic!(rt; "V1 is refused");
+    };
+    assert_eq!(rt; volume.map.table.booked(), 4);
+    expect_block(&rt, &mut volume.disk, 3, &gate);
+    Ok(())
+}
+
+/// A damaged block of the table is named only where all else is good.
+#[test]
+fn the_table_comes_last(rt: HostRuntime) -> Result<(), Fail> {
+    let mut disk = v1(&rt, rt.alloc(), 1)?;
+    damage(&rt, &mut disk, 14);
+    assert_eq!(rt; booked(rt.alloc(), disk), Err(VolumeError::TableWrong(14)));
+    let mut disk = v1(&rt, rt.alloc(), 1)?;
+    damage(&rt, &mut disk, 14);
+    damage(&rt, &mut disk, 18);
+    assert_eq!(rt; booked(rt.alloc(), disk), Err(VolumeError::BadData(18)));
+    Ok(())
+}
+
+#[test]
+fn a_fresh_volume(rt: HostRuntime) -> Result<(), Fail> {
+    let mut disk = MemDisk::new(rt.alloc(), SIZE, 9)?;
+    assert_eq!(rt; Volume::init(&mut disk), Ok(()));
+    assert_eq!(rt; booked(rt.alloc(), disk), Ok(1));
+    Ok(())
+}
+
+/// A recovery of one block makes two writes and three syncs.
+#[test]
+fn each_write_or_sync_may_fail(rt: HostRuntime) -> Result<(), Fail> {
+    for calls in 0..5 {
+        let disk = v1_to_recover(&rt, rt.alloc(), calls)?;
+        assert_eq!(rt; booked(rt.alloc(), disk), Err(VolumeError::Device));
+    }
+    Ok(())
+}
+
+/// A disk that fails every read after so many. It is called dishonest, so that nothing is asked of it but
+/// its count of failures.
+#[derive(Drop)]
+struct FailingDisk {
+    inner: MemDisk,
+    reads: u32,
+    failures: u64,
+}
+
+impl Disk for FailingDisk {
+    ghost use Rattle.blockdisk.specs.Memory.{memory_state};
+
+    ghost state = { λ d. record (memory_state d.inner) { honest = ⊥; failures = d.failures } };
+
+    ghost counts_now = { λ d t c h le left. absurd h };
+
+    ghost only_now = { λ d c h left. absurd h };
+
+    ghost reaches_back = { λ d t u c h le left. absurd h };
+
+    fn blocks(&self) -> u32 {
+        self.inner.blocks()
+    }
+
+    fn read(&mut self, n: u32) -> Result<Block, Fault> {
+        if self.reads == 0 {
+            self.failures = self.failures.saturating_add(1);
+            return Err(Fault::Device);
+        }
+        self.reads -= 1;
+        self.inner.read(n)
+    }
+
+    fn write(&mut self, _n: u32, _block: &Block) -> Result<(), Fault> {
+        self.failures = self.failures.saturating_add(1);
+        Err(Fault::Device)
+    }
+
+    fn sync(&mut self) -> Result<(), Fault> {
+        Ok(())
+    }
+}
+
+/// The gate, a home copy, the four blocks that V1 reaches and its table are read, each once.
+#[test]
+fn each_read_may_fail(rt: HostRuntime) -> Result<(), Fail> {
+    for reads in 0..8 {
+        let disk = FailingDisk {
+            inner: v1(&rt, rt.alloc(), 0)?,
+            reads,
+            failures: 0,
+        };
+        match Volume::open(rt.alloc(), disk) {
+            Ok(volume) => {
+                assert_eq!(rt; reads, 7);
+                assert_eq!(rt; volume.disk.reads, 0);
+            }
+            Err((error, disk)) => {
+                assert!(rt; reads < 7 && error == VolumeError::Device);
+                assert_eq!(rt; disk.failures, 1);
+            }
+        }
+    }
+    Ok(())
+}
+
+/// Run with each allocation refused in turn: the answer is `NoMemory`, with the disk handed back, and the
+/// next call opens it.
+#[test]
+fn each_allocation_refused(rt: HostRuntime) {
+    let Ok(disk) = v1(&rt, rt.alloc(), 2) else {
+        return;
+    };
+    if let Err((error, disk)) = Volume::open(rt.alloc(), disk) {
+        assert!(rt; error == VolumeError::NoMemory);
+        if let Ok(volume) = Volume::open(rt.alloc(), disk) {
+            assert_eq!(rt; volume.map.table.booked(), 4);
+        }
+    }
+}

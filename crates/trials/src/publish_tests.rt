@@ -1,0 +1,360 @@
+ghost use Rattle.std.specs.Prelude.{◌≡◌, ◌+◌, ◌<◌, ◌^◌, ℕ, Some, IsSome, IfOk};
+ghost use Rattle.blockdisk.specs.Memory.{memory_state};
+ghost use Rattle.volume.specs.Live.{slot, pending_at};
+ghost use Rattle.volume.specs.LiveCores.{core_of};
+ghost use Rattle.volume.specs.Pins.{IsReadable};
+ghost use Rattle.volume.specs.Publishing.{IsPlaced};
+ghost use Rattle.volume.specs.Rest.{IsSound};
+ghost use Rattle.volume.specs.declared.handles.Pin.{Pin};
+ghost use Rattle.volume.specs.declared.handles.VersionHandle.TheVariants.{Pinned};
+ghost use Rattle.volume.specs.declared.live.LiveVersion.{LiveVersion};
+ghost use Rattle.volume.specs.declared.pending.PendingVersion.{PendingVersion};
+
+use crate::open_tests::word;
+use crate::pin_tests;
+use blockdisk::{Disk, MemDisk};
+use meaning::{Entry, ErrorCode};
+use retrieval::{Mode, Prime};
+use slab::Slab;
+use std::alloc::{AllocError, Global};
+use std::process::Abort;
+use std::test::Fail;
+use volume::{CallError, FileFacts, LiveVersion, Pending, Pin, Volume, VolumeError};
+use words36::{BLOCK_WORDS, FileName, Half, Moment, Ppn, Word};
+
+/// FOO in SIXBIT.
+pub(crate) const FOO: u64 = 0o465757000000;
+
+/// How many words a block has.
+pub(crate) const BLOCK: u32 = BLOCK_WORDS as u32;
+
+/// The number [10,20].
+pub(crate) fn ppn_of(rt: &impl Abort) -> Ppn {
+    Ppn::new(0o10, 0o20).expect(rt, "a PPN")
+}
+
+/// FOO.TXT where `name` is 465757000000 (octal).
+pub(crate) fn file_name(name: u64) -> FileName {
+    FileName {
+        name: word(name),
+        ext: Half::from_bits(0o647064),
+    }
+}
+
+/// The first day and the last minute that a prime block has.
+fn moment(rt: &impl Abort) -> Moment {
+    Moment::new(4095, 1439).expect(rt, "a moment")
+}
+
+/// What the prime block of a version of a file of [10,20] says.
+fn prime_of(rt: &impl Abort, name: u64) -> Prime
+    ensures { 0 < result.file.name }
+{
+    let file = file_name(name);
+    assert!(rt; file.name.bits() > 0);
+    Prime::new(file, ppn_of(rt), 0o057, Mode::Dump, moment(rt)).expect(rt, "a prime block")
+}
+
+/// So many words: numbers, from this one on.
+pub(crate) fn numbers(alloc: Global, first: u32, count: u32) -> Result<Vec<Word>, AllocError> {
+    let mut words = Vec::new(alloc);
+    for i in 0..count {
+        words.push(word(u64::from(first) + u64::from(i)))?;
+    }
+    Ok(words)
+}
+
+/// A fresh volume of so many blocks, with the directory [10,20], on a disk with room to record so many writes and
+/// syncs.
+pub(crate) fn fresh(
+    rt: &impl Abort,
+    alloc: Global,
+    size: u32,
+    calls: usize,
+) -> Result<Volume<MemDisk>, VolumeError>
+    ensures { IfOk result (λ volume. IsSound (memory_state volume.disk) (core_of volume.map) volume.failed) }
+{
+    let mut disk = MemDisk::new(alloc, size, calls)?;
+    Volume::init(&mut disk)?;
+    let mut volume = open(alloc, disk)?;
+    assert!(rt; volume.make_dir(alloc, ppn_of(rt), 0o775) == Ok(()));
+    Ok(volume)
+}
+
+/// Opens the volume on a disk in memory.
+pub(crate) fn open(alloc: Global, disk: MemDisk) -> Result<Volume<MemDisk>, VolumeError>
+    ensures { IfOk result (λ volume. IsSound (memory_state volume.disk) (core_of volume.map) volume.failed) }
+{
+    match Volume::open(alloc, disk) {
+        Ok(volume) => Ok(volume),
+        Err((error, _disk)) => Err(error),
+    }
+}
+
+/// Begins a version of a file of [10,20], and puts words into it.
+pub(crate) fn write<D: Disk>(
+    rt: &impl Abort,
+    alloc: Global,
+    volume: &mut Volume<D>,
+    name: u64,
+    words: &[Word],
+) -> Pending
+    requires sound { IsSound (D.state volume.old.disk) (core_of volume.old.map) volume.old.failed }
+    ensures sound { IsSound (D.state volume.new.disk) (core_of volume.new.map) volume.new.failed }
+    ensures live { IsSome (pending_at (core_of volume.new.map).pending result.key) }
+    ensures placed { (p : PendingVersion) → pending_at (core_of volume.new.map).pending result.key ≡ Some p → IsPlaced (core_of volume.new.map) p }
+    ensures readers { (pin : Pin) → IsReadable (core_of volume.old.map) (Pinned pin) → IsReadable (core_of volume.new.map) (Pinned pin) }
+{
+    let Ok(pending) = volume.begin(alloc, prime_of(rt, name)) else {
+        panic!(rt; "no version is begun");
+    };
+    if volume.put_words(pending, 1, words) != Ok(()) {
+        panic!(rt; "the words aren't put");
+    }
+    pending
+}
+
+/// Publishes a version.
+pub(crate) fn publish<D: Disk>(
+    alloc: Global,
+    volume: &mut Volume<D>,
+    pending: Pending,
+    block: u32,
+    words: &[Word],
+) -> Result<(), CallError>
+    requires sound { IsSound (D.state volume.old.disk) (core_of volume.old.map) volume.old.failed }
+    requires live { IsSome (pending_at (core_of volume.old.map).pending pending.key) }
+    requires placed { (p : PendingVersion) → pending_at (core_of volume.old.map).pending pending.key ≡ Some p → IsPlaced (core_of volume.old.map) p }
+    requires first { 0 < block }
+    ensures sound { IsSound (D.state volume.new.disk) (core_of volume.new.map) volume.new.failed }
+    ensures readers { (pin : Pin) → IsReadable (core_of volume.old.map) (Pinned pin) → IsReadable (core_of volume.new.map) (Pinned pin) }
+{
+    volume.publish(alloc, pending, block, words)
+}
+
+/// Begins a version of a file, puts words into it, and publishes it, which leaves so much room.
+pub(crate) fn store<D: Disk>(
+    rt: &impl Abort,
+    alloc: Global,
+    volume: &mut Volume<D>,
+    name: u64,
+    words: &[Word],
+    room: Option<i64>,
+)
+    requires sound { IsSound (D.state volume.old.disk) (core_of volume.old.map) volume.old.failed }
+    ensures sound { IsSound (D.state volume.new.disk) (core_of volume.new.map) volume.new.failed }
+    ensures readers { (pin : Pin) → IsReadable (core_of volume.old.map) (Pinned pin) → IsReadable (core_of volume.new.map) (Pinned pin) }
+{
+    let pending = write(rt, alloc, volume, name, words);
+    assert!(rt; publish(alloc, volume, pending, 1, &[]) == Ok(()));
+    assert_eq!(rt; Some(volume.room()), room);
+}
+
+/// No version has as many readers as are counted.
+fn expect_few_readers(rt: &impl Abort, versions: &Slab<LiveVersion>)
+    ensures { (key : ℕ) (v : LiveVersion) → slot versions.now.slots key ≡ Some v → v.readers + 1 < 2 ^ 32 }
+{
+    for (_, version) in versions.iter() {
+        assert!(rt; version.readers < u32::MAX);
+    }
+}
+
+/// Holds the version that FOO.TXT has, for a reader more.
+pub(crate) fn hold<D: Disk>(rt: &impl Abort, volume: &mut Volume<D>) -> Pin
+    requires sound { IsSound (D.state volume.old.disk) (core_of volume.old.map) volume.old.failed }
+    ensures sound { IsSound (D.state volume.new.disk) (core_of volume.new.map) volume.new.failed }
+    ensures live { IsReadable (core_of volume.new.map) (Pinned result) }
+    ensures others { (pin : Pin) → (pin.key ≡ result.key → ⊥) → IsReadable (core_of volume.old.map) (Pinned pin) → IsReadable (core_of volume.new.map) (Pinned pin) }
+{
+    expect_few_readers(rt, &volume.map.versions);
+    let Ok(pin) = volume.pin(ppn_of(rt), &file_name(FOO)) else {
+        panic!(rt; "the file isn't there");
+    };
+    pin
+}
+
+/// A reader reads its whole version: these words.
+pub(crate) fn expect_words<D: Disk>(
+    rt: &impl Abort,
+    alloc: Global,
+    volume: &mut Volume<D>,
+    pin: Pin,
+    words: &[Word],
+)
+    requires sound { IsSound (D.state volume.old.disk) (core_of volume.old.map) volume.old.failed }
+    requires live { IsReadable (core_of volume.old.map) (Pinned pin) }
+    ensures sound { IsSound (D.state volume.new.disk) (core_of volume.new.map) volume.new.failed }
+    ensures readers { (reader : Pin) → IsReadable (core_of volume.old.map) (Pinned reader) → IsReadable (core_of volume.new.map) (Pinned reader) }
+{
+    match pin_tests::read(alloc, volume, pin, 1, u32::MAX) {
+        Ok(read) => assert!(rt; read.as_slice() == words),
+        Err(_refused) => panic!(rt; "the version isn't read"),
+    }
+}
+
+/// The volume has one file, FOO.TXT, of so many blocks with these words, and so much room.
+pub(crate) fn expect_file<D: Disk>(
+    rt: &impl Abort,
+    alloc: Global,
+    volume: &mut Volume<D>,
+    blocks: u32,
+    words: &[Word],
+    room: i64,
+)
+    requires sound { IsSound (D.state volume.old.disk) (core_of volume.old.map) volume.old.failed }
+    ensures sound { IsSound (D.state volume.new.disk) (core_of volume.new.map) volume.new.failed }
+{
+    assert_eq!(rt; volume.room(), room);
+    let length = u32::try_from(words.len()).expect(rt, "a length");
+    let facts = FileFacts {
+        protection: 0o057,
+        mode: Mode::Dump,
+        moment: moment(rt),
+        words: length,
+        blocks,
+    };
+    assert!(rt; volume.look(ppn_of(rt), &file_name(FOO)) == Ok(facts));
+    let line = Entry {
+        name: file_name(FOO),
+        protection: 0o057,
+        date: 4095,
+        blocks,
+    };
+    match volume.list(alloc, ppn_of(rt)) {
+        Ok(lines) => assert!(rt; lines.as_slice() == [line].as_slice()),
+        Err(_refused) => panic!(rt; "the directory isn't listed"),
+    }
+    let pin = hold(rt, volume);
+    expect_words(rt, alloc, volume, pin, words);
+    volume.unpin(pin);
+}
+
+/// A new file of two blocks and two words, which are put at block 3 by the publication, is there, and when the disk
+/// is opened again it is.
+#[test]
+fn a_new_file_is_published(rt: HostRuntime) -> Result<(), Fail> {
+    let alloc = rt.alloc();
+    let mut volume = fresh(&rt, alloc, 64, 1000)?;
+    assert_eq!(rt; volume.room(), 47);
+    let first = numbers(alloc, 1, 2 * BLOCK)?;
+    let pending = write(&rt, alloc, &mut volume, FOO, first.as_slice());
+    assert_eq!(rt; volume.room(), 44);
+    let last = [word(257), word(258)];
+    assert!(rt; publish(alloc, &mut volume, pending, 3, &last) == Ok(()));
+    let words = numbers(alloc, 1, 2 * BLOCK + 2)?;
+    expect_file(&rt, alloc, &mut volume, 3, words.as_slice(), 43);
+    let mut volume = open(alloc, volume.disk)?;
+    expect_file(&rt, alloc, &mut volume, 3, words.as_slice(), 43);
+    Ok(())
+}
+
+/// Last words at block `block` find no room.
+fn expect_no_room(
+    rt: &impl Abort,
+    alloc: Global,
+    volume: &mut Volume<MemDisk>,
+    pending: Pending,
+    block: u32,
+)
+    requires sound { IsSound (memory_state volume.old.disk) (core_of volume.old.map) volume.old.failed }
+    requires live { IsSome (pending_at (core_of volume.old.map).pending pending.key) }
+    requires placed { (p : PendingVersion) → pending_at (core_of volume.old.map).pending pending.key ≡ Some p → IsPlaced (core_of volume.old.map) p }
+    requires first { 0 < block }
+    ensures sound { IsSound (memory_state volume.new.disk) (core_of volume.new.map) volume.new.failed }
+    ensures live { IsSome (pending_at (core_of volume.new.map).pending pending.key) }
+    ensures placed { (p : PendingVersion) → pending_at (core_of volume.new.map).pending pending.key ≡ Some p → IsPlaced (core_of volume.new.map) p }
+{
+    match volume.publish(alloc, pending, block, &[word(7)]) {
+        Err(CallError::Refused(code)) => assert!(rt; code == ErrorCode::NoRoom),
+        _ => panic!(rt; "the last words aren't refused"),
+    }
+}
+
+/// A version of 40 blocks leaves room 6. With last words it would have 47 blocks, or more than a file has: it is as
+/// it was, and is published without them.
+#[test]
+fn last_words_find_no_room(rt: HostRuntime) -> Result<(), Fail> {
+    let alloc = rt.alloc();
+    let mut volume = fresh(&rt, alloc, 64, 1000)?;
+    let words = numbers(alloc, 1, 40 * BLOCK)?;
+    let pending = write(&rt, alloc, &mut volume, FOO, words.as_slice());
+    assert_eq!(rt; volume.room(), 6);
+    expect_no_room(&rt, alloc, &mut volume, pending, 47);
+    expect_no_room(&rt, alloc, &mut volume, pending, 16385);
+    expect_no_room(&rt, alloc, &mut volume, pending, u32::MAX);
+    assert_eq!(rt; volume.room(), 6);
+    assert!(rt; publish(alloc, &mut volume, pending, 1, &[]) == Ok(()));
+    expect_file(&rt, alloc, &mut volume, 40, words.as_slice(), 6);
+    Ok(())
+}
+
+/// Last words take the last of the room: zeros stand before them.
+#[test]
+fn last_words_take_all_room(rt: HostRuntime) -> Result<(), Fail> {
+    let alloc = rt.alloc();
+    let mut volume = fresh(&rt, alloc, 64, 1000)?;
+    let pending = write(&rt, alloc, &mut volume, FOO, &[]);
+    assert_eq!(rt; volume.room(), 46);
+    assert!(rt; publish(alloc, &mut volume, pending, 46, &[word(7)]) == Ok(()));
+    let mut words = vec![in alloc; Word::ZERO; 45 * BLOCK_WORDS]?;
+    words.push(word(7))?;
+    expect_file(&rt, alloc, &mut volume, 46, words.as_slice(), 0);
+    Ok(())
+}
+
+/// Each call is answered `Failed`.
+fn expect_failed(rt: &impl Abort, alloc: Global, volume: &mut Volume<MemDisk>, pin: Pin)
+    requires sound { IsSound (memory_state volume.old.disk) (core_of volume.old.map) volume.old.failed }
+    requires live { IsReadable (core_of volume.old.map) (Pinned pin) }
+{
+    let ppn = ppn_of(rt);
+    let name = file_name(FOO);
+    assert!(rt; volume.failed);
+    assert!(rt; volume.directory(ppn) == Err(CallError::Failed));
+    assert!(rt; volume.look(ppn, &name) == Err(CallError::Failed));
+    let listed = volume.list(alloc, ppn);
+    assert!(rt; listed == Err(CallError::Failed));
+    let read = pin_tests::read(alloc, volume, pin, 1, 1);
+    assert!(rt; read == Err(CallError::Failed));
+    expect_few_readers(rt, &volume.map.versions);
+    assert!(rt; volume.pin(ppn, &name) == Err(CallError::Failed));
+    assert!(rt; volume.begin(alloc, prime_of(rt, FOO)) == Err(CallError::Failed));
+    assert!(rt; volume.make_dir(alloc, ppn, 0o775) == Err(CallError::Failed));
+}
+
+/// The record has room for the calls of a fresh volume, for eight and four of a first publication, and for no write
+/// of the second one: the volume has failed then.
+#[test]
+fn the_first_write_of_a_publication_fails(rt: HostRuntime) -> Result<(), Fail> {
+    let alloc = rt.alloc();
+    let mut volume = fresh(&rt, alloc, 64, 21 + 12)?;
+    store(&rt, alloc, &mut volume, FOO, &[], Some(46));
+    let pin = hold(&rt, &mut volume);
+    let pending = write(&rt, alloc, &mut volume, FOO, &[]);
+    assert!(rt; !volume.failed);
+    assert!(rt; publish(alloc, &mut volume, pending, 1, &[]) == Err(CallError::Device));
+    expect_failed(&rt, alloc, &mut volume, pin);
+    Ok(())
+}
+
+/// Gives a volume up, as a call does that meets a fault.
+fn give_up(volume: &mut Volume<MemDisk>)
+    requires sound { IsSound (memory_state volume.old.disk) (core_of volume.old.map) volume.old.failed }
+    ensures sound { IsSound (memory_state volume.new.disk) (core_of volume.new.map) volume.new.failed }
+    ensures map { volume.new.map ≡ volume.old.map }
+{
+    volume.failed = true;
+}
+
+#[test]
+fn a_failed_volume_publishes_nothing(rt: HostRuntime) -> Result<(), Fail> {
+    let alloc = rt.alloc();
+    let mut volume = fresh(&rt, alloc, 64, 1000)?;
+    let pending = write(&rt, alloc, &mut volume, FOO, &[word(7)]);
+    give_up(&mut volume);
+    assert!(rt; publish(alloc, &mut volume, pending, 1, &[]) == Err(CallError::Failed));
+    let mut volume = open(alloc, volume.disk)?;
+    assert_eq!(rt; volume.room(), 47);
+    store(&rt, alloc, &mut volume, FOO, &[word(7)], Some(45));
+    Ok(())
+}

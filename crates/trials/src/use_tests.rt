@@ -1,0 +1,302 @@
+ghost use Rattle.std.specs.Prelude.{◌≡◌, ◌<◌, ℕ, IsSome, IfSome};
+ghost use Rattle.blockdisk.specs.Memory.{memory_state};
+ghost use Rattle.volume.specs.Live.{pending_at};
+ghost use Rattle.volume.specs.LiveCores.{core_of};
+ghost use Rattle.volume.specs.Pins.{IsReadable};
+ghost use Rattle.volume.specs.Rest.{IsSound};
+ghost use Rattle.volume.specs.declared.handles.VersionHandle.TheVariants.{Pinned};
+
+use crate::open_tests::{self, load, prime, v1, word};
+use crate::pin_tests::{self, open_and_pin};
+use crate::put_tests::{self, put};
+use blockdisk::{MemDisk, NoMemory};
+use meaning::ErrorCode;
+use retrieval::{Mode, Prime};
+use std::alloc::Global;
+use std::process::Abort;
+use std::test::Fail;
+use volume::{CallError, Pending, Pin, Volume};
+use words36::{BLOCK_WORDS, FileName, Half, Moment, Ppn, Word};
+
+/// FOO in SIXBIT.
+const FOO: u64 = 0o465757000000;
+
+/// The word that others put.
+const OTHERS: u64 = 0o777777777777;
+
+fn ppn_of(rt: &impl Abort) -> Ppn {
+    Ppn::new(0o10, 0o20).expect(rt, "a PPN")
+}
+
+/// FOO.TXT where `name` is 465757000000 (octal).
+fn file_name(name: u64) -> FileName {
+    FileName {
+        name: word(name),
+        ext: Half::from_bits(0o647064),
+    }
+}
+
+/// What the prime block of a version of a file of [10,20] says.
+fn prime_of(rt: &impl Abort, name: u64) -> Prime {
+    let moment = Moment::new(0, 0).expect(rt, "a moment");
+    Prime::new(file_name(name), ppn_of(rt), 0o057, Mode::Dump, moment).expect(rt, "a prime block")
+}
+
+/// A fresh volume of so many blocks, with the directory [10,20].
+fn fresh(rt: &impl Abort, alloc: Global, size: u32) -> Option<Volume<MemDisk>>
+    ensures { IfSome result (λ volume. IsSound (memory_state volume.disk) (core_of volume.map) volume.failed) }
+{
+    let Ok(mut disk) = MemDisk::new(alloc, size, 1000) else {
+        return None;
+    };
+    if Volume::init(&mut disk) != Ok(()) {
+        return None;
+    }
+    let Ok(mut volume) = Volume::open(alloc, disk) else {
+        return None;
+    };
+    assert!(rt; volume.make_dir(alloc, ppn_of(rt), 0o775) == Ok(()));
+    Some(volume)
+}
+
+/// Begins a version, and puts so many blocks of words into it. Nothing where that is refused.
+fn write(
+    rt: &impl Abort,
+    alloc: Global,
+    volume: &mut Volume<MemDisk>,
+    name: u64,
+    blocks: usize,
+) -> Option<Pending>
+    requires sound { IsSound (memory_state volume.old.disk) (core_of volume.old.map) volume.old.failed }
+    requires few { blocks < 1000 }
+    ensures sound { IsSound (memory_state volume.new.disk) (core_of volume.new.map) volume.new.failed }
+    ensures live { IfSome result (λ pending. IsSome (pending_at (core_of volume.new.map).pending pending.key)) }
+{
+    let Ok(words) = vec![in alloc; word(OTHERS); blocks * BLOCK_WORDS] else {
+        return None;
+    };
+    let Ok(pending) = volume.begin(alloc, prime_of(rt, name)) else {
+        return None;
+    };
+    match put(volume, pending, 1, words.as_slice()) {
+        Ok(()) => Some(pending),
+        Err(_refused) => None,
+    }
+}
+
+/// A version of 112 blocks costs 113, one of 113 blocks 115; and all is given back.
+#[test]
+fn a_version_of_113_blocks_has_an_extension(rt: HostRuntime) -> Result<(), Fail> {
+    for (blocks, room) in [(112, 382), (113, 380)] {
+        let Some(mut volume) = fresh(&rt, rt.alloc(), 512) else {
+            panic!(rt; "no volume is made");
+        };
+        assert_eq!(rt; volume.room(), 495);
+        let Some(pending) = write(&rt, rt.alloc(), &mut volume, 1, blocks) else {
+            panic!(rt; "the words aren't put");
+        };
+        assert_eq!(rt; volume.room(), room);
+        volume.discard(pending);
+        assert_eq!(rt; volume.room(), 495);
+    }
+    Ok(())
+}
+
+/// Of room 47 a version of 46 blocks takes all; the next word finds none, and dropping it gives all back.
+#[test]
+fn a_volume_is_filled_and_emptied(rt: HostRuntime) -> Result<(), Fail> {
+    let Some(mut volume) = fresh(&rt, rt.alloc(), 64) else {
+        panic!(rt; "no volume is made");
+    };
+    assert_eq!(rt; volume.room(), 47);
+    let Some(pending) = write(&rt, rt.alloc(), &mut volume, 1, 46) else {
+        panic!(rt; "the words aren't put");
+    };
+    assert_eq!(rt; volume.room(), 0);
+    let full = put(&mut volume, pending, 47, &[word(7)]);
+    assert!(rt; full == Err(CallError::Refused(ErrorCode::NoRoom)));
+    volume.discard(pending);
+    assert_eq!(rt; volume.room(), 47);
+    Ok(())
+}
+
+/// V1 with 130 words in FOO.TXT, in blocks 18 and 19. Its room is 44.
+fn two_blocks(rt: &impl Abort, alloc: Global) -> Result<MemDisk, NoMemory> {
+    let mut disk = v1(rt, alloc, 1000)?;
+    open_tests::put(rt, &mut disk, 14, &[0o777777600000]);
+    let foo = prime(0o057000007777, 130, 0o000002000022);
+    load(rt, &mut disk, 17, &foo);
+    open_tests::put(rt, &mut disk, 19, &[0o123456765432, 0o765432123456]);
+    Ok(disk)
+}
+
+/// Compares words with those wanted; all others are zero.
+fn expect_words(rt: &impl Abort, words: &[Word], length: usize, wanted: &[(usize, u64)]) {
+    assert_eq!(rt; words.len(), length);
+    for (place, found) in words.iter().enumerate() {
+        let mut number = 0;
+        for &(at, there) in wanted {
+            if at == place {
+                number = there;
+            }
+        }
+        assert_eq!(rt; found.bits(), number);
+    }
+}
+
+/// The reader reads its file: the words are those that it had, whatever was put elsewhere.
+fn expect_file(rt: &impl Abort, alloc: Global, volume: &mut Volume<MemDisk>, pin: Pin)
+    requires sound { IsSound (memory_state volume.old.disk) (core_of volume.old.map) volume.old.failed }
+    requires live { IsReadable (core_of volume.old.map) (Pinned pin) }
+    ensures sound { IsSound (memory_state volume.new.disk) (core_of volume.new.map) volume.new.failed }
+    ensures map { volume.new.map ≡ volume.old.map }
+{
+    let Ok(words) = pin_tests::read(alloc, volume, pin, 1, 1000) else {
+        panic!(rt; "the file isn't read");
+    };
+    let wanted = [
+        (0, 0o442131446236),
+        (1, 0o064240000000),
+        (128, 0o123456765432),
+        (129, 0o765432123456),
+    ];
+    expect_words(rt, words.as_slice(), 130, &wanted);
+}
+
+/// Begins a version beside a reader and others that are being written, which leaves so much room.
+fn begin_beside(
+    rt: &impl Abort,
+    alloc: Global,
+    volume: &mut Volume<MemDisk>,
+    pin: Pin,
+    name: u64,
+    room: i64,
+) -> Pending
+    requires sound { IsSound (memory_state volume.old.disk) (core_of volume.old.map) volume.old.failed }
+    requires reader { IsReadable (core_of volume.old.map) (Pinned pin) }
+    ensures sound { IsSound (memory_state volume.new.disk) (core_of volume.new.map) volume.new.failed }
+    ensures reader { IsReadable (core_of volume.new.map) (Pinned pin) }
+    ensures live { IsSome (pending_at (core_of volume.new.map).pending result.key) }
+    ensures others { (k : ℕ) → IsSome (pending_at (core_of volume.old.map).pending k) → IsSome (pending_at (core_of volume.new.map).pending k) }
+    ensures apart { (k : ℕ) → IsSome (pending_at (core_of volume.old.map).pending k) → k ≡ result.key → ⊥ }
+{
+    let Ok(pending) = volume.begin(alloc, prime_of(rt, name)) else {
+        panic!(rt; "no version is begun");
+    };
+    assert_eq!(rt; volume.room(), room);
+    expect_file(rt, alloc, volume, pin);
+    pending
+}
+
+/// Puts words into a version beside a reader and another version, which leaves so much room.
+fn put_beside(
+    rt: &impl Abort,
+    alloc: Global,
+    volume: &mut Volume<MemDisk>,
+    pin: Pin,
+    other: Pending,
+    pending: Pending,
+    block: u32,
+    words: &[Word],
+    room: i64,
+)
+    requires sound { IsSound (memory_state volume.old.disk) (core_of volume.old.map) volume.old.failed }
+    requires reader { IsReadable (core_of volume.old.map) (Pinned pin) }
+    requires other { IsSome (pending_at (core_of volume.old.map).pending other.key) }
+    requires live { IsSome (pending_at (core_of volume.old.map).pending pending.key) }
+    requires first { 0 < block }
+    ensures sound { IsSound (memory_state volume.new.disk) (core_of volume.new.map) volume.new.failed }
+    ensures reader { IsReadable (core_of volume.new.map) (Pinned pin) }
+    ensures other { IsSome (pending_at (core_of volume.new.map).pending other.key) }
+    ensures live { IsSome (pending_at (core_of volume.new.map).pending pending.key) }
+{
+    assert!(rt; volume.put_words(pending, block, words) == Ok(()));
+    assert_eq!(rt; volume.room(), room);
+    expect_file(rt, alloc, volume, pin);
+}
+
+/// Drops a version beside a reader and another version, which leaves so much room.
+fn discard_beside(
+    rt: &impl Abort,
+    alloc: Global,
+    volume: &mut Volume<MemDisk>,
+    pin: Pin,
+    other: Pending,
+    pending: Pending,
+    room: i64,
+)
+    requires sound { IsSound (memory_state volume.old.disk) (core_of volume.old.map) volume.old.failed }
+    requires reader { IsReadable (core_of volume.old.map) (Pinned pin) }
+    requires other { IsSome (pending_at (core_of volume.old.map).pending other.key) }
+    requires live { IsSome (pending_at (core_of volume.old.map).pending pending.key) }
+    requires apart { other.key ≡ pending.key → ⊥ }
+    ensures sound { IsSound (memory_state volume.new.disk) (core_of volume.new.map) volume.new.failed }
+    ensures reader { IsReadable (core_of volume.new.map) (Pinned pin) }
+    ensures other { IsSome (pending_at (core_of volume.new.map).pending other.key) }
+{
+    volume.discard(pending);
+    assert_eq!(rt; volume.room(), room);
+    expect_file(rt, alloc, volume, pin);
+}
+
+/// A file is read while others write: a version of the same name, which is dropped and written anew, and one
+/// of another name with a gap, into which words are put later. All room is given back.
+#[test]
+fn a_reader_reads_on(rt: HostRuntime) -> Result<(), Fail> {
+    let alloc = rt.alloc();
+    let disk = two_blocks(&rt, alloc)?;
+    let Some((mut volume, pin)) = open_and_pin(&rt, alloc, disk) else {
+        panic!(rt; "the disk is refused");
+    };
+    let three = vec![in alloc; word(OTHERS); 3 * BLOCK_WORDS]?;
+    let new = begin_beside(&rt, alloc, &mut volume, pin, 1, 43);
+    let same = begin_beside(&rt, alloc, &mut volume, pin, FOO, 42);
+    put_beside(
+        &rt,
+        alloc,
+        &mut volume,
+        pin,
+        new,
+        same,
+        1,
+        three.as_slice(),
+        39,
+    );
+    put_beside(&rt, alloc, &mut volume, pin, same, new, 3, &[word(7)], 36);
+    put_beside(
+        &rt,
+        alloc,
+        &mut volume,
+        pin,
+        same,
+        new,
+        2,
+        &[word(8), word(9)],
+        36,
+    );
+    discard_beside(&rt, alloc, &mut volume, pin, new, same, 40);
+    let again = begin_beside(&rt, alloc, &mut volume, pin, FOO, 39);
+    put_beside(
+        &rt,
+        alloc,
+        &mut volume,
+        pin,
+        new,
+        again,
+        2,
+        three.as_slice(),
+        35,
+    );
+    volume.unpin(pin);
+    volume.discard(again);
+    match put_tests::read(alloc, &mut volume, new, 1) {
+        Ok(words) => {
+            let wanted = [(128, 8), (129, 9), (256, 7)];
+            expect_words(&rt, words.as_slice(), 257, &wanted);
+        }
+        Err(_refused) => panic!(rt; "the version isn't read"),
+    }
+    volume.discard(new);
+    assert_eq!(rt; volume.room(), 44);
+    Ok(())
+}

@@ -1,4 +1,0 @@
-use Rattle.volume.proofs.publish_tests.store.Goals as goal
-
-pub returns-clause-readers : goal.returns-clause-readers
-returns-clause-readers g c pin live = c.publish.ensures.readers pin (c.write-pending.ensures.readers pin live)
