@@ -58,11 +58,11 @@ mod output;
 mod publishing;
 #[cfg(test)]
 mod publishing_tests;
-mod reading_laws;
-mod restart;
 mod read_in;
 #[cfg(test)]
 mod read_in_tests;
+mod reading_laws;
+mod restart;
 mod serve;
 mod serve_closing;
 mod serve_writing;
@@ -76,8 +76,8 @@ mod writing_tests;
 
 pub use call::Call;
 pub use channel::Channel;
-pub use holding_laws::{readers_come_and_go, readers_keep_what_is_superseded};
 pub use events::Event;
+pub use holding_laws::{readers_come_and_go, readers_keep_what_is_superseded};
 pub use input::Input;
 pub use job::{Job, Jobs};
 pub use laws::{files_have_a_start, held_versions_are_booked_once};
