@@ -1,5 +1,5 @@
 -- What readers hold, where one comes or goes: one comes to the version that a place has now.
-use Rattle.std.proofs.Common.{◌≡◌, ◌≢◌, ◌⊎◌, inl, inr, ℕ, ◌+◌, ◌-◌, ◌<◌, ◌≤◌, Bool, true, false, Some, None, refl, sym, ap, subst, ◌∙◌, ⊎_elim, arith}
+use Rattle.std.proofs.Common.{◌≡◌, ◌≢◌, ◌⊎◌, inl, inr, ℕ, ◌+◌, ◌-◌, ◌<◌, Bool, true, false, Some, None, sym, ap, subst, ◌∙◌, ⊎_elim, arith}
 use Rattle.std.specs.Prelude.{◌==◌, if◌then◌else◌}
 use Rattle.std.proofs.lemmas.Bool.{eq-eqb, ne_eqb, cases_Bool, cases_lt, cases_eq, both_ways}
 use Rattle.blockdisk.specs.Disk.{Contents, DiskState}
@@ -11,7 +11,7 @@ use Rattle.meaning.proofs.MapLaws.{some_same, some_none}
 use Rattle.meaning.proofs.Versions.{body_kept}
 use Rattle.volume.specs.Live.{VolumeCore, slot, IsWholeCore}
 use Rattle.volume.specs.Pins.{IsVersionOf}
-use Rattle.volume.specs.Places.{prime_in, prime_at}
+use Rattle.volume.specs.Places.{prime_at}
 use Rattle.volume.specs.declared.live.LiveVersion.{LiveVersion}
 use Rattle.volume.proofs.OnePlace.{one_key, one_place}
 use Rattle.volume.proofs.PrimeBlocks.{primes_table}

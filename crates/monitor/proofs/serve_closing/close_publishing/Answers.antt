@@ -1,4 +1,4 @@
-use Rattle.std.proofs.Common.{Some, refl, subst}
+use Rattle.std.proofs.Common.{Some, sym, refl, subst, ◌∙◌}
 use Rattle.std.specs.List.{AllByRecursion}
 use Rattle.meaning.specs.declared.call.Call.TheVariants.{Close}
 use Rattle.volume.specs.LiveCores.{core_of}

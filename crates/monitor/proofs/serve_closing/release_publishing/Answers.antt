@@ -1,4 +1,4 @@
-use Rattle.std.proofs.Common.{Some, refl, ap, subst, ◌∙◌}
+use Rattle.std.proofs.Common.{Some, sym, refl, ap, subst, ◌∙◌}
 use Rattle.std.specs.List.{AllByRecursion}
 use Rattle.meaning.specs.declared.call.Call.TheVariants.{Releas}
 use Rattle.volume.specs.LiveCores.{core_of}
