@@ -78,7 +78,6 @@ pub use call::Call;
 pub use channel::Channel;
 pub use events::Event;
 pub use holding_laws::{readers_come_and_go, readers_keep_what_is_superseded};
-pub use input::Input;
 pub use job::{Job, Jobs};
 pub use laws::{files_have_a_start, held_versions_are_booked_once};
 pub use monitor::Monitor;

@@ -20,7 +20,8 @@ use std::alloc::Global;
 ///
 /// At whichever moment of the list the crash came, the files are those after some of the events that were answered,
 /// none of them left out, or those after these and the next one, which was running; and no third. The start itself
-/// may crash too: whatever is left then stands for the same files, by what `Monitor::start` ensures.
+/// may crash too: where no block of the disk was open before it, whatever is left then stands for the same files, by
+/// what `Monitor::start` ensures.
 ///
 /// # Errors
 ///
