@@ -33,7 +33,9 @@ run: build
 	show 'ls -l DISK.IMG'; \
 	ls -l DISK.IMG; \
 	show "printf 'LOGIN [10,20]\\nDIRECTORY\\n' | filser run DISK.IMG"; \
-	printf 'LOGIN [10,20]\nDIRECTORY\n' | $$program run DISK.IMG || test $$? -eq 1
+	printf 'LOGIN [10,20]\nDIRECTORY\n' | $$program run DISK.IMG || test $$? -eq 1; \
+	show "printf 'LOGIN [10,20]\\nMAKDIR [10,20]\\nDIRECTORY\\n' | filser run DISK.IMG"; \
+	printf 'LOGIN [10,20]\nMAKDIR [10,20]\nDIRECTORY\n' | $$program run DISK.IMG
 
 install: build
 	install -d $(DESTDIR)$(PREFIX)/bin $(DESTDIR)$(PREFIX)/share/man/man1

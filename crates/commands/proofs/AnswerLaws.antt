@@ -3,34 +3,51 @@ use Rattle.std.proofs.Common.{◌≡◌, ◌≢◌, ℕ, ◌||◌, Bool, true, f
 use Rattle.std.specs.Prelude.{codes}
 use Rattle.words36.specs.declared.moment.Moment.{Moment}
 use Rattle.meaning.specs.Texts.{complains, refuses, prints, refusal, is_broken, greeting, listing, line}
-use Rattle.meaning.specs.Conducts.{Act, Asks, Looks, Shows}
+use Rattle.meaning.specs.Conducts.{Act, Asks, Looks, Shows, Conducts, Prints, begins, makes, makes_all, ok}
 use Rattle.meaning.specs.Talks.{Speaks, core_words}
 use Rattle.meaning.specs.declared.entry.Entry.{Entry}
 use Rattle.meaning.specs.declared.command.Command.{Command}
-use Rattle.meaning.specs.declared.command.Command.TheVariants.{Login as LoginLine, Directory as DirectoryLine}
+use Rattle.meaning.specs.declared.command.Command.TheVariants.{Login as LoginLine, Directory as DirectoryLine, MakeDir as MakeLine}
 use Rattle.meaning.specs.declared.call.Event.TheVariants.{Login}
+use Rattle.meaning.specs.declared.call.Event.{Event}
 use Rattle.meaning.specs.declared.call.Reply.{Reply}
 use Rattle.meaning.specs.declared.call.Reply.TheVariants.{Done, Value, Refused, Stopped, NoChannel, AddressCheck, NoJob, NoMemory, Device, Failed, DateRange}
-use Rattle.commands.specs.Machines.{Machine, IsAnswered, IsListed, GoesBy}
+use Rattle.monitor.specs.declared.events.Event.TheVariants.{Login as LogsIn}
+use Rattle.commands.specs.Machines.{Machine, AlwaysStands, IsAnswered, IsListed, GoesBy}
+use Rattle.commands.specs.Asking.{HasConducted, done_said}
 use Rattle.commands.specs.Sessions.{Spoke}
 use Rattle.commands.specs.declared.answer.Tally.{Tally}
-use Rattle.commands.proofs.GoingLaws.{goes_nowhere, goes_answered, goes_listed}
+use Rattle.commands.proofs.GoingLaws.{goes_nowhere, goes_answered, goes_listed, served_always}
 use Rattle.commands.proofs.TalkLaws.{or-false}
 
 or-true : (b : Bool) → true ≡ b || true
 or-true true = refl
 or-true false = refl
 
-module _ {V E : Type 0} (bytes : V → List ℕ) (result : Result V E) (moment : Moment) (tally counted : Tally) where
+-- a line that was not done says why
+refused_said : (text : List ℕ) (reply : Reply) → reply ≢ Done → done_said text reply ≡ refuses reply
+refused_said text Done h = absurd (h refl)
+refused_said text (Value word) h = refl
+refused_said text (Refused code) h = refl
+refused_said text (Stopped status) h = refl
+refused_said text NoChannel h = refl
+refused_said text AddressCheck h = refl
+refused_said text NoJob h = refl
+refused_said text NoMemory h = refl
+refused_said text Device h = refl
+refused_said text Failed h = refl
+refused_said text DateRange h = refl
+
+module _ {V E S : Type 0} (machine : S → Machine) (stands : AlwaysStands machine) (bytes : V → List ℕ) (result : Result V E) (moment : Moment) (tally counted : Tally) where
   -- Refusals: without a call, and after one.
 
-  pub spoke_complaint : (m : Machine) (who : Option ℕ) (meant : Option Command) (words : List ℕ) → Speaks moment who meant [] (complains words) who
-      → counted.refused ≡ true → counted.broke ≡ tally.broke || false → IfOk result (λ v. bytes v ≡ line words) → Spoke bytes result m m moment who who tally counted meant
+  pub spoke_complaint : (m : S) (who : Option ℕ) (meant : Option Command) (words : List ℕ) → Speaks moment who meant [] (complains words) who
+      → counted.refused ≡ true → counted.broke ≡ tally.broke || false → IfOk result (λ v. bytes v ≡ line words) → Spoke bytes result machine m m moment who who tally counted meant
   spoke_complaint m who meant words speaks refused broke text =
-      record { acts = []; said = complains words; speaks = speaks; goes = goes_nowhere m; refused = refused ∙ or-true tally.refused; broke = broke; text = text }
+      record { acts = []; said = complains words; speaks = speaks; goes = goes_nowhere machine stands m; refused = refused ∙ or-true tally.refused; broke = broke; text = text }
 
-  spoke_refusal : (old new : Machine) (who : Option ℕ) (meant : Option Command) (acts : List Act) (reply : Reply) (words : List ℕ) (broken : Bool) → Speaks moment who meant acts (refuses reply) who → GoesBy old new acts
-      → words ≡ refusal reply → broken ≡ is_broken reply → counted.refused ≡ true → counted.broke ≡ tally.broke || broken → IfOk result (λ v. bytes v ≡ line words) → Spoke bytes result old new moment who who tally counted meant
+  spoke_refusal : (old new : S) (who : Option ℕ) (meant : Option Command) (acts : List Act) (reply : Reply) (words : List ℕ) (broken : Bool) → Speaks moment who meant acts (refuses reply) who → GoesBy machine old new acts
+      → words ≡ refusal reply → broken ≡ is_broken reply → counted.refused ≡ true → counted.broke ≡ tally.broke || broken → IfOk result (λ v. bytes v ≡ line words) → Spoke bytes result machine old new moment who who tally counted meant
   spoke_refusal old new who meant acts reply words broken speaks goes same_words same_broken refused broke text =
       record {
         acts = acts;
@@ -42,16 +59,22 @@ module _ {V E : Type 0} (bytes : V → List ℕ) (result : Result V E) (moment :
         text = subst (λ (l : List ℕ). IfOk result (λ v. bytes v ≡ line l)) same_words text;
       }
 
-  pub spoke_unknown : (m : Machine) (who : Option ℕ) (meant : Option Command) → meant ≡ None → counted.refused ≡ true → counted.broke ≡ tally.broke || false → IfOk result (λ v. bytes v ≡ line (codes "?Command error"))
-      → Spoke bytes result m m moment who who tally counted meant
+  pub spoke_unknown : (m : S) (who : Option ℕ) (meant : Option Command) → meant ≡ None → counted.refused ≡ true → counted.broke ≡ tally.broke || false → IfOk result (λ v. bytes v ≡ line (codes "?Command error"))
+      → Spoke bytes result machine m m moment who who tally counted meant
   spoke_unknown m who meant e refused broke text =
-      subst (λ (o : Option Command). Spoke bytes result m m moment who who tally counted o) (sym e) (spoke_complaint m who None (codes "?Command error") (refl, refl, refl) refused broke text)
+      subst (λ (o : Option Command). Spoke bytes result machine m m moment who who tally counted o) (sym e) (spoke_complaint m who None (codes "?Command error") (refl, refl, refl) refused broke text)
 
-  pub spoke_stranger : (m : Machine) (who : Option ℕ) (place : Option ℕ) → who ≡ None → counted.refused ≡ true → counted.broke ≡ tally.broke || false → IfOk result (λ v. bytes v ≡ line (codes "?Not logged in"))
-      → Spoke bytes result m m moment who who tally counted (Some (DirectoryLine place))
+  pub spoke_stranger : (m : S) (who : Option ℕ) (place : Option ℕ) → who ≡ None → counted.refused ≡ true → counted.broke ≡ tally.broke || false → IfOk result (λ v. bytes v ≡ line (codes "?Not logged in"))
+      → Spoke bytes result machine m m moment who who tally counted (Some (DirectoryLine place))
   spoke_stranger m who place e refused broke text =
-      subst (λ (o : Option ℕ). Spoke bytes result m m moment o o tally counted (Some (DirectoryLine place))) (sym e)
+      subst (λ (o : Option ℕ). Spoke bytes result machine m m moment o o tally counted (Some (DirectoryLine place))) (sym e)
       (spoke_complaint m None (Some (DirectoryLine place)) (codes "?Not logged in") (refl, refl, refl) refused broke text)
+
+  pub spoke_make_stranger : (m : S) (who : Option ℕ) (owner protection : ℕ) → who ≡ None → counted.refused ≡ true → counted.broke ≡ tally.broke || false → IfOk result (λ v. bytes v ≡ line (codes "?Not logged in"))
+      → Spoke bytes result machine m m moment who who tally counted (Some (MakeLine owner protection))
+  spoke_make_stranger m who owner protection e refused broke text =
+      subst (λ (o : Option ℕ). Spoke bytes result machine m m moment o o tally counted (Some (MakeLine owner protection))) (sym e)
+      (spoke_complaint m None (Some (MakeLine owner protection)) (codes "?Not logged in") (refl, refl, refl) refused broke text)
 
   -- LOGIN.
 
@@ -68,46 +91,68 @@ module _ {V E : Type 0} (bytes : V → List ℕ) (result : Result V E) (moment :
   login_refused who owner Failed h = (Failed, refl, refl, refl)
   login_refused who owner DateRange h = (DateRange, refl, refl, refl)
 
-  pub spoke_login_refused : (old new : Machine) (who : Option ℕ) (owner : ℕ) (reply : Reply) (words : List ℕ) (broken : Bool) → reply ≢ Done → IsAnswered old new (Login 1 owner core_words) reply
+  pub spoke_login_refused : (old new : S) (who : Option ℕ) (owner : ℕ) (reply : Reply) (words : List ℕ) (broken : Bool) → reply ≢ Done → IsAnswered (machine old) (machine new) (LogsIn 1 owner core_words) reply
       → words ≡ refusal reply → broken ≡ is_broken reply → counted.refused ≡ true → counted.broke ≡ tally.broke || broken → IfOk result (λ v. bytes v ≡ line words)
-      → Spoke bytes result old new moment who who tally counted (Some (LoginLine owner))
+      → Spoke bytes result machine old new moment who who tally counted (Some (LoginLine owner))
   spoke_login_refused old new who owner reply words broken h answered same_words same_broken refused broke text =
-      spoke_refusal old new who (Some (LoginLine owner)) (Asks (Login 1 owner core_words) reply ∷ []) reply words broken (login_refused who owner reply h) (goes_answered old new (Login 1 owner core_words) reply answered)
+      spoke_refusal old new who (Some (LoginLine owner)) (Asks (Login 1 owner core_words) reply ∷ []) reply words broken (login_refused who owner reply h) (goes_answered machine stands old new (LogsIn 1 owner core_words) reply (served_always (LogsIn 1 owner core_words) (λ s. tt)) answered)
       same_words same_broken refused broke text
 
   -- DIRECTORY.
 
-  pub spoke_list_refused : (old new : Machine) (me : ℕ) (place : Option ℕ) (owner : ℕ) (reply : Reply) (words : List ℕ) (broken : Bool) → owner ≡ unwrap_or place me → IsListed old new 1 owner (Err reply)
+  pub spoke_list_refused : (old new : S) (me : ℕ) (place : Option ℕ) (owner : ℕ) (reply : Reply) (words : List ℕ) (broken : Bool) → owner ≡ unwrap_or place me → IsListed (machine old) (machine new) 1 owner (Err reply)
       → words ≡ refusal reply → broken ≡ is_broken reply → counted.refused ≡ true → counted.broke ≡ tally.broke || broken → IfOk result (λ v. bytes v ≡ line words)
-      → Spoke bytes result old new moment (Some me) (Some me) tally counted (Some (DirectoryLine place))
+      → Spoke bytes result machine old new moment (Some me) (Some me) tally counted (Some (DirectoryLine place))
   spoke_list_refused old new me place owner reply words broken e listed same_words same_broken refused broke text =
-      spoke_refusal old new (Some me) (Some (DirectoryLine place)) (Looks owner (Err reply) ∷ []) reply words broken ((ap Shows (sym e), refl, refl), refl) (goes_listed old new owner (Err reply) listed)
+      spoke_refusal old new (Some me) (Some (DirectoryLine place)) (Looks owner (Err reply) ∷ []) reply words broken ((ap Shows (sym e), refl, refl), refl) (goes_listed machine stands old new owner (Err reply) listed)
       same_words same_broken refused broke text
 
+  -- MAKDIR.
+
+  pub spoke_make_refused : (old new : S) (me owner protection : ℕ) (events : List Event) (reply : Reply) (words : List ℕ) (broken : Bool) → events ≡ makes moment owner protection → reply ≢ Done → HasConducted machine old new moment events reply
+      → words ≡ refusal reply → broken ≡ is_broken reply → counted.refused ≡ true → counted.broke ≡ tally.broke || broken → IfOk result (λ v. bytes v ≡ line words)
+      → Spoke bytes result machine old new moment (Some me) (Some me) tally counted (Some (MakeLine owner protection))
+  spoke_make_refused old new me owner protection events reply words broken e h p same_words same_broken refused broke text =
+      spoke_refusal old new (Some me) (Some (MakeLine owner protection)) p.acts reply words broken
+      (subst (λ said. Conducts moment (begins moment me (MakeLine owner protection)) p.acts said) (refused_said ok reply h) (subst (λ l. Conducts moment (makes_all l (Prints ok)) p.acts (done_said ok reply)) e (p.conducts ok)), refl) p.goes same_words same_broken refused broke text
+
 -- The same where it was done: nothing is counted.
-module _ {V E : Type 0} (bytes : V → List ℕ) (result : Result V E) (moment : Moment) (tally : Tally) where
-  pub spoke_login : (old new : Machine) (who : Option ℕ) (owner : ℕ) (reply : Reply) → reply ≡ Done → IsAnswered old new (Login 1 owner core_words) reply → IfOk result (λ v. bytes v ≡ greeting owner)
-      → Spoke bytes result old new moment who (Some owner) tally tally (Some (LoginLine owner))
+module _ {V E S : Type 0} (machine : S → Machine) (stands : AlwaysStands machine) (bytes : V → List ℕ) (result : Result V E) (moment : Moment) (tally : Tally) where
+  pub spoke_login : (old new : S) (who : Option ℕ) (owner : ℕ) (reply : Reply) → reply ≡ Done → IsAnswered (machine old) (machine new) (LogsIn 1 owner core_words) reply → IfOk result (λ v. bytes v ≡ greeting owner)
+      → Spoke bytes result machine old new moment who (Some owner) tally tally (Some (LoginLine owner))
   spoke_login old new who owner reply e answered text =
       record {
         acts = Asks (Login 1 owner core_words) Done ∷ [];
         said = prints (greeting owner);
         speaks = (Done, refl, refl, refl);
-        goes = goes_answered old new (Login 1 owner core_words) Done (subst (IsAnswered old new (Login 1 owner core_words)) e answered);
+        goes = goes_answered machine stands old new (LogsIn 1 owner core_words) Done (served_always (LogsIn 1 owner core_words) (λ s. tt)) (subst (IsAnswered (machine old) (machine new) (LogsIn 1 owner core_words)) e answered);
         refused = or-false tally.refused;
         broke = or-false tally.broke;
         text = text;
       }
 
-  pub spoke_list : (old new : Machine) (me : ℕ) (place : Option ℕ) (owner : ℕ) (entries shown : List Entry) → owner ≡ unwrap_or place me → IsListed old new 1 owner (Ok entries) → shown ≡ entries
-      → IfOk result (λ v. bytes v ≡ listing owner shown) → Spoke bytes result old new moment (Some me) (Some me) tally tally (Some (DirectoryLine place))
+  pub spoke_list : (old new : S) (me : ℕ) (place : Option ℕ) (owner : ℕ) (entries shown : List Entry) → owner ≡ unwrap_or place me → IsListed (machine old) (machine new) 1 owner (Ok entries) → shown ≡ entries
+      → IfOk result (λ v. bytes v ≡ listing owner shown) → Spoke bytes result machine old new moment (Some me) (Some me) tally tally (Some (DirectoryLine place))
   spoke_list old new me place owner entries shown e listed same text =
       record {
         acts = Looks owner (Ok entries) ∷ [];
         said = prints (listing owner entries);
         speaks = ((ap Shows (sym e), refl, refl), refl);
-        goes = goes_listed old new owner (Ok entries) listed;
+        goes = goes_listed machine stands old new owner (Ok entries) listed;
         refused = or-false tally.refused;
         broke = or-false tally.broke;
         text = subst (λ (l : List Entry). IfOk result (λ v. bytes v ≡ listing owner l)) same text;
+      }
+
+  pub spoke_make : (old new : S) (me owner protection : ℕ) (events : List Event) (reply : Reply) → events ≡ makes moment owner protection → reply ≡ Done → HasConducted machine old new moment events reply → IfOk result (λ v. bytes v ≡ line (codes "OK"))
+      → Spoke bytes result machine old new moment (Some me) (Some me) tally tally (Some (MakeLine owner protection))
+  spoke_make old new me owner protection events reply e is p text =
+      record {
+        acts = p.acts;
+        said = prints ok;
+        speaks = (subst (λ r. Conducts moment (begins moment me (MakeLine owner protection)) p.acts (done_said ok r)) is (subst (λ l. Conducts moment (makes_all l (Prints ok)) p.acts (done_said ok reply)) e (p.conducts ok)), refl);
+        goes = p.goes;
+        refused = or-false tally.refused;
+        broke = or-false tally.broke;
+        text = text;
       }

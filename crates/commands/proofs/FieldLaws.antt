@@ -1,18 +1,18 @@
 -- How the fields of a text are found.
-use Rattle.std.proofs.Common.{◌≡◌, ◌≢◌, ℕ, ◌+◌, ◌<◌, ◌≤◌, nat_eq, not, Bool, true, false, List, [], ◌∷◌, ◌++◌, length, take, drop, get_or, refl, sym, ◌∙◌, ap, subst, arith, eq-eqb, inl, inr, zero, suc}
+use Rattle.std.proofs.Common.{◌≡◌, ◌≢◌, ℕ, ◌+◌, ◌<◌, nat_eq, not, Bool, true, false, List, [], ◌∷◌, ◌++◌, length, take, drop, get_or, refl, sym, ◌∙◌, ap, subst, arith, eq-eqb, append-nil, inl, inr, zero, suc}
 use Rattle.std.proofs.Math.Seq.{drop-cons}
-use Rattle.std.proofs.lemmas.List.{take_more, take_all, take-append-drop, drop_all}
-use Rattle.std.proofs.lemmas.Bool.{eqb-true, both_ways, cases_lt}
+use Rattle.std.proofs.lemmas.List.{take_more, take-append-drop, drop_all}
+use Rattle.std.specs.Prelude.{◌==◌}
+use Rattle.std.proofs.lemmas.Bool.{eqb-true, cases_lt}
 use Rattle.meaning.specs.Spellings.{is_space, is_visible, Are, IsField, AreFields}
+use Rattle.commands.specs.Orders.{Begins}
 use Rattle.meaning.proofs.SpellingLaws.{Stops, stretch, are_append}
+use Rattle.commands.specs.Characters.{is_other_than}
 
 -- Characters of a kind, one after the other, up to one of another.
 
 pub are_more : (is : ℕ → Bool) (text : List ℕ) (i : ℕ) → i < length text → is (get_or text i 0) ≡ true → Are is (take i text) → Are is (take (i + 1) text)
 are_more is text i h t a = subst (Are is) (sym (take_more text i 0 h)) (are_append is (take i text) (get_or text i 0 ∷ []) a (t, tt))
-
-pub are_all : (is : ℕ → Bool) (text : List ℕ) (n : ℕ) → length text ≤ n → Are is (take n text) → Are is text
-are_all is text n h a = subst (Are is) (take_all n text h) a
 
 pub is_same : (c k : ℕ) → c ≡ k → nat_eq c k ≡ true
 is_same c k e = eq-eqb c k e
@@ -40,10 +40,13 @@ stops_at is text n h = elim (cases_lt n (length text)) [ inl l ↦ subst (Stops 
 pub word_stops : (text : List ℕ) (n : ℕ) → (n < length text → get_or text n 0 ≡ 32) → Stops is_visible (drop n text)
 word_stops text n h = stops_at is_visible text n (λ l. not_other (get_or text n 0) 32 (h l))
 
+pub mark_stops : (text : List ℕ) (n mark : ℕ) → (n < length text → get_or text n 0 ≡ mark) → Stops (is_other_than mark) (drop n text)
+mark_stops text n mark h = stops_at (is_other_than mark) text n (λ l. not_other (get_or text n 0) mark (h l))
+
 pub gap_stops : (text : List ℕ) (n : ℕ) → (n < length text → get_or text n 0 ≢ 32) → Stops is_space (drop n text)
 gap_stops text n h = stops_at is_space text n (λ l. not_same (get_or text n 0) 32 (h l))
 
--- Two fields.
+-- A field, and spaces behind it.
 
 is_one_field : (text : List ℕ) → 0 < length text → Are is_visible text → IsField text
 is_one_field text some visible = record { some = some; visible = visible }
@@ -56,42 +59,10 @@ one_gap [] rest some spaces = absurd (nothing some)
     nothing h = omega (arith, h)
 one_gap (c ∷ cs) rest some spaces = (cs, spaces.1, ap (λ k. k ∷ (cs ++ rest)) (eqb-true c 32 spaces.0))
 
-pub two_are_fields : (text word behind gap argument : List ℕ) → text ≡ word ++ behind → behind ≡ gap ++ argument → 0 < length word → Are is_visible word → 0 < length gap → Are is_space gap → 0 < length argument → Are is_visible argument
-    → AreFields (word ∷ argument ∷ []) text
-two_are_fields text word behind gap argument e f word_some word_visible gap_some spaces some visible =
-    let g = one_gap gap argument gap_some spaces in
-    (is_one_field word word_some word_visible, g.0, g.1, argument, e ∙ ap (λ l. word ++ l) (f ∙ g.2), (is_one_field argument some visible, refl))
-
--- Where a text has two fields, they are those that were found.
-pub record Found (word gap argument one other : List ℕ) : Type 0 where
-  pub word_is : word ≡ one
-  pub gap_some : 0 < length gap
-  pub argument_is : argument ≡ other
-
-visible_first : (text : List ℕ) → IsField text → Stops is_space text
-visible_first [] field = tt
-visible_first (c ∷ cs) field = unspaced (is_space c) field.visible.0
-  where
-    unspaced : (b : Bool) → not b ≡ true → b ≡ false
-    unspaced true e = let wrong = e in cc
-    unspaced false e = refl
-
-pub found_fields : (text word behind gap argument one other : List ℕ) → text ≡ word ++ behind → behind ≡ gap ++ argument → Are is_visible word → Stops is_visible behind → Are is_space gap → Stops is_space argument
-    → AreFields (one ∷ other ∷ []) text → Found word gap argument one other
-found_fields text word behind gap argument one other e f visible stops spaces ends a =
-    let r = stretch is_visible word behind one (32 ∷ (a.1 ++ a.3)) visible a.0.visible stops refl (sym e ∙ a.4) in
-    let s : Stops is_space a.3 = subst (Stops is_space) (sym a.5.1) (visible_first other a.5.0) in
-    let q = stretch is_space gap argument (32 ∷ a.1) a.3 spaces (refl, a.2) ends s (sym f ∙ r.1) in
-    record { word_is = r.0; gap_some = subst (λ (l : List ℕ). 0 < length l) (sym q.0) (omega arith); argument_is = q.1 ∙ a.5.1 }
-
 pub are_at : (is : ℕ → Bool) (text : List ℕ) (i : ℕ) → i < length text → Are is text → is (get_or text i 0) ≡ true
 are_at is [] i h a = absurd (omega arith)
 are_at is (c ∷ cs) zero h a = a.0
 are_at is (c ∷ cs) (suc i) h a = are_at is cs i (omega arith) a.1
-
--- no space stands in a field
-pub no_space : (text : List ℕ) (i : ℕ) → IsField text → i < length text → get_or text i 0 ≡ 32 → ⊥
-no_space text i field h e = both_ways (is_visible (get_or text i 0)) (not_other (get_or text i 0) 32 e) (are_at is_visible text i h field.visible)
 
 -- A text whose first word has n bytes, and the gap behind it m.
 pub record IsSplit (text word behind gap argument : List ℕ) : Type 0 where
@@ -113,15 +84,97 @@ is_split text word behind gap argument n m e f g h visible space spaces ends = r
   ends = subst (Stops is_space) (sym h) (gap_stops behind m ends);
 }
 
-pub no_fields : (text word behind gap argument one other : List ℕ) → IsSplit text word behind gap argument → (0 < length word → 0 < length gap → 0 < length argument → ⊥) → AreFields (one ∷ other ∷ []) text → ⊥
-no_fields text word behind gap argument one other s wrong a =
-    let f = found_fields text word behind gap argument one other s.whole s.rest s.visible s.stops s.spaces s.ends a in
-    wrong (subst (λ (l : List ℕ). 0 < length l) (sym f.word_is) a.0.some) f.gap_some (subst (λ (l : List ℕ). 0 < length l) (sym f.argument_is) a.5.0.some)
+-- The first field of a text, and the text of the others.
 
-pub no_field : (text word behind gap argument one other : List ℕ) (n : ℕ) → IsSplit text word behind gap argument → n < length argument → get_or argument n 0 ≡ 32 → AreFields (one ∷ other ∷ []) text → ⊥
-no_field text word behind gap argument one other n s h e a =
-    let f = found_fields text word behind gap argument one other s.whole s.rest s.visible s.stops s.spaces s.ends a in
-    no_space argument n (subst IsField (sym f.argument_is) a.5.0) h e
+nothing : 0 < length {A = ℕ} [] → ⊥
+nothing h = omega (arith, h)
 
-pub are_two_fields : (text word behind gap argument : List ℕ) (n : ℕ) → IsSplit text word behind gap argument → 0 < length word → 0 < length gap → 0 < length argument → length argument ≤ n → Are is_visible (take n argument) → AreFields (word ∷ argument ∷ []) text
-are_two_fields text word behind gap argument n s a b d h visible = two_are_fields text word behind gap argument s.whole s.rest a s.visible b s.spaces d (are_all is_visible argument n h visible)
+pub no_text : (text : List ℕ) → 0 < length text → text ≡ [] → ⊥
+no_text text some e = nothing (subst (λ (l : List ℕ). 0 < length l) e some)
+
+pub no_bytes : (text : List ℕ) → true ≡ (length text == 0) → text ≡ []
+no_bytes [] e = refl
+no_bytes (c ∷ cs) e = absurd (wrong (eqb-true (length (c ∷ cs)) 0 (sym e)))
+  where
+    wrong : length (c ∷ cs) ≡ 0 → ⊥
+    wrong h = omega (arith, h)
+
+both_none : (xs ys : List ℕ) → xs ++ ys ≡ [] → (xs ≡ []) × (ys ≡ [])
+both_none [] ys e = (refl, e)
+both_none (x ∷ xs) ys e = cc
+
+not_blank : (b : Bool) → not b ≡ true → b ≡ false
+not_blank true e = let wrong = e in cc
+not_blank false e = refl
+
+field_first : (f rest : List ℕ) → IsField f → Stops is_space (f ++ rest) × (0 < length (f ++ rest))
+field_first [] rest field = absurd (nothing field.some)
+field_first (c ∷ cs) rest field = (not_blank (is_space c) field.visible.0, omega arith)
+
+fields_first : (g : List ℕ) (gs : List (List ℕ)) (text : List ℕ) → AreFields (g ∷ gs) text → Stops is_space text × (0 < length text)
+fields_first g [] text a = subst (λ (l : List ℕ). Stops is_space l × (0 < length l)) (append-nil g ∙ sym a.1) (field_first g [] a.0)
+fields_first g (h ∷ hs) text a = subst (λ (l : List ℕ). Stops is_space l × (0 < length l)) (sym a.4) (field_first g (32 ∷ (a.1 ++ a.3)) a.0)
+
+-- What begins with a field begins with the word that was found.
+pub record IsFirst (word gap rest one : List ℕ) (more : List (List ℕ)) : Type 0 where
+  pub some : 0 < length word
+  pub is : one ≡ word
+  pub others : AreFields more rest
+  pub ended : 0 < length gap → 0 < length rest
+
+pub is_first : (text word behind gap rest one : List ℕ) (more : List (List ℕ)) → IsSplit text word behind gap rest → AreFields (one ∷ more) text → IsFirst word gap rest one more
+is_first text word behind gap rest one [] s a =
+    let r = stretch is_visible word behind one [] s.visible a.0.visible s.stops tt (sym s.whole ∙ a.1 ∙ sym (append-nil one)) in
+    let e = both_none gap rest (sym s.rest ∙ r.1) in
+    record { some = subst (λ (l : List ℕ). 0 < length l) (sym r.0) a.0.some; is = sym r.0; others = e.1; ended = λ h. absurd (nothing (subst (λ (l : List ℕ). 0 < length l) e.0 h)) }
+is_first text word behind gap rest one (g ∷ gs) s a =
+    let r = stretch is_visible word behind one (32 ∷ (a.1 ++ a.3)) s.visible a.0.visible s.stops refl (sym s.whole ∙ a.4) in
+    let f = fields_first g gs a.3 a.5 in
+    let q = stretch is_space gap rest (32 ∷ a.1) a.3 s.spaces (refl, a.2) s.ends f.0 (sym s.rest ∙ r.1) in
+    record {
+      some = subst (λ (l : List ℕ). 0 < length l) (sym r.0) a.0.some;
+      is = sym r.0;
+      others = subst (λ (l : List ℕ). AreFields (g ∷ gs) l) (sym q.1) a.5;
+      ended = λ h. subst (λ (l : List ℕ). 0 < length l) (sym q.1) f.1;
+    }
+
+-- between a word and a field there is a space
+some_gap : (gap rest : List ℕ) → Stops is_visible (gap ++ rest) → Stops is_space rest → 0 < length rest → 0 < length gap
+some_gap [] [] stops ends some = absurd (nothing some)
+some_gap [] (c ∷ cs) stops ends some = absurd (wrong (is_space c) stops ends)
+  where
+    wrong : (b : Bool) → not b ≡ false → b ≡ false → ⊥
+    wrong true e f = cc
+    wrong false e f = cc
+some_gap (c ∷ cs) rest stops ends some = omega arith
+
+first_joined : (text word behind gap rest : List ℕ) (more : List (List ℕ)) → IsSplit text word behind gap rest → 0 < length word → (0 < length gap → 0 < length rest) → AreFields more rest → AreFields (word ∷ more) text
+first_joined text word behind gap rest [] s some ended a =
+    let none : gap ≡ [] = no_gap gap (λ h. nothing (subst (λ (l : List ℕ). 0 < length l) a (ended h))) in
+    let e : behind ≡ [] = s.rest ∙ (λ i. none i ++ a i) in
+    (is_one_field word some s.visible, s.whole ∙ ap (λ l. word ++ l) e ∙ append-nil word)
+  where
+    no_gap : (xs : List ℕ) → (0 < length xs → ⊥) → xs ≡ []
+    no_gap [] h = refl
+    no_gap (x ∷ xs) h = absurd (h (omega arith))
+first_joined text word behind gap rest (g ∷ gs) s some ended a =
+    let f = fields_first g gs rest a in
+    let d = one_gap gap rest (some_gap gap rest (subst (Stops is_visible) s.rest s.stops) s.ends f.1) s.spaces in
+    (is_one_field word some s.visible, d.0, d.1, rest, s.whole ∙ ap (λ l. word ++ l) (s.rest ∙ d.2), a)
+
+pub begins : (text word behind gap rest : List ℕ) → IsSplit text word behind gap rest → 0 < length word → (0 < length gap → 0 < length rest) → Begins text word rest
+begins text word behind gap rest s some ended = record {
+  only = λ one more a. let f = is_first text word behind gap rest one more s a in (f.is, f.others);
+  joined = λ more a. first_joined text word behind gap rest more s some ended a;
+}
+
+-- Two fields.
+
+pub no_second : (text word behind one other : List ℕ) → Begins text word behind → ((f : List ℕ) (fs : List (List ℕ)) → AreFields (f ∷ fs) behind → ⊥) → AreFields (one ∷ other ∷ []) text → ⊥
+no_second text word behind one other b none a = none other [] (b.only one (other ∷ []) a).1
+
+pub more_than_two : (text word behind argument rest one other : List ℕ) → Begins text word behind → Begins behind argument rest → 0 < length rest → AreFields (one ∷ other ∷ []) text → ⊥
+more_than_two text word behind argument rest one other b d some a = no_text rest some (d.only other [] (b.only one (other ∷ []) a).1).1
+
+pub two_fields_are : (text word behind argument rest : List ℕ) → Begins text word behind → Begins behind argument rest → true ≡ (length rest == 0) → AreFields (word ∷ argument ∷ []) text
+two_fields_are text word behind argument rest b d e = b.joined (argument ∷ []) (d.joined [] (no_bytes rest e))

@@ -11,3 +11,7 @@ pub mod TalkLaws
 pub mod StepLaws
 pub mod SessionLaws
 pub mod OneText
+pub mod AskingLaws
+pub mod MadeLaws
+pub mod OrderLaws
+pub mod ObeyLaws

@@ -19,7 +19,7 @@ octal-append high [] y = refl
 octal-append high (x ∷ xs) y = octal-append (high * 8 + (x - 48)) xs y
 
 -- a number has no more digits than its text
-below_power : (high : ℕ) (xs : List ℕ) → Are is_octal xs → octal_after high xs + 1 ≤ (high + 1) * 8 ^ length xs
+pub below_power : (high : ℕ) (xs : List ℕ) → Are is_octal xs → octal_after high xs + 1 ≤ (high + 1) * 8 ^ length xs
 below_power high [] a = omega arith
 below_power high (x ∷ xs) a =
     let d = digit_is x a.0 in

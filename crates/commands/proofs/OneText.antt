@@ -14,6 +14,7 @@ use Rattle.meaning.proofs.CommandLaws.{same_command}
 use Rattle.meaning.proofs.TalkLaws.{one_text}
 use Rattle.commands.specs.Served.{SaysServed, MeansServed}
 use Rattle.commands.specs.Streams.{TalksServed}
+use Rattle.commands.specs.declared.language.Language.TheVariants.{Commands}
 
 same_says : (text : List ℕ) (x y : Option Command) → SaysServed text x → SaysServed text y → x ≡ y
 same_says text None None a b = refl
@@ -46,15 +47,15 @@ same_forms (line ∷ lines) x y a b =
     let r = same_forms lines a.2 b.2 a.3 b.3 in
     a.4 ∙ (λ i. form (m i) line ∷ r i) ∙ sym b.4
 
-talks_forms : (moment : Moment) (who : Option ℕ) (lines : List Line) (acts : List Act) (said : Spoken) (after : Option ℕ) → TalksServed moment who lines acts said after
+talks_forms : (moment : Moment) (who : Option ℕ) (lines : List Line) (acts : List Act) (said : Spoken) (after : Option ℕ) → TalksServed Commands moment who lines acts said after
     → (forms : List Line) × Forms lines forms × Talks moment who forms acts said after
 talks_forms moment who [] acts said after p = ([], refl, p)
-talks_forms moment who (line ∷ lines) acts said after (meant, m, first, more, here, there, mid, speaks, rest, split, text) =
+talks_forms moment who (line ∷ lines) acts said after (first, more, here, there, mid, (meant, m, speaks), rest, split, text) =
     let r = talks_forms moment mid lines more there after rest in
     (form meant line ∷ r.0, (meant, m, r.0, r.1, refl), (meant, means_form line meant m, first, more, here, there, mid, speaks, r.2, split, text))
 
 pub one_served_text : (pack : Pack) (moment : Moment) (lines : List Line) (who : Option ℕ) (s t u : State) (acts others : List Act) (one other : Spoken) (x y : Option ℕ)
-    → TalksServed moment who lines acts one x → Served pack s acts t → TalksServed moment who lines others other y → Served pack s others u → one ≡ other
+    → TalksServed Commands moment who lines acts one x → Served pack s acts t → TalksServed Commands moment who lines others other y → Served pack s others u → one ≡ other
 one_served_text pack moment lines who s t u acts others one other x y a p b q =
     let f = talks_forms moment who lines acts one x a in
     let g = talks_forms moment who lines others other y b in

@@ -1,16 +1,22 @@
 -- What a text says that is served.
-use Rattle.std.proofs.Common.{◌≡◌, ◌≢◌, ℕ, nat_eq, Bool, true, false, ◌&&◌, List, [], ◌∷◌, Option, Some, None, refl, sym, ◌∙◌, ap, subst, IsTrue}
+use Rattle.std.proofs.Common.{◌≡◌, ◌≢◌, ◌<◌, ℕ, nat_eq, Bool, true, false, ◌&&◌, List, [], ◌∷◌, Option, Some, None, refl, sym, ◌∙◌, ap, subst, IsTrue}
 use Rattle.std.specs.Prelude.{codes}
 use Rattle.std.specs.Cmp.Lexicographic.{pointwise}
 use Rattle.std.proofs.lemmas.Bool.{eq-eqb, eqb-true, both_ways, and_parts}
 use Rattle.meaning.specs.Lines.{Line, Bytes, TooLong}
 use Rattle.meaning.specs.Spellings.{AreFields, IsBracketed}
-use Rattle.meaning.specs.Commands.{IsCommand, Says, Means}
+use Rattle.meaning.specs.Commands.{IsMade, IsCommand, Says, Means}
 use Rattle.meaning.specs.declared.command.Command.{Command}
 use Rattle.meaning.specs.declared.command.Command.TheVariants.{Login, Directory, Copy, Rename, Delete, TypeOut, Protect, MakeDir}
 use Rattle.meaning.proofs.SpellingLaws.{differs, same_fields, same_head, same_tail, none_all}
 use Rattle.meaning.proofs.CommandLaws.{same_command}
-use Rattle.commands.specs.Served.{is_served, SaysServed, MeansServed, served}
+use Rattle.commands.specs.Served.{is_served, SaysServed, MeansServed, served, Fits}
+use Rattle.commands.specs.Sessions.{HeardIn, FitsIn}
+use Rattle.words36.specs.declared.moment.Moment.{Moment}
+use Rattle.commands.specs.declared.language.Language.{Language}
+use Rattle.commands.specs.declared.run.Heard.{Heard}
+use Rattle.commands.specs.declared.run.Heard.TheVariants.{Nothing, Said, Ordered}
+use Rattle.commands.proofs.MadeLaws.{protection_fits}
 
 same_pointwise : (xs : List ℕ) → pointwise nat_eq xs xs ≡ true
 same_pointwise [] = refl
@@ -35,6 +41,12 @@ agree xs ys zs t e f right = pointwise_same xs ys (sym e ∙ right) ∙ f
 login-directory : codes "LOGIN" ≡ codes "DIRECTORY" → ⊥
 login-directory e = differs 76 68 refl (same_head e)
 
+login-makdir : codes "LOGIN" ≡ codes "MAKDIR" → ⊥
+login-makdir e = differs 76 77 refl (same_head e)
+
+directory-makdir : codes "DIRECTORY" ≡ codes "MAKDIR" → ⊥
+directory-makdir e = differs 68 77 refl (same_head e)
+
 -- Of a text with one field or none.
 pub says_no_fields : (text : List ℕ) (said : Option Command) → said ≡ None → text ≢ codes "DIRECTORY" → ((word argument : List ℕ) → AreFields (word ∷ argument ∷ []) text → ⊥) → SaysServed text said
 says_no_fields text said e alone none = subst (SaysServed text) (sym e) refuse
@@ -48,12 +60,12 @@ says_no_fields text said e alone none = subst (SaysServed text) (sym e) refuse
     refuse (Delete x) s a = cc
     refuse (TypeOut x) s a = cc
     refuse (Protect x n) s a = cc
-    refuse (MakeDir p n) s a = cc
+    refuse (MakeDir p n) s a = none (codes "MAKDIR") a.0 a.1
 
 -- Of a text with two.
 pub says_nothing : (text word argument : List ℕ) (said : Option Command) → said ≡ None → AreFields (word ∷ argument ∷ []) text
-    → (word ≡ codes "LOGIN" → (p : ℕ) → IsBracketed argument p → ⊥) → (word ≡ codes "DIRECTORY" → (p : ℕ) → IsBracketed argument p → ⊥) → SaysServed text said
-says_nothing text word argument said e f login directory = subst (SaysServed text) (sym e) refuse
+    → (word ≡ codes "LOGIN" → (p : ℕ) → IsBracketed argument p → ⊥) → (word ≡ codes "DIRECTORY" → (p : ℕ) → IsBracketed argument p → ⊥) → (word ≡ codes "MAKDIR" → (p n : ℕ) → IsMade argument p n → ⊥) → SaysServed text said
+says_nothing text word argument said e f login directory makdir = subst (SaysServed text) (sym e) refuse
   where
     refuse : (command : Command) → IsTrue (is_served command) → IsCommand text command → ⊥
     refuse (Login p) s a =
@@ -68,16 +80,23 @@ says_nothing text word argument said e f login directory = subst (SaysServed tex
     refuse (Delete x) s a = cc
     refuse (TypeOut x) s a = cc
     refuse (Protect x n) s a = cc
-    refuse (MakeDir p n) s a = cc
+    refuse (MakeDir p n) s a =
+        let same = same_fields (word ∷ argument ∷ []) (codes "MAKDIR" ∷ a.0 ∷ []) text f a.1 in
+        makdir (same_head same) p n (subst (λ l. IsMade l p n) (sym (same_head (same_tail same))) a.2)
 
 pub says_no_login : (text word argument : List ℕ) (said : Option Command) → said ≡ None → AreFields (word ∷ argument ∷ []) text → word ≡ codes "LOGIN" → ((p : ℕ) → IsBracketed argument p → ⊥) → SaysServed text said
-says_no_login text word argument said e f is none = says_nothing text word argument said e f (λ w. none) (λ w. absurd (login-directory (sym is ∙ w)))
+says_no_login text word argument said e f is none = says_nothing text word argument said e f (λ w. none) (λ w. absurd (login-directory (sym is ∙ w))) (λ w. absurd (login-makdir (sym is ∙ w)))
 
 pub says_no_directory : (text word argument : List ℕ) (said : Option Command) → said ≡ None → AreFields (word ∷ argument ∷ []) text → word ≡ codes "DIRECTORY" → ((p : ℕ) → IsBracketed argument p → ⊥) → SaysServed text said
-says_no_directory text word argument said e f is none = says_nothing text word argument said e f (λ w. absurd (login-directory (sym w ∙ is))) (λ w. none)
+says_no_directory text word argument said e f is none = says_nothing text word argument said e f (λ w. absurd (login-directory (sym w ∙ is))) (λ w. none) (λ w. absurd (directory-makdir (sym is ∙ w)))
 
-pub says_no_word : (text word argument : List ℕ) (said : Option Command) → said ≡ None → AreFields (word ∷ argument ∷ []) text → word ≢ codes "LOGIN" → word ≢ codes "DIRECTORY" → SaysServed text said
-says_no_word text word argument said e f login directory = says_nothing text word argument said e f (λ w. absurd (login w)) (λ w. absurd (directory w))
+pub says_no_makdir : (text word argument : List ℕ) (said : Option Command) → said ≡ None → AreFields (word ∷ argument ∷ []) text → word ≡ codes "MAKDIR" → ((p n : ℕ) → IsMade argument p n → ⊥) → SaysServed text said
+says_no_makdir text word argument said e f is none =
+    says_nothing text word argument said e f (λ w. absurd (login-makdir (sym w ∙ is))) (λ w. absurd (directory-makdir (sym w ∙ is))) (λ w. none)
+
+pub says_no_word : (text word argument : List ℕ) (said : Option Command) → said ≡ None → AreFields (word ∷ argument ∷ []) text → word ≢ codes "LOGIN" → word ≢ codes "DIRECTORY" → word ≢ codes "MAKDIR"
+    → SaysServed text said
+says_no_word text word argument said e f login directory makdir = says_nothing text word argument said e f (λ w. absurd (login w)) (λ w. absurd (directory w)) (λ w. absurd (makdir w))
 
 -- What is served of what a text means.
 
@@ -91,7 +110,7 @@ served_says text (Some (Rename x y)) None m s = refl
 served_says text (Some (Delete x)) None m s = refl
 served_says text (Some (TypeOut x)) None m s = refl
 served_says text (Some (Protect x n)) None m s = refl
-served_says text (Some (MakeDir p n)) None m s = refl
+served_says text (Some (MakeDir p n)) None m s = absurd (s (MakeDir p n) refl m)
 served_says text (Some d) (Some c) m s = subst (λ e. Some c ≡ served (Some e)) (same_command text c d s.1 m) (is_its_own c s.0)
   where
     is_its_own : (c : Command) → IsTrue (is_served c) → Some c ≡ served (Some c)
@@ -102,25 +121,26 @@ served_says text (Some d) (Some c) m s = subst (λ e. Some c ≡ served (Some e)
     is_its_own (Delete x) t = cc
     is_its_own (TypeOut x) t = cc
     is_its_own (Protect x n) t = cc
-    is_its_own (MakeDir p n) t = cc
+    is_its_own (MakeDir p n) t = refl
 
 pub served_means : (line : Line) (meant said : Option Command) → Means line meant → MeansServed line said → said ≡ served meant
 served_means (Bytes text) meant said m s = served_says text meant said m s
 served_means TooLong meant said m s = s ∙ ap served (sym m)
 
 -- No other command is served.
-pub not_served : (meant : Option Command) (command : Command) → meant ≡ Some command → ((p : ℕ) → command ≡ Login p → ⊥) → ((o : Option ℕ) → command ≡ Directory o → ⊥) → served meant ≡ None
-not_served meant command e login directory = ap served e ∙ refuse command login directory
+pub not_served : (meant : Option Command) (command : Command) → meant ≡ Some command → ((p : ℕ) → command ≡ Login p → ⊥) → ((o : Option ℕ) → command ≡ Directory o → ⊥)
+    → ((p n : ℕ) → command ≡ MakeDir p n → ⊥) → served meant ≡ None
+not_served meant command e login directory makdir = ap served e ∙ refuse command login directory makdir
   where
-    refuse : (c : Command) → ((p : ℕ) → c ≡ Login p → ⊥) → ((o : Option ℕ) → c ≡ Directory o → ⊥) → served (Some c) ≡ None
-    refuse (Login p) a b = absurd (a p refl)
-    refuse (Directory o) a b = absurd (b o refl)
-    refuse (Copy x y) a b = refl
-    refuse (Rename x y) a b = refl
-    refuse (Delete x) a b = refl
-    refuse (TypeOut x) a b = refl
-    refuse (Protect x n) a b = refl
-    refuse (MakeDir p n) a b = refl
+    refuse : (c : Command) → ((p : ℕ) → c ≡ Login p → ⊥) → ((o : Option ℕ) → c ≡ Directory o → ⊥) → ((p n : ℕ) → c ≡ MakeDir p n → ⊥) → served (Some c) ≡ None
+    refuse (Login p) a b c = absurd (a p refl)
+    refuse (Directory o) a b c = absurd (b o refl)
+    refuse (Copy x y) a b c = refl
+    refuse (Rename x y) a b c = refl
+    refuse (Delete x) a b c = refl
+    refuse (TypeOut x) a b c = refl
+    refuse (Protect x n) a b c = refl
+    refuse (MakeDir p n) a b c = absurd (c p n refl)
 
 -- What is said that is served is served.
 pub means_served : (line : Line) (said : Option Command) → MeansServed line said → served said ≡ said
@@ -132,5 +152,34 @@ means_served (Bytes text) (Some (Rename x y)) m = let wrong = m.0 in cc
 means_served (Bytes text) (Some (Delete x)) m = let wrong = m.0 in cc
 means_served (Bytes text) (Some (TypeOut x)) m = let wrong = m.0 in cc
 means_served (Bytes text) (Some (Protect x n)) m = let wrong = m.0 in cc
-means_served (Bytes text) (Some (MakeDir p n)) m = let wrong = m.0 in cc
+means_served (Bytes text) (Some (MakeDir p n)) m = refl
 means_served TooLong said m = ap served m ∙ sym m
+
+-- What is heard fits.
+
+says_fits : (text : List ℕ) (said : Option Command) → SaysServed text said → Fits said
+says_fits text None m = tt
+says_fits text (Some (Login p)) m = tt
+says_fits text (Some (Directory o)) m = tt
+says_fits text (Some (Copy x y)) m = tt
+says_fits text (Some (Rename x y)) m = tt
+says_fits text (Some (Delete x)) m = tt
+says_fits text (Some (TypeOut x)) m = tt
+says_fits text (Some (Protect x n)) m = tt
+says_fits text (Some (MakeDir p n)) m = protection_fits m.1.2.behind n m.1.2.right
+
+means_fits : (line : Line) (said : Option Command) → MeansServed line said → Fits said
+means_fits (Bytes text) said m = says_fits text said m
+means_fits TooLong said m = subst Fits (sym m) tt
+
+pub heard_fits : (language : Language) (moment : Moment) (lines : List Line) (heard : Heard) → HeardIn language moment lines heard → FitsIn heard
+heard_fits language moment [] heard h = subst FitsIn (sym h) tt
+heard_fits language moment (line ∷ lines) Nothing h = absurd h
+heard_fits language moment (line ∷ lines) (Said meant) h = means_fits line meant h.1
+heard_fits language moment (line ∷ lines) (Ordered order) h = tt
+
+pub said_fits : (heard : Heard) (meant : Option Command) → heard ≡ Said meant → FitsIn heard → Fits meant
+said_fits heard meant e fits = subst FitsIn e fits
+
+pub protection_of_fits : (meant : Option Command) (command : Command) (p n : ℕ) → meant ≡ Some command → command ≡ MakeDir p n → Fits meant → n < 512
+protection_of_fits meant command p n e f fits = subst Fits (e ∙ ap Some f) fits

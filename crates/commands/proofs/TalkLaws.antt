@@ -1,17 +1,25 @@
 -- Lines that are answered one after another.
-use Rattle.std.proofs.Common.{◌≡◌, ℕ, ◌||◌, Bool, true, false, List, [], ◌∷◌, ◌++◌, refl, sym, ◌∙◌, ap, subst, append_assoc, append-nil, Option}
+use Rattle.std.proofs.Common.{◌≡◌, ◌≢◌, ℕ, ◌||◌, Bool, true, false, List, [], ◌∷◌, ◌++◌, refl, sym, ◌∙◌, ap, subst, append_assoc, append-nil, Option}
+use Rattle.std.specs.Prelude.{option_map}
 use Rattle.words36.specs.declared.moment.Moment.{Moment}
 use Rattle.meaning.specs.Lines.{Line}
 use Rattle.meaning.specs.Texts.{Spoken, joined, silent}
 use Rattle.meaning.specs.Conducts.{Act}
-use Rattle.meaning.specs.Talks.{Speaks}
+use Rattle.meaning.specs.Talks.{Speaks, Orders}
+use Rattle.meaning.specs.declared.call.Event as played
 use Rattle.meaning.specs.declared.command.Command.{Command}
+use Rattle.monitor.specs.Runs.{event_of}
+use Rattle.monitor.specs.declared.events.Event.{Event}
+use Rattle.commands.specs.Languages.{Says}
+use Rattle.commands.specs.Orders.{IsOrdered}
 use Rattle.commands.specs.Served.{MeansServed, served}
 use Rattle.commands.specs.Streams.{TalksServed, spoken}
 use Rattle.commands.specs.Sessions.{HeardIn, Hears}
 use Rattle.commands.specs.declared.answer.Tally.{Tally}
+use Rattle.commands.specs.declared.language.Language.{Language}
+use Rattle.commands.specs.declared.language.Language.TheVariants.{Commands, Events}
 use Rattle.commands.specs.declared.run.Heard.{Heard}
-use Rattle.commands.specs.declared.run.Heard.TheVariants.{Nothing, Said}
+use Rattle.commands.specs.declared.run.Heard.TheVariants.{Nothing, Said, Ordered}
 use Rattle.commands.proofs.SayingLaws.{means_served}
 
 pub or-false : (b : Bool) → b ≡ b || false
@@ -39,54 +47,65 @@ joined_assoc a b c =
     let h = or_assoc a.broke b.broke c.broke in
     λ i. record { text = e i; refused = f i; broke = h i }
 
-module _ (moment : Moment) where
-  pub talks_on : (who : Option ℕ) (lines more : List Line) (acts next : List Act) (said here : Spoken) (mid after : Option ℕ) → TalksServed moment who lines acts said mid → TalksServed moment mid more next here after
-      → TalksServed moment who (lines ++ more) (acts ++ next) (joined said here) after
+module _ (language : Language) (moment : Moment) where
+  pub talks_on : (who : Option ℕ) (lines more : List Line) (acts next : List Act) (said here : Spoken) (mid after : Option ℕ) → TalksServed language moment who lines acts said mid → TalksServed language moment mid more next here after
+      → TalksServed language moment who (lines ++ more) (acts ++ next) (joined said here) after
   talks_on who [] more acts next said here mid after p q =
       let w : mid ≡ who = p.2 in
       let a : next ≡ acts ++ next = ap (λ (l : List Act). l ++ next) (sym p.0) in
       let s : here ≡ joined said here = joined-silent said here p.1 in
-      subst (λ (v : Option ℕ). TalksServed moment v more (acts ++ next) (joined said here) after) w
-      (subst (λ (v : Spoken). TalksServed moment mid more (acts ++ next) v after) s
-      (subst (λ (l : List Act). TalksServed moment mid more l here after) a q))
+      subst (λ (v : Option ℕ). TalksServed language moment v more (acts ++ next) (joined said here) after) w
+      (subst (λ (v : Spoken). TalksServed language moment mid more (acts ++ next) v after) s
+      (subst (λ (l : List Act). TalksServed language moment mid more l here after) a q))
   talks_on who (line ∷ lines) more acts next said here mid after p q = (
     p.0,
-    p.1,
+    p.1 ++ next,
     p.2,
-    p.3 ++ next,
+    joined p.3 here,
     p.4,
-    joined p.5 here,
-    p.6,
-    p.7,
-    talks_on p.6 lines more p.3 next p.5 here mid after p.8 q,
-    ap (λ (l : List Act). l ++ next) p.9 ∙ append_assoc p.2 p.3 next,
-    ap (λ (v : Spoken). joined v here) p.10 ∙ joined_assoc p.4 p.5 here,
+    p.5,
+    talks_on p.4 lines more p.1 next p.3 here mid after p.6 q,
+    ap (λ (l : List Act). l ++ next) p.7 ∙ append_assoc p.0 p.1 next,
+    ap (λ (v : Spoken). joined v here) p.8 ∙ joined_assoc p.2 p.3 here,
   )
 
-  talks_one : (who : Option ℕ) (line : Line) (meant : Option Command) (acts : List Act) (said : Spoken) (after : Option ℕ) → MeansServed line meant → Speaks moment who meant acts said after
-      → TalksServed moment who (line ∷ []) acts said after
-  talks_one who line meant acts said after m p = (meant, m, acts, [], said, silent, after, p, (refl, refl, refl), sym (append-nil acts), joined-end said)
+  talks_one : (who : Option ℕ) (line : Line) (acts : List Act) (said : Spoken) (after : Option ℕ) → Says language moment who line acts said after → TalksServed language moment who (line ∷ []) acts said after
+  talks_one who line acts said after p = (acts, [], said, silent, after, p, (refl, refl, refl), sym (append-nil acts), joined-end said)
 
-  pub speaks_meant : (who : Option ℕ) (line : Line) (meant : Option Command) (acts : List Act) (said : Spoken) (after : Option ℕ) → MeansServed line meant → Speaks moment who (served meant) acts said after
-      → Speaks moment who meant acts said after
-  speaks_meant who line meant acts said after m p = subst (λ (o : Option Command). Speaks moment who o acts said after) (means_served line meant m) p
+  -- What was heard is what the line says.
+
+  says_said : (who : Option ℕ) (line : Line) (meant : Option Command) (acts : List Act) (said : Spoken) (after : Option ℕ) → language ≡ Commands → MeansServed line meant → Speaks moment who (served meant) acts said after
+      → Says language moment who line acts said after
+  says_said who line meant acts said after e m p =
+      subst (λ (l : Language). Says l moment who line acts said after) (sym e) (meant, m, subst (λ (o : Option Command). Speaks moment who o acts said after) (means_served line meant m) p)
+
+  says_ordered : (who : Option ℕ) (line : Line) (order : Option Event) (acts : List Act) (said : Spoken) (after : Option ℕ) → language ≡ Events → IsOrdered line moment order → Orders (option_map event_of order) acts said × (after ≡ who)
+      → Says language moment who line acts said after
+  says_ordered who line order acts said after e m p =
+      subst (λ (l : Language). Says l moment who line acts said after) (sym e) (m.0, m.1, subst (λ (o : Option played.Event). Orders o acts said) m.2 p.0, p.1)
+
+  -- where something was heard there is a line
+  pub heard_line : (who : Option ℕ) (lines : List Line) (heard : Heard) (acts : List Act) (said : Spoken) (after : Option ℕ) → heard ≢ Nothing → HeardIn language moment lines heard → Hears moment who heard acts said after
+      → (line : Line) × Says language moment who line acts said after × (lines ≡ line ∷ [])
+  heard_line who [] heard acts said after n h p = absurd (n h)
+  heard_line who (line ∷ lines) Nothing acts said after n h p = absurd h
+  heard_line who (line ∷ lines) (Said meant) acts said after n h p = (line, says_said who line meant acts said after h.0 h.1 p, ap (λ (l : List Line). line ∷ l) h.2)
+  heard_line who (line ∷ lines) (Ordered order) acts said after n h p = (line, says_ordered who line order acts said after h.0 h.1 p, ap (λ (l : List Line). line ∷ l) h.2)
 
   -- what was heard is what the lines say
-  pub talks_heard : (who : Option ℕ) (lines : List Line) (heard : Heard) (acts : List Act) (said : Spoken) (after : Option ℕ) → HeardIn lines heard → Hears moment who heard acts said after
-      → TalksServed moment who lines acts said after
+  pub talks_heard : (who : Option ℕ) (lines : List Line) (heard : Heard) (acts : List Act) (said : Spoken) (after : Option ℕ) → HeardIn language moment lines heard → Hears moment who heard acts said after
+      → TalksServed language moment who lines acts said after
   talks_heard who [] heard acts said after h p = subst (λ (x : Heard). Hears moment who x acts said after) h p
   talks_heard who (line ∷ lines) Nothing acts said after h p = absurd h
   talks_heard who (line ∷ lines) (Said meant) acts said after h p =
-      subst (λ (l : List Line). TalksServed moment who (line ∷ l) acts said after) (sym h.1)
-      (talks_one who line meant acts said after h.0 (speaks_meant who line meant acts said after h.0 p))
+      subst (λ (l : List Line). TalksServed language moment who (line ∷ l) acts said after) (sym h.2) (talks_one who line acts said after (says_said who line meant acts said after h.0 h.1 p))
+  talks_heard who (line ∷ lines) (Ordered order) acts said after h p =
+      subst (λ (l : List Line). TalksServed language moment who (line ∷ l) acts said after) (sym h.2) (talks_one who line acts said after (says_ordered who line order acts said after h.0 h.1 p))
 
--- where a line was heard there is one
-pub heard_line : (lines : List Line) (heard : Heard) (meant : Option Command) → heard ≡ Said meant → HeardIn lines heard → (line : Line) × MeansServed line meant × (lines ≡ line ∷ [])
-heard_line lines heard meant e h = found lines (subst (HeardIn lines) e h)
-  where
-    found : (lines : List Line) → HeardIn lines (Said meant) → (line : Line) × MeansServed line meant × (lines ≡ line ∷ [])
-    found [] h = let wrong = h in cc
-    found (line ∷ lines) h = (line, h.0, ap (λ (l : List Line). line ∷ l) h.1)
+-- of events nobody is logged in
+pub events_who : (moment : Moment) (who : Option ℕ) (lines : List Line) (acts : List Act) (said : Spoken) (after : Option ℕ) → TalksServed Events moment who lines acts said after → after ≡ who
+events_who moment who [] acts said after p = p.2
+events_who moment who (line ∷ lines) acts said after (first, more, here, there, mid, says, rest, split, text) = events_who moment mid lines more there after rest ∙ says.3
 
 -- what is said when a line is added to what was said
 pub spoken_more : (past : List ℕ) (tally counted : Tally) (said : Spoken) (written unwritten : List ℕ) → said.text ≡ written ++ unwritten → unwritten ≡ []

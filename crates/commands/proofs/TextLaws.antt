@@ -1,11 +1,15 @@
 -- Sums and texts of a list of entries.
-use Rattle.std.proofs.Common.{◌≡◌, ℕ, ◌+◌, ◌<◌, ◌==◌, false, Result, Ok, Err, IfOk, append_assoc, List, [], ◌∷◌, ◌++◌, length, take, get_or, sym, ◌∙◌, ap, arith, add_assoc}
+use Rattle.std.proofs.Common.{◌≡◌, ℕ, ◌+◌, ◌<◌, ◌==◌, false, Result, Ok, Err, IfOk, Option, Some, IfSome, refl, subst, ◌-◌, ◌^◌, append_assoc, List, [], ◌∷◌, ◌++◌, length, take, get_or, sym, ◌∙◌, ap, arith, add_assoc}
 use Rattle.std.proofs.lemmas.List.{take_more}
+use Rattle.std.proofs.Padding.{padded_integral_zeros}
 use Rattle.std.specs.Prelude.{codes}
-use Rattle.std.specs.Fmt.{decimal}
+use Rattle.std.specs.Fmt.{decimal, digits, format_spec, padded_integral, ◌++?◌}
+use Rattle.std.specs.Option.{option_map}
 use Rattle.words36.specs.Words.{ppn_text}
 use Rattle.words36.specs.Sixbit.{characters}
-use Rattle.meaning.specs.Texts.{blocks_in, total_text, right_in, three_digits, extension_text, day_text, entry_text}
+use Rattle.meaning.specs.Scripts.{octal_in, written}
+use Rattle.meaning.specs.Texts.{line, blocks_in, total_text, right_in, three_digits, extension_text, day_text, entry_text}
+use Rattle.meaning.specs.declared.call.Reply.{Reply}
 use Rattle.meaning.specs.declared.entry.Entry.{Entry}
 
 blocks-append : (xs : List Entry) (e : Entry) → blocks_in (xs ++ e ∷ []) ≡ blocks_in xs + e.blocks
@@ -45,3 +49,15 @@ entry_pushed e old named spaced blocked opened protected closed dated ended text
     let right : blocked ≡ spaced ++ right_in 5 (decimal e.blocks) = is_blocked ∙ ap (λ (l : List ℕ). spaced ++ right_in 5 l) t in
     let three : protected ≡ opened ++ three_digits e.protection = is_protected ∙ ap (λ (l : List ℕ). opened ++ l) d in
     behind old dated ended _ _ (behind old closed dated _ _ (behind old protected closed _ _ (behind old opened protected _ _ (behind old blocked opened _ _ (behind old spaced blocked _ _ (behind old named spaced _ _ is_named is_spaced) right) is_opened) three) is_closed) is_dated) is_ended
+
+-- The line of a reply with a number.
+
+pub octal_output : (shown : Option (List ℕ)) (places n : ℕ) → shown ≡ Some (digits 8 false n) → option_map (padded_integral (format_spec 32 0 4 places (2 ^ 64 - 1)) false []) shown ≡ Some (octal_in places n)
+octal_output shown places n e =
+    ap (option_map (padded_integral (format_spec 32 0 4 places (2 ^ 64 - 1)) false [])) e ∙ ap Some (padded_integral_zeros (format_spec 32 0 4 places (2 ^ 64 - 1)) (digits 8 false n) refl refl)
+
+pub reply_written : {V E : Type 0} (items : V → List ℕ) (result : Result V E) (reply : Reply) (word number bytes text : List ℕ) (shown : Option (List ℕ)) → written reply ≡ word ++ number → shown ≡ Some number
+    → IfSome (Some word ++? shown) (λ bs. bytes ≡ bs) → text ≡ bytes → IfOk result (λ v. items v ≡ line text) → IfOk result (λ v. items v ≡ line (written reply))
+reply_written items result reply word number bytes text shown is e ok same told =
+    let spelled : bytes ≡ word ++ number = subst (λ o. IfSome (Some word ++? o) (λ bs. bytes ≡ bs)) e ok in
+    subst (λ l. IfOk result (λ v. items v ≡ line l)) (same ∙ spelled ∙ sym is) told

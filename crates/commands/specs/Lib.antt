@@ -2,6 +2,9 @@ pub mod Held
 pub mod Served
 pub mod Characters
 pub mod Machines
+pub mod Asking
+pub mod Languages
 pub mod Streams
 pub mod Sessions
 pub mod Monitors
+pub mod Orders

@@ -1,37 +1,92 @@
 -- What is known of a service of files, whatever it is made of: the disk that it serves, whether it keeps its
 -- promises, and which services of the definitions it may stand for.
-use Rattle.std.specs.Prelude.{◌≡◌, ℕ, List, Result}
+use Rattle.std.specs.Prelude.{◌≡◌, ℕ, false, List, [], ◌∷◌, None, Result}
+use Rattle.blockdisk.specs.Disk.{DiskState, Still, LeavesOnly}
+use Rattle.meaning.specs.Crashes.{StandsForEither}
+use Rattle.meaning.specs.Jobs.{State}
 use Rattle.meaning.specs.Room.{Pack}
-use Rattle.meaning.specs.Runs.{Service, Answers, Lists}
-use Rattle.meaning.specs.Conducts.{Act}
+use Rattle.meaning.specs.Runs.{Service, Serving, Broken, Answers, Lists}
+use Rattle.meaning.specs.Conducts.{Act, Asks, Looks}
 use Rattle.meaning.specs.Talks.{Went}
 use Rattle.meaning.specs.declared.entry.Entry.{Entry}
-use Rattle.meaning.specs.declared.call.Event.{Event}
+use Rattle.meaning.specs.declared.call.Event as played
 use Rattle.meaning.specs.declared.call.Reply.{Reply}
+use Rattle.monitor.specs.Moments.{StandsNow}
+use Rattle.monitor.specs.Runs.{event_of, IsServedIn}
+use Rattle.monitor.specs.declared.events.Event.{Event}
 
 pub record Machine : Type 1 where
   pub pack : Pack
   pub honest : Type 0
+  pub disk : DiskState
   pub serves : Service → Type 0
 
--- It answered an event.
+-- It answered an event: at any moment of it a crash left the files from before, or those after it.
 pub record IsAnswered (old new : Machine) (event : Event) (reply : Reply) : Type 0 where
   pub pack : new.pack ≡ old.pack
   pub honest : old.honest → new.honest
-  pub answers : old.honest → (first : Service) → old.serves first → (last : Service) × new.serves last × Answers old.pack first event reply last
+  pub crash : old.honest → (s : State) → old.serves (Serving s) → LeavesOnly old.disk new.disk (StandsForEither old.pack s (event_of event))
+  pub broken : old.honest → old.serves Broken → Still old.disk new.disk
+  pub answers : old.honest → (first : Service) → old.serves first → IsServedIn first event → (last : Service) × new.serves last × Answers old.pack first (event_of event) reply last
 
--- It listed a directory for a job.
+-- It listed a directory for a job, for which it asks the disk for nothing.
 pub record IsListed (old new : Machine) (job owner : ℕ) (answer : Result (List Entry) Reply) : Type 0 where
   pub pack : new.pack ≡ old.pack
   pub honest : old.honest → new.honest
+  pub still : Still old.disk new.disk
   pub lists : old.honest → (first : Service) → old.serves first → (last : Service) × new.serves last × Lists first job owner answer last
 
--- It went by these acts of job 1.
-pub record GoesBy (old new : Machine) (acts : List Act) : Type 0 where
-  pub pack : new.pack ≡ old.pack
-  pub honest : old.honest → new.honest
-  pub went : old.honest → (first : Service) → old.serves first → (last : Service) × new.serves last × Went old.pack first acts last
+-- All that a crash may leave of a service stands for the files of the state that it serves from.
+abbrev pub AlwaysStands : {S : Type 0} → (S → Machine) → Type 0
+AlwaysStands {S} machine = (service : S) → (machine service).honest → (s : State) → (machine service).serves (Serving s) → StandsNow (machine service).pack (machine service).disk s
+
+-- From a value of the service on job 1 went by these acts, and `end` is the value after them. At each moment, that
+-- before the first act and that after each of them, all that a crash may leave stands for the files after the acts so
+-- far; from one moment to the next a crash left these, or those after one act more. A list of a directory leaves the
+-- disk alone, and from a fault of the disk on nothing is written.
+abbrev pub ActsBy : {S : Type 0} → (S → Machine) → Pack → S → Service → List Act → S → Service → Type 0
+ActsBy machine pack service Broken acts end new = Still (machine service).disk (machine end).disk × Went pack Broken acts new
+ActsBy machine pack service (Serving s) [] end new = (end ≡ service) × (new ≡ Serving s) × StandsNow pack (machine service).disk s
+ActsBy {S} machine pack service (Serving s) (Asks event reply ∷ acts) end new =
+    StandsNow pack (machine service).disk s
+    × (mid : S) × (after : Service) × Answers pack (Serving s) event reply after
+    × LeavesOnly (machine service).disk (machine mid).disk (StandsForEither pack s event)
+    × ActsBy machine pack mid after acts end new
+ActsBy {S} machine pack service (Serving s) (Looks owner answer ∷ acts) end new =
+    StandsNow pack (machine service).disk s
+    × (mid : S) × (after : Service) × Lists (Serving s) 1 owner answer after
+    × Still (machine service).disk (machine mid).disk
+    × ActsBy machine pack mid after acts end new
+
+-- It went by these acts of job 1, moment by moment.
+pub record GoesBy {S : Type 0} (machine : S → Machine) (old new : S) (acts : List Act) : Type 0 where
+  pub pack : (machine new).pack ≡ (machine old).pack
+  pub honest : (machine old).honest → (machine new).honest
+  pub went : (machine old).honest → (first : Service) → (machine old).serves first
+      → (last : Service) × (machine new).serves last × ActsBy machine (machine old).pack old first acts new last
+
+-- Acts of events that are served, in whichever state the machine may have been at each: an OPEN in a mode with buffers
+-- and an ENTER on a channel that reads are not.
+
+abbrev pub IsServedAct : Service → played.Event → Type 0
+IsServedAct service event = (served : Event) → event_of served ≡ event → IsServedIn service served
+
+abbrev pub AreServedActs : Pack → Service → List Act → Type 0
+AreServedActs pack service [] = Unit {0}
+AreServedActs pack service (Asks event reply ∷ acts) = IsServedAct service event × ((mid : Service) → Answers pack service event reply mid → AreServedActs pack mid acts)
+AreServedActs pack service (Looks owner answer ∷ acts) = (mid : Service) → Lists service 1 owner answer mid → AreServedActs pack mid acts
+
+-- It went by these acts, moment by moment, where they are of events that are served.
+pub record GoesServed {S : Type 0} (machine : S → Machine) (old new : S) (acts : List Act) : Type 0 where
+  pub pack : (machine new).pack ≡ (machine old).pack
+  pub honest : (machine old).honest → (machine new).honest
+  pub went : (machine old).honest → (first : Service) → (machine old).serves first → AreServedActs (machine old).pack first acts
+      → (last : Service) × (machine new).serves last × ActsBy machine (machine old).pack old first acts new last
+
+-- a disk of which nothing is known
+abbrev pub unknown_disk : DiskState
+unknown_disk = record { size = 64; honest = ⊥; failures = 0; contents = λ n. None; is_open = λ n. false; clock = 0; left_since = λ t c. ⊥ }
 
 -- a service of which nothing is known
 abbrev pub unknown_machine : Machine
-unknown_machine = record { pack = record { layout = 1; blocks = 64 }; honest = ⊥; serves = λ service. ⊥ }
+unknown_machine = record { pack = record { layout = 1; blocks = 64 }; honest = ⊥; disk = unknown_disk; serves = λ service. ⊥ }

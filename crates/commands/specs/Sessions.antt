@@ -1,52 +1,87 @@
--- A whole session, and the parts that it is made of.
-use Rattle.std.specs.Prelude.{◌≡◌, ◌||◌, ℕ, List, [], ◌∷◌, ◌++◌, Option, None, Result, Ok, Err, IfOk, IfErr, OnOk, OnErr}
+-- A whole session, a whole call script, and the parts that they are made of.
+use Rattle.std.specs.Prelude.{◌≡◌, ◌≢◌, ◌<◌, ◌||◌, ℕ, List, [], ◌∷◌, ◌++◌, length, Option, None, option_map, Result, Ok, Err, IfOk, IfErr, OnOk, OnErr}
 use Rattle.std.specs.Io.KnownBytes.{Consumes, Appends, IsAtEnd}
 use Rattle.words36.specs.declared.moment.Moment.{Moment}
 use Rattle.meaning.specs.Lines.{Line, lines}
 use Rattle.meaning.specs.Texts.{Spoken, silent}
 use Rattle.meaning.specs.Conducts.{Act}
-use Rattle.meaning.specs.Talks.{Speaks}
+use Rattle.meaning.specs.Talks.{Speaks, Orders}
 use Rattle.meaning.specs.Runs.{Service}
 use Rattle.meaning.specs.declared.command.Command.{Command}
 use Rattle.commands.specs.Held.{IsHeld}
-use Rattle.commands.specs.Served.{MeansServed, served}
-use Rattle.commands.specs.Machines.{Machine, GoesBy}
-use Rattle.commands.specs.Streams.{TalksServed, IsServedSession, spoken, HasNoFeed, AreWholeLines, Finished, CutShort, IsCut, Unfinished}
+use Rattle.commands.specs.Served.{MeansServed, served, Fits}
+use Rattle.monitor.specs.Runs.{event_of}
+use Rattle.commands.specs.Languages.{Closes, Goes}
+use Rattle.commands.specs.Machines.{Machine, GoesBy, GoesServed, AreServedActs}
+use Rattle.commands.specs.Orders.{IsOrdered}
+use Rattle.commands.specs.Streams.{TalksServed, IsServedSession, IsServedScript, spoken, HasNoFeed, AreWholeLines, Finished, CutShort, IsCut, Unfinished}
 use Rattle.commands.specs.declared.error.SessionError.{SessionError}
 use Rattle.commands.specs.declared.error.SessionError.TheVariants.{Read, Write, NoMemory}
 use Rattle.commands.specs.declared.answer.Tally.{Tally}
+use Rattle.commands.specs.declared.language.Language.{Language}
+use Rattle.commands.specs.declared.language.Language.TheVariants.{Commands, Events}
 use Rattle.commands.specs.declared.run.Heard.{Heard}
-use Rattle.commands.specs.declared.run.Heard.TheVariants.{Nothing, Said}
+use Rattle.commands.specs.declared.run.Heard.TheVariants.{Nothing, Said, Ordered}
 use Rattle.commands.specs.declared.run.Talk.{Talk}
 
 -- One line.
 
 -- The calls of a line were made, and its text is what was said.
-pub record Spoke {V E : Type 0} (bytes : V → List ℕ) (result : Result V E) (old new : Machine) (moment : Moment) (who after : Option ℕ) (tally counted : Tally) (meant : Option Command) : Type 0 where
+pub record Spoke {V E S : Type 0} (bytes : V → List ℕ) (result : Result V E) (machine : S → Machine) (old new : S) (moment : Moment) (who after : Option ℕ) (tally counted : Tally) (meant : Option Command) : Type 0 where
   pub acts : List Act
   pub said : Spoken
   pub speaks : Speaks moment who meant acts said after
-  pub goes : GoesBy old new acts
+  pub goes : GoesBy machine old new acts
   pub refused : counted.refused ≡ tally.refused || said.refused
   pub broke : counted.broke ≡ tally.broke || said.broke
   pub text : IfOk result (λ v. bytes v ≡ said.text)
 
 -- what is heard of the line that there is, or of none
-abbrev pub HeardIn : List Line → Heard → Type 0
-HeardIn [] heard = heard ≡ Nothing
-HeardIn (line ∷ lines) Nothing = ⊥
-HeardIn (line ∷ lines) (Said meant) = MeansServed line meant × (lines ≡ [])
+abbrev pub HeardIn : Language → Moment → List Line → Heard → Type 0
+HeardIn language moment [] heard = heard ≡ Nothing
+HeardIn language moment (line ∷ lines) Nothing = ⊥
+HeardIn language moment (line ∷ lines) (Said meant) = (language ≡ Commands) × MeansServed line meant × (lines ≡ [])
+HeardIn language moment (line ∷ lines) (Ordered order) = (language ≡ Events) × IsOrdered line moment order × (lines ≡ [])
+
+abbrev pub IsHeardIn : Language → Heard → Type 0
+IsHeardIn language Nothing = Unit {0}
+IsHeardIn language (Said meant) = language ≡ Commands
+IsHeardIn language (Ordered order) = language ≡ Events
+
+-- what was heard has a protection of nine bits, where it has one
+abbrev pub FitsIn : Heard → Type 0
+FitsIn Nothing = Unit {0}
+FitsIn (Said meant) = Fits meant
+FitsIn (Ordered order) = Unit {0}
 
 abbrev pub Hears : Moment → Option ℕ → Heard → List Act → Spoken → Option ℕ → Type 0
 Hears moment who Nothing acts said after = (acts ≡ []) × (said ≡ silent) × (after ≡ who)
 Hears moment who (Said meant) acts said after = Speaks moment who (served meant) acts said after
+Hears moment who (Ordered order) acts said after = Orders (option_map event_of order) acts said × (after ≡ who)
 
--- What was heard was answered, and a beginning of its text was written.
-pub record Told (result : Result (Unit {0}) SessionError) (old new : Machine) (sink full : Option (List ℕ)) (moment : Moment) (who after : Option ℕ) (tally counted : Tally) (heard : Heard) : Type 0 where
+-- The calls of what was heard were made, and its text is what was said.
+pub record Replied {V E S : Type 0} (bytes : V → List ℕ) (result : Result V E) (machine : S → Machine) (old new : S) (moment : Moment) (who after : Option ℕ) (tally counted : Tally) (heard : Heard) : Type 0 where
   pub acts : List Act
   pub said : Spoken
   pub hears : Hears moment who heard acts said after
-  pub goes : GoesBy old new acts
+  pub goes : (language : Language) → IsHeardIn language heard → Goes language machine old new acts
+  pub refused : counted.refused ≡ tally.refused || said.refused
+  pub broke : counted.broke ≡ tally.broke || said.broke
+  pub text : IfOk result (λ v. bytes v ≡ said.text)
+
+-- A text that there is was written, or a beginning of it; without one nothing was.
+abbrev pub Puts : {V E : Type 0} → (V → List ℕ) → Result (Unit {0}) SessionError → Option (List ℕ) → Option (List ℕ) → Result V E → Type 0
+Puts bytes result sink full (Ok v) =
+    OnOk result (Appends sink full (bytes v))
+    × IfErr result (λ error. (error ≡ Write) × ((written : List ℕ) × (unwritten : List ℕ) × Appends sink full written × (bytes v ≡ written ++ unwritten) × (0 < length unwritten)))
+Puts bytes result sink full (Err error) = (result ≡ Err NoMemory) × (full ≡ sink)
+
+-- What was heard was answered, and a beginning of its text was written.
+pub record Told {S : Type 0} (result : Result (Unit {0}) SessionError) (machine : S → Machine) (old new : S) (sink full : Option (List ℕ)) (moment : Moment) (who after : Option ℕ) (tally counted : Tally) (heard : Heard) : Type 0 where
+  pub acts : List Act
+  pub said : Spoken
+  pub hears : Hears moment who heard acts said after
+  pub goes : (language : Language) → IsHeardIn language heard → Goes language machine old new acts
   pub refused : counted.refused ≡ tally.refused || said.refused
   pub broke : counted.broke ≡ tally.broke || said.broke
   pub written : List ℕ
@@ -55,60 +90,87 @@ pub record Told (result : Result (Unit {0}) SessionError) (old new : Machine) (s
   pub parts : said.text ≡ written ++ unwritten
   pub whole : OnOk result (unwritten ≡ [])
   pub cut : IfErr result (λ error. IsCut error written unwritten)
-  pub line : OnErr result ((meant : Option Command) × (heard ≡ Said meant))
+  pub line : OnErr result (heard ≢ Nothing)
+
+-- What is done at the end of the input was done.
+pub record Closed {S : Type 0} (language : Language) (machine : S → Machine) (old new : S) (moment : Moment) : Type 0 where
+  pub acts : List Act
+  pub closes : Closes language moment acts
+  pub goes : Goes language machine old new acts
 
 -- Bytes of the input.
 
 -- In mid-stream: what was read, and what was written for its lines that have ended.
-pub record SoFar (moment : Moment) (talk : Talk) (read written : List ℕ) (acts : List Act) : Type 0 where
+pub record SoFar (language : Language) (moment : Moment) (talk : Talk) (read written : List ℕ) (acts : List Act) : Type 0 where
   pub front : List ℕ
   pub seen : List ℕ
   pub parted : read ≡ front ++ seen
   pub ended : AreWholeLines front
   pub unended : HasNoFeed seen
   pub held : IsHeld talk.held seen
-  pub talks : TalksServed moment None (lines front) acts (spoken written talk.tally) talk.who
+  pub talks : TalksServed language moment None (lines front) acts (spoken written talk.tally) talk.who
 
 -- Whatever there was so far, it goes on by these bytes,
-pub record StepsOn (old new : Machine) (sink full : Option (List ℕ)) (moment : Moment) (talk after : Talk) (bytes : List ℕ) : Type 0 where
+pub record StepsOn {S : Type 0} (language : Language) (machine : S → Machine) (old new : S) (sink full : Option (List ℕ)) (moment : Moment) (talk after : Talk) (bytes : List ℕ) : Type 0 where
   pub acts : List Act
-  pub goes : GoesBy old new acts
+  pub goes : Goes language machine old new acts
   pub written : List ℕ
   pub appended : Appends sink full written
-  pub steps : (read past : List ℕ) (done : List Act) → SoFar moment talk read past done → SoFar moment after (read ++ bytes) (past ++ written) (done ++ acts)
+  pub steps : (read past : List ℕ) (done : List Act) → SoFar language moment talk read past done → SoFar language moment after (read ++ bytes) (past ++ written) (done ++ acts)
 
 -- or breaks off in them,
-pub record BreaksOff (at_end : Type 0) (old new : Machine) (sink full : Option (List ℕ)) (moment : Moment) (talk : Talk) (error : SessionError) (bytes : List ℕ) : Type 0 where
+pub record BreaksOff {S : Type 0} (language : Language) (at_end : Type 0) (machine : S → Machine) (old new : S) (sink full : Option (List ℕ)) (moment : Moment) (talk : Talk) (error : SessionError) (bytes : List ℕ) : Type 0 where
   pub acts : List Act
-  pub goes : GoesBy old new acts
+  pub goes : Goes language machine old new acts
   pub written : List ℕ
   pub appended : Appends sink full written
-  pub breaks : (read past : List ℕ) (done : List Act) → SoFar moment talk read past done → Unfinished at_end moment error (read ++ bytes) (past ++ written) (done ++ acts)
+  pub breaks : (read past : List ℕ) (done : List Act) → SoFar language moment talk read past done → Unfinished language at_end moment error (read ++ bytes) (past ++ written) (done ++ acts)
 
 -- or ends.
-pub record EndsWell (old new : Machine) (sink full : Option (List ℕ)) (moment : Moment) (talk : Talk) (tally : Tally) : Type 0 where
+pub record EndsWell {S : Type 0} (language : Language) (machine : S → Machine) (old new : S) (sink full : Option (List ℕ)) (moment : Moment) (talk : Talk) (tally : Tally) : Type 0 where
   pub acts : List Act
-  pub goes : GoesBy old new acts
+  pub goes : Goes language machine old new acts
   pub written : List ℕ
   pub appended : Appends sink full written
-  pub ends : (read past : List ℕ) (done : List Act) → SoFar moment talk read past done → Finished moment read (past ++ written) (done ++ acts) tally
+  pub ends : (read past : List ℕ) (done : List Act) → SoFar language moment talk read past done → Finished language moment read (past ++ written) (done ++ acts) tally
 
--- The session.
+-- The whole of it.
 
-abbrev pub Ends : Type 0 → Moment → List ℕ → List ℕ → List Act → Result Tally SessionError → Type 0
-Ends at_end moment read written acts (Ok tally) = at_end × Finished moment read written acts tally
-Ends at_end moment read written acts (Err Read) = CutShort moment read written acts
-Ends at_end moment read written acts (Err Write) = Unfinished at_end moment Write read written acts
-Ends at_end moment read written acts (Err NoMemory) = Unfinished at_end moment NoMemory read written acts
+abbrev pub Ends : Language → Type 0 → Moment → List ℕ → List ℕ → List Act → Result Tally SessionError → Type 0
+Ends language at_end moment read written acts (Ok tally) = at_end × Finished language moment read written acts tally
+Ends language at_end moment read written acts (Err Read) = CutShort language moment read written acts
+Ends language at_end moment read written acts (Err Write) = Unfinished language at_end moment Write read written acts
+Ends language at_end moment read written acts (Err NoMemory) = Unfinished language at_end moment NoMemory read written acts
 
--- What a session took from the reader, what it put into the writer, and what became of the service: at Ok it is a
--- session of all that the reader had.
-pub record Session (source left sink full : Option (List ℕ)) (old new : Machine) (moment : Moment) (result : Result Tally SessionError) : Type 0 where
+-- What was taken from the reader and put into the writer, and what became of the service.
+pub record Talked {S : Type 0} (language : Language) (source left sink full : Option (List ℕ)) (machine : S → Machine) (old new : S) (moment : Moment) (result : Result Tally SessionError) : Type 0 where
   pub read : List ℕ
   pub written : List ℕ
   pub acts : List Act
   pub consumed : Consumes source left read
   pub appended : Appends sink full written
-  pub goes : GoesBy old new acts
-  pub ends : Ends (IsAtEnd left) moment read written acts result
-  pub served : old.honest → (first : Service) → old.serves first → IfOk result (λ tally. (last : Service) × new.serves last × IsServedSession old.pack moment read first last (spoken written tally))
+  pub goes : Goes language machine old new acts
+  pub ends : Ends language (IsAtEnd left) moment read written acts result
+
+-- The same of a session: at Ok it is a session of all that the reader had.
+pub record Session {S : Type 0} (source left sink full : Option (List ℕ)) (machine : S → Machine) (old new : S) (moment : Moment) (result : Result Tally SessionError) : Type 0 where
+  pub read : List ℕ
+  pub written : List ℕ
+  pub acts : List Act
+  pub consumed : Consumes source left read
+  pub appended : Appends sink full written
+  pub goes : GoesBy machine old new acts
+  pub ends : Ends Commands (IsAtEnd left) moment read written acts result
+  pub served : (machine old).honest → (first : Service) → (machine old).serves first → IfOk result (λ tally. (last : Service) × (machine new).serves last × IsServedSession (machine old).pack moment read first last (spoken written tally))
+
+-- And of a call script, where its events are served.
+pub record Script {S : Type 0} (source left sink full : Option (List ℕ)) (machine : S → Machine) (old new : S) (moment : Moment) (result : Result Tally SessionError) : Type 0 where
+  pub read : List ℕ
+  pub written : List ℕ
+  pub acts : List Act
+  pub consumed : Consumes source left read
+  pub appended : Appends sink full written
+  pub goes : GoesServed machine old new acts
+  pub ends : Ends Events (IsAtEnd left) moment read written acts result
+  pub served : (machine old).honest → (first : Service) → (machine old).serves first → AreServedActs (machine old).pack first acts
+      → IfOk result (λ tally. (last : Service) × (machine new).serves last × IsServedScript (machine old).pack moment read first last (spoken written tally))

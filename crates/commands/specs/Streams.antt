@@ -4,36 +4,42 @@ use Rattle.words36.specs.declared.moment.Moment.{Moment}
 use Rattle.meaning.specs.Lines.{Line, feed, lines}
 use Rattle.meaning.specs.Spellings.{Are}
 use Rattle.meaning.specs.Texts.{Spoken, silent, joined}
-use Rattle.meaning.specs.Conducts.{Act, Asks, calls}
-use Rattle.meaning.specs.Talks.{Speaks}
+use Rattle.meaning.specs.Conducts.{Act, calls}
 use Rattle.meaning.specs.Room.{Pack}
 use Rattle.meaning.specs.Runs.{Service, Answers}
 use Rattle.meaning.specs.Talks.{Went}
-use Rattle.meaning.specs.declared.command.Command.{Command}
 use Rattle.meaning.specs.declared.call.Call.TheVariants.{Reset}
 use Rattle.meaning.specs.declared.call.Reply.{Reply}
 use Rattle.commands.specs.Characters.{is_other_than}
-use Rattle.commands.specs.Served.{MeansServed}
+use Rattle.commands.specs.Languages.{Says, Closes}
 use Rattle.commands.specs.declared.error.SessionError.{SessionError}
 use Rattle.commands.specs.declared.error.SessionError.TheVariants.{Read, Write, NoMemory}
 use Rattle.commands.specs.declared.answer.Tally.{Tally}
+use Rattle.commands.specs.declared.language.Language.{Language}
+use Rattle.commands.specs.declared.language.Language.TheVariants.{Commands, Events}
 
--- What lines ask, one after the other, and what they say: a line with a command that is not served says nothing.
-abbrev pub TalksServed : Moment → Option ℕ → List Line → List Act → Spoken → Option ℕ → Type 0
-TalksServed moment who [] acts said then_who = (acts ≡ []) × (said ≡ silent) × (then_who ≡ who)
-TalksServed moment who (line ∷ lines) acts said then_who =
-    (meant : Option Command) × MeansServed line meant × (first : List Act) × (more : List Act) × (here : Spoken) × (there : Spoken) × (mid : Option ℕ)
-    × Speaks moment who meant first here mid × TalksServed moment mid lines more there then_who × (acts ≡ first ++ more) × (said ≡ joined here there)
+-- What lines ask, one after the other, and what they say.
+abbrev pub TalksServed : Language → Moment → Option ℕ → List Line → List Act → Spoken → Option ℕ → Type 0
+TalksServed language moment who [] acts said then_who = (acts ≡ []) × (said ≡ silent) × (then_who ≡ who)
+TalksServed language moment who (line ∷ lines) acts said then_who =
+    (first : List Act) × (more : List Act) × (here : Spoken) × (there : Spoken) × (mid : Option ℕ)
+    × Says language moment who line first here mid × TalksServed language moment mid lines more there then_who × (acts ≡ first ++ more) × (said ≡ joined here there)
 
 -- A whole input, answered at a moment by a service that was `old` before it and is `new` after it.
+
 pub record IsServedSession (pack : Pack) (moment : Moment) (input : List ℕ) (old new : Service) (said : Spoken) : Type 0 where
   pub acts : List Act
   pub mid : Service
   pub who : Option ℕ
-  pub talks : TalksServed moment None (lines input) acts said who
+  pub talks : TalksServed Commands moment None (lines input) acts said who
   pub went : Went pack old acts mid
   pub answer : Reply
   pub reset : Answers pack mid (calls moment Reset) answer new
+
+pub record IsServedScript (pack : Pack) (moment : Moment) (input : List ℕ) (old new : Service) (said : Spoken) : Type 0 where
+  pub acts : List Act
+  pub ordered : TalksServed Events moment None (lines input) acts said None
+  pub went : Went pack old acts new
 
 -- a text with what was counted of its lines
 abbrev pub spoken : List ℕ → Tally → Spoken
@@ -46,16 +52,17 @@ HasNoFeed bytes = Are (is_other_than feed) bytes
 abbrev pub AreWholeLines : List ℕ → Type 0
 AreWholeLines bytes = (bytes ≡ []) ⊎ ((before : List ℕ) × (bytes ≡ before ++ feed ∷ []))
 
--- All was answered and written, and then job 1 was reset, for which nothing is written.
-pub record Finished (moment : Moment) (read written : List ℕ) (acts : List Act) (tally : Tally) : Type 0 where
+-- All was answered and written, and then what is done at the end, for which nothing is written.
+pub record Finished (language : Language) (moment : Moment) (read written : List ℕ) (acts : List Act) (tally : Tally) : Type 0 where
   pub talked : List Act
   pub who : Option ℕ
-  pub talks : TalksServed moment None (lines read) talked (spoken written tally) who
-  pub answer : Reply
-  pub acts_are : acts ≡ talked ++ Asks (calls moment Reset) answer ∷ []
+  pub talks : TalksServed language moment None (lines read) talked (spoken written tally) who
+  pub closing : List Act
+  pub closes : Closes language moment closing
+  pub acts_are : acts ≡ talked ++ closing
 
 -- All lines were answered and written but for one that had not ended.
-pub record CutShort (moment : Moment) (read written : List ℕ) (acts : List Act) : Type 0 where
+pub record CutShort (language : Language) (moment : Moment) (read written : List ℕ) (acts : List Act) : Type 0 where
   pub front : List ℕ
   pub seen : List ℕ
   pub parted : read ≡ front ++ seen
@@ -63,7 +70,7 @@ pub record CutShort (moment : Moment) (read written : List ℕ) (acts : List Act
   pub unended : HasNoFeed seen
   pub said : Spoken
   pub who : Option ℕ
-  pub talks : TalksServed moment None (lines front) acts said who
+  pub talks : TalksServed language moment None (lines front) acts said who
   pub whole : written ≡ said.text
 
 -- Of a line's text this was written and this was not: the writer refused some of it, or there was no memory for it.
@@ -73,7 +80,7 @@ IsCut Write written unwritten = 0 < length unwritten
 IsCut NoMemory written unwritten = written ≡ []
 
 -- Lines were answered, and written but for the end of the last one's text; these lines had ended, or the input had.
-pub record Unfinished (at_end : Type 0) (moment : Moment) (error : SessionError) (read written : List ℕ) (acts : List Act) : Type 0 where
+pub record Unfinished (language : Language) (at_end : Type 0) (moment : Moment) (error : SessionError) (read written : List ℕ) (acts : List Act) : Type 0 where
   pub front : List ℕ
   pub behind : List ℕ
   pub parted : read ≡ front ++ behind
@@ -84,13 +91,11 @@ pub record Unfinished (at_end : Type 0) (moment : Moment) (error : SessionError)
   pub first : List Act
   pub earlier : Spoken
   pub mid : Option ℕ
-  pub talks : TalksServed moment None before first earlier mid
-  pub meant : Option Command
-  pub means : MeansServed line meant
+  pub talks : TalksServed language moment None before first earlier mid
   pub more : List Act
   pub here : Spoken
   pub who : Option ℕ
-  pub speaks : Speaks moment mid meant more here who
+  pub says : Says language moment mid line more here who
   pub acts_are : acts ≡ first ++ more
   pub part : List ℕ
   pub unwritten : List ℕ

@@ -1,12 +1,14 @@
-ghost use Rattle.std.specs.Prelude.{◌≡◌, ◌||◌, IfOk, Some, true};
+ghost use Rattle.std.specs.Prelude.{◌≡◌, ◌<◌, ◌||◌, IfOk, Some, codes, false, true};
 ghost use Rattle.meaning.specs.Texts.{line, is_broken};
-ghost use Rattle.meaning.specs.declared.command.Command.TheVariants.{Login as LoginLine, Directory as DirectoryLine};
-ghost use Rattle.commands.specs.Served.{served};
+ghost use Rattle.meaning.specs.declared.command.Command.TheVariants.{Login as LoginLine, Directory as DirectoryLine, MakeDir as MakeLine};
+ghost use Rattle.commands.specs.Served.{served, Fits};
 ghost use Rattle.commands.specs.Sessions.{Spoke};
 
+use crate::makdir::make_dir;
 use crate::service::FileService;
 use crate::text;
 use meaning::{Command, Reply};
+use monitor::Event;
 use std::alloc::{AllocError, Global};
 use words36::{Moment, Ppn};
 
@@ -26,7 +28,7 @@ pub struct Tally {
 }
 
 /// Whether a reply tells of a fault of the disk, in this call or before.
-fn is_broken(reply: &Reply) -> bool
+pub fn is_broken(reply: &Reply) -> bool
     ensures { result ≡ is_broken reply.now }
 {
     match reply {
@@ -44,7 +46,12 @@ fn is_broken(reply: &Reply) -> bool
 }
 
 /// Counts a refused line, and gives its text.
-fn refuse(alloc: Global, tally: &mut Tally, text: &str, broke: bool) -> Result<Vec<u8>, AllocError>
+pub fn refuse(
+    alloc: Global,
+    tally: &mut Tally,
+    text: &str,
+    broke: bool,
+) -> Result<Vec<u8>, AllocError>
     ensures refused { tally.new.refused ≡ true }
     ensures broke { tally.new.broke ≡ tally.old.broke || broke }
     ensures text { IfOk result (λ bytes. bytes.items ≡ line text.now) }
@@ -52,6 +59,15 @@ fn refuse(alloc: Global, tally: &mut Tally, text: &str, broke: bool) -> Result<V
     tally.refused = true;
     tally.broke |= broke;
     text::line(alloc, text)
+}
+
+/// Refuses a line that needs a job.
+fn turn_away(alloc: Global, tally: &mut Tally) -> Result<Vec<u8>, AllocError>
+    ensures refused { tally.new.refused ≡ true }
+    ensures broke { tally.new.broke ≡ tally.old.broke || false }
+    ensures text { IfOk result (λ bytes. bytes.items ≡ line (codes "?Not logged in")) }
+{
+    refuse(alloc, tally, "?Not logged in", false)
 }
 
 /// Answers LOGIN.
@@ -63,9 +79,9 @@ fn log_in<S: FileService>(
     tally: &mut Tally,
     owner: Ppn,
 ) -> Result<Vec<u8>, AllocError>
-    ensures { Spoke (λ bytes. bytes.items) result (S.machine service.old) (S.machine service.new) moment who.old who.new tally.old tally.new (Some (LoginLine owner)) }
+    ensures { Spoke (λ bytes. bytes.items) result S.machine service.old service.new moment who.old who.new tally.old tally.new (Some (LoginLine owner)) }
 {
-    let reply = service.login(alloc, SESSION_JOB, owner, CORE_WORDS);
+    let reply = service.event(alloc, &Event::Login(SESSION_JOB, owner, CORE_WORDS));
     match reply {
         Reply::Done => {
             *who = Some(owner);
@@ -84,7 +100,7 @@ fn list<S: FileService>(
     tally: &mut Tally,
     place: Option<Ppn>,
 ) -> Result<Vec<u8>, AllocError>
-    ensures { Spoke (λ bytes. bytes.items) result (S.machine service.old) (S.machine service.new) moment (Some me) (Some me) tally.old tally.new (Some (DirectoryLine place)) }
+    ensures { Spoke (λ bytes. bytes.items) result S.machine service.old service.new moment (Some me) (Some me) tally.old tally.new (Some (DirectoryLine place)) }
 {
     let owner = place.unwrap_or(me);
     match service.list(alloc, SESSION_JOB, owner) {
@@ -102,11 +118,30 @@ fn list_for<S: FileService>(
     tally: &mut Tally,
     place: Option<Ppn>,
 ) -> Result<Vec<u8>, AllocError>
-    ensures { Spoke (λ bytes. bytes.items) result (S.machine service.old) (S.machine service.new) moment who who tally.old tally.new (Some (DirectoryLine place)) }
+    ensures { Spoke (λ bytes. bytes.items) result S.machine service.old service.new moment who who tally.old tally.new (Some (DirectoryLine place)) }
 {
     match who {
         Some(me) => list(alloc, service, moment, me, tally, place),
-        None => refuse(alloc, tally, "?Not logged in", false),
+        None => turn_away(alloc, tally),
+    }
+}
+
+/// Answers MAKDIR, for whoever is logged in.
+fn make_dir_for<S: FileService>(
+    alloc: Global,
+    service: &mut S,
+    moment: Moment,
+    who: Option<Ppn>,
+    tally: &mut Tally,
+    owner: Ppn,
+    protection: u32,
+) -> Result<Vec<u8>, AllocError>
+    requires { protection < 512 }
+    ensures { Spoke (λ bytes. bytes.items) result S.machine service.old service.new moment who who tally.old tally.new (Some (MakeLine owner protection)) }
+{
+    match who {
+        Some(me) => make_dir(alloc, service, moment, me, tally, owner, protection),
+        None => turn_away(alloc, tally),
     }
 }
 
@@ -119,7 +154,8 @@ pub fn answer<S: FileService>(
     tally: &mut Tally,
     meant: Option<Command>,
 ) -> Result<Vec<u8>, AllocError>
-    ensures { Spoke (λ bytes. bytes.items) result (S.machine service.old) (S.machine service.new) moment who.old who.new tally.old tally.new (served meant) }
+    requires { Fits meant }
+    ensures { Spoke (λ bytes. bytes.items) result S.machine service.old service.new moment who.old who.new tally.old tally.new (served meant) }
 {
     let Some(command) = meant else {
         return refuse(alloc, tally, "?Command error", false);
@@ -127,6 +163,9 @@ pub fn answer<S: FileService>(
     match command {
         Command::Login(owner) => log_in(alloc, service, moment, who, tally, owner),
         Command::Directory(place) => list_for(alloc, service, moment, *who, tally, place),
+        Command::MakeDir(owner, protection) => {
+            make_dir_for(alloc, service, moment, *who, tally, owner, protection)
+        }
         _ => refuse(alloc, tally, "?Command error", false),
     }
 }

@@ -2,15 +2,20 @@ ghost use Rattle.commands.specs.Machines.{unknown_machine};
 
 use crate::service::FileService;
 use meaning::{Entry, Reply};
+use monitor::{Call, Event};
 use std::alloc::Global;
 use std::test::Fail;
-use words36::{FileName, Moment, Ppn, sixbit_of};
+use words36::{FileName, Ppn, Word, sixbit_of};
 
 /// A service that answers as it is told, and counts what it was asked.
 #[derive(Drop)]
 pub struct FakeService {
     /// The reply to each login.
     pub login: Reply,
+    /// The reply to each word that is put into core.
+    pub deposit: Reply,
+    /// The reply to each directory that is to be made.
+    pub make: Reply,
     /// Why no directory is listed.
     pub refusal: Option<Reply>,
     /// The files of each directory that is listed.
@@ -19,6 +24,14 @@ pub struct FakeService {
     pub logins: u32,
     /// How often a directory was asked for.
     pub lists: u32,
+    /// How many words were put into core.
+    pub deposits: u32,
+    /// Where the last of them was put.
+    pub address: u32,
+    /// And which it was.
+    pub word: Word,
+    /// How many directories were to be made.
+    pub makes: u32,
     /// How often the job was reset.
     pub resets: u32,
 }
@@ -26,9 +39,30 @@ pub struct FakeService {
 impl FileService for FakeService {
     ghost machine = { λ _. unknown_machine };
 
-    fn login(&mut self, _alloc: Global, _job: u32, _owner: Ppn, _words: u32) -> Reply {
-        self.logins = self.logins.saturating_add(1);
-        self.login
+    ghost stands = { λ _ honest. absurd honest };
+
+    fn event(&mut self, _alloc: Global, event: &Event) -> Reply {
+        match event {
+            Event::Login(_, _, _) => {
+                self.logins = self.logins.saturating_add(1);
+                self.login
+            }
+            Event::Deposit(_, address, word) => {
+                self.deposits = self.deposits.saturating_add(1);
+                self.address = *address;
+                self.word = *word;
+                self.deposit
+            }
+            Event::Call(_, Call::MakeDir(_), _) => {
+                self.makes = self.makes.saturating_add(1);
+                self.make
+            }
+            Event::Call(_, Call::Reset, _) => {
+                self.resets = self.resets.saturating_add(1);
+                Reply::Done
+            }
+            _ => Reply::NoChannel,
+        }
     }
 
     fn list(&mut self, _alloc: Global, _job: u32, _owner: Ppn) -> Result<Vec<Entry>, Reply> {
@@ -41,21 +75,22 @@ impl FileService for FakeService {
             Err(_) => Err(Reply::NoMemory),
         }
     }
-
-    fn reset(&mut self, _job: u32, _moment: Moment) -> Reply {
-        self.resets = self.resets.saturating_add(1);
-        Reply::Done
-    }
 }
 
 /// One that does what it is asked, with these files.
 pub fn service(entries: Vec<Entry>) -> FakeService {
     FakeService {
         login: Reply::Done,
+        deposit: Reply::Done,
+        make: Reply::Done,
         refusal: None,
         entries,
         logins: 0,
         lists: 0,
+        deposits: 0,
+        address: 0,
+        word: Word::ZERO,
+        makes: 0,
         resets: 0,
     }
 }

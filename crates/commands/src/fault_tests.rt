@@ -7,10 +7,10 @@ use words36::Moment;
 
 /// Gives the bytes of an input a few at a time, and fails in the place of its end where it is told to.
 #[derive(Drop)]
-struct Pieces<'a> {
-    rest: &'a [u8],
-    size: usize,
-    fault: Option<ErrorKind>,
+pub struct Pieces<'a> {
+    pub rest: &'a [u8],
+    pub size: usize,
+    pub fault: Option<ErrorKind>,
 }
 
 impl Read for Pieces<'_> {
@@ -28,11 +28,11 @@ impl Read for Pieces<'_> {
 
 /// Takes so many bytes, a few at a time, and then fails, or takes none.
 #[derive(Drop)]
-struct Narrow {
-    bytes: Vec<u8>,
-    size: usize,
-    room: usize,
-    fault: Option<ErrorKind>,
+pub struct Narrow {
+    pub bytes: Vec<u8>,
+    pub size: usize,
+    pub room: usize,
+    pub fault: Option<ErrorKind>,
 }
 
 impl Write for Narrow {

@@ -4,12 +4,15 @@ ghost use Rattle.meaning.specs.Lines.{Line};
 ghost use Rattle.meaning.specs.Commands.{Means};
 ghost use Rattle.meaning.specs.Conducts.{Act};
 ghost use Rattle.meaning.specs.Jobs.{State};
+ghost use Rattle.meaning.specs.Scripts.{SaysEvent};
 ghost use Rattle.meaning.specs.Room.{Pack};
 ghost use Rattle.meaning.specs.Talks.{Served};
 ghost use Rattle.meaning.specs.Texts.{Spoken};
+ghost use Rattle.meaning.specs.declared.call.Event.{Event};
 ghost use Rattle.meaning.specs.declared.command.Command.{Command};
 ghost use Rattle.commands.specs.Served.{MeansServed, served};
 ghost use Rattle.commands.specs.Streams.{TalksServed};
+ghost use Rattle.commands.specs.declared.language.Language.TheVariants.{Commands};
 
 /// What a line says that is served is what it means, where that is served, and nothing where it is not.
 pub fn lines_say_what_is_served()
@@ -20,5 +23,10 @@ pub fn lines_say_what_is_served()
 /// no act met want of memory or a fault of the disk.
 pub fn served_texts_are_functions()
     ensures { (pack : Pack) (moment : Moment) (lines : List Line) (who : Option ℕ) (s t u : State) (acts others : List Act) (one other : Spoken) (x y : Option ℕ)
-        → TalksServed moment who lines acts one x → Served pack s acts t → TalksServed moment who lines others other y → Served pack s others u → one ≡ other }
+        → TalksServed Commands moment who lines acts one x → Served pack s acts t → TalksServed Commands moment who lines others other y → Served pack s others u → one ≡ other }
+{}
+
+/// A line of a call script orders one event at a moment, or nothing.
+pub fn orders_have_one_reading()
+    ensures { (text : List ℕ) (moment : Moment) (said other : Option Event) → SaysEvent text moment said → SaysEvent text moment other → said ≡ other }
 {}

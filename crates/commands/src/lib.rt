@@ -3,13 +3,15 @@
 //! 1. The lines of an input are those of the definition, in whatever pieces the reader gives it. (`Held`,
 //!    `Session`)
 //! 2. `command_of` answers a command exactly where a text spells one that is served, and none exactly where
-//!    it spells none. So far LOGIN and DIRECTORY are served; a line that means another command is no
-//!    command. (`lines_say_what_is_served`)
+//!    it spells none. So far LOGIN, DIRECTORY and MAKDIR are served; a line that means another command
+//!    is no command. (`lines_say_what_is_served`)
 //! 3. The greeting, the text of a refusal and the list of a directory are the definition's, byte by byte.
 //! 4. `session` reads to the end of the input, makes the calls that each line stands for, each by the
 //!    replies so far, and writes what they print: at Ok the writer got the text of all that the reader had,
 //!    the service went by these calls and a RESET of job 1 that prints nothing, and the tally is that of the
-//!    lines. (`ends`, `goes`, `served`)
+//!    lines. (`ends`, `goes`, `served`) At the moment before the first call and after each, all that a crash
+//!    may leave stands for the files after the calls so far; from one moment to the next a crash leaves
+//!    these, or those after one call more. (`ActsBy`)
 //! 5. The text is a function of the lines, the state and the moment, where no call met want of memory or a
 //!    fault of the disk. (`served_texts_are_functions`)
 //! 6. Where it breaks off the writer holds a beginning of that text. At `Read` it holds all of it for the
@@ -17,19 +19,36 @@
 //!    missing but the end of the last line's text, whose calls were made. (`CutShort`, `Unfinished`)
 //! 7. What is said of calls is said over any service of files, as far as it keeps its promises; what is said
 //!    of bytes is said of readers and writers that tell theirs.
+//! 8. `order_of` answers an event exactly where a text is a line of a call script, and none exactly where it
+//!    is none; a line has one reading. `reply_line` writes the line of a reply. (`orders_have_one_reading`)
+//! 9. `script` reads to the end of the input, serves the event of each line, and writes the line of its reply:
+//!    what is said of a session is said of it, where its events are served in the states that they meet. A line
+//!    with a call that is not served is answered as one that is none of the grammar. No job is reset.
+//!    (`Script`, `served_event`)
 #![tactic(auto)]
 
 mod answer;
+mod asking;
 mod error;
 #[cfg(test)]
 mod fake;
 #[cfg(test)]
 mod fault_tests;
+mod fields;
 mod grammar;
 mod input;
+mod language;
 mod laws;
+mod makdir;
 mod monitored;
+mod obeying;
+#[cfg(test)]
+mod order_tests;
+mod ordered;
+mod orders;
 mod run;
+#[cfg(test)]
+mod script_tests;
 mod service;
 #[cfg(test)]
 mod session_tests;
@@ -40,8 +59,9 @@ mod text;
 
 pub use answer::Tally;
 pub use error::SessionError;
-pub use laws::{lines_say_what_is_served, served_texts_are_functions};
+pub use laws::{lines_say_what_is_served, orders_have_one_reading, served_texts_are_functions};
 pub use monitor::{Monitor, StartError};
-pub use monitored::session;
+pub use monitored::{script, session};
+pub use ordered::served_event;
 pub use text::refusal;
 pub use volume::Volume;

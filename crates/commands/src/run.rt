@@ -1,15 +1,19 @@
 ghost use Rattle.std.specs.Prelude.{◌≡◌, ◌∷◌, [], ℕ, OnOk, IfOk, IfErr, MatchResult};
 ghost use Rattle.commands.specs.Held.{line_list};
-ghost use Rattle.commands.specs.Sessions.{HeardIn, Told, StepsOn, BreaksOff, EndsWell, Session};
+ghost use Rattle.commands.specs.Sessions.{HeardIn, IsHeardIn, FitsIn, Puts, Told, Closed, StepsOn, BreaksOff, EndsWell, Talked, Session, Script};
 
 use crate::SessionError;
 use crate::answer::{SESSION_JOB, Tally, answer};
 use crate::grammar::meant_by;
 use crate::input::{Held, InputLine};
+use crate::language::Language;
+use crate::obeying::obey;
+use crate::ordered::served_by;
 use crate::service::FileService;
 use crate::stream::write_text;
 use meaning::Command;
-use std::alloc::Global;
+use monitor::{Call, Event};
+use std::alloc::{AllocError, Global};
 use std::io::{Read, Write};
 use words36::{Moment, Ppn};
 
@@ -21,11 +25,13 @@ const PIECE_BYTES: usize = 256;
 pub enum Heard {
     /// No line.
     Nothing,
-    /// A line, and what it says that is served.
+    /// A line with a command, and what it says that is served.
     Said(Option<Command>),
+    /// A line with an event, and what it orders that is served.
+    Ordered(Option<Event>),
 }
 
-/// How far a session is.
+/// How far an input is answered.
 #[derive(Drop)]
 pub struct Talk {
     held: Held,
@@ -34,12 +40,26 @@ pub struct Talk {
 }
 
 /// What is heard of the line that there is, or of none.
-fn heard_of(line: Option<InputLine<'_>>) -> Heard
-    ensures { HeardIn (line_list line.entry) result }
+fn heard_of(language: Language, moment: Moment, line: Option<InputLine<'_>>) -> Heard
+    ensures line { HeardIn language moment (line_list line.entry) result }
+    ensures language { IsHeardIn language result }
 {
-    match line {
-        Some(line) => Heard::Said(meant_by(line)),
-        None => Heard::Nothing,
+    let Some(line) = line else {
+        return Heard::Nothing;
+    };
+    match language {
+        Language::Commands => Heard::Said(meant_by(line)),
+        Language::Events => Heard::Ordered(served_by(line, moment)),
+    }
+}
+
+/// Writes a text, where there was memory for it.
+fn put<W: Write>(writer: &mut W, text: Result<Vec<u8>, AllocError>) -> Result<(), SessionError>
+    ensures { Puts (λ bytes. bytes.items) result (W.contents writer.old) (W.contents writer.new) text }
+{
+    match text {
+        Ok(text) => write_text(writer, &text),
+        Err(_) => Err(SessionError::NoMemory),
     }
 }
 
@@ -52,24 +72,28 @@ fn tell<S: FileService, W: Write>(
     talk: &mut Talk,
     heard: Heard,
 ) -> Result<(), SessionError>
+    requires { FitsIn heard }
     ensures held { talk.new.held ≡ talk.old.held }
-    ensures told { Told result (S.machine service.old) (S.machine service.new) (W.contents writer.old) (W.contents writer.new)
+    ensures told { Told result S.machine service.old service.new (W.contents writer.old) (W.contents writer.new)
         moment talk.old.who talk.new.who talk.old.tally talk.new.tally heard }
 {
-    let Heard::Said(meant) = heard else {
-        return Ok(());
-    };
-    let text = answer(
-        alloc,
-        service,
-        moment,
-        &mut talk.who,
-        &mut talk.tally,
-        meant,
-    );
-    match text {
-        Ok(text) => write_text(writer, &text),
-        Err(_) => Err(SessionError::NoMemory),
+    match heard {
+        Heard::Nothing => Ok(()),
+        Heard::Said(meant) => {
+            let text = answer(
+                alloc,
+                service,
+                moment,
+                &mut talk.who,
+                &mut talk.tally,
+                meant,
+            );
+            put(writer, text)
+        }
+        Heard::Ordered(order) => {
+            let text = obey(alloc, service, &mut talk.tally, order);
+            put(writer, text)
+        }
     }
 }
 
@@ -79,17 +103,18 @@ fn take_byte<S: FileService, W: Write>(
     service: &mut S,
     writer: &mut W,
     moment: Moment,
+    language: Language,
     talk: &mut Talk,
     byte: u8,
 ) -> Result<(), SessionError>
-    ensures ok { OnOk result (StepsOn (S.machine service.old) (S.machine service.new) (W.contents writer.old) (W.contents writer.new) moment talk.old talk.new (byte ∷ [])) }
-    ensures err { IfErr result (λ error. BreaksOff ⊥ (S.machine service.old) (S.machine service.new) (W.contents writer.old) (W.contents writer.new) moment talk.old error (byte ∷ [])) }
+    ensures ok { OnOk result (StepsOn language S.machine service.old service.new (W.contents writer.old) (W.contents writer.new) moment talk.old talk.new (byte ∷ [])) }
+    ensures err { IfErr result (λ error. BreaksOff language ⊥ S.machine service.old service.new (W.contents writer.old) (W.contents writer.new) moment talk.old error (byte ∷ [])) }
 {
     if byte != b'\n' {
         talk.held.push(byte);
         return Ok(());
     }
-    let heard = heard_of(talk.held.ended());
+    let heard = heard_of(language, moment, talk.held.ended());
     talk.held = Held::new();
     tell(alloc, service, writer, moment, talk, heard)
 }
@@ -100,33 +125,88 @@ fn take_piece<S: FileService, W: Write>(
     service: &mut S,
     writer: &mut W,
     moment: Moment,
+    language: Language,
     talk: &mut Talk,
     piece: &[u8],
 ) -> Result<(), SessionError>
-    ensures ok { OnOk result (StepsOn (S.machine service.old) (S.machine service.new) (W.contents writer.old) (W.contents writer.new) moment talk.old talk.new piece.now) }
-    ensures err { IfErr result (λ error. BreaksOff ⊥ (S.machine service.old) (S.machine service.new) (W.contents writer.old) (W.contents writer.new) moment talk.old error piece.now) }
+    ensures ok { OnOk result (StepsOn language S.machine service.old service.new (W.contents writer.old) (W.contents writer.new) moment talk.old talk.new piece.now) }
+    ensures err { IfErr result (λ error. BreaksOff language ⊥ S.machine service.old service.new (W.contents writer.old) (W.contents writer.new) moment talk.old error piece.now) }
 {
     for byte in piece {
-        take_byte(alloc, service, writer, moment, talk, *byte)?;
+        take_byte(alloc, service, writer, moment, language, talk, *byte)?;
     }
     Ok(())
 }
 
-/// Answers the line that the end of the input ends, and resets the job.
+/// Does what is done at the end of an input: of commands the job is reset.
+fn close<S: FileService>(alloc: Global, service: &mut S, moment: Moment, language: Language)
+    ensures { Closed language S.machine service.old service.new moment }
+{
+    match language {
+        Language::Commands => {
+            service.event(alloc, &Event::Call(SESSION_JOB, Call::Reset, moment));
+        }
+        Language::Events => {}
+    }
+}
+
+/// Answers the line that the end of the input ends, and does what is done there.
 fn finish<S: FileService, W: Write>(
     alloc: Global,
     service: &mut S,
     writer: &mut W,
     moment: Moment,
+    language: Language,
     talk: &mut Talk,
 ) -> Result<Tally, SessionError>
-    ensures ok { IfOk result (λ tally. EndsWell (S.machine service.old) (S.machine service.new) (W.contents writer.old) (W.contents writer.new) moment talk.old tally) }
-    ensures err { IfErr result (λ error. BreaksOff (Unit {0}) (S.machine service.old) (S.machine service.new) (W.contents writer.old) (W.contents writer.new) moment talk.old error []) }
+    ensures ok { IfOk result (λ tally. EndsWell language S.machine service.old service.new (W.contents writer.old) (W.contents writer.new) moment talk.old tally) }
+    ensures err { IfErr result (λ error. BreaksOff language (Unit {0}) S.machine service.old service.new (W.contents writer.old) (W.contents writer.new) moment talk.old error []) }
 {
-    let heard = heard_of(talk.held.last());
+    let heard = heard_of(language, moment, talk.held.last());
     tell(alloc, service, writer, moment, talk, heard)?;
-    service.reset(SESSION_JOB, moment);
+    close(alloc, service, moment, language);
     Ok(talk.tally)
+}
+
+/// Serves the lines of a reader until its end, and writes what they print.
+fn talk_in<R: Read, W: Write, S: FileService>(
+    alloc: Global,
+    reader: &mut R,
+    writer: &mut W,
+    service: &mut S,
+    moment: Moment,
+    language: Language,
+) -> Result<Tally, SessionError>
+    ensures { Talked language (R.remaining reader.old) (R.remaining reader.new) (W.contents writer.old) (W.contents writer.new)
+        S.machine service.old service.new moment result }
+{
+    let mut talk = Talk {
+        held: Held::new(),
+        who: None,
+        tally: Tally {
+            refused: false,
+            broke: false,
+        },
+    };
+    let mut piece = [0u8; PIECE_BYTES];
+    for _ in 0..u64::MAX {
+        let Ok(count) = reader.read(&mut piece) else {
+            return Err(SessionError::Read);
+        };
+        if count == 0 {
+            return finish(alloc, service, writer, moment, language, &mut talk);
+        }
+        take_piece(
+            alloc,
+            service,
+            writer,
+            moment,
+            language,
+            &mut talk,
+            &piece[..count],
+        )?;
+    }
+    Err(SessionError::Read)
 }
 
 /// Serves the lines of a reader until its end, as job 1 at a moment, and writes what they print; at the end
@@ -144,25 +224,25 @@ pub fn converse<R: Read, W: Write, S: FileService>(
     moment: Moment,
 ) -> Result<Tally, SessionError>
     ensures { Session (R.remaining reader.old) (R.remaining reader.new) (W.contents writer.old) (W.contents writer.new)
-        (S.machine service.old) (S.machine service.new) moment result }
+        S.machine service.old service.new moment result }
 {
-    let mut talk = Talk {
-        held: Held::new(),
-        who: None,
-        tally: Tally {
-            refused: false,
-            broke: false,
-        },
-    };
-    let mut piece = [0u8; PIECE_BYTES];
-    for _ in 0..u64::MAX {
-        let Ok(count) = reader.read(&mut piece) else {
-            return Err(SessionError::Read);
-        };
-        if count == 0 {
-            return finish(alloc, service, writer, moment, &mut talk);
-        }
-        take_piece(alloc, service, writer, moment, &mut talk, &piece[..count])?;
-    }
-    Err(SessionError::Read)
+    talk_in(alloc, reader, writer, service, moment, Language::Commands)
+}
+
+/// Serves the events of a reader until its end, at a moment, and writes a line for each reply.
+///
+/// # Errors
+///
+/// As of `converse`.
+pub fn play<R: Read, W: Write, S: FileService>(
+    alloc: Global,
+    reader: &mut R,
+    writer: &mut W,
+    service: &mut S,
+    moment: Moment,
+) -> Result<Tally, SessionError>
+    ensures { Script (R.remaining reader.old) (R.remaining reader.new) (W.contents writer.old) (W.contents writer.new)
+        S.machine service.old service.new moment result }
+{
+    talk_in(alloc, reader, writer, service, moment, Language::Events)
 }

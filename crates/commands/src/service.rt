@@ -1,19 +1,21 @@
 ghost use Rattle.std.specs.Prelude.{◌≡◌, MatchResult, Ok, Err};
-ghost use Rattle.meaning.specs.declared.call.Call.TheVariants.{Reset};
-ghost use Rattle.meaning.specs.declared.call.Event.TheVariants.{Login, Call as Calls};
+ghost use Rattle.meaning.specs.Jobs.{State};
+ghost use Rattle.meaning.specs.Runs.{Serving};
+ghost use Rattle.monitor.specs.Moments.{StandsNow};
 ghost use Rattle.commands.specs.Machines.{Machine, IsAnswered, IsListed};
 
 use meaning::{Entry, Reply};
+use monitor::Event;
 use std::alloc::Global;
-use words36::{Moment, Ppn};
+use words36::Ppn;
 
 /// A service of files, as far as a session asks it.
 pub trait FileService {
     ghost machine: { Self → Machine };
 
-    /// A job logs in, with a core of so many words.
-    fn login(&mut self, alloc: Global, job: u32, owner: Ppn, words: u32) -> Reply
-        ensures { IsAnswered (machine self.old) (machine self.new) (Login job owner words) result };
+    /// Serves one event, and gives its reply.
+    fn event(&mut self, alloc: Global, event: &Event) -> Reply
+        ensures { IsAnswered (machine self.old) (machine self.new) event.now result };
 
     /// The files of a directory, for a job: by name and then by extension, as numbers.
     fn list(&mut self, alloc: Global, job: u32, owner: Ppn) -> Result<Vec<Entry>, Reply>
@@ -21,7 +23,7 @@ pub trait FileService {
             (λ entries. IsListed (machine self.old) (machine self.new) job owner (Ok entries.items))
             (λ reply. IsListed (machine self.old) (machine self.new) job owner (Err reply)) };
 
-    /// A job closes all its channels and drops what was not closed.
-    fn reset(&mut self, job: u32, moment: Moment) -> Reply
-        ensures { IsAnswered (machine self.old) (machine self.new) (Calls job Reset moment) result };
+    /// All that a crash may leave stands for the files of the state that it serves from.
+    ghost stands: { (service : Self) → (machine service).honest → (s : State) → (machine service).serves (Serving s)
+        → StandsNow (machine service).pack (machine service).disk s };
 }

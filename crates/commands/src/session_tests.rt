@@ -16,9 +16,9 @@ fn put(rt: &impl Abort, disk: &mut MemDisk, n: u32, words: &[u64]) {
 }
 
 /// An image of 64 blocks, written out by hand: [10,20] with FOO.TXT of two words, of 4-Jan-75.
-fn image(rt: &impl Abort, alloc: Global) -> Result<MemDisk, NoMemory> {
+pub fn image(rt: &impl Abort, alloc: Global) -> Result<MemDisk, NoMemory> {
     let home = [0o465154634562, 1, 0o100, 1, 0o11, 0o17];
-    let mut disk = MemDisk::new(alloc, 64, 8)?;
+    let mut disk = MemDisk::new(alloc, 64, 64)?;
     put(rt, &mut disk, 1, &home);
     put(rt, &mut disk, 2, &home);
     put(rt, &mut disk, 14, &[0o777777400000]);
@@ -89,5 +89,42 @@ fn a_session_that_is_done(rt: HostRuntime) -> Result<(), Fail> {
                 broke: false
             }
     );
+    Ok(())
+}
+
+/// Directories are made, and refused: one that is there, and one of somebody else.
+#[test]
+fn a_session_that_makes_directories(rt: HostRuntime) -> Result<(), Fail> {
+    let disk = image(&rt, rt.alloc())?;
+    let Ok(mut monitor) = Monitor::start(rt.alloc(), disk) else {
+        panic!(rt; "the image is refused");
+    };
+    let mut reader: &[u8] =
+        b"MAKDIR [11,5]\nLOGIN [10,20]\nMAKDIR [10,20]\nMAKDIR [11,5]<755>\nLOGIN [11,5]\nMAKDIR [11,5]<770>\nDIRECTORY\nLOGIN [10,20]\nDIRECTORY [11,5]\n";
+    let mut writer = Vec::new(rt.alloc());
+    let moment = Moment::new(0, 0)?;
+    let tally = session(rt.alloc(), &mut reader, &mut writer, &mut monitor, moment)?;
+    let text: &[u8] =
+        b"?Not logged in\nJob 1 [10,20]\n?File name already exists\n?Protection failure\nJob 1 [11,5]\nOK\nNo files [11,5]\nJob 1 [10,20]\n?Protection failure\n";
+    assert!(rt; writer.as_slice() == text, "{writer:?}");
+    assert!(rt; tally.refused && !tally.broke);
+    Ok(())
+}
+
+/// A directory is made for anybody by [1,2], and others look into it where no protection is asked for, or 755.
+#[test]
+fn a_session_that_makes_open_directories(rt: HostRuntime) -> Result<(), Fail> {
+    let disk = image(&rt, rt.alloc())?;
+    let Ok(mut monitor) = Monitor::start(rt.alloc(), disk) else {
+        panic!(rt; "the image is refused");
+    };
+    let mut reader: &[u8] =
+        b"LOGIN [1,2]\nMAKDIR [11,5]\nMAKDIR [11,6]<755>\nLOGIN [10,20]\nDIRECTORY [11,5]\nDIRECTORY [11,6]\n";
+    let mut writer = Vec::new(rt.alloc());
+    let moment = Moment::new(0, 0)?;
+    let tally = session(rt.alloc(), &mut reader, &mut writer, &mut monitor, moment)?;
+    let text: &[u8] = b"Job 1 [1,2]\nOK\nOK\nJob 1 [10,20]\nNo files [11,5]\nNo files [11,6]\n";
+    assert!(rt; writer.as_slice() == text, "{writer:?}");
+    assert!(rt; !tally.refused && !tally.broke);
     Ok(())
 }

@@ -206,6 +206,86 @@ fn tallies(rt: HostRuntime) -> Result<(), Fail> {
     Ok(())
 }
 
+/// How MAKDIR is spelled.
+#[test]
+fn directories_to_make(rt: HostRuntime) -> Result<(), Fail> {
+    let wrong = b"?Command error\n".as_slice();
+    let stranger = b"?Not logged in\n".as_slice();
+    for (input, text) in [
+        (b"MAKDIR [11,5]\n".as_slice(), stranger),
+        (b"makdir  [11,5]<7>\r\n", stranger),
+        (b"MAKDIR [11,5]<755>", stranger),
+        (b"MAKDIR\n", wrong),
+        (b"MAKDIR [11,5]<>\n", wrong),
+        (b"MAKDIR [11,5]<0755>\n", wrong),
+        (b"MAKDIR [11,5]<8>\n", wrong),
+        (b"MAKDIR [11,5] <755>\n", wrong),
+        (b"MAKDIR [11,5]<755\n", wrong),
+        (b"MAKDIR [11,5]<755>>\n", wrong),
+        (b"MAKDIR <755>\n", wrong),
+        (b"MAKDIR [11]<755>\n", wrong),
+    ] {
+        let got = printed(&rt, input)?;
+        assert!(rt; got.as_slice() == text, "of {input:?}: {got:?}");
+    }
+    Ok(())
+}
+
+/// What MAKDIR asks: its two words are put into core, and all channels are closed at the line's end.
+#[test]
+fn a_directory_is_made(rt: HostRuntime) -> Result<(), Fail> {
+    for (input, word) in [
+        (b"LOGIN [10,20]\nMAKDIR [11,5]\n".as_slice(), 0),
+        (b"LOGIN [10,20]\nMAKDIR [11,5]<7>\n", 0o007000000000),
+        (b"LOGIN [10,20]\nMAKDIR [11,5]<755>\n", 0o755000000000),
+    ] {
+        let mut fake = service(Vec::new(rt.alloc()));
+        let (text, tally) = run(&rt, &mut fake, input)?;
+        assert!(rt;
+            text.as_slice() == b"Job 1 [10,20]\nOK\n".as_slice(),
+            "{text:?}"
+        );
+        assert!(rt; !tally.refused && !tally.broke);
+        assert_eq!(rt; (fake.address, fake.word.bits()), (0o41, word));
+        assert_eq!(rt; (fake.deposits, fake.makes, fake.resets), (2, 1, 2));
+    }
+    Ok(())
+}
+
+/// A line asks for nothing more when it is refused, but that the channels are closed.
+#[test]
+fn a_directory_is_not_made(rt: HostRuntime) -> Result<(), Fail> {
+    for (deposit, make, want, counts) in [
+        (
+            Reply::Done,
+            Reply::Refused(4),
+            b"Job 1 [10,20]\n?File name already exists\n".as_slice(),
+            (2, 1, 2),
+        ),
+        (
+            Reply::Done,
+            Reply::Device,
+            b"Job 1 [10,20]\n?Device fault\n",
+            (2, 1, 2),
+        ),
+        (
+            Reply::Failed,
+            Reply::Done,
+            b"Job 1 [10,20]\n?Service stopped\n",
+            (1, 0, 2),
+        ),
+    ] {
+        let mut fake = service(Vec::new(rt.alloc()));
+        fake.deposit = deposit;
+        fake.make = make;
+        let (text, tally) = run(&rt, &mut fake, b"LOGIN [10,20]\nMAKDIR [11,5]\n")?;
+        assert!(rt; text.as_slice() == want, "{text:?}");
+        assert!(rt; tally.refused);
+        assert_eq!(rt; (fake.deposits, fake.makes, fake.resets), counts);
+    }
+    Ok(())
+}
+
 /// A session whose login is refused is not logged in.
 #[test]
 fn a_login_is_refused(rt: HostRuntime) -> Result<(), Fail> {

@@ -1,5 +1,6 @@
 ghost use Rattle.std.specs.Prelude.{◌≡◌, ◌++◌, IfOk, OnOk, codes, string_bytes};
 ghost use Rattle.words36.specs.Sixbit.{characters};
+ghost use Rattle.meaning.specs.Scripts.{written};
 ghost use Rattle.meaning.specs.Texts.{line, refusal, code_text, greeting, right_in, three_digits, extension_text, month_text, day_text, entry_text, blocks_in, total_text, listing};
 
 use meaning::{Entry, Reply};
@@ -47,6 +48,35 @@ fn code_text(code: u32) -> &'static str
         0o14 => "?No room",
         0o22 => "?Directory not empty",
         _ => "?Illegal sequence",
+    }
+}
+
+/// The line that a call script is answered with for a reply; its numbers are octal.
+pub fn reply_line(alloc: Global, reply: &Reply) -> Result<Vec<u8>, AllocError>
+    ensures { IfOk result (λ bytes. bytes.items ≡ line (written reply.now)) }
+{
+    match reply {
+        Reply::Done => line(alloc, "DONE"),
+        Reply::Value(word) => {
+            let bits = word.bits();
+            let text = format!(in alloc; "VALUE {bits:012o}")?;
+            line(alloc, text.as_str())
+        }
+        Reply::Refused(code) => {
+            let text = format!(in alloc; "REFUSED {code:o}")?;
+            line(alloc, text.as_str())
+        }
+        Reply::Stopped(status) => {
+            let text = format!(in alloc; "STOPPED {status:06o}")?;
+            line(alloc, text.as_str())
+        }
+        Reply::NoChannel => line(alloc, "NOCHANNEL"),
+        Reply::AddressCheck => line(alloc, "ADDRESS"),
+        Reply::NoJob => line(alloc, "NOJOB"),
+        Reply::NoMemory => line(alloc, "NOMEMORY"),
+        Reply::Device => line(alloc, "DEVICE"),
+        Reply::Failed => line(alloc, "FAILED"),
+        Reply::DateRange => line(alloc, "DATE"),
     }
 }
 

@@ -9,21 +9,21 @@ use Rattle.clap.specs.declared.error.Error.{Error}
 use Rattle.clap.specs.declared.error.kind.ErrorKind.TheVariants.{OutOfMemory}
 use Rattle.clap.proofs.OnLiterals.{clap_on_literals}
 use Rattle.clap.proofs.WalkLemmas.{first_value-rows, one_text-rows}
-use Rattle.filser.specs.CommandLine.{command_line, served, init_app, run_app, dated}
+use Rattle.filser.specs.CommandLine.{command_line, served, init_app, run_app, calls_app, dated}
 use Rattle.filser.specs.Requests.{Asks, IsAsked, HasText, HasNumber, Spells}
 use Rattle.filser.specs.declared.error.RequestError.{RequestError}
 use Rattle.filser.specs.declared.error.RequestError.TheVariants.{Usage}
 use Rattle.filser.specs.declared.asked.Request.{Request}
-use Rattle.filser.specs.declared.asked.Request.TheVariants.{Fresh, Init, Run}
+use Rattle.filser.specs.declared.asked.Request.TheVariants.{Fresh, Init, Run, Calls}
 
 -- The command line is one of those whose matches `clap` computes.
 
 pub line-simple : is_simple command_line ≡ true
-unfolding clap_on_literals command_line served init_app dated run_app
+unfolding clap_on_literals command_line served init_app dated run_app calls_app
 line-simple = refl
 
 pub line-free : is_simple_and_free command_line ≡ true
-unfolding clap_on_literals command_line served init_app dated run_app
+unfolding clap_on_literals command_line served init_app dated run_app calls_app
 line-free = refl
 
 -- Texts and numbers.
@@ -81,23 +81,48 @@ out_of_range rows id least most m parsed outside n has =
 
 -- Subcommands.
 
-init_is_not_run : codes "init" ≡ codes "run" → ⊥
-init_is_not_run e = let lengths : length (codes "init") ≡ length (codes "run") = ap length e in omega arith
+-- words of different lengths
+differ : (name : Text) (x y : Text) (m n : ℕ) → length x ≡ m → length y ≡ n → (m ≡ n → ⊥) → name ≡ x → name ≡ y → ⊥
+differ name x y m n p q other e f = other (sym p ∙ ap length (sym e ∙ f) ∙ q)
+
+init_is_not_run : (name : Text) → name ≡ codes "init" → name ≡ codes "run" → ⊥
+init_is_not_run name = differ name (codes "init") (codes "run") 4 3 refl refl (λ e. omega arith)
+
+init_is_not_calls : (name : Text) → name ≡ codes "init" → name ≡ codes "calls" → ⊥
+init_is_not_calls name = differ name (codes "init") (codes "calls") 4 5 refl refl (λ e. omega arith)
+
+run_is_not_calls : (name : Text) → name ≡ codes "run" → name ≡ codes "calls" → ⊥
+run_is_not_calls name = differ name (codes "run") (codes "calls") 3 5 refl refl (λ e. omega arith)
 
 pub no_init : (name : Text) (rows : List Row) → name ≡ codes "init" → ((n : ℕ) → HasNumber rows (codes "BLOCKS") 64 131072 n → ⊥) → (r : Request) → IsAsked name rows r → ⊥
 no_init name rows is none Fresh asked = asked
 no_init name rows is none (Init image blocks) asked = none blocks asked.2
-no_init name rows is none (Run image date minute) asked = init_is_not_run (sym is ∙ asked.0)
+no_init name rows is none (Run image date minute) asked = init_is_not_run name is asked.0
+no_init name rows is none (Calls image date minute) asked = init_is_not_calls name is asked.0
 
 pub no_date : (name : Text) (rows : List Row) → name ≡ codes "run" → ((n : ℕ) → HasNumber rows (codes "date") 0 32767 n → ⊥) → (r : Request) → IsAsked name rows r → ⊥
 no_date name rows is none Fresh asked = asked
-no_date name rows is none (Init image blocks) asked = init_is_not_run (sym asked.0 ∙ is)
+no_date name rows is none (Init image blocks) asked = init_is_not_run name asked.0 is
 no_date name rows is none (Run image date minute) asked = none date asked.2
+no_date name rows is none (Calls image date minute) asked = run_is_not_calls name is asked.0
 
 pub no_minute : (name : Text) (rows : List Row) → name ≡ codes "run" → ((n : ℕ) → HasNumber rows (codes "minute") 0 1439 n → ⊥) → (r : Request) → IsAsked name rows r → ⊥
 no_minute name rows is none Fresh asked = asked
-no_minute name rows is none (Init image blocks) asked = init_is_not_run (sym asked.0 ∙ is)
+no_minute name rows is none (Init image blocks) asked = init_is_not_run name asked.0 is
 no_minute name rows is none (Run image date minute) asked = none minute asked.3
+no_minute name rows is none (Calls image date minute) asked = run_is_not_calls name is asked.0
+
+pub no_date_of_calls : (name : Text) (rows : List Row) → name ≡ codes "calls" → ((n : ℕ) → HasNumber rows (codes "date") 0 32767 n → ⊥) → (r : Request) → IsAsked name rows r → ⊥
+no_date_of_calls name rows is none Fresh asked = asked
+no_date_of_calls name rows is none (Init image blocks) asked = init_is_not_calls name asked.0 is
+no_date_of_calls name rows is none (Run image date minute) asked = run_is_not_calls name asked.0 is
+no_date_of_calls name rows is none (Calls image date minute) asked = none date asked.2
+
+pub no_minute_of_calls : (name : Text) (rows : List Row) → name ≡ codes "calls" → ((n : ℕ) → HasNumber rows (codes "minute") 0 1439 n → ⊥) → (r : Request) → IsAsked name rows r → ⊥
+no_minute_of_calls name rows is none Fresh asked = asked
+no_minute_of_calls name rows is none (Init image blocks) asked = init_is_not_calls name asked.0 is
+no_minute_of_calls name rows is none (Run image date minute) asked = run_is_not_calls name asked.0 is
+no_minute_of_calls name rows is none (Calls image date minute) asked = none minute asked.3
 
 -- Where `clap` answers, for any app that is the command line.
 

@@ -25,9 +25,12 @@ dated app = with_rule (with_rule app (optional (codes "date") 32767)) (optional 
 unfoldable pub run_app : App
 run_app = dated (with_rule (new_app (codes "run")) (wanted (codes "IMAGE")))
 
+unfoldable pub calls_app : App
+calls_app = dated (with_rule (new_app (codes "calls")) (wanted (codes "IMAGE")))
+
 -- the subcommands
 unfoldable pub served : App → App
-served app = with_subcommand (with_subcommand app init_app.top) run_app.top
+served app = with_subcommand (with_subcommand (with_subcommand app init_app.top) run_app.top) calls_app.top
 
 -- a command of this name, which can be asked for its version
 abbrev pub versioned : Text → App

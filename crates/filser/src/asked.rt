@@ -7,4 +7,6 @@ pub enum Request<'a> {
     Init(&'a str, u32),
     /// `run`: serve the input on this image, at a date and a minute of the day.
     Run(&'a str, u32, u32),
+    /// `calls`: serve the input as a call script on this image, at a date and a minute of the day.
+    Calls(&'a str, u32, u32),
 }

@@ -187,6 +187,27 @@ Total 1 blocks in 1 files [10,20]
     Ok(())
 }
 
+/// A call script is served: what was not done has status 1, and the image is as it was.
+#[test]
+fn a_script_is_served(rt: HostRuntime) -> Result<(), Fail> {
+    let _ = fs::remove_dir_all(&rt, "filser_script");
+    fs::create_dir(&rt, "filser_script")?;
+    let path = "filser_script/V1.IMG";
+    let image = image_of(&rt, rt.alloc(), &V1)?;
+    fs::write(&rt, path, &image)?;
+    let calls = ["filser", "calls", path];
+    let lines = "1 LOGIN 10,20 1000\n1 DEP 200 17\n1 EXA 200";
+    let replies = "DONE\nDONE\nVALUE 000000000017\n";
+    expect(&rt, rt.alloc(), &calls, lines, replies, 0);
+    expect(&rt, rt.alloc(), &calls, "1 RESET\n", "NOJOB\n", 1);
+    expect(&rt, rt.alloc(), &calls, "DIRECTORY\n", "SYNTAX\n", 1);
+    let dated = ["filser", "calls", path, "--date", "32767"];
+    expect(&rt, rt.alloc(), &dated, "1 RESET\n", "DATE\n", 1);
+    assert!(rt; fs::read(&rt, path)?.as_slice() == image.as_slice());
+    fs::remove_dir_all(&rt, "filser_script")?;
+    Ok(())
+}
+
 /// A run on a file of these bytes is refused with this text, and leaves them as they are.
 fn expect_refused<F: Files<File = File> + Alloc<A = Global> + Abort>(
     rt: &F,

@@ -7,7 +7,7 @@ ghost use Rattle.filser.specs.declared.asked.Request.{Request as Asked};
 ghost use Rattle.filser.specs.declared.status.Status.TheVariants.{Done, BadArguments, Fault};
 
 use crate::image::open_image;
-use crate::serving::{say, serve, serve_fresh};
+use crate::serving::{say, serve, serve_calls, serve_fresh};
 use crate::{Request, RequestError, Status, make_image, request};
 use clap::Error;
 use std::alloc::Global;
@@ -82,6 +82,10 @@ fn perform<F: Files<File = File>, R: Read, W: Write>(
         },
         Request::Run(path, date, minute) => match open_image(files, path) {
             Ok(image) => serve(alloc, image, moment(date, minute), reader, writer),
+            Err(refusal) => say(writer, refusal),
+        },
+        Request::Calls(path, date, minute) => match open_image(files, path) {
+            Ok(image) => serve_calls(alloc, image, moment(date, minute), reader, writer),
             Err(refusal) => say(writer, refusal),
         },
     }

@@ -72,6 +72,10 @@ fn subcommand<'a>(name: &'a str, matches: &ArgMatches<'a>) -> Option<Request<'a>
             let date = number(matches, "date", 0, 32767)?;
             Some(Request::Run(image, date, number(matches, "minute", 0, 1439)?))
         }
+        "calls" => {
+            let date = number(matches, "date", 0, 32767)?;
+            Some(Request::Calls(image, date, number(matches, "minute", 0, 1439)?))
+        }
         _ => None,
     }
 }

@@ -7,7 +7,7 @@ ghost use Rattle.filser.specs.declared.status.Status.TheVariants.{BadArguments, 
 
 use crate::{Refusal, Status};
 use blockdisk::{Disk, MemDisk};
-use commands::{Monitor, Tally, Volume, session};
+use commands::{Monitor, Tally, Volume, script, session};
 use std::alloc::Global;
 use std::io::{Read, Write};
 use words36::Moment;
@@ -30,7 +30,7 @@ pub(crate) fn say<W: Write>(writer: &mut W, refusal: Refusal) -> Status
     }
 }
 
-/// The status of a session whose lines were counted so.
+/// The status of a run whose lines were counted so.
 fn status_of(tally: Tally) -> Status
     ensures code { status_code result ≡ max (if tally.refused then 1 else 0) (if tally.broke then 4 else 0) }
     ensures serving { result ≢ BadArguments }
@@ -62,6 +62,26 @@ pub(crate) fn serve<D: Disk + Drop, R: Read, W: Write>(
         Err((error, _)) => return say(writer, Refusal::Start(error)),
     };
     match session(alloc, reader, writer, &mut monitor, moment) {
+        Ok(tally) => status_of(tally),
+        Err(_) => Status::Fault,
+    }
+}
+
+/// Serves the call script of the reader on a disk, at a moment, and writes a line for each reply.
+pub(crate) fn serve_calls<D: Disk + Drop, R: Read, W: Write>(
+    alloc: Global,
+    disk: D,
+    moment: Moment,
+    reader: &mut R,
+    writer: &mut W,
+) -> Status
+    ensures { result ≢ BadArguments }
+{
+    let mut monitor = match Monitor::start(alloc, disk) {
+        Ok(monitor) => monitor,
+        Err((error, _)) => return say(writer, Refusal::Start(error)),
+    };
+    match script(alloc, reader, writer, &mut monitor, moment) {
         Ok(tally) => status_of(tally),
         Err(_) => Status::Fault,
     }

@@ -3,7 +3,7 @@
 ghost use Rattle.std.specs.Prelude.{◌≡◌, IfOk, codes, false};
 ghost use Rattle.clap.specs.Words.{app_of, rule_of, with_rule, with_subcommand};
 ghost use Rattle.clap.specs.declared.builder.command.Command.TheViews.{out-Command as fields_of};
-ghost use Rattle.filser.specs.CommandLine.{command_line, dated, init_app, numbered, optional, run_app, served, versioned, wanted};
+ghost use Rattle.filser.specs.CommandLine.{calls_app, command_line, dated, init_app, numbered, optional, run_app, served, versioned, wanted};
 
 use clap::{Arg, Command};
 use std::alloc::{AllocError, Global};
@@ -16,7 +16,7 @@ const NOTES: &str = "\
 Without a command the input is served as by run, on a fresh volume of 64
 blocks in memory, at date 0 and minute 0. It is gone at the end.
 
-Options of run:
+Options of run and calls:
   --date N    the date of what is written, 0 to 32767 [default: 0]
   --minute N  its minute of the day, 0 to 1439 [default: 0]
 
@@ -138,12 +138,26 @@ fn run_command<'a>(alloc: Global) -> Result<Command<'a>, AllocError>
     dated(alloc, command)
 }
 
+#[tactic(auto, unfolding(crate::specs::CommandLine::calls_app))]
+fn calls_command<'a>(alloc: Global) -> Result<Command<'a>, AllocError>
+    ensures app { IfOk result (λ c. app_of c ≡ calls_app) }
+    ensures local { IfOk result (λ c. (fields_of c).has_globals ≡ false) }
+{
+    let command = about(
+        Command::new(alloc, "calls"),
+        "Serve the calls that the lines of the input spell on an image",
+    );
+    let command = with_argument(command, wanted(alloc, "IMAGE", "The image to serve"))?;
+    dated(alloc, command)
+}
+
 #[tactic(auto, unfolding(crate::specs::CommandLine::served))]
 fn with_subcommands<'a>(alloc: Global, command: Command<'a>) -> Result<Command<'a>, AllocError>
     ensures { IfOk result (λ c. app_of c ≡ served (app_of command.entry)) }
 {
     let command = with_one(command, init_command(alloc)?)?;
-    with_one(command, run_command(alloc)?)
+    let command = with_one(command, run_command(alloc)?)?;
+    with_one(command, calls_command(alloc)?)
 }
 
 /// The program's name, with what help and version say of it.

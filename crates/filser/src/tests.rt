@@ -46,6 +46,17 @@ fn words_that_serve_an_image(rt: HostRuntime) {
 }
 
 #[test]
+fn words_that_serve_a_script(rt: HostRuntime) {
+    let alloc = rt.alloc();
+    let words = ["filser", "calls", "V.IMG"];
+    expect(&rt, alloc, &words, Request::Calls("V.IMG", 0, 0));
+    let words = [
+        "filser", "calls", "--date", "4095", "V.IMG", "--minute", "605",
+    ];
+    expect(&rt, alloc, &words, Request::Calls("V.IMG", 4095, 605));
+}
+
+#[test]
 fn numbers_out_of_range(rt: HostRuntime) {
     let alloc = rt.alloc();
     for number in ["63", "131073", "0x40"] {
@@ -53,8 +64,10 @@ fn numbers_out_of_range(rt: HostRuntime) {
         expect_usage(&rt, alloc, &words, ErrorKind::ValueValidation);
     }
     for (option, number) in [("--date", "32768"), ("--minute", "1440")] {
-        let words = ["filser", "run", "V.IMG", option, number];
-        expect_usage(&rt, alloc, &words, ErrorKind::ValueValidation);
+        for command in ["run", "calls"] {
+            let words = ["filser", command, "V.IMG", option, number];
+            expect_usage(&rt, alloc, &words, ErrorKind::ValueValidation);
+        }
     }
 }
 

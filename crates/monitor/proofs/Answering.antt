@@ -1,10 +1,10 @@
 -- What the monitor answers to an event is what the machine does.
 use Rattle.std.proofs.Common.{◌≡◌, ◌<◌, ◌≤◌, ◌+◌, ℕ, Bool, true, false, nat_lt, List, [], ◌∷◌, ◌++◌, Option, None, Some, refl, sym, ap, subst, ◌∙◌, ◌⊎◌, inl, inr, arith}
 use Rattle.std.proofs.lemmas.Bool.Decides.{nat_tests}
-use Rattle.std.specs.Prelude.{◌==◌, if◌then◌else◌, option_map, slice_set, slice_index_or}
+use Rattle.std.specs.Prelude.{◌==◌, if◌then◌else◌, option_map, slice_set}
 use Rattle.words36.specs.declared.moment.Moment.{Moment}
 use Rattle.blockdisk.specs.Disk.{DiskState}
-use Rattle.meaning.specs.Files.{Files}
+use Rattle.meaning.specs.Files.{File, Files}
 use Rattle.meaning.specs.Maps.{total}
 use Rattle.meaning.specs.Published.{Version}
 use Rattle.meaning.specs.Jobs as machine
@@ -21,12 +21,13 @@ use Rattle.meaning.specs.declared.call.Event.TheVariants.{Login, Call as Calls}
 use Rattle.meaning.specs.declared.call.Reply.{Reply}
 use Rattle.meaning.specs.declared.call.Reply.TheVariants.{Done, Value, Refused, Stopped, NoChannel, AddressCheck, NoJob, NoMemory, Device, Failed, DateRange}
 use Rattle.meaning.proofs.SoundEvents.{sound_step}
-use Rattle.volume.specs.Live.{VolumeCore, held_cost}
-use Rattle.monitor.specs.Dropping.{Drops}
-use Rattle.monitor.specs.Serving.{pack_of, IsState, Serves, AreKeyed}
-use Rattle.monitor.specs.Sides.{Writing, job_of, jobs_of, state_of, new_job}
+use Rattle.volume.specs.Live.{VolumeCore}
+use Rattle.monitor.specs.Dropping.{Leaves}
+use Rattle.monitor.specs.Serving.{pack_of, IsState, Serves, AreKeyed, AreReading}
+use Rattle.monitor.specs.Sides.{UnderKeys, job_of, jobs_of, state_of, new_job}
 use Rattle.monitor.specs.declared.job.Job.{Job}
-use Rattle.monitor.proofs.Dropped.{drops_none}
+use Rattle.monitor.proofs.Dropped.{leaves_none}
+use Rattle.monitor.proofs.ReadingJobs.{reads_left}
 use Rattle.monitor.proofs.SideLists.{map-set, slot-map}
 
 -- There is always a serial that no version has: the sum of all and one more.
@@ -114,31 +115,31 @@ in_state d map failed jobs P serves by Broken broken = absurd (contrary serves b
 in_state d map failed jobs P serves by (Serving s) state = by s state.1
 
 -- the state, by what the jobs stand for
-pub state_is : (s : State) (w : ℕ → Writing) (jobs : List (Option Job)) → s.jobs ≡ jobs_of w jobs → s ≡ state_of s.files w jobs
+pub state_is : (s : State) (w : UnderKeys) (jobs : List (Option Job)) → s.jobs ≡ jobs_of w jobs → s ≡ state_of s.files w jobs
 state_is s w jobs is = λ i. record s { jobs = is i }
 
--- An event that leaves the disk and the files as they were, and drops at most what was being written.
-module _ (d : DiskState) (map map' : VolumeCore) (failed : Bool) (jobs jobs' : List (Option Job)) (keyed : AreKeyed map'.pending jobs') (dropped : (keys : List ℕ) × Drops map map' keys) where
-  pub same_files : (s : State) (state : IsState d map jobs s) → IsSound (state_of s.files state.written jobs') → IsState d map' jobs' (state_of s.files state.written jobs')
+-- An event that leaves the disk and the files as they were, and at most drops what was being written, and lets go what was read.
+module _ (d : DiskState) (map map' : VolumeCore) (failed : Bool) (jobs jobs' : List (Option Job)) (keyed : AreKeyed map'.pending jobs') (reading : AreReading map'.live jobs') (leaves : Leaves map map') where
+  pub same_files : (s : State) (state : IsState d map jobs s) → IsSound (state_of s.files state.under jobs') → IsState d map' jobs' (state_of s.files state.under jobs')
   same_files s state sound = record {
     files = state.files;
     serials = state.serials;
-    written = state.written;
-    versions = λ key p at. state.versions key p (dropped.1.stay key p at);
-    absent = λ key p at new. state.absent key p (dropped.1.stay key p at) new;
+    under = state.under;
+    versions = λ key p at. state.versions key p (leaves.stay key p at);
+    absent = λ key p at new. state.absent key p (leaves.stay key p at) new;
     keyed = keyed;
+    read = reads_left d map map' s.files state.under.read leaves state.read;
+    reading = reading;
     jobs_are = refl;
-    unread = λ key v at. state.unread key v (sym (ap (λ vs. slice_index_or vs key None) dropped.1.live) ∙ at);
-    unheld = ap (total held_cost) dropped.1.live ∙ state.unheld;
     sound = sound;
   }
 
   -- it answers as the machine's row does, whatever is being written
-  pub row : (pack : Pack) (event : Event) (reply : Reply) → ((serial : ℕ) (files : Files Version) (w : ℕ → Writing) → step pack serial (state_of files w jobs) event ≡ (reply, state_of files w jobs'))
+  pub row : (pack : Pack) (event : Event) (reply : Reply) → ((serial : ℕ) (files : Files Version) (w : UnderKeys) → step pack serial (state_of files w jobs) event ≡ (reply, state_of files w jobs'))
       → failed ≡ false → (old : Service) → Serves d map failed jobs old → (new : Service) × Serves d map' failed jobs' new × Answers pack old event reply new
   row pack event reply by serves = in_state d map failed jobs (λ old. (new : Service) × Serves d map' failed jobs' new × Answers pack old event reply new) serves (λ s state.
-      let after = state_of s.files state.written jobs' in
-      let steps : (serial : ℕ) → step pack serial s event ≡ (reply, after) = λ serial. subst (λ t. step pack serial t event ≡ (reply, after)) (sym (state_is s state.written jobs state.jobs_are)) (by serial s.files state.written) in
+      let after = state_of s.files state.under jobs' in
+      let steps : (serial : ℕ) → step pack serial s event ≡ (reply, after) = λ serial. subst (λ t. step pack serial t event ≡ (reply, after)) (sym (state_is s state.under jobs state.jobs_are)) (by serial s.files state.under) in
       let sound = subst (λ (r : Reply × State). IsSound r.1) (steps (next_serial s)) (sound_step pack (next_serial s) s event (is_fresh s) state.sound) in
       (Serving after, (serves, same_files s state sound), inl (steps_on pack s event reply after steps)))
 
@@ -164,14 +165,14 @@ after a b less = grind (arith, nat_tests)
 not_after : (a b : ℕ) → b ≤ a → nat_lt a b ≡ false
 not_after a b less = grind (arith, nat_tests)
 
-pub slot_of : (w : ℕ → Writing) (jobs : List (Option Job)) (n : ℕ) (o : Option Job) → slot jobs n ≡ o → slot (jobs_of w jobs) n ≡ option_map (job_of w) o
+pub slot_of : (w : UnderKeys) (jobs : List (Option Job)) (n : ℕ) (o : Option Job) → slot jobs n ≡ o → slot (jobs_of w jobs) n ≡ option_map (job_of w) o
 slot_of w jobs n o is = slot-map (job_of w) jobs n ∙ ap (option_map (job_of w)) is
 
 -- a job's new record, as the machine has it
-pub job_set : (files : Files Version) (w : ℕ → Writing) (jobs : List (Option Job)) (n : ℕ) (job : Job) → with_job (state_of files w jobs) n (job_of w job) ≡ state_of files w (slice_set jobs n (Some job))
+pub job_set : (files : Files Version) (w : UnderKeys) (jobs : List (Option Job)) (n : ℕ) (job : Job) → with_job (state_of files w jobs) n (job_of w job) ≡ state_of files w (slice_set jobs n (Some job))
 job_set files w jobs n job = ap (λ js. record { files = files; jobs = js }) (sym (map-set (option_map (job_of w)) jobs n (Some job)))
 
-module _ (d : DiskState) (jobs : List (Option Job)) (n : ℕ) (call : Call) (moment : Moment) (serial : ℕ) (files : Files Version) (w : ℕ → Writing) where
+module _ (d : DiskState) (jobs : List (Option Job)) (n : ℕ) (call : Call) (moment : Moment) (serial : ℕ) (files : Files Version) (w : UnderKeys) where
   abbrev before : State
   before = state_of files w jobs
 
@@ -190,16 +191,27 @@ module _ (d : DiskState) (jobs : List (Option Job)) (n : ℕ) (call : Call) (mom
   pub called : moment.date ≤ 4095 → (job : Job) → slot jobs n ≡ Some job → step (pack_of d) serial before (Calls n call moment) ≡ call_of (pack_of d) serial before n (job_of w job) call moment
   called timely job there = asked timely (Some job) there
 
+-- where nothing stands under any key
+
+nothing_in : File
+nothing_in = record { protection = 0; mode = 0; time = 0; date = 0; body = [] }
+
+pub nothing : UnderKeys
+nothing = record {
+  written = λ key. record { place = record { ppn = 0; name = record { name = 0; ext = 0 } }; file = nothing_in };
+  read = λ key. record { file = nothing_in; serial = 0 };
+}
+
 -- Logging in.
 
 login_done : (pack : Pack) (jobs jobs' : List (Option Job)) (n ppn words : ℕ) → login_answer n words ≡ Done → jobs' ≡ slice_set jobs n (Some (new_job ppn words))
-    → (serial : ℕ) (files : Files Version) (w : ℕ → Writing) → step pack serial (state_of files w jobs) (Login n ppn words) ≡ (Done, state_of files w jobs')
+    → (serial : ℕ) (files : Files Version) (w : UnderKeys) → step pack serial (state_of files w jobs) (Login n ppn words) ≡ (Done, state_of files w jobs')
 login_done pack jobs jobs' n ppn words answer set serial files w =
     ap (λ r. settled r (with_job (state_of files w jobs) n (job_of w (new_job ppn words))) (λ x. state_of files w jobs)) answer
     ∙ ap (λ s. (Done, s)) (job_set files w jobs n (new_job ppn words) ∙ ap (state_of files w) (sym set))
 
 login_refused : (pack : Pack) (jobs : List (Option Job)) (n ppn words : ℕ) (reply : Reply) → reply ≡ login_answer n words → (reply ≡ Done → ⊥)
-    → (serial : ℕ) (files : Files Version) (w : ℕ → Writing) → step pack serial (state_of files w jobs) (Login n ppn words) ≡ (reply, state_of files w jobs)
+    → (serial : ℕ) (files : Files Version) (w : UnderKeys) → step pack serial (state_of files w jobs) (Login n ppn words) ≡ (reply, state_of files w jobs)
 login_refused pack jobs n ppn words reply answer not_done serial files w =
     ap (λ r. settled r (with_job (state_of files w jobs) n (job_of w (new_job ppn words))) (λ x. state_of files w jobs)) (sym answer)
     ∙ settled_other reply (with_job (state_of files w jobs) n (job_of w (new_job ppn words))) (state_of files w jobs) not_done
@@ -215,29 +227,23 @@ module _ (pack : Pack) (d : DiskState) (map map' : VolumeCore) (failed : Bool) (
       let led = leads old state in
       (led.0, subst (λ js. Serves d map' failed js led.0) (sym same.0) (subst (λ m. Serves d m failed jobs led.0) (sym same.1) led.1), led.2)
 
-  pub login_answered : (reply : Reply) → failed ≡ false → AreKeyed map.pending jobs → AreKeyed map'.pending jobs' → (keys : List ℕ) × Drops map map' keys
+  pub login_answered : (reply : Reply) → failed ≡ false → AreKeyed map.pending jobs → AreKeyed map'.pending jobs' → AreReading map.live jobs → AreReading map'.live jobs' → Leaves map map'
       → (reply ≡ login_answer n words) ⊎ ((reply ≡ NoMemory) × (login_answer n words ≡ Done))
       → (reply ≡ Done → jobs' ≡ slice_set jobs n (Some (new_job ppn words))) → ((reply ≡ Done → ⊥) → (jobs' ≡ jobs) × (map' ≡ map)) → (old : Service) → Serves d map failed jobs old → Leads reply old
-  login_answered reply serves keyed keyed' dropped (inl answer) set same = by_reply (is_done reply)
+  login_answered reply serves keyed keyed' reading reading' leaves (inl answer) set same = by_reply (is_done reply)
     where
       by_reply : (reply ≡ Done) ⊎ (reply ≡ Done → ⊥) → (old : Service) → Serves d map failed jobs old → Leads reply old
       by_reply (inl is) =
           subst (λ r. (old : Service) → Serves d map failed jobs old → Leads r old) (sym is)
-          (row d map map' failed jobs jobs' keyed' dropped pack (Login n ppn words) Done (login_done pack jobs jobs' n ppn words (sym answer ∙ is) (set is)) serves)
+          (row d map map' failed jobs jobs' keyed' reading' leaves pack (Login n ppn words) Done (login_done pack jobs jobs' n ppn words (sym answer ∙ is) (set is)) serves)
       by_reply (inr not_done) =
-          kept reply (same not_done) (row d map map failed jobs jobs keyed ([], drops_none map) pack (Login n ppn words) reply (login_refused pack jobs n ppn words reply answer not_done) serves)
-  login_answered reply serves keyed keyed' dropped (inr wants) set same =
+          kept reply (same not_done) (row d map map failed jobs jobs keyed reading (leaves_none map) pack (Login n ppn words) reply (login_refused pack jobs n ppn words reply answer not_done) serves)
+  login_answered reply serves keyed keyed' reading reading' leaves (inr wants) set same =
       kept reply (same (λ e. cc (e, wants.0))) (wanting d map failed jobs pack (Login n ppn words) reply serves wants.0
       (λ s. ap (λ r. is_plain (settled r (with_job s n (machine_job ppn words)) (λ x. s)).0) wants.1) (λ s. refl))
     where
       machine_job : ℕ → ℕ → machine.Job
-      machine_job ppn words = job_of (λ key. record { place = record { ppn = 0; name = record { name = 0; ext = 0 } }; file = record { protection = 0; mode = 0; time = 0; date = 0; body = [] } }) (new_job ppn words)
-
--- A service that has failed.
-pub failed_answered : (pack : Pack) (d : DiskState) (map : VolumeCore) (failed : Bool) (jobs : List (Option Job)) (event : Event) → failed ≡ true → (old : Service) → Serves d map failed jobs old
-    → (new : Service) × Serves d map failed jobs new × Answers pack old event Failed new
-failed_answered pack d map failed jobs event broken Broken was = (Broken, was, refl)
-failed_answered pack d map failed jobs event broken (Serving s) state = absurd (contrary state.0 broken)
+      machine_job ppn words = job_of nothing (new_job ppn words)
 
 -- The disk is the one that it was.
 pub on_disk : {D : Type 0} (state : D → DiskState) (old new : D) (failed failed' : Bool) (map : VolumeCore) (jobs : List (Option Job)) (A : Service → Type 0) → (new ≡ old) × (failed' ≡ failed)

@@ -1,25 +1,29 @@
 -- A call's row, by the job that makes it.
-use Rattle.std.proofs.Common.{◌≡◌, ℕ, List, Option, Some, refl, sym, ap, ◌∙◌, inr, arith}
+use Rattle.std.proofs.Common.{◌≡◌, ℕ, List, Option, Some, refl, sym, ap, subst, ◌∙◌, inr, arith}
 use Rattle.std.specs.Prelude.{option_map, slice_set, option_to_list, filter_map}
 use Rattle.std.specs.List.{AllByRecursion}
 use Rattle.meaning.specs.Jobs as machine
 use Rattle.meaning.specs.Jobs.{State, slot, channel_at, job_at, with_channel, with_job}
 use Rattle.meaning.proofs.SlotLaws.{set-slot}
 use Rattle.volume.specs.Live.{pending_at}
+use Rattle.volume.specs.declared.live.LiveVersion.{LiveVersion}
 use Rattle.volume.specs.declared.pending.PendingVersion.{PendingVersion}
-use Rattle.monitor.specs.Rows.{Keeps, IsOldOrNew}
-use Rattle.monitor.specs.Serving.{IsSide}
-use Rattle.monitor.specs.Sides.{Writing, side_of, channel_of, job_of}
+use Rattle.monitor.specs.Rows.{Keeps, KeepsReading, IsOldOrNew}
+use Rattle.monitor.specs.Serving.{IsSide, IsReader, HasReaders}
+use Rattle.monitor.specs.Sides.{UnderKeys, side_of, reader_of, channel_of, job_of}
 use Rattle.monitor.specs.declared.channel.Channel.{Channel}
 use Rattle.monitor.specs.declared.job.Job.{Job}
+use Rattle.monitor.proofs.Dropped.{same_or_not}
+use Rattle.monitor.proofs.ReaderLists.{held, held-channel}
+use Rattle.monitor.proofs.ReadingJobs.{slot_set, length-slice_set}
 use Rattle.monitor.proofs.SideLists.{count, count-channel, each-channel, map-set, slot-map}
 
 -- the channel of a number, as the machine has it
-pub channel_is : (w : ℕ → Writing) (job : Job) (number : ℕ) (o : Option Channel) → slot job.channels number ≡ o → channel_at (job_of w job) number ≡ option_map (channel_of w) o
+pub channel_is : (w : UnderKeys) (job : Job) (number : ℕ) (o : Option Channel) → slot job.channels number ≡ o → channel_at (job_of w job) number ≡ option_map (channel_of w) o
 channel_is w job number o is = slot-map (channel_of w) job.channels number ∙ ap (option_map (channel_of w)) is
 
 -- a channel that is set
-pub channel_set : (w : ℕ → Writing) (job : Job) (number : ℕ) (x : Option Channel) → with_channel (job_of w job) number (option_map (channel_of w) x) ≡ job_of w (record job { channels = slice_set job.channels number x })
+pub channel_set : (w : UnderKeys) (job : Job) (number : ℕ) (x : Option Channel) → with_channel (job_of w job) number (option_map (channel_of w) x) ≡ job_of w (record job { channels = slice_set job.channels number x })
 channel_set w job number x = ap (λ cs. record { ppn = job.ppn; core = job.core; channels = cs }) (sym (map-set (option_map (channel_of w)) job.channels number x))
 
 -- a job that is not changed
@@ -44,4 +48,29 @@ keeps_channel pending job number x same side = record {
       omega arith;
   known = old_or_new pending;
   each = λ all. each-channel (IsSide pending) job.channels number x all (side all);
+}
+
+-- Versions and input sides.
+
+pub reads_same : (live : List (Option LiveVersion)) (job : Job) → KeepsReading live live job job
+reads_same live job = record { once = λ key. refl; each = λ has. has }
+
+-- a channel is another one, which is as it should be
+pub has_channel : (job : Job) (number : ℕ) (c : Channel) → IsReader c → HasReaders job → HasReaders (record job { channels = slice_set job.channels number (Some c) })
+has_channel job number c is has = record {
+  each = λ k x at. same_or_not k number
+      (λ same. subst IsReader ((slot_set job.channels number k c x at).0 same) is)
+      (λ apart. has.each k x ((slot_set job.channels number k c x at).1 apart));
+  sixteen = length-slice_set job.channels number (Some c) ∙ has.sixteen;
+}
+
+-- it reads the same version, or none
+pub reads_channel : (live : List (Option LiveVersion)) (job : Job) (number : ℕ) (c : Channel) → ((key : ℕ) → held key (option_to_list c.input) ≡ held key (option_to_list (reader_of (slot job.channels number))))
+    → (HasReaders job → IsReader c) → KeepsReading live live job (record job { channels = slice_set job.channels number (Some c) })
+reads_channel live job number c same reader = record {
+  once = λ key.
+      let set = held-channel key job.channels number (Some c) (λ e. same key ∙ ap (λ o. held key (option_to_list (reader_of o))) e) in
+      let alike = same key in
+      omega arith;
+  each = λ has. has_channel job number c (reader has) has;
 }

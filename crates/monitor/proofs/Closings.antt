@@ -11,16 +11,17 @@ use Rattle.meaning.specs.declared.call.Reply.{Reply}
 use Rattle.meaning.specs.declared.call.Reply.TheVariants.{Done, Value, Refused, Stopped, NoChannel, AddressCheck, NoJob, NoMemory, Device, Failed, DateRange}
 use Rattle.meaning.proofs.MapLaws.{some_same}
 use Rattle.volume.specs.Live.{VolumeCore}
-use Rattle.monitor.specs.Dropping.{Drops}
+use Rattle.monitor.specs.Dropping.{Leaves}
 use Rattle.monitor.specs.Events.{CallCrashes, IsIdle}
 use Rattle.monitor.specs.Publishing.{IsPublishing, IsPublishRow, CrashesAsRow, StillStands}
-use Rattle.monitor.specs.Rows.{ClosesSide, IsRow, Keeps}
-use Rattle.monitor.specs.Serving.{pack_of, Serves, AreKeyed, ArePlaced}
+use Rattle.monitor.specs.Rows.{ClosesSide, IsRow, Keeps, KeepsReading}
+use Rattle.monitor.specs.Serving.{pack_of, Serves, AreKeyed, ArePlaced, AreReading}
 use Rattle.monitor.specs.declared.channel.Channel.{Channel}
 use Rattle.monitor.specs.declared.output.Output.{Output}
 use Rattle.monitor.specs.declared.job.Job.{Job}
 use Rattle.monitor.proofs.Answering.{row, in_state, contrary}
 use Rattle.monitor.proofs.Dropped.{keeps_keyed}
+use Rattle.monitor.proofs.ReadingJobs.{keeps_reading}
 use Rattle.monitor.proofs.Serving.{row_is}
 
 -- The side that is published is one of the job's.
@@ -40,10 +41,10 @@ module _ (d d' : DiskState) (c c' : VolumeCore) (jobs jobs' : List (Option Job))
   pub row_crashes : (call : Call) → CrashesAsRow d d' c job call → CallCrashes d d' c jobs n call moment
   row_crashes call crashes honest s state = crashes honest jobs n moment there timely s state
 
-  pub row_stands : (failed' : Bool) → StillStands c c' failed' job job' → AreKeyed c.pending jobs → ArePlaced c → failed' ≡ false → AreKeyed c'.pending jobs' × ArePlaced c'
-  row_stands failed' stands keyed placed alive =
-      let is = stands jobs n there keyed placed alive in
-      (subst (AreKeyed c'.pending) (sym set) is.0, is.1)
+  pub row_stands : (failed' : Bool) → StillStands c c' failed' job job' → AreKeyed c.pending jobs → ArePlaced c → AreReading c.live jobs → failed' ≡ false → AreKeyed c'.pending jobs' × ArePlaced c' × AreReading c'.live jobs'
+  row_stands failed' stands keyed placed reading alive =
+      let is = stands jobs n there keyed placed reading alive in
+      (subst (AreKeyed c'.pending) (sym set) is.0, is.1, subst (AreReading c'.live) (sym set) is.2)
 
 -- what is said of each answer
 module _ (d d' : DiskState) (c c' : VolumeCore) (failed failed' : Bool) (key : ℕ) where
@@ -92,12 +93,16 @@ module _ (d d' : DiskState) (c c' : VolumeCore) (failed failed' : Bool) (key : �
   publishing_idle NoJob is idle = absurd is
   publishing_idle DateRange is idle = absurd is
 
--- Where what was written is dropped, if anything.
+-- Where what was written is dropped, and what was read is let go, if anything.
 module _ (d : DiskState) (c c' : VolumeCore) (failed : Bool) (jobs jobs' : List (Option Job)) (n : ℕ) (job job' : Job) (call : Call) (moment : Moment) (alive : failed ≡ false) (timely : moment.date ≤ 4095)
-    (there : slot jobs n ≡ Some job) (set : jobs' ≡ slice_set jobs n (Some job')) (keeps : Keeps c.pending c'.pending job job') where
+    (there : slot jobs n ≡ Some job) (set : jobs' ≡ slice_set jobs n (Some job')) (keeps : Keeps c.pending c'.pending job job') (reads : KeepsReading c.live c'.live job job') where
   pub dropping_keyed : AreKeyed c.pending jobs → AreKeyed c'.pending jobs'
   dropping_keyed keyed = subst (AreKeyed c'.pending) (sym set) (keeps_keyed c.pending c'.pending jobs n job job' keyed there keeps)
 
-  pub dropping_answered : (reply : Reply) → AreKeyed c.pending jobs → (keys : List ℕ) × Drops c c' keys → IsRow job job' call reply → (old : Service) → Serves d c failed jobs old
+  pub dropping_reading : AreReading c.live jobs → AreReading c'.live jobs'
+  dropping_reading reading = subst (AreReading c'.live) (sym set) (keeps_reading c.live c'.live jobs n job job' reading there reads)
+
+  pub dropping_answered : (reply : Reply) → AreKeyed c.pending jobs → AreReading c.live jobs → Leaves c c' → IsRow job job' call reply → (old : Service) → Serves d c failed jobs old
       → (new : Service) × Serves d c' failed jobs' new × Answers (pack_of d) old (Calls n call moment) reply new
-  dropping_answered reply keyed dropped is = row d c c' failed jobs jobs' (dropping_keyed keyed) dropped (pack_of d) (Calls n call moment) reply (row_is d c failed jobs n call moment alive timely jobs' job job' reply there set is) alive
+  dropping_answered reply keyed reading leaves is =
+      row d c c' failed jobs jobs' (dropping_keyed keyed) (dropping_reading reading) leaves (pack_of d) (Calls n call moment) reply (row_is d c failed jobs n call moment alive timely jobs' job job' reply there set is) alive

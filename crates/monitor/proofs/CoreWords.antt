@@ -1,5 +1,5 @@
 -- A word that is put into a job's core, or asked for, is that of the machine.
-use Rattle.std.proofs.Common.{◌≡◌, ℕ, Bool, false, List, Option, None, Some, refl, sym, ap, subst, ◌∙◌, ⊎_elim, slice_set, []}
+use Rattle.std.proofs.Common.{◌≡◌, ℕ, Bool, false, List, Option, None, Some, refl, sym, ap, subst, ◌∙◌, ⊎_elim, slice_set}
 use Rattle.blockdisk.specs.Disk.{DiskState}
 use Rattle.meaning.specs.Files.{Files}
 use Rattle.meaning.specs.Published.{Version}
@@ -14,14 +14,16 @@ use Rattle.meaning.specs.declared.call.Reply.{Reply}
 use Rattle.meaning.specs.declared.call.Reply.TheVariants.{Done}
 use Rattle.monitor.specs.Replies.{deposit_of, examine_of}
 use Rattle.volume.specs.Live.{VolumeCore}
+use Rattle.volume.specs.declared.live.LiveVersion.{LiveVersion}
 use Rattle.volume.specs.declared.pending.PendingVersion.{PendingVersion}
-use Rattle.monitor.specs.Serving.{pack_of, Serves, AreKeyed}
-use Rattle.monitor.specs.Sides.{Writing, job_of, state_of, sides_in}
+use Rattle.monitor.specs.Serving.{pack_of, Serves, AreKeyed, AreReading}
+use Rattle.monitor.specs.Sides.{UnderKeys, job_of, state_of, sides_in}
 use Rattle.monitor.specs.declared.job.Job.{Job}
 use Rattle.monitor.proofs.Answering.{row, slot_of, job_set, is_done, settled_other}
-use Rattle.monitor.proofs.Dropped.{drops_none, job_keyed}
+use Rattle.monitor.proofs.Dropped.{leaves_none, job_keyed}
+use Rattle.monitor.proofs.ReadingJobs.{keeps_reading}
 
-module _ (pack : Pack) (jobs : List (Option Job)) (n address : ℕ) (serial : ℕ) (files : Files Version) (w : ℕ → Writing) where
+module _ (pack : Pack) (jobs : List (Option Job)) (n address : ℕ) (serial : ℕ) (files : Files Version) (w : UnderKeys) where
   -- the state with the word put
   abbrev put_in : Job → ℕ → State
   put_in job word = with_job (state_of files w jobs) n (job_of w (record job { core = slice_set job.core address word }))
@@ -55,12 +57,23 @@ deposit_keyed pending jobs jobs' n address word reply keyed done refused = ⊎_e
     (λ not. subst (AreKeyed pending) (sym (refused not)) keyed)
     (is_done reply)
 
+-- So it leaves the input sides.
+pub deposit_reading : (live : List (Option LiveVersion)) (jobs jobs' : List (Option Job)) (n address word : ℕ) (reply : Reply) → AreReading live jobs
+    → (reply ≡ Done → (there : Job) × (slot jobs n ≡ Some there) × (jobs' ≡ slice_set jobs n (Some (record there { core = slice_set there.core address word })))) → ((reply ≡ Done → ⊥) → jobs' ≡ jobs) → AreReading live jobs'
+deposit_reading live jobs jobs' n address word reply reading done refused = ⊎_elim
+    (λ is.
+    let there = done is in
+    subst (AreReading live) (sym there.2)
+    (keeps_reading live live jobs n there.0 (record there.0 { core = slice_set there.0.core address word }) reading there.1 (record { once = λ key. refl; each = λ has. record { each = has.each; sixteen = has.sixteen } })))
+    (λ not. subst (AreReading live) (sym (refused not)) reading)
+    (is_done reply)
+
 module _ (d : DiskState) (map : VolumeCore) (failed : Bool) (jobs jobs' : List (Option Job)) (n address word : ℕ) (reply : Reply) where
-  pub deposit_answered : failed ≡ false → AreKeyed map.pending jobs → reply ≡ deposit_of address (slot jobs n)
+  pub deposit_answered : failed ≡ false → AreKeyed map.pending jobs → AreReading map.live jobs → reply ≡ deposit_of address (slot jobs n)
       → (reply ≡ Done → (there : Job) × (slot jobs n ≡ Some there) × (jobs' ≡ slice_set jobs n (Some (record there { core = slice_set there.core address word })))) → ((reply ≡ Done → ⊥) → jobs' ≡ jobs)
       → (old : Service) → Serves d map failed jobs old → (new : Service) × Serves d map failed jobs' new × Answers (pack_of d) old (Deposit n address word) reply new
-  deposit_answered serves keyed answer done refused =
-      row d map map failed jobs jobs' (deposit_keyed map.pending jobs jobs' n address word reply keyed done refused) ([], drops_none map) (pack_of d) (Deposit n address word) reply
+  deposit_answered serves keyed reading answer done refused =
+      row d map map failed jobs jobs' (deposit_keyed map.pending jobs jobs' n address word reply keyed done refused) (deposit_reading map.live jobs jobs' n address word reply reading done refused) (leaves_none map) (pack_of d) (Deposit n address word) reply
       (λ serial files w. ⊎_elim
       (λ is. let there = done is in subst (λ r. step (pack_of d) serial (state_of files w jobs) (Deposit n address word) ≡ (r, state_of files w jobs')) (sym is)
       (deposit_done_row (pack_of d) jobs n address serial files w jobs' word there.0 there.1 (sym answer ∙ is) there.2))
@@ -68,7 +81,7 @@ module _ (d : DiskState) (map : VolumeCore) (failed : Bool) (jobs jobs' : List (
       (deposit_other_row (pack_of d) jobs n address serial files w word reply (slot jobs n) refl answer not))
       (is_done reply)) serves
 
-  pub examine_answered : failed ≡ false → AreKeyed map.pending jobs → reply ≡ examine_of address (slot jobs n)
+  pub examine_answered : failed ≡ false → AreKeyed map.pending jobs → AreReading map.live jobs → reply ≡ examine_of address (slot jobs n)
       → (old : Service) → Serves d map failed jobs old → (new : Service) × Serves d map failed jobs new × Answers (pack_of d) old (Examine n address) reply new
-  examine_answered serves keyed answer =
-      row d map map failed jobs jobs keyed ([], drops_none map) (pack_of d) (Examine n address) reply (λ serial files w. examine_row (pack_of d) jobs n address serial files w reply (slot jobs n) refl answer) serves
+  examine_answered serves keyed reading answer =
+      row d map map failed jobs jobs keyed reading (leaves_none map) (pack_of d) (Examine n address) reply (λ serial files w. examine_row (pack_of d) jobs n address serial files w reply (slot jobs n) refl answer) serves

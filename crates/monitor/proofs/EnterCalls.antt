@@ -1,14 +1,16 @@
 -- ENTER is served as the machine serves it.
 use Rattle.std.proofs.Common.{◌≡◌, ◌<◌, ◌≤◌, ℕ, ◌+◌, ◌%◌, Bool, true, false, List, [], ◌∷◌, Option, None, Some, refl, sym, ap, subst, ◌∙◌, inl, inr, ⊎_elim, arith, slice_index, slice_set}
-use Rattle.std.specs.Prelude.{is_none, option_map, option_to_list, slice_index_or}
+use Rattle.std.specs.Prelude.{is_none, option_map, option_to_list}
+use Rattle.words36.specs.declared.names.FileName.{FileName}
 use Rattle.words36.specs.declared.moment.Moment.{Moment}
 use Rattle.blockdisk.specs.Disk.{DiskState}
 use Rattle.meaning.specs.Entering.{protection_or, new_file, enter, enter_answer, enter_done, entered, output_opened}
+use Rattle.meaning.specs.Updating.{input_updating}
 use Rattle.meaning.specs.Files.{File, Files, Place, map_directory}
 use Rattle.meaning.specs.Jobs as machine
-use Rattle.meaning.specs.Jobs.{State, slot, channel_at, with_channel, with_job, is_create, cleared}
+use Rattle.meaning.specs.Jobs.{State, slot, channel_at, with_channel, is_create}
 use Rattle.meaning.specs.Looking.{place_at, digit_at, with_attributes}
-use Rattle.meaning.specs.Maps.{get, times, total}
+use Rattle.meaning.specs.Maps.{get, times}
 use Rattle.meaning.specs.Opening.{dump_mode}
 use Rattle.meaning.specs.Outcomes.{settled, refused_at}
 use Rattle.meaning.specs.Published.{Version, without_serials, file_in, file_at}
@@ -24,7 +26,8 @@ use Rattle.meaning.proofs.SlotLaws.{none_some}
 use Rattle.retrieval.specs.Modes.{mode_number}
 use Rattle.retrieval.specs.declared.prime.Prime.{Prime}
 use Rattle.volume.specs.Beginning.{begun, is_absent}
-use Rattle.volume.specs.Live.{VolumeCore, pending_at, held_cost}
+use Rattle.volume.specs.Live.{VolumeCore, pending_at}
+use Rattle.volume.specs.Places.{prime_at}
 use Rattle.volume.specs.Rest.{IsSound, RestsAt}
 use Rattle.volume.specs.declared.pending.PendingVersion.{PendingVersion}
 use Rattle.volume.proofs.Answering.{rest_holds}
@@ -32,8 +35,8 @@ use Rattle.monitor.specs.Entering.{IsEntering, IsEnterAnswer}
 use Rattle.monitor.specs.Entering as entering
 use Rattle.monitor.specs.Finding.{IsKnown, found_file, found_in, protection_for, file_begun}
 use Rattle.monitor.specs.Rows.{Keeps}
-use Rattle.monitor.specs.Serving.{pack_of, present, IsSide, AreKeyed, IsWriting, IsState, Serves}
-use Rattle.monitor.specs.Sides.{Writing, side_of, kind_of, output_of, channel_of, job_of, state_of}
+use Rattle.monitor.specs.Serving.{pack_of, present, IsSide, AreKeyed, IsWriting, AreReading, IsState, Serves}
+use Rattle.monitor.specs.Sides.{Writing, UnderKeys, side_of, kind_of, input_of, output_of, channel_of, job_of, state_of}
 use Rattle.monitor.specs.declared.channel.Channel.{Channel}
 use Rattle.monitor.specs.declared.output.Kind.{Kind}
 use Rattle.monitor.specs.declared.output.Kind.TheVariants.{Create, Supersede}
@@ -43,10 +46,13 @@ use Rattle.monitor.proofs.Answering.{state_is, job_set, called, goes_on}
 use Rattle.monitor.proofs.Beginning.{IsKnownAs, home_of}
 use Rattle.monitor.proofs.Calling.{channel_is, channel_set}
 use Rattle.monitor.proofs.Dropped.{same_or_not, keeps_keyed}
+use Rattle.monitor.proofs.EnterReads.{reading_entered}
 use Rattle.monitor.proofs.EnterServing.{with_writing, with_same, with_other, jobs_same}
 use Rattle.monitor.proofs.Entering.{at_place}
 use Rattle.monitor.proofs.Growths.{shown_at}
 use Rattle.monitor.proofs.Knowing.{known}
+use Rattle.monitor.proofs.ReadStays.{reads_kept}
+use Rattle.monitor.proofs.ReadingJobs.{keeps_reading}
 use Rattle.monitor.proofs.SideLists.{count, count-channel, each-channel}
 use Rattle.meaning.proofs.MapLists.{get-map_values}
 use Rattle.meaning.proofs.Names.{name_total}
@@ -61,7 +67,7 @@ other_kind : (kind : Kind) → is_create (kind_of kind) ≡ false → kind_of ki
 other_kind Create e = cc e
 other_kind Supersede e = refl
 
-module _ (w : ℕ → Writing) (job : Job) (c : Channel) (e : ℕ) (moment : Moment) (q : Place) (digit : ℕ) (kind : Kind) (prime : Prime) (directory : ℕ) (mode : mode_number prime.mode ≡ dump_mode) (at : prime.moment ≡ moment) where
+module _ (w : UnderKeys) (job : Job) (c : Channel) (e : ℕ) (moment : Moment) (q : Place) (digit : ℕ) (kind : Kind) (prime : Prime) (directory : ℕ) (mode : mode_number prime.mode ≡ dump_mode) (at : prime.moment ≡ moment) where
   file_is : (protection : ℕ) → prime.protection ≡ protection → new_file protection (channel_of w c) moment ≡ file_begun prime
   file_is protection is =
       let p = sym is in let m = sym mode in let t = ap (λ (x : Moment). x.minute) (sym at) in let d = ap (λ (x : Moment). x.date) (sym at) in
@@ -81,7 +87,8 @@ module _ (w : ℕ → Writing) (job : Job) (c : Channel) (e : ℕ) (moment : Mom
       λ i. record { place = q; kind = k i; pending = f i; next = 1 }
 
 module _ (d : DiskState) (map map' : VolumeCore) (jobs jobs' : List (Option Job)) (n : ℕ) (job job' : Job) (ch e : ℕ) (moment : Moment) (c : Channel) (key : ℕ) (prime : Prime)
-    (there : slot jobs n ≡ Some job) (set : jobs' ≡ slice_set jobs n (Some job')) (enters : IsEntering map map' job job' ch e moment c key prime) (keyed : AreKeyed map.pending jobs) where
+    (there : slot jobs n ≡ Some job) (set : jobs' ≡ slice_set jobs n (Some job')) (enters : IsEntering map map' job job' ch e moment c key prime) (keyed : AreKeyed map.pending jobs)
+    (reading : AreReading map.live jobs) where
   -- the new side
   abbrev out : Output
   out = record { pending = record { key = key }; kind = enters.kind; next = 1 }
@@ -112,15 +119,18 @@ module _ (d : DiskState) (map map' : VolumeCore) (jobs jobs' : List (Option Job)
   pub enter_keyed : AreKeyed map'.pending jobs'
   enter_keyed = subst (AreKeyed map'.pending) (sym set) (keeps_keyed map.pending map'.pending jobs n job job' keyed there keeps)
 
+  pub enter_reading : AreReading map'.live jobs'
+  enter_reading = subst (AreReading map'.live) (sym set) (keeps_reading map.live map'.live jobs n job job' reading there (reading_entered map map' job job' ch e moment c key prime enters))
+
   module _ (sound : IsSound d map false) (honest : d.honest) (timely : moment.date ≤ 4095)
-      (row : (s : State) → IsKnown d map s → (w : ℕ → Writing) → IsEnterAnswer (pack_of d) s (job_of w job) (job_of w job') (channel_at (job_of w job) ch) e Done)
+      (row : (s : State) → IsKnown d map s → (w : UnderKeys) → IsEnterAnswer (pack_of d) s (job_of w job) (job_of w job') (channel_at (job_of w job) ch) e Done)
       (protection : (files : Files File) → RestsAt d files → prime.protection ≡ protection_for (found_in (get files prime.ppn) prime.file) (protection_or (slice_index job.core (e + 2)) 0o057)) where
     abbrev new_writing : Writing
     new_writing = record { place = place_of prime.ppn prime.file; file = file_begun prime }
 
     module _ (s : State) (state : IsState d map jobs s) where
-      abbrev w : ℕ → Writing
-      w = with_writing state.written key new_writing
+      abbrev w : UnderKeys
+      w = with_writing state.under key new_writing
 
       -- the same state
       abbrev t : State
@@ -128,7 +138,7 @@ module _ (d : DiskState) (map map' : VolumeCore) (jobs jobs' : List (Option Job)
 
       t_is : s ≡ t
       t_is =
-          state_is s w jobs (state.jobs_are ∙ sym (jobs_same state.written key new_writing jobs (keyed.once key ∙ ap present enters.begun.vacant)))
+          state_is s w jobs (state.jobs_are ∙ sym (jobs_same state.under key new_writing jobs (keyed.once key ∙ ap present enters.begun.vacant)))
 
       t_known : IsKnown d map t
       t_known = subst (IsKnown d map) t_is (known d map jobs s state sound honest)
@@ -155,7 +165,7 @@ module _ (d : DiskState) (map map' : VolumeCore) (jobs jobs' : List (Option Job)
           (get directory.directory.files prime.file) (sym directory.absent ∙ enters.kind_is) directory.few
           (protection (without_serials s.files) state.files ∙ ap (λ f. protection_for f (protection_or (slice_index job.core (e + 2)) 0o057))
           (ap (λ o. found_in o prime.file) (shown_at s.files prime.ppn ∙ ap (option_map (map_directory (λ (v : Version). v.file))) directory.there) ∙ ap (found_file directory.directory.protection) (get-map_values name_total (λ (v : Version). v.file) directory.directory.files prime.file)))
-          ∙ (let x = sym (with_same state.written key new_writing) in λ i. record { place = (x i).place; kind = kind_of enters.kind; pending = (x i).file; next = 1 })
+          ∙ (let x = sym (with_same state.under key new_writing) in λ i. record { place = (x i).place; kind = kind_of enters.kind; pending = (x i).file; next = 1 })
 
       -- the row
       row_is : (serial : ℕ) → step (pack_of d) serial t (Calls n (Enter ch e) moment) ≡ (Done, state_of s.files w jobs')
@@ -164,8 +174,14 @@ module _ (d : DiskState) (map map' : VolumeCore) (jobs jobs' : List (Option Job)
           ∙ ap (λ o. on_channel t o (λ x. of_job t n (enter (pack_of d) t (job_of w job) ch x e moment))) (channel_is w job ch (Some c) enters.there)
           ∙ ap (of_job t n)
           (ap (λ r. settled r (enter_done (pack_of d) t (job_of w job) ch (channel_of w c) e moment (place_at (job_of w job) e)) (refused_at (job_of w job) e)) answer
+          ∙ ap (λ o. (
+            Done,
+            entered (pack_of d) (job_of w job) ch (channel_of w c) e (input_updating o (file_at s.files (place_at (job_of w job) e)))
+                (output_opened (job_of w job) (channel_of w c) e moment (place_at (job_of w job) e) (digit_at t (job_of w job) (place_at (job_of w job) e)) o (file_at s.files (place_at (job_of w job) e))),
+          )) (ap (option_map (input_of w)) enters.unread)
           ∙ ap (λ o. (Done, entered (pack_of d) (job_of w job) ch (channel_of w c) e None o)) opens
-          ∙ ap (λ (x : Writing). (Done, with_channel (record (job_of w job) { core = with_attributes 1 job.core e x.file }) ch (Some (channel_of w (entering.entered c key enters.kind))))) (with_same state.written key new_writing)
+          ∙ ap (λ o. (Done, entered (pack_of d) (job_of w job) ch (channel_of w c) e (option_map (input_of w) o) (output_of w out))) (sym enters.unread)
+          ∙ ap (λ (x : Writing). (Done, with_channel (record (job_of w job) { core = with_attributes 1 job.core e x.file }) ch (Some (channel_of w (entering.entered c key enters.kind))))) (with_same state.under key new_writing)
           ∙ ap (λ j. (Done, j)) (channel_set w (record job { core = with_attributes 1 job.core e (file_begun prime) }) ch (Some (entering.entered c key enters.kind)) ∙ ap (job_of w) (sym enters.job_is)))
           ∙ ap (λ x. (Done, x)) (job_set s.files w jobs n job' ∙ ap (state_of s.files w) (sym set))
 
@@ -173,10 +189,10 @@ module _ (d : DiskState) (map map' : VolumeCore) (jobs jobs' : List (Option Job)
       begins : (k : ℕ) (p : PendingVersion) → pending_at map'.pending k ≡ Some p → k ≡ key → p ≡ begun prime (is_absent prime.file enters.begun.directory)
       begins k p at same = some_same (sym at ∙ ap (pending_at map'.pending) same ∙ enters.begun.here)
 
-      new_version : (k : ℕ) (p : PendingVersion) → pending_at map'.pending k ≡ Some p → k ≡ key → IsWriting d p (w k)
+      new_version : (k : ℕ) (p : PendingVersion) → pending_at map'.pending k ≡ Some p → k ≡ key → IsWriting d p (w.written k)
       new_version k p at same =
-          subst (λ v. IsWriting d v (w k)) (sym (begins k p at same))
-          (subst (IsWriting d (begun prime (is_absent prime.file enters.begun.directory))) (sym (ap w same ∙ with_same state.written key new_writing)) (record {
+          subst (λ v. IsWriting d v (w.written k)) (sym (begins k p at same))
+          (subst (IsWriting d (begun prime (is_absent prime.file enters.begun.directory))) (sym (ap w.written same ∙ with_same state.under key new_writing)) (record {
             place = refl;
             protection = refl;
             mode = refl;
@@ -186,14 +202,18 @@ module _ (d : DiskState) (map map' : VolumeCore) (jobs jobs' : List (Option Job)
             body = record { each = []; undamaged = tt; whole = tt; body_is = refl };
           }))
 
-      new_absent : (k : ℕ) (p : PendingVersion) → pending_at map'.pending k ≡ Some p → k ≡ key → p.is_new ≡ true → file_at s.files (w k).place ≡ None
+      new_absent : (k : ℕ) (p : PendingVersion) → pending_at map'.pending k ≡ Some p → k ≡ key → p.is_new ≡ true → file_at s.files (w.written k).place ≡ None
       new_absent k p at same is_new =
-          ap (λ (x : Writing). file_at s.files x.place) (ap w same ∙ with_same state.written key new_writing) ∙ found_is
+          ap (λ (x : Writing). file_at s.files x.place) (ap w.written same ∙ with_same state.under key new_writing) ∙ found_is
           ∙ gone (get directory.directory.files prime.file) (sym directory.absent ∙ ap (λ (v : PendingVersion). v.is_new) (sym (begins k p at same)) ∙ is_new)
         where
           gone : (o : Option Version) → is_none o ≡ true → o ≡ None
           gone None e = refl
           gone (Some v) e = cc e
+
+      -- each place has the prime block that it had
+      primes : (ppn : ℕ) (name : FileName) → prime_at map' ppn name ≡ prime_at map ppn name
+      primes ppn name = ap (λ k. prime_at (record map { known = k }) ppn name) enters.begun.known
 
       pub entered_leads : (failed : Bool) → failed ≡ false → (new : Service) × Serves d map' failed jobs' new × Answers (pack_of d) (Serving s) (Calls n (Enter ch e) moment) Done new
       entered_leads failed serves =
@@ -202,14 +222,14 @@ module _ (d : DiskState) (map map' : VolumeCore) (jobs jobs' : List (Option Job)
           (λ still. record {
             files = state.files;
             serials = state.serials;
-            written = w;
+            under = w;
             versions = λ k p at. same_or_not k key (new_version k p at)
-                (λ apart. subst (IsWriting d p) (sym (with_other state.written key new_writing k apart)) (state.versions k p (sym (enters.begun.others k apart) ∙ at)));
+                (λ apart. subst (IsWriting d p) (sym (with_other state.under key new_writing k apart)) (state.versions k p (sym (enters.begun.others k apart) ∙ at)));
             absent = λ k p at is_new. same_or_not k key (λ same. new_absent k p at same is_new)
-                (λ apart. ap (λ (x : Writing). file_at s.files x.place) (with_other state.written key new_writing k apart) ∙ state.absent k p (sym (enters.begun.others k apart) ∙ at) is_new);
+                (λ apart. ap (λ (x : Writing). file_at s.files x.place) (with_other state.under key new_writing k apart) ∙ state.absent k p (sym (enters.begun.others k apart) ∙ at) is_new);
             keyed = enter_keyed;
+            read = reads_kept d d map map' state.under.read enters.begun.live (λ k v at some m held. refl) s.files primes state.read;
+            reading = enter_reading;
             jobs_are = refl;
-            unread = λ key v at. state.unread key v (sym (ap (λ vs. slice_index_or vs key None) enters.begun.live) ∙ at);
-            unheld = ap (λ live. total held_cost live) enters.begun.live ∙ state.unheld;
             sound = still;
           })

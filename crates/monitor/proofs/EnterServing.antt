@@ -6,18 +6,18 @@ use Rattle.meaning.specs.Jobs as machine
 use Rattle.meaning.specs.Jobs.{slot}
 use Rattle.meaning.specs.Maps.{times}
 use Rattle.meaning.proofs.MapSums.{times_head}
-use Rattle.monitor.specs.Sides.{Writing, side_of, sides_in, sides, keys_of, output_of, channel_of, job_of, jobs_of}
+use Rattle.monitor.specs.Sides.{Writing, UnderKeys, side_of, sides_in, sides, keys_of, output_of, channel_of, job_of, jobs_of}
 use Rattle.monitor.specs.declared.channel.Channel.{Channel}
 use Rattle.monitor.specs.declared.output.Output.{Output}
 use Rattle.monitor.specs.declared.job.Job.{Job}
 use Rattle.monitor.proofs.SideLists.{count, count-append, count-cons_option}
 
 -- other things are written under one key
-abbrev pub with_writing : (ℕ → Writing) → ℕ → Writing → ℕ → Writing
-with_writing w key x k = if k == key then x else w k
+abbrev pub with_writing : UnderKeys → ℕ → Writing → UnderKeys
+with_writing w key x = record w { written = λ k. if k == key then x else w.written k }
 
-pub with_same : (w : ℕ → Writing) (key : ℕ) (x : Writing) → with_writing w key x key ≡ x
-with_same w key x = ap (λ b. if b then x else w key) (eq-eqb key key refl)
+pub with_same : (w : UnderKeys) (key : ℕ) (x : Writing) → (with_writing w key x).written key ≡ x
+with_same w key x = ap (λ b. if b then x else w.written key) (eq-eqb key key refl)
 
 apart_test : (k key : ℕ) → k ≢ key → (k == key) ≡ false
 apart_test k key apart = by (k == key) refl
@@ -26,11 +26,11 @@ apart_test k key apart = by (k == key) refl
     by true e = absurd (apart (eqb-true k key e))
     by false e = refl
 
-pub with_other : (w : ℕ → Writing) (key : ℕ) (x : Writing) (k : ℕ) → k ≢ key → with_writing w key x k ≡ w k
-with_other w key x k apart = ap (λ b. if b then x else w k) (apart_test k key apart)
+pub with_other : (w : UnderKeys) (key : ℕ) (x : Writing) (k : ℕ) → k ≢ key → (with_writing w key x).written k ≡ w.written k
+with_other w key x k apart = ap (λ b. if b then x else w.written k) (apart_test k key apart)
 
 -- Jobs that don't write under it are the same.
-module _ (w : ℕ → Writing) (key : ℕ) (x : Writing) where
+module _ (w : UnderKeys) (key : ℕ) (x : Writing) where
   output_same : (o : Output) (os : List Output) → count key (o ∷ os) ≡ 0 → output_of (with_writing w key x) o ≡ output_of w o
   output_same o os none =
       let other = with_other w key x o.pending.key (λ same. let head = times_head key (keys_of os) in let at = subst (λ (k : ℕ). times key (k ∷ keys_of os) ≡ 0) same none in absurd (omega arith)) in

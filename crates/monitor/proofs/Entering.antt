@@ -34,7 +34,7 @@ use Rattle.volume.specs.declared.error.CallError.TheVariants as errors
 use Rattle.volume.proofs.Answering.{Holds, rest_holds, all_at_place}
 use Rattle.monitor.specs.Finding.{IsKnown, IsAnswer, claims, found_file, found_in, begun_as, allowed, begin_answer_at}
 use Rattle.monitor.specs.Serving.{pack_of}
-use Rattle.monitor.specs.Sides.{Writing, job_of}
+use Rattle.monitor.specs.Sides.{UnderKeys, job_of}
 use Rattle.monitor.specs.declared.found.Found.{Found}
 use Rattle.monitor.specs.declared.job.Job.{Job}
 use Rattle.monitor.specs.declared.output.Kind.{Kind}
@@ -43,7 +43,7 @@ use Rattle.monitor.proofs.Beginning.{home, listed, first_place, begin_reply, beg
 use Rattle.monitor.proofs.Growths.{shown_at}
 
 -- the place that the words at an address name
-pub at_place : (w : ℕ → Writing) (job : Job) (address ppn : ℕ) (file : FileName) → ppn ≡ own_if_zero (slice_index job.core (address + 3)) job.ppn → file.name ≡ slice_index job.core address → file.ext ≡ left (slice_index job.core (address + 1))
+pub at_place : (w : UnderKeys) (job : Job) (address ppn : ℕ) (file : FileName) → ppn ≡ own_if_zero (slice_index job.core (address + 3)) job.ppn → file.name ≡ slice_index job.core address → file.ext ≡ left (slice_index job.core (address + 1))
     → place_of ppn file ≡ place_at (job_of w job) address
 at_place w job address ppn file p n x = λ i. record { ppn = p i; name = record { name = n i; ext = x i } }
 
@@ -85,7 +85,7 @@ module _ (d : DiskState) (map : VolumeCore) (s : State) (known : IsKnown d map s
   abbrev pub may : ℕ → Place → Result Kind ErrorCode
   may who place = allowed (found_in (get (without_serials s.files) place.ppn) place.name) who place.ppn (place.name.name == 0) (claims map.pending place)
 
-  reply_is : (w : ℕ → Writing) (job : Job) (place : Place)
+  reply_is : (w : UnderKeys) (job : Job) (place : Place)
       → begin_answer_at (pack_of d) s (job_of w job) place ≡ begin_reply (may job.ppn place) (exceeds_room (pack_of d) s (1 + growth (entry_count s place.ppn))) (has_no_room (pack_of d) s)
   reply_is w job place =
       begin_is place.name place.ppn (job_of w job) (get s.files place.ppn) (place.name.name == 0) _ _ _
@@ -105,10 +105,10 @@ module _ (d : DiskState) (map : VolumeCore) (s : State) (known : IsKnown d map s
       gone None is = is
       gone (Some x) is = absurd (listed d map s.files holds sound.whole.map place.ppn x is (unnamed (find nat_cmp place.ppn map.known.master.entries) refl))
 
-  pub no_owner : (w : ℕ → Writing) (job : Job) (place : Place) → (IsPpn place.ppn → ⊥) → begin_answer_at (pack_of d) s (job_of w job) place ≡ replies.Refused 1
+  pub no_owner : (w : UnderKeys) (job : Job) (place : Place) → (IsPpn place.ppn → ⊥) → begin_answer_at (pack_of d) s (job_of w job) place ≡ replies.Refused 1
   no_owner w job place none = ap (λ o. if is_none o then replies.Refused 1 else (if place.name.name == 0 then replies.Refused 0 else begin_answer (pack_of d) s (job_of w job) None place)) (no_directory place none)
 
-  pub refused : (w : ℕ → Writing) (job : Job) (place : Place) (code : ErrorCode) → may job.ppn place ≡ Err code → begin_answer_at (pack_of d) s (job_of w job) place ≡ replies.Refused (number_of code)
+  pub refused : (w : UnderKeys) (job : Job) (place : Place) (code : ErrorCode) → may job.ppn place ≡ Err code → begin_answer_at (pack_of d) s (job_of w job) place ≡ replies.Refused (number_of code)
   refused w job place code is = reply_is w job place ∙ ap (λ r. begin_reply r (exceeds_room (pack_of d) s (1 + growth (entry_count s place.ppn))) (has_no_room (pack_of d) s)) is
 
   -- the version doesn't fit
@@ -116,13 +116,13 @@ module _ (d : DiskState) (map : VolumeCore) (s : State) (known : IsKnown d map s
   full place x = nat_lt (space d.size) (map.known.table.booked + begin_cost (is_absent place.name x) (entries_with map x place.ppn))
 
   -- there is a directory, and what is answered goes by the room
-  pub record Begins (w : ℕ → Writing) (job : Job) (place : Place) : Type 0 where
+  pub record Begins (w : UnderKeys) (job : Job) (place : Place) : Type 0 where
     pub directory : KnownDirectory
     pub there : IsDirectoryOf map place.ppn directory
     pub found : find nat_cmp place.ppn map.known.master.entries ≡ None → ⊥
     pub answer : begin_answer_at (pack_of d) s (job_of w job) place ≡ (if full place directory then replies.Refused 0o14 else replies.Done)
 
-  pub begins : (w : ℕ → Writing) (job : Job) (place : Place) (kind : Kind) → may job.ppn place ≡ Ok kind → Begins w job place
+  pub begins : (w : UnderKeys) (job : Job) (place : Place) (kind : Kind) → may job.ppn place ≡ Ok kind → Begins w job place
   begins w job place kind is = by (get s.files place.ppn) refl (sym (ap (λ o. allowed (found_in o place.name) job.ppn place.ppn (place.name.name == 0) (claims map.pending place)) (shown_at s.files place.ppn)) ∙ is)
     where
       -- by what stands there
@@ -160,11 +160,11 @@ module _ (d : DiskState) (map : VolumeCore) (s : State) (known : IsKnown d map s
 
   -- What is answered by what the volume answers.
 
-  pub begun : (w : ℕ → Writing) (job : Job) (place : Place) (b : Begins w job place) → (space d.size < map.known.table.booked + begin_cost (is_absent place.name b.directory) (entries_with map b.directory place.ppn) → ⊥)
+  pub begun : (w : UnderKeys) (job : Job) (place : Place) (b : Begins w job place) → (space d.size < map.known.table.booked + begin_cost (is_absent place.name b.directory) (entries_with map b.directory place.ppn) → ⊥)
       → begin_answer_at (pack_of d) s (job_of w job) place ≡ replies.Done
   begun w job place b fits = b.answer ∙ ap (λ t. if t then replies.Refused 0o14 else replies.Done) (not_less _ _ fits)
 
-  pub not_begun : (X : Type 0) (w : ℕ → Writing) (job : Job) (place : Place) (b : Begins w job place) (error : CallError) → (error ≡ errors.Refused NoDirectory → find nat_cmp place.ppn map.known.master.entries ≡ None)
+  pub not_begun : (X : Type 0) (w : UnderKeys) (job : Job) (place : Place) (b : Begins w job place) (error : CallError) → (error ≡ errors.Refused NoDirectory → find nat_cmp place.ppn map.known.master.entries ≡ None)
       → (error ≡ errors.Refused NoRoom → space d.size < map.known.table.booked + begin_cost (is_absent place.name b.directory) (entries_with map b.directory place.ppn))
       → ((code : ErrorCode) → error ≡ errors.Refused code → (code ≡ NoDirectory) ⊎ (code ≡ NoRoom)) → (error ≡ errors.Device → ⊥) → (error ≡ errors.Failed → ⊥)
       → IsAnswer {X = X} (Err error) (begin_answer_at (pack_of d) s (job_of w job) place)
@@ -181,7 +181,7 @@ module _ (d : DiskState) (map : VolumeCore) (s : State) (known : IsKnown d map s
   not_begun X w job place b errors.Failed gone many codes device failed = failed refl
 
   -- The same, where the prime block says the place.
-  module _ {X : Type 0} (w : ℕ → Writing) (job : Job) (ppn : ℕ) (file : FileName) (found : Found) (prime : Prime) (result : Result X CallError) (p : prime.ppn ≡ ppn) (f : prime.file ≡ file)
+  module _ {X : Type 0} (w : UnderKeys) (job : Job) (ppn : ℕ) (file : FileName) (found : Found) (prime : Prime) (result : Result X CallError) (p : prime.ppn ≡ ppn) (f : prime.file ≡ file)
       (there : (found ≡ found_in (get (without_serials s.files) ppn) file) × ((kind : Kind) × (allowed found job.ppn ppn (file.name == 0) (claims map.pending (place_of ppn file)) ≡ Ok kind)))
       (room : (x : KnownDirectory) → IsDirectoryOf map prime.ppn x → (result ≡ Err (errors.Refused NoRoom) ↔ (space d.size < map.known.table.booked + begin_cost (is_absent prime.file x) (entries_with map x prime.ppn)))) where
     begins_here : Begins w job (place_of ppn file)

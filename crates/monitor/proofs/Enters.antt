@@ -1,20 +1,21 @@
 -- An ENTER answers as the machine does.
 use Rattle.std.proofs.Common.{◌≡◌, ℕ, ◌+◌, false, List, Option, None, Some, refl, sym, ap, subst, ◌∙◌, inl, inr}
-use Rattle.std.specs.Prelude.{◌||◌, if◌then◌else◌, is_some, option_map}
+use Rattle.std.specs.Prelude.{◌==◌, ◌||◌, if◌then◌else◌, is_some, option_map}
 use Rattle.meaning.specs.Codes.{number_of}
 use Rattle.meaning.specs.Cores.{lies_outside, with_right}
-use Rattle.meaning.specs.Entering.{enter_answer}
+use Rattle.meaning.specs.Entering.{begin_answer, enter_answer}
 use Rattle.meaning.specs.Jobs as machine
 use Rattle.meaning.specs.Jobs.{State, slot, channel_at}
-use Rattle.meaning.specs.Looking.{place_at}
+use Rattle.meaning.specs.Looking.{place_at, has_no_directory}
 use Rattle.meaning.specs.Room.{Pack}
 use Rattle.meaning.specs.Runs.{is_plain}
+use Rattle.meaning.specs.Updating.{is_elsewhere}
 use Rattle.meaning.specs.declared.code.ErrorCode.{ErrorCode}
 use Rattle.meaning.specs.declared.call.Reply.{Reply}
 use Rattle.meaning.specs.declared.call.Reply.TheVariants.{Done, Refused, AddressCheck, NoMemory}
 use Rattle.monitor.specs.Entering.{IsEnterAnswer}
 use Rattle.monitor.specs.Finding.{begin_answer_at}
-use Rattle.monitor.specs.Sides.{Writing, output_of, channel_of, job_of}
+use Rattle.monitor.specs.Sides.{UnderKeys, input_of, output_of, channel_of, job_of}
 use Rattle.monitor.specs.declared.channel.Channel.{Channel}
 use Rattle.monitor.specs.declared.job.Job.{Job}
 use Rattle.monitor.proofs.Calling.{channel_is}
@@ -23,10 +24,11 @@ pub no_side : {X : Type 0} (o : Option X) → is_some o ≡ false → o ≡ None
 no_side None e = refl
 no_side (Some x) e = cc e
 
-module _ (pack : Pack) (s : State) (w : ℕ → Writing) (job : Job) (number e : ℕ) (c : Channel) (there : slot job.channels number ≡ Some c) (inside : lies_outside job.core e 4 ≡ false) (free : c.output ≡ None) where
+module _ (pack : Pack) (s : State) (w : UnderKeys) (job : Job) (number e : ℕ) (c : Channel) (there : slot job.channels number ≡ Some c) (inside : lies_outside job.core e 4 ≡ false) (free : c.output ≡ None) (unread : c.input ≡ None) where
   -- what is asked before it may begin
   tail : enter_answer pack s (job_of w job) (channel_of w c) e (place_at (job_of w job) e) ≡ begin_answer_at pack s (job_of w job) (place_at (job_of w job) e)
-  tail = λ i. if inside i then AddressCheck else if is_some (option_map (output_of w) (free i)) || false then Refused 5 else begin_answer_at pack s (job_of w job) (place_at (job_of w job) e)
+  tail = λ i. if inside i then AddressCheck else if is_some (option_map (output_of w) (free i)) || is_elsewhere (option_map (input_of w) (unread i)) (place_at (job_of w job) e) then Refused 5
+      else if has_no_directory s (place_at (job_of w job) e) then Refused 1 else if (place_at (job_of w job) e).name.name == 0 then Refused 0 else begin_answer pack s (job_of w job) (option_map (input_of w) (unread i)) (place_at (job_of w job) e)
 
   answered : (job' : machine.Job) (reply : Reply) → IsEnterAnswer pack s (job_of w job) job' (Some (channel_of w c)) e reply → IsEnterAnswer pack s (job_of w job) job' (channel_at (job_of w job) number) e reply
   answered job' reply is = subst (λ o. IsEnterAnswer pack s (job_of w job) job' o e reply) (sym (channel_is w job number (Some c) there)) is

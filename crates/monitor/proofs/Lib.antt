@@ -1,9 +1,14 @@
+pub mod SideCounts
 pub mod SideLists
+pub mod ReaderLists
 pub mod Dropped
+pub mod ReadingJobs
+pub mod HeldReaders
 pub mod SideSums
 pub mod Growths
 pub mod Rooms
 pub mod Answering
+pub mod Apart
 pub mod Started
 pub mod Listing
 pub mod Slots
@@ -13,6 +18,7 @@ pub mod CoreWords
 pub mod Calling
 pub mod Opens
 pub mod Usetos
+pub mod Usetis
 pub mod Outs
 pub mod MakeDirs
 pub mod Closes
@@ -31,6 +37,7 @@ pub mod MakeDirCalls
 pub mod MakeDirStates
 pub mod MakeDirAnswers
 pub mod EnterCalls
+pub mod EnterReads
 pub mod EnterRefusals
 pub mod EnterAnswers
 pub mod Called
@@ -44,6 +51,9 @@ pub mod Closings
 pub mod Untouched
 pub mod OutPlaced
 pub mod Inputs
+pub mod ReadWords
+pub mod ReadCalls
+pub mod ReadAnswers
 pub mod Statuses
 pub mod HeldRooms
 pub mod ReadBookings
@@ -51,8 +61,13 @@ pub mod ReadStays
 pub mod HeldSerials
 pub mod ReadsPinned
 pub mod ReadsPublished
-pub mod Unstopped
+pub mod ServedEvents
 pub mod EventCrashes
 pub mod Listed
+pub mod LettingGo
 pub mod Along
 pub mod LookupAnswers
+pub mod MomentRuns
+pub mod Stills
+pub mod Lookups
+pub mod LookupCalls

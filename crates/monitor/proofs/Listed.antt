@@ -5,15 +5,18 @@ use Rattle.blockdisk.specs.Disk.{DiskState, LeavesOnly, SameDisk, one_more}
 use Rattle.meaning.specs.Crashes.{StandsForState, StandsForEither, RunsOn}
 use Rattle.meaning.specs.Jobs.{State}
 use Rattle.meaning.specs.Room.{Pack}
-use Rattle.meaning.specs.Runs.{Service, Serving, Broken, Answers}
+use Rattle.meaning.specs.Runs.{Service, Serving, Broken, Answers, Run}
 use Rattle.meaning.specs.declared.call.Reply.{Reply}
 use Rattle.meaning.specs.declared.call.Reply.TheVariants.{Done, Value, Refused, Stopped, NoChannel, AddressCheck, NoJob, NoMemory, Device, Failed, DateRange}
-use Rattle.meaning.proofs.CrashLaws.{runs_start, runs_served, runs_failed, runs_stay}
-use Rattle.monitor.specs.Runs.{event_of, WasServed, WereServed, TellsFault, FailsOnce}
+use Rattle.meaning.proofs.CrashLaws.{is_run, runs_start, runs_served, runs_failed, runs_stay}
+use Rattle.monitor.specs.Moments.{StandsNow, RunsBy, HoldsStill}
+use Rattle.monitor.specs.Runs.{event_of, IsServedIn, AreServed, TellsFault, FailsOnce}
 use Rattle.monitor.specs.Serving.{pack_of, Serves}
 use Rattle.monitor.specs.States.{MonitorState}
 use Rattle.monitor.specs.declared.events.Event.{Event}
 use Rattle.monitor.proofs.EventCrashes.{state_stands}
+use Rattle.monitor.proofs.MomentRuns.{by_start, by_more, by_stay}
+use Rattle.monitor.proofs.Stills.{holds_still}
 
 -- Lists that are one longer.
 
@@ -21,13 +24,15 @@ events_more : (events : List Event) (event : Event) → map event_of (events ++ 
 events_more [] event = refl
 events_more (e ∷ events) event = ap (λ es. event_of e ∷ es) (events_more events event)
 
-served_parts : (events : List Event) (replies : List Reply) (event : Event) (reply : Reply) → length replies ≡ length events → WereServed (events ++ event ∷ []) (replies ++ reply ∷ []) → WereServed events replies × WasServed event reply
-served_parts [] [] event reply even served = (tt, served.0)
-served_parts [] (r ∷ replies) event reply even served = absurd (omega (arith, even))
-served_parts (e ∷ events) [] event reply even served = absurd (omega (arith, even))
-served_parts (e ∷ events) (r ∷ replies) event reply even served =
-    let rest = served_parts events replies event reply (omega (arith, even)) served.1 in
-    ((served.0, rest.0), rest.1)
+-- what was served of a list is served of its events but the last, and the last is served after them
+served_parts : (pack : Pack) (old : Service) (events : List Event) (replies : List Reply) (event : Event) (reply : Reply) → length replies ≡ length events → AreServed pack old (events ++ event ∷ []) (replies ++ reply ∷ [])
+    → AreServed pack old events replies × ((mid : Service) → Run pack old (map event_of events) replies mid → IsServedIn mid event)
+served_parts pack old [] [] event reply even served = (tt, λ mid run. subst (λ x. IsServedIn x event) (sym run) served.0)
+served_parts pack old [] (r ∷ replies) event reply even served = absurd (omega (arith, even))
+served_parts pack old (e ∷ events) [] event reply even served = absurd (omega (arith, even))
+served_parts pack old (e ∷ events) (r ∷ replies) event reply even served =
+    let rest = λ (mid : Service) (answers : Answers pack old (event_of e) r mid). served_parts pack mid events replies event reply (omega (arith, even)) (served.1 mid answers) in
+    ((served.0, λ mid answers. (rest mid answers).0), λ mid run. (rest run.0 run.1).1 mid run.2)
 
 module _ {X : Type 0} (P : X → Type 0) where
   pub all_more : (xs : List X) (x : X) → AllByRecursion P xs → P x → AllByRecursion P (xs ++ x ∷ [])
@@ -72,17 +77,36 @@ abbrev pack_with : ℕ → Pack
 pack_with n = record { layout = 1; blocks = n }
 
 module _ {D : Type 0} (state : D → DiskState) where
+  -- the run of these events from the value `first` on, which has led to the value `now`
+  abbrev pub RunsTo : MonitorState D → MonitorState D → State → List Event → List Reply → Service → Type 0
+  RunsTo first now s events replies new =
+      RunsOn (pack_of (state first.disk)) (state now.disk) (state first.disk).clock (Serving s) (map event_of events) replies new
+      × RunsBy state (pack_of (state first.disk)) first.disk (Serving s) (map event_of events) replies now.disk new
+
   -- what was served so far, since the value `first`
   abbrev pub Ran : MonitorState D → MonitorState D → List Event → List Reply → Type 0
   Ran first now events replies =
-      (state first.disk).honest → WereServed events replies → (s : State) → Serves (state first.disk) first.map first.failed first.jobs (Serving s)
+      (state first.disk).honest → (s : State) → Serves (state first.disk) first.map first.failed first.jobs (Serving s) → AreServed (pack_of (state first.disk)) (Serving s) events replies
       → (new : Service) × Serves (state now.disk) now.map now.failed now.jobs new
       × RunsOn (pack_of (state first.disk)) (state now.disk) (state first.disk).clock (Serving s) (map event_of events) replies new
+      × RunsBy state (pack_of (state first.disk)) first.disk (Serving s) (map event_of events) replies now.disk new
 
   pub ran_start : (first : MonitorState D) → Ran first first [] []
-  ran_start first h served s serves = (Serving s, serves, runs_start (pack_of (state first.disk)) (state first.disk) s (state_stands (state first.disk) first.map first.jobs s serves.1))
+  ran_start first h s serves served =
+      let stands = state_stands (state first.disk) first.map first.jobs s serves.1 in
+      (Serving s, serves, runs_start (pack_of (state first.disk)) (state first.disk) s stands, by_start state (pack_of (state first.disk)) first.disk s stands)
+
+  -- reading holds still along it
+  pub ran_still : (first now : MonitorState D) (events : List Event) (replies : List Reply) → Ran first now events replies → (state first.disk).honest → (s : State) → Serves (state first.disk) first.map first.failed first.jobs (Serving s)
+      → AreServed (pack_of (state first.disk)) (Serving s) events replies → HoldsStill (pack_of (state first.disk)) (Serving s) (map event_of events) replies
+  ran_still first now events replies ran h s serves served =
+      let led = ran h s serves served in
+      holds_still (pack_of (state first.disk)) (Serving s) led.0 (map event_of events) replies (is_run (pack_of (state first.disk)) (state now.disk) (state first.disk).clock (Serving s) led.0 (map event_of events) replies led.2)
 
   module _ (first old new : MonitorState D) (events : List Event) (replies : List Reply) (event : Event) (reply : Reply) where
+    abbrev pack : Pack
+    pack = pack_of (state first.disk)
+
     abbrev d : DiskState
     d = state old.disk
 
@@ -92,7 +116,7 @@ module _ {D : Type 0} (state : D → DiskState) where
     -- what one event ensures
     abbrev pub IsAnswered : Type 0
     IsAnswered =
-        d.honest → WasServed event reply → (s : Service) → Serves d old.map old.failed old.jobs s
+        d.honest → (s : Service) → Serves d old.map old.failed old.jobs s → IsServedIn s event
         → (t : Service) × Serves d' new.map new.failed new.jobs t × Answers (pack_of d) s (event_of event) reply t
 
     abbrev pub Crashes : Type 0
@@ -101,49 +125,60 @@ module _ {D : Type 0} (state : D → DiskState) where
     abbrev pub Stays : Type 0
     Stays = old.failed ≡ true → (reply ≡ Failed) × (new ≡ old)
 
+    -- the run with one event more, and one reply more
+    abbrev More : MonitorState D → State → Reply → Service → Type 0
+    More m s r t =
+        RunsOn pack (state m.disk) (state first.disk).clock (Serving s) (map event_of events ++ event_of event ∷ []) (replies ++ r ∷ []) t
+        × RunsBy state pack first.disk (Serving s) (map event_of events ++ event_of event ∷ []) (replies ++ r ∷ []) m.disk t
+
     abbrev Goal : State → Type 0
     Goal s =
         (t : Service) × Serves d' new.map new.failed new.jobs t
-        × RunsOn (pack_of (state first.disk)) d' (state first.disk).clock (Serving s) (map event_of (events ++ event ∷ [])) (replies ++ reply ∷ []) t
+        × RunsOn pack d' (state first.disk).clock (Serving s) (map event_of (events ++ event ∷ [])) (replies ++ reply ∷ []) t
+        × RunsBy state pack first.disk (Serving s) (map event_of (events ++ event ∷ [])) (replies ++ reply ∷ []) new.disk t
 
-    longer : (m : DiskState) (r : Reply) (s : State) (t : Service) → RunsOn (pack_of (state first.disk)) m (state first.disk).clock (Serving s) (map event_of events ++ event_of event ∷ []) (replies ++ r ∷ []) t → reply ≡ r
-        → RunsOn (pack_of (state first.disk)) m (state first.disk).clock (Serving s) (map event_of (events ++ event ∷ [])) (replies ++ reply ∷ []) t
-    longer m r s t runs is =
-        subst (λ es. RunsOn (pack_of (state first.disk)) m (state first.disk).clock (Serving s) es (replies ++ reply ∷ []) t) (sym (events_more events event))
-        (subst (λ x. RunsOn (pack_of (state first.disk)) m (state first.disk).clock (Serving s) (map event_of events ++ event_of event ∷ []) (replies ++ x ∷ []) t) (sym is) runs)
+    led_on : (s : State) (t : Service) → Serves d' new.map new.failed new.jobs t → More new s reply t → Goal s
+    led_on s t serves more =
+        let spelled = sym (events_more events event) in (
+          t,
+          serves,
+          subst (λ es. RunsOn pack d' (state first.disk).clock (Serving s) es (replies ++ reply ∷ []) t) spelled more.0,
+          subst (λ es. RunsBy state pack first.disk (Serving s) es (replies ++ reply ∷ []) new.disk t) spelled more.1,
+        )
 
-    stayed : (s : State) → old.failed ≡ true → RunsOn (pack_of (state first.disk)) d (state first.disk).clock (Serving s) (map event_of events) replies Broken → (reply ≡ Failed) × (new ≡ old) → Goal s
-    stayed s failed runs is = (
-      Broken,
-      ap (λ m. m.failed) is.1 ∙ failed,
-      subst (λ (m : MonitorState D). RunsOn (pack_of (state first.disk)) (state m.disk) (state first.disk).clock (Serving s) (map event_of (events ++ event ∷ [])) (replies ++ reply ∷ []) Broken) (sym is.1)
-          (longer d Failed s Broken (runs_stay (pack_of (state first.disk)) d (state first.disk).clock (Serving s) (map event_of events) replies (event_of event) runs) is.0),
+    stayed : (s : State) → old.failed ≡ true → RunsTo first old s events replies Broken → (reply ≡ Failed) × (new ≡ old) → Goal s
+    stayed s failed runs is = led_on s Broken (ap (λ m. m.failed) is.1 ∙ failed)
+        (subst (λ (m : MonitorState D). More m s reply Broken) (sym is.1) (subst (λ r. More old s r Broken) (sym is.0) (
+          runs_stay pack d (state first.disk).clock (Serving s) (map event_of events) replies (event_of event) runs.0,
+          by_stay state pack first.disk old.disk (Serving s) (map event_of events) replies (event_of event) runs.1,
+        )))
+
+    went_on : (s u : State) → SameDisk (state first.disk) d' → RunsTo first old s events replies (Serving u) → LeavesOnly d d' (StandsForEither pack u (event_of event))
+        → (t : Service) → Serves d' new.map new.failed new.jobs t → Answers pack (Serving u) (event_of event) reply t → Goal s
+    went_on s u same runs leaves Broken serves a = led_on s Broken serves (
+      runs_failed pack d d' u (event_of event) reply leaves (state first.disk).clock (Serving s) (map event_of events) replies runs.0 a,
+      by_more state pack old.disk new.disk u (event_of event) reply Broken a leaves (refl, refl) first.disk (Serving s) (map event_of events) replies runs.1,
     )
-
-    went_on : (s u : State) → SameDisk (state first.disk) d' → RunsOn (pack_of (state first.disk)) d (state first.disk).clock (Serving s) (map event_of events) replies (Serving u)
-        → LeavesOnly d d' (StandsForEither (pack_of (state first.disk)) u (event_of event)) → (t : Service) → Serves d' new.map new.failed new.jobs t → Answers (pack_of (state first.disk)) (Serving u) (event_of event) reply t → Goal s
-    went_on s u same runs leaves Broken serves a =
-        (Broken, serves, longer d' reply s Broken (runs_failed (pack_of (state first.disk)) d d' u (event_of event) reply leaves (state first.disk).clock (Serving s) (map event_of events) replies runs a) refl)
-    went_on s u same runs leaves (Serving v) serves a = (
-      Serving v,
-      serves,
-      longer d' reply s (Serving v) (runs_served (pack_of (state first.disk)) d d' u (event_of event) reply leaves v (state first.disk).clock (Serving s) (map event_of events) replies runs a
-          (λ c left. subst (λ p. StandsForState p v c) (ap pack_with same.size) (state_stands d' new.map new.jobs v serves.1 c left))) refl,
-    )
+    went_on s u same runs leaves (Serving v) serves a =
+        let stands : StandsNow pack d' v = λ c left. subst (λ p. StandsForState p v c) (ap pack_with same.size) (state_stands d' new.map new.jobs v serves.1 c left) in
+        led_on s (Serving v) serves (
+          runs_served pack d d' u (event_of event) reply leaves v (state first.disk).clock (Serving s) (map event_of events) replies runs.0 a stands,
+          by_more state pack old.disk new.disk u (event_of event) reply (Serving v) a leaves (refl, refl, stands) first.disk (Serving s) (map event_of events) replies runs.1,
+        )
 
     pub ran_more : length replies ≡ length events → SameDisk (state first.disk) d → SameDisk (state first.disk) d' → IsAnswered → Crashes → Stays → Ran first old events replies → Ran first new (events ++ event ∷ []) (replies ++ reply ∷ [])
-    ran_more even same same' answered crash stays ran h served s serves =
-        let parts = served_parts events replies event reply even served in
-        let led = ran h parts.0 s serves in
-        on parts.1 led.0 led.1 led.2
+    ran_more even same same' answered crash stays ran h s serves served =
+        let parts = served_parts pack (Serving s) events replies event reply even served in
+        let led = ran h s serves parts.0 in
+        on led.0 (parts.1 led.0 (is_run pack d (state first.disk).clock (Serving s) led.0 (map event_of events) replies led.2)) led.1 (led.2, led.3)
       where
-        size : pack_of d ≡ pack_of (state first.disk)
+        size : pack_of d ≡ pack
         size = ap pack_with same.size
 
-        on : WasServed event reply → (mid : Service) → Serves d old.map old.failed old.jobs mid → RunsOn (pack_of (state first.disk)) d (state first.disk).clock (Serving s) (map event_of events) replies mid → Goal s
-        on is Broken failed runs = stayed s failed runs (stays failed)
-        on is (Serving u) mid runs =
-            let after = answered (same.honest h) is (Serving u) mid in
+        on : (mid : Service) → IsServedIn mid event → Serves d old.map old.failed old.jobs mid → RunsTo first old s events replies mid → Goal s
+        on Broken is failed runs = stayed s failed runs (stays failed)
+        on (Serving u) is mid runs =
+            let after = answered (same.honest h) (Serving u) mid is in
             went_on s u same' runs (subst (λ p. LeavesOnly d d' (StandsForEither p u (event_of event))) size (crash (same.honest h) u mid)) after.0 after.1
             (subst (λ p. Answers p (Serving u) (event_of event) reply after.0) size after.2)
 

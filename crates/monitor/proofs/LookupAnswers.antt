@@ -35,7 +35,7 @@ use Rattle.volume.specs.declared.live.LiveVersion.{LiveVersion}
 use Rattle.volume.proofs.Answering.{Holds, rest_holds}
 use Rattle.monitor.specs.Finding.{IsKnown}
 use Rattle.monitor.specs.Inputs.{HasShortFacts, named_in, digit_for, read_answer, IsReadAnswer}
-use Rattle.monitor.specs.Sides.{Writing, job_of}
+use Rattle.monitor.specs.Sides.{UnderKeys, job_of}
 use Rattle.monitor.specs.declared.job.Job.{Job}
 use Rattle.monitor.proofs.Entering.{no_directory}
 use Rattle.monitor.proofs.Growths.{shown_at}
@@ -140,7 +140,7 @@ not_refused : (contents : Contents) (live : List (Option LiveVersion)) (name : F
 not_refused contents live name error None file answer is = some_none (sym is)
 not_refused contents live name error (Some d) file answer is = let there = subst (IsFilePinned contents live (Err error)) is answer in cc there.1
 
-module _ (d : DiskState) (map : VolumeCore) (s : State) (known : IsKnown d map s) (sound : IsSound d map false) (honest : d.honest) (w : ℕ → Writing) (job : Job) (c : machine.Channel) (e : ℕ) (free : c.output ≡ None) (inside : lies_outside job.core e 4 ≡ false) where
+module _ (d : DiskState) (map : VolumeCore) (s : State) (known : IsKnown d map s) (sound : IsSound d map false) (honest : d.honest) (w : UnderKeys) (job : Job) (c : machine.Channel) (e : ℕ) (free : c.output ≡ None) (inside : lies_outside job.core e 4 ≡ false) where
   answer_is : (place : Place) → lookup_answer s (job_of w job) c e place ≡ read_answer job.ppn place.ppn place.name (get (without_serials s.files) place.ppn)
   answer_is place =
       (λ i. if inside i then AddressCheck else if is_some (free i) then Refused 5 else asked (job_of w job) place.ppn place.name (get s.files place.ppn))

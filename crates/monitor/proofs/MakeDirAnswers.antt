@@ -1,7 +1,8 @@
 -- MakeDir by the job of a number, whatever it is answered with.
-use Rattle.std.proofs.Common.{◌≡◌, ◌≤◌, ℕ, Bool, true, false, List, [], Option, Some, refl, sym, ap, subst, ◌∙◌, ◌⊎◌, inl, inr, ⊎_elim, slice_set}
+use Rattle.std.proofs.Common.{◌≡◌, ◌≤◌, ℕ, Bool, true, false, List, Option, Some, refl, sym, ap, subst, ◌∙◌, ◌⊎◌, inl, inr, ⊎_elim, slice_set}
 use Rattle.std.specs.Prelude.{◌↔◌, IsTrue}
 use Rattle.words36.specs.declared.moment.Moment.{Moment}
+use Rattle.words36.specs.declared.names.FileName.{FileName}
 use Rattle.blockdisk.specs.Disk.{Contents, DiskState, MayLeave, LeavesOnly}
 use Rattle.blockdisk.specs.Laws.{leaves_start, leaves_weaker}
 use Rattle.changeset.specs.Rest.{rest_settles}
@@ -19,16 +20,18 @@ use Rattle.meaning.specs.declared.call.Reply.TheVariants.{Done, Value, Refused, 
 use Rattle.meaning.proofs.SlotLaws.{set-slot}
 use Rattle.volume.specs.Live.{VolumeCore}
 use Rattle.volume.specs.Making.{files_made}
-use Rattle.volume.specs.Rest.{IsSound, RestsAt, StandsForEither, KeepsEachWritten}
+use Rattle.volume.specs.Places.{prime_at}
+use Rattle.volume.specs.Rest.{IsSound, RestsAt, StandsForEither, KeepsRead, KeepsEachWritten}
 use Rattle.monitor.specs.DirectoryRows.{asked_owner, asked_protection, early_answer, IsAbsent, IsCrowded, IsRefusedBy, IsMakeDir}
 use Rattle.monitor.specs.Events.{CallCrashes, IsIdle}
-use Rattle.monitor.specs.Rows.{Keeps}
-use Rattle.monitor.specs.Serving.{pack_of, AreKeyed, IsState, Serves}
+use Rattle.monitor.specs.Rows.{Keeps, KeepsReading}
+use Rattle.monitor.specs.Serving.{pack_of, AreKeyed, AreReading, IsState, Serves}
 use Rattle.monitor.specs.Sides.{state_of}
 use Rattle.monitor.specs.declared.job.Job.{Job}
 use Rattle.monitor.proofs.Answering.{in_state, goes_on, same_files, on_disk}
-use Rattle.monitor.proofs.Dropped.{drops_none, keeps_keyed}
+use Rattle.monitor.proofs.Dropped.{leaves_none, keeps_keyed}
 use Rattle.monitor.proofs.MakeDirStates.{before, before_is, held, books, files', shown, row_done, row_early, row_refused, row_undecided, made_state}
+use Rattle.monitor.proofs.ReadingJobs.{keeps_reading}
 
 -- Where the disk isn't touched, a crash leaves the files from before.
 pub idle_crashes : (d : DiskState) (c : VolumeCore) (jobs : List (Option Job)) (n : ℕ) (call : Call) (moment : Moment) → (d.honest → (x : Contents) → d.left_since d.clock x → MayLeave d x) → CallCrashes d d c jobs n call moment
@@ -74,18 +77,21 @@ module _ {D : Type 0} (state_in : D → DiskState) (disk disk' : D) (c c' : Volu
   abbrev Same : Type 0
   Same = (disk' ≡ disk) × (c' ≡ c)
 
-  -- Output sides.
+  -- The sides of channels.
 
   pub made_keyed : AreKeyed c.pending jobs → Keeps c.pending c'.pending job job' → AreKeyed c'.pending jobs'
   made_keyed keyed keeps = subst (AreKeyed c'.pending) (sym set) (keeps_keyed c.pending c'.pending jobs n job job' keyed there keeps)
 
+  pub made_reading : AreReading c.live jobs → KeepsReading c.live c'.live job job' → AreReading c'.live jobs'
+  made_reading reading reads = subst (AreReading c'.live) (sym set) (keeps_reading c.live c'.live jobs n job job' reading there reads)
+
   -- The steps of the machine, by its rows.
   module _ (honest : d.honest) (s : State) (state : IsState d c jobs s) where
     abbrev after_made : State
-    after_made = state_of (files' d c jobs job e sound honest s state) state.written jobs'
+    after_made = state_of (files' d c jobs job e sound honest s state) state.under jobs'
 
     abbrev after_kept : State
-    after_kept = state_of s.files state.written jobs'
+    after_kept = state_of s.files state.under jobs'
 
     from_before : (P : State → Type 0) → P (before d c jobs job e sound honest s state) → P s
     from_before P holds = subst P (sym (before_is d c jobs job e sound honest s state)) holds
@@ -96,30 +102,30 @@ module _ {D : Type 0} (state_in : D → DiskState) (disk disk' : D) (c c' : Volu
     step_done : job' ≡ job → early_answer job.ppn job.core e ≡ Done → IsAbsent c (asked_owner job.core e) → (IsCrowded d.size c → ⊥) → (serial : ℕ) → step (pack_of d) serial s (Calls n (MakeDir e) moment) ≡ (Done, after_made)
     step_done same early absent fits serial =
         from_before (λ y. step (pack_of d) serial y (Calls n (MakeDir e) moment) ≡ (Done, after_made))
-        (row_done d c s.files state.written jobs sound.whole (held d c jobs job e sound honest s state) (books d c jobs job e sound honest s state) n job there e moment timely early absent fits serial
-        ∙ ap (λ js. (Done, state_of (files' d c jobs job e sound honest s state) state.written js)) (set_to job same))
+        (row_done d c s.files state.under jobs sound.whole (held d c jobs job e sound honest s state) (books d c jobs job e sound honest s state) n job there e moment timely early absent fits serial
+        ∙ ap (λ js. (Done, state_of (files' d c jobs job e sound honest s state) state.under js)) (set_to job same))
 
     step_refused : (code : ℕ) → IsMakeDir d.size c Same job job' e (Refused code) → (serial : ℕ) → step (pack_of d) serial s (Calls n (MakeDir e) moment) ≡ (Refused code, after_kept)
     step_refused code (job_is, same, why) serial =
         from_before (λ y. step (pack_of d) serial y (Calls n (MakeDir e) moment) ≡ (Refused code, after_kept))
         (⊎_elim
         (λ (early : early_answer job.ppn job.core e ≡ Refused code).
-        row_early d c s.files state.written jobs sound.whole (held d c jobs job e sound honest s state) (books d c jobs job e sound honest s state) n job there e moment timely (Refused code) _ early (λ is. cc is) refl serial)
+        row_early d c s.files state.under jobs sound.whole (held d c jobs job e sound honest s state) (books d c jobs job e sound honest s state) n job there e moment timely (Refused code) _ early (λ is. cc is) refl serial)
         (λ (late : (early_answer job.ppn job.core e ≡ Done) × IsRefusedBy d.size c (asked_owner job.core e) code).
-        row_refused d c s.files state.written jobs sound.whole (held d c jobs job e sound honest s state) (books d c jobs job e sound honest s state) n job there e moment timely code late.0 late.1 serial)
+        row_refused d c s.files state.under jobs sound.whole (held d c jobs job e sound honest s state) (books d c jobs job e sound honest s state) n job there e moment timely code late.0 late.1 serial)
         why
-        ∙ ap (λ js. (Refused code, state_of s.files state.written js)) (set_to _ job_is))
+        ∙ ap (λ js. (Refused code, state_of s.files state.under js)) (set_to _ job_is))
 
     step_checked : job' ≡ job → early_answer job.ppn job.core e ≡ AddressCheck → (serial : ℕ) → step (pack_of d) serial s (Calls n (MakeDir e) moment) ≡ (AddressCheck, after_kept)
     step_checked same early serial =
         from_before (λ y. step (pack_of d) serial y (Calls n (MakeDir e) moment) ≡ (AddressCheck, after_kept))
-        (row_early d c s.files state.written jobs sound.whole (held d c jobs job e sound honest s state) (books d c jobs job e sound honest s state) n job there e moment timely AddressCheck job early (λ is. cc is) refl serial
-        ∙ ap (λ js. (AddressCheck, state_of s.files state.written js)) (set_to job same))
+        (row_early d c s.files state.under jobs sound.whole (held d c jobs job e sound honest s state) (books d c jobs job e sound honest s state) n job there e moment timely AddressCheck job early (λ is. cc is) refl serial
+        ∙ ap (λ js. (AddressCheck, state_of s.files state.under js)) (set_to job same))
 
     undecided : early_answer job.ppn job.core e ≡ Done → is_plain ((step (pack_of d) 0 s (Calls n (MakeDir e) moment)).0) ≡ false
     undecided early =
         from_before (λ y. is_plain ((step (pack_of d) 0 y (Calls n (MakeDir e) moment)).0) ≡ false)
-        (row_undecided d c s.files state.written jobs sound.whole (held d c jobs job e sound honest s state) (books d c jobs job e sound honest s state) n job there e moment timely early)
+        (row_undecided d c s.files state.under jobs sound.whole (held d c jobs job e sound honest s state) (books d c jobs job e sound honest s state) n job there e moment timely early)
 
   -- Crashes.
   module _ (only_now : d.honest → (x : Contents) → d.left_since d.clock x → MayLeave d x)
@@ -146,7 +152,7 @@ module _ {D : Type 0} (state_in : D → DiskState) (disk disk' : D) (c c' : Volu
     crashes_by DateRange wrong = absurd wrong
 
   -- Services.
-  module _ (failed failed' : Bool) (serves : failed ≡ false) (keyed' : AreKeyed c'.pending jobs') (honest : d.honest) where
+  module _ (failed failed' : Bool) (serves : failed ≡ false) (keyed' : AreKeyed c'.pending jobs') (reading' : AreReading c'.live jobs') (honest : d.honest) where
     abbrev Leads : Reply → Type 0
     Leads reply = (old : Service) → Serves d c failed jobs old → (new : Service) × Serves d' c' failed' jobs' new × Answers (pack_of d) old (Calls n (MakeDir e) moment) reply new
 
@@ -161,15 +167,16 @@ module _ {D : Type 0} (state_in : D → DiskState) (disk disk' : D) (c c' : Volu
     kept : (reply : Reply) → Same → failed' ≡ false → ((s : State) (state : IsState d c jobs s) (serial : ℕ) → step (pack_of d) serial s (Calls n (MakeDir e) moment) ≡ (reply, after_kept honest s state)) → Leads reply
     kept reply same alive steps =
         unmoved reply same alive (λ s state. goes_on d c failed jobs' (pack_of d) (Calls n (MakeDir e) moment) reply s (after_kept honest s state) serves state.sound (steps s state)
-        (same_files d c c failed jobs jobs' (subst (λ m. AreKeyed m.pending jobs') same.1 keyed') ([], drops_none c) s state))
+        (same_files d c c failed jobs jobs' (subst (λ m. AreKeyed m.pending jobs') same.1 keyed') (subst (λ m. AreReading m.live jobs') same.1 reading') (leaves_none c) s state))
 
-    module _ (live : c'.live ≡ c.live) (pending : c'.pending ≡ c.pending) (writers : KeepsEachWritten d.contents d'.contents c) where
+    module _ (live : c'.live ≡ c.live) (pending : c'.pending ≡ c.pending) (primes : (ppn : ℕ) (name : FileName) (m : ℕ) → prime_at c ppn name ≡ Some m → prime_at c' ppn name ≡ Some m)
+        (readers : KeepsRead d.contents d'.contents c) (writers : KeepsEachWritten d.contents d'.contents c) where
       pub make_dir_answered : (reply : Reply) → IsMakeDir d.size c Same job job' e reply → IsTrue failed' ↔ (reply ≡ Device)
           → ((f : Files File) → RestsAt d f → reply ≡ Done → RestsAt d' (files_made f (asked_owner job.core e) (asked_protection job.core e))) → Leads reply
       make_dir_answered Done (job_is, early, absent, fits) fails done =
           in_state d c failed jobs (λ old. (new : Service) × Serves d' c' failed' jobs' new × Answers (pack_of d) old (Calls n (MakeDir e) moment) Done new) serves
           (λ s state. goes_on d' c' failed' jobs' (pack_of d) (Calls n (MakeDir e) moment) Done s (after_made honest s state) (not_failed failed' Done fails (λ is. cc is)) state.sound (step_done honest s state job_is early absent fits)
-          (made_state d c jobs job e sound honest s state d' c' jobs' keyed' live pending writers (done (without_serials s.files) state.files refl) absent))
+          (made_state d c jobs job e sound honest s state d' c' jobs' keyed' reading' live pending primes readers writers (done (without_serials s.files) state.files refl) absent))
       make_dir_answered (Refused code) (job_is, same, why) fails done =
           kept (Refused code) same (not_failed failed' (Refused code) fails (λ is. cc is)) (λ s state. step_refused honest s state code (job_is, same, why))
       make_dir_answered AddressCheck (job_is, same, early) fails done =

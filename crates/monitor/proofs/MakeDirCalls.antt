@@ -20,7 +20,7 @@ use Rattle.volume.specs.Live.{VolumeCore, IsWholeCore}
 use Rattle.volume.proofs.Answering.{Holds}
 use Rattle.monitor.specs.DirectoryRows.{asked_owner, early_answer, IsAbsent, IsCrowded, IsRefusedBy}
 use Rattle.monitor.specs.Serving.{pack_of}
-use Rattle.monitor.specs.Sides.{Writing, job_of, state_of}
+use Rattle.monitor.specs.Sides.{UnderKeys, job_of, state_of}
 use Rattle.monitor.specs.declared.job.Job.{Job}
 use Rattle.monitor.proofs.Growths.{count_is}
 use Rattle.monitor.proofs.MakeDirServing.{none_there, one_there, growth_is}
@@ -54,7 +54,7 @@ not_after a b less = by (nat_lt a b) refl
     by true is = absurd (less (less_of is))
     by false is = refl
 
-module _ (d : DiskState) (c : VolumeCore) (files : Files Version) (w : ℕ → Writing) (jobs : List (Option Job)) (whole : IsWholeCore d.size c) (holds : Holds d c.known (without_serials files)) (books : booked (state_of files w jobs) ≡ c.known.table.booked) (job : Job) (e : ℕ) where
+module _ (d : DiskState) (c : VolumeCore) (files : Files Version) (w : UnderKeys) (jobs : List (Option Job)) (whole : IsWholeCore d.size c) (holds : Holds d c.known (without_serials files)) (books : booked (state_of files w jobs) ≡ c.known.table.booked) (job : Job) (e : ℕ) where
   abbrev owner : ℕ
   owner = asked_owner job.core e
 

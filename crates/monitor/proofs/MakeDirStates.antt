@@ -1,15 +1,15 @@
 -- MakeDir: the machine's row, and the state after it.
 use Rattle.std.proofs.Common.{◌≡◌, ◌≤◌, ◌+◌, ℕ, false, List, Option, None, Some, refl, sym, ap, subst, ◌∙◌, ⊎_elim, slice_set}
-use Rattle.std.specs.Prelude.{slice_index_or}
 use Rattle.std.specs.Cmp.{nat_cmp_total}
 use Rattle.std.specs.FinMap.{nat_cmp-IsAntisymmetric}
 use Rattle.words36.specs.declared.moment.Moment.{Moment}
+use Rattle.words36.specs.declared.names.FileName.{FileName}
 use Rattle.blockdisk.specs.Disk.{DiskState}
 use Rattle.meaning.specs.Cores.{with_right}
 use Rattle.meaning.specs.Files.{Files, Directory, Place, name_cmp}
 use Rattle.meaning.specs.Jobs.{State, slot}
 use Rattle.meaning.specs.Making.{make_answer, directory_made}
-use Rattle.meaning.specs.Maps.{get, insert, empty, total}
+use Rattle.meaning.specs.Maps.{get, insert, empty}
 use Rattle.meaning.specs.Outcomes.{settled, refused_at}
 use Rattle.meaning.specs.Published.{Version, without_serials, file_in, file_at}
 use Rattle.meaning.specs.Room.{booked}
@@ -22,22 +22,24 @@ use Rattle.meaning.specs.declared.call.Reply.{Reply}
 use Rattle.meaning.specs.declared.call.Reply.TheVariants.{Done, Refused}
 use Rattle.meaning.proofs.MapLaws.{same_or_other, get-empty, get-insert_same, get-insert_other}
 use Rattle.meaning.proofs.Versions.{body_kept}
-use Rattle.volume.specs.Live.{VolumeCore, pending_at, held_cost, IsWholeCore}
+use Rattle.volume.specs.Live.{VolumeCore, pending_at, IsWholeCore}
 use Rattle.volume.specs.Making.{files_made}
-use Rattle.volume.specs.Rest.{IsSound, RestsAt, KeepsEachWritten}
+use Rattle.volume.specs.Places.{prime_at}
+use Rattle.volume.specs.Rest.{IsSound, RestsAt, KeepsRead, KeepsEachWritten}
 use Rattle.volume.specs.declared.pending.PendingVersion.{PendingVersion}
 use Rattle.volume.proofs.Answering.{Holds, rest_holds}
 use Rattle.monitor.specs.DirectoryRows.{asked_owner, asked_protection, early_answer, IsAbsent, IsCrowded, IsRefusedBy}
-use Rattle.monitor.specs.Serving.{pack_of, AreKeyed, IsState}
-use Rattle.monitor.specs.Sides.{Writing, job_of, state_of}
+use Rattle.monitor.specs.Serving.{pack_of, AreKeyed, AreReading, IsState}
+use Rattle.monitor.specs.Sides.{UnderKeys, job_of, state_of}
 use Rattle.monitor.specs.declared.job.Job.{Job}
 use Rattle.monitor.proofs.Answering.{state_is, job_set, called, settled_with, settled_reply}
 use Rattle.monitor.proofs.Knowing.{known}
 use Rattle.monitor.proofs.MakeDirCalls.{decided, refused_by, may_make, not_plain}
 use Rattle.monitor.proofs.MakeDirServing.{versions_made, none_in, shown_made, none_there}
+use Rattle.monitor.proofs.ReadStays.{reads_made}
 
 -- The machine's row.
-module _ (d : DiskState) (c : VolumeCore) (files : Files Version) (w : ℕ → Writing) (jobs : List (Option Job)) (whole : IsWholeCore d.size c) (holds : Holds d c.known (without_serials files)) (books : booked (state_of files w jobs) ≡ c.known.table.booked)
+module _ (d : DiskState) (c : VolumeCore) (files : Files Version) (w : UnderKeys) (jobs : List (Option Job)) (whole : IsWholeCore d.size c) (holds : Holds d c.known (without_serials files)) (books : booked (state_of files w jobs) ≡ c.known.table.booked)
     (n : ℕ) (job : Job) (there : slot jobs n ≡ Some job) (e : ℕ) (moment : Moment) (timely : moment.date ≤ 4095) where
   abbrev t : State
   t = state_of files w jobs
@@ -91,10 +93,10 @@ made_elsewhere files owner v q bare none =
 -- The state that the monitor stands for.
 module _ (d : DiskState) (c : VolumeCore) (jobs : List (Option Job)) (job : Job) (e : ℕ) (sound : IsSound d c false) (honest : d.honest) (s : State) (state : IsState d c jobs s) where
   abbrev pub before : State
-  before = state_of s.files state.written jobs
+  before = state_of s.files state.under jobs
 
   pub before_is : s ≡ before
-  before_is = state_is s state.written jobs state.jobs_are
+  before_is = state_is s state.under jobs state.jobs_are
 
   pub held : Holds d c.known (without_serials s.files)
   held = rest_holds d c false sound honest refl (without_serials s.files) state.files
@@ -104,29 +106,30 @@ module _ (d : DiskState) (c : VolumeCore) (jobs : List (Option Job)) (job : Job)
 
   -- the files with the directory, as the machine and as the volume have them
   abbrev pub files' : Files Version
-  files' = insert s.files (asked_owner job.core e) (directory_made (job_of state.written job) e)
+  files' = insert s.files (asked_owner job.core e) (directory_made (job_of state.under job) e)
 
   pub shown : without_serials files' ≡ files_made (without_serials s.files) (asked_owner job.core e) (asked_protection job.core e)
   shown = shown_made s.files (asked_owner job.core e) (asked_protection job.core e)
 
   -- The directory is made.
-  module _ (d' : DiskState) (c' : VolumeCore) (jobs' : List (Option Job)) (keyed : AreKeyed c'.pending jobs') (live : c'.live ≡ c.live) (pending : c'.pending ≡ c.pending) (writers : KeepsEachWritten d.contents d'.contents c)
+  module _ (d' : DiskState) (c' : VolumeCore) (jobs' : List (Option Job)) (keyed : AreKeyed c'.pending jobs') (reading : AreReading c'.live jobs') (live : c'.live ≡ c.live) (pending : c'.pending ≡ c.pending)
+      (primes : (ppn : ℕ) (name : FileName) (m : ℕ) → prime_at c ppn name ≡ Some m → prime_at c' ppn name ≡ Some m) (readers : KeepsRead d.contents d'.contents c) (writers : KeepsEachWritten d.contents d'.contents c)
       (rests : RestsAt d' (files_made (without_serials s.files) (asked_owner job.core e) (asked_protection job.core e))) (absent : IsAbsent c (asked_owner job.core e)) where
     was : (key : ℕ) (p : PendingVersion) → pending_at c'.pending key ≡ Some p → pending_at c.pending key ≡ Some p
     was key p at = ap (λ ps. pending_at ps key) (sym pending) ∙ at
 
-    pub made_state : meaning.IsSound (state_of files' state.written jobs') → IsState d' c' jobs' (state_of files' state.written jobs')
+    pub made_state : meaning.IsSound (state_of files' state.under jobs') → IsState d' c' jobs' (state_of files' state.under jobs')
     made_state still = record {
       files = subst (RestsAt d') (sym shown) rests;
-      serials = subst AreDistinct (sym (versions_made s.files (asked_owner job.core e) (directory_made (job_of state.written job) e) none_in (none_there d c s.files held (asked_owner job.core e) absent))) state.serials;
-      written = state.written;
+      serials = subst AreDistinct (sym (versions_made s.files (asked_owner job.core e) (directory_made (job_of state.under job) e) none_in (none_there d c s.files held (asked_owner job.core e) absent))) state.serials;
+      under = state.under;
       versions = λ key p at.
           let is = state.versions key p (was key p at) in
-          record { place = is.place; protection = is.protection; mode = is.mode; time = is.time; date = is.date; words = is.words; body = body_kept d.contents d'.contents p.version.blocks (state.written key).file.body is.body (writers key p (was key p at)) };
-      absent = λ key p at new. made_elsewhere s.files (asked_owner job.core e) (directory_made (job_of state.written job) e) (state.written key).place refl (state.absent key p (was key p at) new);
+          record { place = is.place; protection = is.protection; mode = is.mode; time = is.time; date = is.date; words = is.words; body = body_kept d.contents d'.contents p.version.blocks (state.under.written key).file.body is.body (writers key p (was key p at)) };
+      absent = λ key p at new. made_elsewhere s.files (asked_owner job.core e) (directory_made (job_of state.under job) e) (state.under.written key).place refl (state.absent key p (was key p at) new);
       keyed = keyed;
+      read = reads_made d d' c c' state.under.read live readers s.files (asked_owner job.core e) (directory_made (job_of state.under job) e) refl (none_there d c s.files held (asked_owner job.core e) absent) primes state.read;
+      reading = reading;
       jobs_are = refl;
-      unread = λ key v at. state.unread key v (sym (ap (λ vs. slice_index_or vs key None) live) ∙ at);
-      unheld = ap (λ vs. total held_cost vs) live ∙ state.unheld;
       sound = still;
     }

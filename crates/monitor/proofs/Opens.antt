@@ -5,7 +5,7 @@ use Rattle.std.proofs.lemmas.Bool.{eqb-true}
 use Rattle.std.specs.Prelude.{◌==◌, ◌||◌, not, if◌then◌else◌, is_some, option_map, option_to_list}
 use Rattle.meaning.specs.Cores.{lies_outside, after_writes}
 use Rattle.meaning.specs.Jobs as machine
-use Rattle.meaning.specs.Jobs.{State, slot, channel_at, job_at, with_job, improper_mode}
+use Rattle.meaning.specs.Jobs.{slot, channel_at, improper_mode}
 use Rattle.meaning.specs.Opening.{disk, dump_mode, mode_at, device_at, output_header_at, input_header_at, misses_headers, open_answer, open_done, opens, header_opened, core_opened, channel_opened}
 use Rattle.meaning.specs.Rings.{is_buffered}
 use Rattle.meaning.specs.Outcomes.{settled}
@@ -13,15 +13,18 @@ use Rattle.meaning.specs.Step.{of_job}
 use Rattle.meaning.specs.declared.call.Call.TheVariants.{Open}
 use Rattle.meaning.specs.declared.call.Reply.{Reply}
 use Rattle.meaning.specs.declared.call.Reply.TheVariants.{Done, Refused, Stopped, NoChannel, AddressCheck}
-use Rattle.monitor.specs.Rows.{IsRow, Keeps, improper_at, opened_at, open_unserved, unserved}
-use Rattle.monitor.specs.Sides.{Writing, side_of, channel_of, job_of}
+use Rattle.meaning.proofs.MapLaws.{some_none}
+use Rattle.monitor.specs.Rows.{IsRow, Keeps, KeepsReading, improper_at, opened_at, open_unserved, unserved}
+use Rattle.monitor.specs.Sides.{UnderKeys, side_of, reader_of, channel_of, job_of}
 use Rattle.monitor.specs.declared.channel.Channel.{Channel}
 use Rattle.monitor.specs.declared.job.Job.{Job}
 use Rattle.monitor.specs.Serving.{IsSide}
+use Rattle.volume.specs.declared.live.LiveVersion.{LiveVersion}
 use Rattle.volume.specs.declared.pending.PendingVersion.{PendingVersion}
 use Rattle.std.specs.List.{AllByRecursion}
 use Rattle.monitor.proofs.Answering.{settled_other}
-use Rattle.monitor.proofs.Calling.{channel_is, channel_set, job_same, keeps_channel}
+use Rattle.monitor.proofs.Calling.{channel_is, channel_set, job_same, keeps_channel, reads_channel}
+use Rattle.monitor.proofs.ReaderLists.{held}
 use Rattle.monitor.proofs.SideLists.{count}
 
 fits : (n : ℕ) → n < 16 → nat_le n 15 ≡ true
@@ -42,7 +45,7 @@ module _ (job : Job) (number a : ℕ) where
   abbrev pub taken : Bool
   taken = is_some (slot job.channels number)
 
-  pub answer_is : (w : ℕ → Writing) (b c d e : Bool) → lies_outside job.core a 3 ≡ b → misses_headers job.core a ≡ c → taken ≡ d → improper_at job.core a ≡ e → open_answer (job_of w job) number a ≡ chain b c d e (mode_at job.core a)
+  pub answer_is : (w : UnderKeys) (b c d e : Bool) → lies_outside job.core a 3 ≡ b → misses_headers job.core a ≡ c → taken ≡ d → improper_at job.core a ≡ e → open_answer (job_of w job) number a ≡ chain b c d e (mode_at job.core a)
   answer_is w b c d e p q r t =
       let at : is_some (channel_at (job_of w job) number) ≡ d = ap is_some (channel_is w job number (slot job.channels number) refl) ∙ some_shown (channel_of w) (slot job.channels number) ∙ r in
       λ i. chain (p i) (q i) (at i) (t i) (mode_at job.core a)
@@ -51,7 +54,7 @@ module _ (job : Job) (number a : ℕ) where
   no_channel_row many pack serial s n w moment there =
       ap (λ b. if b then of_job s n (opens (job_of w job) number a) else (NoChannel, s)) (past number many) ∙ ap (λ t. (NoChannel, t)) (job_same s n (job_of w job) there)
 
-  pub refused_row : number < 16 → (reply : Reply) → ((w : ℕ → Writing) → open_answer (job_of w job) number a ≡ reply) → (reply ≡ Done → ⊥) → IsRow job job (Open number a) reply
+  pub refused_row : number < 16 → (reply : Reply) → ((w : UnderKeys) → open_answer (job_of w job) number a ≡ reply) → (reply ≡ Done → ⊥) → IsRow job job (Open number a) reply
   refused_row few reply answer other pack serial s n w moment there =
       ap (λ b. if b then of_job s n (opens (job_of w job) number a) else (NoChannel, s)) (fits number few)
       ∙ ap (of_job s n) (ap (λ r. settled r (open_done (job_of w job) number a) (λ x. job_of w job)) (answer w) ∙ settled_other reply (open_done (job_of w job) number a) (job_of w job) other)
@@ -70,7 +73,7 @@ module _ (job : Job) (number a : ℕ) where
   abbrev opened_core : List ℕ
   opened_core = after_writes job.core (header_opened (mode_at job.core a) (output_header_at job.core a) ++ header_opened (mode_at job.core a) (input_header_at job.core a))
 
-  pub done_row : number < 16 → ((w : ℕ → Writing) → open_answer (job_of w job) number a ≡ Done) → is_buffered (mode_at job.core a) ≡ false → improper_at job.core a ≡ false → IsRow job (record job { channels = slice_set job.channels number (Some (opened_at job.core a)) }) (Open number a) Done
+  pub done_row : number < 16 → ((w : UnderKeys) → open_answer (job_of w job) number a ≡ Done) → is_buffered (mode_at job.core a) ≡ false → improper_at job.core a ≡ false → IsRow job (record job { channels = slice_set job.channels number (Some (opened_at job.core a)) }) (Open number a) Done
   done_row few answer plain proper pack serial s n w moment there =
       ap (λ b. if b then of_job s n (opens (job_of w job) number a) else (NoChannel, s)) (fits number few)
       ∙ ap (of_job s n) (ap (λ r. settled r (open_done (job_of w job) number a) (λ x. job_of w job)) (answer w)
@@ -82,11 +85,8 @@ module _ (job : Job) (number a : ℕ) where
       unbuffered : core_opened job.core a ≡ job.core
       unbuffered = ap (λ b. if b then opened_core else job.core) plain
 
-  pub unserved_is : number < 16 → (w : ℕ → Writing) (reply : Reply) → open_answer (job_of w job) number a ≡ reply → unserved (mode_at job.core a) reply ≡ open_unserved (job_of w job) number a
+  pub unserved_is : number < 16 → (w : UnderKeys) (reply : Reply) → open_answer (job_of w job) number a ≡ reply → unserved (mode_at job.core a) reply ≡ open_unserved (job_of w job) number a
   unserved_is few w reply answer = ap (unserved (mode_at job.core a)) (sym answer) ∙ ap (λ b. if b then unserved (mode_at job.core a) (open_answer (job_of w job) number a) else NoChannel) (sym (fits number few))
-
-  pub no_channel_unserved : 16 ≤ number → (w : ℕ → Writing) → NoChannel ≡ open_unserved (job_of w job) number a
-  no_channel_unserved many w = ap (λ b. if b then unserved (mode_at job.core a) (open_answer (job_of w job) number a) else NoChannel) (sym (past number many))
 
 -- a channel that is opened writes nothing
 pub keeps_opened : (pending : List (Option PendingVersion)) (job : Job) (number : ℕ) (c : Channel) → is_some (slot job.channels number) ≡ false → c.output ≡ None → Keeps pending pending job (record job { channels = slice_set job.channels number (Some c) })
@@ -94,6 +94,15 @@ keeps_opened pending job number c free none =
     keeps_channel pending job number (Some c) (λ key. ap (λ o. count key (option_to_list o)) none ∙ by key (slot job.channels number) free) (λ all. subst (λ o. AllByRecursion (IsSide pending) (option_to_list o)) (sym none) tt)
   where
     by : (key : ℕ) (o : Option Channel) → is_some o ≡ false → 0 ≡ count key (option_to_list (side_of o))
+    by key None e = refl
+    by key (Some x) e = cc e
+
+-- and reads nothing
+pub reads_opened : (live : List (Option LiveVersion)) (job : Job) (number : ℕ) (c : Channel) → is_some (slot job.channels number) ≡ false → c.input ≡ None → KeepsReading live live job (record job { channels = slice_set job.channels number (Some c) })
+reads_opened live job number c free none =
+    reads_channel live job number c (λ key. ap (λ o. held key (option_to_list o)) none ∙ by key (slot job.channels number) free) (λ has i is. absurd (some_none (sym is ∙ none)))
+  where
+    by : (key : ℕ) (o : Option Channel) → is_some o ≡ false → 0 ≡ held key (option_to_list (reader_of o))
     by key None e = refl
     by key (Some x) e = cc e
 

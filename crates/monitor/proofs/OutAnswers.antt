@@ -14,20 +14,21 @@ use Rattle.meaning.specs.declared.call.Reply.{Reply}
 use Rattle.meaning.specs.declared.call.Reply.TheVariants.{Done, Value, Refused, Stopped, NoChannel, AddressCheck, NoJob, NoMemory, Device, Failed, DateRange}
 use Rattle.meaning.proofs.SlotLaws.{set-slot}
 use Rattle.volume.specs.Live.{VolumeCore, pending_at}
-use Rattle.volume.specs.Rest.{IsSound, RestsAt}
+use Rattle.volume.specs.Rest.{IsSound, RestsAt, KeepsRead}
 use Rattle.volume.specs.declared.pending.PendingVersion.{PendingVersion}
 use Rattle.monitor.specs.Putting.{IsOut, IsOther, IsOtherSide, HasOutgoing}
 use Rattle.monitor.specs.Putting as putting
-use Rattle.monitor.specs.Rows.{IsRow, Keeps}
-use Rattle.monitor.specs.Serving.{pack_of, AreKeyed, IsState, Serves}
+use Rattle.monitor.specs.Rows.{IsRow, Keeps, KeepsReading}
+use Rattle.monitor.specs.Serving.{pack_of, AreKeyed, AreReading, IsState, Serves}
 use Rattle.monitor.specs.declared.channel.Channel.{Channel}
 use Rattle.monitor.specs.declared.output.Output.{Output}
 use Rattle.monitor.specs.declared.job.Job.{Job}
 use Rattle.monitor.proofs.Answering.{in_state, state_is, on_disk}
 use Rattle.monitor.proofs.Calling.{keeps_same}
 use Rattle.monitor.proofs.Dropped.{job_live, keeps_keyed}
-use Rattle.monitor.proofs.Outs.{version_there}
+use Rattle.monitor.proofs.Outs.{version_there, reads_core}
 use Rattle.monitor.proofs.OutCalls.{out_none, out_refused, out_unlisted, undecided, put_leads, stopped_leads}
+use Rattle.monitor.proofs.ReadingJobs.{keeps_reading}
 use Rattle.monitor.proofs.Serving.{alone}
 
 -- a version of another side
@@ -45,7 +46,7 @@ alive_after true reply exact device failed = by (exact.0 refl)
 
 module _ {D : Type 0} (state_in : D → DiskState) (disk disk' : D) (map map' : VolumeCore) (failed failed' : Bool) (jobs jobs' : List (Option Job)) (n : ℕ) (job job' : Job) (ch a : ℕ) (moment : Moment)
     (there : slot jobs n ≡ Some job) (set : jobs' ≡ slice_set jobs n (Some job')) (serves : failed ≡ false) (timely : moment.date ≤ 4095) (keyed : AreKeyed map.pending jobs)
-    (keeps : failed' ≡ false → Keeps map.pending map'.pending job job') (sound : IsSound (state_in disk) map false) where
+    (reading : AreReading map.live jobs) (keeps : failed' ≡ false → Keeps map.pending map'.pending job job') (reads : failed' ≡ false → KeepsReading map.live map'.live job job') (sound : IsSound (state_in disk) map false) where
   abbrev d : DiskState
   d = state_in disk
 
@@ -58,6 +59,9 @@ module _ {D : Type 0} (state_in : D → DiskState) (disk disk' : D) (map map' : 
   pub out_keyed : failed' ≡ false → AreKeyed map'.pending jobs'
   out_keyed alive = subst (AreKeyed map'.pending) (sym set) (keeps_keyed map.pending map'.pending jobs n job job' keyed there (keeps alive))
 
+  pub out_reading : failed' ≡ false → AreReading map'.live jobs'
+  out_reading alive = subst (AreReading map'.live) (sym set) (keeps_reading map.live map'.live jobs n job job' reading there (reads alive))
+
   -- disk and volume are as they were
   unmoved : (reply : Reply) → Same → failed' ≡ false → ((old : Service) → Serves d map failed jobs old → (new : Service) × Serves d map failed jobs' new × Answers (pack_of d) old (Calls n (Out ch a) moment) reply new) → Leads reply
   unmoved reply same alive by old stands =
@@ -67,15 +71,16 @@ module _ {D : Type 0} (state_in : D → DiskState) (disk disk' : D) (map map' : 
   -- a row that needs neither memory nor the disk
   plain : (reply : Reply) → job' ≡ job → Same → failed' ≡ false → IsRow job job (Out ch a) reply → Leads reply
   plain reply is same alive row =
-      unmoved reply same alive (alone d map failed jobs n (Out ch a) moment serves timely jobs' job job reply keyed there (set ∙ ap (λ j. slice_set jobs n (Some j)) is) (keeps_same map.pending job) row)
+      unmoved reply same alive (alone d map failed jobs n (Out ch a) moment serves timely jobs' job job reply keyed reading there (set ∙ ap (λ j. slice_set jobs n (Some j)) is) (keeps_same map.pending job) (reads_core map.live map.live job refl job.core) row)
 
   undecided_in : HasOutgoing job ch a → (s : State) → IsState d map jobs s → is_plain ((step (pack_of d) 0 s (Calls n (Out ch a) moment)).0) ≡ false
   undecided_in out s state =
-      ap (λ y. is_plain ((step (pack_of d) 0 y (Calls n (Out ch a) moment)).0)) (state_is s state.written jobs state.jobs_are)
-      ∙ undecided d map jobs n job there ch a moment timely 0 s.files state.written out.channel out.there out.output out.side out.listed
+      ap (λ y. is_plain ((step (pack_of d) 0 y (Calls n (Out ch a) moment)).0)) (state_is s state.under jobs state.jobs_are)
+      ∙ undecided d map jobs n job there ch a moment timely 0 s.files state.under out.channel out.there out.output out.side out.listed
 
   module _ (honest : d.honest) (rests : (f : Files File) → RestsAt d f → RestsAt (state_in disk') f)
       (others : (k : ℕ) → IsOther (slot job.channels ch) k → pending_at map'.pending k ≡ pending_at map.pending k) (live : map'.live ≡ map.live)
+      (knows : map'.known ≡ record map.known { table = map'.known.table }) (readers : KeepsRead d.contents (state_in disk').contents map)
       (writers : (k : ℕ) (q : PendingVersion) → IsOther (slot job.channels ch) k → pending_at map.pending k ≡ Some q → (m : ℕ) → 0 < times m q.version.blocks → (state_in disk').contents m ≡ d.contents m) where
     abbrev Fails : Reply → Type 0
     Fails reply = IsTrue failed' ↔ ((reply ≡ Device) ⊎ (reply ≡ Failed))
@@ -90,12 +95,12 @@ module _ {D : Type 0} (state_in : D → DiskState) (disk disk' : D) (map map' : 
         in_state d map failed jobs (λ old. (new : Service) × Serves (state_in disk') map' failed' jobs' new × Answers (pack_of d) old (Calls n (Out ch a) moment) Done new) serves
         (λ s state. put_leads d (state_in disk') map map' jobs jobs' n job there ch a moment timely out (set ∙ ap (λ j. slice_set jobs n (Some j)) job_is) keyed (out_keyed alive) sound honest p.0 p.1 (put p.0 p.1)
         (λ k apart. others k (other_side (slot job.channels ch) out.channel out.output k out.there out.side apart))
-        (λ k q apart. writers k q (other_side (slot job.channels ch) out.channel out.output k out.there out.side apart)) rests live s state failed' alive)
+        (λ k q apart. writers k q (other_side (slot job.channels ch) out.channel out.output k out.there out.side apart)) rests live knows readers (out_reading alive) s state failed' alive)
     out_answered (Stopped status) (out, is, job_is, none, same) fails =
         let alive = alive_after failed' (Stopped status) fails (λ e. cc e) (λ e. cc e) in
         let p = version_of out in
         unmoved (Stopped status) same alive (in_state d map failed jobs (λ old. (new : Service) × Serves d map failed jobs' new × Answers (pack_of d) old (Calls n (Out ch a) moment) (Stopped status) new) serves
-        (λ s state. stopped_leads d map failed jobs jobs' n job there ch a moment timely out status is (set ∙ ap (λ j. slice_set jobs n (Some j)) job_is) (subst (λ m. AreKeyed m.pending jobs') same.1 (out_keyed alive)) sound honest p.0 p.1 (none p.0 p.1) s state serves))
+        (λ s state. stopped_leads d map failed jobs jobs' n job there ch a moment timely out status is (set ∙ ap (λ j. slice_set jobs n (Some j)) job_is) (subst (λ m. AreKeyed m.pending jobs') same.1 (out_keyed alive)) (subst (λ m. AreReading m.live jobs') same.1 (out_reading alive)) sound honest p.0 p.1 (none p.0 p.1) s state serves))
     out_answered (Refused code) (is, job_is, same, c, at, none) fails =
         plain (Refused code) job_is same (alive_after failed' (Refused code) fails (λ e. cc e) (λ e. cc e)) (subst (λ k. IsRow job job (Out ch a) (Refused k)) (sym is) (out_refused job ch a c at none))
     out_answered NoChannel (job_is, same, none) fails =

@@ -1,14 +1,14 @@
 -- OUT by the job of a number is served as the machine serves it.
-use Rattle.std.proofs.Common.{◌≡◌, ◌<◌, ◌≤◌, ◌+◌, ℕ, Bool, true, false, if◌then◌else◌, List, [], length, Option, None, Some, refl, sym, ap, subst, ◌∙◌, slice_set}
-use Rattle.std.specs.Prelude.{option_map, slice_index_or}
+use Rattle.std.proofs.Common.{◌≡◌, ◌<◌, ◌≤◌, ◌+◌, ℕ, Bool, true, false, if◌then◌else◌, List, length, Option, None, Some, refl, sym, ap, subst, ◌∙◌, slice_set}
+use Rattle.std.specs.Prelude.{option_map}
 use Rattle.words36.specs.declared.moment.Moment.{Moment}
 use Rattle.blockdisk.specs.Disk.{DiskState}
 use Rattle.meaning.specs.CommandLists.{dump_list}
 use Rattle.meaning.specs.Cores.{joined}
 use Rattle.meaning.specs.Files.{File, Files}
 use Rattle.meaning.specs.Jobs as machine
-use Rattle.meaning.specs.Jobs.{State, slot, channel_at, with_channel, with_job, cleared, block_too_large}
-use Rattle.meaning.specs.Maps.{times, total}
+use Rattle.meaning.specs.Jobs.{State, slot, with_channel, with_job, cleared, block_too_large}
+use Rattle.meaning.specs.Maps.{times}
 use Rattle.meaning.specs.Outcomes.{settled, clean, stopped_in}
 use Rattle.meaning.specs.Outputs.{puts, put_answer, put_done, finds_no_place, outgoing, Outgoing, put_on}
 use Rattle.meaning.specs.Published.{Version, without_serials, file_at}
@@ -24,23 +24,25 @@ use Rattle.meaning.specs.declared.call.Reply.TheVariants.{Done, Refused, Stopped
 use Rattle.meaning.proofs.MapLaws.{some_same}
 use Rattle.meaning.proofs.SpliceLaws.{length-splice}
 use Rattle.meaning.proofs.Versions.{body_kept}
-use Rattle.volume.specs.Live.{VolumeCore, pending_at, held_cost}
-use Rattle.volume.specs.Rest.{IsSound, RestsAt}
+use Rattle.volume.specs.Live.{VolumeCore, pending_at}
+use Rattle.volume.specs.Places.{prime_at}
+use Rattle.volume.specs.Rest.{IsSound, RestsAt, KeepsRead}
 use Rattle.volume.specs.declared.pending.PendingVersion.{PendingVersion}
-use Rattle.monitor.specs.Putting.{IsOut, IsOther, IsOtherSide, Puts, words_at, moved, FindsNone}
+use Rattle.monitor.specs.Putting.{Puts, words_at, moved, FindsNone}
 use Rattle.monitor.specs.Putting as putting
 use Rattle.monitor.specs.Rows.{IsRow}
-use Rattle.monitor.specs.Serving.{pack_of, AreKeyed, IsWriting, IsState, Serves}
-use Rattle.monitor.specs.Sides.{Writing, output_of, channel_of, job_of, state_of}
+use Rattle.monitor.specs.Serving.{pack_of, AreKeyed, AreReading, IsWriting, IsState, Serves}
+use Rattle.monitor.specs.Sides.{Writing, UnderKeys, output_of, channel_of, job_of, state_of}
 use Rattle.monitor.specs.declared.channel.Channel.{Channel}
 use Rattle.monitor.specs.declared.output.Output.{Output}
 use Rattle.monitor.specs.declared.job.Job.{Job}
 use Rattle.monitor.proofs.Answering.{state_is, job_set, called, goes_on, same_files}
 use Rattle.monitor.proofs.Calling.{channel_is, channel_set}
-use Rattle.monitor.proofs.Dropped.{same_or_not, drops_none}
+use Rattle.monitor.proofs.Dropped.{same_or_not, leaves_none}
 use Rattle.monitor.proofs.EnterServing.{with_same, with_other}
 use Rattle.monitor.proofs.Knowing.{known}
 use Rattle.monitor.proofs.OutServing.{gathers, none_found, place_found, put_writing, writing_put, state_put}
+use Rattle.monitor.proofs.ReadStays.{reads_kept}
 use Rattle.monitor.proofs.Usetos.{on_row, on_none}
 
 -- The rows that neither want memory nor the disk.
@@ -50,7 +52,7 @@ module _ (job : Job) (ch a : ℕ) where
 
   module _ (c : Channel) (there : slot job.channels ch ≡ Some c) where
     -- the row, by its side and by what it finds
-    abbrev by_side : Pack → State → (ℕ → Writing) → Option machine.Output → Option Outgoing → Reply × machine.Job
+    abbrev by_side : Pack → State → (UnderKeys) → Option machine.Output → Option Outgoing → Reply × machine.Job
     by_side pack s w o found = settled (put_answer pack s (channel_of w c) o found) (put_done (job_of w job) ch (channel_of w c) found) (stopped_in (job_of w job) ch (channel_of w c))
 
     pub out_refused : c.output ≡ None → IsRow job job (Out ch a) (Refused 5)
@@ -65,7 +67,7 @@ module _ (job : Job) (ch a : ℕ) where
         ∙ ap (λ found. by_side pack s w (Some (output_of w o)) (option_map {U = Outgoing} (λ areas. record { words = joined job.core areas; core = job.core }) found)) none)
 
 -- An output side, and words for it.
-module _ (d : DiskState) (map : VolumeCore) (jobs : List (Option Job)) (n : ℕ) (job : Job) (there : slot jobs n ≡ Some job) (ch a : ℕ) (moment : Moment) (timely : moment.date ≤ 4095) (serial : ℕ) (files : Files Version) (w : ℕ → Writing)
+module _ (d : DiskState) (map : VolumeCore) (jobs : List (Option Job)) (n : ℕ) (job : Job) (there : slot jobs n ≡ Some job) (ch a : ℕ) (moment : Moment) (timely : moment.date ≤ 4095) (serial : ℕ) (files : Files Version) (w : UnderKeys)
     (c : Channel) (open_at : slot job.channels ch ≡ Some c) (o : Output) (side : c.output ≡ Some o) where
   abbrev t : State
   t = state_of files w jobs
@@ -104,62 +106,63 @@ module _ (d d' : DiskState) (map map' : VolumeCore) (jobs jobs' : List (Option J
     (p : PendingVersion) (at : pending_at map.pending out.output.pending.key ≡ Some p) (put : Puts d d' map map' out.output out.words p)
     (others : (k : ℕ) → (k ≡ out.output.pending.key → ⊥) → pending_at map'.pending k ≡ pending_at map.pending k)
     (writers : (k : ℕ) (q : PendingVersion) → (k ≡ out.output.pending.key → ⊥) → pending_at map.pending k ≡ Some q → (m : ℕ) → 0 < times m q.version.blocks → d'.contents m ≡ d.contents m)
-    (rests : (f : Files File) → RestsAt d f → RestsAt d' f) (live : map'.live ≡ map.live) (s : State) (state : IsState d map jobs s) where
+    (rests : (f : Files File) → RestsAt d f → RestsAt d' f) (live : map'.live ≡ map.live) (knows : map'.known ≡ record map.known { table = map'.known.table }) (readers : KeepsRead d.contents d'.contents map)
+    (reading' : AreReading map'.live jobs') (s : State) (state : IsState d map jobs s) where
   abbrev key : ℕ
   key = out.output.pending.key
 
   abbrev x : Writing
-  x = put_writing map.pending jobs n job there ch out.channel out.there out.output out.side keyed state.written out.words
+  x = put_writing map.pending jobs n job there ch out.channel out.there out.output out.side keyed state.under out.words
 
-  abbrev w : ℕ → Writing
-  w = writing_put map.pending jobs n job there ch out.channel out.there out.output out.side keyed state.written out.words
+  abbrev w : UnderKeys
+  w = writing_put map.pending jobs n job there ch out.channel out.there out.output out.side keyed state.under out.words
 
-  s_is : s ≡ state_of s.files state.written jobs
-  s_is = state_is s state.written jobs state.jobs_are
+  s_is : s ≡ state_of s.files state.under jobs
+  s_is = state_is s state.under jobs state.jobs_are
 
   at_key : (k : ℕ) (q : PendingVersion) → pending_at map'.pending k ≡ Some q → k ≡ key → q ≡ record p { version = put.version }
   at_key k q is same = some_same (sym is ∙ ap (pending_at map'.pending) same ∙ put.here)
 
   -- the version that is written, and the others
-  this_version : (k : ℕ) (q : PendingVersion) → pending_at map'.pending k ≡ Some q → k ≡ key → IsWriting d' q (w k)
+  this_version : (k : ℕ) (q : PendingVersion) → pending_at map'.pending k ≡ Some q → k ≡ key → IsWriting d' q (w.written k)
   this_version k q is same =
       let was = state.versions key p at in
-      subst (λ v. IsWriting d' v (w k)) (sym (at_key k q is same))
-      (subst (IsWriting d' (record p { version = put.version })) (sym (ap w same ∙ with_same state.written key x)) (record {
+      subst (λ v. IsWriting d' v (w.written k)) (sym (at_key k q is same))
+      (subst (IsWriting d' (record p { version = put.version })) (sym (ap w.written same ∙ with_same state.under key x)) (record {
         place = was.place;
         protection = was.protection;
         mode = was.mode;
         time = was.time;
         date = was.date;
-        words = length-splice (state.written key).file.body out.output.next out.words ∙ ap (λ m. length_after m out.output.next (length out.words)) was.words ∙ sym put.length_is;
-        body = put.body honest (state.written key).file.body was.words was.body;
+        words = length-splice (state.under.written key).file.body out.output.next out.words ∙ ap (λ m. length_after m out.output.next (length out.words)) was.words ∙ sym put.length_is;
+        body = put.body honest (state.under.written key).file.body was.words was.body;
       }))
 
-  other_version : (k : ℕ) (q : PendingVersion) → pending_at map'.pending k ≡ Some q → (k ≡ key → ⊥) → IsWriting d' q (w k)
+  other_version : (k : ℕ) (q : PendingVersion) → pending_at map'.pending k ≡ Some q → (k ≡ key → ⊥) → IsWriting d' q (w.written k)
   other_version k q is apart =
       let before = sym (others k apart) ∙ is in
       let was = state.versions k q before in
-      subst (IsWriting d' q) (sym (with_other state.written key x k apart)) (record {
+      subst (IsWriting d' q) (sym (with_other state.under key x k apart)) (record {
         place = was.place;
         protection = was.protection;
         mode = was.mode;
         time = was.time;
         date = was.date;
         words = was.words;
-        body = body_kept d.contents d'.contents q.version.blocks (state.written k).file.body was.body (writers k q apart before);
+        body = body_kept d.contents d'.contents q.version.blocks (state.under.written k).file.body was.body (writers k q apart before);
       })
 
-  absent_is : (k : ℕ) (q : PendingVersion) → pending_at map'.pending k ≡ Some q → q.is_new ≡ true → file_at s.files (w k).place ≡ None
+  absent_is : (k : ℕ) (q : PendingVersion) → pending_at map'.pending k ≡ Some q → q.is_new ≡ true → file_at s.files (w.written k).place ≡ None
   absent_is k q is is_new = same_or_not k key
-      (λ same. ap (λ (y : Writing). file_at s.files y.place) (ap w same ∙ with_same state.written key x) ∙ state.absent key p at (sym (ap (λ (v : PendingVersion). v.is_new) (at_key k q is same)) ∙ is_new))
-      (λ apart. ap (λ (y : Writing). file_at s.files y.place) (with_other state.written key x k apart) ∙ state.absent k q (sym (others k apart) ∙ is) is_new)
+      (λ same. ap (λ (y : Writing). file_at s.files y.place) (ap w.written same ∙ with_same state.under key x) ∙ state.absent key p at (sym (ap (λ (v : PendingVersion). v.is_new) (at_key k q is same)) ∙ is_new))
+      (λ apart. ap (λ (y : Writing). file_at s.files y.place) (with_other state.under key x k apart) ∙ state.absent k q (sym (others k apart) ∙ is) is_new)
 
-  row_put : (serial : ℕ) → step (pack_of d) serial (state_of s.files state.written jobs) (Calls n (Out ch a) moment) ≡ (Done, state_of s.files w jobs')
+  row_put : (serial : ℕ) → step (pack_of d) serial (state_of s.files state.under jobs) (Calls n (Out ch a) moment) ≡ (Done, state_of s.files w jobs')
   row_put serial =
-      row_by_place d map jobs n job there ch a moment timely serial s.files state.written out.channel out.there out.output out.side out.words out.found false
-      (place_found d map (state_of s.files state.written jobs) state.written out.output p (state.versions key p at) (subst (λ y. booked y ≡ map.known.table.booked) s_is (known d map jobs s state sound honest).booked_is) (length out.words) put.fits)
-      ∙ ap (λ y. (Done, with_job (state_of s.files state.written jobs) n (with_channel (job_of state.written job) ch (Some (record (clean (channel_of state.written out.channel)) { output = put_on (option_map (output_of state.written) y) out.words }))))) out.side
-      ∙ ap (λ y. (Done, y)) (state_put map.pending jobs n job there ch out.channel out.there out.output out.side keyed state.written out.words s.files jobs' set)
+      row_by_place d map jobs n job there ch a moment timely serial s.files state.under out.channel out.there out.output out.side out.words out.found false
+      (place_found d map (state_of s.files state.under jobs) state.under out.output p (state.versions key p at) (subst (λ y. booked y ≡ map.known.table.booked) s_is (known d map jobs s state sound honest).booked_is) (length out.words) put.fits)
+      ∙ ap (λ y. (Done, with_job (state_of s.files state.under jobs) n (with_channel (job_of state.under job) ch (Some (record (clean (channel_of state.under out.channel)) { output = put_on (option_map (output_of state.under) y) out.words }))))) out.side
+      ∙ ap (λ y. (Done, y)) (state_put map.pending jobs n job there ch out.channel out.there out.output out.side keyed state.under out.words s.files jobs' set)
 
   pub put_leads : (failed' : Bool) → failed' ≡ false → (new : Service) × Serves d' map' failed' jobs' new × Answers (pack_of d) (Serving s) (Calls n (Out ch a) moment) Done new
   put_leads failed' serves =
@@ -168,34 +171,34 @@ module _ (d d' : DiskState) (map map' : VolumeCore) (jobs jobs' : List (Option J
       (λ still. record {
         files = rests (without_serials s.files) state.files;
         serials = state.serials;
-        written = w;
+        under = w;
         versions = λ k q is. same_or_not k key (this_version k q is) (other_version k q is);
         absent = absent_is;
         keyed = keyed';
+        read = reads_kept d d' map map' state.under.read live readers s.files (λ ppn name. ap (λ k. prime_at (record map { known = k }) ppn name) knows) state.read;
+        reading = reading';
         jobs_are = refl;
-        unread = λ key v at. state.unread key v (sym (ap (λ vs. slice_index_or vs key None) live) ∙ at);
-        unheld = ap (λ vs. total held_cost vs) live ∙ state.unheld;
         sound = still;
       })
 
 -- They find no place.
 module _ (d : DiskState) (map : VolumeCore) (failed : Bool) (jobs jobs' : List (Option Job)) (n : ℕ) (job : Job) (there : slot jobs n ≡ Some job) (ch a : ℕ) (moment : Moment) (timely : moment.date ≤ 4095) (out : putting.Outgoing job ch a) (status : ℕ) (is : status ≡ cleared out.channel.status + block_too_large)
     (set : jobs' ≡ slice_set jobs n (Some (record job { channels = slice_set job.channels ch (Some (record out.channel { status = status })) })))
-    (keyed' : AreKeyed map.pending jobs') (sound : IsSound d map false) (honest : d.honest)
+    (keyed' : AreKeyed map.pending jobs') (reading' : AreReading map.live jobs') (sound : IsSound d map false) (honest : d.honest)
     (p : PendingVersion) (at : pending_at map.pending out.output.pending.key ≡ Some p) (none : FindsNone d.size map p out.output.next (length out.words)) (s : State) (state : IsState d map jobs s) where
-  before_is : s ≡ state_of s.files state.written jobs
-  before_is = state_is s state.written jobs state.jobs_are
+  before_is : s ≡ state_of s.files state.under jobs
+  before_is = state_is s state.under jobs state.jobs_are
 
-  row_stopped : (serial : ℕ) → step (pack_of d) serial (state_of s.files state.written jobs) (Calls n (Out ch a) moment) ≡ (Stopped status, state_of s.files state.written jobs')
+  row_stopped : (serial : ℕ) → step (pack_of d) serial (state_of s.files state.under jobs) (Calls n (Out ch a) moment) ≡ (Stopped status, state_of s.files state.under jobs')
   row_stopped serial =
-      row_by_place d map jobs n job there ch a moment timely serial s.files state.written out.channel out.there out.output out.side out.words out.found true
-      (none_found d map (state_of s.files state.written jobs) state.written out.output p (state.versions out.output.pending.key p at) (subst (λ y. booked y ≡ map.known.table.booked) before_is (known d map jobs s state sound honest).booked_is) (length out.words) none)
-      ∙ ap (λ m. (Stopped m, with_job (state_of s.files state.written jobs) n (with_channel (job_of state.written job) ch (Some (record (channel_of state.written out.channel) { status = m }))))) (sym is)
-      ∙ ap (λ j. (Stopped status, with_job (state_of s.files state.written jobs) n j)) (channel_set state.written job ch (Some (record out.channel { status = status })))
-      ∙ ap (λ y. (Stopped status, y)) (job_set s.files state.written jobs n (record job { channels = slice_set job.channels ch (Some (record out.channel { status = status })) }) ∙ ap (state_of s.files state.written) (sym set))
+      row_by_place d map jobs n job there ch a moment timely serial s.files state.under out.channel out.there out.output out.side out.words out.found true
+      (none_found d map (state_of s.files state.under jobs) state.under out.output p (state.versions out.output.pending.key p at) (subst (λ y. booked y ≡ map.known.table.booked) before_is (known d map jobs s state sound honest).booked_is) (length out.words) none)
+      ∙ ap (λ m. (Stopped m, with_job (state_of s.files state.under jobs) n (with_channel (job_of state.under job) ch (Some (record (channel_of state.under out.channel) { status = m }))))) (sym is)
+      ∙ ap (λ j. (Stopped status, with_job (state_of s.files state.under jobs) n j)) (channel_set state.under job ch (Some (record out.channel { status = status })))
+      ∙ ap (λ y. (Stopped status, y)) (job_set s.files state.under jobs n (record job { channels = slice_set job.channels ch (Some (record out.channel { status = status })) }) ∙ ap (state_of s.files state.under) (sym set))
 
   pub stopped_leads : failed ≡ false → (new : Service) × Serves d map failed jobs' new × Answers (pack_of d) (Serving s) (Calls n (Out ch a) moment) (Stopped status) new
   stopped_leads serves =
-      goes_on d map failed jobs' (pack_of d) (Calls n (Out ch a) moment) (Stopped status) s (state_of s.files state.written jobs') serves state.sound
-      (λ serial. subst (λ y. step (pack_of d) serial y (Calls n (Out ch a) moment) ≡ (Stopped status, state_of s.files state.written jobs')) (sym before_is) (row_stopped serial))
-      (same_files d map map failed jobs jobs' keyed' ([], drops_none map) s state)
+      goes_on d map failed jobs' (pack_of d) (Calls n (Out ch a) moment) (Stopped status) s (state_of s.files state.under jobs') serves state.sound
+      (λ serial. subst (λ y. step (pack_of d) serial y (Calls n (Out ch a) moment) ≡ (Stopped status, state_of s.files state.under jobs')) (sym before_is) (row_stopped serial))
+      (same_files d map map failed jobs jobs' keyed' reading' (leaves_none map) s state)

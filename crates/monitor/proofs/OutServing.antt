@@ -21,7 +21,7 @@ use Rattle.volume.specs.Live.{VolumeCore, pending_at}
 use Rattle.volume.specs.declared.pending.PendingVersion.{PendingVersion}
 use Rattle.monitor.specs.Putting.{FindsNone, moved}
 use Rattle.monitor.specs.Serving.{pack_of, present, AreKeyed, IsWriting}
-use Rattle.monitor.specs.Sides.{Writing, side_of, sides_in, sides, kind_of, output_of, channel_of, job_of, jobs_of, state_of}
+use Rattle.monitor.specs.Sides.{Writing, UnderKeys, side_of, sides_in, sides, kind_of, output_of, channel_of, job_of, jobs_of, state_of}
 use Rattle.monitor.specs.declared.channel.Channel.{Channel}
 use Rattle.monitor.specs.declared.output.Kind.{Kind}
 use Rattle.monitor.specs.declared.output.Kind.TheVariants.{Create, Supersede}
@@ -84,7 +84,7 @@ no_end : (kind : Kind) (next : ℕ) → is_before_end (kind_of kind) next ≡ fa
 no_end Create next = refl
 no_end Supersede next = refl
 
-module _ (d : DiskState) (map : VolumeCore) (s : State) (w : ℕ → Writing) (o : Output) (p : PendingVersion) (is : IsWriting d p (w o.pending.key)) (books : booked s ≡ map.known.table.booked) (n : ℕ) where
+module _ (d : DiskState) (map : VolumeCore) (s : State) (w : UnderKeys) (o : Output) (p : PendingVersion) (is : IsWriting d p (w.written o.pending.key)) (books : booked s ≡ map.known.table.booked) (n : ℕ) where
   test_is : finds_no_place (pack_of d) s (output_of w o) n
       ≡ crowds n (length_after p.version.words o.next n) (space d.size) (map.known.table.booked + (version_cost (length_after p.version.words o.next n) - version_cost p.version.words)) false
   test_is i = crowds n (length_after (is.words i) o.next n) (space d.size) (books i + (version_cost (length_after (is.words i) o.next n) - version_cost (is.words i))) (no_end o.kind o.next i)
@@ -103,11 +103,11 @@ set_alike f g xs n y z same =
     sym (set-twice (map f xs) n (f y) z) ∙ ap (λ ys. slice_set ys n z) (sym (map-set f xs n y) ∙ same ∙ map-set g xs n y) ∙ set-twice (map g xs) n (g y) z
 
 module _ (pending : List (Option PendingVersion)) (jobs : List (Option Job)) (n : ℕ) (job : Job) (there : slot jobs n ≡ Some job) (ch : ℕ) (c : Channel) (open_at : slot job.channels ch ≡ Some c) (o : Output) (side : c.output ≡ Some o)
-    (keyed : AreKeyed pending jobs) (w : ℕ → Writing) (words : List ℕ) where
+    (keyed : AreKeyed pending jobs) (w : UnderKeys) (words : List ℕ) where
   abbrev pub put_writing : Writing
-  put_writing = record (w o.pending.key) { file = record (w o.pending.key).file { body = splice (w o.pending.key).file.body o.next words } }
+  put_writing = record (w.written o.pending.key) { file = record (w.written o.pending.key).file { body = splice (w.written o.pending.key).file.body o.next words } }
 
-  abbrev pub writing_put : ℕ → Writing
+  abbrev pub writing_put : UnderKeys
   writing_put = with_writing w o.pending.key put_writing
 
   abbrev job_put : Job

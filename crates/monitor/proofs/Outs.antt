@@ -12,15 +12,20 @@ use Rattle.meaning.proofs.MapSums.{times_head}
 use Rattle.meaning.proofs.SlotLaws.{none_some}
 use Rattle.retrieval.specs.Versions.{VersionState}
 use Rattle.volume.specs.Live.{pending_at}
+use Rattle.volume.specs.Live.{slot as version_at}
+use Rattle.volume.specs.declared.live.LiveVersion.{LiveVersion}
 use Rattle.volume.specs.declared.pending.PendingVersion.{PendingVersion}
 use Rattle.monitor.specs.Putting.{moved}
-use Rattle.monitor.specs.Rows.{Keeps}
-use Rattle.monitor.specs.Serving.{present, IsSide}
-use Rattle.monitor.specs.Sides.{side_of, sides_in, keys_of}
+use Rattle.monitor.specs.Readers.{readers_of}
+use Rattle.monitor.specs.Rows.{Keeps, KeepsReading}
+use Rattle.monitor.specs.Serving.{present, IsSide, IsReader}
+use Rattle.monitor.specs.Sides.{side_of, sides_in, keys_of, reader_of}
 use Rattle.monitor.specs.declared.channel.Channel.{Channel}
 use Rattle.monitor.specs.declared.output.Output.{Output}
 use Rattle.monitor.specs.declared.job.Job.{Job}
 use Rattle.monitor.proofs.Dropped.{same_or_not}
+use Rattle.monitor.proofs.ReaderLists.{held, held-channel}
+use Rattle.monitor.proofs.ReadingJobs.{slot_set, length-slice_set}
 use Rattle.monitor.proofs.SideLists.{count, count-channel, each-channel, each-side}
 
 -- A channel with an output side.
@@ -91,3 +96,37 @@ module _ (pending pending' : List (Option PendingVersion)) (job job' : Job) (num
     where
       further : (next n : ℕ) → 0 < next → 0 < next + blocks_of n
       further next n first = omega arith
+
+-- Where the versions in use stay, each job reads what it read.
+module _ (live live' : List (Option LiveVersion)) (job : Job) (stays : live' ≡ live) where
+  as_many : (key : ℕ) → readers_of (version_at live' key) ≡ readers_of (version_at live key)
+  as_many key = ap (λ vs. readers_of (version_at vs key)) stays
+
+  -- a job with the same channels
+  pub reads_core : (core : List ℕ) → KeepsReading live live' job (record job { core = core })
+  reads_core core = record { once = λ key. let same = as_many key in omega arith; each = λ is. record { each = is.each; sixteen = is.sixteen } }
+
+  module _ (number : ℕ) (c : Channel) (there : slot job.channels number ≡ Some c) where
+    -- a channel is another one, with the same input side
+    pub reads_channel : (x : Channel) → x.input ≡ c.input → (IsReader c → IsReader x) → (job' : Job) → job' ≡ record job { channels = slice_set job.channels number (Some x) } → KeepsReading live live' job job'
+    reads_channel x same fits job' set = subst (KeepsReading live live' job) (sym set) (record {
+      once = λ key.
+          let moved_on = held-channel key job.channels number (Some x) (λ e. absurd (none_some (sym e ∙ there))) in
+          let was = ap (λ o. held key (option_to_list (reader_of o))) there in
+          let alike = ap (λ o. held key (option_to_list o)) same in
+          let many = as_many key in
+          omega arith;
+      each = λ is. record {
+        each = λ k y at. same_or_not k number
+            (λ here. subst IsReader ((slot_set job.channels number k x y at).0 here) (fits (is.each number c there)))
+            (λ apart. is.each k y ((slot_set job.channels number k x y at).1 apart));
+        sixteen = length-slice_set job.channels number (Some x) ∙ is.sixteen;
+      };
+    })
+
+    pub reads_status : (status : ℕ) (job' : Job) → job' ≡ record job { channels = slice_set job.channels number (Some (record c { status = status })) } → KeepsReading live live' job job'
+    reads_status status job' set = reads_channel (record c { status = status }) refl (λ is. is) job' set
+
+    -- one that writes doesn't read
+    pub reads_moved : (o : Output) → c.output ≡ Some o → (n : ℕ) (job' : Job) → job' ≡ record job { channels = slice_set job.channels number (Some (moved c o n)) } → KeepsReading live live' job job'
+    reads_moved o side n job' set = reads_channel (moved c o n) refl (λ is i at. absurd (none_some (sym (is i at).0 ∙ side))) job' set

@@ -31,7 +31,7 @@ use Rattle.volume.specs.Live.{VolumeCore, pending_at}
 use Rattle.volume.specs.Publishing.{IsPlaced, IsPublishedCore}
 use Rattle.volume.specs.declared.pending.PendingVersion.{PendingVersion}
 use Rattle.volume.proofs.Publications.{placed_on}
-use Rattle.monitor.specs.Dropping.{Drops}
+use Rattle.monitor.specs.Dropping.{Leaves}
 use Rattle.monitor.specs.Serving.{ArePlaced}
 
 pub placed_none : (c : VolumeCore) → c.pending ≡ [] → ArePlaced c
@@ -40,10 +40,10 @@ placed_none c none = record { each = λ key p at. absurd (wrong key p at); singl
     wrong : (key : ℕ) (p : PendingVersion) → pending_at c.pending key ≡ Some p → ⊥
     wrong key p at = some_none (sym (subst (λ ps. pending_at ps key ≡ Some p) none at))
 
-pub placed_dropped : (c c' : VolumeCore) (keys : List ℕ) → Drops c c' keys → ArePlaced c → ArePlaced c'
-placed_dropped c c' keys drops placed = record {
-  each = λ key p at. placed_on c c' drops.known p p.version (placed.each key p (drops.stay key p at));
-  single = λ k key p q at here. placed.single k key p q (drops.stay k p at) (drops.stay key q here);
+pub placed_left : (c c' : VolumeCore) → Leaves c c' → ArePlaced c → ArePlaced c'
+placed_left c c' leaves placed = record {
+  each = λ key p at. placed_on c c' leaves.known p p.version (placed.each key p (leaves.stay key p at));
+  single = λ k key p q at here. placed.single k key p q (leaves.stay k p at) (leaves.stay key q here);
 }
 
 -- Words are put into one.

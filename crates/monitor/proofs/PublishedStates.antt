@@ -1,71 +1,36 @@
 -- A CLOSE or RELEAS that publishes is the machine's row.
-use Rattle.std.proofs.Common.{◌≡◌, ℕ, Bool, true, false, List, [], ◌∷◌, ◌++◌, Option, Some, None, refl, sym, ap, subst, ◌∙◌, ⊎_elim, slice_set, arith}
-use Rattle.std.proofs.lemmas.Bool.{cases_eq}
-use Rattle.std.specs.Prelude.{◌==◌, ◌||◌, if◌then◌else◌, IsSome}
+use Rattle.std.proofs.Common.{◌≡◌, ◌<◌, ℕ, Bool, true, false, List, [], ◌∷◌, ◌++◌, Option, Some, refl, sym, ap, subst, ◌∙◌, slice_set, arith}
+use Rattle.std.specs.Prelude.{◌==◌, ◌||◌, IsSome}
 use Rattle.std.specs.List.{AllByRecursion}
 use Rattle.blockdisk.specs.Disk.{DiskState}
 use Rattle.meaning.specs.Files.{Files}
 use Rattle.meaning.specs.Jobs.{State, slot}
-use Rattle.meaning.specs.Maps.{total}
 use Rattle.meaning.specs.Published.{Version, without_serials, with_file}
 use Rattle.meaning.specs.Room.{current, held, has_serial}
 use Rattle.meaning.specs.Runs.{IsFresh}
 use Rattle.meaning.specs.Sound.{IsSound}
-use Rattle.meaning.proofs.MapLaws.{some_same, some_none}
+use Rattle.meaning.proofs.MapLaws.{some_none}
 use Rattle.meaning.proofs.PlaceLaws.{some_is}
 use Rattle.meaning.proofs.Versions.{body_kept}
-use Rattle.volume.specs.Live.{VolumeCore, pending_at, held_cost}
-use Rattle.volume.specs.Live as live
-use Rattle.volume.specs.Publishing.{IsPublishedCore, Entered, left_of, IsEnded, file_of, files_published}
+use Rattle.volume.specs.Live.{VolumeCore, pending_at, IsWholeCore}
+use Rattle.volume.specs.Live.{slot as version_at}
+use Rattle.volume.specs.Publishing.{file_of, files_published}
 use Rattle.volume.specs.Rest.{RestsAt}
 use Rattle.volume.specs.declared.live.LiveVersion.{LiveVersion}
 use Rattle.volume.specs.declared.pending.PendingVersion.{PendingVersion}
-use Rattle.volume.proofs.PublishingSlots.{left, turned_total, turned_slot}
 use Rattle.monitor.specs.Publishing.{MayPublish, HasPublished}
-use Rattle.monitor.specs.Rows.{Keeps}
+use Rattle.monitor.specs.Readers.{readers_of}
+use Rattle.monitor.specs.Rows.{Keeps, KeepsReading}
 use Rattle.monitor.specs.Serving.{ArePlaced, AreKeyed, IsSide, IsWriting, IsState}
-use Rattle.monitor.specs.Sides.{Writing, state_of, sides_in}
+use Rattle.monitor.specs.Sides.{Writing, UnderKeys, state_of, sides_in}
 use Rattle.monitor.specs.declared.job.Job.{Job}
 use Rattle.monitor.proofs.Dropped.{side_stays}
+use Rattle.monitor.proofs.HeldReaders.{fresh_read}
 use Rattle.monitor.proofs.PublishedFiles.{files_with, put_elsewhere, distinct_put}
 use Rattle.monitor.proofs.PublishedRows.{version_with}
+use Rattle.monitor.proofs.ReadingJobs.{keeps_reading}
+use Rattle.monitor.proofs.ReadsPublished.{reads_published}
 use Rattle.monitor.proofs.SideLists.{count, count-set, each-set, each-slot}
-
--- Nobody reads.
-
-abbrev pub Unread : List (Option LiveVersion) → Type 0
-Unread vs = (key : ℕ) (v : LiveVersion) → live.slot vs key ≡ Some v → v.readers ≡ 0
-
--- so nothing is left of a version that isn't current any more
-pub none_left : (v : LiveVersion) → v.readers ≡ 0 → left v ≡ None
-none_left v unread = ap (λ n. if n == 0 then None else Some (record v { is_current = false })) unread
-
-module _ (size : ℕ) (c c' : VolumeCore) (key : ℕ) (p : PendingVersion) (words : ℕ) (is : IsPublishedCore size c c' key p words) (unread : Unread c.live) where
-  unread_put : Unread is.put.live
-  unread_put = subst Unread (sym is.live) unread
-
-  free : (old : Entered) → IsEnded is.put.live c'.live old → held_cost (left_of old) ≡ 0
-  free None ended = refl
-  free (Some o) ended = ap held_cost (none_left o.1 (unread_put o.0 o.1 ended.0))
-
-  pub unheld_published : total held_cost c.live ≡ 0 → total held_cost c'.live ≡ 0
-  unheld_published none =
-      let t = is.turns in
-      let all = turned_total held_cost refl is.put.live c'.live t.old t.new_key _ t.vacant t.here t.ended t.others in
-      let was = ap (total held_cost) is.live in
-      let gone = free t.old t.ended in
-      omega arith
-
-  pub unread_published : Unread c'.live
-  unread_published k v there =
-      let t = is.turns in
-      ⊎_elim
-      (λ (same : k ≡ t.new_key). sym (ap (λ (u : LiveVersion). u.readers) (some_same (sym t.here ∙ sym (ap (live.slot c'.live) same) ∙ there))))
-      (λ other. ⊎_elim
-      (λ kept. unread_put k v (sym kept ∙ there))
-      (λ ended. absurd (some_none (sym there ∙ ended.2 ∙ none_left ended.0 (unread_put k ended.0 ended.1))))
-      (turned_slot is.put.live c'.live t.old t.new_key t.ended t.others k other))
-      (cases_eq k t.new_key)
 
 -- Output sides: the caller's are others, and no version is new.
 pub kept_keyed : (old new : List (Option PendingVersion)) (jobs : List (Option Job)) (n : ℕ) (job job' : Job) → slot jobs n ≡ Some job → Keeps old new job job' → ((k : ℕ) (q : PendingVersion) → pending_at new k ≡ Some q → pending_at old k ≡ Some q)
@@ -95,10 +60,10 @@ file_is : (d : DiskState) (p : PendingVersion) (w : Writing) → IsWriting d p w
 file_is d p w is = λ i. record { protection = is.protection i; mode = is.mode i; time = is.time i; date = is.date i; body = w.file.body }
 
 -- the files that the volume publishes are the machine's
-pub published_are : (d : DiskState) (c : VolumeCore) (jobs : List (Option Job)) (s : State) (state : IsState d c jobs s) (key serial : ℕ) (p : PendingVersion) → IsWriting d p (state.written key)
-    → files_published (without_serials s.files) p.prime.ppn p.prime.file (file_of p.prime (state.written key).file.body) ≡ without_serials (with_file s.files (state.written key).place (version_with (state.written key) serial))
+pub published_are : (d : DiskState) (c : VolumeCore) (jobs : List (Option Job)) (s : State) (state : IsState d c jobs s) (key serial : ℕ) (p : PendingVersion) → IsWriting d p (state.under.written key)
+    → files_published (without_serials s.files) p.prime.ppn p.prime.file (file_of p.prime (state.under.written key).file.body) ≡ without_serials (with_file s.files (state.under.written key).place (version_with (state.under.written key) serial))
 published_are d c jobs s state key serial p is =
-    sym (files_with s.files (state.written key).place (version_with (state.written key) serial) ∙ (λ i. files_published (without_serials s.files) (is.place i).ppn (is.place i).name (file_is d p (state.written key) is i)))
+    sym (files_with s.files (state.under.written key).place (version_with (state.under.written key) serial) ∙ (λ i. files_published (without_serials s.files) (is.place i).ppn (is.place i).name (file_is d p (state.under.written key) is i)))
 
 module _ (d d' : DiskState) (c c' : VolumeCore) (jobs : List (Option Job)) (n : ℕ) (job job' : Job) (key : ℕ) (there : slot jobs n ≡ Some job) (whatever : MayPublish d d' c c' key) (has : HasPublished d d' c c' key) (keeps : Keeps c.pending c'.pending job job')
     (live : IsSome (pending_at c.pending key)) where
@@ -111,40 +76,43 @@ module _ (d d' : DiskState) (c c' : VolumeCore) (jobs : List (Option Job)) (n : 
   pub keyed_published : AreKeyed c.pending jobs → AreKeyed c'.pending (slice_set jobs n (Some job'))
   keyed_published keyed = kept_keyed c.pending c'.pending jobs n job job' there keeps (λ k q at. (still_there k q at).1) keyed
 
-  module _ (honest : d.honest) (s : State) (state : IsState d c jobs s) (placed : ArePlaced c) (serial : ℕ) (fresh : IsFresh s serial) where
-    abbrev w : ℕ → Writing
-    w = state.written
+  module _ (honest : d.honest) (s : State) (state : IsState d c jobs s) (placed : ArePlaced c) (whole : IsWholeCore d.size c) (reads : KeepsReading c.live c'.live job job') (serial : ℕ) (fresh : IsFresh s serial) where
+    abbrev w : UnderKeys
+    w = state.under
 
     abbrev files' : Files Version
-    files' = with_file s.files (w key).place (version_with (w key) serial)
+    files' = with_file s.files (w.written key).place (version_with (w.written key) serial)
 
     rests : (p : PendingVersion) → pending_at c.pending key ≡ Some p → RestsAt d' (without_serials files')
-    rests p at = let is = state.versions key p at in subst (RestsAt d') (published_are d c jobs s state key serial p is) (has.files honest (without_serials s.files) state.files p at (w key).file.body is.words is.body)
+    rests p at = let is = state.versions key p at in subst (RestsAt d') (published_are d c jobs s state key serial p is) (has.files honest (without_serials s.files) state.files p at (w.written key).file.body is.words is.body)
 
     -- another version has another place
-    elsewhere : (p : PendingVersion) → pending_at c.pending key ≡ Some p → (k : ℕ) (q : PendingVersion) → (k ≡ key → ⊥) → pending_at c.pending k ≡ Some q → (w k).place ≡ (w key).place → ⊥
+    elsewhere : (p : PendingVersion) → pending_at c.pending key ≡ Some p → (k : ℕ) (q : PendingVersion) → (k ≡ key → ⊥) → pending_at c.pending k ≡ Some q → (w.written k).place ≡ (w.written key).place → ⊥
     elsewhere p here k q other at same =
         let place = sym (state.versions k q at).place ∙ same ∙ (state.versions key p here).place in
         other (placed.single k key q p at here (ap (λ l. l.ppn) place) (ap (λ l. l.name) place))
 
+    -- what is read has another serial
+    unlike : (k : ℕ) (v : LiveVersion) → version_at c.live k ≡ Some v → 0 < v.readers → serial ≡ (w.read k).serial → ⊥
+    unlike k v at some = let pinned = state.reading.pinned k in let here = ap readers_of at in fresh_read s w jobs state.jobs_are serial fresh k (omega arith)
+
     pub published_state : IsSound (state_of files' w (slice_set jobs n (Some job'))) → IsState d' c' (slice_set jobs n (Some job')) (state_of files' w (slice_set jobs n (Some job')))
     published_state sound =
         let p = some_is (pending_at c.pending key) live in
-        let core = has.core p.0 p.1 in
         record {
           files = rests p.0 p.1;
-          serials = distinct_put s.files (w key).place (version_with (w key) serial) state.serials (none_first serial (current s) (held s) fresh);
-          written = w;
+          serials = distinct_put s.files (w.written key).place (version_with (w.written key) serial) state.serials (none_first serial (current s) (held s) fresh);
+          under = w;
           versions = λ k q at.
               let was = still_there k q at in
               let is = state.versions k q was.1 in
-              record { place = is.place; protection = is.protection; mode = is.mode; time = is.time; date = is.date; words = is.words; body = body_kept d.contents d'.contents q.version.blocks (w k).file.body is.body (λ m held. whatever.writers honest k q was.0 was.1 m held) };
+              record { place = is.place; protection = is.protection; mode = is.mode; time = is.time; date = is.date; words = is.words; body = body_kept d.contents d'.contents q.version.blocks (w.written k).file.body is.body (λ m held. whatever.writers honest k q was.0 was.1 m held) };
           absent = λ k q at new.
               let was = still_there k q at in
-              put_elsewhere s.files (w key).place (version_with (w key) serial) (w k).place (elsewhere p.0 p.1 k q was.0 was.1) ∙ state.absent k q was.1 new;
+              put_elsewhere s.files (w.written key).place (version_with (w.written key) serial) (w.written k).place (elsewhere p.0 p.1 k q was.0 was.1) ∙ state.absent k q was.1 new;
           keyed = keyed_published state.keyed;
+          read = reads_published d d' c c' s.files w.read key p.0 p.0.version.words (w.written key).place (version_with (w.written key) serial) state.read whole (has.core p.0 p.1) state.serials (state.versions key p.0 p.1).place unlike (whatever.readers honest);
+          reading = keeps_reading c.live c'.live jobs n job job' state.reading there reads;
           jobs_are = refl;
-          unheld = unheld_published d.size c c' key p.0 p.0.version.words core state.unread state.unheld;
-          unread = unread_published d.size c c' key p.0 p.0.version.words core state.unread;
           sound = sound;
         }

@@ -1,5 +1,5 @@
 -- What readers hold, where a version is published: the one that it supersedes is past for those who read it.
-use Rattle.std.proofs.Common.{◌≡◌, ◌⊎◌, inl, inr, ℕ, ◌<◌, true, false, Some, refl, sym, ap, subst, ◌∙◌, ⊎_elim, arith}
+use Rattle.std.proofs.Common.{◌≡◌, ◌⊎◌, inl, inr, ℕ, ◌<◌, ◌==◌, if◌then◌else◌, true, false, Some, None, refl, sym, ap, subst, ◌∙◌, ⊎_elim, arith}
 use Rattle.std.proofs.lemmas.Bool.{cases_Bool, cases_eq, cases_lt, both_ways}
 use Rattle.blockdisk.specs.Disk.{DiskState}
 use Rattle.meaning.specs.Files.{Files, Place}
@@ -15,11 +15,14 @@ use Rattle.volume.specs.declared.live.LiveVersion.{LiveVersion}
 use Rattle.volume.specs.declared.pending.PendingVersion.{PendingVersion}
 use Rattle.volume.proofs.PublishedPlaces.{ended_stays, current_goes_on}
 use Rattle.volume.proofs.PublishingSlots.{left, left_cases, turned_slot}
-use Rattle.monitor.specs.Readers.{IsRead, AreRead}
+use Rattle.monitor.specs.Readers.{readers_of, IsRead, AreRead}
 use Rattle.monitor.proofs.HeldSerials.{superseded, still_none}
 use Rattle.monitor.proofs.PublishedFiles.{versions_in, put_elsewhere}
-use Rattle.monitor.proofs.PublishedStates.{none_left}
 use Rattle.monitor.proofs.ReadsPinned.{words_kept, held_otherwise}
+
+-- Nothing is left of a version that nobody reads and that isn't current any more.
+none_left : (v : LiveVersion) → v.readers ≡ 0 → left v ≡ None
+none_left v unread = ap (λ n. if n == 0 then None else Some (record v { is_current = false })) unread
 
 -- What stood under a key before.
 module _ (size : ℕ) (c c' : VolumeCore) (key : ℕ) (p : PendingVersion) (words : ℕ) (is : IsPublishedCore size c c' key p words) where
@@ -62,6 +65,19 @@ module _ (size : ℕ) (c c' : VolumeCore) (key : ℕ) (p : PendingVersion) (word
       (λ other.
       let was = was_there k v now other in
       ⊎_elim (λ same. all k v (was.1 ∙ ap Some same) ended) (λ turned. subst (λ (u : LiveVersion). 0 < u.readers) turned.1 turned.0) was.2) (cases_eq k is.turns.new_key)
+
+  -- each version has as many readers as before
+  left_readers : (u : LiveVersion) → readers_of (left u) ≡ u.readers
+  left_readers u = ⊎_elim (λ none. ap readers_of none.1 ∙ sym none.0) (λ some. ap readers_of some) (left_cases u)
+
+  pub readers_stay : (k : ℕ) → readers_of (slot c'.live k) ≡ readers_of (slot c.live k)
+  readers_stay k = ⊎_elim
+      (λ (new : k ≡ is.turns.new_key). ap readers_of (ap (slot c'.live) new ∙ is.turns.here) ∙ sym (ap readers_of (put_is k ∙ ap (slot is.put.live) new ∙ is.turns.vacant)))
+      (λ other. ⊎_elim
+      (λ kept. ap readers_of (kept ∙ sym (put_is k)))
+      (λ ended. ap readers_of ended.2 ∙ left_readers ended.0 ∙ sym (ap readers_of (put_is k ∙ ended.1)))
+      (turned_slot is.put.live c'.live is.turns.old is.turns.new_key is.turns.ended is.turns.others k other))
+      (cases_eq k is.turns.new_key)
 
 -- The version that is published has a serial that none has that is read.
 module _ (d d' : DiskState) (c c' : VolumeCore) (files : Files Version) (read : ℕ → Version) (key : ℕ) (p : PendingVersion) (words : ℕ) (place : Place) (x : Version)

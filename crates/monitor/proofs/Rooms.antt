@@ -1,4 +1,4 @@
--- What is booked: what the files cost, without their serials, and what is being written.
+-- What is booked: what the files cost, without their serials, what is being written, and what is read.
 use Rattle.std.proofs.Common.{◌≡◌, ℕ, ◌+◌, Bool, true, false, List, [], ◌∷◌, ◌++◌, length, map, flat_map, Option, Some, None, refl, sym, ap, ◌∙◌, arith, append-nil}
 use Rattle.std.specs.Prelude.{◌==◌, ◌&&◌, if◌then◌else◌, option_map, filter_map}
 use Rattle.std.specs.List.{cons_option}
@@ -10,27 +10,30 @@ use Rattle.meaning.specs.Costs.{version_cost, cost_of_blocks, directory_cost, co
 use Rattle.meaning.specs.Published.{Version, without_serials}
 use Rattle.meaning.specs.Jobs as machine
 use Rattle.meaning.specs.Jobs.{State, is_create}
-use Rattle.meaning.specs.Room.{outputs_of, outputs, held_by, held, version_of, current, distinct_cost, pending_creations, pending_cost, booked}
+use Rattle.meaning.specs.Room.{outputs_of, outputs, held_by, held, current, distinct_cost, pending_creations, pending_cost, booked}
 use Rattle.meaning.specs.Room as room
 use Rattle.meaning.specs.Runs.{AreDistinct}
 use Rattle.meaning.proofs.Names.{name_total}
 use Rattle.meaning.proofs.MapSums.{total-map, size-map_values, sum-map_values}
-use Rattle.volume.specs.Live.{VolumeCore, pending_at, creates, cost_beyond, IsWholePending, IsWholeCore}
+use Rattle.volume.specs.Live.{VolumeCore, pending_at, creates, cost_beyond, held_cost, IsWholePending, IsWholeCore}
 use Rattle.volume.specs.Live as live
 use Rattle.volume.specs.declared.pending.PendingVersion.{PendingVersion}
 use Rattle.volume.proofs.Answering.{Holds}
 use Rattle.monitor.specs.Serving.{IsSide, IsState}
-use Rattle.monitor.specs.Sides.{Writing, side_of, sides_in, sides, kind_of, output_of, channel_of, job_of, jobs_of}
+use Rattle.monitor.specs.Sides.{UnderKeys, side_of, sides_in, sides, readers, pins_of, kind_of, output_of, channel_of, job_of, jobs_of}
 use Rattle.monitor.specs.declared.output.Output.{Output}
 use Rattle.monitor.specs.declared.channel.Channel.{Channel}
 use Rattle.monitor.specs.declared.job.Job.{Job}
 use Rattle.monitor.proofs.Growths.{growths_are}
+use Rattle.monitor.proofs.HeldReaders.{held_are}
+use Rattle.monitor.proofs.HeldRooms.{held_once}
+use Rattle.monitor.proofs.ReadBookings.{reads_booked}
 use Rattle.monitor.proofs.SideLists.{each-as}
 use Rattle.monitor.proofs.SideSums.{all_at, sum_sides}
 
 -- The machine's output sides, and what it holds.
 
-module _ (w : ℕ → Writing) where
+module _ (w : UnderKeys) where
   cons_shown : (o : Option Output) (os : List Output) → cons_option (option_map (output_of w) o) (map (output_of w) os) ≡ map (output_of w) (cons_option o os)
   cons_shown None os = refl
   cons_shown (Some o) os = refl
@@ -52,18 +55,9 @@ module _ (w : ℕ → Writing) where
   sides_are [] = refl
   sides_are (j ∷ jobs) = (λ i. job_sides j i ++ sides_are jobs i) ∙ sym (map-append (output_of w) (sides_in j) (sides jobs))
 
-  channel_holds : (cs : List (Option Channel)) → filter_map version_of (map (option_map (channel_of w)) cs) ≡ []
-  channel_holds [] = refl
-  channel_holds (None ∷ cs) = channel_holds cs
-  channel_holds (Some c ∷ cs) = channel_holds cs
-
-  job_holds : (o : Option Job) → held_by (option_map (job_of w) o) ≡ []
-  job_holds None = refl
-  job_holds (Some job) = channel_holds job.channels
-
-  pub nothing_held : (jobs : List (Option Job)) → flat_map held_by (jobs_of w jobs) ≡ []
-  nothing_held [] = refl
-  nothing_held (j ∷ jobs) = (λ i. job_holds j i ++ nothing_held jobs i)
+-- what the input sides read, in their order
+abbrev read_by : UnderKeys → List (Option Job) → List Version
+read_by under jobs = map under.read (pins_of (readers jobs))
 
 -- Versions with serials of their own cost what each costs.
 
@@ -130,15 +124,15 @@ one_if b = if b then 1 else 0
 module _ (d : DiskState) (map : VolumeCore) (jobs : List (Option Job)) (s : State) (state : IsState d map jobs s) where
   -- the sum over output sides is the one over versions
   pub sum_is : (f : machine.Output → ℕ) (g : Option PendingVersion → ℕ) → g None ≡ 0
-      → ((o : Output) (p : PendingVersion) → pending_at map.pending o.pending.key ≡ Some p → IsSide map.pending o → f (output_of state.written o) ≡ g (Some p)) → total f (outputs s) ≡ total g map.pending
+      → ((o : Output) (p : PendingVersion) → pending_at map.pending o.pending.key ≡ Some p → IsSide map.pending o → f (output_of state.under o) ≡ g (Some p)) → total f (outputs s) ≡ total g map.pending
   sum_is f g none each =
-      ap (λ js. total f (flat_map outputs_of js)) state.jobs_are ∙ ap (total f) (sides_are state.written jobs) ∙ total-map f (output_of state.written) (sides jobs)
-      ∙ sum_sides g none (λ o. f (output_of state.written o)) (sides jobs) map.pending state.keyed.once
-      (each-as (IsSide map.pending) (λ o. (p : PendingVersion) → pending_at map.pending o.pending.key ≡ Some p → f (output_of state.written o) ≡ g (Some p)) (λ o side p at. each o p at side) (sides jobs) state.keyed.each)
+      ap (λ js. total f (flat_map outputs_of js)) state.jobs_are ∙ ap (total f) (sides_are state.under jobs) ∙ total-map f (output_of state.under) (sides jobs)
+      ∙ sum_sides g none (λ o. f (output_of state.under o)) (sides jobs) map.pending state.keyed.once
+      (each-as (IsSide map.pending) (λ o. (p : PendingVersion) → pending_at map.pending o.pending.key ≡ Some p → f (output_of state.under o) ≡ g (Some p)) (λ o side p at. each o p at side) (sides jobs) state.keyed.each)
 
   pub creations_are : (ppn : ℕ) → pending_creations s ppn ≡ total (creates ppn) map.pending
   creations_are ppn = sum_is (λ o. if is_create o.kind && (o.place.ppn == ppn) then 1 else 0) (creates ppn) refl
-      (λ o p at side. let place = ap (λ l. l.ppn) (state.versions o.pending.key p at).place in both (is_create (kind_of o.kind)) p.is_new ((state.written o.pending.key).place.ppn == ppn) (p.prime.ppn == ppn) (sym (side.kind p at)) (ap (λ n. n == ppn) place))
+      (λ o p at side. let place = ap (λ l. l.ppn) (state.versions o.pending.key p at).place in both (is_create (kind_of o.kind)) p.is_new ((state.under.written o.pending.key).place.ppn == ppn) (p.prime.ppn == ppn) (sym (side.kind p at)) (ap (λ n. n == ppn) place))
     where
       both : (a b x y : Bool) → a ≡ b → x ≡ y → one_if (a && x) ≡ (if b then one_if y else 0)
       both true b x y e f = λ i. if e i then one_if (f i) else 0
@@ -148,8 +142,14 @@ module _ (d : DiskState) (map : VolumeCore) (jobs : List (Option Job)) (s : Stat
   costs_are whole = sum_is (λ o. version_cost (length o.pending.body)) live.pending_cost refl
       (λ o p at side. ap version_cost (state.versions o.pending.key p at).words ∙ ap cost_of_blocks (sym (all_at (IsWholePending d.size) map.pending o.pending.key p whole.waiting at).whole.counted))
 
-  nothing : held s ≡ []
-  nothing = ap (flat_map held_by) state.jobs_are ∙ nothing_held state.written jobs
+  held_is : held s ≡ read_by state.under jobs
+  held_is = ap (flat_map held_by) state.jobs_are ∙ held_are state.under jobs
+
+  -- What is read is booked once, and what a file still has is booked with it.
+  held_booked : IsWholeCore d.size map → distinct_cost (current s ++ held s) ≡ distinct_cost (current s) + total held_cost map.live
+  held_booked whole =
+      ap (λ vs. distinct_cost (current s ++ vs)) held_is
+      ∙ held_once map.live (current s) state.under.read (pins_of (readers jobs)) state.reading.pinned (reads_booked d map s.files state.under.read whole state.serials state.read)
 
   -- what is booked of the disk
   pub booked_is : IsWholeCore d.size map → Holds d map.known (without_serials s.files) → booked s ≡ cost_of_files (without_serials s.files) + cost_beyond map
@@ -158,6 +158,6 @@ module _ (d : DiskState) (map : VolumeCore) (jobs : List (Option Job)) (s : Stat
       let costs = costs_are whole in
       let grown = total_same (λ e. directory_cost (size e.1.files + pending_creations s e.0)) (λ e. directory_cost (size e.1.files + total (creates e.0) map.pending)) (λ e. ap (λ n. directory_cost (size e.1.files + n)) (creations_are e.0)) (entries s.files) in
       let growth = growths_are d map.known s.files holds whole.map map.pending in
-      let held = ap (λ vs. distinct_cost (current s ++ vs)) nothing in
-      let unheld = state.unheld in
+      let held = held_booked whole in
+      let bare = ap distinct_cost (append-nil (current s)) in
       omega arith

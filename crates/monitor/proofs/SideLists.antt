@@ -1,11 +1,12 @@
 -- Output sides in lists of jobs and channels: how often a key stands in them, and what holds of each.
-use Rattle.std.proofs.Common.{◌≡◌, ℕ, zero, suc, ◌+◌, ◌<◌, ◌≤◌, List, [], ◌∷◌, ◌++◌, length, take, get_or, map, Option, Some, None, refl, sym, ap, ◌∙◌, arith}
+use Rattle.std.proofs.Common.{◌≡◌, ℕ, zero, suc, ◌+◌, ◌<◌, ◌≤◌, List, [], ◌∷◌, ◌++◌, length, take, get_or, map, Option, Some, None, refl, ap, arith}
 use Rattle.std.specs.Prelude.{option_map, slice_set, filter_map, option_to_list}
 use Rattle.std.specs.List.{AllByRecursion, cons_option}
 use Rattle.meaning.specs.Jobs.{slot}
 use Rattle.meaning.specs.Maps.{times}
 use Rattle.meaning.proofs.MapSums.{times_head}
 use Rattle.meaning.proofs.SlotLaws.{all_append, all_left, all_right}
+use Rattle.monitor.proofs.SideCounts as counts
 use Rattle.monitor.specs.Sides.{side_of, sides_in, sides, keys_of}
 use Rattle.monitor.specs.declared.output.Output.{Output}
 use Rattle.monitor.specs.declared.channel.Channel.{Channel}
@@ -29,64 +30,41 @@ slot-map f (y ∷ ys) (suc n) = slot-map f ys n
 abbrev pub count : ℕ → List Output → ℕ
 count key os = times key (keys_of os)
 
+abbrev key_of : Output → ℕ
+key_of o = o.pending.key
+
 pub count-append : (key : ℕ) (xs ys : List Output) → count key (xs ++ ys) ≡ count key xs + count key ys
-count-append key [] ys = omega arith
-count-append key (x ∷ xs) ys = omega (arith, count-append key xs ys)
+count-append key xs ys = counts.count-append side_of key_of key xs ys
 
 pub count-cons_option : (key : ℕ) (o : Option Output) (xs : List Output) → count key (cons_option o xs) ≡ count key (option_to_list o) + count key xs
-count-cons_option key None xs = omega arith
-count-cons_option key (Some o) xs = omega arith
+count-cons_option key o xs = counts.count-cons_option side_of key_of key o xs
 
 -- a slot that gets another job
 pub count-set : (key : ℕ) (jobs : List (Option Job)) (n : ℕ) (x : Option Job) → (slot jobs n ≡ None → count key (sides_in x) ≡ 0)
     → count key (sides (slice_set jobs n x)) + count key (sides_in (slot jobs n)) ≡ count key (sides jobs) + count key (sides_in x)
-count-set key [] n x fits = omega (arith, fits refl)
-count-set key (j ∷ jobs) zero x fits = omega (arith, count-append key (sides_in x) (sides jobs), count-append key (sides_in j) (sides jobs))
-count-set key (j ∷ jobs) (suc n) x fits =
-    omega (arith, count-set key jobs n x fits, count-append key (sides_in j) (sides (slice_set jobs n x)), count-append key (sides_in j) (sides jobs))
+count-set key jobs n x fits = counts.count-set side_of key_of key jobs n x fits
 
 pub count-slot : (key : ℕ) (jobs : List (Option Job)) (n : ℕ) → count key (sides_in (slot jobs n)) ≤ count key (sides jobs)
-count-slot key [] n = omega arith
-count-slot key (j ∷ jobs) zero = omega (arith, count-append key (sides_in j) (sides jobs))
-count-slot key (j ∷ jobs) (suc n) = omega (arith, count-slot key jobs n, count-append key (sides_in j) (sides jobs))
+count-slot key jobs n = counts.count-slot side_of key_of key jobs n
 
 -- a channel that is open, and another one in its place
 pub count-channel : (key : ℕ) (cs : List (Option Channel)) (n : ℕ) (x : Option Channel) → (slot cs n ≡ None → count key (option_to_list (side_of x)) ≡ 0)
     → count key (filter_map side_of (slice_set cs n x)) + count key (option_to_list (side_of (slot cs n))) ≡ count key (filter_map side_of cs) + count key (option_to_list (side_of x))
-count-channel key [] n x fits = omega (arith, fits refl)
-count-channel key (c ∷ cs) zero x fits = omega (arith, count-cons_option key (side_of x) (filter_map side_of cs), count-cons_option key (side_of c) (filter_map side_of cs))
-count-channel key (c ∷ cs) (suc n) x fits =
-    omega (arith, count-channel key cs n x fits, count-cons_option key (side_of c) (filter_map side_of (slice_set cs n x)), count-cons_option key (side_of c) (filter_map side_of cs))
+count-channel key cs n x fits = counts.count-channel side_of key_of refl key cs n x fits
 
 -- the channels up to a place, and one more
-count-next : (key : ℕ) (cs : List (Option Channel)) (i : ℕ) (o : Option Output) → i < length cs → o ≡ side_of (get_or cs i None)
-    → count key (filter_map side_of (take (suc i) cs)) ≡ count key (filter_map side_of (take i cs)) + count key (option_to_list o)
-count-next key [] i o below is = absurd (omega arith)
-count-next key (d ∷ cs) zero o below is = omega (arith, count-cons_option key (side_of d) [], ap (λ x. count key (option_to_list x)) is)
-count-next key (d ∷ cs) (suc i) o below is =
-    count-cons_option key (side_of d) (filter_map side_of (take (suc i) cs))
-    ∙ behind (count key (option_to_list (side_of d))) _ _ _ (count-next key cs i o (omega arith) is)
-    ∙ ap (λ n. n + count key (option_to_list o)) (sym (count-cons_option key (side_of d) (filter_map side_of (take i cs))))
-  where
-    behind : (h a b c : ℕ) → a ≡ b + c → h + a ≡ (h + b) + c
-    behind h a b c e = omega (arith, e)
-
 pub count-more : (key : ℕ) (cs : List (Option Channel)) (i : ℕ) (o : Option Output) → i < length cs → o ≡ side_of (get_or cs i None)
     → count key (filter_map side_of (take (i + 1) cs)) ≡ count key (filter_map side_of (take i cs)) + count key (option_to_list o)
-count-more key cs i o below is = let one : i + 1 ≡ suc i = omega arith in ap (λ n. count key (filter_map side_of (take n cs))) one ∙ count-next key cs i o below is
+count-more key cs i o below is = counts.count-more side_of key_of key cs i o below is
+
+pub count-within : (key : ℕ) (cs : List (Option Channel)) (i : ℕ) → count key (filter_map side_of (take i cs)) ≤ count key (filter_map side_of cs)
+count-within key cs i = counts.count-within side_of key_of key cs i
 
 pub take_all : {X : Type 0} (xs : List X) (i : ℕ) → length xs ≤ i → take i xs ≡ xs
 take_all [] zero le = refl
 take_all [] (suc i) le = refl
 take_all (x ∷ xs) zero le = absurd (omega arith)
 take_all (x ∷ xs) (suc i) le = ap (λ ys. x ∷ ys) (take_all xs i (omega arith))
-
-pub count-within : (key : ℕ) (cs : List (Option Channel)) (i : ℕ) → count key (filter_map side_of (take i cs)) ≤ count key (filter_map side_of cs)
-count-within key [] zero = omega arith
-count-within key [] (suc i) = omega arith
-count-within key (d ∷ cs) zero = omega arith
-count-within key (d ∷ cs) (suc i) =
-    omega (arith, count-within key cs i, count-cons_option key (side_of d) (filter_map side_of (take i cs)), count-cons_option key (side_of d) (filter_map side_of cs))
 
 -- What holds of each output side.
 

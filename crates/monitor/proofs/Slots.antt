@@ -2,7 +2,7 @@
 use Rattle.std.proofs.Common.{◌≡◌, ℕ, zero, suc, List, [], ◌∷◌, Option, None, Some, refl, ap, ◌∙◌, slice_set, replicate}
 use Rattle.meaning.specs.Cores.{first_free, rings_begin, with_right}
 use Rattle.meaning.specs.Jobs.{slot}
-use Rattle.meaning.proofs.SlotLaws.{set-slot}
+use Rattle.meaning.proofs.SlotLaws.{set-slot, slot-set_other}
 use Rattle.monitor.specs.Sides.{reset_job}
 use Rattle.monitor.specs.declared.job.Job.{Job}
 
@@ -14,6 +14,10 @@ set-twice (z ∷ xs) (suc n) x y = ap (λ ws. z ∷ ws) (set-twice xs n x y)
 -- put back after it was taken out
 pub put_back : {X : Type 0} (old taken new : List (Option X)) (n : ℕ) (x : Option X) → taken ≡ slice_set old n None → new ≡ slice_set taken n x → new ≡ slice_set old n x
 put_back old taken new n x out back = back ∙ ap (λ xs. slice_set xs n x) out ∙ set-twice old n None x
+
+-- the other slots are as they were
+pub others_back : {X : Type 0} (old taken new : List (Option X)) (n : ℕ) (x : Option X) → taken ≡ slice_set old n None → new ≡ slice_set taken n x → (m : ℕ) → (m ≡ n → ⊥) → slot new m ≡ slot old m
+others_back old taken new n x out back m other = ap (λ xs. slot xs m) (put_back old taken new n x out back) ∙ slot-set_other old n m x other
 
 -- the same, after a reset
 pub reset_back : (old taken new : List (Option Job)) (n : ℕ) (there : Job) (core : List ℕ) → taken ≡ slice_set old n None → new ≡ slice_set taken n (Some (record there { core = core; channels = replicate 16 None }))

@@ -11,23 +11,26 @@ use Rattle.meaning.specs.Step.{on_channel, of_job}
 use Rattle.meaning.specs.declared.call.Call.TheVariants.{Useto}
 use Rattle.meaning.specs.declared.call.Reply.{Reply}
 use Rattle.meaning.specs.declared.call.Reply.TheVariants.{Done, Refused, Stopped, NoChannel}
+use Rattle.meaning.proofs.MapLaws.{some_none}
+use Rattle.volume.specs.declared.live.LiveVersion.{LiveVersion}
 use Rattle.volume.specs.declared.pending.PendingVersion.{PendingVersion}
-use Rattle.monitor.specs.Rows.{IsRow, Keeps}
+use Rattle.monitor.specs.Rows.{IsRow, Keeps, KeepsReading}
 use Rattle.monitor.specs.Serving.{IsSide}
-use Rattle.monitor.specs.Sides.{Writing, side_of, output_of, channel_of, job_of}
+use Rattle.monitor.specs.Sides.{UnderKeys, side_of, reader_of, output_of, channel_of, job_of}
 use Rattle.monitor.specs.declared.channel.Channel.{Channel}
 use Rattle.monitor.specs.declared.output.Output.{Output}
 use Rattle.monitor.specs.declared.job.Job.{Job}
-use Rattle.monitor.proofs.Calling.{channel_is, channel_set, job_same, keeps_channel}
+use Rattle.monitor.proofs.Calling.{channel_is, channel_set, job_same, keeps_channel, reads_channel}
+use Rattle.monitor.proofs.ReaderLists.{held}
 use Rattle.monitor.proofs.SideLists.{count, each-side}
 
 -- A row of a channel that is open.
-pub on_row : (s : State) (n : ℕ) (w : ℕ → Writing) (job job' : Job) (number : ℕ) (c : Channel) (reply : Reply) (row : machine.Channel → Reply × machine.Job) → slot job.channels number ≡ Some c
+pub on_row : (s : State) (n : ℕ) (w : UnderKeys) (job job' : Job) (number : ℕ) (c : Channel) (reply : Reply) (row : machine.Channel → Reply × machine.Job) → slot job.channels number ≡ Some c
     → row (channel_of w c) ≡ (reply, job_of w job') → on_channel s (channel_at (job_of w job) number) (λ x. of_job s n (row x)) ≡ (reply, with_job s n (job_of w job'))
 on_row s n w job job' number c reply row there is = ap (λ o. on_channel s o (λ x. of_job s n (row x))) (channel_is w job number (Some c) there) ∙ ap (of_job s n) is
 
 -- one that isn't
-pub on_none : (s : State) (n : ℕ) (w : ℕ → Writing) (job : Job) (number : ℕ) (row : machine.Channel → Reply × State) → slot job.channels number ≡ None → job_at s n ≡ Some (job_of w job)
+pub on_none : (s : State) (n : ℕ) (w : UnderKeys) (job : Job) (number : ℕ) (row : machine.Channel → Reply × State) → slot job.channels number ≡ None → job_at s n ≡ Some (job_of w job)
     → on_channel s (channel_at (job_of w job) number) row ≡ (NoChannel, with_job s n (job_of w job))
 on_none s n w job number row none there = ap (λ o. on_channel s o row) (channel_is w job number None none) ∙ ap (λ t. (NoChannel, t)) (job_same s n (job_of w job) there)
 
@@ -39,10 +42,10 @@ module _ (job : Job) (number block : ℕ) where
 
   module _ (c : Channel) (there : slot job.channels number ≡ Some c) where
     -- the row, by its answer and by what it leaves
-    abbrev by_answer : (ℕ → Writing) → Reply → machine.Channel → Reply × machine.Job
+    abbrev by_answer : (UnderKeys) → Reply → machine.Channel → Reply × machine.Job
     by_answer w reply done = settled reply (with_channel (job_of w job) number (Some done)) (stopped_in (job_of w job) number (channel_of w c))
 
-    abbrev answer_for : (ℕ → Writing) → Option machine.Output → Bool → Reply
+    abbrev answer_for : (UnderKeys) → Option machine.Output → Bool → Reply
     answer_for w o zero = if is_none o then Refused 5 else if zero then reports (channel_of w c) block_too_large else Done
 
     pub useto_refused : c.output ≡ None → IsRow job job (Useto number block) (Refused 5)
@@ -86,3 +89,18 @@ module _ (job : Job) (number block : ℕ) where
         subst (Keeps pending pending job) (sym set)
         (keeps_channel pending job number (Some (record c { status = status; output = Some (record o { next = block }) })) (same_count (record c { status = status; output = Some (record o { next = block }) }) (λ key. ap (λ p. count key (option_to_list p)) (sym some)))
         (λ all. let side = (subst (λ p. AllByRecursion (IsSide pending) (option_to_list p)) some (its_side pending all)).0 in (record { starts = more; kind = side.kind }, tt)))
+
+    -- and of what is read
+
+    same_held : (key : ℕ) → held key (option_to_list c.input) ≡ held key (option_to_list (reader_of (slot job.channels number)))
+    same_held key = ap (λ p. held key (option_to_list (reader_of p))) (sym there)
+
+    pub reads_status : (live : List (Option LiveVersion)) (job' : Job) (status : ℕ) → job' ≡ record job { channels = slice_set job.channels number (Some (record c { status = status })) } → KeepsReading live live job job'
+    reads_status live job' status set =
+        subst (KeepsReading live live job) (sym set) (reads_channel live job number (record c { status = status }) same_held (λ has i is. has.each number c there i is))
+
+    pub reads_moved : (live : List (Option LiveVersion)) (job' : Job) (status : ℕ) (o : Output) → c.output ≡ Some o
+        → job' ≡ record job { channels = slice_set job.channels number (Some (record c { status = status; output = Some (record o { next = block }) })) } → KeepsReading live live job job'
+    reads_moved live job' status o some set =
+        subst (KeepsReading live live job) (sym set)
+        (reads_channel live job number (record c { status = status; output = Some (record o { next = block }) }) same_held (λ has i is. absurd (some_none (sym some ∙ (has.each number c there i is).0))))

@@ -1,13 +1,26 @@
--- Versions that were being written are dropped.
-use Rattle.std.specs.Prelude.{◌≡◌, ℕ, ◌+◌, List, Some}
+-- Versions that were being written are dropped, and versions that were read are let go.
+use Rattle.std.specs.Prelude.{◌≡◌, ℕ, ◌+◌, ◌<◌, ◌≤◌, false, List, Option, Some}
 use Rattle.meaning.specs.Maps.{times}
-use Rattle.volume.specs.Live.{VolumeCore, pending_at}
+use Rattle.volume.specs.Live.{VolumeCore, pending_at, slot}
+use Rattle.volume.specs.declared.live.LiveVersion.{LiveVersion}
 use Rattle.volume.specs.declared.pending.PendingVersion.{PendingVersion}
+use Rattle.monitor.specs.Readers.{readers_of}
 use Rattle.monitor.specs.Serving.{present}
 
--- Those under these keys are gone, and all others stay; of what is known of the disk the table alone may change.
-pub record Drops (c c' : VolumeCore) (keys : List ℕ) : Type 0 where
-  pub gone : (key : ℕ) → present (pending_at c'.pending key) + times key keys ≡ present (pending_at c.pending key)
+-- a version that isn't current is one that somebody reads
+abbrev pub IsNoneForgotten : List (Option LiveVersion) → Type 0
+IsNoneForgotten live = (key : ℕ) (v : LiveVersion) → slot live key ≡ Some v → v.is_current ≡ false → 0 < v.readers
+
+-- What there is was there: versions that are written as they were, and those that are read with as many readers or
+-- fewer; of what is known of the disk the table alone may change.
+pub record Leaves (c c' : VolumeCore) : Type 0 where
   pub stay : (key : ℕ) (p : PendingVersion) → pending_at c'.pending key ≡ Some p → pending_at c.pending key ≡ Some p
-  pub live : c'.live ≡ c.live
+  pub live : (key : ℕ) (v : LiveVersion) → slot c'.live key ≡ Some v → (readers : ℕ) × (v.readers ≤ readers) × (slot c.live key ≡ Some (record v { readers = readers }))
+  pub unread : IsNoneForgotten c.live → IsNoneForgotten c'.live
   pub known : c'.known ≡ record c.known { table = c'.known.table }
+
+-- The versions under these keys are dropped, and those under these pins are let go, once for each; all others stay.
+pub record Closes (c c' : VolumeCore) (keys pins : List ℕ) : Type 0 where
+  pub gone : (key : ℕ) → present (pending_at c'.pending key) + times key keys ≡ present (pending_at c.pending key)
+  pub let_go : (key : ℕ) → readers_of (slot c'.live key) + times key pins ≡ readers_of (slot c.live key)
+  pub leaves : Leaves c c'

@@ -23,10 +23,11 @@ use Rattle.monitor.specs.declared.output.Kind.{Kind}
 abbrev pub entered : Channel → ℕ → Kind → Channel
 entered c key kind = record c { status = cleared c.status; output = Some (record { pending = record { key = key }; kind = kind; next = 1 }) }
 
--- A version is begun under this key, with this prime block, for a channel that had no output side.
+-- A version is begun under this key, with this prime block, for a channel that had no sides.
 pub record IsEntering (c c' : VolumeCore) (job job' : Job) (number address : ℕ) (moment : Moment) (channel : Channel) (key : ℕ) (prime : Prime) : Type 0 where
   pub there : slot job.channels number ≡ Some channel
   pub free : channel.output ≡ None
+  pub unread : channel.input ≡ None
   pub begun : IsBegun c c' key prime
   pub at : IsPrimeAt job address moment prime
   pub kind : Kind

@@ -14,4 +14,7 @@ pub mod Publishing
 pub mod Events
 pub mod Readers
 pub mod Runs
+pub mod Moments
 pub mod Inputs
+pub mod LookingUp
+pub mod Reading

@@ -19,7 +19,7 @@ use Rattle.volume.specs.Publishing.{IsPublishedCore, file_of, files_published}
 use Rattle.volume.specs.Rest.{RestsAt, StandsForEither, KeepsRead, KeepsWritten}
 use Rattle.volume.specs.declared.live.LiveVersion.{LiveVersion}
 use Rattle.volume.specs.declared.pending.PendingVersion.{PendingVersion}
-use Rattle.monitor.specs.Serving.{AreKeyed, ArePlaced, pack_of, IsState, Serves}
+use Rattle.monitor.specs.Serving.{AreKeyed, ArePlaced, AreReading, pack_of, IsState, Serves}
 use Rattle.monitor.specs.declared.job.Job.{Job}
 
 -- Whatever the answer.
@@ -67,7 +67,8 @@ CrashesAsRow d d' c job call =
     d.honest → (jobs : List (Option Job)) (n : ℕ) (moment : Moment) → machine.slot jobs n ≡ Some job → moment.date ≤ 4095 → (s : State) → IsState d c jobs s
     → LeavesOnly d d' (λ contents. Stands d.size contents (without_serials s.files) ⊎ ((serial : ℕ) × Stands d.size contents (without_serials ((step (pack_of d) serial s (Calls n call moment)).1.files))))
 
--- Where the volume hasn't failed, the output sides of all jobs are still those of the versions that are being written, and each of these may be published.
+-- Where the volume hasn't failed, the sides of all jobs are still those of the versions that are being written and read, and each that is written may be published.
 abbrev pub StillStands : (c c' : VolumeCore) (failed' : Bool) → Job → Job → Type 0
 StillStands c c' failed' job job' =
-    (jobs : List (Option Job)) (n : ℕ) → machine.slot jobs n ≡ Some job → AreKeyed c.pending jobs → ArePlaced c → failed' ≡ false → AreKeyed c'.pending (slice_set jobs n (Some job')) × ArePlaced c'
+    (jobs : List (Option Job)) (n : ℕ) → machine.slot jobs n ≡ Some job → AreKeyed c.pending jobs → ArePlaced c → AreReading c.live jobs → failed' ≡ false
+    → AreKeyed c'.pending (slice_set jobs n (Some job')) × ArePlaced c' × AreReading c'.live (slice_set jobs n (Some job'))

@@ -1,7 +1,8 @@
 -- What a call does to the job that makes it, as the machine's row has it.
-use Rattle.std.specs.Prelude.{◌≡◌, ◌⊎◌, ℕ, ◌+◌, ◌==◌, ◌||◌, ◌&&◌, not, is_some, false, nat_le, Bool, if◌then◌else◌, List, Option, None, Some}
+use Rattle.std.specs.Prelude.{◌≡◌, ◌⊎◌, ℕ, ◌+◌, ◌==◌, ◌||◌, ◌&&◌, not, is_some, IsSome, false, nat_le, Bool, if◌then◌else◌, List, Option, None, Some}
 use Rattle.std.specs.List.{AllByRecursion}
 use Rattle.words36.specs.declared.moment.Moment.{Moment}
+use Rattle.meaning.specs.Cores.{lies_outside, with_right}
 use Rattle.meaning.specs.Closing.{keeps_output, discards}
 use Rattle.meaning.specs.Jobs as machine
 use Rattle.meaning.specs.Jobs.{State, job_at, with_job, improper_mode}
@@ -11,20 +12,22 @@ use Rattle.meaning.specs.Room.{Pack}
 use Rattle.meaning.specs.Step.{call_of}
 use Rattle.meaning.specs.declared.call.Call.{Call}
 use Rattle.meaning.specs.declared.call.Reply.{Reply}
-use Rattle.meaning.specs.declared.call.Reply.TheVariants.{Done, Stopped, NoChannel}
-use Rattle.volume.specs.Live.{pending_at}
+use Rattle.meaning.specs.declared.call.Reply.TheVariants.{Done, Refused, Stopped, NoChannel, AddressCheck}
+use Rattle.volume.specs.Live.{pending_at, slot}
+use Rattle.volume.specs.declared.live.LiveVersion.{LiveVersion}
 use Rattle.volume.specs.declared.pending.PendingVersion.{PendingVersion}
-use Rattle.monitor.specs.Serving.{present, IsSide}
-use Rattle.monitor.specs.Sides.{Writing, sides_in, keys_of, job_of}
+use Rattle.monitor.specs.Readers.{readers_of}
+use Rattle.monitor.specs.Serving.{present, IsSide, HasReaders}
+use Rattle.monitor.specs.Sides.{UnderKeys, sides_in, keys_of, readers_in, pins_of, job_of}
 use Rattle.monitor.specs.declared.channel.Channel.{Channel}
 use Rattle.monitor.specs.declared.output.Output.{Output}
 use Rattle.monitor.specs.declared.job.Job.{Job}
 
--- The job is this one after the call, with this answer, whatever is being written; and nothing else changes.
+-- The job is this one after the call, with this answer, whatever is written and read; and nothing else changes.
 abbrev pub IsRow : Job → Job → Call → Reply → Type 0
 IsRow job job' call reply =
-    (pack : Pack) (serial : ℕ) (s : State) (n : ℕ) (written : ℕ → Writing) (moment : Moment) → job_at s n ≡ Some (job_of written job)
-    → call_of pack serial s n (job_of written job) call moment ≡ (reply, with_job s n (job_of written job'))
+    (pack : Pack) (serial : ℕ) (s : State) (n : ℕ) (under : UnderKeys) (moment : Moment) → job_at s n ≡ Some (job_of under job)
+    → call_of pack serial s n (job_of under job) call moment ≡ (reply, with_job s n (job_of under job'))
 
 -- a version that was not there, or is new in its directory as it was
 abbrev pub IsOldOrNew : Option PendingVersion → PendingVersion → Type 0
@@ -36,6 +39,11 @@ pub record Keeps (pending pending' : List (Option PendingVersion)) (job job' : J
   pub known : (key : ℕ) (p : PendingVersion) → pending_at pending' key ≡ Some p → IsOldOrNew (pending_at pending key) p
   pub each : AllByRecursion (IsSide pending') (sides_in (Some job)) → AllByRecursion (IsSide pending') (sides_in (Some job'))
 
+-- Versions are held and let go with the input sides of a job, which stay as they should be.
+pub record KeepsReading (live live' : List (Option LiveVersion)) (job job' : Job) : Type 0 where
+  pub once : (key : ℕ) → readers_of (slot live' key) + times key (pins_of (readers_in (Some job))) ≡ readers_of (slot live key) + times key (pins_of (readers_in (Some job')))
+  pub each : HasReaders job → HasReaders job'
+
 -- OPEN.
 
 -- the device isn't the disk, or there is no such mode
@@ -44,7 +52,7 @@ improper_at core a = not (device_at core a == disk) || not (is_mode (mode_at cor
 
 -- the channel that is opened
 abbrev pub opened_at : List ℕ → ℕ → Channel
-opened_at core a = record { input_header = input_header_at core a; output_header = output_header_at core a; status = mode_at core a; output = None }
+opened_at core a = record { input_header = input_header_at core a; output_header = output_header_at core a; status = mode_at core a; input = None; output = None }
 
 -- In a mode that has buffers it is stopped where the machine would go on.
 
@@ -54,6 +62,19 @@ unserved mode reply = reply
 
 abbrev pub open_unserved : machine.Job → ℕ → ℕ → Reply
 open_unserved job number a = if nat_le number 15 then unserved (mode_at job.core a) (open_answer job number a) else NoChannel
+
+-- ENTER on a channel that reads: it is refused where the machine would go on to update the file.
+
+abbrev pub IsReading : Option Channel → Type 0
+IsReading None = ⊥
+IsReading (Some c) = IsSome c.input
+
+abbrev pub enter_unserved : Job → ℕ → Reply
+enter_unserved job e = if lies_outside job.core e 4 then AddressCheck else Refused 5
+
+-- its code is put into the right half of the second word
+abbrev pub enter_refused : Job → ℕ → Job
+enter_refused job e = if lies_outside job.core e 4 then job else record job { core = with_right job.core (e + 1) 5 }
 
 -- CLOSE.
 

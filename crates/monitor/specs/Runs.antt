@@ -1,71 +1,88 @@
 -- Lists of events, and what a crash among them leaves.
-use Rattle.std.specs.Prelude.{◌≡◌, ◌⊎◌, ◌-◌, Bool, false, List, [], ◌∷◌, Option}
+use Rattle.std.specs.Prelude.{◌≡◌, ◌⊎◌, ℕ, Bool, false, List, [], ◌∷◌, Option, Some, None}
 use Rattle.std.specs.List.{AllByRecursion}
 use Rattle.blockdisk.specs.Disk.{DiskState}
 use Rattle.meaning.specs.Files.{File, Files}
-use Rattle.meaning.specs.Jobs.{State, improper_mode}
+use Rattle.meaning.specs.Jobs as machine
+use Rattle.meaning.specs.Jobs.{State, channel_at, job_at}
+use Rattle.meaning.specs.Opening.{mode_at}
 use Rattle.meaning.specs.Rings.{is_buffered}
 use Rattle.meaning.specs.Room.{Pack}
 use Rattle.meaning.specs.Runs.{Service, Serving, Broken, Answers, IsStart}
 use Rattle.meaning.specs.Step.{step}
-use Rattle.meaning.specs.declared.call.Event as machine
+use Rattle.meaning.specs.declared.call.Event as played
 use Rattle.meaning.specs.declared.call.Event.TheVariants as events
 use Rattle.meaning.specs.declared.call.Reply.{Reply}
-use Rattle.meaning.specs.declared.call.Reply.TheVariants.{Done, Value, Refused, Stopped, NoChannel, AddressCheck, NoJob, NoMemory, Device, Failed, DateRange}
+use Rattle.meaning.specs.declared.call.Reply.TheVariants.{Device, Failed}
 use Rattle.volume.specs.Live.{VolumeCore}
 use Rattle.monitor.specs.Calls.{call_of}
 use Rattle.monitor.specs.Serving.{Serves}
 use Rattle.monitor.specs.declared.call.Call.{Call}
-use Rattle.monitor.specs.declared.call.Call.TheVariants.{Open, Enter, Out, Close, Releas, Useto, Getsts, Reset, MakeDir}
+use Rattle.monitor.specs.declared.call.Call.TheVariants.{Open, Lookup, Enter, In, Out, Close, Releas, Useti, Useto, Getsts, Reset, MakeDir}
 use Rattle.monitor.specs.declared.job.Job.{Job}
 use Rattle.monitor.specs.declared.events.Event.{Event}
 use Rattle.monitor.specs.declared.events.Event.TheVariants.{Login, Deposit, Examine, Call as Calls}
 
 -- as the machine has them
-abbrev pub event_of : Event → machine.Event
+abbrev pub event_of : Event → played.Event
 event_of (Login job ppn words) = events.Login job ppn words
 event_of (Deposit job address word) = events.Deposit job address word
 event_of (Examine job address) = events.Examine job address
 event_of (Calls job call moment) = events.Call job (call_of call) moment
 
--- Events that were served: no OPEN was stopped for a mode with buffers.
+-- whose event it is
+abbrev pub job_of : Event → ℕ
+job_of (Login job ppn words) = job
+job_of (Deposit job address word) = job
+job_of (Examine job address) = job
+job_of (Calls job call moment) = job
 
--- the status of an OPEN that is stopped has the mode beside the bit that says so
-abbrev pub IsUnstopped : Reply → Type 0
-IsUnstopped Done = Unit {0}
-IsUnstopped (Value word) = Unit {0}
-IsUnstopped (Refused code) = Unit {0}
-IsUnstopped (Stopped status) = is_buffered (status - improper_mode) ≡ false
-IsUnstopped NoChannel = Unit {0}
-IsUnstopped AddressCheck = Unit {0}
-IsUnstopped NoJob = Unit {0}
-IsUnstopped NoMemory = Unit {0}
-IsUnstopped Device = Unit {0}
-IsUnstopped Failed = Unit {0}
-IsUnstopped DateRange = Unit {0}
+-- Events that are served: no OPEN in a mode with buffers, and no ENTER on a channel that reads.
 
-abbrev pub WasMade : Call → Reply → Type 0
-WasMade (Open channel address) reply = IsUnstopped reply
-WasMade (Enter channel address) reply = Unit {0}
-WasMade (Out channel address) reply = Unit {0}
-WasMade (Close channel bits) reply = Unit {0}
-WasMade (Releas channel) reply = Unit {0}
-WasMade (Useto channel block) reply = Unit {0}
-WasMade (Getsts channel) reply = Unit {0}
-WasMade Reset reply = Unit {0}
-WasMade (MakeDir address) reply = Unit {0}
+abbrev pub IsUnbufferedBy : ℕ → Option machine.Job → Type 0
+IsUnbufferedBy address None = Unit {0}
+IsUnbufferedBy address (Some job) = is_buffered (mode_at job.core address) ≡ false
 
-abbrev pub WasServed : Event → Reply → Type 0
-WasServed (Login job ppn words) reply = Unit {0}
-WasServed (Deposit job address word) reply = Unit {0}
-WasServed (Examine job address) reply = Unit {0}
-WasServed (Calls job call moment) reply = WasMade call reply
+abbrev pub IsUnreadOn : Option machine.Channel → Type 0
+IsUnreadOn None = Unit {0}
+IsUnreadOn (Some c) = c.input ≡ None
 
--- the same of a list, with the replies in order
-abbrev pub WereServed : List Event → List Reply → Type 0
-WereServed [] replies = Unit {0}
-WereServed (event ∷ events) [] = Unit {0}
-WereServed (event ∷ events) (reply ∷ replies) = WasServed event reply × WereServed events replies
+abbrev pub IsUnreadBy : ℕ → Option machine.Job → Type 0
+IsUnreadBy number None = Unit {0}
+IsUnreadBy number (Some job) = IsUnreadOn (channel_at job number)
+
+-- a call of a job that the machine has
+abbrev pub IsServedFor : Call → Option machine.Job → Type 0
+IsServedFor (Open channel address) job = IsUnbufferedBy address job
+IsServedFor (Lookup channel address) job = Unit {0}
+IsServedFor (Enter channel address) job = IsUnreadBy channel job
+IsServedFor (In channel address) job = Unit {0}
+IsServedFor (Out channel address) job = Unit {0}
+IsServedFor (Close channel bits) job = Unit {0}
+IsServedFor (Releas channel) job = Unit {0}
+IsServedFor (Useti channel block) job = Unit {0}
+IsServedFor (Useto channel block) job = Unit {0}
+IsServedFor (Getsts channel) job = Unit {0}
+IsServedFor Reset job = Unit {0}
+IsServedFor (MakeDir address) job = Unit {0}
+
+-- an event in a state of the machine; a service that has failed serves none
+abbrev pub IsServedAt : State → Event → Type 0
+IsServedAt s (Login job ppn words) = Unit {0}
+IsServedAt s (Deposit job address word) = Unit {0}
+IsServedAt s (Examine job address) = Unit {0}
+IsServedAt s (Calls job call moment) = IsServedFor call (job_at s job)
+
+abbrev pub IsServedIn : Service → Event → Type 0
+IsServedIn Broken event = Unit {0}
+IsServedIn (Serving s) event = IsServedAt s event
+
+-- each event of a list that was answered so, in whichever state the machine may have been at it
+abbrev pub AreServed : Pack → Service → List Event → List Reply → Type 0
+AreServed pack service [] replies = Unit {0}
+AreServed pack service (event ∷ events) [] = Unit {0}
+AreServed pack service (event ∷ events) (reply ∷ replies) =
+    IsServedIn service event × ((mid : Service) → Answers pack service (event_of event) reply mid → AreServed pack mid events replies)
 
 -- A fault of the disk among the replies.
 
@@ -81,7 +98,7 @@ FailsOnce (reply ∷ replies) = (reply ≡ Device → AllByRecursion (λ later. 
 
 -- The files of the state that a start finds: those after some of the calls that were answered, none left out, or
 -- those after these and the next one, which was running; and no third. An event that the disk failed is the last.
-abbrev pub IsAlong : Pack → Service → List machine.Event → List Reply → State → Type 0
+abbrev pub IsAlong : Pack → Service → List played.Event → List Reply → State → Type 0
 IsAlong pack Broken events replies found = ⊥
 IsAlong pack (Serving s) [] [] found = found ≡ s
 IsAlong pack (Serving s) [] (reply ∷ replies) found = ⊥

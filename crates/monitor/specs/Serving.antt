@@ -2,8 +2,8 @@
 use Rattle.std.specs.Prelude.{◌≡◌, ℕ, ◌<◌, Bool, true, false, List, length, Option, None, Some}
 use Rattle.std.specs.List.{AllByRecursion}
 use Rattle.blockdisk.specs.Disk.{DiskState}
-use Rattle.meaning.specs.Jobs.{State, is_create}
-use Rattle.meaning.specs.Maps.{times, total}
+use Rattle.meaning.specs.Jobs.{State, is_create, slot}
+use Rattle.meaning.specs.Maps.{times}
 use Rattle.meaning.specs.Published.{file_at, without_serials}
 use Rattle.meaning.specs.Retrieval.{HasBody}
 use Rattle.meaning.specs.Room.{Pack, current}
@@ -11,15 +11,17 @@ use Rattle.meaning.specs.Runs.{Service, Serving, Broken, AreDistinct}
 use Rattle.meaning.specs.Sound.{IsSound}
 use Rattle.meaning.specs.Stands.{place_of}
 use Rattle.retrieval.specs.Modes.{mode_number}
-use Rattle.volume.specs.Live.{VolumeCore, pending_at, held_cost}
-use Rattle.volume.specs.Live as live
+use Rattle.volume.specs.Live.{VolumeCore, pending_at}
 use Rattle.volume.specs.Publishing.{IsPlaced}
 use Rattle.volume.specs.Rest.{RestsAt}
 use Rattle.volume.specs.declared.live.LiveVersion.{LiveVersion}
 use Rattle.volume.specs.declared.pending.PendingVersion.{PendingVersion}
-use Rattle.monitor.specs.Sides.{Writing, kind_of, jobs_of, keys_of, sides}
-use Rattle.monitor.specs.declared.output.Output.{Output}
+use Rattle.monitor.specs.Readers.{ArePinned, AreRead}
+use Rattle.monitor.specs.Sides.{Writing, UnderKeys, kind_of, jobs_of, keys_of, sides, pins_of, readers}
+use Rattle.monitor.specs.declared.channel.Channel.{Channel}
+use Rattle.monitor.specs.declared.input.Input.{Input}
 use Rattle.monitor.specs.declared.job.Job.{Job}
+use Rattle.monitor.specs.declared.output.Output.{Output}
 
 -- the disk of a monitor, in layout 1
 abbrev pub pack_of : DiskState → Pack
@@ -42,6 +44,22 @@ pub record AreKeyed (pending : List (Option PendingVersion)) (jobs : List (Optio
   pub once : (key : ℕ) → times key (keys_of (sides jobs)) ≡ present (pending_at pending key)
   pub each : AllByRecursion (IsSide pending) (sides jobs)
 
+-- A channel that reads doesn't write, and the block that it reads next is one of a file.
+abbrev pub IsReader : Channel → Type 0
+IsReader c = (i : Input) → c.input ≡ Some i → (c.output ≡ None) × (0 < i.next)
+
+-- So it is with the channels of a job, of which there are sixteen.
+pub record HasReaders (job : Job) : Type 0 where
+  pub each : (number : ℕ) (c : Channel) → slot job.channels number ≡ Some c → IsReader c
+  pub sixteen : length job.channels ≡ 16
+
+-- Each version has as many readers as there are input sides that hold it.
+pub record AreReading (live : List (Option LiveVersion)) (jobs : List (Option Job)) : Type 0 where
+  pub pinned : ArePinned live (pins_of (readers jobs))
+  pub each : (n : ℕ) (job : Job) → slot jobs n ≡ Some job → HasReaders job
+  -- a slot for each number
+  pub slots : length jobs ≡ 65
+
 -- A version that is being written may be published under its name, in its directory; and no other one has its place.
 pub record ArePlaced (c : VolumeCore) : Type 0 where
   pub each : (key : ℕ) (p : PendingVersion) → pending_at c.pending key ≡ Some p → IsPlaced c p
@@ -60,19 +78,19 @@ pub record IsWriting (d : DiskState) (p : PendingVersion) (w : Writing) : Type 0
   pub body : HasBody d.contents p.version.blocks w.file.body
 
 -- Whatever a crash leaves of the disk stands for the files, each of which has a serial of its own; and the jobs are
--- these, where each output side writes what the volume writes under its key.
+-- these, where each output side writes what the volume writes under its key, and each input side reads the version
+-- that the volume keeps under its.
 pub record IsState (d : DiskState) (map : VolumeCore) (jobs : List (Option Job)) (s : State) : Type 0 where
   pub files : RestsAt d (without_serials s.files)
   pub serials : AreDistinct (current s)
-  pub written : ℕ → Writing
-  pub versions : (key : ℕ) (p : PendingVersion) → pending_at map.pending key ≡ Some p → IsWriting d p (written key)
+  pub under : UnderKeys
+  pub versions : (key : ℕ) (p : PendingVersion) → pending_at map.pending key ≡ Some p → IsWriting d p (under.written key)
   -- a name that is being created is absent
-  pub absent : (key : ℕ) (p : PendingVersion) → pending_at map.pending key ≡ Some p → p.is_new ≡ true → file_at s.files (written key).place ≡ None
+  pub absent : (key : ℕ) (p : PendingVersion) → pending_at map.pending key ≡ Some p → p.is_new ≡ true → file_at s.files (under.written key).place ≡ None
   pub keyed : AreKeyed map.pending jobs
-  pub jobs_are : s.jobs ≡ jobs_of written jobs
-  -- nobody reads a version, and there is none but those that files have
-  pub unread : (key : ℕ) (v : LiveVersion) → live.slot map.live key ≡ Some v → v.readers ≡ 0
-  pub unheld : total held_cost map.live ≡ 0
+  pub read : AreRead d map s.files under.read
+  pub reading : AreReading map.live jobs
+  pub jobs_are : s.jobs ≡ jobs_of under jobs
   pub sound : IsSound s
 
 -- What the service is that the monitor stands for: it serves from a state, or has failed.

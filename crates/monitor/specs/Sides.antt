@@ -1,15 +1,22 @@
--- The output sides of jobs, and the records of the file machine that jobs stand for.
+-- The sides of jobs' channels, and the records of the file machine that jobs stand for.
 use Rattle.std.specs.Prelude.{ℕ, List, [], map, flat_map, filter_map, replicate, Option, None, Some, option_map, slice_set}
 use Rattle.meaning.specs.Cores.{first_free, rings_begin, with_right}
 use Rattle.meaning.specs.Files.{File, Files, Place}
 use Rattle.meaning.specs.Jobs as machine
 use Rattle.meaning.specs.Opening.{dump_mode}
 use Rattle.meaning.specs.Published.{Version}
+use Rattle.meaning.specs.Stands.{place_of}
+use Rattle.monitor.specs.declared.input.Input.{Input}
 use Rattle.monitor.specs.declared.output.Kind.{Kind}
 use Rattle.monitor.specs.declared.output.Kind.TheVariants.{Create, Supersede}
 use Rattle.monitor.specs.declared.output.Output.{Output}
 use Rattle.monitor.specs.declared.channel.Channel.{Channel}
 use Rattle.monitor.specs.declared.job.Job.{Job}
+
+-- what the channels of a job have, by what is asked of each
+abbrev pub within : {Y : Type 0} → (Option Channel → Option Y) → Option Job → List Y
+within side None = []
+within side (Some job) = filter_map side job.channels
 
 -- Output sides.
 
@@ -18,8 +25,7 @@ side_of None = None
 side_of (Some c) = c.output
 
 abbrev pub sides_in : Option Job → List Output
-sides_in None = []
-sides_in (Some job) = filter_map side_of job.channels
+sides_in o = within side_of o
 
 -- all that there are
 abbrev pub sides : List (Option Job) → List Output
@@ -29,39 +35,64 @@ sides jobs = flat_map sides_in jobs
 abbrev pub keys_of : List Output → List ℕ
 keys_of outputs = map (λ o. o.pending.key) outputs
 
--- Jobs as the machine has them, where it is known what is written under each key.
+-- Input sides.
 
--- the place that it will have, and the file so far
+abbrev pub reader_of : Option Channel → Option Input
+reader_of None = None
+reader_of (Some c) = c.input
+
+abbrev pub readers_in : Option Job → List Input
+readers_in o = within reader_of o
+
+-- all that there are
+abbrev pub readers : List (Option Job) → List Input
+readers jobs = flat_map readers_in jobs
+
+-- the keys of the versions that they read
+abbrev pub pins_of : List Input → List ℕ
+pins_of inputs = map (λ i. i.pin.key) inputs
+
+-- Jobs as the machine has them, where it is known what stands under each key.
+
+-- what is written: the place that it will have, and the file so far
 pub record Writing : Type 0 where
   pub place : Place
   pub file : File
+
+-- What the machine has under the keys of versions that are written, and of those that are read.
+pub record UnderKeys : Type 0 where
+  pub written : ℕ → Writing
+  pub read : ℕ → Version
 
 abbrev pub kind_of : Kind → machine.Kind
 kind_of Create = machine.Create
 kind_of Supersede = machine.Supersede
 
-abbrev pub output_of : (ℕ → Writing) → Output → machine.Output
-output_of written o = record { place = (written o.pending.key).place; kind = kind_of o.kind; pending = (written o.pending.key).file; next = o.next }
+abbrev pub output_of : UnderKeys → Output → machine.Output
+output_of under o = record { place = (under.written o.pending.key).place; kind = kind_of o.kind; pending = (under.written o.pending.key).file; next = o.next }
 
--- each channel is in dump mode, and has no input side
-abbrev pub channel_of : (ℕ → Writing) → Channel → machine.Channel
-channel_of written c = record {
+abbrev pub input_of : UnderKeys → Input → machine.Input
+input_of under i = record { place = place_of i.ppn i.file; version = under.read i.pin.key; next = i.next }
+
+-- each channel is in dump mode
+abbrev pub channel_of : UnderKeys → Channel → machine.Channel
+channel_of under c = record {
   mode = dump_mode;
   input_header = c.input_header;
   output_header = c.output_header;
   status = c.status;
-  input = None;
-  output = option_map (output_of written) c.output;
+  input = option_map (input_of under) c.input;
+  output = option_map (output_of under) c.output;
 }
 
-abbrev pub job_of : (ℕ → Writing) → Job → machine.Job
-job_of written job = record { ppn = job.ppn; core = job.core; channels = map (option_map (channel_of written)) job.channels }
+abbrev pub job_of : UnderKeys → Job → machine.Job
+job_of under job = record { ppn = job.ppn; core = job.core; channels = map (option_map (channel_of under)) job.channels }
 
-abbrev pub jobs_of : (ℕ → Writing) → List (Option Job) → List (Option machine.Job)
-jobs_of written jobs = map (option_map (job_of written)) jobs
+abbrev pub jobs_of : UnderKeys → List (Option Job) → List (Option machine.Job)
+jobs_of under jobs = map (option_map (job_of under)) jobs
 
-abbrev pub state_of : Files Version → (ℕ → Writing) → List (Option Job) → machine.State
-state_of files written jobs = record { files = files; jobs = jobs_of written jobs }
+abbrev pub state_of : Files Version → UnderKeys → List (Option Job) → machine.State
+state_of files under jobs = record { files = files; jobs = jobs_of under jobs }
 
 -- Jobs that log in, or are reset.
 

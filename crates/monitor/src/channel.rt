@@ -1,6 +1,7 @@
+use crate::input::Input;
 use crate::output::Output;
 
-/// An open channel: in dump mode, and with no input side.
+/// An open channel, in dump mode. It has no side, or one of the two.
 #[derive(Clone, Copy, Debug, PartialEq, Eq)]
 pub struct Channel {
     /// The address of the input ring's header that OPEN named, 0 for none. In dump mode there is no ring.
@@ -9,6 +10,8 @@ pub struct Channel {
     pub output_header: u32,
     /// What the last call has reported, and the mode: 18 bits.
     pub status: u32,
-    /// Its output side.
+    /// Its input side, which LOOKUP opens.
+    pub input: Option<Input>,
+    /// Its output side, which ENTER opens.
     pub output: Option<Output>,
 }

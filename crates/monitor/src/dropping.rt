@@ -1,14 +1,16 @@
-ghost use Rattle.std.specs.Prelude.{◌≡◌, ◌≤◌, ℕ, filter_map, option_to_list};
+ghost use Rattle.std.specs.Prelude.{◌≡◌, ◌≤◌, ℕ, [], filter_map, option_to_list};
 ghost use Rattle.meaning.specs.Jobs.{slot};
 ghost use Rattle.meaning.specs.Maps.{times};
-ghost use Rattle.volume.specs.Live.{pending_at};
+ghost use Rattle.volume.specs.Live.{pending_at, slot as version_at};
 ghost use Rattle.volume.specs.LiveCores.{core_of};
 ghost use Rattle.volume.specs.Rest.{IsSound};
-ghost use Rattle.monitor.specs.Dropping.{Drops};
-ghost use Rattle.monitor.specs.Serving.{present, AreKeyed};
-ghost use Rattle.monitor.specs.Sides.{side_of, sides_in, keys_of};
+ghost use Rattle.monitor.specs.Dropping.{Closes};
+ghost use Rattle.monitor.specs.Readers.{readers_of};
+ghost use Rattle.monitor.specs.Serving.{present, AreKeyed, AreReading};
+ghost use Rattle.monitor.specs.Sides.{side_of, sides_in, keys_of, reader_of, readers_in, pins_of};
 
 use crate::channel::Channel;
+use crate::input::Input;
 use crate::job::Jobs;
 use crate::output::Output;
 use blockdisk::Disk;
@@ -24,12 +26,22 @@ fn side_of(channel: &Option<Channel>) -> Option<Output>
     }
 }
 
+/// The input side of a channel.
+fn reader_of(channel: &Option<Channel>) -> Option<Input>
+    ensures { result ≡ reader_of channel.now }
+{
+    match channel {
+        Some(channel) => channel.input,
+        None => None,
+    }
+}
+
 /// Drops what an output side has written.
 pub fn drop_output<D: Disk>(volume: &mut Volume<D>, output: Option<Output>)
     requires sound { IsSound (D.state volume.old.disk) (core_of volume.old.map) volume.old.failed }
     requires live { (key : ℕ) → times key (keys_of (option_to_list output)) ≤ present (pending_at (core_of volume.old.map).pending key) }
     ensures sound { IsSound (D.state volume.new.disk) (core_of volume.new.map) volume.new.failed }
-    ensures dropped { Drops (core_of volume.old.map) (core_of volume.new.map) (keys_of (option_to_list output)) }
+    ensures closed { Closes (core_of volume.old.map) (core_of volume.new.map) (keys_of (option_to_list output)) [] }
     ensures untouched { (volume.new.disk ≡ volume.old.disk) × (volume.new.failed ≡ volume.old.failed) }
 {
     if let Some(output) = output {
@@ -37,28 +49,57 @@ pub fn drop_output<D: Disk>(volume: &mut Volume<D>, output: Option<Output>)
     }
 }
 
-/// Drops what channels have written.
-fn drop_outputs<D: Disk>(volume: &mut Volume<D>, channels: &[Option<Channel>])
+/// Lets the version go that an input side reads.
+pub fn let_go<D: Disk>(volume: &mut Volume<D>, input: Option<Input>)
     requires sound { IsSound (D.state volume.old.disk) (core_of volume.old.map) volume.old.failed }
-    requires live { (key : ℕ) → times key (keys_of (filter_map side_of channels.now)) ≤ present (pending_at (core_of volume.old.map).pending key) }
+    requires held { (key : ℕ) → times key (pins_of (option_to_list input)) ≤ readers_of (version_at (core_of volume.old.map).live key) }
     ensures sound { IsSound (D.state volume.new.disk) (core_of volume.new.map) volume.new.failed }
-    ensures dropped { Drops (core_of volume.old.map) (core_of volume.new.map) (keys_of (filter_map side_of channels.now)) }
+    ensures closed { Closes (core_of volume.old.map) (core_of volume.new.map) [] (pins_of (option_to_list input)) }
+    ensures pending { (core_of volume.new.map).pending ≡ (core_of volume.old.map).pending }
     ensures untouched { (volume.new.disk ≡ volume.old.disk) × (volume.new.failed ≡ volume.old.failed) }
 {
-    for channel in channels {
-        drop_output(volume, side_of(channel));
+    if let Some(input) = input {
+        volume.unpin(input.pin);
     }
 }
 
-/// Drops what the job of a number has written, if there is one.
-pub fn drop_job<D: Disk>(volume: &mut Volume<D>, jobs: &Jobs, number: u32)
+/// Closes both sides of a channel: what it has written is dropped, and what it reads is let go.
+fn close_sides<D: Disk>(volume: &mut Volume<D>, channel: &Option<Channel>)
+    requires sound { IsSound (D.state volume.old.disk) (core_of volume.old.map) volume.old.failed }
+    requires live { (key : ℕ) → times key (keys_of (option_to_list (side_of channel.now))) ≤ present (pending_at (core_of volume.old.map).pending key) }
+    requires held { (key : ℕ) → times key (pins_of (option_to_list (reader_of channel.now))) ≤ readers_of (version_at (core_of volume.old.map).live key) }
+    ensures sound { IsSound (D.state volume.new.disk) (core_of volume.new.map) volume.new.failed }
+    ensures closed { Closes (core_of volume.old.map) (core_of volume.new.map) (keys_of (option_to_list (side_of channel.now))) (pins_of (option_to_list (reader_of channel.now))) }
+    ensures untouched { (volume.new.disk ≡ volume.old.disk) × (volume.new.failed ≡ volume.old.failed) }
+{
+    drop_output(volume, side_of(channel));
+    let_go(volume, reader_of(channel));
+}
+
+/// Closes the sides of all channels.
+fn close_channels<D: Disk>(volume: &mut Volume<D>, channels: &[Option<Channel>])
+    requires sound { IsSound (D.state volume.old.disk) (core_of volume.old.map) volume.old.failed }
+    requires live { (key : ℕ) → times key (keys_of (filter_map side_of channels.now)) ≤ present (pending_at (core_of volume.old.map).pending key) }
+    requires held { (key : ℕ) → times key (pins_of (filter_map reader_of channels.now)) ≤ readers_of (version_at (core_of volume.old.map).live key) }
+    ensures sound { IsSound (D.state volume.new.disk) (core_of volume.new.map) volume.new.failed }
+    ensures closed { Closes (core_of volume.old.map) (core_of volume.new.map) (keys_of (filter_map side_of channels.now)) (pins_of (filter_map reader_of channels.now)) }
+    ensures untouched { (volume.new.disk ≡ volume.old.disk) × (volume.new.failed ≡ volume.old.failed) }
+{
+    for channel in channels {
+        close_sides(volume, channel);
+    }
+}
+
+/// Closes the sides of all channels of the job of a number, if there is one.
+pub fn close_job<D: Disk>(volume: &mut Volume<D>, jobs: &Jobs, number: u32)
     requires sound { IsSound (D.state volume.old.disk) (core_of volume.old.map) volume.old.failed }
     requires keyed { AreKeyed (core_of volume.old.map).pending jobs.now }
+    requires reading { AreReading (core_of volume.old.map).live jobs.now }
     ensures sound { IsSound (D.state volume.new.disk) (core_of volume.new.map) volume.new.failed }
-    ensures dropped { Drops (core_of volume.old.map) (core_of volume.new.map) (keys_of (sides_in (slot jobs.now number))) }
+    ensures closed { Closes (core_of volume.old.map) (core_of volume.new.map) (keys_of (sides_in (slot jobs.now number))) (pins_of (readers_in (slot jobs.now number))) }
     ensures untouched { (volume.new.disk ≡ volume.old.disk) × (volume.new.failed ≡ volume.old.failed) }
 {
     if let Some(job) = jobs.job(number) {
-        drop_outputs(volume, &job.channels);
+        close_channels(volume, &job.channels);
     }
 }

@@ -1,9 +1,9 @@
-ghost use Rattle.std.specs.Prelude.{◌≡◌, ◌==◌, ◌&&◌, ◌+◌, ◌%◌, ◌<◌, ◌≤◌, ℕ, false, Bool, IfOk, MatchResult, Ok, Err, IfSome, IfNone, IfErr, Some, OnErr, IsErrOf, IsTrue, slice_index};
+ghost use Rattle.std.specs.Prelude.{◌≡◌, ◌==◌, ◌&&◌, ◌+◌, ◌%◌, ◌<◌, ◌≤◌, ℕ, false, Bool, IfOk, MatchResult, Ok, Err, IfSome, IfNone, IfErr, None, Some, OnErr, IsErrOf, IsTrue, slice_index};
 ghost use Rattle.words36.specs.Words.{left, IsPpn};
 ghost use Rattle.meaning.specs.Cores.{lies_outside};
 ghost use Rattle.meaning.specs.Entering.{protection_or, enter_answer, output_opened};
 ghost use Rattle.meaning.specs.Files.{File, Files};
-ghost use Rattle.meaning.specs.Jobs.{State, channel_at, is_create};
+ghost use Rattle.meaning.specs.Jobs.{State, slot, channel_at, is_create};
 ghost use Rattle.meaning.specs.Looking.{own_if_zero, place_at, with_attributes};
 ghost use Rattle.meaning.specs.Maps.{get};
 ghost use Rattle.meaning.specs.Published.{file_at, attributes};
@@ -19,9 +19,10 @@ ghost use Rattle.volume.specs.Rest.{IsSound, RestsAt};
 ghost use Rattle.volume.specs.declared.pending.PendingVersion.{PendingVersion};
 ghost use Rattle.monitor.specs.Finding.{claims_at, claims, found_in, begun_as, allowed, protection_for, file_begun, IsKnown, IsAnswer, IsPrimeAt, begin_answer_at};
 ghost use Rattle.monitor.specs.Entering.{IsEntering, IsEnterAnswer};
+ghost use Rattle.monitor.specs.Rows.{KeepsReading, IsReading, enter_unserved, enter_refused};
 ghost use Rattle.monitor.specs.Serving.{pack_of, ArePlaced};
 ghost use Rattle.monitor.specs.declared.output.Kind.{Kind};
-ghost use Rattle.monitor.specs.Sides.{Writing, kind_of, job_of};
+ghost use Rattle.monitor.specs.Sides.{UnderKeys, kind_of, job_of, reader_of};
 
 use crate::channel::Channel;
 use crate::found::Found;
@@ -268,7 +269,7 @@ fn begin_at<D: Disk>(
     ensures protection { (D.state volume.old.disk).honest → volume.old.failed ≡ false → (files : Files File) → RestsAt (D.state volume.old.disk) files
         → IfOk result (λ begun. begun.1.protection ≡ protection_for (found_in (get files begun.1.ppn) begun.1.file) (protection_or (slice_index job.now.core (address + 2)) 0o057)) }
     ensures answered { (D.state volume.old.disk).honest → volume.old.failed ≡ false → (s : State) → IsKnown (D.state volume.old.disk) (core_of volume.old.map) s
-        → (written : ℕ → Writing) → IsAnswer result (begin_answer_at (pack_of (D.state volume.old.disk)) s (job_of written job.now) (place_at (job_of written job.now) address)) }
+        → (under : UnderKeys) → IsAnswer result (begin_answer_at (pack_of (D.state volume.old.disk)) s (job_of under job.now) (place_at (job_of under job.now) address)) }
 {
     let Some(ppn) = owner_at(job, address) else {
         return Err(CallError::Refused(ErrorCode::NoDirectory));
@@ -297,7 +298,8 @@ fn put_attributes(core: &mut Core, address: u32, prime: &Prime)
 }
 
 /// ENTER: opens an output side for the file that the four words at an address name: a new one, or one that will
-/// take the place of the file of that name. Its attributes are put into the words.
+/// take the place of the file of that name. Its attributes are put into the words. A file isn't updated: on a channel
+/// that reads one it is refused.
 pub fn enter<D: Disk>(
     alloc: Global,
     volume: &mut Volume<D>,
@@ -318,8 +320,11 @@ pub fn enter<D: Disk>(
     ensures placed { ArePlaced (core_of volume.old.map) → ArePlaced (core_of volume.new.map) }
     ensures kept { (result ≡ Done → ⊥) → (core_of volume.new.map ≡ core_of volume.old.map) × (job.new ≡ record job.old { core = job.new.core }) }
     ensures memory { result ≡ NoMemory → job.new ≡ job.old }
-    ensures row { (D.state volume.old.disk).honest → (s : State) → IsKnown (D.state volume.old.disk) (core_of volume.old.map) s
-        → (written : ℕ → Writing) → IsEnterAnswer (pack_of (D.state volume.old.disk)) s (job_of written job.old) (job_of written job.new) (channel_at (job_of written job.old) number) address result }
+    ensures reads { KeepsReading (core_of volume.old.map).live (core_of volume.new.map).live job.old job.new }
+    // On a channel that reads no file is updated yet.
+    ensures unserved { IsReading (slot job.old.channels number) → (result ≡ enter_unserved job.old address) × (job.new ≡ enter_refused job.old address) }
+    ensures row { (D.state volume.old.disk).honest → reader_of (slot job.old.channels number) ≡ None → (s : State) → IsKnown (D.state volume.old.disk) (core_of volume.old.map) s
+        → (under : UnderKeys) → IsEnterAnswer (pack_of (D.state volume.old.disk)) s (job_of under job.old) (job_of under job.new) (channel_at (job_of under job.old) number) address result }
 {
     let Some(channel) = job.channel(number) else {
         return Reply::NoChannel;
@@ -327,7 +332,7 @@ pub fn enter<D: Disk>(
     if lies_outside(&job.core, address, 4) {
         return Reply::AddressCheck;
     }
-    if channel.output.is_some() {
+    if channel.input.is_some() || channel.output.is_some() {
         return refuse(&mut job.core, address, ErrorCode::Sequence);
     }
     match begin_at(alloc, volume, job, address, moment) {

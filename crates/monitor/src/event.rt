@@ -1,4 +1,4 @@
-ghost use Rattle.std.specs.Prelude.{◌≡◌, ◌⊎◌, ◌↔◌, ℕ, List, true, false, Some, None, slice_set, IsTrue, IsFalse};
+ghost use Rattle.std.specs.Prelude.{◌≡◌, ◌⊎◌, ◌↔◌, ℕ, false, Some, None, slice_set, IsTrue, IsFalse};
 ghost use Rattle.meaning.specs.Jobs.{slot};
 ghost use Rattle.meaning.specs.Runs.{Service, Answers};
 ghost use Rattle.meaning.specs.Sessions.{login_answer};
@@ -7,14 +7,14 @@ ghost use Rattle.meaning.specs.declared.call.Event.TheVariants.{Login, Call as C
 ghost use Rattle.meaning.specs.declared.call.Reply.TheVariants.{Done, Failed, NoMemory};
 ghost use Rattle.volume.specs.LiveCores.{core_of};
 ghost use Rattle.volume.specs.Rest.{IsSound};
-ghost use Rattle.monitor.specs.Dropping.{Drops};
+ghost use Rattle.monitor.specs.Dropping.{Leaves};
 ghost use Rattle.monitor.specs.Replies.{reset_answer};
-ghost use Rattle.monitor.specs.Serving.{pack_of, Serves, AreKeyed, ArePlaced};
+ghost use Rattle.monitor.specs.Serving.{pack_of, Serves, AreKeyed, ArePlaced, AreReading};
 ghost use Rattle.monitor.specs.Sides.{new_job, reset_job};
 ghost use Rattle.monitor.specs.declared.job.Job.{Job as JobRecord};
 
-use crate::dropping::drop_job;
-use crate::job::{CHANNELS, Job, Jobs, LARGEST_JOB};
+use crate::dropping::close_job;
+use crate::job::{Job, Jobs, LARGEST_JOB, all_closed};
 use crate::monitor::Monitor;
 use blockdisk::Disk;
 use meaning::Reply;
@@ -38,10 +38,12 @@ fn log_in<D: Disk>(
     requires sound { IsSound (D.state volume.old.disk) (core_of volume.old.map) volume.old.failed }
     requires keyed { AreKeyed (core_of volume.old.map).pending jobs.old }
     requires placed { ArePlaced (core_of volume.old.map) }
+    requires reading { AreReading (core_of volume.old.map).live jobs.old }
     ensures sound { IsSound (D.state volume.new.disk) (core_of volume.new.map) volume.new.failed }
     ensures keyed { AreKeyed (core_of volume.new.map).pending jobs.new }
     ensures placed { ArePlaced (core_of volume.new.map) }
-    ensures dropped { (keys : List ℕ) × Drops (core_of volume.old.map) (core_of volume.new.map) keys }
+    ensures reading { AreReading (core_of volume.new.map).live jobs.new }
+    ensures leaves { Leaves (core_of volume.old.map) (core_of volume.new.map) }
     ensures untouched { (volume.new.disk ≡ volume.old.disk) × (volume.new.failed ≡ volume.old.failed) }
     ensures answered { (result ≡ login_answer number words) ⊎ ((result ≡ NoMemory) × (login_answer number words ≡ Done)) }
     ensures done { result ≡ Done → jobs.new ≡ slice_set jobs.old number (Some (new_job ppn words)) }
@@ -52,11 +54,11 @@ fn log_in<D: Disk>(
     }
     match Core::new(alloc, words) {
         Ok(core) => {
-            drop_job(volume, jobs, number);
+            close_job(volume, jobs, number);
             let job = Job {
                 ppn,
                 core,
-                channels: [None; CHANNELS],
+                channels: all_closed(),
             };
             jobs.put(number, job);
             Reply::Done
@@ -71,10 +73,12 @@ pub fn reset<D: Disk>(volume: &mut Volume<D>, jobs: &mut Jobs, number: u32) -> b
     requires sound { IsSound (D.state volume.old.disk) (core_of volume.old.map) volume.old.failed }
     requires keyed { AreKeyed (core_of volume.old.map).pending jobs.old }
     requires placed { ArePlaced (core_of volume.old.map) }
+    requires reading { AreReading (core_of volume.old.map).live jobs.old }
     ensures sound { IsSound (D.state volume.new.disk) (core_of volume.new.map) volume.new.failed }
     ensures keyed { AreKeyed (core_of volume.new.map).pending jobs.new }
     ensures placed { ArePlaced (core_of volume.new.map) }
-    ensures dropped { (keys : List ℕ) × Drops (core_of volume.old.map) (core_of volume.new.map) keys }
+    ensures reading { AreReading (core_of volume.new.map).live jobs.new }
+    ensures leaves { Leaves (core_of volume.old.map) (core_of volume.new.map) }
     ensures untouched { (volume.new.disk ≡ volume.old.disk) × (volume.new.failed ≡ volume.old.failed) }
     ensures found { IsTrue result → (job : JobRecord) × (slot jobs.old number ≡ Some job) × (jobs.new ≡ slice_set jobs.old number (Some (reset_job job))) }
     ensures none { IsFalse result → (slot jobs.old number ≡ None) × (jobs.new ≡ jobs.old) × (core_of volume.new.map ≡ core_of volume.old.map) }
@@ -82,7 +86,7 @@ pub fn reset<D: Disk>(volume: &mut Volume<D>, jobs: &mut Jobs, number: u32) -> b
     let Some(_there) = jobs.job(number) else {
         return false;
     };
-    drop_job(volume, jobs, number);
+    close_job(volume, jobs, number);
     jobs.reset(number)
 }
 
@@ -102,6 +106,7 @@ impl<D: Disk> Monitor<D> {
         ensures value { self.old.failed ≡ false → (result ≡ login_answer job words) ⊎ ((result ≡ NoMemory) × (login_answer job words ≡ Done)) }
         ensures done { result ≡ Done → self.new.jobs ≡ slice_set self.old.jobs job (Some (new_job ppn words)) }
         ensures refused { (result ≡ Done → ⊥) → (self.new.jobs ≡ self.old.jobs) × (self.new.map ≡ self.old.map) }
+        ensures others { (m : ℕ) → (m ≡ job → ⊥) → slot self.new.jobs m ≡ slot self.old.jobs m }
     {
         if self.volume.failed {
             return Reply::Failed;
@@ -123,6 +128,7 @@ impl<D: Disk> Monitor<D> {
         ensures value { self.old.failed ≡ false → result ≡ reset_answer moment.date (slot self.old.jobs job) }
         ensures done { result ≡ Done → (there : JobRecord) × (slot self.old.jobs job ≡ Some there) × (self.new.jobs ≡ slice_set self.old.jobs job (Some (reset_job there))) }
         ensures refused { (result ≡ Done → ⊥) → (self.new.jobs ≡ self.old.jobs) × (self.new.map ≡ self.old.map) }
+        ensures others { (m : ℕ) → (m ≡ job → ⊥) → slot self.new.jobs m ≡ slot self.old.jobs m }
     {
         if self.volume.failed {
             return Reply::Failed;

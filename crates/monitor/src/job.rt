@@ -1,4 +1,4 @@
-ghost use Rattle.std.specs.Prelude.{◌≡◌, None, IfOk, Some, IfSome, IsTrue, IsFalse, slice_set};
+ghost use Rattle.std.specs.Prelude.{◌≡◌, replicate, None, IfOk, Some, IfSome, IsTrue, IsFalse, slice_set};
 ghost use Rattle.meaning.specs.Jobs.{slot};
 ghost use Rattle.monitor.specs.Sides.{no_jobs, reset_job};
 ghost use Rattle.monitor.specs.declared.job.Job.{Job as JobRecord};
@@ -46,6 +46,13 @@ impl Job {
             self.channels[number as usize] = channel;
         }
     }
+}
+
+/// Channels, all closed.
+pub fn all_closed() -> [Option<Channel>; CHANNELS]
+    ensures { result ≡ replicate 16 None }
+{
+    [None; CHANNELS]
 }
 
 /// The jobs that are logged in, by their numbers.
@@ -128,7 +135,7 @@ impl Jobs {
             return false;
         };
         job.core.reset_rings();
-        job.channels = [None; CHANNELS];
+        job.channels = all_closed();
         self.put(number, job);
         true
     }

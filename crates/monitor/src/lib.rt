@@ -12,34 +12,34 @@
 //! 4. `list` gives the list of a directory that the machine gives, by name and then by extension.
 //!    (`listed`) On every disk it is refused by few replies, and never by the device. (`nobody`, `only`)
 //! 5. `deposit` and `examine` put and show a word of a job's core as the machine does. (`answered`, `value`)
-//! 6. `call` answers OPEN, ENTER, OUT, USETO, CLOSE, RELEAS, GETSTS, RESET and MakeDir, in dump mode, as the
-//!    machine's rows do, or wants memory where the machine may, or blames the device; and leaves the state of that
-//!    row. (`answered`) At any moment of it a crash leaves the files from before, or those of that row. (`crash`)
-//!    Which answers, and which calls, leave the disk alone is said beside. (`idle`, `light`)
+//! 6. `call` answers OPEN, LOOKUP, ENTER, IN, OUT, USETI, USETO, CLOSE, RELEAS, GETSTS, RESET and MakeDir, in dump
+//!    mode, as the machine's rows do, or wants memory where the machine may, or blames the device; and leaves the state
+//!    of that row. (`answered`) At any moment of it a crash leaves the files from before, or those of that row.
+//!    (`crash`) Which answers, and which calls, leave the disk alone is said beside. (`idle`, `light`)
 //! 7. Each version that the volume writes belongs to one output side of a job, and may be published under its
-//!    name. (`AreKeyed`, `ArePlaced`)
+//!    name; each version that is held is held once for each input side that reads it. (`AreKeyed`, `ArePlaced`,
+//!    `AreReading`) What an IN answers and leaves is told by its own job's record, which no other job changes. (`still`,
+//!    `apart`)
 //! 8. `room` and `blocks` are the volume's. `finish` gives the disk back as it stands.
 //! 9. A monitor that has failed answers Failed to every event and changes nothing. It fails with the device; on an
 //!    honest disk with nothing else. (`failed`, `broken`, `blamed`, `counted`, `served`)
-//! 10. `serve` serves any list of events, each of which is answered as the machine does; between the moment after one
-//!    event and the moment after the next a crash leaves the files before that event or those after it. A Device
-//!    counts as one failure of the disk, and all later replies are Failed. (`runs`, `counted`, `once`; `none` where
-//!    there was no memory) A run is said of lists of which no OPEN was stopped for a mode with buffers.
+//! 10. `serve` serves any list of events, each of which is answered as the machine does; at the moment after each event
+//!    all that a crash may leave stands for the files after the events so far, and from one moment to the next a crash
+//!    leaves the files before that event or those after it. A Device counts as one failure of the disk, and all later
+//!    replies are Failed. (`runs`, `counted`, `once`; `none` where there was no memory) The words that an IN moves are
+//!    those of the version that its LOOKUP found. (`still`) A run is said of lists with no OPEN in a mode with buffers
+//!    and no ENTER on a channel that reads.
 //! 11. `start_after_crash` finds the files of a moment along such a list, and never a third; and it refuses the disk
 //!    for want of memory or a fault of the device alone. (`found`, `refused`, `between`)
 #![tactic(auto)]
 
 mod call;
-#[cfg(test)]
-mod call_tests;
 mod channel;
 mod close;
 mod dropping;
 mod enter;
 mod event;
 mod events;
-#[cfg(test)]
-mod events_tests;
 mod found;
 mod getsts;
 mod holding_laws;
@@ -48,36 +48,30 @@ mod job;
 mod laws;
 mod list;
 mod lookup;
-#[cfg(test)]
-mod lookup_tests;
 mod makedir;
 mod monitor;
 mod open;
 mod out;
 mod output;
 mod publishing;
-#[cfg(test)]
-mod publishing_tests;
 mod read_in;
-#[cfg(test)]
-mod read_in_tests;
+mod reading;
 mod reading_laws;
 mod restart;
 mod serve;
 mod serve_closing;
+mod serve_reading;
 mod serve_writing;
 mod status;
-#[cfg(test)]
-mod tests;
+mod useti;
 mod useto;
 mod words;
-#[cfg(test)]
-mod writing_tests;
 
 pub use call::Call;
 pub use channel::Channel;
 pub use events::Event;
 pub use holding_laws::{readers_come_and_go, readers_keep_what_is_superseded};
+pub use input::Input;
 pub use job::{Job, Jobs};
 pub use laws::{files_have_a_start, held_versions_are_booked_once};
 pub use monitor::Monitor;

@@ -2,13 +2,14 @@ ghost use Rattle.std.specs.Prelude.{◌≡◌, ◌+◌, ◌<◌, ◌≤◌, ◌^
 ghost use Rattle.words36.specs.Words.{join};
 ghost use Rattle.meaning.specs.Cores.{lies_outside, after_writes};
 ghost use Rattle.meaning.specs.Files.{File, Files};
-ghost use Rattle.meaning.specs.Jobs.{State, Channel};
+ghost use Rattle.meaning.specs.Jobs.{State, channel_at, Channel as MachineChannel};
 ghost use Rattle.meaning.specs.Looking.{place_at, size_word, with_attributes};
-ghost use Rattle.meaning.specs.Maps.{get};
+ghost use Rattle.meaning.specs.Maps.{get, times};
 ghost use Rattle.meaning.specs.Published.{attributes};
 ghost use Rattle.meaning.specs.Rights.{file_digit, may_read};
 ghost use Rattle.meaning.specs.Stands.{place_of};
-ghost use Rattle.volume.specs.Live.{slot};
+ghost use Rattle.meaning.specs.declared.call.Reply.TheVariants.{Done, NoMemory, Failed, Device};
+ghost use Rattle.volume.specs.Live.{VolumeCore, slot};
 ghost use Rattle.volume.specs.LiveCores.{core_of};
 ghost use Rattle.volume.specs.Places.{prime_at};
 ghost use Rattle.volume.specs.Queries.{IsShown};
@@ -16,14 +17,22 @@ ghost use Rattle.volume.specs.Rest.{IsSound, RestsAt};
 ghost use Rattle.volume.specs.declared.live.LiveVersion.{LiveVersion};
 ghost use Rattle.monitor.specs.Finding.{IsKnown};
 ghost use Rattle.monitor.specs.Inputs.{HasShortFacts, IsReadAnswer, IsLookupAnswer, IsLookupRefusal};
-ghost use Rattle.monitor.specs.Sides.{Writing, job_of};
+ghost use Rattle.monitor.specs.LookingUp.{IsLookingUp, IsFound, IsLookupRow};
+ghost use Rattle.monitor.specs.Readers.{readers_of};
+ghost use Rattle.monitor.specs.Rows.{KeepsReading};
+ghost use Rattle.monitor.specs.Sides.{UnderKeys, job_of, readers_in, pins_of};
+ghost use Rattle.monitor.specs.declared.channel.Channel.{Channel};
+ghost use Rattle.monitor.specs.declared.input.Input.{Input};
 
+use crate::channel::Channel;
+use crate::dropping::let_go;
 use crate::enter::{name_at, owner_at};
 use crate::input::Input;
 use crate::job::Job;
-use crate::open::word_at;
+use crate::open::{lies_outside, word_at};
+use crate::status::{cleared, refuse};
 use blockdisk::Disk;
-use meaning::{Act, ErrorCode};
+use meaning::{Act, ErrorCode, Reply};
 use protect::{DirectoryAct, acts_are_nested, dir_right, right};
 use usercore::Core;
 use volume::{FileFacts, Volume};
@@ -95,7 +104,7 @@ pub fn find_input<D: Disk>(
     ensures only { IfErr result IsLookupRefusal }
 
     // The version is the one that core has for the place, which has one reader more; and nothing else.
-    ensures place { IfOk result (λ found. (written : ℕ → Writing) → place_of found.0.ppn found.0.file ≡ place_at (job_of written job.now) address) }
+    ensures place { IfOk result (λ found. (under : UnderKeys) → place_of found.0.ppn found.0.file ≡ place_at (job_of under job.now) address) }
     ensures next { IfOk result (λ found. found.0.next ≡ 1) }
     ensures at { IfOk result (λ found. (v : LiveVersion) × (slot (core_of volume.old.map).live found.0.pin.key ≡ Some v) × (v.is_current ≡ true) × (prime_at (core_of volume.old.map) found.0.ppn found.0.file ≡ Some v.at)) }
     ensures pinned { IfOk result (λ found. (v : LiveVersion) × (slot (core_of volume.old.map).live found.0.pin.key ≡ Some v) × (slot (core_of volume.new.map).live found.0.pin.key ≡ Some (record v { readers = v.readers + 1 }))) }
@@ -104,8 +113,8 @@ pub fn find_input<D: Disk>(
 
     // It is answered as the machine answers on a channel without an output side, and the file is the machine's.
     ensures answered { (D.state volume.old.disk).honest → (s : State) → IsKnown (D.state volume.old.disk) (core_of volume.old.map) s
-        → (written : ℕ → Writing) (c : Channel) → c.output ≡ None → lies_outside job.now.core address 4 ≡ false
-        → IsLookupAnswer (D.state volume.old.disk).contents (core_of volume.new.map).live s (job_of written job.now) c address result }
+        → (under : UnderKeys) (c : MachineChannel) → c.output ≡ None → lies_outside job.now.core address 4 ≡ false
+        → IsLookupAnswer (D.state volume.old.disk).contents (core_of volume.new.map).live s (job_of under job.now) c address result }
 {
     let Some(ppn) = owner_at(job, address) else {
         return Err(ErrorCode::NoDirectory);
@@ -161,4 +170,50 @@ pub fn put_found(core: &mut Core, address: u32, facts: &FileFacts)
     let _ = core.set_word(address + 1, Word::from_halves(left, zero));
     let _ = core.set_word(address + 2, attributes_of(facts));
     let _ = core.set_word(address + 3, Word::from_halves(size_of(facts), zero));
+}
+
+/// LOOKUP: opens an input side for the file that the four words at an address name. Its version is held until the
+/// side closes, whatever becomes of the name; an earlier input side of the channel is given up. Attributes and size
+/// of the file are put into the words.
+pub fn lookup<D: Disk>(volume: &mut Volume<D>, job: &mut Job, number: u32, address: u32) -> Reply
+    requires sound { IsSound (D.state volume.old.disk) (core_of volume.old.map) volume.old.failed }
+    requires alive { volume.old.failed ≡ false }
+    requires held { (key : ℕ) → times key (pins_of (readers_in (Some job.old))) ≤ readers_of (slot (core_of volume.old.map).live key) }
+    requires few { (key : ℕ) (v : LiveVersion) → slot (core_of volume.old.map).live key ≡ Some v → v.readers + 1 < 2 ^ 32 }
+    ensures sound { IsSound (D.state volume.new.disk) (core_of volume.new.map) volume.new.failed }
+    ensures untouched { (volume.new.disk ≡ volume.old.disk) × (volume.new.failed ≡ volume.old.failed) }
+    ensures only { (result ≡ Failed → ⊥) × (result ≡ Device → ⊥) × (result ≡ NoMemory → ⊥) }
+    ensures pending { (core_of volume.new.map).pending ≡ (core_of volume.old.map).pending }
+    ensures known { (core_of volume.new.map).known ≡ record (core_of volume.old.map).known { table = (core_of volume.new.map).known.table } }
+    ensures kept { (result ≡ Done → ⊥) → (core_of volume.new.map ≡ core_of volume.old.map) × (job.new ≡ record job.old { core = job.new.core }) }
+    ensures reads { KeepsReading (core_of volume.old.map).live (core_of volume.new.map).live job.old job.new }
+    ensures looked { result ≡ Done → (channel : Channel) × (input : Input) × (held : VolumeCore) × IsLookingUp (core_of volume.old.map) held (core_of volume.new.map) job.old job.new number address channel input
+        × ((D.state volume.old.disk).honest → (s : State) → IsKnown (D.state volume.old.disk) (core_of volume.old.map) s
+        → IsFound (D.state volume.old.disk).contents held.live s job.old job.new address input) }
+    ensures row { (D.state volume.old.disk).honest → (s : State) → IsKnown (D.state volume.old.disk) (core_of volume.old.map) s
+        → (under : UnderKeys) → IsLookupRow s (job_of under job.old) (job_of under job.new) (channel_at (job_of under job.old) number) address result }
+{
+    let Some(channel) = job.channel(number) else {
+        return Reply::NoChannel;
+    };
+    if lies_outside(&job.core, address, 4) {
+        return Reply::AddressCheck;
+    }
+    if channel.output.is_some() {
+        return refuse(&mut job.core, address, ErrorCode::Sequence);
+    }
+    match find_input(volume, job, address) {
+        Ok((input, facts)) => {
+            let_go(volume, channel.input);
+            put_found(&mut job.core, address, &facts);
+            let reading = Channel {
+                status: cleared(channel.status),
+                input: Some(input),
+                ..channel
+            };
+            job.set_channel(number, Some(reading));
+            Reply::Done
+        }
+        Err(code) => refuse(&mut job.core, address, code),
+    }
 }

@@ -1,4 +1,5 @@
-ghost use Rattle.std.specs.Prelude.{◌≡◌, ◌↔◌, ◌==◌, ℕ, false, IsTrue};
+ghost use Rattle.std.specs.Prelude.{◌≡◌, ◌↔◌, ◌==◌, ℕ, false, IsTrue, Some};
+ghost use Rattle.words36.specs.declared.names.FileName.{FileName};
 ghost use Rattle.blockdisk.specs.Disk.{LeavesOnly, SameDisk, one_more};
 ghost use Rattle.meaning.specs.Files.{File, Files};
 ghost use Rattle.meaning.specs.Rights.{system};
@@ -7,9 +8,10 @@ ghost use Rattle.volume.specs.Beginning.{IsDirectoryOf};
 ghost use Rattle.volume.specs.Known.{KnownDirectory};
 ghost use Rattle.volume.specs.LiveCores.{core_of};
 ghost use Rattle.volume.specs.Making.{files_made};
+ghost use Rattle.volume.specs.Places.{prime_at};
 ghost use Rattle.volume.specs.Rest.{IsSound, RestsAt, StandsForEither, KeepsRead, KeepsEachWritten};
 ghost use Rattle.monitor.specs.DirectoryRows.{IsMakeDir, asked_owner, asked_protection};
-ghost use Rattle.monitor.specs.Rows.{Keeps};
+ghost use Rattle.monitor.specs.Rows.{Keeps, KeepsReading};
 
 use crate::enter::protection_or;
 use crate::job::Job;
@@ -45,15 +47,17 @@ pub fn make_dir<D: Disk>(
     ensures sound { IsSound (D.state volume.new.disk) (core_of volume.new.map) volume.new.failed }
     ensures outcome { IsMakeDir (D.state volume.old.disk).size (core_of volume.old.map) ((volume.new.disk ≡ volume.old.disk) × (core_of volume.new.map ≡ core_of volume.old.map)) job.old job.new address result }
     ensures keeps { Keeps (core_of volume.old.map).pending (core_of volume.new.map).pending job.old job.new }
+    ensures reads { KeepsReading (core_of volume.old.map).live (core_of volume.new.map).live job.old job.new }
     // A crash finds the files as they were, or with the directory.
     ensures crash { (D.state volume.old.disk).honest → (f : Files File) → RestsAt (D.state volume.old.disk) f
         → LeavesOnly (D.state volume.old.disk) (D.state volume.new.disk) (StandsForEither (D.state volume.old.disk).size f (files_made f (asked_owner job.old.core address) (asked_protection job.old.core address))) }
     ensures done { (D.state volume.old.disk).honest → (f : Files File) → RestsAt (D.state volume.old.disk) f
         → result ≡ Done → RestsAt (D.state volume.new.disk) (files_made f (asked_owner job.old.core address) (asked_protection job.old.core address)) }
-    // The versions in use stay, and so does each directory in its place.
+    // The versions in use stay, and so does each directory in its place, with the prime blocks of its files.
     ensures live { (core_of volume.new.map).live ≡ (core_of volume.old.map).live }
     ensures pending { (core_of volume.new.map).pending ≡ (core_of volume.old.map).pending }
     ensures directories { (owner : ℕ) (d : KnownDirectory) → IsDirectoryOf (core_of volume.old.map) owner d → IsDirectoryOf (core_of volume.new.map) owner d }
+    ensures primes { (owner : ℕ) (name : FileName) (n : ℕ) → prime_at (core_of volume.old.map) owner name ≡ Some n → prime_at (core_of volume.new.map) owner name ≡ Some n }
     ensures readers { (D.state volume.old.disk).honest → KeepsRead (D.state volume.old.disk).contents (D.state volume.new.disk).contents (core_of volume.old.map) }
     ensures writers { (D.state volume.old.disk).honest → KeepsEachWritten (D.state volume.old.disk).contents (D.state volume.new.disk).contents (core_of volume.old.map) }
     // It blames the device where that failed.

@@ -29,7 +29,7 @@ pub struct Monitor<D: Disk> {
 impl<D: Disk> Model for Monitor<D> {
     ghost use Rattle.std.specs.Prelude.{◌≡◌, false};
     ghost use Rattle.monitor.specs.States.{MonitorState};
-    ghost use Rattle.monitor.specs.Serving.{AreKeyed, ArePlaced};
+    ghost use Rattle.monitor.specs.Serving.{AreKeyed, ArePlaced, AreReading};
     ghost use Rattle.volume.specs.LiveCores.{core_of};
     ghost use Rattle.volume.specs.Rest.{IsSound};
 
@@ -39,7 +39,7 @@ impl<D: Disk> Model for Monitor<D> {
 
     // A publication that the device fails leaves core between the two.
     ghost invariant = { λ m. IsSound (D.state m.volume.disk) (core_of m.volume.map) m.volume.failed
-        × (m.volume.failed ≡ false → AreKeyed (core_of m.volume.map).pending m.jobs × ArePlaced (core_of m.volume.map)) };
+        × (m.volume.failed ≡ false → AreKeyed (core_of m.volume.map).pending m.jobs × ArePlaced (core_of m.volume.map) × AreReading (core_of m.volume.map).live m.jobs) };
 }
 
 impl<D: Disk> Monitor<D> {

@@ -4,9 +4,10 @@ ghost use Rattle.meaning.specs.Opening.{mode_at, output_header_at, input_header_
 ghost use Rattle.meaning.specs.Rings.{is_buffered};
 ghost use Rattle.meaning.specs.declared.call.Call.TheVariants.{Open};
 ghost use Rattle.meaning.specs.declared.call.Reply.TheVariants.{NoMemory, Failed, Device};
+ghost use Rattle.volume.specs.declared.live.LiveVersion.{LiveVersion};
 ghost use Rattle.volume.specs.declared.pending.PendingVersion.{PendingVersion};
-ghost use Rattle.monitor.specs.Rows.{IsRow, Keeps, improper_at, opened_at, open_unserved};
-ghost use Rattle.monitor.specs.Sides.{Writing, job_of};
+ghost use Rattle.monitor.specs.Rows.{IsRow, Keeps, KeepsReading, improper_at, opened_at, open_unserved};
+ghost use Rattle.monitor.specs.Sides.{UnderKeys, job_of};
 
 use crate::channel::Channel;
 use crate::job::{CHANNELS, Job};
@@ -100,6 +101,7 @@ fn opened(core: &Core, address: u32) -> Channel
         input_header,
         output_header,
         status: mode_at(core, address),
+        input: None,
         output: None,
     }
 }
@@ -109,8 +111,9 @@ fn opened(core: &Core, address: u32) -> Channel
 /// should be, it is answered as one that there isn't.
 pub fn open(job: &mut Job, number: u32, address: u32) -> Reply
     ensures row { is_buffered (mode_at job.old.core address) ≡ false → IsRow job.old job.new (Open number address) result }
-    ensures unserved { is_buffered (mode_at job.old.core address) ≡ true → (job.new ≡ job.old) × ((written : ℕ → Writing) → result ≡ open_unserved (job_of written job.old) number address) }
+    ensures unserved { is_buffered (mode_at job.old.core address) ≡ true → (job.new ≡ job.old) × ((under : UnderKeys) → result ≡ open_unserved (job_of under job.old) number address) }
     ensures keeps { (pending : List (Option PendingVersion)) → Keeps pending pending job.old job.new }
+    ensures reads { (live : List (Option LiveVersion)) → KeepsReading live live job.old job.new }
     ensures only { (result ≡ Failed → ⊥) × (result ≡ Device → ⊥) × (result ≡ NoMemory → ⊥) }
 {
     if number as usize >= CHANNELS {

@@ -15,7 +15,7 @@ ghost use Rattle.volume.specs.LiveCores.{core_of};
 ghost use Rattle.volume.specs.Rest.{IsSound, RestsAt, KeepsRead};
 ghost use Rattle.volume.specs.declared.pending.PendingVersion.{PendingVersion};
 ghost use Rattle.monitor.specs.Putting.{words_at, moved, IsOther, IsOut};
-ghost use Rattle.monitor.specs.Rows.{Keeps};
+ghost use Rattle.monitor.specs.Rows.{Keeps, KeepsReading};
 ghost use Rattle.monitor.specs.Serving.{present, IsSide};
 ghost use Rattle.monitor.specs.Sides.{sides_in, keys_of};
 
@@ -98,6 +98,7 @@ pub fn out<D: Disk>(
     ensures outcome { IsOut (D.state volume.old.disk) (D.state volume.new.disk) (core_of volume.old.map) (core_of volume.new.map)
         ((volume.new.disk ≡ volume.old.disk) × (core_of volume.new.map ≡ core_of volume.old.map)) job.old job.new number address result }
     ensures keeps { volume.new.failed ≡ false → Keeps (core_of volume.old.map).pending (core_of volume.new.map).pending job.old job.new }
+    ensures reads { volume.new.failed ≡ false → KeepsReading (core_of volume.old.map).live (core_of volume.new.map).live job.old job.new }
     // A crash finds the files as they were.
     ensures quiet { (D.state volume.old.disk).honest → (f : Files File) → RestsAt (D.state volume.old.disk) f
         → LeavesOnly (D.state volume.old.disk) (D.state volume.new.disk) (λ c. Stands (D.state volume.old.disk).size c f) }

@@ -10,7 +10,7 @@ ghost use Rattle.volume.specs.Rest.{IsSound};
 ghost use Rattle.volume.specs.declared.pending.PendingVersion.{PendingVersion};
 ghost use Rattle.monitor.specs.Publishing.{MayPublish, IsPublishing, IsPublishRow, CrashesAsRow, StillStands};
 ghost use Rattle.monitor.specs.Rows.{Keeps};
-ghost use Rattle.monitor.specs.Sides.{side_of};
+ghost use Rattle.monitor.specs.Sides.{side_of, reader_of};
 
 use crate::channel::Channel;
 use crate::job::Job;
@@ -52,6 +52,7 @@ pub fn close_output<D: Disk>(
     requires sound { IsSound (D.state volume.old.disk) (core_of volume.old.map) volume.old.failed }
     requires there { slot job.old.channels number ≡ Some channel }
     requires side { channel.output ≡ Some output }
+    requires single { channel.input ≡ None }
     requires live { IsSome (pending_at (core_of volume.old.map).pending output.pending.key) }
     requires starts { 0 < output.next }
     requires placed { (p : PendingVersion) → pending_at (core_of volume.old.map).pending output.pending.key ≡ Some p → IsPlaced (core_of volume.old.map) p }
@@ -90,6 +91,7 @@ pub fn release_output<D: Disk>(
 ) -> Reply
     requires sound { IsSound (D.state volume.old.disk) (core_of volume.old.map) volume.old.failed }
     requires there { side_of (slot job.old.channels number) ≡ Some output }
+    requires single { reader_of (slot job.old.channels number) ≡ None }
     requires live { IsSome (pending_at (core_of volume.old.map).pending output.pending.key) }
     requires starts { 0 < output.next }
     requires placed { (p : PendingVersion) → pending_at (core_of volume.old.map).pending output.pending.key ≡ Some p → IsPlaced (core_of volume.old.map) p }

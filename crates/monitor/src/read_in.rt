@@ -91,7 +91,7 @@ pub fn read_in<D: Disk>(
     ensures reads { (D.state volume.old.disk).honest → OnlyReads (D.state volume.old.disk) (D.state volume.new.disk) }
     ensures rests { (D.state volume.old.disk).honest → (files : Files File) → RestsAt (D.state volume.old.disk) files → RestsAt (D.state volume.new.disk) files }
     ensures core { volume.new.map ≡ volume.old.map }
-    ensures idle { (result ≡ AddressCheck) ⊎ (result ≡ Moved 0) ⊎ (result ≡ NoMemory) → volume.new.disk ≡ volume.old.disk }
+    ensures idle { (result ≡ AddressCheck) ⊎ (result ≡ AtEnd) ⊎ (result ≡ Moved 0) ⊎ (result ≡ NoMemory) → volume.new.disk ≡ volume.old.disk }
     // It fails with the volume, and blames the device where that failed.
     ensures failed { IsTrue volume.new.failed ↔ ((result ≡ Device) ⊎ (result ≡ Failed)) }
     ensures blamed { result ≡ Failed → (D.state volume.old.disk).honest → ⊥ }

@@ -1,4 +1,4 @@
-ghost use Rattle.std.specs.Prelude.{◌≡◌, ◌≤◌, ℕ, true, false, Some};
+ghost use Rattle.std.specs.Prelude.{◌≡◌, ◌≤◌, ℕ, true, false, Some, slice_set};
 ghost use Rattle.meaning.specs.Jobs.{slot};
 ghost use Rattle.meaning.specs.Opening.{mode_at};
 ghost use Rattle.meaning.specs.Rings.{is_buffered};
@@ -8,10 +8,10 @@ ghost use Rattle.meaning.specs.declared.call.Event.TheVariants.{Call as Calls};
 ghost use Rattle.meaning.specs.declared.call.Reply.TheVariants.{NoMemory, Failed, Device};
 ghost use Rattle.volume.specs.LiveCores.{core_of};
 ghost use Rattle.volume.specs.Rest.{IsSound};
-ghost use Rattle.monitor.specs.Calls.{IsUnbuffered};
-ghost use Rattle.monitor.specs.Rows.{open_unserved};
-ghost use Rattle.monitor.specs.Serving.{pack_of, Serves, AreKeyed, ArePlaced};
-ghost use Rattle.monitor.specs.Sides.{Writing, job_of};
+ghost use Rattle.monitor.specs.Calls.{IsUnbuffered, IsUnread};
+ghost use Rattle.monitor.specs.Rows.{open_unserved, enter_unserved, enter_refused, IsReading};
+ghost use Rattle.monitor.specs.Serving.{pack_of, Serves, AreKeyed, ArePlaced, AreReading};
+ghost use Rattle.monitor.specs.Sides.{UnderKeys, job_of};
 ghost use Rattle.monitor.specs.declared.job.Job.{Job as JobRecord};
 
 use crate::enter::enter;
@@ -37,16 +37,19 @@ pub fn serve_open<D: Disk>(
     requires sound { IsSound (D.state volume.old.disk) (core_of volume.old.map) volume.old.failed }
     requires keyed { AreKeyed (core_of volume.old.map).pending jobs.old }
     requires placed { ArePlaced (core_of volume.old.map) }
+    requires reading { AreReading (core_of volume.old.map).live jobs.old }
     requires alive { volume.old.failed ≡ false }
     requires timely { moment.date ≤ 4095 }
     ensures sound { IsSound (D.state volume.new.disk) (core_of volume.new.map) volume.new.failed }
     ensures keyed { AreKeyed (core_of volume.new.map).pending jobs.new }
     ensures placed { ArePlaced (core_of volume.new.map) }
+    ensures reading { AreReading (core_of volume.new.map).live jobs.new }
+    ensures others { (m : ℕ) → (m ≡ number → ⊥) → slot jobs.new m ≡ slot jobs.old m }
     ensures untouched { (volume.new.disk ≡ volume.old.disk) × (volume.new.failed ≡ volume.old.failed) }
     ensures only { (result ≡ Failed → ⊥) × (result ≡ Device → ⊥) }
     ensures light { result ≡ NoMemory → ⊥ }
     ensures kept { core_of volume.new.map ≡ core_of volume.old.map }
-    ensures unserved { (there : JobRecord) → slot jobs.old number ≡ Some there → is_buffered (mode_at there.core address) ≡ true → (jobs.new ≡ jobs.old) × ((written : ℕ → Writing) → result ≡ open_unserved (job_of written there) channel address) }
+    ensures unserved { (there : JobRecord) → slot jobs.old number ≡ Some there → is_buffered (mode_at there.core address) ≡ true → (jobs.new ≡ jobs.old) × ((under : UnderKeys) → result ≡ open_unserved (job_of under there) channel address) }
     ensures answered { (D.state volume.old.disk).honest → IsUnbuffered address (slot jobs.old number) → (old : Service) → Serves (D.state volume.old.disk) (core_of volume.old.map) volume.old.failed jobs.old old
         → (new : Service) × Serves (D.state volume.new.disk) (core_of volume.new.map) volume.new.failed jobs.new new
         × Answers (pack_of (D.state volume.old.disk)) old (Calls number (Open channel address) moment) result new }
@@ -71,11 +74,14 @@ pub fn serve_useto<D: Disk>(
     requires sound { IsSound (D.state volume.old.disk) (core_of volume.old.map) volume.old.failed }
     requires keyed { AreKeyed (core_of volume.old.map).pending jobs.old }
     requires placed { ArePlaced (core_of volume.old.map) }
+    requires reading { AreReading (core_of volume.old.map).live jobs.old }
     requires alive { volume.old.failed ≡ false }
     requires timely { moment.date ≤ 4095 }
     ensures sound { IsSound (D.state volume.new.disk) (core_of volume.new.map) volume.new.failed }
     ensures keyed { AreKeyed (core_of volume.new.map).pending jobs.new }
     ensures placed { ArePlaced (core_of volume.new.map) }
+    ensures reading { AreReading (core_of volume.new.map).live jobs.new }
+    ensures others { (m : ℕ) → (m ≡ number → ⊥) → slot jobs.new m ≡ slot jobs.old m }
     ensures untouched { (volume.new.disk ≡ volume.old.disk) × (volume.new.failed ≡ volume.old.failed) }
     ensures only { (result ≡ Failed → ⊥) × (result ≡ Device → ⊥) }
     ensures light { result ≡ NoMemory → ⊥ }
@@ -104,15 +110,20 @@ pub fn serve_enter<D: Disk>(
     requires sound { IsSound (D.state volume.old.disk) (core_of volume.old.map) volume.old.failed }
     requires keyed { AreKeyed (core_of volume.old.map).pending jobs.old }
     requires placed { ArePlaced (core_of volume.old.map) }
+    requires reading { AreReading (core_of volume.old.map).live jobs.old }
     requires alive { volume.old.failed ≡ false }
     requires timely { moment.date ≤ 4095 }
     ensures sound { IsSound (D.state volume.new.disk) (core_of volume.new.map) volume.new.failed }
     ensures keyed { AreKeyed (core_of volume.new.map).pending jobs.new }
     ensures placed { ArePlaced (core_of volume.new.map) }
+    ensures reading { AreReading (core_of volume.new.map).live jobs.new }
+    ensures others { (m : ℕ) → (m ≡ number → ⊥) → slot jobs.new m ≡ slot jobs.old m }
     ensures untouched { (volume.new.disk ≡ volume.old.disk) × (volume.new.failed ≡ volume.old.failed) }
     ensures memory { result ≡ NoMemory → (volume.new.disk ≡ volume.old.disk) × (core_of volume.new.map ≡ core_of volume.old.map) × (volume.new.failed ≡ volume.old.failed) × (jobs.new ≡ jobs.old) }
     ensures only { (result ≡ Failed → ⊥) × (result ≡ Device → ⊥) }
-    ensures answered { (D.state volume.old.disk).honest → (old : Service) → Serves (D.state volume.old.disk) (core_of volume.old.map) volume.old.failed jobs.old old
+    // On a channel that reads no file is updated yet.
+    ensures unserved { (there : JobRecord) → slot jobs.old number ≡ Some there → IsReading (slot there.channels channel) → (core_of volume.new.map ≡ core_of volume.old.map) × (result ≡ enter_unserved there address) × (jobs.new ≡ slice_set jobs.old number (Some (enter_refused there address))) }
+    ensures answered { (D.state volume.old.disk).honest → IsUnread channel (slot jobs.old number) → (old : Service) → Serves (D.state volume.old.disk) (core_of volume.old.map) volume.old.failed jobs.old old
         → (new : Service) × Serves (D.state volume.new.disk) (core_of volume.new.map) volume.new.failed jobs.new new
         × Answers (pack_of (D.state volume.old.disk)) old (Calls number (Enter channel address) moment) result new }
 {
@@ -134,11 +145,14 @@ pub fn serve_reset<D: Disk>(
     requires sound { IsSound (D.state volume.old.disk) (core_of volume.old.map) volume.old.failed }
     requires keyed { AreKeyed (core_of volume.old.map).pending jobs.old }
     requires placed { ArePlaced (core_of volume.old.map) }
+    requires reading { AreReading (core_of volume.old.map).live jobs.old }
     requires alive { volume.old.failed ≡ false }
     requires timely { moment.date ≤ 4095 }
     ensures sound { IsSound (D.state volume.new.disk) (core_of volume.new.map) volume.new.failed }
     ensures keyed { AreKeyed (core_of volume.new.map).pending jobs.new }
     ensures placed { ArePlaced (core_of volume.new.map) }
+    ensures reading { AreReading (core_of volume.new.map).live jobs.new }
+    ensures others { (m : ℕ) → (m ≡ number → ⊥) → slot jobs.new m ≡ slot jobs.old m }
     ensures untouched { (volume.new.disk ≡ volume.old.disk) × (volume.new.failed ≡ volume.old.failed) }
     ensures only { (result ≡ Failed → ⊥) × (result ≡ Device → ⊥) }
     ensures light { result ≡ NoMemory → ⊥ }

@@ -9,7 +9,7 @@ ghost use Rattle.volume.specs.LiveCores.{core_of};
 ghost use Rattle.volume.specs.Rest.{IsSound};
 ghost use Rattle.monitor.specs.Events.{CallCrashes, IsIdle};
 ghost use Rattle.monitor.specs.Rows.{publishes_by, ClosesSide};
-ghost use Rattle.monitor.specs.Serving.{pack_of, Serves, AreKeyed, ArePlaced};
+ghost use Rattle.monitor.specs.Serving.{pack_of, Serves, AreKeyed, ArePlaced, AreReading};
 ghost use Rattle.monitor.specs.declared.job.Job.{Job as JobRecord};
 
 use crate::channel::Channel;
@@ -51,12 +51,15 @@ fn close_quietly<D: Disk>(
     requires sound { IsSound (D.state volume.old.disk) (core_of volume.old.map) volume.old.failed }
     requires keyed { AreKeyed (core_of volume.old.map).pending jobs.old }
     requires placed { ArePlaced (core_of volume.old.map) }
+    requires reading { AreReading (core_of volume.old.map).live jobs.old }
     requires alive { volume.old.failed ≡ false }
     requires timely { moment.date ≤ 4095 }
     requires unpublished { publishes_by channel bits (slot jobs.old number) ≡ false }
     ensures sound { IsSound (D.state volume.new.disk) (core_of volume.new.map) volume.new.failed }
     ensures keyed { AreKeyed (core_of volume.new.map).pending jobs.new }
     ensures placed { ArePlaced (core_of volume.new.map) }
+    ensures reading { AreReading (core_of volume.new.map).live jobs.new }
+    ensures others { (m : ℕ) → (m ≡ number → ⊥) → slot jobs.new m ≡ slot jobs.old m }
     ensures untouched { (volume.new.disk ≡ volume.old.disk) × (volume.new.failed ≡ volume.old.failed) }
     ensures only { (result ≡ Failed → ⊥) × (result ≡ Device → ⊥) × (result ≡ NoMemory → ⊥) }
     ensures answered { (D.state volume.old.disk).honest → (old : Service) → Serves (D.state volume.old.disk) (core_of volume.old.map) volume.old.failed jobs.old old
@@ -85,12 +88,15 @@ fn close_publishing<D: Disk>(
     requires sound { IsSound (D.state volume.old.disk) (core_of volume.old.map) volume.old.failed }
     requires keyed { AreKeyed (core_of volume.old.map).pending jobs.old }
     requires placed { ArePlaced (core_of volume.old.map) }
+    requires reading { AreReading (core_of volume.old.map).live jobs.old }
     requires alive { volume.old.failed ≡ false }
     requires timely { moment.date ≤ 4095 }
     requires closes { (job : JobRecord) × (slot jobs.old number ≡ Some job) × ClosesSide job channel bits closed.0 closed.1 }
     ensures sound { IsSound (D.state volume.new.disk) (core_of volume.new.map) volume.new.failed }
     ensures keyed { volume.new.failed ≡ false → AreKeyed (core_of volume.new.map).pending jobs.new }
     ensures placed { volume.new.failed ≡ false → ArePlaced (core_of volume.new.map) }
+    ensures reading { volume.new.failed ≡ false → AreReading (core_of volume.new.map).live jobs.new }
+    ensures others { (m : ℕ) → (m ≡ number → ⊥) → slot jobs.new m ≡ slot jobs.old m }
     ensures answered { (D.state volume.old.disk).honest → (old : Service) → Serves (D.state volume.old.disk) (core_of volume.old.map) volume.old.failed jobs.old old
         → (new : Service) × Serves (D.state volume.new.disk) (core_of volume.new.map) volume.new.failed jobs.new new
         × Answers (pack_of (D.state volume.old.disk)) old (Calls number (Close channel bits) moment) result new }
@@ -125,11 +131,14 @@ pub fn serve_close<D: Disk>(
     requires sound { IsSound (D.state volume.old.disk) (core_of volume.old.map) volume.old.failed }
     requires keyed { AreKeyed (core_of volume.old.map).pending jobs.old }
     requires placed { ArePlaced (core_of volume.old.map) }
+    requires reading { AreReading (core_of volume.old.map).live jobs.old }
     requires alive { volume.old.failed ≡ false }
     requires timely { moment.date ≤ 4095 }
     ensures sound { IsSound (D.state volume.new.disk) (core_of volume.new.map) volume.new.failed }
     ensures keyed { volume.new.failed ≡ false → AreKeyed (core_of volume.new.map).pending jobs.new }
     ensures placed { volume.new.failed ≡ false → ArePlaced (core_of volume.new.map) }
+    ensures reading { volume.new.failed ≡ false → AreReading (core_of volume.new.map).live jobs.new }
+    ensures others { (m : ℕ) → (m ≡ number → ⊥) → slot jobs.new m ≡ slot jobs.old m }
     ensures answered { (D.state volume.old.disk).honest → (old : Service) → Serves (D.state volume.old.disk) (core_of volume.old.map) volume.old.failed jobs.old old
         → (new : Service) × Serves (D.state volume.new.disk) (core_of volume.new.map) volume.new.failed jobs.new new
         × Answers (pack_of (D.state volume.old.disk)) old (Calls number (Close channel bits) moment) result new }
@@ -162,12 +171,15 @@ fn release_quietly<D: Disk>(
     requires sound { IsSound (D.state volume.old.disk) (core_of volume.old.map) volume.old.failed }
     requires keyed { AreKeyed (core_of volume.old.map).pending jobs.old }
     requires placed { ArePlaced (core_of volume.old.map) }
+    requires reading { AreReading (core_of volume.old.map).live jobs.old }
     requires alive { volume.old.failed ≡ false }
     requires timely { moment.date ≤ 4095 }
     requires unpublished { publishes_by channel 0 (slot jobs.old number) ≡ false }
     ensures sound { IsSound (D.state volume.new.disk) (core_of volume.new.map) volume.new.failed }
     ensures keyed { AreKeyed (core_of volume.new.map).pending jobs.new }
     ensures placed { ArePlaced (core_of volume.new.map) }
+    ensures reading { AreReading (core_of volume.new.map).live jobs.new }
+    ensures others { (m : ℕ) → (m ≡ number → ⊥) → slot jobs.new m ≡ slot jobs.old m }
     ensures untouched { (volume.new.disk ≡ volume.old.disk) × (volume.new.failed ≡ volume.old.failed) }
     ensures only { (result ≡ Failed → ⊥) × (result ≡ Device → ⊥) × (result ≡ NoMemory → ⊥) }
     ensures answered { (D.state volume.old.disk).honest → (old : Service) → Serves (D.state volume.old.disk) (core_of volume.old.map) volume.old.failed jobs.old old
@@ -177,7 +189,7 @@ fn release_quietly<D: Disk>(
     let Some(mut job) = jobs.take(number) else {
         return Reply::NoJob;
     };
-    let reply = release(&mut job, channel);
+    let reply = release(volume, &mut job, channel);
     jobs.put(number, job);
     reply
 }
@@ -195,12 +207,15 @@ fn release_publishing<D: Disk>(
     requires sound { IsSound (D.state volume.old.disk) (core_of volume.old.map) volume.old.failed }
     requires keyed { AreKeyed (core_of volume.old.map).pending jobs.old }
     requires placed { ArePlaced (core_of volume.old.map) }
+    requires reading { AreReading (core_of volume.old.map).live jobs.old }
     requires alive { volume.old.failed ≡ false }
     requires timely { moment.date ≤ 4095 }
     requires closes { (job : JobRecord) × (slot jobs.old number ≡ Some job) × ClosesSide job channel 0 closed.0 closed.1 }
     ensures sound { IsSound (D.state volume.new.disk) (core_of volume.new.map) volume.new.failed }
     ensures keyed { volume.new.failed ≡ false → AreKeyed (core_of volume.new.map).pending jobs.new }
     ensures placed { volume.new.failed ≡ false → ArePlaced (core_of volume.new.map) }
+    ensures reading { volume.new.failed ≡ false → AreReading (core_of volume.new.map).live jobs.new }
+    ensures others { (m : ℕ) → (m ≡ number → ⊥) → slot jobs.new m ≡ slot jobs.old m }
     ensures answered { (D.state volume.old.disk).honest → (old : Service) → Serves (D.state volume.old.disk) (core_of volume.old.map) volume.old.failed jobs.old old
         → (new : Service) × Serves (D.state volume.new.disk) (core_of volume.new.map) volume.new.failed jobs.new new
         × Answers (pack_of (D.state volume.old.disk)) old (Calls number (Releas channel) moment) result new }
@@ -234,11 +249,14 @@ pub fn serve_release<D: Disk>(
     requires sound { IsSound (D.state volume.old.disk) (core_of volume.old.map) volume.old.failed }
     requires keyed { AreKeyed (core_of volume.old.map).pending jobs.old }
     requires placed { ArePlaced (core_of volume.old.map) }
+    requires reading { AreReading (core_of volume.old.map).live jobs.old }
     requires alive { volume.old.failed ≡ false }
     requires timely { moment.date ≤ 4095 }
     ensures sound { IsSound (D.state volume.new.disk) (core_of volume.new.map) volume.new.failed }
     ensures keyed { volume.new.failed ≡ false → AreKeyed (core_of volume.new.map).pending jobs.new }
     ensures placed { volume.new.failed ≡ false → ArePlaced (core_of volume.new.map) }
+    ensures reading { volume.new.failed ≡ false → AreReading (core_of volume.new.map).live jobs.new }
+    ensures others { (m : ℕ) → (m ≡ number → ⊥) → slot jobs.new m ≡ slot jobs.old m }
     ensures answered { (D.state volume.old.disk).honest → (old : Service) → Serves (D.state volume.old.disk) (core_of volume.old.map) volume.old.failed jobs.old old
         → (new : Service) × Serves (D.state volume.new.disk) (core_of volume.new.map) volume.new.failed jobs.new new
         × Answers (pack_of (D.state volume.old.disk)) old (Calls number (Releas channel) moment) result new }

@@ -1,6 +1,7 @@
-ghost use Rattle.std.specs.Prelude.{◌≡◌, ◌⊎◌, ◌↔◌, ◌≤◌, false, IsTrue};
+ghost use Rattle.std.specs.Prelude.{◌≡◌, ◌⊎◌, ◌↔◌, ◌≤◌, ℕ, false, IsTrue};
 ghost use Rattle.blockdisk.specs.Disk.{LeavesOnly, SameDisk, one_more};
 ghost use Rattle.meaning.specs.Files.{File, Files};
+ghost use Rattle.meaning.specs.Jobs.{slot};
 ghost use Rattle.meaning.specs.Runs.{Service, Answers};
 ghost use Rattle.meaning.specs.Stands.{Stands};
 ghost use Rattle.meaning.specs.declared.call.Call.TheVariants.{MakeDir, Out};
@@ -9,7 +10,7 @@ ghost use Rattle.meaning.specs.declared.call.Reply.TheVariants.{NoMemory, Device
 ghost use Rattle.volume.specs.LiveCores.{core_of};
 ghost use Rattle.volume.specs.Rest.{IsSound, RestsAt};
 ghost use Rattle.monitor.specs.Events.{CallCrashes, IsIdle};
-ghost use Rattle.monitor.specs.Serving.{pack_of, Serves, AreKeyed, ArePlaced};
+ghost use Rattle.monitor.specs.Serving.{pack_of, Serves, AreKeyed, ArePlaced, AreReading};
 
 use crate::job::Jobs;
 use crate::makedir::make_dir;
@@ -33,11 +34,14 @@ pub fn serve_out<D: Disk>(
     requires sound { IsSound (D.state volume.old.disk) (core_of volume.old.map) volume.old.failed }
     requires keyed { AreKeyed (core_of volume.old.map).pending jobs.old }
     requires placed { ArePlaced (core_of volume.old.map) }
+    requires reading { AreReading (core_of volume.old.map).live jobs.old }
     requires alive { volume.old.failed ≡ false }
     requires timely { moment.date ≤ 4095 }
     ensures sound { IsSound (D.state volume.new.disk) (core_of volume.new.map) volume.new.failed }
     ensures keyed { volume.new.failed ≡ false → AreKeyed (core_of volume.new.map).pending jobs.new }
     ensures placed { volume.new.failed ≡ false → ArePlaced (core_of volume.new.map) }
+    ensures reading { volume.new.failed ≡ false → AreReading (core_of volume.new.map).live jobs.new }
+    ensures others { (m : ℕ) → (m ≡ number → ⊥) → slot jobs.new m ≡ slot jobs.old m }
     ensures answered { (D.state volume.old.disk).honest → (old : Service) → Serves (D.state volume.old.disk) (core_of volume.old.map) volume.old.failed jobs.old old
         → (new : Service) × Serves (D.state volume.new.disk) (core_of volume.new.map) volume.new.failed jobs.new new
         × Answers (pack_of (D.state volume.old.disk)) old (Calls number (Out channel address) moment) result new }
@@ -73,11 +77,14 @@ pub fn serve_make_dir<D: Disk>(
     requires sound { IsSound (D.state volume.old.disk) (core_of volume.old.map) volume.old.failed }
     requires keyed { AreKeyed (core_of volume.old.map).pending jobs.old }
     requires placed { ArePlaced (core_of volume.old.map) }
+    requires reading { AreReading (core_of volume.old.map).live jobs.old }
     requires alive { volume.old.failed ≡ false }
     requires timely { moment.date ≤ 4095 }
     ensures sound { IsSound (D.state volume.new.disk) (core_of volume.new.map) volume.new.failed }
     ensures keyed { volume.new.failed ≡ false → AreKeyed (core_of volume.new.map).pending jobs.new }
     ensures placed { volume.new.failed ≡ false → ArePlaced (core_of volume.new.map) }
+    ensures reading { volume.new.failed ≡ false → AreReading (core_of volume.new.map).live jobs.new }
+    ensures others { (m : ℕ) → (m ≡ number → ⊥) → slot jobs.new m ≡ slot jobs.old m }
     ensures answered { (D.state volume.old.disk).honest → (old : Service) → Serves (D.state volume.old.disk) (core_of volume.old.map) volume.old.failed jobs.old old
         → (new : Service) × Serves (D.state volume.new.disk) (core_of volume.new.map) volume.new.failed jobs.new new
         × Answers (pack_of (D.state volume.old.disk)) old (Calls number (MakeDir address) moment) result new }

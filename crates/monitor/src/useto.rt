@@ -1,8 +1,9 @@
 ghost use Rattle.std.specs.Prelude.{◌≡◌, List, Option};
 ghost use Rattle.meaning.specs.declared.call.Call.TheVariants.{Useto};
 ghost use Rattle.meaning.specs.declared.call.Reply.TheVariants.{NoMemory, Failed, Device};
+ghost use Rattle.volume.specs.declared.live.LiveVersion.{LiveVersion};
 ghost use Rattle.volume.specs.declared.pending.PendingVersion.{PendingVersion};
-ghost use Rattle.monitor.specs.Rows.{IsRow, Keeps};
+ghost use Rattle.monitor.specs.Rows.{IsRow, Keeps, KeepsReading};
 
 use crate::channel::Channel;
 use crate::job::Job;
@@ -14,6 +15,7 @@ use meaning::{ErrorCode, Reply};
 pub fn useto(job: &mut Job, number: u32, block: u32) -> Reply
     ensures row { IsRow job.old job.new (Useto number block) result }
     ensures keeps { (pending : List (Option PendingVersion)) → Keeps pending pending job.old job.new }
+    ensures reads { (live : List (Option LiveVersion)) → KeepsReading live live job.old job.new }
     ensures only { (result ≡ Failed → ⊥) × (result ≡ Device → ⊥) × (result ≡ NoMemory → ⊥) }
 {
     let Some(channel) = job.channel(number) else {

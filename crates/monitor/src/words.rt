@@ -1,4 +1,4 @@
-ghost use Rattle.std.specs.Prelude.{◌≡◌, ◌↔◌, false, Some, slice_set, IsTrue};
+ghost use Rattle.std.specs.Prelude.{◌≡◌, ◌↔◌, ℕ, false, Some, slice_set, IsTrue};
 ghost use Rattle.meaning.specs.Jobs.{slot};
 ghost use Rattle.meaning.specs.Runs.{Service, Answers};
 ghost use Rattle.meaning.specs.declared.call.Event.TheVariants.{Deposit, Examine};
@@ -57,6 +57,7 @@ impl<D: Disk> Monitor<D> {
         ensures value { self.old.failed ≡ false → result ≡ deposit_of address (slot self.old.jobs job) }
         ensures done { result ≡ Done → (there : JobRecord) × (slot self.old.jobs job ≡ Some there) × (self.new.jobs ≡ slice_set self.old.jobs job (Some (record there { core = slice_set there.core address word }))) }
         ensures refused { (result ≡ Done → ⊥) → self.new.jobs ≡ self.old.jobs }
+        ensures others { (m : ℕ) → (m ≡ job → ⊥) → slot self.new.jobs m ≡ slot self.old.jobs m }
     {
         if self.volume.failed {
             return Reply::Failed;

@@ -63,6 +63,8 @@ pub fn get_words<D: Disk>(
     ensures few { IfOk result (λ words. length words.items ≡ min count (version.now.words - block_start block)) }
     ensures damaged { (D.state disk.old).honest → (k : ℕ) → IsErrOf result (BadData k) → (0 < times k version.now.blocks) × ((D.state disk.old).contents k ≡ None) }
     ensures memory { IsErrOf result NoMemory → disk.new ≡ disk.old }
+    // Where there are no words the disk isn't asked.
+    ensures none { IfOk result (λ words. length words.items ≡ 0 → disk.new ≡ disk.old) }
 
     // On every disk.
     ensures keeps { (D.state disk.old).honest → Keeps (D.state disk.old) (D.state disk.new) }

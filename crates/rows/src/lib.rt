@@ -3,6 +3,18 @@
 #![tactic(auto)]
 
 #[cfg(test)]
+mod call_tests;
+#[cfg(test)]
+mod event_tests;
+#[cfg(test)]
+mod fault_rows;
+#[cfg(test)]
 mod images;
 #[cfg(test)]
+mod list_rows;
+#[cfg(test)]
 mod monitor_rows;
+#[cfg(test)]
+mod monitor_tests;
+#[cfg(test)]
+mod reading_rows;

@@ -9,25 +9,25 @@ use volume::{VersionHandle, Volume};
 use words36::{BLOCK_WORDS, Block, FileName, Half, Moment, Ppn, Word};
 
 /// FOO in SIXBIT.
-const FOO: u64 = 0o465757000000;
+pub(crate) const FOO: u64 = 0o465757000000;
 
 /// BAR in SIXBIT.
-const BAR: u64 = 0o424162000000;
+pub(crate) const BAR: u64 = 0o424162000000;
 
 /// TXT in SIXBIT, as an extension.
-const TXT: u32 = 0o647064;
+pub(crate) const TXT: u32 = 0o647064;
 
 /// Where the three words of an OPEN stand in a core.
 const DEVICE: u32 = 0o200;
 
 /// Where the four words of an ENTER stand, or the two of a MakeDir.
-const BLOCK: u32 = 0o300;
+pub(crate) const BLOCK: u32 = 0o300;
 
 /// Where a command list stands.
-const LIST: u32 = 0o400;
+pub(crate) const LIST: u32 = 0o400;
 
 /// The first of the words that are written.
-const WORDS: u32 = 0o1000;
+pub(crate) const WORDS: u32 = 0o1000;
 
 /// How many words a core has: those of 113 blocks fit behind `WORDS`.
 const CORE: u32 = 0o40000;
@@ -62,18 +62,28 @@ fn start(rt: &impl Abort, alloc: Global, disk: MemDisk) -> Monitor<MemDisk> {
 
 /// A monitor over a fresh volume of so many blocks, in which there is no directory.
 fn fresh(rt: &impl Abort, alloc: Global, blocks: u32) -> Result<Monitor<MemDisk>, NoMemory> {
-    let mut disk = MemDisk::new(alloc, blocks, 1000)?;
+    let mut disk = MemDisk::new(alloc, blocks, 4000)?;
     assert!(rt; Volume::init(&mut disk) == Ok(()));
     Ok(start(rt, alloc, disk))
 }
 
 /// Puts a word into the core of a job. Answers whether it was.
-fn put_word(monitor: &mut Monitor<MemDisk>, job: u32, address: u32, number: u64) -> bool {
+pub(crate) fn put_word(
+    monitor: &mut Monitor<MemDisk>,
+    job: u32,
+    address: u32,
+    number: u64,
+) -> bool {
     monitor.deposit(job, address, word(number)) == Reply::Done
 }
 
 /// Puts four words into the core of a job, from a small address on.
-fn put_words(monitor: &mut Monitor<MemDisk>, job: u32, address: u32, words: [u64; 4]) -> bool {
+pub(crate) fn put_words(
+    monitor: &mut Monitor<MemDisk>,
+    job: u32,
+    address: u32,
+    words: [u64; 4],
+) -> bool {
     let address = address % 0o10000;
     put_word(monitor, job, address, words[0])
         && put_word(monitor, job, address + 1, words[1])
@@ -82,7 +92,7 @@ fn put_words(monitor: &mut Monitor<MemDisk>, job: u32, address: u32, words: [u64
 }
 
 /// A word of the core of a job, in its number.
-fn word_at(monitor: &Monitor<MemDisk>, job: u32, address: u32) -> Option<u64> {
+pub(crate) fn word_at(monitor: &Monitor<MemDisk>, job: u32, address: u32) -> Option<u64> {
     match monitor.examine(job, address) {
         Reply::Value(found) => Some(found.bits()),
         _ => None,
@@ -104,12 +114,12 @@ fn call_at(
 }
 
 /// The same at date 0 and minute 0.
-fn call(monitor: &mut Monitor<MemDisk>, alloc: Global, job: u32, call: Call) -> Reply {
+pub(crate) fn call(monitor: &mut Monitor<MemDisk>, alloc: Global, job: u32, call: Call) -> Reply {
     call_at(monitor, alloc, job, call, (0, 0))
 }
 
 /// Logs a job in as [10,20].
-fn login(rt: &impl Abort, monitor: &mut Monitor<MemDisk>, alloc: Global, job: u32) {
+pub(crate) fn login(rt: &impl Abort, monitor: &mut Monitor<MemDisk>, alloc: Global, job: u32) {
     assert!(rt; monitor.login(alloc, job, owner(rt), CORE) == Reply::Done);
 }
 
@@ -120,7 +130,13 @@ fn make_directory(rt: &impl Abort, monitor: &mut Monitor<MemDisk>, alloc: Global
 }
 
 /// Opens a channel of a job to the disk in dump mode.
-fn open(rt: &impl Abort, monitor: &mut Monitor<MemDisk>, alloc: Global, job: u32, channel: u32) {
+pub(crate) fn open(
+    rt: &impl Abort,
+    monitor: &mut Monitor<MemDisk>,
+    alloc: Global,
+    job: u32,
+    channel: u32,
+) {
     assert!(rt; put_words(monitor, job, DEVICE, [0o17, 0o446353000000, 0, 0]));
     assert!(rt; call(monitor, alloc, job, Call::Open(channel, DEVICE)) == Reply::Done);
 }
@@ -140,7 +156,7 @@ fn enter_at(
 }
 
 /// The same at date 0 and minute 0.
-fn enter(
+pub(crate) fn enter(
     rt: &impl Abort,
     monitor: &mut Monitor<MemDisk>,
     alloc: Global,
@@ -152,19 +168,19 @@ fn enter(
 }
 
 /// Makes the list of job 1 name so many of its words, fewer than 2^18.
-fn name_words(rt: &impl Abort, monitor: &mut Monitor<MemDisk>, count: u32) {
+pub(crate) fn name_words(rt: &impl Abort, monitor: &mut Monitor<MemDisk>, count: u32) {
     let left = 0o1000000 - u64::from(count % 0o1000000);
     let command = left % 0o1000000 * 0o1000000 + u64::from(WORDS) - 1;
     assert!(rt; put_words(monitor, 1, LIST, [command, 0, 0, 0]));
 }
 
 /// What an OUT of the words that the list names is answered with, by job 1.
-fn out(monitor: &mut Monitor<MemDisk>, alloc: Global, channel: u32) -> Reply {
+pub(crate) fn out(monitor: &mut Monitor<MemDisk>, alloc: Global, channel: u32) -> Reply {
     call(monitor, alloc, 1, Call::Out(channel, LIST))
 }
 
 /// So many OUTs of job 1 are done.
-fn expect_outs(
+pub(crate) fn expect_outs(
     rt: &impl Abort,
     monitor: &mut Monitor<MemDisk>,
     alloc: Global,
@@ -177,7 +193,12 @@ fn expect_outs(
 }
 
 /// What a CLOSE of job 1 is answered with.
-fn close(monitor: &mut Monitor<MemDisk>, alloc: Global, channel: u32, bits: u32) -> Reply {
+pub(crate) fn close(
+    monitor: &mut Monitor<MemDisk>,
+    alloc: Global,
+    channel: u32,
+    bits: u32,
+) -> Reply {
     call(monitor, alloc, 1, Call::Close(channel, bits))
 }
 
@@ -204,7 +225,11 @@ fn expect_none(rt: &impl Abort, monitor: &Monitor<MemDisk>, alloc: Global) {
 }
 
 /// A monitor over a fresh volume of so many blocks with the directory [10,20], which has job 1 with channel 3 open.
-fn ready(rt: &impl Abort, alloc: Global, blocks: u32) -> Result<Monitor<MemDisk>, NoMemory> {
+pub(crate) fn ready(
+    rt: &impl Abort,
+    alloc: Global,
+    blocks: u32,
+) -> Result<Monitor<MemDisk>, NoMemory> {
     let mut monitor = fresh(rt, alloc, blocks)?;
     login(rt, &mut monitor, alloc, 1);
     make_directory(rt, &mut monitor, alloc);
@@ -348,7 +373,7 @@ fn put(rt: &impl Abort, disk: &mut MemDisk, n: u32, words: &[u64]) {
 }
 
 /// A disk of 64 blocks on which FOO.TXT of [10,20] has two words, with room to record so many writes and syncs.
-fn image(rt: &impl Abort, alloc: Global, calls: usize) -> Result<MemDisk, NoMemory> {
+pub(crate) fn image(rt: &impl Abort, alloc: Global, calls: usize) -> Result<MemDisk, NoMemory> {
     let mut disk = MemDisk::new(alloc, 64, calls)?;
     put(rt, &mut disk, 1, &HOME);
     put(rt, &mut disk, 2, &HOME);

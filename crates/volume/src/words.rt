@@ -74,6 +74,8 @@ impl<D: Disk> Volume<D> {
         // Which error comes when, and what it leaves.
         ensures plain { (code : ErrorCode) → IsErrOf result (Refused code) → ⊥ }
         ensures memory { IsErrOf result NoMemory → self.new.disk ≡ self.old.disk }
+        // Where there are no words the disk isn't asked.
+        ensures none { IfOk result (λ words. length words.items ≡ 0 → self.new.disk ≡ self.old.disk) }
         ensures failed { self.old.failed ≡ true → IsErrOf result Failed }
         ensures given_up { IsErrOf result Failed → (self.old.failed ≡ true) ⊎ ((D.state self.old.disk).honest → ⊥) }
         ensures gone { IsErrOf result Failed → self.new.failed ≡ true }

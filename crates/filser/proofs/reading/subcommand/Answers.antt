@@ -1,5 +1,5 @@
 use Rattle.clap.specs.Words.{found_of, rows_of}
-use Rattle.filser.proofs.Matching.{no_init, no_date, no_minute}
+use Rattle.filser.proofs.Matching.{no_init, no_date, no_minute, no_date_of_calls, no_minute_of_calls}
 use Rattle.filser.proofs.reading.subcommand.Goals as goal
 
 -- src/reading.rt:58:45
@@ -16,3 +16,13 @@ returns-in_err-date-in-run c =
 pub returns-in_err-number-in-run : goal.returns-in_err-number-in-run
 returns-in_err-number-in-run c =
     rw c.from_residual-in_err-number-in-run.ensures (no_minute c.args.name.now (rows_of (found_of c.args.matches.now)) c.in-run.is c.in_err-number-in-run.ensures)
+
+-- src/reading.rt:64:24
+pub returns-in_err-date-in-calls : goal.returns-in_err-date-in-calls
+returns-in_err-date-in-calls c =
+    rw c.from_residual-in_err-date-in-calls.ensures (no_date_of_calls c.args.name.now (rows_of (found_of c.args.matches.now)) c.in-calls.is c.in_err-date-in-calls.ensures)
+
+-- src/reading.rt:65:46
+pub returns-in_err-number-in-calls : goal.returns-in_err-number-in-calls
+returns-in_err-number-in-calls c =
+    rw c.from_residual-in_err-number-in-calls.ensures (no_minute_of_calls c.args.name.now (rows_of (found_of c.args.matches.now)) c.in-calls.is c.in_err-number-in-calls.ensures)

@@ -20,7 +20,7 @@ returns-in-Open-clause-answered g c h =
 pub returns-in-Enter-clause-answered : goal.returns-in-Enter-clause-answered
 returns-in-Enter-clause-answered g c h =
     subst (IsCalled (g.D.Disk.state c.args.volume.now.disk) (core_of c.args.volume.now.map) c.args.volume.now.failed c.args.jobs.now (g.D.Disk.state c.serve_enter.new.volume.disk) (core_of c.serve_enter.new.volume.map) c.serve_enter.new.volume.failed c.serve_enter.new.jobs
-    c.args.number c.args.moment c.serve_enter.result) (sym c.in-Enter.is) (λ served. c.serve_enter.ensures.answered h)
+    c.args.number c.args.moment c.serve_enter.result) (sym c.in-Enter.is) (c.serve_enter.ensures.answered h)
 
 pub returns-in-Useto-clause-answered : goal.returns-in-Useto-clause-answered
 returns-in-Useto-clause-answered g c h =
@@ -147,3 +147,22 @@ returns-in-Getsts-clause-failed g c = quiet_failed c.args.volume.now.failed c.ar
 
 pub returns-in-Getsts-clause-same : goal.returns-in-Getsts-clause-same
 returns-in-Getsts-clause-same g c = quiet_same g.D.Disk.state c.args.volume.now.disk c.args.volume.now.disk refl
+
+pub returns-in-Lookup-clause-answered : goal.returns-in-Lookup-clause-answered
+returns-in-Lookup-clause-answered g c h =
+    subst (IsCalled (g.D.Disk.state c.args.volume.now.disk) (core_of c.args.volume.now.map) c.args.volume.now.failed c.args.jobs.now (g.D.Disk.state c.serve_lookup.new.volume.disk) (core_of c.serve_lookup.new.volume.map) c.serve_lookup.new.volume.failed c.serve_lookup.new.jobs
+    c.args.number c.args.moment c.serve_lookup.result) (sym c.in-Lookup.is) (λ served. c.serve_lookup.ensures.answered h)
+
+pub returns-in-Useti-clause-answered : goal.returns-in-Useti-clause-answered
+returns-in-Useti-clause-answered g c h =
+    subst (IsCalled (g.D.Disk.state c.args.volume.now.disk) (core_of c.args.volume.now.map) c.args.volume.now.failed c.args.jobs.now (g.D.Disk.state c.serve_useti.new.volume.disk) (core_of c.serve_useti.new.volume.map) c.serve_useti.new.volume.failed c.serve_useti.new.jobs
+    c.args.number c.args.moment c.serve_useti.result) (sym c.in-Useti.is) (λ served. c.serve_useti.ensures.answered h)
+
+pub returns-in-In-clause-answered : goal.returns-in-In-clause-answered
+returns-in-In-clause-answered g c h =
+    subst (IsCalled (g.D.Disk.state c.args.volume.now.disk) (core_of c.args.volume.now.map) c.args.volume.now.failed c.args.jobs.now (g.D.Disk.state c.serve_in.new.volume.disk) (core_of c.serve_in.new.volume.map) c.serve_in.new.volume.failed c.serve_in.new.jobs
+    c.args.number c.args.moment c.serve_in.result) (sym c.in-In.is) (λ served. c.serve_in.ensures.answered h)
+
+pub returns-in-In-clause-crash : goal.returns-in-In-clause-crash
+returns-in-In-clause-crash g c =
+    subst (λ call. CallCrashes (g.D.Disk.state c.args.volume.now.disk) (g.D.Disk.state c.serve_in.new.volume.disk) (core_of c.args.volume.now.map) c.args.jobs.now c.args.number (call_of call) c.args.moment) (sym c.in-In.is) c.serve_in.ensures.crash

@@ -1,7 +1,8 @@
 use Rattle.std.proofs.Common.{sym, ◌∙◌}
 use Rattle.volume.specs.LiveCores.{core_of}
-use Rattle.monitor.proofs.Calling.{keeps_same}
-use Rattle.monitor.proofs.Closes.{close_none, close_row, closed_back, dropped_live, close_keeps}
+use Rattle.monitor.proofs.Calling.{keeps_same, reads_same}
+use Rattle.monitor.proofs.Closes.{close_none, close_row, closed_back, closed_both, dropped_live, released_held, close_keeps, close_reads}
+use Rattle.monitor.proofs.Dropped.{leaves_none, leaves_on}
 use Rattle.monitor.proofs.close.close.Goals as goal
 
 pub returns-in_default-clause-row : goal.returns-in_default-clause-row
@@ -10,16 +11,37 @@ returns-in_default-clause-row g c = close_none c.args.job.now c.args.number c.ar
 pub returns-in_default-clause-keeps : goal.returns-in_default-clause-keeps
 returns-in_default-clause-keeps g c = keeps_same (core_of c.args.volume.now.map).pending c.args.job.now
 
+pub returns-in_default-clause-reads : goal.returns-in_default-clause-reads
+returns-in_default-clause-reads g c = reads_same (core_of c.args.volume.now.map).live c.args.job.now
+
+pub returns-in_default-clause-leaves : goal.returns-in_default-clause-leaves
+returns-in_default-clause-leaves g c = leaves_none (core_of c.args.volume.now.map)
+
 pub drop_output-requires-clause-live : goal.drop_output-requires-clause-live
 drop_output-requires-clause-live g c =
-    dropped_live c.args.job.now c.args.number c.args.bits c.in-Some.channel (sym c.channel.ensures ∙ c.in-Some.is) (core_of c.args.volume.now.map).pending c.parted-kept.result.1 c.parted-kept.ensures.dropped c.requires.live
+    dropped_live c.args.job.now c.args.number c.in-Some.channel (sym c.channel.ensures ∙ c.in-Some.is) c.args.bits (core_of c.args.volume.now.map).pending c.parted-output.result.1 c.parted-output.ensures.closed c.requires.live
+
+pub let_go-requires-clause-held : goal.let_go-requires-clause-held
+let_go-requires-clause-held g c =
+    released_held c.args.job.now c.args.number c.in-Some.channel (sym c.channel.ensures ∙ c.in-Some.is) c.args.bits (core_of c.args.volume.now.map) (core_of c.drop_output.new.volume.map) _ c.drop_output.ensures.closed c.requires.held c.parted-input.result.1 c.parted-input.ensures.closed
 
 pub returns-clause-row : goal.returns-clause-row
 returns-clause-row g c =
     close_row c.args.job.now c.set_channel.new.self c.args.number c.args.bits c.in-Some.channel (sym c.channel.ensures ∙ c.in-Some.is) c.requires.unpublished
-    (closed_back c.args.job.now c.set_channel.new.self c.args.number c.args.bits c.in-Some.channel c.cleared.result c.parted-kept.result.0 c.cleared.ensures.value c.parted-kept.ensures.kept c.set_channel.ensures)
+    (closed_back c.args.job.now c.set_channel.new.self c.args.number c.args.bits c.in-Some.channel c.cleared.result c.parted-input.result.0 c.parted-output.result.0 c.cleared.ensures.value c.parted-input.ensures.kept c.parted-output.ensures.kept c.set_channel.ensures)
 
 pub returns-clause-keeps : goal.returns-clause-keeps
 returns-clause-keeps g c =
-    close_keeps c.args.job.now c.args.number c.args.bits c.in-Some.channel (sym c.channel.ensures ∙ c.in-Some.is) (core_of c.args.volume.now.map) (core_of c.drop_output.new.volume.map) c.set_channel.new.self c.parted-kept.result.1 c.parted-kept.ensures.dropped
-    (closed_back c.args.job.now c.set_channel.new.self c.args.number c.args.bits c.in-Some.channel c.cleared.result c.parted-kept.result.0 c.cleared.ensures.value c.parted-kept.ensures.kept c.set_channel.ensures) c.drop_output.ensures.dropped
+    close_keeps c.args.job.now c.args.number c.in-Some.channel (sym c.channel.ensures ∙ c.in-Some.is) c.args.bits (core_of c.args.volume.now.map) (core_of c.let_go.new.volume.map) c.set_channel.new.self c.parted-output.result.1 c.parted-input.result.1 c.parted-output.ensures.closed c.parted-input.ensures.closed
+    (closed_back c.args.job.now c.set_channel.new.self c.args.number c.args.bits c.in-Some.channel c.cleared.result c.parted-input.result.0 c.parted-output.result.0 c.cleared.ensures.value c.parted-input.ensures.kept c.parted-output.ensures.kept c.set_channel.ensures)
+    (closed_both (core_of c.args.volume.now.map) (core_of c.drop_output.new.volume.map) (core_of c.let_go.new.volume.map) _ _ c.drop_output.ensures.closed c.let_go.ensures.closed)
+
+pub returns-clause-reads : goal.returns-clause-reads
+returns-clause-reads g c =
+    close_reads c.args.job.now c.args.number c.in-Some.channel (sym c.channel.ensures ∙ c.in-Some.is) c.args.bits (core_of c.args.volume.now.map) (core_of c.let_go.new.volume.map) c.set_channel.new.self c.parted-output.result.1 c.parted-input.result.1 c.parted-output.ensures.closed c.parted-input.ensures.closed
+    (closed_back c.args.job.now c.set_channel.new.self c.args.number c.args.bits c.in-Some.channel c.cleared.result c.parted-input.result.0 c.parted-output.result.0 c.cleared.ensures.value c.parted-input.ensures.kept c.parted-output.ensures.kept c.set_channel.ensures)
+    (closed_both (core_of c.args.volume.now.map) (core_of c.drop_output.new.volume.map) (core_of c.let_go.new.volume.map) _ _ c.drop_output.ensures.closed c.let_go.ensures.closed)
+
+pub returns-clause-leaves : goal.returns-clause-leaves
+returns-clause-leaves g c =
+    leaves_on (core_of c.args.volume.now.map) (core_of c.drop_output.new.volume.map) (core_of c.let_go.new.volume.map) c.drop_output.ensures.closed.leaves c.let_go.ensures.closed.leaves

@@ -3,21 +3,20 @@ use Rattle.blockdisk.specs.Disk.{LeavesOnly}
 use Rattle.meaning.specs.Crashes.{StandsForEither}
 use Rattle.meaning.specs.Runs.{Service, Answers}
 use Rattle.monitor.specs.Calls.{call_of}
-use Rattle.monitor.specs.Runs.{event_of, WasServed}
+use Rattle.monitor.specs.Runs.{event_of, IsServedIn}
 use Rattle.monitor.specs.Serving.{pack_of, Serves}
 use Rattle.monitor.proofs.EventCrashes.{untouched_event, call_event}
-use Rattle.monitor.proofs.Unstopped.{call_answered}
+use Rattle.monitor.proofs.ServedEvents.{call_answered}
 use Rattle.monitor.proofs.events.serve_event.Goals as goal
 
 pub returns-in-Call-clause-answered : goal.returns-in-Call-clause-answered
-returns-in-Call-clause-answered g c h served old serves =
+returns-in-Call-clause-answered g c h old serves served =
     let is = c.in-Call.is in
     subst (λ event. (new : Service) × Serves (g.D.Disk.state c.call.new.self.disk) c.call.new.self.map c.call.new.self.failed c.call.new.self.jobs new × Answers (pack_of (g.D.Disk.state c.args.monitor.now.disk)) old (event_of event) c.call.result new) (sym is)
-    (call_answered g.D.Disk.state c.args.monitor.now c.call.new.self c.in-Call.job c.in-Call.call c.in-Call.moment c.call.result c.call.ensures.answered c.call.ensures.broken c.call.ensures.late c.call.ensures.failed c.call.ensures.light c.call.ensures.kept
-    c.call.ensures.unserved h (subst (λ event. WasServed event c.call.result) is served) old serves)
+    (call_answered g.D.Disk.state c.args.monitor.now c.call.new.self c.in-Call.job c.in-Call.call c.in-Call.moment c.call.result c.call.ensures.answered c.call.ensures.broken h old (subst (IsServedIn old) is served) serves)
 
 pub returns-in-Examine-clause-answered : goal.returns-in-Examine-clause-answered
-returns-in-Examine-clause-answered g c h served old serves =
+returns-in-Examine-clause-answered g c h old serves served =
     let m = c.args.monitor.now in
     subst (λ event. (new : Service) × Serves (g.D.Disk.state m.disk) m.map m.failed m.jobs new × Answers (pack_of (g.D.Disk.state m.disk)) old (event_of event) c.examine.result new) (sym c.in-Examine.is) (c.examine.ensures.answered old serves)
 

@@ -3,9 +3,9 @@ use Rattle.std.specs.Prelude.{is_some}
 use Rattle.meaning.specs.Jobs.{improper_mode}
 use Rattle.meaning.specs.declared.call.Call.TheVariants.{Open}
 use Rattle.meaning.specs.declared.call.Reply.TheVariants.{Done, Refused, Stopped}
-use Rattle.monitor.specs.Rows.{IsRow, Keeps, improper_at, opened_at}
+use Rattle.monitor.specs.Rows.{IsRow, Keeps, KeepsReading, improper_at, opened_at}
 use Rattle.monitor.proofs.Calling.{keeps_same}
-use Rattle.monitor.proofs.Opens.{answer_is, no_channel_row, refused_row, done_row, unserved_is, keeps_opened, opened_back}
+use Rattle.monitor.proofs.Opens.{answer_is, no_channel_row, refused_row, done_row, unserved_is, keeps_opened, reads_opened, opened_back}
 use Rattle.monitor.proofs.open.open.Goals as goal
 
 pub returns-then-number-ge-CHANNELS-clause-row : goal.returns-then-number-ge-CHANNELS-clause-row
@@ -66,3 +66,8 @@ returns-clause-keeps c pending =
 
 pub returns-then-number-ge-CHANNELS-clause-keeps : goal.returns-then-number-ge-CHANNELS-clause-keeps
 returns-then-number-ge-CHANNELS-clause-keeps c pending = keeps_same pending c.args.job.now
+
+pub returns-clause-reads : goal.returns-clause-reads
+returns-clause-reads c live =
+    subst (λ job. KeepsReading live live c.args.job.now job) (sym (opened_back c.args.job.now c.args.number c.args.address c.opened-channel.result c.set_channel.new.self c.opened-channel.ensures c.set_channel.ensures))
+    (reads_opened live c.args.job.now c.args.number (opened_at c.args.job.now.core c.args.address) (ap is_some (sym c.channel.ensures) ∙ sym c.is_some.ensures ∙ c.if-is_some.false) refl)

@@ -8,7 +8,7 @@ use Rattle.volume.specs.LiveCores.{core_of}
 use Rattle.monitor.specs.Putting.{moved, IsOut}
 use Rattle.monitor.specs.Rows.{Keeps}
 use Rattle.monitor.proofs.Calling.{keeps_same}
-use Rattle.monitor.proofs.Outs.{version_there, version_live, its_side, next_fits, not_refused, keeps_put}
+use Rattle.monitor.proofs.Outs.{version_there, version_live, its_side, next_fits, not_refused, keeps_put, reads_status, reads_moved}
 use Rattle.monitor.proofs.Usetos.{keeps_status}
 use Rattle.monitor.proofs.out.out.Goals as goal
 
@@ -71,6 +71,11 @@ returns-in-Ok-put_words-clause-keeps g c alive =
     keeps_put (core_of c.args.volume.now.map).pending (core_of c.put_words.new.self.map).pending c.args.job.now c.set_channel.new.self c.args.number c.in-Some.channel (sym c.channel.ensures ∙ c.in-Some.is) c.in-Some-output.output c.in-Some-output.is c.len.result
     (c.set_channel.ensures ∙ ap (λ x. record c.args.job.now { channels = slice_set c.args.job.now.channels c.args.number (Some x) }) c.moved-moved.ensures) p.0 p.1 put.0 put.1 c.put_words.ensures.others
 
+pub returns-in-Ok-put_words-clause-reads : goal.returns-in-Ok-put_words-clause-reads
+returns-in-Ok-put_words-clause-reads g c alive =
+    reads_moved (core_of c.args.volume.now.map).live (core_of c.put_words.new.self.map).live c.args.job.now c.put_words.ensures.live c.args.number c.in-Some.channel (sym c.channel.ensures ∙ c.in-Some.is) c.in-Some-output.output c.in-Some-output.is c.len.result c.set_channel.new.self
+    (c.set_channel.ensures ∙ ap (λ x. record c.args.job.now { channels = slice_set c.args.job.now.channels c.args.number (Some x) }) c.moved-moved.ensures)
+
 pub returns-in-Err-Refused-clause-outcome : goal.returns-in-Err-Refused-clause-outcome
 returns-in-Err-Refused-clause-outcome g c =
     subst (IsOut (g.D.Disk.state c.args.volume.now.disk) (g.D.Disk.state c.put_words.new.self.disk) (core_of c.args.volume.now.map) (core_of c.put_words.new.self.map)
@@ -94,6 +99,10 @@ returns-in-Err-Refused-clause-keeps g c alive =
     let same = c.put_words.ensures.refused c.in-Err-Refused.field-0-0 (c.in-Err-Refused.is ∙ ap Err c.in-Err-Refused.field-0-is) in
     subst (λ (core : VolumeCore). Keeps (core_of c.args.volume.now.map).pending core.pending c.args.job.now c.stop.new.job) (sym same.1)
     (keeps_status c.args.job.now c.args.number 0 c.in-Some.channel (sym c.channel.ensures ∙ c.in-Some.is) (core_of c.args.volume.now.map).pending c.stop.new.job _ c.stop.ensures.kept)
+
+pub returns-in-Err-Refused-clause-reads : goal.returns-in-Err-Refused-clause-reads
+returns-in-Err-Refused-clause-reads g c alive =
+    reads_status (core_of c.args.volume.now.map).live (core_of c.put_words.new.self.map).live c.args.job.now c.put_words.ensures.live c.args.number c.in-Some.channel (sym c.channel.ensures ∙ c.in-Some.is) _ c.stop.new.job c.stop.ensures.kept
 
 pub returns-in-Err-NoMemory-put_words-clause-keeps : goal.returns-in-Err-NoMemory-put_words-clause-keeps
 returns-in-Err-NoMemory-put_words-clause-keeps g c alive =

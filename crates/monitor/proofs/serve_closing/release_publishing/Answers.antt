@@ -1,13 +1,14 @@
 use Rattle.std.proofs.Common.{Some, sym, refl, ap, subst, ◌∙◌}
 use Rattle.std.specs.List.{AllByRecursion}
 use Rattle.meaning.specs.declared.call.Call.TheVariants.{Releas}
+use Rattle.meaning.proofs.MapLaws.{some_none}
 use Rattle.volume.specs.LiveCores.{core_of}
 use Rattle.monitor.specs.Serving.{IsSide}
-use Rattle.monitor.specs.Sides.{side_of, sides_in}
+use Rattle.monitor.specs.Sides.{side_of, sides_in, reader_of}
 use Rattle.monitor.proofs.Closings.{closes_here, row_answered, row_crashes, row_stands, publishing_failed, publishing_blamed, publishing_counted, publishing_served, publishing_idle}
 use Rattle.monitor.proofs.Dropped.{job_live}
 use Rattle.monitor.proofs.Outs.{version_live, its_side}
-use Rattle.monitor.proofs.Serving.{nobody}
+use Rattle.monitor.proofs.Publications.{writes_alone}
 use Rattle.monitor.proofs.SideLists.{each-slot}
 use Rattle.monitor.proofs.Called.{still_serves}
 use Rattle.monitor.proofs.Slots.{put_back, unchanged}
@@ -15,9 +16,7 @@ use Rattle.monitor.proofs.Untouched.{untouched_crashes}
 use Rattle.monitor.proofs.serve_closing.release_publishing.Goals as goal
 
 pub returns-in_default-clause-answered : goal.returns-in_default-clause-answered
-returns-in_default-clause-answered g c h =
-    nobody (g.D.Disk.state c.args.volume.now.disk) (core_of c.args.volume.now.map) c.args.volume.now.failed c.args.jobs.now c.args.number (Releas c.args.channel) c.args.moment c.requires.alive c.requires.timely c.take.new.self c.requires.keyed
-    (c.take.ensures.none c.in_default.is).0 (c.take.ensures.none c.in_default.is).1
+returns-in_default-clause-answered g c h = absurd (some_none (sym c.requires.closes.1 ∙ (c.take.ensures.none c.in_default.is).0))
 
 pub returns-in_default-clause-crash : goal.returns-in_default-clause-crash
 returns-in_default-clause-crash g c = untouched_crashes g.D.Disk.state g.met.D.Disk.only_now c.args.volume.now.disk c.args.volume.now.disk refl (core_of c.args.volume.now.map) c.args.jobs.now c.args.number (Releas c.args.channel) c.args.moment
@@ -26,6 +25,11 @@ pub release_output-reply-requires-clause-there : goal.release_output-reply-requi
 release_output-reply-requires-clause-there g c =
     let here = (closes_here c.args.jobs.now c.args.number c.in-Some.job c.args.channel 0 c.args.closed.0 c.args.closed.1 c.in-Some.ensures.found.0 c.requires.closes) in
     ap side_of here.there ∙ here.side
+
+pub release_output-reply-requires-clause-single : goal.release_output-reply-requires-clause-single
+release_output-reply-requires-clause-single g c =
+    let here = (closes_here c.args.jobs.now c.args.number c.in-Some.job c.args.channel 0 c.args.closed.0 c.args.closed.1 c.in-Some.ensures.found.0 c.requires.closes) in
+    ap reader_of here.there ∙ writes_alone c.args.closed.0 c.args.closed.1 ((c.requires.reading.each c.args.number c.in-Some.job c.in-Some.ensures.found.0).each c.args.channel c.args.closed.0 here.there) here.side
 
 pub release_output-reply-requires-clause-live : goal.release_output-reply-requires-clause-live
 release_output-reply-requires-clause-live g c =
@@ -43,11 +47,15 @@ release_output-reply-requires-clause-placed g c p at = c.requires.placed.each c.
 
 pub returns-clause-keyed : goal.returns-clause-keyed
 returns-clause-keyed g c alive =
-    (row_stands (g.D.Disk.state c.args.volume.now.disk) (g.D.Disk.state c.release_output-reply.new.volume.disk) (core_of c.args.volume.now.map) (core_of c.release_output-reply.new.volume.map) c.args.jobs.now c.put.new.self c.args.number c.in-Some.job c.release_output-reply.new.job c.args.moment c.in-Some.ensures.found.0 (put_back c.args.jobs.now c.take.new.self c.put.new.self c.args.number (Some c.release_output-reply.new.job) c.in-Some.ensures.found.1 c.put.ensures) c.requires.timely c.release_output-reply.new.volume.failed c.release_output-reply.ensures.stands c.requires.keyed c.requires.placed alive).0
+    (row_stands (g.D.Disk.state c.args.volume.now.disk) (g.D.Disk.state c.release_output-reply.new.volume.disk) (core_of c.args.volume.now.map) (core_of c.release_output-reply.new.volume.map) c.args.jobs.now c.put.new.self c.args.number c.in-Some.job c.release_output-reply.new.job c.args.moment c.in-Some.ensures.found.0 (put_back c.args.jobs.now c.take.new.self c.put.new.self c.args.number (Some c.release_output-reply.new.job) c.in-Some.ensures.found.1 c.put.ensures) c.requires.timely c.release_output-reply.new.volume.failed c.release_output-reply.ensures.stands c.requires.keyed c.requires.placed c.requires.reading alive).0
 
 pub returns-clause-placed : goal.returns-clause-placed
 returns-clause-placed g c alive =
-    (row_stands (g.D.Disk.state c.args.volume.now.disk) (g.D.Disk.state c.release_output-reply.new.volume.disk) (core_of c.args.volume.now.map) (core_of c.release_output-reply.new.volume.map) c.args.jobs.now c.put.new.self c.args.number c.in-Some.job c.release_output-reply.new.job c.args.moment c.in-Some.ensures.found.0 (put_back c.args.jobs.now c.take.new.self c.put.new.self c.args.number (Some c.release_output-reply.new.job) c.in-Some.ensures.found.1 c.put.ensures) c.requires.timely c.release_output-reply.new.volume.failed c.release_output-reply.ensures.stands c.requires.keyed c.requires.placed alive).1
+    (row_stands (g.D.Disk.state c.args.volume.now.disk) (g.D.Disk.state c.release_output-reply.new.volume.disk) (core_of c.args.volume.now.map) (core_of c.release_output-reply.new.volume.map) c.args.jobs.now c.put.new.self c.args.number c.in-Some.job c.release_output-reply.new.job c.args.moment c.in-Some.ensures.found.0 (put_back c.args.jobs.now c.take.new.self c.put.new.self c.args.number (Some c.release_output-reply.new.job) c.in-Some.ensures.found.1 c.put.ensures) c.requires.timely c.release_output-reply.new.volume.failed c.release_output-reply.ensures.stands c.requires.keyed c.requires.placed c.requires.reading alive).1
+
+pub returns-clause-reading : goal.returns-clause-reading
+returns-clause-reading g c alive =
+    (row_stands (g.D.Disk.state c.args.volume.now.disk) (g.D.Disk.state c.release_output-reply.new.volume.disk) (core_of c.args.volume.now.map) (core_of c.release_output-reply.new.volume.map) c.args.jobs.now c.put.new.self c.args.number c.in-Some.job c.release_output-reply.new.job c.args.moment c.in-Some.ensures.found.0 (put_back c.args.jobs.now c.take.new.self c.put.new.self c.args.number (Some c.release_output-reply.new.job) c.in-Some.ensures.found.1 c.put.ensures) c.requires.timely c.release_output-reply.new.volume.failed c.release_output-reply.ensures.stands c.requires.keyed c.requires.placed c.requires.reading alive).2
 
 pub returns-clause-answered : goal.returns-clause-answered
 returns-clause-answered g c h =

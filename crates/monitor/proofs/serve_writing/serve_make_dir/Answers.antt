@@ -3,16 +3,16 @@ use Rattle.meaning.specs.declared.call.Call.TheVariants.{MakeDir}
 use Rattle.volume.specs.LiveCores.{core_of}
 use Rattle.volume.specs.Rest.{IsSound}
 use Rattle.monitor.specs.DirectoryRows.{IsMakeDir}
-use Rattle.monitor.proofs.MakeDirAnswers.{idle_crashes, never_failed, fails_by, idle_same, made_keyed, crashes_by, make_dir_answered}
+use Rattle.monitor.proofs.MakeDirAnswers.{idle_crashes, never_failed, fails_by, idle_same, made_keyed, made_reading, crashes_by, make_dir_answered}
 use Rattle.monitor.proofs.Placing.{placed_made}
 use Rattle.monitor.proofs.Serving.{nobody}
 use Rattle.monitor.proofs.Called.{still_serves}
-use Rattle.monitor.proofs.Slots.{put_back, unchanged}
+use Rattle.monitor.proofs.Slots.{put_back, others_back, unchanged}
 use Rattle.monitor.proofs.serve_writing.serve_make_dir.Goals as goal
 
 pub returns-in_default-clause-answered : goal.returns-in_default-clause-answered
 returns-in_default-clause-answered g c h =
-    nobody (g.D.Disk.state c.args.volume.now.disk) (core_of c.args.volume.now.map) c.args.volume.now.failed c.args.jobs.now c.args.number (MakeDir c.args.address) c.args.moment c.requires.alive c.requires.timely c.take.new.self c.requires.keyed
+    nobody (g.D.Disk.state c.args.volume.now.disk) (core_of c.args.volume.now.map) c.args.volume.now.failed c.args.jobs.now c.args.number (MakeDir c.args.address) c.args.moment c.requires.alive c.requires.timely c.take.new.self c.requires.keyed c.requires.reading
     (c.take.ensures.none c.in_default.is).0 (c.take.ensures.none c.in_default.is).1
 
 pub returns-in_default-clause-crash : goal.returns-in_default-clause-crash
@@ -25,6 +25,12 @@ returns-clause-keyed g c alive =
     c.in-Some.ensures.found.0 (put_back c.args.jobs.now c.take.new.self c.put.new.self c.args.number (Some c.make_dir-reply.new.job) c.in-Some.ensures.found.1 c.put.ensures) c.requires.timely
     (subst (IsSound (g.D.Disk.state c.args.volume.now.disk) (core_of c.args.volume.now.map)) c.requires.alive c.requires.sound) c.requires.keyed c.make_dir-reply.ensures.keeps
 
+pub returns-clause-reading : goal.returns-clause-reading
+returns-clause-reading g c alive =
+    made_reading g.D.Disk.state c.args.volume.now.disk c.make_dir-reply.new.volume.disk (core_of c.args.volume.now.map) (core_of c.make_dir-reply.new.volume.map) c.args.jobs.now c.put.new.self c.args.number c.in-Some.job c.make_dir-reply.new.job c.args.address c.args.moment
+    c.in-Some.ensures.found.0 (put_back c.args.jobs.now c.take.new.self c.put.new.self c.args.number (Some c.make_dir-reply.new.job) c.in-Some.ensures.found.1 c.put.ensures) c.requires.timely
+    (subst (IsSound (g.D.Disk.state c.args.volume.now.disk) (core_of c.args.volume.now.map)) c.requires.alive c.requires.sound) c.requires.reading c.make_dir-reply.ensures.reads
+
 pub returns-clause-placed : goal.returns-clause-placed
 returns-clause-placed g c alive = placed_made (core_of c.args.volume.now.map) (core_of c.make_dir-reply.new.volume.map) c.make_dir-reply.ensures.pending c.make_dir-reply.ensures.directories c.requires.placed
 
@@ -36,7 +42,9 @@ returns-clause-answered g c h =
     c.in-Some.ensures.found.0 set c.requires.timely sound c.args.volume.now.failed c.make_dir-reply.new.volume.failed c.requires.alive
     (made_keyed g.D.Disk.state c.args.volume.now.disk c.make_dir-reply.new.volume.disk (core_of c.args.volume.now.map) (core_of c.make_dir-reply.new.volume.map) c.args.jobs.now c.put.new.self c.args.number c.in-Some.job c.make_dir-reply.new.job c.args.address c.args.moment
     c.in-Some.ensures.found.0 set c.requires.timely sound c.requires.keyed c.make_dir-reply.ensures.keeps)
-    h c.make_dir-reply.ensures.live c.make_dir-reply.ensures.pending (c.make_dir-reply.ensures.writers h) c.make_dir-reply.result c.make_dir-reply.ensures.outcome c.make_dir-reply.ensures.failed (c.make_dir-reply.ensures.done h)
+    (made_reading g.D.Disk.state c.args.volume.now.disk c.make_dir-reply.new.volume.disk (core_of c.args.volume.now.map) (core_of c.make_dir-reply.new.volume.map) c.args.jobs.now c.put.new.self c.args.number c.in-Some.job c.make_dir-reply.new.job c.args.address c.args.moment
+    c.in-Some.ensures.found.0 set c.requires.timely sound c.requires.reading c.make_dir-reply.ensures.reads)
+    h c.make_dir-reply.ensures.live c.make_dir-reply.ensures.pending c.make_dir-reply.ensures.primes (c.make_dir-reply.ensures.readers h) (c.make_dir-reply.ensures.writers h) c.make_dir-reply.result c.make_dir-reply.ensures.outcome c.make_dir-reply.ensures.failed (c.make_dir-reply.ensures.done h)
 
 pub returns-clause-crash : goal.returns-clause-crash
 returns-clause-crash g c =
@@ -64,3 +72,6 @@ pub returns-clause-memory : goal.returns-clause-memory
 returns-clause-memory g c none =
     let is = subst (IsMakeDir (g.D.Disk.state c.args.volume.now.disk).size (core_of c.args.volume.now.map) ((c.make_dir-reply.new.volume.disk ≡ c.args.volume.now.disk) × (core_of c.make_dir-reply.new.volume.map ≡ core_of c.args.volume.now.map)) c.in-Some.job c.make_dir-reply.new.job c.args.address) none c.make_dir-reply.ensures.outcome in
     (is.1.0, is.1.1, still_serves c.args.volume.now.failed c.make_dir-reply.new.volume.failed c.make_dir-reply.result c.requires.alive (returns-clause-failed g c) none, unchanged c.args.jobs.now c.put.new.self c.args.number c.in-Some.job c.make_dir-reply.new.job c.in-Some.ensures.found.0 (put_back c.args.jobs.now c.take.new.self c.put.new.self c.args.number (Some c.make_dir-reply.new.job) c.in-Some.ensures.found.1 c.put.ensures) is.0)
+
+pub returns-clause-others : goal.returns-clause-others
+returns-clause-others g c = others_back c.args.jobs.now c.take.new.self c.put.new.self c.args.number (Some c.make_dir-reply.new.job) c.in-Some.ensures.found.1 c.put.ensures

@@ -7,7 +7,7 @@ use Rattle.monitor.specs.Putting.{IsOut}
 use Rattle.monitor.specs.Serving.{IsSide}
 use Rattle.monitor.specs.Sides.{sides_in}
 use Rattle.monitor.proofs.Dropped.{job_live}
-use Rattle.monitor.proofs.OutAnswers.{out_keyed, out_answered}
+use Rattle.monitor.proofs.OutAnswers.{out_keyed, out_reading, out_answered}
 use Rattle.monitor.proofs.OutPlaced.{out_placed, out_blamed, out_idle}
 use Rattle.monitor.proofs.Serving.{nobody}
 use Rattle.monitor.proofs.SideLists.{each-slot}
@@ -18,7 +18,7 @@ use Rattle.monitor.proofs.serve_writing.serve_out.Goals as goal
 
 pub returns-in_default-clause-answered : goal.returns-in_default-clause-answered
 returns-in_default-clause-answered g c h =
-    nobody (g.D.Disk.state c.args.volume.now.disk) (core_of c.args.volume.now.map) c.args.volume.now.failed c.args.jobs.now c.args.number (Out c.args.channel c.args.address) c.args.moment c.requires.alive c.requires.timely c.take.new.self c.requires.keyed
+    nobody (g.D.Disk.state c.args.volume.now.disk) (core_of c.args.volume.now.map) c.args.volume.now.failed c.args.jobs.now c.args.number (Out c.args.channel c.args.address) c.args.moment c.requires.alive c.requires.timely c.take.new.self c.requires.keyed c.requires.reading
     (c.take.ensures.none c.in_default.is).0 (c.take.ensures.none c.in_default.is).1
 
 pub out-reply-requires-clause-live : goal.out-reply-requires-clause-live
@@ -32,15 +32,21 @@ out-reply-requires-clause-sides g c =
 pub returns-clause-keyed : goal.returns-clause-keyed
 returns-clause-keyed g c =
     out_keyed g.D.Disk.state c.args.volume.now.disk c.out-reply.new.volume.disk (core_of c.args.volume.now.map) (core_of c.out-reply.new.volume.map) c.args.volume.now.failed c.out-reply.new.volume.failed c.args.jobs.now c.put.new.self c.args.number c.in-Some.job c.out-reply.new.job c.args.channel c.args.address c.args.moment
-    c.in-Some.ensures.found.0 (put_back c.args.jobs.now c.take.new.self c.put.new.self c.args.number (Some c.out-reply.new.job) c.in-Some.ensures.found.1 c.put.ensures) c.requires.alive c.requires.timely c.requires.keyed c.out-reply.ensures.keeps
+    c.in-Some.ensures.found.0 (put_back c.args.jobs.now c.take.new.self c.put.new.self c.args.number (Some c.out-reply.new.job) c.in-Some.ensures.found.1 c.put.ensures) c.requires.alive c.requires.timely c.requires.keyed c.requires.reading c.out-reply.ensures.keeps c.out-reply.ensures.reads
+    (subst (IsSound (g.D.Disk.state c.args.volume.now.disk) (core_of c.args.volume.now.map)) c.requires.alive c.requires.sound)
+
+pub returns-clause-reading : goal.returns-clause-reading
+returns-clause-reading g c =
+    out_reading g.D.Disk.state c.args.volume.now.disk c.out-reply.new.volume.disk (core_of c.args.volume.now.map) (core_of c.out-reply.new.volume.map) c.args.volume.now.failed c.out-reply.new.volume.failed c.args.jobs.now c.put.new.self c.args.number c.in-Some.job c.out-reply.new.job c.args.channel c.args.address c.args.moment
+    c.in-Some.ensures.found.0 (put_back c.args.jobs.now c.take.new.self c.put.new.self c.args.number (Some c.out-reply.new.job) c.in-Some.ensures.found.1 c.put.ensures) c.requires.alive c.requires.timely c.requires.keyed c.requires.reading c.out-reply.ensures.keeps c.out-reply.ensures.reads
     (subst (IsSound (g.D.Disk.state c.args.volume.now.disk) (core_of c.args.volume.now.map)) c.requires.alive c.requires.sound)
 
 pub returns-clause-answered : goal.returns-clause-answered
 returns-clause-answered g c h =
     out_answered g.D.Disk.state c.args.volume.now.disk c.out-reply.new.volume.disk (core_of c.args.volume.now.map) (core_of c.out-reply.new.volume.map) c.args.volume.now.failed c.out-reply.new.volume.failed c.args.jobs.now c.put.new.self c.args.number c.in-Some.job c.out-reply.new.job c.args.channel c.args.address c.args.moment
-    c.in-Some.ensures.found.0 (put_back c.args.jobs.now c.take.new.self c.put.new.self c.args.number (Some c.out-reply.new.job) c.in-Some.ensures.found.1 c.put.ensures) c.requires.alive c.requires.timely c.requires.keyed c.out-reply.ensures.keeps
+    c.in-Some.ensures.found.0 (put_back c.args.jobs.now c.take.new.self c.put.new.self c.args.number (Some c.out-reply.new.job) c.in-Some.ensures.found.1 c.put.ensures) c.requires.alive c.requires.timely c.requires.keyed c.requires.reading c.out-reply.ensures.keeps c.out-reply.ensures.reads
     (subst (IsSound (g.D.Disk.state c.args.volume.now.disk) (core_of c.args.volume.now.map)) c.requires.alive c.requires.sound)
-    h (c.out-reply.ensures.rests h) c.out-reply.ensures.others c.out-reply.ensures.live (c.out-reply.ensures.writers h) c.out-reply.result c.out-reply.ensures.outcome c.out-reply.ensures.failed
+    h (c.out-reply.ensures.rests h) c.out-reply.ensures.others c.out-reply.ensures.live c.out-reply.ensures.known (c.out-reply.ensures.readers h) (c.out-reply.ensures.writers h) c.out-reply.result c.out-reply.ensures.outcome c.out-reply.ensures.failed
 
 pub returns-in_default-clause-crash : goal.returns-in_default-clause-crash
 returns-in_default-clause-crash g c =

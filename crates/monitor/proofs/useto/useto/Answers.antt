@@ -3,7 +3,7 @@ use Rattle.meaning.specs.declared.call.Call.TheVariants.{Useto}
 use Rattle.meaning.specs.declared.call.Reply.TheVariants.{Refused}
 use Rattle.monitor.specs.Rows.{IsRow}
 use Rattle.monitor.proofs.Calling.{keeps_same}
-use Rattle.monitor.proofs.Usetos.{useto_none, useto_refused, useto_stopped, useto_moved, keeps_status, keeps_moved}
+use Rattle.monitor.proofs.Usetos.{useto_none, useto_refused, useto_stopped, useto_moved, keeps_status, keeps_moved, reads_status, reads_moved}
 use Rattle.monitor.proofs.useto.useto.Goals as goal
 
 pub returns-in_default-clause-row : goal.returns-in_default-clause-row
@@ -37,3 +37,11 @@ returns-clause-row c =
 pub returns-clause-keeps : goal.returns-clause-keeps
 returns-clause-keeps c pending =
     keeps_moved c.args.job.now c.args.number c.args.block c.in-Some.channel (sym c.channel.ensures ∙ c.in-Some.is) pending c.set_channel.new.self _ c.in-Some-output.output c.in-Some-output.is (omega arith) c.set_channel.ensures
+
+pub returns-then-block-eq0-clause-reads : goal.returns-then-block-eq0-clause-reads
+returns-then-block-eq0-clause-reads c live =
+    reads_status c.args.job.now c.args.number c.args.block c.in-Some.channel (sym c.channel.ensures ∙ c.in-Some.is) live c.stop.new.job _ c.stop.ensures.kept
+
+pub returns-clause-reads : goal.returns-clause-reads
+returns-clause-reads c live =
+    reads_moved c.args.job.now c.args.number c.args.block c.in-Some.channel (sym c.channel.ensures ∙ c.in-Some.is) live c.set_channel.new.self _ c.in-Some-output.output c.in-Some-output.is c.set_channel.ensures

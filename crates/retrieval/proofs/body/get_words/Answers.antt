@@ -41,6 +41,7 @@ loop-i-preserved g c =
       served = c.in_ok-data.ensures.served (λ is. cc) ∙ c.loop-i.invariant.served;
       keeps = λ h. keeps_on s now new (c.loop-i.invariant.keeps h) (c.read_data.ensures.keeps (c.loop-i.invariant.same.honest h));
       long = search (rules, length-append, length-take);
+      untouched = λ none. absurd (let b = c.loop-i-test.true in omega (arith, none));
       room = search rules;
       read = λ h body is whole has.
           let read = read_more s.contents c.args.version.now.blocks body whole has (block_start c.args.block) at items data' here few from below
@@ -52,3 +53,7 @@ loop-i-preserved g c =
 pub returns-clause-words : goal.returns-clause-words
 returns-clause-words g c h body is has =
     read_all body c.loop-i.words.items (block_start c.args.block) c.args.count (let a = c.loop-i.invariant.long in let b = c.loop-i-test.false in let e = c.words_there-wanted.ensures in omega arith) (c.loop-i.invariant.read h body is (whole_from (g.D.Disk.state c.args.disk.now).contents c.args.version.now.blocks body has) has)
+
+pub returns-clause-none : goal.returns-clause-none
+returns-clause-none g c none =
+    c.loop-i.invariant.untouched (let a = c.loop-i.invariant.long in let b = c.loop-i-test.false in omega (arith, none))

@@ -1,15 +1,20 @@
-use Rattle.std.proofs.Common.{◌≡◌, ◌≤◌, ℕ, true, false, Some, refl, subst, ◌∙◌}
-use Rattle.meaning.specs.Jobs.{slot}
+use Rattle.std.proofs.Common.{◌≡◌, ◌≤◌, ℕ, true, false, Some, refl, subst, ◌∙◌, sym}
+use Rattle.std.specs.Prelude.{slice_set}
+use Rattle.meaning.specs.Jobs as machine
+use Rattle.meaning.specs.Jobs.{State, slot, job_at}
+use Rattle.meaning.specs.Runs.{Service, Serving}
 use Rattle.meaning.specs.Opening.{mode_at}
 use Rattle.meaning.specs.Rings.{is_buffered}
-use Rattle.monitor.specs.Rows.{open_unserved}
-use Rattle.monitor.specs.Sides.{Writing, job_of}
-use Rattle.monitor.specs.declared.call.Call.TheVariants.{Open}
+use Rattle.monitor.specs.Rows.{open_unserved, enter_unserved, enter_refused, IsReading}
+use Rattle.monitor.specs.Sides.{UnderKeys, job_of}
+use Rattle.monitor.specs.declared.call.Call.TheVariants.{Open, Enter, In}
 use Rattle.monitor.specs.declared.job.Job.{Job}
-use Rattle.meaning.specs.declared.call.Reply.TheVariants.{DateRange}
+use Rattle.meaning.specs.declared.call.Reply.TheVariants.{NoMemory, Device, DateRange}
 use Rattle.volume.specs.LiveCores.{core_of}
-use Rattle.monitor.specs.Calls.{call_of}
+use Rattle.monitor.specs.Calls.{IsServed, call_of}
 use Rattle.monitor.specs.Events.{CallCrashes}
+use Rattle.monitor.specs.Serving.{pack_of, Serves}
+use Rattle.monitor.proofs.Apart.{IsApart, IsStill, in_still, apart}
 use Rattle.monitor.proofs.Untouched.{untouched_crashes}
 use Rattle.monitor.proofs.Called.{IsCalled, called_late}
 use Rattle.monitor.proofs.monitor.Monitor.call.Goals as goal
@@ -17,7 +22,7 @@ use Rattle.monitor.proofs.monitor.Monitor.call.Goals as goal
 pub returns-then-moment-gt-LAST_DATE-clause-answered : goal.returns-then-moment-gt-LAST_DATE-clause-answered
 returns-then-moment-gt-LAST_DATE-clause-answered g c =
     subst (λ m. (g.D.Disk.state m.disk).honest → IsCalled (g.D.Disk.state m.disk) m.map m.failed m.jobs (g.D.Disk.state m.disk) m.map m.failed m.jobs c.args.job c.args.moment DateRange c.args.call.now) c.self.view_is
-    (λ h. called_late (g.D.Disk.state c.self.inside.volume.disk) (core_of c.self.inside.volume.map) c.self.inside.volume.failed c.self.inside.jobs c.args.job c.args.call.now c.args.moment c.if-self.false c.if-moment-gt-LAST_DATE.true (c.self.invariant.1 c.if-self.false).0)
+    (λ h. called_late (g.D.Disk.state c.self.inside.volume.disk) (core_of c.self.inside.volume.map) c.self.inside.volume.failed c.self.inside.jobs c.args.job c.args.call.now c.args.moment c.if-self.false c.if-moment-gt-LAST_DATE.true (c.self.invariant.1 c.if-self.false).0 (c.self.invariant.1 c.if-self.false).2)
 
 pub returns-clause-answered : goal.returns-clause-answered
 returns-clause-answered g c =
@@ -28,7 +33,7 @@ returns-clause-answered g c =
 pub returns-clause-unserved : goal.returns-clause-unserved
 returns-clause-unserved g c =
     subst (λ m. m.failed ≡ false → c.args.moment.date ≤ 4095 → (channel address : ℕ) → c.args.call.now ≡ Open channel address → (there : Job) → slot m.jobs c.args.job ≡ Some there → is_buffered (mode_at there.core address) ≡ true
-    → (c.serve.new.jobs ≡ m.jobs) × ((written : ℕ → Writing) → c.serve.result ≡ open_unserved (job_of written there) channel address)) c.self.view_is
+    → (c.serve.new.jobs ≡ m.jobs) × ((under : UnderKeys) → c.serve.result ≡ open_unserved (job_of under there) channel address)) c.self.view_is
     (λ serves timely channel address asked there at buffered. c.serve.ensures.unserved channel address asked there at buffered)
 
 pub returns-then-self-clause-crash : goal.returns-then-self-clause-crash
@@ -48,3 +53,39 @@ returns-clause-memory g c none =
     ≡ record { disk = c.self.inside.volume.disk; map = core_of c.self.inside.volume.map; failed = c.self.inside.volume.failed; jobs = c.self.inside.jobs }
     = λ i. record { disk = same.0 i; map = same.1 i; failed = same.2 i; jobs = same.3 i } in
     now ∙ c.self.view_is
+
+pub returns-clause-unread : goal.returns-clause-unread
+returns-clause-unread g c =
+    subst (λ m. m.failed ≡ false → c.args.moment.date ≤ 4095 → (channel address : ℕ) → c.args.call.now ≡ Enter channel address → (there : Job) → slot m.jobs c.args.job ≡ Some there → IsReading (slot there.channels channel)
+    → (core_of c.serve.new.volume.map ≡ m.map) × (c.serve.result ≡ enter_unserved there address) × (c.serve.new.jobs ≡ slice_set m.jobs c.args.job (Some (enter_refused there address)))) c.self.view_is
+    (λ serves timely channel address asked there at reading. c.serve.ensures.unread channel address asked there at reading)
+
+pub returns-clause-still : goal.returns-clause-still
+returns-clause-still g c =
+    let after = λ (new : Service). Serves (g.D.Disk.state c.serve.new.volume.disk) (core_of c.serve.new.volume.map) c.serve.new.volume.failed c.serve.new.jobs new in
+    subst (λ m. (g.D.Disk.state m.disk).honest → (channel address : ℕ) → c.args.call.now ≡ In channel address → c.args.moment.date ≤ 4095 → (s : State) → Serves (g.D.Disk.state m.disk) m.map m.failed m.jobs (Serving s)
+    → (own : machine.Job) → job_at s c.args.job ≡ Some own → (c.serve.result ≡ NoMemory → ⊥) → (c.serve.result ≡ Device → ⊥) → IsStill after (pack_of (g.D.Disk.state m.disk)) s c.args.job c.args.moment c.serve.result own channel address) c.self.view_is
+    (λ h channel address asked timely s serves own there room works.
+    let d = g.D.Disk.state c.self.inside.volume.disk in
+    let led = c.serve.ensures.answered h (subst (λ call. IsServed call (slot c.self.inside.jobs c.args.job)) (sym asked) tt) (Serving s) serves in
+    in_still after (pack_of d) s c.args.job c.args.moment c.serve.result own channel address c.args.call.now asked there timely room works led.0 led.1 led.2)
+
+pub returns-clause-apart : goal.returns-clause-apart
+returns-clause-apart g c =
+    let after = λ (new : Service). Serves (g.D.Disk.state c.serve.new.volume.disk) (core_of c.serve.new.volume.map) c.serve.new.volume.failed c.serve.new.jobs new in
+    subst (λ m. (g.D.Disk.state m.disk).honest → IsServed c.args.call.now (slot m.jobs c.args.job) → (s : State) → Serves (g.D.Disk.state m.disk) m.map m.failed m.jobs (Serving s)
+    → IsApart after (pack_of (g.D.Disk.state m.disk)) s c.args.job c.args.moment c.serve.result (call_of c.args.call.now)) c.self.view_is
+    (λ h served s serves.
+    let led = c.serve.ensures.answered h served (Serving s) serves in
+    apart after (pack_of (g.D.Disk.state c.self.inside.volume.disk)) s c.args.job c.args.moment c.serve.result (call_of c.args.call.now) led.0 led.1 led.2)
+
+pub returns-then-moment-gt-LAST_DATE-clause-apart : goal.returns-then-moment-gt-LAST_DATE-clause-apart
+returns-then-moment-gt-LAST_DATE-clause-apart g c =
+    subst (λ m. (g.D.Disk.state m.disk).honest → IsServed c.args.call.now (slot m.jobs c.args.job) → (s : State) → Serves (g.D.Disk.state m.disk) m.map m.failed m.jobs (Serving s)
+    → IsApart (Serves (g.D.Disk.state m.disk) m.map m.failed m.jobs) (pack_of (g.D.Disk.state m.disk)) s c.args.job c.args.moment DateRange (call_of c.args.call.now)) c.self.view_is
+    (λ h served s serves.
+    let m = c.self.inside in
+    let d = g.D.Disk.state m.volume.disk in
+    let led = called_late d (core_of m.volume.map) m.volume.failed m.jobs c.args.job c.args.call.now c.args.moment c.if-self.false c.if-moment-gt-LAST_DATE.true
+    (c.self.invariant.1 c.if-self.false).0 (c.self.invariant.1 c.if-self.false).2 served (Serving s) serves in
+    apart (Serves d (core_of m.volume.map) m.volume.failed m.jobs) (pack_of d) s c.args.job c.args.moment DateRange (call_of c.args.call.now) led.0 led.1 led.2)

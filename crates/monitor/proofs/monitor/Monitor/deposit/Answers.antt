@@ -3,7 +3,7 @@ use Rattle.meaning.specs.Runs.{Service, Answers}
 use Rattle.meaning.specs.declared.call.Event.TheVariants.{Deposit}
 use Rattle.volume.specs.LiveCores.{core_of}
 use Rattle.monitor.specs.Serving.{pack_of, Serves}
-use Rattle.monitor.proofs.CoreWords.{deposit_keyed, deposit_answered}
+use Rattle.monitor.proofs.CoreWords.{deposit_keyed, deposit_reading, deposit_answered}
 use Rattle.monitor.proofs.monitor.Monitor.deposit.Goals as goal
 
 pub invariant_of-self : goal.invariant_of-self
@@ -12,6 +12,7 @@ invariant_of-self g c = (
   λ serves. (
     deposit_keyed (core_of c.self.inside.volume.map).pending c.self.inside.jobs c.deposit.new.jobs c.args.job c.args.address c.args.word c.deposit.result (c.self.invariant.1 c.if-self.false).0 c.deposit.ensures.done c.deposit.ensures.refused,
     (c.self.invariant.1 c.if-self.false).1,
+    deposit_reading (core_of c.self.inside.volume.map).live c.self.inside.jobs c.deposit.new.jobs c.args.job c.args.address c.args.word c.deposit.result (c.self.invariant.1 c.if-self.false).2 c.deposit.ensures.done c.deposit.ensures.refused,
   ),
 )
 
@@ -21,5 +22,5 @@ returns-clause-answered g c =
     let map = core_of c.self.inside.volume.map in
     subst (λ m. (old : Service) → Serves (g.D.Disk.state m.disk) m.map m.failed m.jobs old
     → (new : Service) × Serves d map c.self.inside.volume.failed c.deposit.new.jobs new × Answers (pack_of (g.D.Disk.state m.disk)) old (Deposit c.args.job c.args.address c.args.word) c.deposit.result new) c.self.view_is
-    (deposit_answered d map c.self.inside.volume.failed c.self.inside.jobs c.deposit.new.jobs c.args.job c.args.address c.args.word c.deposit.result c.if-self.false (c.self.invariant.1 c.if-self.false).0
+    (deposit_answered d map c.self.inside.volume.failed c.self.inside.jobs c.deposit.new.jobs c.args.job c.args.address c.args.word c.deposit.result c.if-self.false (c.self.invariant.1 c.if-self.false).0 (c.self.invariant.1 c.if-self.false).2
     c.deposit.ensures.answered c.deposit.ensures.done c.deposit.ensures.refused)

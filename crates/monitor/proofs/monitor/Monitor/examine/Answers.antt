@@ -12,4 +12,4 @@ returns-clause-answered g c =
     let map = core_of c.self.inside.volume.map in
     subst (λ m. (old : Service) → Serves (g.D.Disk.state m.disk) m.map m.failed m.jobs old
     → (new : Service) × Serves (g.D.Disk.state m.disk) m.map m.failed m.jobs new × Answers (pack_of (g.D.Disk.state m.disk)) old (Examine c.args.job c.args.address) c.examine.result new) c.self.view_is
-    (examine_answered d map c.self.inside.volume.failed c.self.inside.jobs c.self.inside.jobs c.args.job c.args.address 0 c.examine.result c.if-self.false (c.self.invariant.1 c.if-self.false).0 c.examine.ensures)
+    (examine_answered d map c.self.inside.volume.failed c.self.inside.jobs c.self.inside.jobs c.args.job c.args.address 0 c.examine.result c.if-self.false (c.self.invariant.1 c.if-self.false).0 (c.self.invariant.1 c.if-self.false).2 c.examine.ensures)

@@ -23,7 +23,7 @@ returns-in-Err-clause-listed g c =
       (
         refl,
         inl (ap (λ n. Err (Refused n)) c.number.ensures
-            ∙ sym (absent s (jobs_of state.written c.self.inside.jobs) c.args.job c.args.ppn _ state.jobs_are (slot_of state.written c.self.inside.jobs c.args.job _ c.in-Some.ensures.found) _ (c.in-Err.ensures.value h c.if-self.false (without_serials s.files) state.files))),
+            ∙ sym (absent s (jobs_of state.under c.self.inside.jobs) c.args.job c.args.ppn _ state.jobs_are (slot_of state.under c.self.inside.jobs c.args.job _ c.in-Some.ensures.found) _ (c.in-Err.ensures.value h c.if-self.false (without_serials s.files) state.files))),
       ),
     )))
 
@@ -39,7 +39,7 @@ returns-then-not-dir_right-clause-listed g c =
       (
         refl,
         inl (ap (λ n. Err (Refused n)) c.number-then-not-dir_right.ensures
-            ∙ sym (forbidden s (jobs_of state.written c.self.inside.jobs) c.args.job c.args.ppn _ state.jobs_are (slot_of state.written c.self.inside.jobs c.args.job _ c.in-Some.ensures.found) c.in-Ok.protection (c.in-Ok.ensures.value h c.if-self.false (without_serials s.files) state.files)
+            ∙ sym (forbidden s (jobs_of state.under c.self.inside.jobs) c.args.job c.args.ppn _ state.jobs_are (slot_of state.under c.self.inside.jobs c.args.job _ c.in-Some.ensures.found) c.in-Ok.protection (c.in-Ok.ensures.value h c.if-self.false (without_serials s.files) state.files)
             (sym c.dir_right.ensures.allowed ∙ c.if-not-dir_right.true))),
       ),
     )))
@@ -56,7 +56,7 @@ returns-in-Ok-list-clause-listed g c =
       (
         refl,
         inl
-            (sym (given s (jobs_of state.written c.self.inside.jobs) c.args.job c.args.ppn _ state.jobs_are (slot_of state.written c.self.inside.jobs c.args.job _ c.in-Some.ensures.found) c.in-Ok.protection (c.in-Ok.ensures.value h c.if-self.false (without_serials s.files) state.files)
+            (sym (given s (jobs_of state.under c.self.inside.jobs) c.args.job c.args.ppn _ state.jobs_are (slot_of state.under c.self.inside.jobs c.args.job _ c.in-Some.ensures.found) c.in-Ok.protection (c.in-Ok.ensures.value h c.if-self.false (without_serials s.files) state.files)
             c.in-Ok-list.lines.items (sym c.dir_right.ensures.allowed ∙ c.if-not-dir_right.false) (c.in-Ok-list.ensures.listed h c.if-self.false (without_serials s.files) state.files))),
       ),
     )))
@@ -72,7 +72,7 @@ returns-in-Err-list-clause-listed g c =
       refl,
       (
         refl,
-        unlisted s (jobs_of state.written c.self.inside.jobs) c.args.job c.args.ppn _ state.jobs_are (slot_of state.written c.self.inside.jobs c.args.job _ c.in-Some.ensures.found) c.in-Ok.protection (c.in-Ok.ensures.value h c.if-self.false (without_serials s.files) state.files)
+        unlisted s (jobs_of state.under c.self.inside.jobs) c.args.job c.args.ppn _ state.jobs_are (slot_of state.under c.self.inside.jobs c.args.job _ c.in-Some.ensures.found) c.in-Ok.protection (c.in-Ok.ensures.value h c.if-self.false (without_serials s.files) state.files)
             c.in-Err-list.error c.reply_of.result (sym c.dir_right.ensures.allowed ∙ c.if-not-dir_right.false) c.in-Err-list.ensures.only c.reply_of.ensures
             (λ e. (c.in-Err-list.ensures.refused h c.if-self.false (without_serials s.files) state.files).0 (ap Err e)) (λ e. contrary c.if-self.false (c.in-Err-list.ensures.failed.0 (ap Err e))),
       ),

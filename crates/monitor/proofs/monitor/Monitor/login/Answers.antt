@@ -14,4 +14,4 @@ returns-clause-answered g c =
     (λ old state. on_disk g.D.Disk.state c.self.inside.volume.disk c.log_in.new.volume.disk c.self.inside.volume.failed c.log_in.new.volume.failed (core_of c.log_in.new.volume.map) c.log_in.new.jobs
     (Answers (pack_of d) old (Login c.args.job c.args.ppn c.args.words) c.log_in.result) c.log_in.ensures.untouched
     (login_answered (pack_of d) d (core_of c.self.inside.volume.map) (core_of c.log_in.new.volume.map) c.self.inside.volume.failed c.self.inside.jobs c.log_in.new.jobs c.args.job c.args.ppn c.args.words c.log_in.result
-    c.if-self.false (c.self.invariant.1 c.if-self.false).0 c.log_in.ensures.keyed c.log_in.ensures.dropped c.log_in.ensures.answered c.log_in.ensures.done c.log_in.ensures.kept old state))
+    c.if-self.false (c.self.invariant.1 c.if-self.false).0 c.log_in.ensures.keyed (c.self.invariant.1 c.if-self.false).2 c.log_in.ensures.reading c.log_in.ensures.leaves c.log_in.ensures.answered c.log_in.ensures.done c.log_in.ensures.kept old state))

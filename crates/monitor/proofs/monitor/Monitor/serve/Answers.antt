@@ -5,7 +5,7 @@ use Rattle.std.proofs.lemmas.List.{take_more, take_all, length-take-le}
 use Rattle.blockdisk.specs.Laws.{same_disk_start, same_disk_on}
 use Rattle.meaning.specs.declared.call.Reply.TheVariants.{Device, Failed}
 use Rattle.monitor.specs.Runs.{TellsFault, FailsOnce}
-use Rattle.monitor.proofs.Listed.{Ran, ran_start, ran_more, told_more, counted_more, served_more, failed_once, broken_more}
+use Rattle.monitor.proofs.Listed.{Ran, ran_start, ran_still, ran_more, told_more, counted_more, served_more, failed_once, broken_more}
 use Rattle.monitor.proofs.monitor.Monitor.serve.Goals as goal
 
 pub loop-event-init : goal.loop-event-init
@@ -57,3 +57,8 @@ loop-event-preserved g c =
 pub returns-clause-runs : goal.returns-clause-runs
 returns-clause-runs g c =
     subst (λ es. Ran g.D.Disk.state c.args.self.now c.loop-event.self es c.loop-event.replies.items) (take_all c.loop-event.event-index c.args.events.now c.loop-event-test.false) c.loop-event.invariant.runs
+
+pub returns-clause-still : goal.returns-clause-still
+returns-clause-still g c =
+    ran_still g.D.Disk.state c.args.self.now c.loop-event.self c.args.events.now c.loop-event.replies.items
+    (subst (λ es. Ran g.D.Disk.state c.args.self.now c.loop-event.self es c.loop-event.replies.items) (take_all c.loop-event.event-index c.args.events.now c.loop-event-test.false) c.loop-event.invariant.runs)

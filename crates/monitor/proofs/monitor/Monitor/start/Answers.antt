@@ -1,10 +1,17 @@
 use Rattle.volume.specs.LiveCores.{core_of}
-use Rattle.monitor.proofs.Started.{started, start_keyed}
+use Rattle.monitor.proofs.Started.{started, start_keyed, start_reading}
 use Rattle.monitor.proofs.Placing.{placed_none}
 use Rattle.monitor.proofs.monitor.Monitor.start.Goals as goal
 
 pub invariant_of-result : goal.invariant_of-result
-invariant_of-result g c = (c.in_ok-volume.ensures.sound, λ serves. (start_keyed (core_of c.in_ok-volume.volume.map).pending c.in-Ok.jobs c.in_ok-volume.ensures.unwritten c.in-Ok.ensures, placed_none (core_of c.in_ok-volume.volume.map) c.in_ok-volume.ensures.unwritten))
+invariant_of-result g c = (
+  c.in_ok-volume.ensures.sound,
+  λ serves. (
+    start_keyed (core_of c.in_ok-volume.volume.map).pending c.in-Ok.jobs c.in_ok-volume.ensures.unwritten c.in-Ok.ensures,
+    placed_none (core_of c.in_ok-volume.volume.map) c.in_ok-volume.ensures.unwritten,
+    start_reading (core_of c.in_ok-volume.volume.map).live c.in-Ok.jobs c.in_ok-volume.ensures.unread c.in-Ok.ensures,
+  ),
+)
 
 pub returns-in-Ok-clause-started : goal.returns-in-Ok-clause-started
 returns-in-Ok-clause-started g c h files stands s start = (

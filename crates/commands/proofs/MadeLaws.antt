@@ -1,0 +1,72 @@
+-- What is found in [p,n]<PROT>.
+use Rattle.std.proofs.Common.{◌≡◌, ℕ, ◌^◌, ◌<◌, ◌≤◌, List, [], ◌∷◌, ◌++◌, length, take, drop, get_or, refl, sym, ◌∙◌, subst, Option, Some, None, IfNone, arith}
+use Rattle.std.proofs.Math.Nat.{pow-le-pow_right}
+use Rattle.std.proofs.lemmas.List.{take-append-drop}
+use Rattle.meaning.specs.Spellings.{Are, IsNumber, IsSmall, IsBracketed}
+use Rattle.meaning.specs.Commands.{IsAngled, IsProtection, IsMade}
+use Rattle.meaning.proofs.SpellingLaws.{Stops, stretch, bracketed_other, same_but_last, same_tail}
+use Rattle.commands.specs.Characters.{is_other_than}
+use Rattle.commands.proofs.FieldLaws.{mark_stops}
+use Rattle.commands.proofs.NumberLaws.{below_power}
+
+-- three digits are nine bits
+pub number_fits : (text : List ℕ) (n : ℕ) → IsNumber 3 text n → n < 512
+number_fits text n a =
+    let p : 8 ^ length text ≤ 8 ^ 3 = pow-le-pow_right (omega arith) a.few in
+    omega (arith, below_power 0 text a.digits, p, a.value)
+
+number_small : (text : List ℕ) (n : ℕ) → IsNumber 3 text n → IsSmall 3 text n
+number_small text n a = record { number = a; small = omega (arith, number_fits text n a) }
+
+-- <PROT>
+
+pub protection_none : (text : List ℕ) → text ≡ [] → IsProtection text 0
+protection_none text e = subst (λ l. IsProtection l 0) (sym e) refl
+
+pub protection_is : (text inner : List ℕ) (n : ℕ) → text ≡ 60 ∷ (inner ++ 62 ∷ []) → IsSmall 3 inner n → IsProtection text n
+protection_is text inner n e a = subst (λ l. IsProtection l n) (sym e) (record { digits = inner; number = a.number; spelled = refl })
+
+angled : (text : List ℕ) (n : ℕ) → 0 < length text → IsProtection text n → IsAngled text n
+angled [] n some a = absurd (omega (arith, some))
+angled (c ∷ cs) n some a = a
+
+pub no_angles : (text : List ℕ) (n : ℕ) → 0 < length text → ((inner : List ℕ) → text ≡ 60 ∷ (inner ++ 62 ∷ []) → ⊥) → IsProtection text n → ⊥
+no_angles text n some none a = let b = angled text n some a in none b.digits b.spelled
+
+no_number : (text inner : List ℕ) (n : ℕ) → text ≡ 60 ∷ (inner ++ 62 ∷ []) → ((m : ℕ) → IsSmall 3 inner m → ⊥) → IsProtection text n → ⊥
+no_number text inner n e none a =
+    let b : IsAngled (60 ∷ (inner ++ 62 ∷ [])) n = subst (λ l. IsProtection l n) e a in
+    none n (number_small inner n (subst (λ l. IsNumber 3 l n) (same_but_last 62 b.digits inner (same_tail (sym b.spelled))) b.number))
+
+pub none_in_angles : (found : Option ℕ) (text inner : List ℕ) → text ≡ 60 ∷ (inner ++ 62 ∷ []) → IfNone found ((m : ℕ) → IsSmall 3 inner m → ⊥) → IfNone found ((n : ℕ) → IsProtection text n → ⊥)
+none_in_angles (Some m) text inner e none = tt
+none_in_angles None text inner e none = λ n. no_number text inner n e none
+
+pub protection_fits : (text : List ℕ) (n : ℕ) → IsProtection text n → n < 512
+protection_fits [] n a = omega (arith, a)
+protection_fits (c ∷ cs) n a = number_fits a.digits n a.number
+
+-- A text, and its parts at the first <.
+pub record AreParted (text front back : List ℕ) : Type 0 where
+  pub whole : text ≡ front ++ back
+  pub plain : Are (is_other_than 60) front
+  pub stops : Stops (is_other_than 60) back
+
+pub are_parted : (text front back : List ℕ) (n : ℕ) → front ≡ take n text → back ≡ drop n text → Are (is_other_than 60) (take n text) → (n < length text → get_or text n 0 ≡ 60) → AreParted text front back
+are_parted text front back n e f plain mark = record {
+  whole = sym (take-append-drop n text) ∙ (λ i. sym e i ++ sym f i);
+  plain = subst (Are (is_other_than 60)) (sym e) plain;
+  stops = subst (Stops (is_other_than 60)) (sym f) (mark_stops text n 60 mark);
+}
+
+pub made_is : (text front back : List ℕ) (p n : ℕ) → AreParted text front back → IsBracketed front p → IsProtection back n → IsMade text p n
+made_is text front back p n parted a b = record { before = front; behind = back; left = a; right = b; spelled = parted.whole }
+
+protection_stops : (text : List ℕ) (n : ℕ) → IsProtection text n → Stops (is_other_than 60) text
+protection_stops [] n a = tt
+protection_stops (c ∷ cs) n a = subst (Stops (is_other_than 60)) (sym a.spelled) refl
+
+pub made_parts : (text front back : List ℕ) (p n : ℕ) → AreParted text front back → IsMade text p n → IsBracketed front p × IsProtection back n
+made_parts text front back p n parted m =
+    let r = stretch (is_other_than 60) front back m.before m.behind parted.plain (bracketed_other 60 m.before p refl refl refl refl m.left) parted.stops (protection_stops m.behind n m.right) (sym parted.whole ∙ m.spelled) in
+    (subst (λ l. IsBracketed l p) (sym r.0) m.left, subst (λ l. IsProtection l n) (sym r.1) m.right)

@@ -1,6 +1,0 @@
-use Rattle.std.proofs.Common.{take}
-use Rattle.meaning.specs.Spellings.{Are, is_space}
-use Rattle.commands.proofs.grammar.gap_length.Given as goal
-
-abbrev pub invariant-loop-i : goal.invariant-loop-i
-invariant-loop-i l = Are is_space (take l.i l.text)

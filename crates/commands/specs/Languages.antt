@@ -1,0 +1,33 @@
+-- What a line of an input says in either language, and what is done at the end of the input.
+use Rattle.std.specs.Prelude.{◌≡◌, ℕ, List, [], ◌∷◌, Option}
+use Rattle.words36.specs.declared.moment.Moment.{Moment}
+use Rattle.meaning.specs.Lines.{Line}
+use Rattle.meaning.specs.Scripts.{MeansEvent}
+use Rattle.meaning.specs.Texts.{Spoken}
+use Rattle.meaning.specs.Conducts.{Act, Asks, calls}
+use Rattle.meaning.specs.Talks.{Speaks, Orders}
+use Rattle.meaning.specs.declared.command.Command.{Command}
+use Rattle.meaning.specs.declared.call.Call.TheVariants.{Reset}
+use Rattle.meaning.specs.declared.call.Event.{Event}
+use Rattle.meaning.specs.declared.call.Reply.{Reply}
+use Rattle.commands.specs.Machines.{Machine, GoesBy, GoesServed}
+use Rattle.commands.specs.Orders.{served_order}
+use Rattle.commands.specs.Served.{MeansServed}
+use Rattle.commands.specs.declared.language.Language.{Language}
+use Rattle.commands.specs.declared.language.Language.TheVariants.{Commands, Events}
+
+-- What a line asks and says: one with a command or an event that is not served says nothing. Of an event it does not
+-- matter who is logged in.
+abbrev pub Says : Language → Moment → Option ℕ → Line → List Act → Spoken → Option ℕ → Type 0
+Says Commands moment who line acts said then_who = (meant : Option Command) × MeansServed line meant × Speaks moment who meant acts said then_who
+Says Events moment who line acts said then_who = (meant : Option Event) × MeansEvent line moment meant × Orders (served_order meant) acts said × (then_who ≡ who)
+
+-- At the end of commands job 1 is reset.
+abbrev pub Closes : Language → Moment → List Act → Type 0
+Closes Commands moment acts = (answer : Reply) × (acts ≡ Asks (calls moment Reset) answer ∷ [])
+Closes Events moment acts = acts ≡ []
+
+-- Commands ask for nothing but what is served.
+abbrev pub Goes : {S : Type 0} → Language → (S → Machine) → S → S → List Act → Type 0
+Goes Commands machine old new acts = GoesBy machine old new acts
+Goes Events machine old new acts = GoesServed machine old new acts

@@ -1,0 +1,117 @@
+ghost use Rattle.std.specs.Prelude.{◌≡◌, ◌≢◌, ◌<◌, ◌≤◌, ◌++◌, ◌∷◌, [], length, slice_index, take, IfSome, IfNone, ℕ, List};
+ghost use Rattle.meaning.specs.Spellings.{is_space, is_visible, Are, AreFields, IsNumber, IsSmall, IsPair};
+ghost use Rattle.commands.specs.Characters.{is_other_than};
+ghost use Rattle.commands.specs.Orders.{Begins};
+
+use words36::Ppn;
+
+/// How many bytes stand before the first of these.
+pub(crate) fn length_before(text: &[u8], mark: u8) -> usize
+    ensures within { result ≤ length text.now }
+    ensures other { Are (is_other_than mark) (take result text.now) }
+    ensures mark { result < length text.now → slice_index text.now result ≡ mark }
+{
+    for (i, byte) in text.iter().enumerate() {
+        if *byte == mark {
+            return i;
+        }
+    }
+    text.len()
+}
+
+/// How many bytes stand before the first space.
+fn word_length(text: &[u8]) -> usize
+    ensures within { result ≤ length text.now }
+    ensures visible { Are is_visible (take result text.now) }
+    ensures space { result < length text.now → slice_index text.now result ≡ 32 }
+{
+    length_before(text, b' ')
+}
+
+/// How many spaces stand before anything else.
+fn gap_length(text: &[u8]) -> usize
+    ensures within { result ≤ length text.now }
+    ensures spaces { Are is_space (take result text.now) }
+    ensures visible { result < length text.now → slice_index text.now result ≢ 32 }
+{
+    for (i, byte) in text.iter().enumerate() {
+        if *byte != b' ' {
+            return i;
+        }
+    }
+    text.len()
+}
+
+/// The first field of a text, and the text of the fields behind it: one that begins with a field, has spaces
+/// between fields, and none at its end.
+pub(crate) fn first_field(text: &[u8]) -> Option<(&[u8], &[u8])>
+    ensures some { IfSome result (λ parts. Begins text.now parts.0.now parts.1.now) }
+    ensures none { IfNone result ((one : List ℕ) (more : List (List ℕ)) → AreFields (one ∷ more) text.now → ⊥) }
+{
+    let (field, behind) = text.split_at(word_length(text));
+    let (gap, rest) = behind.split_at(gap_length(behind));
+    if field.is_empty() {
+        return None;
+    }
+    if rest.is_empty() && !gap.is_empty() {
+        return None;
+    }
+    Some((field, rest))
+}
+
+/// The number that a text of at most so many octal digits spells.
+pub(crate) fn octal_number(text: &[u8], most: usize) -> Option<u64>
+    requires { most ≤ 12 }
+    ensures some { IfSome result (λ n. IsNumber most text.now n) }
+    ensures none { IfNone result ((n : ℕ) → IsNumber most text.now n → ⊥) }
+{
+    if text.is_empty() || most < text.len() {
+        return None;
+    }
+    let mut number: u64 = 0;
+    for digit in text {
+        if *digit < b'0' || b'7' < *digit {
+            return None;
+        }
+        number = number * 8 + u64::from(*digit - b'0');
+    }
+    Some(number)
+}
+
+/// The same of a number that fits in a half word.
+pub(crate) fn small_number(text: &[u8], most: usize) -> Option<u32>
+    requires { most ≤ 12 }
+    ensures some { IfSome result (λ n. IsSmall most text.now n) }
+    ensures none { IfNone result ((n : ℕ) → IsSmall most text.now n → ⊥) }
+{
+    match octal_number(text, most) {
+        Some(number) if number < 1 << 18 => Some(number as u32),
+        _ => None,
+    }
+}
+
+/// What stands before the first comma and behind it.
+fn at_comma(text: &[u8]) -> Option<(&[u8], &[u8])>
+    ensures some { IfSome result (λ parts. Are (is_other_than 44) parts.0.now × (text.now ≡ parts.0.now ++ 44 ∷ parts.1.now)) }
+    ensures none { IfNone result (Are (is_other_than 44) text.now) }
+{
+    for (i, byte) in text.iter().enumerate() {
+        if *byte == b',' {
+            return Some((&text[..i], &text[i + 1..]));
+        }
+    }
+    None
+}
+
+/// The project and the programmer, with a comma between them, that a text names by at most so many octal
+/// digits each.
+pub(crate) fn pair(text: &[u8], most: usize) -> Option<Ppn>
+    requires { most ≤ 12 }
+    ensures some { IfSome result (λ owner. IsPair most text.now owner) }
+    ensures none { IfNone result ((owner : ℕ) → IsPair most text.now owner → ⊥) }
+{
+    let (project, programmer) = at_comma(text)?;
+    let project = small_number(project, most)?;
+    let programmer = small_number(programmer, most)?;
+    Ppn::new(project, programmer)
+}

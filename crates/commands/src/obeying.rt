@@ -1,0 +1,52 @@
+ghost use Rattle.std.specs.Prelude.{◌≡◌, ◌||◌, ℕ, Option};
+ghost use Rattle.words36.specs.declared.moment.Moment.{Moment};
+ghost use Rattle.meaning.specs.Talks.{is_good, refused_unless};
+ghost use Rattle.meaning.specs.Texts.{is_broken};
+ghost use Rattle.commands.specs.Sessions.{Replied};
+ghost use Rattle.commands.specs.declared.run.Heard.TheVariants.{Ordered};
+
+use crate::answer::Tally;
+use crate::service::FileService;
+use crate::text::{line, reply_line};
+use meaning::Reply;
+use monitor::Event;
+use std::alloc::{AllocError, Global};
+
+/// Counts a reply.
+fn count(tally: &mut Tally, reply: &Reply)
+    ensures refused { tally.new.refused ≡ tally.old.refused || refused_unless (is_good reply.now) }
+    ensures broke { tally.new.broke ≡ tally.old.broke || is_broken reply.now }
+{
+    match reply {
+        Reply::Done | Reply::Value(_) => {}
+        Reply::Device | Reply::Failed => {
+            tally.refused = true;
+            tally.broke = true;
+        }
+        Reply::Refused(_)
+        | Reply::Stopped(_)
+        | Reply::NoChannel
+        | Reply::AddressCheck
+        | Reply::NoJob
+        | Reply::NoMemory
+        | Reply::DateRange => tally.refused = true,
+    }
+}
+
+/// Serves what a line of a call script orders, and gives the bytes that it prints.
+pub fn obey<S: FileService>(
+    alloc: Global,
+    service: &mut S,
+    tally: &mut Tally,
+    order: Option<Event>,
+) -> Result<Vec<u8>, AllocError>
+    ensures { (moment : Moment) (who : Option ℕ) → Replied (λ bytes. bytes.items) result S.machine service.old service.new moment who who tally.old tally.new (Ordered order) }
+{
+    let Some(event) = order else {
+        tally.refused = true;
+        return line(alloc, "SYNTAX");
+    };
+    let reply = service.event(alloc, &event);
+    count(tally, &reply);
+    reply_line(alloc, &reply)
+}

@@ -1,0 +1,24 @@
+use Rattle.std.proofs.Common.{◌≤◌, [], sym, subst, option_to_list}
+use Rattle.meaning.specs.Maps.{times}
+use Rattle.volume.specs.Live.{slot as version_at}
+use Rattle.volume.specs.LiveCores.{core_of}
+use Rattle.monitor.specs.Dropping.{Closes}
+use Rattle.monitor.specs.Readers.{readers_of}
+use Rattle.monitor.specs.Sides.{pins_of}
+use Rattle.monitor.proofs.LettingGo.{held_there, lets_one_go}
+use Rattle.monitor.proofs.dropping.let_go.Goals as goal
+
+pub unpin-requires-clause-live : goal.unpin-requires-clause-live
+unpin-requires-clause-live g c =
+    let key = c.in-Some.input.pin.key in
+    let live = (core_of c.args.volume.now.map).live in
+    held_there (version_at live key) key (subst (λ o. times key (pins_of (option_to_list o)) ≤ readers_of (version_at live key)) c.in-Some.is (c.requires.held key))
+
+pub returns-in-Some-clause-closed : goal.returns-in-Some-clause-closed
+returns-in-Some-clause-closed g c =
+    let key = c.in-Some.input.pin.key in
+    let live = (core_of c.args.volume.now.map).live in
+    let there = held_there (version_at live key) key (subst (λ o. times key (pins_of (option_to_list o)) ≤ readers_of (version_at live key)) c.in-Some.is (c.requires.held key)) in
+    subst (λ o. Closes (core_of c.args.volume.now.map) (core_of c.unpin.new.self.map) [] (pins_of (option_to_list o))) (sym c.in-Some.is)
+    (lets_one_go (core_of c.args.volume.now.map) (core_of c.unpin.new.self.map) key there
+    (λ v at why. (c.unpin.ensures.stays v at why).0) (λ v at past one. (c.unpin.ensures.gone v at past one).0) c.unpin.ensures.others c.unpin.ensures.pending c.unpin.ensures.known)

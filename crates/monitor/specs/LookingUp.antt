@@ -1,0 +1,55 @@
+-- What a LOOKUP does to a job and to what a volume keeps.
+use Rattle.std.specs.Prelude.{◌≡◌, ℕ, ◌+◌, true, List, [], ◌∷◌, length, Option, None, Some, slice_set, option_to_list}
+use Rattle.blockdisk.specs.Disk.{Contents}
+use Rattle.meaning.specs.Cores.{after_writes}
+use Rattle.meaning.specs.Jobs as machine
+use Rattle.meaning.specs.Jobs.{State, slot, cleared}
+use Rattle.meaning.specs.Looking.{lookup_answer, place_at, with_attributes, size_word}
+use Rattle.meaning.specs.Outcomes.{refused_at}
+use Rattle.meaning.specs.Published.{Version, file_at}
+use Rattle.meaning.specs.Stands.{place_of}
+use Rattle.meaning.specs.declared.call.Reply.{Reply}
+use Rattle.meaning.specs.declared.call.Reply.TheVariants.{Done, NoChannel}
+use Rattle.volume.specs.Live.{VolumeCore}
+use Rattle.volume.specs.Live.{slot as version_at}
+use Rattle.volume.specs.Pins.{IsVersionOf}
+use Rattle.volume.specs.Places.{prime_at}
+use Rattle.volume.specs.declared.live.LiveVersion.{LiveVersion}
+use Rattle.monitor.specs.Dropping.{Closes}
+use Rattle.monitor.specs.Sides.{UnderKeys, pins_of, job_of}
+use Rattle.monitor.specs.declared.channel.Channel.{Channel}
+use Rattle.monitor.specs.declared.input.Input.{Input}
+use Rattle.monitor.specs.declared.job.Job.{Job}
+
+-- the channel with an input side that has read nothing
+abbrev pub looking : Channel → Input → Channel
+looking c input = record c { status = cleared c.status; input = Some input }
+
+-- The version that core has for the input's place has one reader more; and nothing else.
+pub record IsHolding (c c' : VolumeCore) (input : Input) : Type 0 where
+  pub at : (v : LiveVersion) × (version_at c.live input.pin.key ≡ Some v) × (v.is_current ≡ true) × (prime_at c input.ppn input.file ≡ Some v.at)
+  pub pinned : (v : LiveVersion) × (version_at c.live input.pin.key ≡ Some v) × (version_at c'.live input.pin.key ≡ Some (record v { readers = v.readers + 1 }))
+  pub others : (k : ℕ) → (k ≡ input.pin.key → ⊥) → version_at c'.live k ≡ version_at c.live k
+  pub core : c' ≡ record c { live = c'.live }
+
+-- A version is held for a channel that had no output side; then the one is let go that it read before.
+pub record IsLookingUp (c held c' : VolumeCore) (job job' : Job) (number address : ℕ) (channel : Channel) (input : Input) : Type 0 where
+  pub there : slot job.channels number ≡ Some channel
+  pub free : channel.output ≡ None
+  pub next : input.next ≡ 1
+  pub place : (under : UnderKeys) → place_of input.ppn input.file ≡ place_at (job_of under job) address
+  pub holds : IsHolding c held input
+  pub closed : Closes held c' [] (pins_of (option_to_list channel.input))
+  pub job_is : job' ≡ record job { core = job'.core; channels = slice_set job.channels number (Some (looking channel input)) }
+
+-- The version that is held is the machine's at the place, and what is said of its file is put into the words.
+pub record IsFound (contents : Contents) (live : List (Option LiveVersion)) (s : State) (job job' : Job) (address : ℕ) (input : Input) : Type 0 where
+  pub version : Version
+  pub there : file_at s.files (place_of input.ppn input.file) ≡ Some version
+  pub held : (v : LiveVersion) × (version_at live input.pin.key ≡ Some v) × IsVersionOf contents v version.file
+  pub core : job'.core ≡ after_writes (with_attributes 1 job.core address version.file) ((address + 3, size_word (length version.file.body)) ∷ [])
+
+-- What is answered on this channel, and what every answer but Done leaves of the job.
+abbrev pub IsLookupRow : State → machine.Job → machine.Job → Option machine.Channel → ℕ → Reply → Type 0
+IsLookupRow s job job' None e reply = (reply ≡ NoChannel) × (job' ≡ job)
+IsLookupRow s job job' (Some c) e reply = (lookup_answer s job c e (place_at job e) ≡ reply) × ((reply ≡ Done → ⊥) → job' ≡ refused_at job e reply)

@@ -1,0 +1,138 @@
+ghost use Rattle.std.specs.Prelude.{◌≡◌, ◌⊎◌, ◌↔◌, ◌≤◌, ℕ, false, IsTrue};
+ghost use Rattle.blockdisk.specs.Disk.{LeavesOnly, SameDisk, one_more};
+ghost use Rattle.meaning.specs.Files.{File, Files};
+ghost use Rattle.meaning.specs.Jobs.{slot};
+ghost use Rattle.meaning.specs.Runs.{Service, Answers};
+ghost use Rattle.meaning.specs.Stands.{Stands};
+ghost use Rattle.meaning.specs.declared.call.Call.TheVariants.{In, Lookup, Useti};
+ghost use Rattle.meaning.specs.declared.call.Event.TheVariants.{Call as Calls};
+ghost use Rattle.meaning.specs.declared.call.Reply.TheVariants.{NoMemory, Device, Failed};
+ghost use Rattle.volume.specs.LiveCores.{core_of};
+ghost use Rattle.volume.specs.Rest.{IsSound, RestsAt};
+ghost use Rattle.monitor.specs.Events.{CallCrashes, IsIdle};
+ghost use Rattle.monitor.specs.Serving.{pack_of, Serves, AreKeyed, ArePlaced, AreReading};
+
+use crate::job::Jobs;
+use crate::lookup::lookup;
+use crate::reading::read;
+use crate::useti::useti;
+use blockdisk::Disk;
+use meaning::Reply;
+use std::alloc::Global;
+use volume::Volume;
+use words36::Moment;
+
+/// LOOKUP by the job of a number.
+pub fn serve_lookup<D: Disk>(
+    volume: &mut Volume<D>,
+    jobs: &mut Jobs,
+    number: u32,
+    channel: u32,
+    address: u32,
+    moment: Moment,
+) -> Reply
+    requires sound { IsSound (D.state volume.old.disk) (core_of volume.old.map) volume.old.failed }
+    requires keyed { AreKeyed (core_of volume.old.map).pending jobs.old }
+    requires placed { ArePlaced (core_of volume.old.map) }
+    requires reading { AreReading (core_of volume.old.map).live jobs.old }
+    requires alive { volume.old.failed ≡ false }
+    requires timely { moment.date ≤ 4095 }
+    ensures sound { IsSound (D.state volume.new.disk) (core_of volume.new.map) volume.new.failed }
+    ensures keyed { AreKeyed (core_of volume.new.map).pending jobs.new }
+    ensures placed { ArePlaced (core_of volume.new.map) }
+    ensures reading { AreReading (core_of volume.new.map).live jobs.new }
+    ensures others { (m : ℕ) → (m ≡ number → ⊥) → slot jobs.new m ≡ slot jobs.old m }
+    ensures untouched { (volume.new.disk ≡ volume.old.disk) × (volume.new.failed ≡ volume.old.failed) }
+    ensures only { (result ≡ Failed → ⊥) × (result ≡ Device → ⊥) }
+    ensures light { result ≡ NoMemory → ⊥ }
+    ensures answered { (D.state volume.old.disk).honest → (old : Service) → Serves (D.state volume.old.disk) (core_of volume.old.map) volume.old.failed jobs.old old
+        → (new : Service) × Serves (D.state volume.new.disk) (core_of volume.new.map) volume.new.failed jobs.new new
+        × Answers (pack_of (D.state volume.old.disk)) old (Calls number (Lookup channel address) moment) result new }
+{
+    let Some(mut job) = jobs.take(number) else {
+        return Reply::NoJob;
+    };
+    let reply = lookup(volume, &mut job, channel, address);
+    jobs.put(number, job);
+    reply
+}
+
+/// IN by the job of a number.
+pub fn serve_in<D: Disk>(
+    alloc: Global,
+    volume: &mut Volume<D>,
+    jobs: &mut Jobs,
+    number: u32,
+    channel: u32,
+    address: u32,
+    moment: Moment,
+) -> Reply
+    requires sound { IsSound (D.state volume.old.disk) (core_of volume.old.map) volume.old.failed }
+    requires keyed { AreKeyed (core_of volume.old.map).pending jobs.old }
+    requires placed { ArePlaced (core_of volume.old.map) }
+    requires reading { AreReading (core_of volume.old.map).live jobs.old }
+    requires alive { volume.old.failed ≡ false }
+    requires timely { moment.date ≤ 4095 }
+    ensures sound { IsSound (D.state volume.new.disk) (core_of volume.new.map) volume.new.failed }
+    ensures keyed { AreKeyed (core_of volume.new.map).pending jobs.new }
+    ensures placed { ArePlaced (core_of volume.new.map) }
+    ensures reading { AreReading (core_of volume.new.map).live jobs.new }
+    ensures others { (m : ℕ) → (m ≡ number → ⊥) → slot jobs.new m ≡ slot jobs.old m }
+    ensures answered { (D.state volume.old.disk).honest → (old : Service) → Serves (D.state volume.old.disk) (core_of volume.old.map) volume.old.failed jobs.old old
+        → (new : Service) × Serves (D.state volume.new.disk) (core_of volume.new.map) volume.new.failed jobs.new new
+        × Answers (pack_of (D.state volume.old.disk)) old (Calls number (In channel address) moment) result new }
+    // A crash finds the files as they were.
+    ensures crash { CallCrashes (D.state volume.old.disk) (D.state volume.new.disk) (core_of volume.old.map) jobs.old number (In channel address) moment }
+    ensures quiet { (D.state volume.old.disk).honest → (f : Files File) → RestsAt (D.state volume.old.disk) f
+        → LeavesOnly (D.state volume.old.disk) (D.state volume.new.disk) (λ c. Stands (D.state volume.old.disk).size c f) }
+    ensures kept { core_of volume.new.map ≡ core_of volume.old.map }
+    ensures memory { result ≡ NoMemory → (volume.new.disk ≡ volume.old.disk) × (volume.new.failed ≡ volume.old.failed) × (jobs.new ≡ jobs.old) }
+    ensures failed { IsTrue volume.new.failed ↔ ((result ≡ Device) ⊎ (result ≡ Failed)) }
+    ensures blamed { (D.state volume.old.disk).honest → result ≡ Failed → ⊥ }
+    ensures idle { IsIdle result → volume.new.disk ≡ volume.old.disk }
+    ensures counted { result ≡ Device → (D.state volume.new.disk).failures ≡ one_more (D.state volume.old.disk).failures }
+    ensures served { (result ≡ Device → ⊥) → (D.state volume.new.disk).failures ≡ (D.state volume.old.disk).failures }
+    ensures same { SameDisk (D.state volume.old.disk) (D.state volume.new.disk) }
+{
+    let Some(mut job) = jobs.take(number) else {
+        return Reply::NoJob;
+    };
+    let reply = read(alloc, volume, &mut job, channel, address);
+    jobs.put(number, job);
+    reply
+}
+
+/// USETI by the job of a number.
+pub fn serve_useti<D: Disk>(
+    volume: &mut Volume<D>,
+    jobs: &mut Jobs,
+    number: u32,
+    channel: u32,
+    block: u32,
+    moment: Moment,
+) -> Reply
+    requires sound { IsSound (D.state volume.old.disk) (core_of volume.old.map) volume.old.failed }
+    requires keyed { AreKeyed (core_of volume.old.map).pending jobs.old }
+    requires placed { ArePlaced (core_of volume.old.map) }
+    requires reading { AreReading (core_of volume.old.map).live jobs.old }
+    requires alive { volume.old.failed ≡ false }
+    requires timely { moment.date ≤ 4095 }
+    ensures sound { IsSound (D.state volume.new.disk) (core_of volume.new.map) volume.new.failed }
+    ensures keyed { AreKeyed (core_of volume.new.map).pending jobs.new }
+    ensures placed { ArePlaced (core_of volume.new.map) }
+    ensures reading { AreReading (core_of volume.new.map).live jobs.new }
+    ensures others { (m : ℕ) → (m ≡ number → ⊥) → slot jobs.new m ≡ slot jobs.old m }
+    ensures untouched { (volume.new.disk ≡ volume.old.disk) × (volume.new.failed ≡ volume.old.failed) }
+    ensures only { (result ≡ Failed → ⊥) × (result ≡ Device → ⊥) }
+    ensures light { result ≡ NoMemory → ⊥ }
+    ensures answered { (D.state volume.old.disk).honest → (old : Service) → Serves (D.state volume.old.disk) (core_of volume.old.map) volume.old.failed jobs.old old
+        → (new : Service) × Serves (D.state volume.new.disk) (core_of volume.new.map) volume.new.failed jobs.new new
+        × Answers (pack_of (D.state volume.old.disk)) old (Calls number (Useti channel block) moment) result new }
+{
+    let Some(mut job) = jobs.take(number) else {
+        return Reply::NoJob;
+    };
+    let reply = useti(&mut job, channel, block);
+    jobs.put(number, job);
+    reply
+}

@@ -1,0 +1,48 @@
+ghost use Rattle.std.specs.Prelude.{◌≡◌, List, Option};
+ghost use Rattle.meaning.specs.declared.call.Call.TheVariants.{Useti};
+ghost use Rattle.meaning.specs.declared.call.Reply.TheVariants.{NoMemory, Failed, Device};
+ghost use Rattle.volume.specs.declared.live.LiveVersion.{LiveVersion};
+ghost use Rattle.volume.specs.declared.pending.PendingVersion.{PendingVersion};
+ghost use Rattle.monitor.specs.Rows.{IsRow, Keeps, KeepsReading};
+
+use crate::channel::Channel;
+use crate::input::Input;
+use crate::job::Job;
+use crate::status::{BLOCK_TOO_LARGE, cleared, stop};
+use meaning::{ErrorCode, Reply};
+
+/// The input side of a channel.
+fn input_side(channel: &Channel) -> Option<Input>
+    ensures { result ≡ channel.now.input }
+{
+    channel.input
+}
+
+/// USETI: names the block that a channel reads next, counted from 1.
+pub fn useti(job: &mut Job, number: u32, block: u32) -> Reply
+    ensures row { IsRow job.old job.new (Useti number block) result }
+    ensures keeps { (pending : List (Option PendingVersion)) → Keeps pending pending job.old job.new }
+    ensures reads { (live : List (Option LiveVersion)) → KeepsReading live live job.old job.new }
+    ensures only { (result ≡ Failed → ⊥) × (result ≡ Device → ⊥) × (result ≡ NoMemory → ⊥) }
+{
+    let Some(channel) = job.channel(number) else {
+        return Reply::NoChannel;
+    };
+    let Some(input) = input_side(&channel) else {
+        return Reply::Refused(ErrorCode::Sequence.number());
+    };
+    if block == 0 {
+        return stop(job, number, channel, BLOCK_TOO_LARGE);
+    }
+    let input = Input {
+        next: block,
+        ..input
+    };
+    let moved = Channel {
+        status: cleared(channel.status),
+        input: Some(input),
+        ..channel
+    };
+    job.set_channel(number, Some(moved));
+    Reply::Done
+}
