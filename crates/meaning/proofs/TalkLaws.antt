@@ -9,13 +9,13 @@ use Rattle.meaning.specs.Lines.{Line, Bytes, TooLong}
 use Rattle.meaning.specs.Commands.{Says, Means}
 use Rattle.meaning.specs.Scripts.{SaysEvent, MeansEvent}
 use Rattle.meaning.specs.Texts.{Spoken, joined, list_said}
-use Rattle.meaning.specs.Conducts.{Stage, Shows, Over, Act, Asks, Looks, asked, after, begins, Conducts}
+use Rattle.meaning.specs.Conducts.{Plan, Ask, Show, Say, Act, Asks, Looks, Leads, begins}
 use Rattle.meaning.specs.Talks.{login_said, login_who, LogsIn, Acts, Speaks, Talks, Orders, Scripts, reports, core_words, Served, Went}
 use Rattle.meaning.specs.declared.command.Command.{Command}
 use Rattle.meaning.specs.declared.command.Command.TheVariants.{Login as LoginLine, Directory as DirectoryLine, Copy as CopyLine, Rename as RenameLine, Delete as DeleteLine, TypeOut as TypeLine, Protect as ProtectLine, MakeDir as MakeLine}
 use Rattle.meaning.specs.declared.call.Event.{Event}
+use Rattle.meaning.specs.declared.call.Reply.{Reply}
 use Rattle.meaning.specs.declared.call.Event.TheVariants.{Login}
-use Rattle.meaning.proofs.MapLaws.{some_same}
 use Rattle.meaning.proofs.CommandLaws.{same_command}
 use Rattle.meaning.proofs.ScriptLaws.{same_event}
 use Rattle.meaning.proofs.SerialRuns.{Related, itself_related, related_step, related_shown}
@@ -49,52 +49,49 @@ served_apart pack s u [] more a = (s, refl, a)
 served_apart pack s u (Asks event reply ∷ first) more a = let r = served_apart pack a.0 u first more a.2 in (r.0, (a.0, a.1, r.1), r.2)
 served_apart pack s u (Looks owner answer ∷ first) more a = let r = served_apart pack s u first more a.1 in (r.0, (a.0, r.1), r.2)
 
--- A line's stages.
+-- What is left of a line's plan.
 
-abbrev said_of : Stage → Spoken → Spoken
-said_of (Over said) other = said
-said_of stage other = other
+abbrev said_of : Plan → Spoken → Spoken
+said_of (Say said) other = said
+said_of (Show owner) other = other
+said_of (Ask event next) other = other
 
-over_same : (one other : Spoken) → Over one ≡ Over other → one ≡ other
-over_same one other e = ap (λ stage. said_of stage one) e
+say_same : (one other : Spoken) → Say one ≡ Say other → one ≡ other
+say_same one other e = ap (λ plan. said_of plan one) e
 
-abbrev is_over : Stage → Bool
-is_over (Over said) = true
-is_over stage = false
+abbrev is_said : Plan → Bool
+is_said (Say said) = true
+is_said (Show owner) = false
+is_said (Ask event next) = false
 
-over_shows : {said : Spoken} {owner : ℕ} → Over said ≡ Shows owner → ⊥
-over_shows e = let wrong = ap is_over e in cc
+say_show : {said : Spoken} {owner : ℕ} → Say said ≡ Show owner → ⊥
+say_show e = let wrong = ap is_said e in cc
 
-abbrev owner_of : Stage → ℕ → ℕ
-owner_of (Shows owner) other = owner
-owner_of stage other = other
-
-shown_same : {x y : ℕ} → Shows x ≡ Shows y → x ≡ y
-shown_same {x} {y} e = ap (λ stage. owner_of stage x) e
-
-none_some : {A : Type 0} {x : A} → None ≡ Some x → ⊥
-none_some e = cc
+say_ask : {said : Spoken} {event : Event} {next : Reply → Plan} → Say said ≡ Ask event next → ⊥
+say_ask e = let wrong = ap is_said e in cc
 
 module _ (pack : Pack) (moment : Moment) where
-  same_conduct : (stage : Stage) (s t u w : State) (acts bcts : List Act) (one other : Spoken) → Related s t → Conducts moment stage acts one → Conducts moment stage bcts other
+  same_conduct : (plan : Plan) (s t u w : State) (acts bcts : List Act) (one other : Spoken) → Related s t → Leads plan acts (Say one) → Leads plan bcts (Say other)
       → Served pack s acts u → Served pack t bcts w → (one ≡ other) × Related u w
-  same_conduct stage s t u w [] [] one other r a b p q = (over_same one other (sym a ∙ b), subst (λ x. Related x w) (sym p) (subst (Related s) (sym q) r))
-  same_conduct stage s t u w [] (Asks event reply ∷ bcts) one other r a b p q = absurd (none_some (ap (asked moment) (sym a) ∙ b.0))
-  same_conduct stage s t u w [] (Looks owner answer ∷ bcts) one other r a b p q = absurd (over_shows (sym a ∙ b.0))
-  same_conduct stage s t u w (Asks event reply ∷ acts) [] one other r a b p q = absurd (none_some (ap (asked moment) (sym b) ∙ a.0))
-  same_conduct stage s t u w (Looks owner answer ∷ acts) [] one other r a b p q = absurd (over_shows (sym b ∙ a.0))
-  same_conduct stage s t u w (Asks event reply ∷ acts) (Looks owner answer ∷ bcts) one other r a b p q = absurd (none_some (ap (asked moment) (sym b.0) ∙ a.0))
-  same_conduct stage s t u w (Looks owner answer ∷ acts) (Asks event reply ∷ bcts) one other r a b p q = absurd (none_some (ap (asked moment) (sym a.0) ∙ b.0))
-  same_conduct stage s t u w (Asks event reply ∷ acts) (Asks event' reply' ∷ bcts) one other r a b p q =
-      let e : event ≡ event' = some_same (sym a.0 ∙ b.0) in
-      let h = related_step pack s t p.0 q.0 event reply reply' r p.1 (subst (λ x. Steps pack t x reply' q.0) (sym e) q.1) in
-      same_conduct (after moment stage reply) p.0 q.0 u w acts bcts one other h.1 a.1 (subst (λ x. Conducts moment (after moment stage x) bcts other) (sym h.0) b.1) p.2 q.2
-  same_conduct stage s t u w (Looks owner answer ∷ acts) (Looks owner' answer' ∷ bcts) one other r a b p q =
-      let o : owner ≡ owner' = shown_same (sym a.0 ∙ b.0) in
-      let l : answer ≡ answer' = p.0 ∙ (related_shown pack s t r).1 1 owner ∙ ap (list t 1) o ∙ sym q.0 in (
-        a.2 ∙ (λ i. list_said (o i) (l i)) ∙ sym b.2,
-        subst (λ x. Related x w) (sym (subst (λ x. Served pack s x u) a.1 p.1)) (subst (Related s) (sym (subst (λ x. Served pack t x w) b.1 q.1)) r),
-      )
+  same_conduct (Say said) s t u w [] [] one other r a b p q = (say_same one other (a ∙ sym b), subst (λ x. Related x w) (sym p) (subst (Related s) (sym q) r))
+  same_conduct (Say said) s t u w [] (act ∷ bcts) one other r a b p q = absurd b
+  same_conduct (Say said) s t u w (act ∷ acts) bcts one other r a b p q = absurd a
+  same_conduct (Show owner) s t u w [] bcts one other r a b p q = absurd (say_show a)
+  same_conduct (Show owner) s t u w (Asks event reply ∷ acts) bcts one other r a b p q = absurd a
+  same_conduct (Show owner) s t u w (Looks shown answer ∷ acts) [] one other r a b p q = absurd (say_show b)
+  same_conduct (Show owner) s t u w (Looks shown answer ∷ acts) (Asks event reply ∷ bcts) one other r a b p q = absurd b
+  same_conduct (Show owner) s t u w (Looks shown answer ∷ acts) (Looks shown' answer' ∷ bcts) one other r a b p q =
+      let o : shown ≡ shown' = a.0 ∙ sym b.0 in
+      let l : answer ≡ answer' = p.0 ∙ (related_shown pack s t r).1 1 shown ∙ ap (list t 1) o ∙ sym q.0 in
+      same_conduct (Say (list_said owner answer)) s t u w acts bcts one other r a.1 (subst (λ x. Leads (Say (list_said owner x)) bcts (Say other)) (sym l) b.1) p.1 q.1
+  same_conduct (Ask event next) s t u w [] bcts one other r a b p q = absurd (say_ask a)
+  same_conduct (Ask event next) s t u w (Looks owner answer ∷ acts) bcts one other r a b p q = absurd a
+  same_conduct (Ask event next) s t u w (Asks event' reply ∷ acts) [] one other r a b p q = absurd (say_ask b)
+  same_conduct (Ask event next) s t u w (Asks event' reply ∷ acts) (Looks owner answer ∷ bcts) one other r a b p q = absurd b
+  same_conduct (Ask event next) s t u w (Asks event' reply ∷ acts) (Asks event'' reply' ∷ bcts) one other r a b p q =
+      let e : event' ≡ event'' = a.0 ∙ sym b.0 in
+      let h = related_step pack s t p.0 q.0 event' reply reply' r p.1 (subst (λ x. Steps pack t x reply' q.0) (sym e) q.1) in
+      same_conduct (next reply) p.0 q.0 u w acts bcts one other h.1 a.1 (subst (λ x. Leads (next x) bcts (Say other)) (sym h.0) b.1) p.2 q.2
 
   -- Lines of a session.
 

@@ -1,18 +1,17 @@
 -- Worked rows of texts, computed: what lines ask, played on the machine, and what they print.
-use Rattle.std.proofs.Common.{◌≡◌, ℕ, zero, suc, ◌+◌, Bool, true, false, List, [], ◌∷◌, ◌++◌, map, replicate, Option, Some, None, refl, ap, pos}
+use Rattle.std.proofs.Common.{◌≡◌, ℕ, ◌+◌, Bool, true, false, List, [], ◌∷◌, ◌++◌, map, replicate, Some, None, refl, ap, pos}
 use Rattle.std.specs.Prelude.{codes}
 use Rattle.std.specs.Fmt.{digits}
 use Rattle.words36.specs.Words.{join}
 use Rattle.meaning.specs.Maps.{get, insert, remove, empty, entries, size}
 use Rattle.meaning.specs.CommandLists.{dump_list, areas_from}
-use Rattle.meaning.specs.Rings.{setup, in_ready, in_writes, out_ready, out_writes, last_words}
 use Rattle.meaning.specs.Jobs.{State, no_jobs}
 use Rattle.meaning.specs.Room.{Pack, room}
 use Rattle.meaning.specs.Sessions.{list}
 use Rattle.meaning.specs.Step.{step}
 use Rattle.meaning.specs.Lines.{Bytes, TooLong, lines}
-use Rattle.meaning.specs.Texts.{Spoken, joined, silent, day_text, entry_text, listing, list_said}
-use Rattle.meaning.specs.Conducts.{Stage, Shows, Over, asked, after, begins}
+use Rattle.meaning.specs.Texts.{Spoken, joined, silent, prints, day_text, entry_text, listing, list_said}
+use Rattle.meaning.specs.Conducts.{Plan, Ask, Show, Say, each, fetches, finds, lists, counts, copies_blocks, types_blocks, begins}
 use Rattle.meaning.specs.Talks.{login_said, core_words}
 use Rattle.meaning.specs.Scripts.{written}
 use Rattle.meaning.specs.declared.command.Spec.{Spec}
@@ -22,21 +21,14 @@ use Rattle.meaning.specs.declared.call.Event.{Event}
 use Rattle.meaning.specs.declared.call.Call.{Call}
 use Rattle.meaning.specs.declared.call.Call.TheVariants.{Open, Lookup, In, Reset}
 use Rattle.meaning.specs.declared.call.Event.TheVariants.{Login, Deposit, Examine, Call as Calls}
-use Rattle.meaning.specs.declared.call.Reply.{Reply}
-use Rattle.meaning.specs.declared.call.Reply.TheVariants.{Done}
 use Rattle.meaning.proofs.Playing.{play, small, ten_twenty, fresh, foo, bar, foo_of, at_start}
 
--- A line played from a stage, in at most so many events.
+-- A line's plan, played.
 
-abbrev ask : Pack → ℕ → State → Option Event → Reply × State
-ask pack serial s None = (Done, s)
-ask pack serial s (Some event) = step pack serial s event
-
-conduct : Pack → ℕ → State → Stage → Spoken × State
-conduct pack zero s stage = (silent, s)
-conduct pack (suc fuel) s (Over said) = (said, s)
-conduct pack (suc fuel) s (Shows owner) = (list_said owner (list s 1 owner), s)
-conduct pack (suc fuel) s stage = let r = ask pack (1000 + fuel) s (asked at_start stage) in conduct pack fuel r.1 (after at_start stage r.0)
+conduct : Pack → ℕ → State → Plan → Spoken × State
+conduct pack serial s (Say said) = (said, s)
+conduct pack serial s (Show owner) = (list_said owner (list s 1 owner), s)
+conduct pack serial s (Ask event next) = let r = step pack serial s event in conduct pack (serial + 1) r.1 (next r.0)
 
 abbrev speak : Pack → State → Command → Spoken × State
 speak pack s (LoginLine owner) = let r = step pack 0 s (Login 1 owner core_words) in (login_said owner r.0, r.1)
@@ -76,7 +68,7 @@ session : (talk small hello (LoginLine ten_twenty ∷ CopyLine bar_spec foo_spec
       refused = true;
       broke = false;
     }
-unfolding empty insert get remove entries size dump_list areas_from setup in_ready in_writes out_ready out_writes last_words entry_text listing digits conduct
+unfolding empty insert get remove entries size dump_list areas_from each fetches copies_blocks types_blocks entry_text listing digits conduct
 session = refl
 
 abbrev two_lines : List (List ℕ) → Bool → Spoken
@@ -85,7 +77,7 @@ two_lines texts refused = record { text = text_of texts; refused = refused; brok
 -- A file's characters alone are typed.
 types : (talk small hello (LoginLine ten_twenty ∷ TypeLine foo_spec ∷ TypeLine bar_spec ∷ [])).0
     ≡ record { text = text_of (codes "Job 1 [10,20]" ∷ (codes "HELLO" ++ 13 ∷ []) ∷ codes "?File not found" ∷ []); refused = true; broke = false }
-unfolding empty insert get remove entries size dump_list areas_from setup in_ready in_writes out_ready out_writes last_words entry_text listing digits conduct
+unfolding empty insert get remove entries size dump_list areas_from each fetches copies_blocks types_blocks entry_text listing digits conduct
 types = refl
 
 -- A directory is made and listed; a file gets another protection and another name, and is not in the way of itself.
@@ -93,26 +85,37 @@ names_change : (talk small hello (LoginLine ten_twenty ∷ MakeLine ten_twenty 0
     ∷ ProtectLine bar_spec 0o57 ∷ DirectoryLine None ∷ [])).0
     ≡ two_lines (codes "Job 1 [10,20]" ∷ codes "?File name already exists" ∷ codes "?Protection failure" ∷ codes "?No such directory" ∷ codes "OK" ∷ codes "OK" ∷ codes "?File not found"
     ∷ codes "?Protection failure" ∷ codes "BAR    TXT     1  <155>   4-Jan-1975" ∷ codes "Total 1 blocks in 1 files [10,20]" ∷ []) true
-unfolding empty insert get remove entries size dump_list areas_from setup in_ready in_writes out_ready out_writes last_words entry_text listing digits conduct
+unfolding empty insert get remove entries size dump_list areas_from each fetches copies_blocks types_blocks entry_text listing digits conduct
 names_change = refl
 
 -- An empty directory.
 no_files : (talk small fresh (LoginLine ten_twenty ∷ DirectoryLine None ∷ [])).0 ≡ two_lines (codes "Job 1 [10,20]" ∷ codes "No files [10,20]" ∷ []) false
-unfolding empty insert get remove entries size dump_list areas_from setup in_ready in_writes out_ready out_writes last_words entry_text listing digits conduct
+unfolding empty insert get remove entries size dump_list areas_from each fetches copies_blocks types_blocks entry_text listing digits conduct
 no_files = refl
 
 -- A copy of three blocks has all words of the file, and the words of a copy that finds no room are given back.
 copies_all : (copied : Spoken × State) → copied ≡ talk small (foo_of 0o057 300) (LoginLine ten_twenty ∷ CopyLine bar_spec foo_spec ∷ DirectoryLine None ∷ [])
     → (copied.0 ≡ two_lines (codes "Job 1 [10,20]" ∷ codes "OK" ∷ codes "BAR    TXT     3  <057>   1-Jan-1964" ∷ codes "FOO    TXT     3  <057>   1-Jan-1964" ∷ codes "Total 6 blocks in 2 files [10,20]" ∷ []) false)
     × (room small copied.1 ≡ pos 39)
-unfolding empty insert get remove entries size dump_list areas_from setup in_ready in_writes out_ready out_writes last_words entry_text listing digits conduct
+unfolding empty insert get remove entries size dump_list areas_from each fetches copies_blocks types_blocks entry_text listing digits conduct
 copies_all copied e = (ap (λ (c : Spoken × State). c.0) e, ap (λ (c : Spoken × State). room small c.1) e)
 
 no_room : (copied : Spoken × State) → copied ≡ talk small (foo_of 0o057 3072) (LoginLine ten_twenty ∷ CopyLine bar_spec foo_spec ∷ DirectoryLine None ∷ [])
     → (copied.0 ≡ two_lines (codes "Job 1 [10,20]" ∷ codes "?No room" ∷ codes "FOO    TXT    24  <057>   1-Jan-1964" ∷ codes "Total 24 blocks in 1 files [10,20]" ∷ []) true)
     × (room small copied.1 ≡ pos 22)
-unfolding empty insert get remove entries size dump_list areas_from setup in_ready in_writes out_ready out_writes last_words entry_text listing digits conduct
+unfolding empty insert get remove entries size dump_list areas_from each fetches copies_blocks types_blocks entry_text listing digits conduct
 no_room copied e = (ap (λ (c : Spoken × State). c.0) e, ap (λ (c : Spoken × State). room small c.1) e)
+
+-- The words of a last block are counted where no reply says how many there are: 44 of 300, and all of 256.
+abbrev logged_in : State → State
+logged_in s = (step small 0 s (Login 1 ten_twenty core_words)).1
+
+abbrev count_of : State → ℕ → Spoken
+count_of s n = (conduct small 1000 s (each at_start (finds at_start foo_spec ++ lists 128) (counts at_start n (λ count. Say (prints (count ∷ [])))))).0
+
+counted : (count_of (logged_in (foo_of 0o057 300)) 3 ≡ prints (44 ∷ [])) × (count_of (logged_in (foo_of 0o057 256)) 2 ≡ prints (128 ∷ []))
+unfolding empty insert get remove entries size dump_list areas_from each fetches conduct
+counted = (refl, refl)
 
 -- A call script, its replies as they are written.
 abbrev own : Call → Event

@@ -39,7 +39,7 @@ LogsIn who owner acts said then_who = (reply : Reply) × (acts ≡ Asks (Login 1
 -- any other line, which needs a job
 abbrev pub Acts : Moment → Option ℕ → Command → List Act → Spoken → Option ℕ → Type 0
 Acts moment None command acts said then_who = (acts ≡ []) × (said ≡ complains (codes "?Not logged in")) × (then_who ≡ None)
-Acts moment (Some me) command acts said then_who = Conducts moment (begins moment me command) acts said × (then_who ≡ Some me)
+Acts moment (Some me) command acts said then_who = Conducts (begins moment me command) acts said × (then_who ≡ Some me)
 
 -- What a line that means this asks, says, and who is logged in then.
 abbrev pub Speaks : Moment → Option ℕ → Option Command → List Act → Spoken → Option ℕ → Type 0
