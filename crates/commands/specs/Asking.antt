@@ -1,41 +1,66 @@
--- Events that are asked of a service one after the other, as long as each is done; and what a line that is made of
--- them says.
-use Rattle.std.specs.Prelude.{ℕ, List, [], ◌++◌}
+-- What a line asks of a service, event by event, and how far its plan has come.
+use Rattle.std.specs.Prelude.{◌≡◌, ℕ, ◌||◌, Bool, true, List, [], ◌∷◌, ◌++◌, map, Result, Ok, Err, IfOk}
 use Rattle.words36.specs.declared.moment.Moment.{Moment}
-use Rattle.meaning.specs.Conducts.{Act, Aim, Prints, Conducts, made, makes_all}
+use Rattle.meaning.specs.Conducts.{Act, Plan, Leads, Say, each, fails}
 use Rattle.meaning.specs.Jobs.{State}
-use Rattle.meaning.specs.Texts.{Spoken, prints, refuses}
+use Rattle.meaning.specs.Room.{Pack}
+use Rattle.meaning.specs.Runs.{Service, Answers}
+use Rattle.meaning.specs.Talks.{Went}
+use Rattle.meaning.specs.Texts.{Spoken, typed}
 use Rattle.meaning.specs.declared.call.Event as played
 use Rattle.meaning.specs.declared.call.Reply.{Reply}
 use Rattle.meaning.specs.declared.call.Reply.TheVariants.{Done}
-use Rattle.monitor.specs.Runs.{IsServedAt}
+use Rattle.monitor.specs.Runs.{event_of, IsServedAt, IsServedIn}
 use Rattle.monitor.specs.declared.events.Event.{Event}
 use Rattle.commands.specs.Machines.{Machine, GoesBy}
+use Rattle.commands.specs.declared.answer.Tally.{Tally}
+use Rattle.commands.specs.declared.typing.Typed.{Typed}
 
 -- an event that is served in each state
 abbrev pub IsAlwaysServed : Event → Type 0
 IsAlwaysServed event = (s : State) → IsServedAt s event
 
--- They were asked, and each was done: what has to do them first comes to what follows them.
-pub record HasDone {S : Type 0} (machine : S → Machine) (old new : S) (events : List played.Event) : Type 0 where
+-- Events that are served one after the other, as long as each is done: from a service, and from any.
+
+abbrev pub ServedAlong : Pack → Service → List Event → Type 0
+ServedAlong pack service [] = Unit {0}
+ServedAlong pack service (event ∷ events) = IsServedIn service event × ((mid : Service) → Answers pack service (event_of event) Done mid → ServedAlong pack mid events)
+
+abbrev pub AreServedFrom : List Event → Type 0
+AreServedFrom events = (pack : Pack) (service : Service) → ServedAlong pack service events
+
+-- The service went by acts that bring a plan to what is left of it.
+pub record Led {S : Type 0} (machine : S → Machine) (old new : S) (plan : Plan) (rest : Plan) : Type 0 where
   pub acts : List Act
   pub goes : GoesBy machine old new acts
-  pub conducts : (moment : Moment) (rest : List played.Event) (aim : Aim) (more : List Act) (said : Spoken) → Conducts moment (makes_all rest aim) more said
-      → Conducts moment (makes_all (events ++ rest) aim) (acts ++ more) said
+  pub leads : Leads plan acts rest
 
--- They were asked up to the first that was not done; the reply is that of the last that was asked.
-pub record HasAsked {S : Type 0} (machine : S → Machine) (old new : S) (events : List played.Event) (reply : Reply) : Type 0 where
+-- what is left behind what was answered: the line ends at the first that failed
+abbrev pub followed : {X : Type 0} → Moment → Result X Reply → (X → Plan) → Plan
+followed moment (Ok x) next = next x
+followed moment (Err reply) next = fails moment reply
+
+-- These events were asked, and each was done.
+pub record HasDone {S : Type 0} (machine : S → Machine) (old new : S) (events : List Event) : Type 0 where
   pub acts : List Act
   pub goes : GoesBy machine old new acts
-  pub conducts : (moment : Moment) (aim : Aim) (more : List Act) (said : Spoken) → Conducts moment (made [] aim reply) more said → Conducts moment (makes_all events aim) (acts ++ more) said
+  pub along : (pack : Pack) (first last : Service) (rest : List Event) → Went pack first acts last → ServedAlong pack first (events ++ rest) → ServedAlong pack last rest
+  pub leads : (moment : Moment) (rest : List played.Event) (next : Plan) → Leads (each moment (map event_of events ++ rest) next) acts (each moment rest next)
 
--- what a line says that prints this where it is done
-abbrev pub done_said : List ℕ → Reply → Spoken
-done_said text Done = prints text
-done_said text reply = refuses reply
+-- What is left of a plan was done, to its end: what is said is counted, and its text is what is answered.
+pub record Concludes {V E S : Type 0} (bytes : V → List ℕ) (result : Result V E) (machine : S → Machine) (old new : S) (plan : Plan) (tally counted : Tally) : Type 0 where
+  pub said : Spoken
+  pub led : Led machine old new plan (Say said)
+  pub refused : counted.refused ≡ tally.refused || said.refused
+  pub broke : counted.broke ≡ tally.broke || said.broke
+  pub text : IfOk result (λ v. bytes v ≡ said.text)
 
--- They were asked so, and then all channels were closed.
-pub record HasConducted {S : Type 0} (machine : S → Machine) (old new : S) (moment : Moment) (events : List played.Event) (reply : Reply) : Type 0 where
-  pub acts : List Act
-  pub goes : GoesBy machine old new acts
-  pub conducts : (text : List ℕ) → Conducts moment (makes_all events (Prints text)) acts (done_said text reply)
+-- The characters of words, as far as there was memory for them.
+abbrev pub AreTyped : Bool → List ℕ → List ℕ → Type 0
+AreTyped is_whole bytes words = is_whole ≡ true → bytes ≡ typed words
+
+-- Words of a body were read by what a plan asks for them, and their characters put behind those before.
+pub record HasTyped {S X : Type 0} (machine : S → Machine) (old new : S) (moment : Moment) (plan : (List ℕ → Plan) → Plan) (result : Result X Reply) (before after : Typed) : Type 0 where
+  pub words : List ℕ
+  pub types : (seen : List ℕ) → AreTyped before.is_whole before.bytes.items seen → AreTyped after.is_whole after.bytes.items (seen ++ words)
+  pub led : (next : List ℕ → Plan) → Led machine old new (plan next) (followed moment result (λ x. next words))

@@ -8,10 +8,10 @@ use Rattle.meaning.specs.declared.command.Command.TheVariants.{Login, Directory,
 abbrev pub is_served : Command → Bool
 is_served (Login owner) = true
 is_served (Directory owner) = true
-is_served (Copy to from) = false
+is_served (Copy to from) = true
 is_served (Rename to from) = false
 is_served (Delete spec) = false
-is_served (TypeOut spec) = false
+is_served (TypeOut spec) = true
 is_served (Protect spec protection) = false
 is_served (MakeDir owner protection) = true
 

@@ -1,13 +1,15 @@
 ghost use Rattle.std.specs.Prelude.{◌≡◌, ◌<◌, ◌||◌, IfOk, Some, codes, false, true};
 ghost use Rattle.meaning.specs.Texts.{line, is_broken};
-ghost use Rattle.meaning.specs.declared.command.Command.TheVariants.{Login as LoginLine, Directory as DirectoryLine, MakeDir as MakeLine};
+ghost use Rattle.meaning.specs.declared.command.Command.TheVariants.{Login as LoginLine, Directory as DirectoryLine, Copy as CopyLine, TypeOut as TypeLine, MakeDir as MakeLine};
 ghost use Rattle.commands.specs.Served.{served, Fits};
 ghost use Rattle.commands.specs.Sessions.{Spoke};
 
+use crate::copying::copy;
 use crate::makdir::make_dir;
 use crate::service::FileService;
 use crate::text;
-use meaning::{Command, Reply};
+use crate::typing::type_out;
+use meaning::{Command, Reply, Spec};
 use monitor::Event;
 use std::alloc::{AllocError, Global};
 use words36::{Moment, Ppn};
@@ -145,6 +147,41 @@ fn make_dir_for<S: FileService>(
     }
 }
 
+/// Answers COPY, for whoever is logged in.
+fn copy_for<S: FileService>(
+    alloc: Global,
+    service: &mut S,
+    moment: Moment,
+    who: Option<Ppn>,
+    tally: &mut Tally,
+    to: Spec,
+    from: Spec,
+) -> Result<Vec<u8>, AllocError>
+    ensures { Spoke (λ bytes. bytes.items) result S.machine service.old service.new moment who who tally.old tally.new (Some (CopyLine to from)) }
+{
+    match who {
+        Some(me) => copy(alloc, service, moment, me, tally, to, from),
+        None => turn_away(alloc, tally),
+    }
+}
+
+/// Answers TYPE, for whoever is logged in.
+fn type_for<S: FileService>(
+    alloc: Global,
+    service: &mut S,
+    moment: Moment,
+    who: Option<Ppn>,
+    tally: &mut Tally,
+    spec: Spec,
+) -> Result<Vec<u8>, AllocError>
+    ensures { Spoke (λ bytes. bytes.items) result S.machine service.old service.new moment who who tally.old tally.new (Some (TypeLine spec)) }
+{
+    match who {
+        Some(me) => type_out(alloc, service, moment, me, tally, spec),
+        None => turn_away(alloc, tally),
+    }
+}
+
 /// Makes the calls of a line that means this, as far as it is served, and gives the bytes that it prints.
 pub fn answer<S: FileService>(
     alloc: Global,
@@ -163,6 +200,8 @@ pub fn answer<S: FileService>(
     match command {
         Command::Login(owner) => log_in(alloc, service, moment, who, tally, owner),
         Command::Directory(place) => list_for(alloc, service, moment, *who, tally, place),
+        Command::Copy(to, from) => copy_for(alloc, service, moment, *who, tally, to, from),
+        Command::TypeOut(spec) => type_for(alloc, service, moment, *who, tally, spec),
         Command::MakeDir(owner, protection) => {
             make_dir_for(alloc, service, moment, *who, tally, owner, protection)
         }

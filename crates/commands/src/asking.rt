@@ -1,42 +1,52 @@
-ghost use Rattle.std.specs.Prelude.{map};
-ghost use Rattle.std.specs.List.{AllByRecursion};
+ghost use Rattle.std.specs.Prelude.{◌≡◌, ℕ, map};
+ghost use Rattle.words36.specs.declared.moment.Moment as moments;
+ghost use Rattle.meaning.specs.Conducts.{Plan, Say, each, examines, ends, until_end};
+ghost use Rattle.meaning.specs.Texts.{Spoken};
 ghost use Rattle.monitor.specs.Runs.{event_of};
-ghost use Rattle.commands.specs.Asking.{IsAlwaysServed, HasAsked, HasConducted};
+ghost use Rattle.commands.specs.Asking.{AreServedFrom, Led, followed};
 
 use crate::answer::SESSION_JOB;
 use crate::service::FileService;
 use meaning::Reply;
 use monitor::{Call, Event};
 use std::alloc::Global;
-use words36::Moment;
+use words36::{Moment, Word};
 
-/// Hands events in, one after the other, as long as each is done; gives the reply of the last.
-fn ask_all<S: FileService>(alloc: Global, service: &mut S, events: &[Event]) -> Reply
-    requires { AllByRecursion IsAlwaysServed events.now }
-    ensures { HasAsked S.machine service.old service.new (map event_of events.now) result }
+/// Hands events in, one after the other, as long as each is done; the error is the reply of the first that is not.
+pub fn ask_all<S: FileService>(
+    alloc: Global,
+    service: &mut S,
+    events: &[Event],
+) -> Result<(), Reply>
+    requires { AreServedFrom events.now }
+    ensures { (moment : moments.Moment) (next : Plan) → Led S.machine service.old service.new
+        (each moment (map event_of events.now) next) (followed moment result (λ unit. next)) }
 {
     for event in events {
         let reply = service.event(alloc, event);
         match reply {
             Reply::Done => (),
-            _ => return reply,
+            _ => return Err(reply),
         }
     }
-    Reply::Done
+    Ok(())
 }
 
-/// Hands events in, as long as each is done, and then a RESET, whatever was answered; gives the reply of the
-/// last before that.
-pub fn conduct<S: FileService>(
-    alloc: Global,
-    service: &mut S,
-    moment: Moment,
-    events: &[Event],
-) -> Reply
-    requires { AllByRecursion IsAlwaysServed events.now }
-    ensures { HasConducted S.machine service.old service.new moment (map event_of events.now) result }
+/// The word at an address of the session's core; the error is the reply where it is none.
+pub fn examine<S: FileService>(alloc: Global, service: &mut S, address: u32) -> Result<Word, Reply>
+    ensures { (moment : moments.Moment) (next : ℕ → Plan) → Led S.machine service.old service.new
+        (examines moment address next) (followed moment result next) }
 {
-    let reply = ask_all(alloc, service, events);
+    let reply = service.event(alloc, &Event::Examine(SESSION_JOB, address));
+    match reply {
+        Reply::Value(word) => Ok(word),
+        _ => Err(reply),
+    }
+}
+
+/// Closes all channels, whatever is answered: what is left of a line of which it is known what it says.
+pub fn reset<S: FileService>(alloc: Global, service: &mut S, moment: Moment)
+    ensures { (said : Spoken) → Led S.machine service.old service.new (ends moment said) (Say said) }
+{
     service.event(alloc, &Event::Call(SESSION_JOB, Call::Reset, moment));
-    reply
 }

@@ -29,6 +29,8 @@
 
 mod answer;
 mod asking;
+mod concluding;
+mod copying;
 mod error;
 #[cfg(test)]
 mod fake;
@@ -46,6 +48,8 @@ mod obeying;
 mod order_tests;
 mod ordered;
 mod orders;
+mod reading;
+mod requests;
 mod run;
 #[cfg(test)]
 mod script_tests;
@@ -56,6 +60,7 @@ mod stream;
 #[cfg(test)]
 mod tests;
 mod text;
+mod typing;
 
 pub use answer::Tally;
 pub use error::SessionError;

@@ -65,7 +65,7 @@ writes moment spec = opens moment 2 ++ names new_words spec 0 ++ calls moment (E
 
 -- the command list names so many words of the block
 abbrev pub lists : ℕ → List Event
-lists count = deposits list_words (join (2 ^ 18 - count) (block_words - 1) ∷ 0 ∷ [])
+lists count = deposits list_words (join ((2 ^ 18 - count) % 2 ^ 18) (block_words - 1) ∷ 0 ∷ [])
 
 abbrev pub takes : Moment → Event
 takes moment = calls moment (In 1 list_words)

@@ -1,0 +1,27 @@
+ghost use Rattle.meaning.specs.Conducts.{ends, ok};
+ghost use Rattle.commands.specs.Asking.{Concludes, followed};
+
+use crate::answer::{Tally, is_broken, refuse};
+use crate::asking::reset;
+use crate::service::FileService;
+use crate::text;
+use meaning::Reply;
+use std::alloc::{AllocError, Global};
+use words36::Moment;
+
+/// Closes all channels at the end of a line that prints OK where it was done, and its refusal where it was not.
+pub fn conclude<S: FileService>(
+    alloc: Global,
+    service: &mut S,
+    moment: Moment,
+    tally: &mut Tally,
+    outcome: Result<(), Reply>,
+) -> Result<Vec<u8>, AllocError>
+    ensures { Concludes (λ bytes. bytes.items) result S.machine service.old service.new (followed moment outcome (λ unit. ends moment ok)) tally.old tally.new }
+{
+    reset(alloc, service, moment);
+    match outcome {
+        Ok(()) => text::line(alloc, "OK"),
+        Err(reply) => refuse(alloc, tally, text::refusal(&reply), is_broken(&reply)),
+    }
+}

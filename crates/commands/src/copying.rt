@@ -1,0 +1,121 @@
+ghost use Rattle.std.specs.Prelude.{◌++◌, ◌∷◌, [], ◌+◌, ℕ, Some};
+ghost use Rattle.meaning.specs.Conducts.{Plan, each, examines, finds as found, writes as written, lists as listed, file_words, copies_blocks, copies_last, copies_body, blocks_said as said_blocks, until_end, calls};
+ghost use Rattle.meaning.specs.declared.call.Call.TheVariants.{Close};
+ghost use Rattle.meaning.specs.declared.command.Command.TheVariants.{Copy as CopyLine};
+ghost use Rattle.commands.specs.Asking.{Led, followed};
+ghost use Rattle.commands.specs.Sessions.{Spoke};
+
+use crate::answer::Tally;
+use crate::asking::{ask_all, examine};
+use crate::concluding::conclude;
+use crate::reading::{blocks_said, find_end, last_count};
+use crate::requests::{SIZE_WORD, closes, finds, goes_to, lists, puts, takes, writes};
+use crate::service::FileService;
+use meaning::{Reply, Spec};
+use std::alloc::{AllocError, Global};
+use words36::{BLOCK_WORDS, Moment, Ppn, Word};
+
+/// Copies so many whole blocks, from where the two files are.
+fn copy_blocks<S: FileService>(
+    alloc: Global,
+    service: &mut S,
+    moment: Moment,
+    count: u32,
+) -> Result<(), Reply>
+    ensures { (next : Plan) → Led S.machine service.old service.new
+        (copies_blocks moment count next) (followed moment result (λ unit. next)) }
+{
+    for _ in 0..count {
+        ask_all(alloc, service, &[takes(moment), puts(moment)])?;
+    }
+    Ok(())
+}
+
+/// Copies the words of the last block, which is block n.
+fn copy_last<S: FileService>(
+    alloc: Global,
+    service: &mut S,
+    moment: Moment,
+    n: u32,
+    size: Word,
+) -> Result<(), Reply>
+    ensures { (next : Plan) → Led S.machine service.old service.new
+        (copies_last moment n size next) (followed moment result (λ unit. next)) }
+{
+    let count = last_count(alloc, service, moment, n, size)?;
+    ask_all(alloc, service, &lists(count))?;
+    ask_all(
+        alloc,
+        service,
+        &[goes_to(moment, n), takes(moment), puts(moment)],
+    )
+}
+
+/// Copies all words of a body of this size.
+fn copy_body<S: FileService>(
+    alloc: Global,
+    service: &mut S,
+    moment: Moment,
+    size: Word,
+) -> Result<(), Reply>
+    ensures { (next : Plan) → Led S.machine service.old service.new
+        (copies_body moment (said_blocks size) size next) (followed moment result (λ unit. next)) }
+{
+    let blocks = blocks_said(size);
+    if blocks == 0 {
+        return Ok(());
+    }
+    copy_blocks(alloc, service, moment, blocks - 1)?;
+    copy_last(alloc, service, moment, blocks, size)
+}
+
+/// Looks a file up and enters the other, each on its channel; gives the word that tells the file's size.
+fn open_both<S: FileService>(
+    alloc: Global,
+    service: &mut S,
+    moment: Moment,
+    to: Spec,
+    from: Spec,
+) -> Result<Word, Reply>
+    ensures { (next : ℕ → Plan) → Led S.machine service.old service.new
+        (each moment (found moment from ++ written moment to ++ listed 128) (examines moment (file_words + 3) next)) (followed moment result next) }
+{
+    ask_all(alloc, service, &finds(moment, from))?;
+    ask_all(alloc, service, &writes(moment, to))?;
+    ask_all(alloc, service, &lists(BLOCK_WORDS as u32))?;
+    examine(alloc, service, SIZE_WORD)
+}
+
+/// Copies a file, and closes the new one.
+fn copy_file<S: FileService>(
+    alloc: Global,
+    service: &mut S,
+    moment: Moment,
+    to: Spec,
+    from: Spec,
+) -> Result<(), Reply>
+    ensures { (next : Plan) → Led S.machine service.old service.new
+        (each moment (found moment from ++ written moment to ++ listed 128) (examines moment (file_words + 3) (λ size. copies_body moment (said_blocks size) size
+        (until_end moment (each moment (calls moment (Close 2 0) ∷ []) next))))) (followed moment result (λ unit. next)) }
+{
+    let size = open_both(alloc, service, moment, to, from)?;
+    copy_body(alloc, service, moment, size)?;
+    find_end(alloc, service, moment)?;
+    ask_all(alloc, service, &[closes(moment)])
+}
+
+/// Answers COPY, for a job that is logged in.
+pub fn copy<S: FileService>(
+    alloc: Global,
+    service: &mut S,
+    moment: Moment,
+    me: Ppn,
+    tally: &mut Tally,
+    to: Spec,
+    from: Spec,
+) -> Result<Vec<u8>, AllocError>
+    ensures { Spoke (λ bytes. bytes.items) result S.machine service.old service.new moment (Some me) (Some me) tally.old tally.new (Some (CopyLine to from)) }
+{
+    let copied = copy_file(alloc, service, moment, to, from);
+    conclude(alloc, service, moment, tally, copied)
+}

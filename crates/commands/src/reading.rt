@@ -1,0 +1,127 @@
+ghost use Rattle.std.specs.Prelude.{◌≡◌, ◌<◌, ◌≤◌, ◌-◌, ◌^◌, ℕ, List, if◌then◌else◌, IfOk, Some, None, length, take, replicate};
+ghost use Rattle.words36.specs.Words.{left};
+ghost use Rattle.words36.specs.declared.moment.Moment as moments;
+ghost use Rattle.meaning.specs.Conducts as plans;
+ghost use Rattle.meaning.specs.Conducts.{Plan, each, fetches, deposits, takes_over, sizes, until_end, says_words, block_words};
+ghost use Rattle.commands.specs.Asking.{Led, followed};
+
+use crate::asking::{ask_all, examine};
+use crate::requests::{BLOCK_AREA, fills, goes_to, takes};
+use crate::service::FileService;
+use meaning::Reply;
+use std::alloc::Global;
+use words36::{BLOCK_WORDS, Block, Moment, Word};
+
+/// The bit of a status that tells the end of a file.
+const END_OF_FILE: u32 = 1 << 13;
+
+/// How many words a body has, where the word that LOOKUP leaves says so: a longer one than 131072 words says
+/// its blocks.
+fn words_said(size: Word) -> Option<u32>
+    ensures { result ≡ (if says_words size then Some (2 ^ 18 - left size) else None) }
+{
+    let left = size.left().bits();
+    if left >= 1 << 17 {
+        Some((1 << 18) - left)
+    } else {
+        None
+    }
+}
+
+/// How many blocks a body has, by the word that LOOKUP leaves.
+pub fn blocks_said(size: Word) -> u32
+    ensures value { result ≡ plans.blocks_said size }
+    ensures few { result < 2 ^ 18 }
+{
+    match words_said(size) {
+        Some(words) => words.div_ceil(BLOCK_WORDS as u32),
+        None => size.left().bits(),
+    }
+}
+
+/// Makes all words of the block this one.
+fn fill<S: FileService>(alloc: Global, service: &mut S, word: Word) -> Result<(), Reply>
+    ensures { (moment : moments.Moment) (next : Plan) → Led S.machine service.old service.new
+        (each moment (deposits block_words (replicate 128 word)) next) (followed moment result (λ unit. next)) }
+{
+    for place in 0..BLOCK_WORDS as u32 {
+        ask_all(alloc, service, &[fills(place, word)])?;
+    }
+    Ok(())
+}
+
+/// So many words of the block, and zeros behind them.
+pub fn fetch<S: FileService>(alloc: Global, service: &mut S, count: u32) -> Result<Block, Reply>
+    requires { count ≤ 128 }
+    ensures { (moment : moments.Moment) (next : List ℕ → Plan) → Led S.machine service.old service.new
+        (fetches moment count block_words next) (followed moment result (λ block. next (take count block))) }
+{
+    let mut block = [Word::ZERO; BLOCK_WORDS];
+    for place in 0..count {
+        block[place as usize] = examine(alloc, service, BLOCK_AREA + place)?;
+    }
+    Ok(block)
+}
+
+/// Block n, taken over words that are all this one.
+fn take_over<S: FileService>(
+    alloc: Global,
+    service: &mut S,
+    moment: Moment,
+    n: u32,
+    word: Word,
+) -> Result<Block, Reply>
+    ensures { (next : List ℕ → Plan) → Led S.machine service.old service.new
+        (takes_over moment n word next) (followed moment result next) }
+{
+    fill(alloc, service, word)?;
+    ask_all(alloc, service, &[goes_to(moment, n), takes(moment)])?;
+    fetch(alloc, service, BLOCK_WORDS as u32)
+}
+
+/// How many words two blocks have in common, place by place.
+fn same_words(zeros: &Block, ones: &Block) -> u32
+    ensures value { result ≡ plans.same_words zeros.now ones.now }
+    ensures few { result ≤ 128 }
+{
+    let mut count = 0;
+    for place in 0..BLOCK_WORDS {
+        if zeros[place] == ones[place] {
+            count += 1;
+        }
+    }
+    count
+}
+
+/// How many words the last block has, which is block n. Where the file's size doesn't say it, the block is
+/// taken twice, over different words: those that were moved are the same.
+pub fn last_count<S: FileService>(
+    alloc: Global,
+    service: &mut S,
+    moment: Moment,
+    n: u32,
+    size: Word,
+) -> Result<u32, Reply>
+    ensures led { (next : ℕ → Plan) → Led S.machine service.old service.new
+        (sizes moment n size next) (followed moment result next) }
+    ensures few { IfOk result (λ count. count ≤ 128) }
+{
+    if let Some(words) = words_said(size) {
+        return Ok((words - 1) % BLOCK_WORDS as u32 + 1);
+    }
+    let zeros = take_over(alloc, service, moment, n, Word::ZERO)?;
+    let ones = take_over(alloc, service, moment, n, Word::from_bits(1))?;
+    Ok(same_words(&zeros, &ones))
+}
+
+/// An IN that finds no word any more.
+pub fn find_end<S: FileService>(alloc: Global, service: &mut S, moment: Moment) -> Result<(), Reply>
+    ensures { (next : Plan) → Led S.machine service.old service.new
+        (until_end moment next) (followed moment result (λ unit. next)) }
+{
+    let reply = service.event(alloc, &takes(moment));
+    match reply {
+        Reply::Stopped(status) if status & END_OF_FILE != 0 => Ok(()),
+        _ => Err(reply),
+    }
+}

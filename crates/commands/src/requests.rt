@@ -1,0 +1,189 @@
+ghost use Rattle.std.specs.Prelude.{◌≡◌, ◌<◌, ◌≤◌, ◌+◌, ◌-◌, ◌*◌, ◌%◌, ◌^◌, map, unwrap_or};
+ghost use Rattle.std.specs.List.{AllByRecursion};
+ghost use Rattle.words36.specs.Words.{join};
+ghost use Rattle.meaning.specs.Conducts as plans;
+ghost use Rattle.meaning.specs.Conducts.{block_words};
+ghost use Rattle.meaning.specs.declared.call.Call.TheVariants.{Close};
+ghost use Rattle.meaning.specs.declared.call.Event.TheVariants.{Deposit};
+ghost use Rattle.monitor.specs.Runs.{event_of};
+ghost use Rattle.commands.specs.Asking.{AreServedFrom, IsAlwaysServed};
+
+use crate::answer::SESSION_JOB;
+use meaning::Spec;
+use monitor::{Call, Event};
+use words36::{FileName, Half, Moment, Ppn, Word};
+
+// Where a session has what it hands over, in its core.
+
+/// The three words of an OPEN.
+const OPEN_WORDS: u32 = 0o30;
+
+/// The four words of a file that is looked up, and the words of a directory.
+const FILE_WORDS: u32 = 0o40;
+
+/// Where LOOKUP tells how long the file is.
+pub const SIZE_WORD: u32 = FILE_WORDS + 3;
+
+/// The four words of a file that is entered.
+const NEW_WORDS: u32 = 0o44;
+
+/// A command list of two words.
+const LIST_WORDS: u32 = 0o50;
+
+/// The words of a block.
+pub const BLOCK_AREA: u32 = 0o200;
+
+/// DSK in SIXBIT.
+const DISK: u64 = 0o446353000000;
+
+const DUMP_MODE: u64 = 0o17;
+
+/// The channel that a file is read on.
+const READER: u32 = 1;
+
+/// The channel that a file is written on.
+const WRITER: u32 = 2;
+
+/// The word that a protection is handed over in: it stands in the nine bits on the left.
+fn protection_word(protection: u32) -> Word
+    requires { protection < 512 }
+    ensures { result ≡ protection * 2 ^ 27 }
+{
+    Word::from_bits(u64::from(protection) << 27)
+}
+
+/// The word of a directory's owner, or 0 for the session's own.
+fn owner_word(owner: Option<Ppn>) -> Word
+    ensures { result ≡ unwrap_or owner 0 }
+{
+    match owner {
+        Some(owner) => owner.word(),
+        None => Word::ZERO,
+    }
+}
+
+/// The word of a file's extension.
+fn extension_word(name: &FileName) -> Word
+    ensures { result ≡ join name.now.ext 0 }
+{
+    Word::from_halves(name.ext, Half::from_bits(0))
+}
+
+/// What looks a file up, on channel 1.
+pub fn finds(moment: Moment, spec: Spec) -> [Event; 9]
+    ensures made { map event_of result ≡ plans.finds moment spec }
+    ensures served { AreServedFrom result }
+{
+    let Spec { name, owner } = spec;
+    let extension = extension_word(&name);
+    let owner = owner_word(owner);
+    [
+        Event::Deposit(SESSION_JOB, OPEN_WORDS, Word::from_bits(DUMP_MODE)),
+        Event::Deposit(SESSION_JOB, OPEN_WORDS + 1, Word::from_bits(DISK)),
+        Event::Deposit(SESSION_JOB, OPEN_WORDS + 2, Word::ZERO),
+        Event::Call(SESSION_JOB, Call::Open(READER, OPEN_WORDS), moment),
+        Event::Deposit(SESSION_JOB, FILE_WORDS, name.name),
+        Event::Deposit(SESSION_JOB, FILE_WORDS + 1, extension),
+        Event::Deposit(SESSION_JOB, FILE_WORDS + 2, Word::ZERO),
+        Event::Deposit(SESSION_JOB, FILE_WORDS + 3, owner),
+        Event::Call(SESSION_JOB, Call::Lookup(READER, FILE_WORDS), moment),
+    ]
+}
+
+/// What enters a file, on channel 2.
+pub fn writes(moment: Moment, spec: Spec) -> [Event; 9]
+    ensures made { map event_of result ≡ plans.writes moment spec }
+    ensures served { AreServedFrom result }
+{
+    let Spec { name, owner } = spec;
+    let extension = extension_word(&name);
+    let owner = owner_word(owner);
+    [
+        Event::Deposit(SESSION_JOB, OPEN_WORDS, Word::from_bits(DUMP_MODE)),
+        Event::Deposit(SESSION_JOB, OPEN_WORDS + 1, Word::from_bits(DISK)),
+        Event::Deposit(SESSION_JOB, OPEN_WORDS + 2, Word::ZERO),
+        Event::Call(SESSION_JOB, Call::Open(WRITER, OPEN_WORDS), moment),
+        Event::Deposit(SESSION_JOB, NEW_WORDS, name.name),
+        Event::Deposit(SESSION_JOB, NEW_WORDS + 1, extension),
+        Event::Deposit(SESSION_JOB, NEW_WORDS + 2, Word::ZERO),
+        Event::Deposit(SESSION_JOB, NEW_WORDS + 3, owner),
+        Event::Call(SESSION_JOB, Call::Enter(WRITER, NEW_WORDS), moment),
+    ]
+}
+
+/// The command word of so many words of the block.
+fn block_command(count: u32) -> Word
+    requires { count ≤ 128 }
+    ensures { result ≡ join ((2 ^ 18 - count) % 2 ^ 18) (block_words - 1) }
+{
+    Word::from_halves(
+        Half::from_bits(((1 << 18) - count) % (1 << 18)),
+        Half::from_bits(BLOCK_AREA - 1),
+    )
+}
+
+/// What makes the command list name so many words of the block.
+pub fn lists(count: u32) -> [Event; 2]
+    requires { count ≤ 128 }
+    ensures made { map event_of result ≡ plans.lists count }
+    ensures served { AllByRecursion IsAlwaysServed result }
+{
+    [
+        Event::Deposit(SESSION_JOB, LIST_WORDS, block_command(count)),
+        Event::Deposit(SESSION_JOB, LIST_WORDS + 1, Word::ZERO),
+    ]
+}
+
+/// An IN of what the command list names.
+pub fn takes(moment: Moment) -> Event
+    ensures made { event_of result ≡ plans.takes moment }
+    ensures served { IsAlwaysServed result }
+{
+    Event::Call(SESSION_JOB, Call::In(READER, LIST_WORDS), moment)
+}
+
+/// An OUT of what the command list names.
+pub fn puts(moment: Moment) -> Event
+    ensures made { event_of result ≡ plans.puts moment }
+    ensures served { IsAlwaysServed result }
+{
+    Event::Call(SESSION_JOB, Call::Out(WRITER, LIST_WORDS), moment)
+}
+
+/// What makes block n the next that is taken.
+pub fn goes_to(moment: Moment, n: u32) -> Event
+    ensures made { event_of result ≡ plans.goes_to moment n }
+    ensures served { IsAlwaysServed result }
+{
+    Event::Call(SESSION_JOB, Call::Useti(READER, n), moment)
+}
+
+/// What makes the file that was entered the file of its name.
+pub fn closes(moment: Moment) -> Event
+    ensures made { event_of result ≡ plans.calls moment (Close 2 0) }
+    ensures served { IsAlwaysServed result }
+{
+    Event::Call(SESSION_JOB, Call::Close(WRITER, 0), moment)
+}
+
+/// A word of the block becomes this one.
+pub fn fills(place: u32, word: Word) -> Event
+    requires { place < 128 }
+    ensures made { event_of result ≡ Deposit 1 (block_words + place) word }
+    ensures served { IsAlwaysServed result }
+{
+    Event::Deposit(SESSION_JOB, BLOCK_AREA + place, word)
+}
+
+/// What makes a directory.
+pub fn makes(moment: Moment, owner: Ppn, protection: u32) -> [Event; 3]
+    requires { protection < 512 }
+    ensures made { map event_of result ≡ plans.makes moment owner protection }
+    ensures served { AllByRecursion IsAlwaysServed result }
+{
+    [
+        Event::Deposit(SESSION_JOB, FILE_WORDS, owner.word()),
+        Event::Deposit(SESSION_JOB, FILE_WORDS + 1, protection_word(protection)),
+        Event::Call(SESSION_JOB, Call::MakeDir(FILE_WORDS), moment),
+    ]
+}

@@ -1,0 +1,157 @@
+ghost use Rattle.std.specs.Prelude.{◌+◌, ◌++◌, ℕ, List, [], Some};
+ghost use Rattle.meaning.specs.Conducts.{Plan, each, examines, finds as found, lists as listed, file_words, types_blocks, types_last, types_body, blocks_said as said_blocks, until_end};
+ghost use Rattle.meaning.specs.declared.command.Command.TheVariants.{TypeOut as TypeLine};
+ghost use Rattle.commands.specs.Asking.{Led, followed, AreTyped, HasTyped};
+ghost use Rattle.commands.specs.Sessions.{Spoke};
+
+use crate::answer::{Tally, is_broken, refuse};
+use crate::asking::{ask_all, examine, reset};
+use crate::reading::{blocks_said, fetch, find_end, last_count};
+use crate::requests::{SIZE_WORD, finds, goes_to, lists, takes};
+use crate::service::FileService;
+use crate::text;
+use meaning::{Reply, Spec};
+use std::alloc::{AllocError, Global};
+use words36::{BLOCK_WORDS, Moment, Ppn, Word, unpack_ascii};
+
+/// The characters that were read so far, without nulls.
+#[derive(Drop)]
+struct Typed {
+    bytes: Vec<u8>,
+    /// Whether there was memory for all of them. A file is read to its end in any case, so that the job is left
+    /// as after any line.
+    is_whole: bool,
+}
+
+impl Typed {
+    fn new(alloc: Global) -> Typed
+        ensures { AreTyped result.is_whole result.bytes.items [] }
+    {
+        Typed {
+            bytes: Vec::new(alloc),
+            is_whole: true,
+        }
+    }
+
+    /// Puts the characters of words behind, where there is memory for them.
+    fn push(&mut self, alloc: Global, words: &[Word])
+        ensures { (seen : List ℕ) → AreTyped self.old.is_whole self.old.bytes.items seen → AreTyped self.new.is_whole self.new.bytes.items (seen ++ words.now) }
+    {
+        let Ok(characters) = unpack_ascii(alloc, words) else {
+            self.is_whole = false;
+            return;
+        };
+        for character in characters.as_slice() {
+            if *character != 0 && self.bytes.push(*character).is_err() {
+                self.is_whole = false;
+                return;
+            }
+        }
+    }
+}
+
+/// Reads so many whole blocks, from where the file is.
+fn type_blocks<S: FileService>(
+    alloc: Global,
+    service: &mut S,
+    moment: Moment,
+    count: u32,
+    typed: &mut Typed,
+) -> Result<(), Reply>
+    ensures { HasTyped S.machine service.old service.new moment (types_blocks moment count) result typed.old typed.new }
+{
+    for _ in 0..count {
+        ask_all(alloc, service, &[takes(moment)])?;
+        let block = fetch(alloc, service, BLOCK_WORDS as u32)?;
+        typed.push(alloc, &block);
+    }
+    Ok(())
+}
+
+/// Reads the words of the last block, which is block n.
+fn type_last<S: FileService>(
+    alloc: Global,
+    service: &mut S,
+    moment: Moment,
+    n: u32,
+    size: Word,
+    typed: &mut Typed,
+) -> Result<(), Reply>
+    ensures { HasTyped S.machine service.old service.new moment (types_last moment n size) result typed.old typed.new }
+{
+    let count = last_count(alloc, service, moment, n, size)?;
+    ask_all(alloc, service, &lists(count))?;
+    ask_all(alloc, service, &[goes_to(moment, n), takes(moment)])?;
+    let block = fetch(alloc, service, count)?;
+    typed.push(alloc, &block[..count as usize]);
+    Ok(())
+}
+
+/// Reads all words of a body of this size.
+fn type_body<S: FileService>(
+    alloc: Global,
+    service: &mut S,
+    moment: Moment,
+    size: Word,
+    typed: &mut Typed,
+) -> Result<(), Reply>
+    ensures { HasTyped S.machine service.old service.new moment (types_body moment (said_blocks size) size) result typed.old typed.new }
+{
+    let blocks = blocks_said(size);
+    if blocks == 0 {
+        return Ok(());
+    }
+    type_blocks(alloc, service, moment, blocks - 1, typed)?;
+    type_last(alloc, service, moment, blocks, size, typed)
+}
+
+/// Looks a file up; gives the word that tells its size.
+fn open_one<S: FileService>(
+    alloc: Global,
+    service: &mut S,
+    moment: Moment,
+    spec: Spec,
+) -> Result<Word, Reply>
+    ensures { (next : ℕ → Plan) → Led S.machine service.old service.new
+        (each moment (found moment spec ++ listed 128) (examines moment (file_words + 3) next)) (followed moment result next) }
+{
+    ask_all(alloc, service, &finds(moment, spec))?;
+    ask_all(alloc, service, &lists(BLOCK_WORDS as u32))?;
+    examine(alloc, service, SIZE_WORD)
+}
+
+/// Reads a file.
+fn type_file<S: FileService>(
+    alloc: Global,
+    service: &mut S,
+    moment: Moment,
+    spec: Spec,
+    typed: &mut Typed,
+) -> Result<(), Reply>
+    ensures { HasTyped S.machine service.old service.new moment (λ next. each moment (found moment spec ++ listed 128) (examines moment (file_words + 3) (λ size. types_body moment (said_blocks size) size (λ words. until_end moment (next words))))) result typed.old typed.new }
+{
+    let size = open_one(alloc, service, moment, spec)?;
+    type_body(alloc, service, moment, size, typed)?;
+    find_end(alloc, service, moment)
+}
+
+/// Answers TYPE, for a job that is logged in: the whole file is read before anything of it is printed.
+pub fn type_out<S: FileService>(
+    alloc: Global,
+    service: &mut S,
+    moment: Moment,
+    me: Ppn,
+    tally: &mut Tally,
+    spec: Spec,
+) -> Result<Vec<u8>, AllocError>
+    ensures { Spoke (λ bytes. bytes.items) result S.machine service.old service.new moment (Some me) (Some me) tally.old tally.new (Some (TypeLine spec)) }
+{
+    let mut typed = Typed::new(alloc);
+    let read = type_file(alloc, service, moment, spec, &mut typed);
+    reset(alloc, service, moment);
+    match read {
+        Ok(()) if typed.is_whole => Ok(typed.bytes),
+        Ok(()) => Err(AllocError),
+        Err(reply) => refuse(alloc, tally, text::refusal(&reply), is_broken(&reply)),
+    }
+}
