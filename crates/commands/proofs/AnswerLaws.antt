@@ -2,8 +2,8 @@
 use Rattle.std.proofs.Common.{◌≡◌, ◌≢◌, ℕ, ◌||◌, Bool, true, false, List, [], ◌∷◌, refl, sym, ◌∙◌, ap, subst, Option, Some, None, Result, Ok, Err, IfOk, unwrap_or}
 use Rattle.std.specs.Prelude.{codes}
 use Rattle.words36.specs.declared.moment.Moment.{Moment}
-use Rattle.meaning.specs.Texts.{complains, refuses, prints, refusal, is_broken, greeting, listing, line}
-use Rattle.meaning.specs.Conducts.{Act, Asks, Looks, Shows, Conducts, Prints, begins, makes, makes_all, ok}
+use Rattle.meaning.specs.Texts.{Spoken, complains, refuses, prints, refusal, is_broken, greeting, listing, line}
+use Rattle.meaning.specs.Conducts.{Act, Asks, Looks, Plan, Say, Conducts, begins, fails, ends, ok}
 use Rattle.meaning.specs.Talks.{Speaks, core_words}
 use Rattle.meaning.specs.declared.entry.Entry.{Entry}
 use Rattle.meaning.specs.declared.command.Command.{Command}
@@ -14,29 +14,16 @@ use Rattle.meaning.specs.declared.call.Reply.{Reply}
 use Rattle.meaning.specs.declared.call.Reply.TheVariants.{Done, Value, Refused, Stopped, NoChannel, AddressCheck, NoJob, NoMemory, Device, Failed, DateRange}
 use Rattle.monitor.specs.declared.events.Event.TheVariants.{Login as LogsIn}
 use Rattle.commands.specs.Machines.{Machine, AlwaysStands, IsAnswered, IsListed, GoesBy}
-use Rattle.commands.specs.Asking.{HasConducted, done_said}
+use Rattle.commands.specs.Asking.{Led, Concludes, followed}
 use Rattle.commands.specs.Sessions.{Spoke}
 use Rattle.commands.specs.declared.answer.Tally.{Tally}
 use Rattle.commands.proofs.GoingLaws.{goes_nowhere, goes_answered, goes_listed, served_always}
+use Rattle.commands.proofs.LedLaws.{led_on}
 use Rattle.commands.proofs.TalkLaws.{or-false}
 
 or-true : (b : Bool) → true ≡ b || true
 or-true true = refl
 or-true false = refl
-
--- a line that was not done says why
-refused_said : (text : List ℕ) (reply : Reply) → reply ≢ Done → done_said text reply ≡ refuses reply
-refused_said text Done h = absurd (h refl)
-refused_said text (Value word) h = refl
-refused_said text (Refused code) h = refl
-refused_said text (Stopped status) h = refl
-refused_said text NoChannel h = refl
-refused_said text AddressCheck h = refl
-refused_said text NoJob h = refl
-refused_said text NoMemory h = refl
-refused_said text Device h = refl
-refused_said text Failed h = refl
-refused_said text DateRange h = refl
 
 module _ {V E S : Type 0} (machine : S → Machine) (stands : AlwaysStands machine) (bytes : V → List ℕ) (result : Result V E) (moment : Moment) (tally counted : Tally) where
   -- Refusals: without a call, and after one.
@@ -104,17 +91,28 @@ module _ {V E S : Type 0} (machine : S → Machine) (stands : AlwaysStands machi
       → words ≡ refusal reply → broken ≡ is_broken reply → counted.refused ≡ true → counted.broke ≡ tally.broke || broken → IfOk result (λ v. bytes v ≡ line words)
       → Spoke bytes result machine old new moment (Some me) (Some me) tally counted (Some (DirectoryLine place))
   spoke_list_refused old new me place owner reply words broken e listed same_words same_broken refused broke text =
-      spoke_refusal old new (Some me) (Some (DirectoryLine place)) (Looks owner (Err reply) ∷ []) reply words broken ((ap Shows (sym e), refl, refl), refl) (goes_listed machine stands old new owner (Err reply) listed)
+      spoke_refusal old new (Some me) (Some (DirectoryLine place)) (Looks owner (Err reply) ∷ []) reply words broken ((e, refl), refl) (goes_listed machine stands old new owner (Err reply) listed)
       same_words same_broken refused broke text
 
-  -- MAKDIR.
-
-  pub spoke_make_refused : (old new : S) (me owner protection : ℕ) (events : List Event) (reply : Reply) (words : List ℕ) (broken : Bool) → events ≡ makes moment owner protection → reply ≢ Done → HasConducted machine old new moment events reply
+  -- What is left of a line where a call was not done.
+  pub concludes_refusal : (old new : S) (reply : Reply) (words : List ℕ) (broken : Bool) → Led machine old new (fails moment reply) (Say (refuses reply))
       → words ≡ refusal reply → broken ≡ is_broken reply → counted.refused ≡ true → counted.broke ≡ tally.broke || broken → IfOk result (λ v. bytes v ≡ line words)
-      → Spoke bytes result machine old new moment (Some me) (Some me) tally counted (Some (MakeLine owner protection))
-  spoke_make_refused old new me owner protection events reply words broken e h p same_words same_broken refused broke text =
-      spoke_refusal old new (Some me) (Some (MakeLine owner protection)) p.acts reply words broken
-      (subst (λ said. Conducts moment (begins moment me (MakeLine owner protection)) p.acts said) (refused_said ok reply h) (subst (λ l. Conducts moment (makes_all l (Prints ok)) p.acts (done_said ok reply)) e (p.conducts ok)), refl) p.goes same_words same_broken refused broke text
+      → Concludes bytes result machine old new (fails moment reply) tally counted
+  concludes_refusal old new reply words broken led same_words same_broken refused broke text =
+      record {
+        said = refuses reply;
+        led = led;
+        refused = refused ∙ or-true tally.refused;
+        broke = broke ∙ ap (λ b. tally.broke || b) same_broken;
+        text = subst (λ (l : List ℕ). IfOk result (λ v. bytes v ≡ line l)) same_words text;
+      }
+
+  -- A line that needs a job, led to its end.
+  pub spoke_concluded : (old mid new : S) (me : ℕ) (command : Command) (rest : Plan) → ((acts : List Act) (said : Spoken) → Conducts (begins moment me command) acts said → Speaks moment (Some me) (Some command) acts said (Some me))
+      → Led machine old mid (begins moment me command) rest → Concludes bytes result machine mid new rest tally counted → Spoke bytes result machine old new moment (Some me) (Some me) tally counted (Some command)
+  spoke_concluded old mid new me command rest speaks led p =
+      let whole = led_on machine old mid new (begins moment me command) rest (Say p.said) led p.led in
+      record { acts = whole.acts; said = p.said; speaks = speaks whole.acts p.said whole.leads; goes = whole.goes; refused = p.refused; broke = p.broke; text = p.text }
 
 -- The same where it was done: nothing is counted.
 module _ {V E S : Type 0} (machine : S → Machine) (stands : AlwaysStands machine) (bytes : V → List ℕ) (result : Result V E) (moment : Moment) (tally : Tally) where
@@ -137,22 +135,13 @@ module _ {V E S : Type 0} (machine : S → Machine) (stands : AlwaysStands machi
       record {
         acts = Looks owner (Ok entries) ∷ [];
         said = prints (listing owner entries);
-        speaks = ((ap Shows (sym e), refl, refl), refl);
+        speaks = ((e, ap (λ (o : ℕ). Say (prints (listing o entries))) e), refl);
         goes = goes_listed machine stands old new owner (Ok entries) listed;
         refused = or-false tally.refused;
         broke = or-false tally.broke;
         text = subst (λ (l : List Entry). IfOk result (λ v. bytes v ≡ listing owner l)) same text;
       }
 
-  pub spoke_make : (old new : S) (me owner protection : ℕ) (events : List Event) (reply : Reply) → events ≡ makes moment owner protection → reply ≡ Done → HasConducted machine old new moment events reply → IfOk result (λ v. bytes v ≡ line (codes "OK"))
-      → Spoke bytes result machine old new moment (Some me) (Some me) tally tally (Some (MakeLine owner protection))
-  spoke_make old new me owner protection events reply e is p text =
-      record {
-        acts = p.acts;
-        said = prints ok;
-        speaks = (subst (λ r. Conducts moment (begins moment me (MakeLine owner protection)) p.acts (done_said ok r)) is (subst (λ l. Conducts moment (makes_all l (Prints ok)) p.acts (done_said ok reply)) e (p.conducts ok)), refl);
-        goes = p.goes;
-        refused = or-false tally.refused;
-        broke = or-false tally.broke;
-        text = text;
-      }
+  -- What is left of a line that prints OK, all calls of which were done.
+  pub concludes_ok : (old new : S) → Led machine old new (ends moment ok) (Say ok) → IfOk result (λ v. bytes v ≡ line (codes "OK")) → Concludes bytes result machine old new (ends moment ok) tally tally
+  concludes_ok old new led text = record { said = ok; led = led; refused = or-false tally.refused; broke = or-false tally.broke; text = text }

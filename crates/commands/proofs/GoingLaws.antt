@@ -116,6 +116,19 @@ module _ {S : Type 0} (machine : S → Machine) where
           (one.0, one.1, answered_acts a b event reply p h first one.0 serves one.1 one.2);
     }
 
+    -- an event that is served where the acts before it lead
+    pub goes_then : (a b c : S) (acts : List Act) (event : Event) (reply : Reply) → GoesBy machine a b acts → ((pack : Pack) (first last : Service) → Went pack first acts last → IsServedIn last event)
+        → IsAnswered (machine b) (machine c) event reply → GoesBy machine a c (acts ++ Asks (event_of event) reply ∷ [])
+    goes_then a b c acts event reply before served p = record {
+      pack = p.pack ∙ before.pack;
+      honest = λ h. p.honest (before.honest h);
+      went = λ h first serves.
+          let one = before.went h first serves in
+          let then = p.answers (before.honest h) one.0 one.1 (served (machine a).pack first one.0 (acts_went (machine a).pack a first acts b one.0 one.2)) in
+          let act = answered_acts b c event reply p (before.honest h) one.0 then.0 one.1 then.1 then.2 in
+          (then.0, then.1, acts_on (machine a).pack a b c first one.0 then.0 acts (Asks (event_of event) reply ∷ []) one.2 (subst (λ (k : Pack). ActsBy machine k b one.0 (Asks (event_of event) reply ∷ []) c then.0) before.pack act));
+    }
+
     -- any event
     pub goes_ordered : (a b : S) (event : Event) (reply : Reply) → IsAnswered (machine a) (machine b) event reply → GoesServed machine a b (Asks (event_of event) reply ∷ [])
     goes_ordered a b event reply p = record {

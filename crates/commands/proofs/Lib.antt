@@ -11,7 +11,8 @@ pub mod TalkLaws
 pub mod StepLaws
 pub mod SessionLaws
 pub mod OneText
-pub mod AskingLaws
+pub mod LedLaws
+pub mod CopyingLaws
 pub mod MadeLaws
 pub mod OrderLaws
 pub mod ObeyLaws

@@ -1,7 +1,6 @@
-use Rattle.std.proofs.Common.{map, take}
-use Rattle.monitor.specs.Runs.{event_of}
+use Rattle.std.proofs.Common.{take}
 use Rattle.commands.specs.Asking.{HasDone}
 use Rattle.commands.proofs.asking.ask_all.Given as goal
 
 abbrev pub invariant-loop-event : goal.invariant-loop-event
-invariant-loop-event g l = HasDone g.S.FileService.machine l.fn.service l.service (map event_of (take l.event-index l.events))
+invariant-loop-event g l = HasDone g.S.FileService.machine l.fn.service l.service (take l.event-index l.events)
