@@ -1,6 +1,6 @@
 -- The events that look a file up, and those that enter one, are served one after the other: each is asked where the one
 -- before it was done, so that job 1 has by then the mode in its core, and the channel that is to write reads nothing.
-use Rattle.std.proofs.Common.{◌≡◌, ◌≢◌, ◌<◌, ℕ, zero, suc, ◌%◌, Bool, true, false, if◌then◌else◌, List, [], ◌∷◌, length, Option, None, Some, refl, sym, ap, subst, ◌∙◌, ⊎_elim, arith, slice_index, slice_set}
+use Rattle.std.proofs.Common.{◌≡◌, ◌≢◌, ◌<◌, ℕ, zero, suc, ◌+◌, ◌%◌, Bool, true, false, if◌then◌else◌, List, [], ◌∷◌, length, Option, None, Some, refl, sym, ap, subst, ◌∙◌, ⊎_elim, arith, slice_index, slice_set}
 use Rattle.std.specs.Prelude.{nat_lt, nat_le}
 use Rattle.std.proofs.lemmas.Bool.Decides.{nat_tests}
 use Rattle.std.proofs.lemmas.List.{get_or-set_same, get_or-set_other}
@@ -43,7 +43,7 @@ of_any : (service : Service) → OfOne Anyhow service
 of_any Broken = tt
 of_any (Serving s) = of_item (job_at s 1)
 
--- the outcome of a step is Done only where this holds of job 1 after it
+-- where the outcome of a step is Done, this holds of job 1 after it
 abbrev Leaves : (Job → Type 0) → Reply × State → Type 0
 Leaves Q r = r.0 ≡ Done → OfItem Q (job_at r.1 1)
 
@@ -59,17 +59,13 @@ done_leaves P Q pack event leaves (Serving s) (Serving t) p answers =
 abbrev Follows : Pack → Service → Event → (Service → Type 0) → Type 0
 Follows pack service event Rest = IsServedIn service event × ((mid : Service) → Answers pack service (event_of event) Done mid → Rest mid)
 
--- behind the last one nothing is asked
-last_served : (pack : Pack) (service : Service) (event : Event) → IsServedIn service event → Follows pack service event (λ mid. Unit {0})
-last_served pack service event served = (served, λ mid answers. tt)
-
 -- A word is deposited.
 
-module _ (P Q : Job → Type 0) (address word : ℕ) (goes : (job : Job) → address < length job.core → P job → Q (deposit_done job address word)) where
-  within : (a b : ℕ) (is : Bool) → nat_lt a b ≡ is → (if is then Done else AddressCheck) ≡ Done → a < b
-  within a b true e done = grind (arith, nat_tests)
-  within a b false e done = let wrong = done in cc
+within : (a b : ℕ) (is : Bool) → nat_lt a b ≡ is → (if is then Done else AddressCheck) ≡ Done → a < b
+within a b true e done = grind (arith, nat_tests)
+within a b false e done = let wrong = done in cc
 
+module _ (P Q : Job → Type 0) (address word : ℕ) (goes : (job : Job) → address < length job.core → P job → Q (deposit_done job address word)) where
   deposit_leaves : (s : State) (o : Option Job) → job_at s 1 ≡ o → OfItem P o → Leaves Q (on_job s o (λ job. deposit s 1 job address word))
   deposit_leaves s None there p = λ done. let wrong = done in cc
   deposit_leaves s (Some job) there p =
@@ -79,9 +75,10 @@ module _ (P Q : Job → Type 0) (address word : ℕ) (goes : (job : Job) → add
 
   -- it is served, and what comes behind it begins with what it leaves
   along_deposit : {Rest : Service → Type 0} (pack : Pack) (service : Service) → OfOne P service → ((mid : Service) → OfOne Q mid → Rest mid) → Follows pack service (Deposit 1 address word) Rest
-  along_deposit pack service p rest =
-      (served_always (Deposit 1 address word) (λ s. tt) service,
-      λ mid answers. rest mid (done_leaves P Q pack (event_of (Deposit 1 address word)) (λ serial s h. deposit_leaves s (job_at s 1) refl h) service mid p answers))
+  along_deposit pack service p rest = (
+    served_always (Deposit 1 address word) (λ s. tt) service,
+    λ mid answers. rest mid (done_leaves P Q pack (event_of (Deposit 1 address word)) (λ serial s h. deposit_leaves s (job_at s 1) refl h) service mid p answers),
+  )
 
 -- A channel is opened.
 
@@ -100,10 +97,11 @@ module _ (P Q : Job → Type 0) (channel address : ℕ) (goes : (job : Job) → 
 
   along_open : {Rest : Service → Type 0} (pack : Pack) (service : Service) (moment : Moment) → IsServedIn service (Calls 1 (Open channel address) moment) → OfOne P service
       → ((mid : Service) → OfOne Q mid → Rest mid) → Follows pack service (Calls 1 (Open channel address) moment) Rest
-  along_open pack service moment served p rest =
-      (served,
-      λ mid answers. rest mid
-          (done_leaves P Q pack (event_of (Calls 1 (Open channel address) moment)) (λ serial s h. open_leaves s (nat_lt (last_date pack.layout) moment.date) (job_at s 1) refl h) service mid p answers))
+  along_open pack service moment served p rest = (
+    served,
+    λ mid answers. rest mid
+        (done_leaves P Q pack (event_of (Calls 1 (Open channel address) moment)) (λ serial s h. open_leaves s (nat_lt (last_date pack.layout) moment.date) (job_at s 1) refl h) service mid p answers),
+  )
 
 -- The mode.
 
@@ -163,29 +161,29 @@ enter_served moment (Serving s) is = unread (job_at s 1) is
 
 -- Both plans.
 
-any_put : (address word : ℕ) (job : Job) → address < length job.core → Anyhow job → Anyhow (deposit_done job address word)
-any_put address word job inside any = tt
+-- the four words of a file, which leave what holds of job 1 as it is, and then the last call
+names_served : (P : Job → Type 0) (pack : Pack) (service : Service) (address name ext owner : ℕ) (last : Event) → ((at word : ℕ) (job : Job) → at < length job.core → P job → P (deposit_done job at word)) → OfOne P service
+    → ((mid : Service) → OfOne P mid → IsServedIn mid last) → ServedAlong pack service (Deposit 1 address name ∷ Deposit 1 (address + 1) ext ∷ Deposit 1 (address + 2) 0 ∷ Deposit 1 (address + 3) owner ∷ last ∷ [])
+names_served P pack service address name ext owner last kept holds served =
+    along_deposit P P address name (kept address name) pack service holds (λ one holds_at_one.
+    along_deposit P P (address + 1) ext (kept (address + 1) ext) pack one holds_at_one (λ two holds_at_two.
+    along_deposit P P (address + 2) 0 (kept (address + 2) 0) pack two holds_at_two (λ three holds_at_three.
+    along_deposit P P (address + 3) owner (kept (address + 3) owner) pack three holds_at_three (λ four holds_at_four.
+    (served four holds_at_four, λ mid answers. tt)))))
 
 -- the events that look a file up
 pub found_served : (moment : Moment) (mode device name ext owner : ℕ) → mode ≡ dump_mode
     → AreServedFrom (Deposit 1 0o30 mode ∷ Deposit 1 0o31 device ∷ Deposit 1 0o32 0 ∷ Calls 1 (Open 1 0o30) moment
     ∷ Deposit 1 0o40 name ∷ Deposit 1 0o41 ext ∷ Deposit 1 0o42 0 ∷ Deposit 1 0o43 owner ∷ Calls 1 (Lookup 1 0o40) moment ∷ [])
 found_served moment mode device name ext owner is pack service =
-    opens_served Anyhow pack service moment 1 mode device is (λ job has. tt) (λ one any_one.
-    along_deposit Anyhow Anyhow 0o40 name (any_put 0o40 name) pack one any_one (λ two any_two.
-    along_deposit Anyhow Anyhow 0o41 ext (any_put 0o41 ext) pack two any_two (λ three any_three.
-    along_deposit Anyhow Anyhow 0o42 0 (any_put 0o42 0) pack three any_three (λ four any_four.
-    along_deposit Anyhow Anyhow 0o43 owner (any_put 0o43 owner) pack four any_four (λ five any_five.
-    last_served pack five (Calls 1 (Lookup 1 0o40) moment) (served_always (Calls 1 (Lookup 1 0o40) moment) (λ s. tt) five))))))
+    let lookup = Calls 1 (Lookup 1 file_words) moment in
+    opens_served Anyhow pack service moment 1 mode device is (λ job has. tt) (λ mid any.
+    names_served Anyhow pack mid file_words name ext owner lookup (λ at word job inside always. tt) any (λ last any_last. served_always lookup (λ s. tt) last))
 
 -- the events that enter a file
 pub written_served : (moment : Moment) (mode device name ext owner : ℕ) → mode ≡ dump_mode
     → AreServedFrom (Deposit 1 0o30 mode ∷ Deposit 1 0o31 device ∷ Deposit 1 0o32 0 ∷ Calls 1 (Open 2 0o30) moment
     ∷ Deposit 1 0o44 name ∷ Deposit 1 0o45 ext ∷ Deposit 1 0o46 0 ∷ Deposit 1 0o47 owner ∷ Calls 1 (Enter 2 0o44) moment ∷ [])
 written_served moment mode device name ext owner is pack service =
-    opens_served IsUnread pack service moment 2 mode device is opened_unread (λ one unread_one.
-    along_deposit IsUnread IsUnread 0o44 name (unread_kept 0o44 name) pack one unread_one (λ two unread_two.
-    along_deposit IsUnread IsUnread 0o45 ext (unread_kept 0o45 ext) pack two unread_two (λ three unread_three.
-    along_deposit IsUnread IsUnread 0o46 0 (unread_kept 0o46 0) pack three unread_three (λ four unread_four.
-    along_deposit IsUnread IsUnread 0o47 owner (unread_kept 0o47 owner) pack four unread_four (λ five unread_five.
-    last_served pack five (Calls 1 (Enter 2 0o44) moment) (enter_served moment five unread_five))))))
+    opens_served IsUnread pack service moment 2 mode device is opened_unread (λ mid unread_mid.
+    names_served IsUnread pack mid new_words name ext owner (Calls 1 (Enter 2 new_words) moment) unread_kept unread_mid (enter_served moment))
