@@ -16,3 +16,4 @@ pub mod CopyingLaws
 pub mod MadeLaws
 pub mod OrderLaws
 pub mod ObeyLaws
+pub mod ServedLaws
