@@ -51,16 +51,10 @@ module _ {V E S : Type 0} (machine : S → Machine) (stands : AlwaysStands machi
   spoke_unknown m who meant e refused broke text =
       subst (λ (o : Option Command). Spoke bytes result machine m m moment who who tally counted o) (sym e) (spoke_complaint m who None (codes "?Command error") (refl, refl, refl) refused broke text)
 
-  pub spoke_stranger : (m : S) (who : Option ℕ) (place : Option ℕ) → who ≡ None → counted.refused ≡ true → counted.broke ≡ tally.broke || false → IfOk result (λ v. bytes v ≡ line (codes "?Not logged in"))
-      → Spoke bytes result machine m m moment who who tally counted (Some (DirectoryLine place))
-  spoke_stranger m who place e refused broke text =
-      subst (λ (o : Option ℕ). Spoke bytes result machine m m moment o o tally counted (Some (DirectoryLine place))) (sym e)
-      (spoke_complaint m None (Some (DirectoryLine place)) (codes "?Not logged in") (refl, refl, refl) refused broke text)
-
   -- a line that needs a job, of which this is said without one
-  pub spoke_command_stranger : (m : S) (who : Option ℕ) (command : Command) → Speaks moment None (Some command) [] (complains (codes "?Not logged in")) None → who ≡ None → counted.refused ≡ true → counted.broke ≡ tally.broke || false
+  pub spoke_stranger : (m : S) (who : Option ℕ) (command : Command) → Speaks moment None (Some command) [] (complains (codes "?Not logged in")) None → who ≡ None → counted.refused ≡ true → counted.broke ≡ tally.broke || false
       → IfOk result (λ v. bytes v ≡ line (codes "?Not logged in")) → Spoke bytes result machine m m moment who who tally counted (Some command)
-  spoke_command_stranger m who command speaks e refused broke text =
+  spoke_stranger m who command speaks e refused broke text =
       subst (λ (o : Option ℕ). Spoke bytes result machine m m moment o o tally counted (Some command)) (sym e) (spoke_complaint m None (Some command) (codes "?Not logged in") speaks refused broke text)
 
   -- LOGIN.
