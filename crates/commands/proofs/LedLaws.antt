@@ -128,10 +128,10 @@ module _ {S : Type 0} (machine : S → Machine) where
             subst (λ (s : Service). ServedAlong pack s rest) (sym apart.2.2) (before.1 apart.2.0 answers);
         leads = λ moment rest next.
             let spelled : map event_of (take (i + 1) events) ++ rest ≡ map event_of (take i events) ++ event_of item ∷ rest
-                = ap (λ (l : List played.Event). l ++ rest) (ap (map event_of) (events_more events i item h is_item) ∙ map-append event_of (take i events) (item ∷ [])) ∙ append_assoc (map event_of (take i events)) (event_of item ∷ []) rest in
+            = ap (λ (l : List played.Event). l ++ rest) (ap (map event_of) (events_more events i item h is_item) ∙ map-append event_of (take i events) (item ∷ [])) ∙ append_assoc (map event_of (take i events)) (event_of item ∷ []) rest in
             let first = p.leads moment (event_of item ∷ rest) next in
             let whole = leads_on (each moment (map event_of (take i events) ++ event_of item ∷ rest) next) (each moment (event_of item ∷ rest) next) (each moment rest next) p.acts (Asks (event_of item) reply ∷ []) first
-                (one_done moment (event_of item) rest next reply is) in
+            (one_done moment (event_of item) rest next reply is) in
             subst (λ (l : List played.Event). Leads (each moment l next) (p.acts ++ Asks (event_of item) reply ∷ []) (each moment rest next)) (sym spelled) whole;
       }
 
@@ -141,7 +141,7 @@ module _ {S : Type 0} (machine : S → Machine) where
         goes = goes;
         leads =
             let spelled : map event_of (take i events) ++ event_of item ∷ map event_of behind ≡ map event_of events
-                = sym (map-append event_of (take i events) (item ∷ behind)) ∙ ap (map event_of) (events_split events i item h is_item) in
+            = sym (map-append event_of (take i events) (item ∷ behind)) ∙ ap (map event_of) (events_split events i item h is_item) in
             let first = p.leads moment (event_of item ∷ map event_of behind) next in
             subst (λ (l : List played.Event). Leads (each moment l next) (p.acts ++ Asks (event_of item) reply ∷ []) (fails moment reply)) spelled
             (leads_on (each moment (map event_of (take i events) ++ event_of item ∷ map event_of behind) next) (each moment (event_of item ∷ map event_of behind) next) (fails moment reply) p.acts (Asks (event_of item) reply ∷ []) first

@@ -30,6 +30,8 @@
 mod answer;
 mod asking;
 mod concluding;
+#[cfg(test)]
+mod copy_tests;
 mod copying;
 mod error;
 #[cfg(test)]

@@ -15,10 +15,16 @@ fn put(rt: &impl Abort, disk: &mut MemDisk, n: u32, words: &[u64]) {
     disk.load(n, &block);
 }
 
-/// An image of 64 blocks, written out by hand: [10,20] with FOO.TXT of two words, of 4-Jan-75.
+/// An image of 64 blocks, as `image_with` makes it, on a disk that takes 64 writes and syncs.
 pub fn image(rt: &impl Abort, alloc: Global) -> Result<MemDisk, NoMemory> {
+    image_with(rt, alloc, 64)
+}
+
+/// An image of 64 blocks, written out by hand: [10,20] with FOO.TXT of two words, of 4-Jan-75. Its disk takes so many
+/// writes and syncs.
+pub fn image_with(rt: &impl Abort, alloc: Global, calls: usize) -> Result<MemDisk, NoMemory> {
     let home = [0o465154634562, 1, 0o100, 1, 0o11, 0o17];
-    let mut disk = MemDisk::new(alloc, 64, 64)?;
+    let mut disk = MemDisk::new(alloc, 64, calls)?;
     put(rt, &mut disk, 1, &home);
     put(rt, &mut disk, 2, &home);
     put(rt, &mut disk, 14, &[0o777777400000]);
