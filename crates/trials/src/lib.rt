@@ -6,11 +6,17 @@
 #[cfg(test)]
 mod begin_tests;
 #[cfg(test)]
+mod body_tests;
+#[cfg(test)]
 mod call_tests;
 #[cfg(test)]
 mod chain_tests;
 #[cfg(test)]
 mod fault_tests;
+#[cfg(test)]
+mod home_tests;
+#[cfg(test)]
+mod init_tests;
 #[cfg(test)]
 mod make_tests;
 #[cfg(test)]
