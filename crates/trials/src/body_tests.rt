@@ -47,9 +47,10 @@ fn rib(length: u64, count: usize, next: u64, first: u64) -> Block {
     block
 }
 
-/// V1 on a larger disk, where FOO.TXT has 113 blocks, 100 to 212, and an extension in 21.
+/// V1 on a larger disk, where FOO.TXT has 113 blocks, 100 to 212, and an extension in 21. It has room to record two
+/// syncs, so that it can be opened twice.
 fn with_a_rib(rt: &impl Abort, alloc: Global) -> Result<MemDisk, NoMemory> {
-    let mut disk = MemDisk::new(alloc, LARGE, 1)?;
+    let mut disk = MemDisk::new(alloc, LARGE, 2)?;
     let [name, layout, _, tables, images, master] = HOME;
     let home = [name, layout, 0o2000, tables, images, master];
     put(rt, &mut disk, 1, &home);
