@@ -1,15 +1,10 @@
-use crate::open_tests::{HOME, SIZE, beginning, booked, damage, expect_reads, load, v1, word};
+use crate::open_tests::{HOME, SIZE, beginning, booked, damage, expect_reads, filled, load, v1};
 use blockdisk::MemDisk;
 use std::alloc::Global;
 use std::process::Abort;
 use std::test::Fail;
 use volume::VolumeError;
-use words36::{BLOCK_WORDS, Block};
-
-/// A block whose words are all this number.
-fn filled(number: u64) -> Block {
-    [word(number); BLOCK_WORDS]
-}
+use words36::Block;
 
 /// A home copy of 64 blocks with this first block of the master directory.
 fn home(master: u64) -> Block {

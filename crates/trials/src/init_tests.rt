@@ -1,15 +1,9 @@
-use crate::open_tests::{HOME, SIZE, beginning, expect_block, failing, load, v1, word};
+use crate::open_tests::{HOME, SIZE, beginning, expect_block, failing, filled, load, v1};
 use blockdisk::MemDisk;
 use std::alloc::Global;
 use std::process::Abort;
 use std::test::Fail;
 use volume::{Volume, VolumeError};
-use words36::{BLOCK_WORDS, Block};
-
-/// A block whose words are all this number.
-fn filled(number: u64) -> Block {
-    [word(number); BLOCK_WORDS]
-}
 
 /// The volume on a disk is opened: its master directory has this one block, and nothing else is in use.
 fn expect_empty(rt: &impl Abort, alloc: Global, disk: MemDisk, master: u32) {

@@ -1,6 +1,6 @@
-//! Tests of what a volume does, call after call, through its public calls alone: it is opened, versions are begun,
-//! written, held, read, dropped and published, and directories are made, on disks that serve and on disks that fail. They
-//! stand apart from the crate that they test so that it is proved once. There is no code here beside them.
+//! Tests of what a volume does, call after call, through its public calls alone: it is made and opened, versions are
+//! begun, written, held, read, dropped and published, and directories are made, on disks that serve and on disks that
+//! fail. They stand apart from the crate that they test so that it is proved once. There is no code here beside them.
 #![tactic(auto)]
 
 #[cfg(test)]

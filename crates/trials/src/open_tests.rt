@@ -33,6 +33,11 @@ pub(crate) fn beginning(words: &[u64]) -> Block {
     block
 }
 
+/// A block whose words are all this number.
+pub(crate) fn filled(number: u64) -> Block {
+    [word(number); BLOCK_WORDS]
+}
+
 /// The prime block of V1, with this protection word, length and first pointer.
 pub(crate) fn prime(attributes: u64, length: u64, pointer: u64) -> Block {
     let mut block = beginning(&[

@@ -5,31 +5,19 @@ ghost use Rattle.volume.specs.Pins.{IsReadable};
 ghost use Rattle.volume.specs.Rest.{IsSound};
 ghost use Rattle.volume.specs.declared.handles.VersionHandle.TheVariants.{Pinned};
 
+use crate::begin_tests::ppn_of;
 use crate::open_tests::{SIZE, failing, v1, word};
+use crate::publish_tests::file_name;
 use blockdisk::{Disk, MemDisk};
 use meaning::ErrorCode;
 use std::alloc::Global;
 use std::process::Abort;
 use std::test::Fail;
 use volume::{CallError, Pin, VersionHandle, Volume};
-use words36::{FileName, Half, Ppn, Word};
+use words36::Word;
 
 /// The words of FOO.TXT in V1.
 const WORDS: [u64; 2] = [0o442131446236, 0o064240000000];
-
-fn file_name(name: u64) -> FileName {
-    FileName {
-        name: word(name),
-        ext: Half::from_bits(0o647064),
-    }
-}
-
-fn ppn_of(rt: &impl Abort, programmer: u32) -> Ppn {
-    let Some(ppn) = Ppn::new(0o10, programmer) else {
-        panic!(rt; "no such number");
-    };
-    ppn
-}
 
 /// The volume on a disk, with FOO.TXT of [10,20] pinned, or why not.
 pub(crate) fn open_and_pin<D: Disk + Drop>(
