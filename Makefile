@@ -2,16 +2,25 @@
 
 PREFIX ?= /usr/local
 
-.PHONY: help test build run install
+.PHONY: help test examples build run install
 
 help:
-	@echo 'make test     prove every crate from nothing, run the tests and try the wrong bodies that must be refused'
+	@echo 'make test     prove every crate from nothing, run the tests, try the wrong bodies that must be refused, and'
+	@echo '              run the examples'
+	@echo 'make examples run the examples alone, on the program that is there, or on one that is built first'
 	@echo 'make build    prove and build the program, as bin/filser'
 	@echo 'make run      build it, and do a first run in a fresh folder'
 	@echo 'make install  build it, and put the program and its man page below PREFIX (now $(PREFIX))'
 
+# The program that rt ci leaves is the one that it built from nothing.
 test:
 	rt ci
+	sh examples/run crates/filser/out/filser
+
+# A program that is there is taken as it is: after a change of the source it is make build that makes another one.
+examples:
+	@test -x crates/filser/out/filser || $(MAKE) build
+	sh examples/run crates/filser/out/filser
 
 # The first time every crate below the program is proved too; what was proved is kept below crates/*/out.
 build:

@@ -4,6 +4,7 @@ ghost use Rattle.volume.specs.LiveCores.{core_of};
 ghost use Rattle.volume.specs.Rest.{IsSound};
 
 use crate::open_tests::{SIZE, v1};
+use crate::publish_tests::open;
 use blockdisk::MemDisk;
 use meaning::ErrorCode;
 use retrieval::{Mode, Prime};
@@ -22,7 +23,7 @@ fn foo() -> FileName {
 }
 
 /// The number [10,n].
-fn ppn_of(rt: &impl Abort, n: u32) -> Ppn {
+pub(crate) fn ppn_of(rt: &impl Abort, n: u32) -> Ppn {
     let Some(ppn) = Ppn::new(0o10, n) else {
         panic!(rt; "no such number");
     };
@@ -46,16 +47,6 @@ fn prime_of(rt: &impl Abort, n: u32, file: FileName) -> Prime {
         panic!(rt; "no such prime block");
     };
     prime
-}
-
-/// Opens the volume on a disk in memory.
-fn open(alloc: Global, disk: MemDisk) -> Result<Volume<MemDisk>, VolumeError>
-    ensures { IfOk result (λ volume. IsSound (memory_state volume.disk) (core_of volume.map) volume.failed) }
-{
-    match Volume::open(alloc, disk) {
-        Ok(volume) => Ok(volume),
-        Err((error, _disk)) => Err(error),
-    }
 }
 
 /// V1, opened. Its room is 45, and [10,20] has one file.

@@ -77,7 +77,9 @@ fn directory_block(
 }
 
 /// A block of a directory has 42 entries. Of room 111 the 43rd file takes 2 blocks, for its prime block and for a
-/// block of the directory, and so does the 85th; one that takes the place of the 43rd takes no more.
+/// block of the directory, and so does the 85th; one that takes the place of the 43rd takes no more. The files take the
+/// blocks behind the directory's first block, 16, and each further block of the directory is taken before the prime
+/// block of the file that asks for it: 59 and 102.
 #[test]
 fn a_directory_grows_with_its_files(rt: HostRuntime) -> Result<(), Fail> {
     let alloc = rt.alloc();
@@ -91,23 +93,6 @@ fn a_directory_grows_with_its_files(rt: HostRuntime) -> Result<(), Fail> {
     expect_files(&rt, alloc, &volume, 84, 26);
     store(&rt, alloc, &mut volume, 85, &[], Some(24));
     expect_files(&rt, alloc, &volume, 85, 24);
-    let mut volume = open(alloc, volume.disk)?;
-    expect_files(&rt, alloc, &volume, 85, 24);
-    store(&rt, alloc, &mut volume, 43, &[], Some(24));
-    expect_files(&rt, alloc, &volume, 85, 24);
-    Ok(())
-}
-
-/// The files take the blocks behind the directory's first block, 16, and each further block of the directory is taken
-/// before the prime block of the file that asks for it: 59 and 102.
-#[test]
-fn the_blocks_of_a_long_directory(rt: HostRuntime) -> Result<(), Fail> {
-    let alloc = rt.alloc();
-    let mut volume = fresh(&rt, alloc, 128, 2000)?;
-    publish_each(&rt, alloc, &mut volume, 1, 43);
-    store(&rt, alloc, &mut volume, 43, &[], Some(67));
-    publish_each(&rt, alloc, &mut volume, 44, 85);
-    store(&rt, alloc, &mut volume, 85, &[], Some(24));
     let mut disk = volume.disk;
     let first = directory_block(alloc, 59, 1, 42, 17)?;
     expect_block(&rt, &mut disk, 16, &first);
@@ -117,6 +102,10 @@ fn the_blocks_of_a_long_directory(rt: HostRuntime) -> Result<(), Fail> {
     expect_block(&rt, &mut disk, 102, &third);
     let table = beginning(&[0o777777777777, 0o777777777777, 0o777777777760]);
     expect_block(&rt, &mut disk, 14, &table);
+    let mut volume = open(alloc, disk)?;
+    expect_files(&rt, alloc, &volume, 85, 24);
+    store(&rt, alloc, &mut volume, 43, &[], Some(24));
+    expect_files(&rt, alloc, &volume, 85, 24);
     Ok(())
 }
 

@@ -240,6 +240,7 @@ fn bad_prime_blocks(rt: HostRuntime) -> Result<(), Fail> {
 fn files_of_other_places(rt: HostRuntime) -> Result<(), Fail> {
     for (n, place, number, bad) in [
         (15, 2, 0o000010000021, 17),
+        (15, 2, 0o000011000020, 17),
         (16, 2, 0o465757000001, 17),
         (16, 3, 0o647065000000, 17),
         (16, 4, 18, 18),
@@ -265,10 +266,17 @@ fn blocks_of_two(rt: HostRuntime) -> Result<(), Fail> {
     Ok(())
 }
 
+/// It is named where the prime block that leads to it isn't damaged too.
 #[test]
 fn a_damaged_data_block(rt: HostRuntime) -> Result<(), Fail> {
     let disk = with_damage(&rt, rt.alloc(), 18)?;
     assert_eq!(rt; booked(rt.alloc(), disk), Err(VolumeError::BadData(18)));
+    let mut disk = with_damage(&rt, rt.alloc(), 18)?;
+    damage(&rt, &mut disk, 17);
+    assert_eq!(rt;
+        booked(rt.alloc(), disk),
+        Err(VolumeError::BadRetrieval(17))
+    );
     Ok(())
 }
 

@@ -4,6 +4,7 @@ ghost use Rattle.volume.specs.LiveCores.{core_of};
 ghost use Rattle.volume.specs.Rest.{IsSound};
 
 use crate::open_tests::{SIZE, beginning, booked, expect_block, load, word};
+use crate::publish_tests::open;
 use blockdisk::MemDisk;
 use meaning::ErrorCode;
 use std::alloc::{AllocError, Global};
@@ -37,16 +38,6 @@ fn ppn_of(rt: &impl Abort, n: u8) -> Ppn {
         panic!(rt; "no such number");
     };
     ppn
-}
-
-/// Opens the volume on a disk in memory.
-fn open(alloc: Global, disk: MemDisk) -> Result<Volume<MemDisk>, VolumeError>
-    ensures { IfOk result (λ volume. IsSound (memory_state volume.disk) (core_of volume.map) volume.failed) }
-{
-    match Volume::open(alloc, disk) {
-        Ok(volume) => Ok(volume),
-        Err((error, _disk)) => Err(error),
-    }
 }
 
 /// A fresh volume of 64 blocks, on a disk with room to record so many writes and syncs more.

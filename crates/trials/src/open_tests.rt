@@ -33,6 +33,11 @@ pub(crate) fn beginning(words: &[u64]) -> Block {
     block
 }
 
+/// A block whose words are all this number.
+pub(crate) fn filled(number: u64) -> Block {
+    [word(number); BLOCK_WORDS]
+}
+
 /// The prime block of V1, with this protection word, length and first pointer.
 pub(crate) fn prime(attributes: u64, length: u64, pointer: u64) -> Block {
     let mut block = beginning(&[
@@ -190,19 +195,20 @@ fn each_write_or_sync_may_fail(rt: HostRuntime) -> Result<(), Fail> {
     Ok(())
 }
 
-/// A disk that fails every read after so many. It is called dishonest, so that nothing is asked of it but
-/// its count of failures.
+/// A disk that fails every write, and every read after so many, of any number of blocks; those behind the blocks of a
+/// disk in memory fail too. It is called dishonest, so that nothing is asked of it but its count of failures.
 #[derive(Drop)]
-struct FailingDisk {
+pub(crate) struct FailingDisk {
     inner: MemDisk,
+    size: u32,
     reads: u32,
-    failures: u64,
+    pub(crate) failures: u64,
 }
 
 impl Disk for FailingDisk {
     ghost use Rattle.blockdisk.specs.Memory.{memory_state};
 
-    ghost state = { λ d. record (memory_state d.inner) { honest = ⊥; failures = d.failures } };
+    ghost state = { λ d. record (memory_state d.inner) { size = d.size; honest = ⊥; failures = d.failures } };
 
     ghost counts_now = { λ d t c h le left. absurd h };
 
@@ -211,11 +217,11 @@ impl Disk for FailingDisk {
     ghost reaches_back = { λ d t u c h le left. absurd h };
 
     fn blocks(&self) -> u32 {
-        self.inner.blocks()
+        self.size
     }
 
     fn read(&mut self, n: u32) -> Result<Block, Fault> {
-        if self.reads == 0 {
+        if self.reads == 0 || n >= self.inner.blocks() {
             self.failures = self.failures.saturating_add(1);
             return Err(Fault::Device);
         }
@@ -233,25 +239,38 @@ impl Disk for FailingDisk {
     }
 }
 
+/// A disk of so many blocks that fails after so many reads.
+pub(crate) fn failing(inner: MemDisk, size: u32, reads: u32) -> FailingDisk {
+    FailingDisk {
+        inner,
+        size,
+        reads,
+        failures: 0,
+    }
+}
+
+/// To open the volume on a disk takes `all` reads. Where the disk fails after so many it is refused, and the disk has
+/// failed once; but it is opened where these are all.
+pub(crate) fn expect_reads(rt: &impl Abort, alloc: Global, disk: MemDisk, reads: u32, all: u32) {
+    let size = disk.blocks();
+    match Volume::open(alloc, failing(disk, size, reads)) {
+        Ok(volume) => {
+            assert_eq!(rt; reads, all);
+            assert_eq!(rt; volume.disk.reads, 0);
+        }
+        Err((error, disk)) => {
+            assert!(rt; reads < all && error == VolumeError::Device);
+            assert_eq!(rt; disk.failures, 1);
+        }
+    }
+}
+
 /// The gate, a home copy, the four blocks that V1 reaches and its table are read, each once.
 #[test]
 fn each_read_may_fail(rt: HostRuntime) -> Result<(), Fail> {
     for reads in 0..8 {
-        let disk = FailingDisk {
-            inner: v1(&rt, rt.alloc(), 0)?,
-            reads,
-            failures: 0,
-        };
-        match Volume::open(rt.alloc(), disk) {
-            Ok(volume) => {
-                assert_eq!(rt; reads, 7);
-                assert_eq!(rt; volume.disk.reads, 0);
-            }
-            Err((error, disk)) => {
-                assert!(rt; reads < 7 && error == VolumeError::Device);
-                assert_eq!(rt; disk.failures, 1);
-            }
-        }
+        let disk = v1(&rt, rt.alloc(), 0)?;
+        expect_reads(&rt, rt.alloc(), disk, reads, 7);
     }
     Ok(())
 }

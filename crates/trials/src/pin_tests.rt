@@ -5,31 +5,19 @@ ghost use Rattle.volume.specs.Pins.{IsReadable};
 ghost use Rattle.volume.specs.Rest.{IsSound};
 ghost use Rattle.volume.specs.declared.handles.VersionHandle.TheVariants.{Pinned};
 
-use crate::open_tests::{v1, word};
-use blockdisk::{Disk, Fault, MemDisk};
+use crate::begin_tests::ppn_of;
+use crate::open_tests::{SIZE, failing, v1, word};
+use crate::publish_tests::file_name;
+use blockdisk::{Disk, MemDisk};
 use meaning::ErrorCode;
 use std::alloc::Global;
 use std::process::Abort;
 use std::test::Fail;
 use volume::{CallError, Pin, VersionHandle, Volume};
-use words36::{Block, FileName, Half, Ppn, Word};
+use words36::Word;
 
 /// The words of FOO.TXT in V1.
 const WORDS: [u64; 2] = [0o442131446236, 0o064240000000];
-
-fn file_name(name: u64) -> FileName {
-    FileName {
-        name: word(name),
-        ext: Half::from_bits(0o647064),
-    }
-}
-
-fn ppn_of(rt: &impl Abort, programmer: u32) -> Ppn {
-    let Some(ppn) = Ppn::new(0o10, programmer) else {
-        panic!(rt; "no such number");
-    };
-    ppn
-}
 
 /// The volume on a disk, with FOO.TXT of [10,20] pinned, or why not.
 pub(crate) fn open_and_pin<D: Disk + Drop>(
@@ -64,66 +52,6 @@ pub(crate) fn read<D: Disk>(
     ensures map { volume.new.map ≡ volume.old.map }
 {
     volume.get_words(alloc, VersionHandle::Pinned(pin), block, count)
-}
-
-/// A disk in memory that fails from some read on. It is called dishonest, so that nothing is asked of it but its
-/// count of failures.
-#[derive(Drop)]
-struct FailingDisk {
-    disk: MemDisk,
-    reads: u32,
-    failures: u64,
-}
-
-impl Disk for FailingDisk {
-    ghost use Rattle.blockdisk.specs.Memory.{memory_state};
-
-    ghost state = { λ failing. record (memory_state failing.disk) { honest = ⊥; failures = failing.failures } };
-
-    ghost counts_now = { λ failing t c honest. absurd honest };
-
-    ghost only_now = { λ failing c honest. absurd honest };
-
-    ghost reaches_back = { λ failing t u c honest. absurd honest };
-
-    fn blocks(&self) -> u32 {
-        self.disk.blocks()
-    }
-
-    fn read(&mut self, n: u32) -> Result<Block, Fault> {
-        if self.reads == 0 {
-            self.failures = self.failures.saturating_add(1);
-            return Err(Fault::Device);
-        }
-        self.reads -= 1;
-        match self.disk.read(n) {
-            Err(Fault::Device) => {
-                self.failures = self.failures.saturating_add(1);
-                Err(Fault::Device)
-            }
-            answer => answer,
-        }
-    }
-
-    fn write(&mut self, n: u32, block: &Block) -> Result<(), Fault> {
-        match self.disk.write(n, block) {
-            Ok(()) => Ok(()),
-            Err(_) => {
-                self.failures = self.failures.saturating_add(1);
-                Err(Fault::Device)
-            }
-        }
-    }
-
-    fn sync(&mut self) -> Result<(), Fault> {
-        match self.disk.sync() {
-            Ok(()) => Ok(()),
-            Err(_) => {
-                self.failures = self.failures.saturating_add(1);
-                Err(Fault::Device)
-            }
-        }
-    }
 }
 
 /// A file of two words is read, as far as it goes; letting it go changes nothing else.
@@ -208,11 +136,7 @@ fn what_is_not_there_is_not_pinned(rt: HostRuntime) {
 fn the_read_of_a_word_may_fail(rt: HostRuntime) -> Result<(), Fail> {
     let mut read_and_failed = (false, false);
     for reads in 0..16 {
-        let disk = FailingDisk {
-            disk: v1(&rt, rt.alloc(), 1)?,
-            reads,
-            failures: 0,
-        };
+        let disk = failing(v1(&rt, rt.alloc(), 1)?, SIZE, reads);
         if let Some((mut volume, pin)) = open_and_pin(&rt, rt.alloc(), disk) {
             match volume.get_words(rt.alloc(), VersionHandle::Pinned(pin), 1, 2) {
                 Ok(words) => {

@@ -8,6 +8,7 @@ ghost use Rattle.volume.specs.declared.handles.VersionHandle.TheVariants.{Pinned
 
 use crate::open_tests::{self, load, prime, v1, word};
 use crate::pin_tests::{self, open_and_pin};
+use crate::publish_tests::{FOO, file_name, fresh, ppn_of};
 use crate::put_tests::{self, put};
 use blockdisk::{MemDisk, NoMemory};
 use meaning::ErrorCode;
@@ -16,47 +17,15 @@ use std::alloc::Global;
 use std::process::Abort;
 use std::test::Fail;
 use volume::{CallError, Pending, Pin, Volume};
-use words36::{BLOCK_WORDS, FileName, Half, Moment, Ppn, Word};
-
-/// FOO in SIXBIT.
-const FOO: u64 = 0o465757000000;
+use words36::{BLOCK_WORDS, Moment, Word};
 
 /// The word that others put.
 const OTHERS: u64 = 0o777777777777;
-
-fn ppn_of(rt: &impl Abort) -> Ppn {
-    Ppn::new(0o10, 0o20).expect(rt, "a PPN")
-}
-
-/// FOO.TXT where `name` is 465757000000 (octal).
-fn file_name(name: u64) -> FileName {
-    FileName {
-        name: word(name),
-        ext: Half::from_bits(0o647064),
-    }
-}
 
 /// What the prime block of a version of a file of [10,20] says.
 fn prime_of(rt: &impl Abort, name: u64) -> Prime {
     let moment = Moment::new(0, 0).expect(rt, "a moment");
     Prime::new(file_name(name), ppn_of(rt), 0o057, Mode::Dump, moment).expect(rt, "a prime block")
-}
-
-/// A fresh volume of so many blocks, with the directory [10,20].
-fn fresh(rt: &impl Abort, alloc: Global, size: u32) -> Option<Volume<MemDisk>>
-    ensures { IfSome result (λ volume. IsSound (memory_state volume.disk) (core_of volume.map) volume.failed) }
-{
-    let Ok(mut disk) = MemDisk::new(alloc, size, 1000) else {
-        return None;
-    };
-    if Volume::init(&mut disk) != Ok(()) {
-        return None;
-    }
-    let Ok(mut volume) = Volume::open(alloc, disk) else {
-        return None;
-    };
-    assert!(rt; volume.make_dir(alloc, ppn_of(rt), 0o775) == Ok(()));
-    Some(volume)
 }
 
 /// Begins a version, and puts so many blocks of words into it. Nothing where that is refused.
@@ -88,9 +57,7 @@ fn write(
 #[test]
 fn a_version_of_113_blocks_has_an_extension(rt: HostRuntime) -> Result<(), Fail> {
     for (blocks, room) in [(112, 382), (113, 380)] {
-        let Some(mut volume) = fresh(&rt, rt.alloc(), 512) else {
-            panic!(rt; "no volume is made");
-        };
+        let mut volume = fresh(&rt, rt.alloc(), 512, 1000)?;
         assert_eq!(rt; volume.room(), 495);
         let Some(pending) = write(&rt, rt.alloc(), &mut volume, 1, blocks) else {
             panic!(rt; "the words aren't put");
@@ -105,9 +72,7 @@ fn a_version_of_113_blocks_has_an_extension(rt: HostRuntime) -> Result<(), Fail>
 /// Of room 47 a version of 46 blocks takes all; the next word finds none, and dropping it gives all back.
 #[test]
 fn a_volume_is_filled_and_emptied(rt: HostRuntime) -> Result<(), Fail> {
-    let Some(mut volume) = fresh(&rt, rt.alloc(), 64) else {
-        panic!(rt; "no volume is made");
-    };
+    let mut volume = fresh(&rt, rt.alloc(), 64, 1000)?;
     assert_eq!(rt; volume.room(), 47);
     let Some(pending) = write(&rt, rt.alloc(), &mut volume, 1, 46) else {
         panic!(rt; "the words aren't put");

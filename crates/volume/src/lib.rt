@@ -45,14 +45,10 @@ mod discard;
 mod error;
 mod event;
 mod file_facts;
-#[cfg(test)]
-mod file_tests;
 mod files;
 mod fresh;
 mod handles;
 mod home;
-#[cfg(test)]
-mod init_tests;
 mod list;
 mod live;
 mod make;
