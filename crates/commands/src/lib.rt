@@ -3,13 +3,14 @@
 //! 1. The lines of an input are those of the definition, in whatever pieces the reader gives it. (`Held`,
 //!    `Session`)
 //! 2. `command_of` answers a command exactly where a text spells one that is served, and none exactly where
-//!    it spells none. So far LOGIN, DIRECTORY and MAKDIR are served; a line that means another command
-//!    is no command. (`lines_say_what_is_served`)
+//!    it spells none. So far LOGIN, DIRECTORY, COPY, TYPE and MAKDIR are served; a line that means another
+//!    command is no command. (`lines_say_what_is_served`)
 //! 3. The greeting, the text of a refusal and the list of a directory are the definition's, byte by byte.
 //! 4. `session` reads to the end of the input, makes the calls that each line stands for, each by the
 //!    replies so far, and writes what they print: at Ok the writer got the text of all that the reader had,
 //!    the service went by these calls and a RESET of job 1 that prints nothing, and the tally is that of the
-//!    lines. (`ends`, `goes`, `served`) At the moment before the first call and after each, all that a crash
+//!    lines. (`ends`, `goes`, `served`) COPY and TYPE move a whole body by INs and OUTs until an IN tells its
+//!    end, and a refused line leaves nothing of it. (`Plan`, `Led`) At the moment before the first call and after each, all that a crash
 //!    may leave stands for the files after the calls so far; from one moment to the next a crash leaves
 //!    these, or those after one call more. (`ActsBy`)
 //! 5. The text is a function of the lines, the state and the moment, where no call met want of memory or a
