@@ -1,26 +1,25 @@
 -- Plans that are followed one after the other, and words of a body that are read by them.
-use Rattle.std.proofs.Common.{◌≡◌, ℕ, zero, suc, ◌+◌, ◌-◌, ◌<◌, ◌≤◌, ◌%◌, ◌/◌, ◌*◌, ◌^◌, ◌==◌, if◌then◌else◌, Bool, true, false, List, [], ◌∷◌, ◌++◌, length, map, take, get_or, replicate, Option, Some, None, Result, Ok, Err, bit_and, refl, sym, ◌∙◌, ap, subst, append_assoc, append-nil, add-one, arith}
+use Rattle.std.proofs.Common.{◌≡◌, ℕ, zero, suc, ◌+◌, ◌-◌, ◌<◌, ◌≤◌, ◌%◌, ◌/◌, ◌*◌, ◌^◌, ◌==◌, if◌then◌else◌, Bool, true, false, List, [], ◌∷◌, ◌++◌, length, map, take, get_or, replicate, Option, Some, None, Result, Ok, Err, bit_and, refl, sym, ◌∙◌, ap, subst, append_assoc, append-nil, add-one, zero-mul, arith}
 use Rattle.std.proofs.lemmas.List.{take_all}
 use Rattle.std.proofs.lemmas.Nat.Bits.{and_pow}
 use Rattle.std.specs.List.{AllByRecursion}
 use Rattle.words36.specs.Words.{left}
 use Rattle.words36.specs.declared.moment.Moment.{Moment}
 use Rattle.meaning.specs.Conducts.{Act, Asks, Looks, Plan, Ask, Show, Say, Leads, each, if_done, fails, deposits, fetches, examines, same_words, takes, takes_over, counts, sizes, last_said, says_words, is_end, if_end, until_end}
-use Rattle.meaning.specs.Room.{Pack}
-use Rattle.meaning.specs.Runs.{Service, Answers}
 use Rattle.meaning.specs.Texts.{list_said}
 use Rattle.meaning.specs.declared.call.Event as played
 use Rattle.meaning.specs.declared.call.Event.TheVariants.{Deposit}
 use Rattle.meaning.specs.declared.call.Reply.{Reply}
-use Rattle.meaning.specs.declared.call.Reply.TheVariants.{Done, Stopped}
+use Rattle.meaning.specs.declared.call.Reply.TheVariants.{Done, Value, Refused, Stopped, NoChannel, AddressCheck, NoJob, NoMemory, Device, Failed, DateRange}
 use Rattle.monitor.specs.Runs.{event_of}
 use Rattle.monitor.specs.declared.events.Event.{Event}
-use Rattle.commands.specs.Asking.{IsAlwaysServed, AreServedFrom, ServedAlong, Led, followed}
+use Rattle.commands.specs.Asking.{IsAlwaysServed, AreServedFrom, Led, followed}
 use Rattle.commands.specs.Machines.{Machine, AlwaysStands, IsAnswered}
 use Rattle.commands.proofs.GoingLaws.{goes_nowhere, goes_on, goes_answered, served_always}
 
 -- Plans.
 
+-- acts that lead to a plan, and more that lead on from it
 leads_on : (p q r : Plan) (acts more : List Act) → Leads p acts q → Leads q more r → Leads p (acts ++ more) r
 leads_on p q r [] more a b = subst (λ (x : Plan). Leads x more r) a b
 leads_on (Ask event next) q r (Asks asked reply ∷ acts) more a b = (a.0, leads_on (next reply) q r acts more a.1 b)
@@ -40,18 +39,18 @@ always_along [] all pack service = tt
 always_along (event ∷ events) all pack service = (served_always event all.0 service, λ mid answers. always_along events all.1 pack mid)
 
 module _ {S : Type 0} (machine : S → Machine) where
-  pub led_on : (a b c : S) (p q r : Plan) → Led machine a b p q → Led machine b c q r → Led machine a c p r
+  led_on : (a b c : S) (p q r : Plan) → Led machine a b p q → Led machine b c q r → Led machine a c p r
   led_on a b c p q r x y = record {
     acts = x.acts ++ y.acts;
     goes = goes_on machine a b c x.acts y.acts x.goes y.goes;
     leads = leads_on p q r x.acts y.acts x.leads y.leads;
   }
 
-  pub led_still : AlwaysStands machine → (a : S) (p : Plan) → Led machine a a p p
+  led_still : AlwaysStands machine → (a : S) (p : Plan) → Led machine a a p p
   led_still stands a p = record { acts = []; goes = goes_nowhere machine stands a; leads = refl }
 
   -- one event, which every service serves
-  pub led_event : AlwaysStands machine → (a b : S) (event : Event) (asked : played.Event) (reply : Reply) (next : Reply → Plan) → event_of event ≡ asked → IsAlwaysServed event → IsAnswered (machine a) (machine b) event reply → Led machine a b (Ask asked next) (next reply)
+  led_event : AlwaysStands machine → (a b : S) (event : Event) (asked : played.Event) (reply : Reply) (next : Reply → Plan) → event_of event ≡ asked → IsAlwaysServed event → IsAnswered (machine a) (machine b) event reply → Led machine a b (Ask asked next) (next reply)
   led_event stands a b event asked reply next is served answered = record {
     acts = Asks (event_of event) reply ∷ [];
     goes = goes_answered machine stands a b event reply (served_always event served) answered;
@@ -212,14 +211,19 @@ module _ {S : Type 0} (machine : S → Machine) (moment : Moment) (first size n 
       pub over_unasked : (reply : Reply) → asked ≡ Err reply → (next : List ℕ → Plan) → Led machine a c (Over next) (fails moment reply)
       over_unasked reply err next = subst (λ (r : Result (Unit {0}) Reply). Led machine a c (Over next) (followed moment r (λ unit. fetches moment size first next))) err (over_asked next)
 
-      pub over_fetched : (one : Unit {0}) → asked ≡ Ok one → (d : S) (block : List ℕ) (next : List ℕ → Plan) → length block ≤ size → Led machine c d (fetches moment size first next) (next (take size block)) → Led machine a d (Over next) (next block)
+      over_fetched : (one : Unit {0}) → asked ≡ Ok one → (d : S) (block : List ℕ) (next : List ℕ → Plan) → length block ≤ size → Led machine c d (fetches moment size first next) (next (take size block)) → Led machine a d (Over next) (next block)
       over_fetched one done d block next h fetched =
           led_on machine a c d _ _ _ (subst (λ (r : Result (Unit {0}) Reply). Led machine a c (Over next) (followed moment r (λ unit. fetches moment size first next))) done (over_asked next))
           (subst (λ (l : List ℕ). Led machine c d (fetches moment size first next) (next l)) (take_all size block h) fetched)
 
-      pub over_unfetched : (one : Unit {0}) → asked ≡ Ok one → (d : S) (reply : Reply) (next : List ℕ → Plan) → Led machine c d (fetches moment size first next) (fails moment reply) → Led machine a d (Over next) (fails moment reply)
+      over_unfetched : (one : Unit {0}) → asked ≡ Ok one → (d : S) (reply : Reply) (next : List ℕ → Plan) → Led machine c d (fetches moment size first next) (fails moment reply) → Led machine a d (Over next) (fails moment reply)
       over_unfetched one done d reply next fetched =
           led_on machine a c d _ _ _ (subst (λ (r : Result (Unit {0}) Reply). Led machine a c (Over next) (followed moment r (λ unit. fetches moment size first next))) done (over_asked next)) fetched
+
+      pub over_all : (one : Unit {0}) → asked ≡ Ok one → (d : S) (fetched : Result (List ℕ) Reply) → ((block : List ℕ) → fetched ≡ Ok block → length block ≡ size)
+          → ((at : Moment) (next : List ℕ → Plan) → Led machine c d (fetches at size first next) (followed at fetched (λ block. next (take size block)))) → (next : List ℕ → Plan) → Led machine a d (Over next) (followed moment fetched next)
+      over_all one done d (Ok block) long led next = over_fetched one done d block next (omega (arith, long block refl)) (led moment next)
+      over_all one done d (Err reply) long led next = over_unfetched one done d reply next (led moment next)
 
 -- How many words the last block has.
 
@@ -267,21 +271,36 @@ module _ {S : Type 0} (machine : S → Machine) (moment : Moment) (n size : ℕ)
 
 -- The end of a file.
 
+-- The bit that tells it, where the status is masked by it.
+
 bit_tells : (bit place masked : ℕ) → masked ≡ bit * place → bit < 2 → (masked ≡ 0 → ⊥) → (bit == 1) ≡ true
 bit_tells zero place masked is small h = absurd (h (is ∙ zero-mul place))
 bit_tells (suc zero) place masked is small h = refl
 bit_tells (suc (suc bit)) place masked is small h = absurd (omega arith)
 
-bit_clear : (bit place masked : ℕ) → masked ≡ bit * place → 0 < place → masked ≡ 0 → (bit == 1) ≡ false
-bit_clear zero place masked is big h = refl
-bit_clear (suc zero) place masked is big h = absurd (omega arith)
-bit_clear (suc (suc bit)) place masked is big h = refl
+bit_clear : (bit place masked : ℕ) → masked ≡ bit * place → bit < 2 → 0 < place → masked ≡ 0 → (bit == 1) ≡ false
+bit_clear zero place masked is small big h = refl
+bit_clear (suc zero) place masked is small big h = absurd (omega arith)
+bit_clear (suc (suc bit)) place masked is small big h = absurd (omega arith)
 
 is_end_by : (status : ℕ) → (bit_and status 8192 ≡ 0 → ⊥) → is_end status ≡ true
 is_end_by status h = bit_tells (status / 2 ^ 13 % 2) 8192 (bit_and status 8192) (and_pow status 13) (omega arith) h
 
 not_end_by : (status : ℕ) → bit_and status 8192 ≡ 0 → is_end status ≡ false
-not_end_by status h = bit_clear (status / 2 ^ 13 % 2) 8192 (bit_and status 8192) (and_pow status 13) (omega arith) h
+not_end_by status h = bit_clear (status / 2 ^ 13 % 2) 8192 (bit_and status 8192) (and_pow status 13) (omega arith) (omega arith) h
+
+if_other : (moment : Moment) (next : Plan) (reply : Reply) → ((status : ℕ) → reply ≡ Stopped status → ⊥) → if_end moment next reply ≡ fails moment reply
+if_other moment next Done h = refl
+if_other moment next (Value word) h = refl
+if_other moment next (Refused code) h = refl
+if_other moment next (Stopped status) h = absurd (h status refl)
+if_other moment next NoChannel h = refl
+if_other moment next AddressCheck h = refl
+if_other moment next NoJob h = refl
+if_other moment next NoMemory h = refl
+if_other moment next Device h = refl
+if_other moment next Failed h = refl
+if_other moment next DateRange h = refl
 
 module _ {S : Type 0} (machine : S → Machine) (stands : AlwaysStands machine) (a b : S) (moment : Moment) (event : Event) (made : event_of event ≡ takes moment) (served : IsAlwaysServed event) (reply : Reply)
     (answered : IsAnswered (machine a) (machine b) event reply) where
@@ -292,6 +311,9 @@ module _ {S : Type 0} (machine : S → Machine) (stands : AlwaysStands machine) 
   end_found status is h next =
       end_told next next (ap (if_end moment next) is ∙ ap (λ (t : Bool). if t then next else fails moment (Stopped status)) (is_end_by status h))
 
-  pub end_missing : (status : ℕ) → reply ≡ Stopped status → bit_and status 8192 ≡ 0 → (next : Plan) → Led machine a b (until_end moment next) (fails moment reply)
+  pub end_missing : (status : ℕ) → reply ≡ Stopped status → bit_and status 8192 ≡ 0 → (next : Plan) → Led machine a b (until_end moment next) (fails moment (Stopped status))
   end_missing status is h next =
-      end_told next (fails moment reply) (ap (if_end moment next) is ∙ ap (λ (t : Bool). if t then next else fails moment (Stopped status)) (not_end_by status h) ∙ ap (fails moment) (sym is))
+      end_told next (fails moment (Stopped status)) (ap (if_end moment next) is ∙ ap (λ (t : Bool). if t then next else fails moment (Stopped status)) (not_end_by status h))
+
+  pub end_other : ((status : ℕ) → reply ≡ Stopped status → ⊥) → (next : Plan) → Led machine a b (until_end moment next) (fails moment reply)
+  end_other h next = end_told next (fails moment reply) (if_other moment next reply h)

@@ -10,11 +10,11 @@ loop-place-init g c = (refl, fetches_none g.S.FileService.machine block_words c.
 
 pub loop-place-preserved : goal.loop-place-preserved
 loop-place-preserved g c =
-    let long : length c.loop-place.block ≡ 128 = c.loop-place.invariant.0 in
-    ( length-set c.loop-place.block c.loop-place.place c.in_ok-block.field-0 ∙ long
-    , fetches_more g.S.FileService.machine block_words c.args.count c.args.service.now c.loop-place.service c.examine.new.service c.loop-place.place (take c.loop-place.place c.loop-place.block) c.loop-place-test.true c.loop-place.invariant.1
-    c.examine.result c.examine.ensures c.in_ok-block.field-0 (take (c.loop-place.place + 1) (set c.loop-place.block c.loop-place.place c.in_ok-block.field-0)) c.in_ok-block.was
-    (take_more_set c.loop-place.block c.loop-place.place c.in_ok-block.field-0 (omega arith))
+    let long : length c.loop-place.block ≡ 128 = c.loop-place.invariant.0 in (
+      length-set c.loop-place.block c.loop-place.place c.in_ok-block.field-0 ∙ long,
+      fetches_more g.S.FileService.machine block_words c.args.count c.args.service.now c.loop-place.service c.examine.new.service c.loop-place.place (take c.loop-place.place c.loop-place.block) c.loop-place-test.true c.loop-place.invariant.1
+          c.examine.result c.examine.ensures c.in_ok-block.field-0 (take (c.loop-place.place + 1) (set c.loop-place.block c.loop-place.place c.in_ok-block.field-0)) c.in_ok-block.was
+          (take_more_set c.loop-place.block c.loop-place.place c.in_ok-block.field-0 (omega arith)),
     )
 
 pub returns : goal.returns
