@@ -17,3 +17,4 @@ pub mod MadeLaws
 pub mod OrderLaws
 pub mod ObeyLaws
 pub mod ServedLaws
+pub mod ReadingLaws
