@@ -12,18 +12,20 @@ ghost use Rattle.meaning.specs.declared.call.Event.{Event};
 ghost use Rattle.meaning.specs.declared.command.Command.{Command};
 ghost use Rattle.commands.specs.Served.{MeansServed, served};
 ghost use Rattle.commands.specs.Streams.{TalksServed};
-ghost use Rattle.commands.specs.declared.language.Language.TheVariants.{Commands};
+ghost use Rattle.commands.specs.declared.language.Language.TheVariants.{Commands, Events};
 
 /// What a line says that is served is what it means, where that is served, and nothing where it is not.
 pub fn lines_say_what_is_served()
     ensures { (line : Line) (meant said : Option Command) → Means line meant → MeansServed line said → said ≡ served meant }
 {}
 
-/// The text of lines, and what is counted of them, is a function of the lines, the state and the moment, where
-/// no act met want of memory or a fault of the disk.
+/// The text of lines, of a session or of a call script, and what is counted of them, is a function of the lines,
+/// the state and the moment, where no act met want of memory or a fault of the disk.
 pub fn served_texts_are_functions()
-    ensures { (pack : Pack) (moment : Moment) (lines : List Line) (who : Option ℕ) (s t u : State) (acts others : List Act) (one other : Spoken) (x y : Option ℕ)
+    ensures session { (pack : Pack) (moment : Moment) (lines : List Line) (who : Option ℕ) (s t u : State) (acts others : List Act) (one other : Spoken) (x y : Option ℕ)
         → TalksServed Commands moment who lines acts one x → Served pack s acts t → TalksServed Commands moment who lines others other y → Served pack s others u → one ≡ other }
+    ensures script { (pack : Pack) (moment : Moment) (lines : List Line) (who : Option ℕ) (s t u : State) (acts others : List Act) (one other : Spoken) (x y : Option ℕ)
+        → TalksServed Events moment who lines acts one x → Served pack s acts t → TalksServed Events moment who lines others other y → Served pack s others u → one ≡ other }
 {}
 
 /// A line of a call script orders one event at a moment, or nothing.
