@@ -1,6 +1,6 @@
 -- What TYPE asks for and how far its plan has come, call by call; and the characters of words that follow one another.
-use Rattle.std.proofs.Common.{◌≡◌, ℕ, ◌+◌, ◌-◌, ◌<◌, ◌≤◌, ◌||◌, Bool, true, false, List, [], ◌∷◌, ◌++◌, map, take, get_or, length, zero, suc, refl, sym, ◌∙◌, ap, subst, append_assoc, append-nil, arith, Result, Ok, Err, IfOk, Some}
-use Rattle.std.proofs.lemmas.List.{flat_map_more, take_more}
+use Rattle.std.proofs.Common.{◌≡◌, ℕ, ◌+◌, ◌-◌, ◌≤◌, ◌||◌, Bool, true, false, List, [], ◌∷◌, ◌++◌, take, length, zero, suc, refl, sym, ◌∙◌, ap, subst, append_assoc, append-nil, Result, Ok, Err, IfOk, Some}
+use Rattle.std.proofs.lemmas.List.{take_all}
 use Rattle.std.proofs.lemmas.Grind.{flat_map-append}
 use Rattle.std.specs.List.{AllByRecursion}
 use Rattle.std.specs.Prelude.{flat_map}
@@ -12,7 +12,6 @@ use Rattle.meaning.specs.declared.call.Event as played
 use Rattle.meaning.specs.declared.call.Reply.{Reply}
 use Rattle.meaning.specs.declared.command.Command.TheVariants.{TypeOut as TypeLine}
 use Rattle.meaning.specs.declared.command.Spec.{Spec}
-use Rattle.monitor.specs.Runs.{event_of}
 use Rattle.monitor.specs.declared.events.Event.{Event}
 use Rattle.commands.specs.Asking.{IsAlwaysServed, AreServedFrom, Led, followed, AreTyped, HasTyped}
 use Rattle.commands.specs.Machines.{Machine, AlwaysStands}
@@ -20,7 +19,6 @@ use Rattle.commands.specs.Sessions.{Spoke}
 use Rattle.commands.specs.declared.answer.Tally.{Tally}
 use Rattle.commands.specs.declared.typing.Typed.{Typed}
 use Rattle.commands.proofs.GoingLaws.{goes_nowhere, goes_on, served_always}
-
 
 or-true : (b : Bool) → true ≡ b || true
 or-true true = refl
@@ -34,6 +32,11 @@ or-false false = refl
 
 pub typed-append : (xs ys : List ℕ) → typed (xs ++ ys) ≡ typed xs ++ typed ys
 typed-append xs ys = ap (flat_map not_null) (flat_map-append five_characters xs ys) ∙ flat_map-append not_null (unpacked xs) (unpacked ys)
+
+-- where the characters of words were put behind those before
+pub pushed_all : (before after seen words characters : List ℕ) (i : ℕ) → length characters ≤ i → characters ≡ unpacked words → after ≡ before ++ flat_map not_null (take i characters) → before ≡ typed seen → after ≡ typed (seen ++ words)
+pushed_all before after seen words characters i h same put was =
+    put ∙ ap (λ l. before ++ flat_map not_null l) (take_all i characters h ∙ same) ∙ ap (λ l. l ++ typed words) was ∙ sym (typed-append seen words)
 
 -- Events that are served in each state.
 
@@ -158,6 +161,11 @@ module _ {S : Type 0} (machine : S → Machine) where
   }
 
   -- The last block.
+
+  pub not_counted : {X : Type 0} (a b : S) (moment : Moment) (n size : ℕ) (t : Typed) (result : Result X Reply) (reply : Reply) → result ≡ Err reply → ((next : ℕ → Plan) → Led machine a b (sizes moment n size next) (fails moment reply))
+      → HasTyped machine a b moment (types_last moment n size) result t t
+  not_counted a b moment n size t result reply e failed =
+      failed_at a b moment (types_last moment n size) t result reply e (λ next. failed (λ m. each moment (lists m ++ goes_to moment n ∷ takes moment ∷ []) (fetches moment m block_words next)))
 
   module _ (a b : S) (moment : Moment) (n size : ℕ) (count : ℕ) (counted : (next : ℕ → Plan) → Led machine a b (sizes moment n size next) (next count)) where
     pub last_at : (next : List ℕ → Plan) → Led machine a b (types_last moment n size next) (each moment (lists count) (each moment (goes_to moment n ∷ takes moment ∷ []) (fetches moment count block_words next)))

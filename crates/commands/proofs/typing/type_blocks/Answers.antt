@@ -1,7 +1,7 @@
-use Rattle.std.proofs.Common.{◌≡◌, ◌-◌, ◌+◌, ◌≤◌, ℕ, List, length, suc, zero, arith, subst, take}
+use Rattle.std.proofs.Common.{◌≡◌, ◌-◌, ◌+◌, ℕ, List, length, suc, zero, arith, subst, take}
 use Rattle.std.proofs.lemmas.List.{take_all}
 use Rattle.std.proofs.lemmas.Result.{err_from_is_err_and}
-use Rattle.meaning.specs.Conducts.{Plan, fetches, block_words, types_blocks}
+use Rattle.meaning.specs.Conducts.{fetches, block_words, types_blocks}
 use Rattle.commands.specs.Asking.{Led}
 use Rattle.commands.proofs.TypingLaws.{HasRead, handed_on, one_made, asked_done, asked_failed, read_none, no_block, no_words, read_block, read_blocks}
 use Rattle.commands.proofs.typing.type_blocks.Goals as goal

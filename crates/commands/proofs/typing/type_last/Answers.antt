@@ -1,7 +1,12 @@
 use Rattle.std.proofs.Common.{take}
 use Rattle.std.proofs.lemmas.Result.{err_from_is_err_and}
-use Rattle.commands.proofs.TypingLaws.{handed_on, two_made, asked_done, asked_failed, served_from, no_list, no_last, no_last_words, read_last}
+use Rattle.commands.proofs.TypingLaws.{handed_on, two_made, asked_done, asked_failed, served_from, not_counted, no_list, no_last, no_last_words, read_last}
 use Rattle.commands.proofs.typing.type_last.Goals as goal
+
+pub returns-in_err-count : goal.returns-in_err-count
+returns-in_err-count g c =
+    let p = err_from_is_err_and c.from_residual.result c.from_residual.ensures.1 in
+    not_counted g.S.FileService.machine _ _ c.args.moment c.args.n c.args.size _ _ c.in_err-count.field-0.0 (handed_on p.1 p.2) c.in_err-count.ensures.led
 
 pub ask_all-requires : goal.ask_all-requires
 ask_all-requires g c = served_from c.lists.result c.lists.ensures.served
