@@ -21,7 +21,7 @@ use Rattle.commands.proofs.GoingLaws.{goes_nowhere, goes_answered, goes_listed, 
 use Rattle.commands.proofs.LedLaws.{led_on}
 use Rattle.commands.proofs.TalkLaws.{or-false}
 
-or-true : (b : Bool) → true ≡ b || true
+pub or-true : (b : Bool) → true ≡ b || true
 or-true true = refl
 or-true false = refl
 

@@ -18,3 +18,4 @@ pub mod OrderLaws
 pub mod ObeyLaws
 pub mod ServedLaws
 pub mod ReadingLaws
+pub mod TypingLaws

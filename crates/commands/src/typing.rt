@@ -42,7 +42,10 @@ impl Typed {
             return;
         };
         for character in characters.as_slice() {
-            if *character != 0 && self.bytes.push(*character).is_err() {
+            if *character == 0 {
+                continue;
+            }
+            if self.bytes.push(*character).is_err() {
                 self.is_whole = false;
                 return;
             }
