@@ -15,3 +15,4 @@ pub mod AskingLaws
 pub mod MadeLaws
 pub mod OrderLaws
 pub mod ObeyLaws
+pub mod SpecLaws
