@@ -102,8 +102,11 @@ specs_parts text front behind to from parted s =
     let r = stretch (is_other_than 61) front behind s.before (61 ∷ s.behind) parted.plain (spec_other 61 refl refl refl refl refl refl s.before to s.left) parted.stops refl (sym parted.whole ∙ s.spelled) in
     record { rest = s.behind; begun = r.1; left = subst (λ l. IsSpec l to) (sym r.0) s.left; right = s.right }
 
-pub no_sides : (text front : List ℕ) (to from : Spec) → AreParted 61 text front [] → AreSpecs text to from → ⊥
-no_sides text front to from parted s = none_all (specs_parts text front [] to from parted s).begun
+pub no_sides : (text front behind : List ℕ) (to from : Spec) → AreParted 61 text front behind → length behind ≡ 0 → AreSpecs text to from → ⊥
+no_sides text front behind to from parted none s =
+    let sides = specs_parts text front behind to from parted s in
+    let some : length behind ≡ length (61 ∷ sides.rest) = ap (λ (l : List ℕ). length l) sides.begun in
+    omega (arith, none, some)
 
 pub second_side : (text front behind back : List ℕ) (first : ℕ) (to from : Spec) → AreParted 61 text front behind → behind ≡ first ∷ back → AreSpecs text to from → IsSpec back from
 second_side text front behind back first to from parted e s =

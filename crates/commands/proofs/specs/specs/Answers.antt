@@ -1,23 +1,29 @@
-use Rattle.std.proofs.Common.{rules, ◌≡◌, ◌≤◌, ◌↔◌, true, length, IfSome, IfNone, ℕ, Option, ◌+◌, ◌-◌, ◌*◌, ◌<◌, ◌/◌, ◌%◌, Bool, false, nat_eq, nat_lt, List, [], ◌∷◌, ◌++◌, slice_index_or, slice_set, bit_and, bit_or, Fits, w8, w32, w64, Bor, MutBor}
-use Rattle.words36.specs.Sixbit.{sixbit}
-use Rattle.meaning.specs.Spellings.{is_letter, Are, IsName, IsExtension, IsOwner, IsSpec}
 use Rattle.meaning.specs.Commands.{AreSpecs}
-use Rattle.meaning.specs.declared.command.Spec.{Spec as SpecValue}
-use Rattle.commands.specs.Files.{AreLetters, IsFileName}
+use Rattle.meaning.specs.declared.command.Spec.{Spec}
+use Rattle.commands.proofs.MadeLaws.{are_parted}
+use Rattle.commands.proofs.NumberLaws.{if_none}
+use Rattle.commands.proofs.SpecLaws.{specs_are, specs_parts, no_sides, second_side}
 use Rattle.commands.proofs.specs.specs.Goals as goal
 
--- src/specs.rt:108:21
 pub returns-in_err-back-clause-none : goal.returns-in_err-back-clause-none
-returns-in_err-back-clause-none c = ?
+returns-in_err-back-clause-none c =
+    let parted = are_parted 61 c.args.text.now _ _ c.length_before.result c.split_at.ensures.front c.split_at.ensures.back c.length_before.ensures.other c.length_before.ensures.mark in
+    let none : (to from : Spec) → AreSpecs c.args.text.now to from → ⊥ = λ to from s. no_sides c.args.text.now _ _ to from parted c.in_err-back.ensures.cases s in
+    if_none _ _ none
 
--- src/specs.rt:109:14
 pub returns-in_err-to-clause-none : goal.returns-in_err-to-clause-none
-returns-in_err-to-clause-none c = ?
+returns-in_err-to-clause-none c =
+    let parted = are_parted 61 c.args.text.now _ _ c.length_before.result c.split_at.ensures.front c.split_at.ensures.back c.length_before.ensures.other c.length_before.ensures.mark in
+    let none : (to from : Spec) → AreSpecs c.args.text.now to from → ⊥ = λ to from s. c.in_err-to.ensures.none to (specs_parts c.args.text.now _ _ to from parted s).left in
+    if_none _ _ none
 
--- src/specs.rt:110:16
 pub returns-in_err-from-clause-none : goal.returns-in_err-from-clause-none
-returns-in_err-from-clause-none c = ?
+returns-in_err-from-clause-none c =
+    let parted = are_parted 61 c.args.text.now _ _ c.length_before.result c.split_at.ensures.front c.split_at.ensures.back c.length_before.ensures.other c.length_before.ensures.mark in
+    let none : (to from : Spec) → AreSpecs c.args.text.now to from → ⊥ = λ to from s. c.in_err-from.ensures.none from (second_side c.args.text.now _ _ _ _ to from parted c.in_ok-back.ensures.cases.0 s) in
+    if_none _ _ none
 
--- src/specs.rt:103:1
 pub returns-clause-some : goal.returns-clause-some
-returns-clause-some c = ?
+returns-clause-some c =
+    let parted = are_parted 61 c.args.text.now _ _ c.length_before.result c.split_at.ensures.front c.split_at.ensures.back c.length_before.ensures.other c.length_before.ensures.mark in
+    specs_are c.args.text.now _ _ _ _ _ _ parted c.in_ok-back.ensures.cases.0 c.in_ok-to.ensures.some c.in_ok-from.ensures.some
