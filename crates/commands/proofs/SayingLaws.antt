@@ -110,6 +110,14 @@ pub says_no_word : (text word argument : List ℕ) (said : Option Command) → s
 says_no_word text word argument said e f login directory makdir copy typed =
     says_nothing text word argument said e f (λ w. absurd (login w)) (λ w. absurd (directory w)) (λ w. absurd (makdir w)) (λ w. absurd (copy w)) (λ w. absurd (typed w))
 
+-- What COPY and TYPE say.
+
+pub says_copy : (text word argument : List ℕ) (x y : Spec) → AreFields (word ∷ argument ∷ []) text → word ≡ codes "COPY" → AreSpecs argument x y → SaysServed text (Some (Copy x y))
+says_copy text word argument x y f is s = (refl, (argument, subst (λ w. AreFields (w ∷ argument ∷ []) text) is f, s))
+
+pub says_type : (text word argument : List ℕ) (x : Spec) → AreFields (word ∷ argument ∷ []) text → word ≡ codes "TYPE" → IsSpec argument x → SaysServed text (Some (TypeOut x))
+says_type text word argument x f is s = (refl, (argument, subst (λ w. AreFields (w ∷ argument ∷ []) text) is f, s))
+
 -- What is served of what a text means.
 
 served_says : (text : List ℕ) (meant said : Option Command) → Says text meant → SaysServed text said → said ≡ served meant
