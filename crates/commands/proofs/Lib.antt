@@ -19,3 +19,4 @@ pub mod ObeyLaws
 pub mod ServedLaws
 pub mod ReadingLaws
 pub mod TypingLaws
+pub mod SpecLaws

@@ -46,27 +46,27 @@ pub protection_fits : (text : List ℕ) (n : ℕ) → IsProtection text n → n 
 protection_fits [] n a = omega (arith, a)
 protection_fits (c ∷ cs) n a = number_fits a.digits n a.number
 
--- A text, and its parts at the first <.
-pub record AreParted (text front back : List ℕ) : Type 0 where
+-- A text, and its parts at the first of a mark.
+pub record AreParted (mark : ℕ) (text front back : List ℕ) : Type 0 where
   pub whole : text ≡ front ++ back
-  pub plain : Are (is_other_than 60) front
-  pub stops : Stops (is_other_than 60) back
+  pub plain : Are (is_other_than mark) front
+  pub stops : Stops (is_other_than mark) back
 
-pub are_parted : (text front back : List ℕ) (n : ℕ) → front ≡ take n text → back ≡ drop n text → Are (is_other_than 60) (take n text) → (n < length text → get_or text n 0 ≡ 60) → AreParted text front back
-are_parted text front back n e f plain mark = record {
+pub are_parted : (mark : ℕ) (text front back : List ℕ) (n : ℕ) → front ≡ take n text → back ≡ drop n text → Are (is_other_than mark) (take n text) → (n < length text → get_or text n 0 ≡ mark) → AreParted mark text front back
+are_parted mark text front back n e f plain stop = record {
   whole = sym (take-append-drop n text) ∙ (λ i. sym e i ++ sym f i);
-  plain = subst (Are (is_other_than 60)) (sym e) plain;
-  stops = subst (Stops (is_other_than 60)) (sym f) (mark_stops text n 60 mark);
+  plain = subst (Are (is_other_than mark)) (sym e) plain;
+  stops = subst (Stops (is_other_than mark)) (sym f) (mark_stops text n mark stop);
 }
 
-pub made_is : (text front back : List ℕ) (p n : ℕ) → AreParted text front back → IsBracketed front p → IsProtection back n → IsMade text p n
+pub made_is : (text front back : List ℕ) (p n : ℕ) → AreParted 60 text front back → IsBracketed front p → IsProtection back n → IsMade text p n
 made_is text front back p n parted a b = record { before = front; behind = back; left = a; right = b; spelled = parted.whole }
 
 protection_stops : (text : List ℕ) (n : ℕ) → IsProtection text n → Stops (is_other_than 60) text
 protection_stops [] n a = tt
 protection_stops (c ∷ cs) n a = subst (Stops (is_other_than 60)) (sym a.spelled) refl
 
-pub made_parts : (text front back : List ℕ) (p n : ℕ) → AreParted text front back → IsMade text p n → IsBracketed front p × IsProtection back n
+pub made_parts : (text front back : List ℕ) (p n : ℕ) → AreParted 60 text front back → IsMade text p n → IsBracketed front p × IsProtection back n
 made_parts text front back p n parted m =
     let r = stretch (is_other_than 60) front back m.before m.behind parted.plain (bracketed_other 60 m.before p refl refl refl refl m.left) parted.stops (protection_stops m.behind n m.right) (sym parted.whole ∙ m.spelled) in
     (subst (λ l. IsBracketed l p) (sym r.0) m.left, subst (λ l. IsProtection l n) (sym r.1) m.right)

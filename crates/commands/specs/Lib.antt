@@ -8,3 +8,4 @@ pub mod Streams
 pub mod Sessions
 pub mod Monitors
 pub mod Orders
+pub mod Files

@@ -6,6 +6,7 @@ ghost use Rattle.commands.specs.Held.{line_of};
 
 use crate::fields::{first_field, length_before, pair, small_number};
 use crate::input::InputLine;
+use crate::specs::{spec, specs};
 use meaning::Command;
 use words36::Ppn;
 
@@ -38,7 +39,7 @@ fn between(text: &[u8], begin: u8, end: u8) -> Option<&[u8]>
 }
 
 /// The project and the programmer of `[p,n]`.
-fn bracketed(text: &[u8]) -> Option<Ppn>
+pub(crate) fn bracketed(text: &[u8]) -> Option<Ppn>
     ensures some { IfSome result (λ owner. IsBracketed text.now owner) }
     ensures none { IfNone result ((owner : ℕ) → IsBracketed text.now owner → ⊥) }
 {
@@ -84,6 +85,13 @@ pub fn command_of(text: &[u8]) -> Option<Command>
     if word == b"MAKDIR".as_slice() {
         let (owner, number) = made(argument)?;
         return Some(Command::MakeDir(owner, number));
+    }
+    if word == b"COPY".as_slice() {
+        let (to, from) = specs(argument)?;
+        return Some(Command::Copy(to, from));
+    }
+    if word == b"TYPE".as_slice() {
+        return Some(Command::TypeOut(spec(argument)?));
     }
     None
 }

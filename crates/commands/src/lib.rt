@@ -59,6 +59,7 @@ mod script_tests;
 mod service;
 #[cfg(test)]
 mod session_tests;
+mod specs;
 mod stream;
 #[cfg(test)]
 mod tests;

@@ -12,7 +12,7 @@ returns-in_default g c =
 pub returns-in_default-command : goal.returns-in_default-command
 returns-in_default-command g c =
     spoke_unknown g.S.FileService.machine g.met.S.FileService.stands (λ bytes. bytes.items) c.refuse-in_default-command.result c.args.moment c.args.tally.now c.refuse-in_default-command.new.tally _ c.args.who.now _
-    (not_served c.args.meant c.in-Some.command c.in-Some.is c.in_default-command.not-Login c.in_default-command.not-Directory c.in_default-command.not-MakeDir)
+    (not_served c.args.meant c.in-Some.command c.in-Some.is c.in_default-command.not-Login c.in_default-command.not-Directory c.in_default-command.not-Copy c.in_default-command.not-TypeOut c.in_default-command.not-MakeDir)
     c.refuse-in_default-command.ensures.refused c.refuse-in_default-command.ensures.broke c.refuse-in_default-command.ensures.text
 
 pub make_dir_for-requires : goal.make_dir_for-requires

@@ -1,0 +1,18 @@
+-- The parts of what names a file.
+use Rattle.std.specs.Prelude.{◌≡◌, ℕ, ◌≤◌, List, ◌++◌, length}
+use Rattle.words36.specs.Sixbit.{sixbit}
+use Rattle.meaning.specs.Spellings.{is_letter, Are, IsName, IsExtension}
+
+-- at most so many letters and digits, and the word that they pack into
+pub record AreLetters (most : ℕ) (text : List ℕ) (word : ℕ) : Type 0 where
+  pub few : length text ≤ most
+  pub letters : Are is_letter text
+  pub value : word ≡ sixbit text
+
+-- NAME or NAME.EXT
+pub record IsFileName (text : List ℕ) (name ext : ℕ) : Type 0 where
+  pub before : List ℕ
+  pub behind : List ℕ
+  pub named : IsName before name
+  pub extended : IsExtension behind ext
+  pub spelled : text ≡ before ++ behind

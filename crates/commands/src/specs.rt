@@ -1,0 +1,112 @@
+ghost use Rattle.std.specs.Prelude.{◌≡◌, ◌≤◌, ◌↔◌, true, length, IfSome, IfNone, ℕ, Option};
+ghost use Rattle.words36.specs.Sixbit.{sixbit};
+ghost use Rattle.meaning.specs.Spellings.{is_letter, Are, IsName, IsExtension, IsOwner, IsSpec};
+ghost use Rattle.meaning.specs.Commands.{AreSpecs};
+ghost use Rattle.meaning.specs.declared.command.Spec.{Spec as SpecValue};
+ghost use Rattle.commands.specs.Files.{AreLetters, IsFileName};
+
+use crate::fields::length_before;
+use crate::grammar::bracketed;
+use meaning::Spec;
+use words36::{FileName, Half, Ppn, Word, sixbit_of};
+
+/// Whether a byte is a letter or a digit.
+fn is_letter(byte: u8) -> bool
+    ensures { result ≡ is_letter byte }
+{
+    byte.is_ascii_uppercase() || byte.is_ascii_digit()
+}
+
+/// Whether all bytes of a text are letters or digits.
+fn are_letters(text: &[u8]) -> bool
+    ensures { (result ≡ true) ↔ Are is_letter text.now }
+{
+    for byte in text {
+        if !is_letter(*byte) {
+            return false;
+        }
+    }
+    true
+}
+
+/// The word of at most so many letters and digits, which a name can hold.
+fn letters(text: &[u8], most: usize) -> Option<Word>
+    requires { most ≤ 6 }
+    ensures some { IfSome result (λ word. AreLetters most text.now word) }
+    ensures none { IfNone result ((word : ℕ) → AreLetters most text.now word → ⊥) }
+{
+    if most < text.len() || !are_letters(text) {
+        return None;
+    }
+    sixbit_of(text).ok()
+}
+
+/// The word of a file's name.
+fn name_word(text: &[u8]) -> Option<Word>
+    ensures some { IfSome result (λ name. IsName text.now name) }
+    ensures none { IfNone result ((name : ℕ) → IsName text.now name → ⊥) }
+{
+    if text.is_empty() {
+        return None;
+    }
+    letters(text, 6)
+}
+
+/// A file's extension, which stands behind a full stop: blanks where there is nothing.
+fn extension(text: &[u8]) -> Option<Half>
+    ensures some { IfSome result (λ ext. IsExtension text.now ext) }
+    ensures none { IfNone result ((ext : ℕ) → IsExtension text.now ext → ⊥) }
+{
+    let Some((stop, behind)) = text.split_first() else {
+        return Some(Half::from_bits(0));
+    };
+    if *stop != b'.' {
+        return None;
+    }
+    Some(letters(behind, 3)?.left())
+}
+
+/// The file's name that `NAME` or `NAME.EXT` spells.
+fn file_name(text: &[u8]) -> Option<FileName>
+    ensures some { IfSome result (λ file. IsFileName text.now file.name file.ext) }
+    ensures none { IfNone result ((name ext : ℕ) → IsFileName text.now name ext → ⊥) }
+{
+    let (front, back) = text.split_at(length_before(text, b'.'));
+    let name = name_word(front)?;
+    let ext = extension(back)?;
+    Some(FileName { name, ext })
+}
+
+/// Whose file it is: `[p,n]`, or nothing, which is the job itself.
+fn owner(text: &[u8]) -> Option<Option<Ppn>>
+    ensures some { IfSome result (λ owner. IsOwner text.now owner) }
+    ensures none { IfNone result ((owner : Option ℕ) → IsOwner text.now owner → ⊥) }
+{
+    if text.is_empty() {
+        return Some(None);
+    }
+    Some(Some(bracketed(text)?))
+}
+
+/// The file that a text names.
+pub(crate) fn spec(text: &[u8]) -> Option<Spec>
+    ensures some { IfSome result (λ spec. IsSpec text.now spec) }
+    ensures none { IfNone result ((spec : SpecValue) → IsSpec text.now spec → ⊥) }
+{
+    let (front, back) = text.split_at(length_before(text, b'['));
+    let name = file_name(front)?;
+    let owner = owner(back)?;
+    Some(Spec { name, owner })
+}
+
+/// The two files of `SPEC=SPEC`: the new one, and the one that it is made from.
+pub(crate) fn specs(text: &[u8]) -> Option<(Spec, Spec)>
+    ensures some { IfSome result (λ specs. AreSpecs text.now specs.0 specs.1) }
+    ensures none { IfNone result ((to from : SpecValue) → AreSpecs text.now to from → ⊥) }
+{
+    let (front, behind) = text.split_at(length_before(text, b'='));
+    let (_, back) = behind.split_first()?;
+    let to = spec(front)?;
+    let from = spec(back)?;
+    Some((to, from))
+}
