@@ -7,14 +7,13 @@ use Rattle.meaning.specs.Conducts.{Act, Asks, Looks, Plan, Say, Conducts, begins
 use Rattle.meaning.specs.Talks.{Speaks, core_words}
 use Rattle.meaning.specs.declared.entry.Entry.{Entry}
 use Rattle.meaning.specs.declared.command.Command.{Command}
-use Rattle.meaning.specs.declared.command.Command.TheVariants.{Login as LoginLine, Directory as DirectoryLine, MakeDir as MakeLine}
+use Rattle.meaning.specs.declared.command.Command.TheVariants.{Login as LoginLine, Directory as DirectoryLine}
 use Rattle.meaning.specs.declared.call.Event.TheVariants.{Login}
-use Rattle.meaning.specs.declared.call.Event.{Event}
 use Rattle.meaning.specs.declared.call.Reply.{Reply}
 use Rattle.meaning.specs.declared.call.Reply.TheVariants.{Done, Value, Refused, Stopped, NoChannel, AddressCheck, NoJob, NoMemory, Device, Failed, DateRange}
 use Rattle.monitor.specs.declared.events.Event.TheVariants.{Login as LogsIn}
 use Rattle.commands.specs.Machines.{Machine, AlwaysStands, IsAnswered, IsListed, GoesBy}
-use Rattle.commands.specs.Asking.{Led, Concludes, followed}
+use Rattle.commands.specs.Asking.{Led, Concludes}
 use Rattle.commands.specs.Sessions.{Spoke}
 use Rattle.commands.specs.declared.answer.Tally.{Tally}
 use Rattle.commands.proofs.GoingLaws.{goes_nowhere, goes_answered, goes_listed, served_always}

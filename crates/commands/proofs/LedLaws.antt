@@ -1,23 +1,21 @@
 -- Plans that are led on by what a service answers.
-use Rattle.std.proofs.Common.{◌≡◌, ◌≢◌, ℕ, ◌+◌, ◌<◌, ◌≤◌, List, [], ◌∷◌, ◌++◌, length, map, take, drop, get_or, refl, sym, ◌∙◌, ap, subst, append_assoc, append-nil, arith, Result, Ok, Err}
+use Rattle.std.proofs.Common.{◌≡◌, ◌≢◌, ℕ, ◌+◌, ◌<◌, ◌≤◌, List, [], ◌∷◌, ◌++◌, length, map, take, drop, get_or, refl, sym, ◌∙◌, ap, subst, append_assoc, append-nil}
 use Rattle.std.proofs.lemmas.List.{take_more, take_all, take-append-drop, map-append}
 use Rattle.std.specs.List.{AllByRecursion}
 use Rattle.words36.specs.declared.moment.Moment.{Moment}
-use Rattle.meaning.specs.Conducts.{Act, Asks, Looks, Plan, Ask, Show, Say, Leads, each, if_done, if_told, examines, fails, ends, calls}
+use Rattle.meaning.specs.Conducts.{Act, Asks, Looks, Plan, Ask, Show, Say, Leads, each, if_done, if_told, examines, fails, ends}
 use Rattle.meaning.specs.Room.{Pack}
-use Rattle.meaning.specs.Runs.{Service, Serving, Broken, Answers}
-use Rattle.meaning.specs.Talks.{Went}
+use Rattle.meaning.specs.Runs.{Service, Answers}
 use Rattle.meaning.specs.Texts.{Spoken, list_said}
-use Rattle.meaning.specs.declared.call.Call.TheVariants as played_calls
 use Rattle.meaning.specs.declared.call.Event as played
 use Rattle.meaning.specs.declared.call.Reply.{Reply}
 use Rattle.meaning.specs.declared.call.Reply.TheVariants.{Done, Value, Refused, Stopped, NoChannel, AddressCheck, NoJob, NoMemory, Device, Failed, DateRange}
-use Rattle.monitor.specs.Runs.{event_of, IsServedIn}
+use Rattle.monitor.specs.Runs.{event_of}
 use Rattle.monitor.specs.declared.call.Call.TheVariants.{Reset}
 use Rattle.monitor.specs.declared.events.Event.{Event}
 use Rattle.monitor.specs.declared.events.Event.TheVariants.{Examine, Call as Calls}
-use Rattle.commands.specs.Asking.{IsAlwaysServed, ServedAlong, AreServedFrom, Led, followed, HasDone}
-use Rattle.commands.specs.Machines.{Machine, AlwaysStands, IsAnswered, GoesBy, ActsBy}
+use Rattle.commands.specs.Asking.{IsAlwaysServed, ServedAlong, AreServedFrom, Led, HasDone}
+use Rattle.commands.specs.Machines.{Machine, AlwaysStands, IsAnswered, GoesBy}
 use Rattle.commands.proofs.GoingLaws.{goes_nowhere, goes_on, goes_answered, goes_then, served_always, went_apart}
 
 pub leads_on : (plan mid rest : Plan) (acts more : List Act) → Leads plan acts mid → Leads mid more rest → Leads plan (acts ++ more) rest

@@ -7,7 +7,7 @@ use Rattle.meaning.specs.Commands.{Means}
 use Rattle.meaning.specs.Texts.{Spoken}
 use Rattle.meaning.specs.Conducts.{Act}
 use Rattle.meaning.specs.Scripts.{MeansEvent}
-use Rattle.meaning.specs.Talks.{Talks, Scripts, Orders, Served}
+use Rattle.meaning.specs.Talks.{Talks, Scripts, Served}
 use Rattle.meaning.specs.Room.{Pack}
 use Rattle.meaning.specs.Jobs.{State}
 use Rattle.meaning.specs.declared.command.Command.{Command}

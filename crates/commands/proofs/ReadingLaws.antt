@@ -2,18 +2,16 @@
 use Rattle.std.proofs.Common.{◌≡◌, ℕ, zero, suc, ◌+◌, ◌-◌, ◌<◌, ◌≤◌, ◌%◌, ◌/◌, ◌*◌, ◌^◌, ◌==◌, if◌then◌else◌, Bool, true, false, List, [], ◌∷◌, ◌++◌, length, map, take, get_or, replicate, Option, Some, None, Result, Ok, Err, bit_and, refl, sym, ◌∙◌, ap, subst, append_assoc, append-nil, add-one, zero-mul, arith}
 use Rattle.std.proofs.lemmas.List.{take_all}
 use Rattle.std.proofs.lemmas.Nat.Bits.{and_pow}
-use Rattle.std.specs.List.{AllByRecursion}
 use Rattle.words36.specs.Words.{left}
 use Rattle.words36.specs.declared.moment.Moment.{Moment}
-use Rattle.meaning.specs.Conducts.{Act, Asks, Looks, Plan, Ask, Show, Say, Leads, each, if_done, fails, deposits, fetches, examines, same_words, takes, takes_over, counts, sizes, last_said, says_words, is_end, if_end, until_end}
-use Rattle.meaning.specs.Texts.{list_said}
+use Rattle.meaning.specs.Conducts.{Asks, Plan, Ask, each, fails, deposits, fetches, examines, same_words, takes, takes_over, counts, sizes, last_said, says_words, is_end, if_end, until_end}
 use Rattle.meaning.specs.declared.call.Event as played
 use Rattle.meaning.specs.declared.call.Event.TheVariants.{Deposit}
 use Rattle.meaning.specs.declared.call.Reply.{Reply}
 use Rattle.meaning.specs.declared.call.Reply.TheVariants.{Done, Value, Refused, Stopped, NoChannel, AddressCheck, NoJob, NoMemory, Device, Failed, DateRange}
 use Rattle.monitor.specs.Runs.{event_of}
 use Rattle.monitor.specs.declared.events.Event.{Event}
-use Rattle.commands.specs.Asking.{IsAlwaysServed, AreServedFrom, Led, followed}
+use Rattle.commands.specs.Asking.{IsAlwaysServed, Led, followed}
 use Rattle.commands.specs.Machines.{Machine, AlwaysStands, IsAnswered}
 use Rattle.commands.proofs.GoingLaws.{goes_answered, served_always}
 use Rattle.commands.proofs.LedLaws.{led_on, led_still, each_append}

@@ -1,19 +1,17 @@
 -- What TYPE asks for and how far its plan has come, call by call; and the characters of words that follow one another.
-use Rattle.std.proofs.Common.{◌≡◌, ℕ, ◌+◌, ◌-◌, ◌≤◌, ◌||◌, Bool, true, false, List, [], ◌∷◌, ◌++◌, take, length, zero, suc, refl, sym, ◌∙◌, ap, subst, append_assoc, append-nil, Result, Ok, Err, IfOk, Some}
+use Rattle.std.proofs.Common.{◌≡◌, ℕ, ◌+◌, ◌≤◌, ◌||◌, Bool, true, List, [], ◌∷◌, ◌++◌, take, length, zero, suc, refl, sym, ◌∙◌, ap, subst, append_assoc, append-nil, Result, Ok, Err, IfOk, Some}
 use Rattle.std.proofs.lemmas.List.{take_all}
 use Rattle.std.proofs.lemmas.Grind.{flat_map-append}
-use Rattle.std.specs.List.{AllByRecursion}
 use Rattle.std.specs.Prelude.{flat_map}
 use Rattle.words36.specs.Ascii.{unpacked, five_characters}
 use Rattle.words36.specs.declared.moment.Moment.{Moment}
-use Rattle.meaning.specs.Conducts.{Act, Asks, Looks, Plan, Ask, Show, Say, Leads, each, if_done, examines, fetches, sizes, finds, lists, takes, goes_to, ends, fails, file_words, block_words, blocks_said, types_blocks, types_last, types_body, until_end}
-use Rattle.meaning.specs.Texts.{Spoken, typed, not_null, prints, refuses, refusal, is_broken, line, list_said}
+use Rattle.meaning.specs.Conducts.{Plan, Say, each, examines, fetches, sizes, finds, lists, takes, goes_to, ends, fails, file_words, block_words, blocks_said, types_blocks, types_last, types_body, until_end}
+use Rattle.meaning.specs.Texts.{Spoken, typed, not_null, prints, refuses, refusal, is_broken, line}
 use Rattle.meaning.specs.declared.call.Event as played
 use Rattle.meaning.specs.declared.call.Reply.{Reply}
 use Rattle.meaning.specs.declared.command.Command.TheVariants.{TypeOut as TypeLine}
 use Rattle.meaning.specs.declared.command.Spec.{Spec}
-use Rattle.monitor.specs.declared.events.Event.{Event}
-use Rattle.commands.specs.Asking.{IsAlwaysServed, AreServedFrom, Led, followed, AreTyped, HasTyped}
+use Rattle.commands.specs.Asking.{Led, followed, AreTyped, HasTyped}
 use Rattle.commands.specs.Machines.{Machine, AlwaysStands}
 use Rattle.commands.specs.Sessions.{Spoke}
 use Rattle.commands.specs.declared.answer.Tally.{Tally}
@@ -21,6 +19,7 @@ use Rattle.commands.specs.declared.typing.Typed.{Typed}
 use Rattle.commands.proofs.TalkLaws.{or-false}
 use Rattle.commands.proofs.AnswerLaws.{or-true}
 use Rattle.commands.proofs.LedLaws.{led_on, led_still, each_append}
+
 -- Characters.
 
 pub typed-append : (xs ys : List ℕ) → typed (xs ++ ys) ≡ typed xs ++ typed ys

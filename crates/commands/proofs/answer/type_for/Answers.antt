@@ -1,5 +1,5 @@
 use Rattle.std.proofs.Common.{refl}
-use Rattle.meaning.specs.declared.command.Command.TheVariants.{Copy as CopyLine, TypeOut as TypeLine, MakeDir as MakeLine}
+use Rattle.meaning.specs.declared.command.Command.TheVariants.{TypeOut as TypeLine}
 use Rattle.commands.proofs.AnswerLaws.{spoke_stranger}
 use Rattle.commands.proofs.answer.type_for.Goals as goal
 

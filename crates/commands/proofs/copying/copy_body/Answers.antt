@@ -1,4 +1,4 @@
-use Rattle.std.proofs.Common.{◌-◌, ◌∙◌, sym, subst, arith}
+use Rattle.std.proofs.Common.{◌-◌, ◌∙◌, sym}
 use Rattle.meaning.specs.Conducts.{copies_last, copies_blocks}
 use Rattle.commands.proofs.LedLaws.{led_on}
 use Rattle.commands.proofs.CopyingLaws.{body_none, body_led, not_none}
