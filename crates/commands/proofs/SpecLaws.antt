@@ -1,15 +1,13 @@
 -- What names a file, and what is found in it.
-use Rattle.std.proofs.Common.{◌≡◌, ℕ, ◌<◌, ◌≤◌, true, false, List, [], ◌∷◌, ◌++◌, length, take, get_or, append_assoc, ◌==◌, not, Bool, refl, sym, ◌∙◌, ap, subst, Option, Some, None, IsSome, IfNone, IfSome, arith, zero, suc}
-use Rattle.std.proofs.lemmas.List.{take_all}
+use Rattle.std.proofs.Common.{◌≡◌, ℕ, ◌<◌, ◌≤◌, true, false, List, [], ◌∷◌, ◌++◌, length, get_or, append_assoc, ◌==◌, not, Bool, refl, sym, ◌∙◌, ap, subst, Option, Some, None, IsSome, IfNone, arith, zero, suc}
 use Rattle.std.proofs.lemmas.Bool.{eqb-true}
 use Rattle.std.proofs.lemmas.Bool.Decides.{nat_tests}
-use Rattle.words36.specs.Words.{left}
-use Rattle.words36.specs.Sixbit.{IsSixbitCharacter, IsSixbitText, sixbit}
-use Rattle.meaning.specs.Spellings.{is_octal, is_letter, Are, IsName, IsExtension, IsOwner, IsSpec}
+use Rattle.words36.specs.Sixbit.{IsSixbitCharacter, IsSixbitText}
+use Rattle.meaning.specs.Spellings.{is_letter, Are, IsName, IsExtension, IsOwner, IsSpec}
 use Rattle.meaning.specs.Commands.{AreSpecs}
 use Rattle.meaning.specs.declared.command.Spec.{Spec}
-use Rattle.meaning.proofs.SpellingLaws.{Stops, stretch, are_append, other_than, are_other, bracketed_other, spec_other, same_tail, none_all, differs, same_head}
-use Rattle.commands.specs.Files.{AreLetters, IsFileName}
+use Rattle.meaning.proofs.SpellingLaws.{Stops, stretch, are_append, are_other, spec_other, same_tail}
+use Rattle.commands.specs.Files.{IsFileName}
 use Rattle.commands.specs.Characters.{is_other_than}
 use Rattle.commands.proofs.FieldLaws.{are_at}
 use Rattle.commands.proofs.MadeLaws.{AreParted}

@@ -3,8 +3,8 @@
 //! 1. The lines of an input are those of the definition, in whatever pieces the reader gives it. (`Held`,
 //!    `Session`)
 //! 2. `command_of` answers a command exactly where a text spells one that is served, and none exactly where
-//!    it spells none. So far LOGIN, DIRECTORY and MAKDIR are served; a line that means another command
-//!    is no command. (`lines_say_what_is_served`)
+//!    it spells none. So far LOGIN, DIRECTORY, COPY, TYPE and MAKDIR are served; a line that means another
+//!    command is no command. (`lines_say_what_is_served`)
 //! 3. The greeting, the text of a refusal and the list of a directory are the definition's, byte by byte.
 //! 4. `session` reads to the end of the input, makes the calls that each line stands for, each by the
 //!    replies so far, and writes what they print: at Ok the writer got the text of all that the reader had,
