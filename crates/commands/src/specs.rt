@@ -1,5 +1,4 @@
-ghost use Rattle.std.specs.Prelude.{◌≡◌, ◌≤◌, ◌↔◌, true, length, IfSome, IfNone, ℕ, Option};
-ghost use Rattle.words36.specs.Sixbit.{sixbit};
+ghost use Rattle.std.specs.Prelude.{◌≡◌, ◌≤◌, ◌↔◌, true, IfSome, IfNone, ℕ, Option};
 ghost use Rattle.meaning.specs.Spellings.{is_letter, Are, IsName, IsExtension, IsOwner, IsSpec};
 ghost use Rattle.meaning.specs.Commands.{AreSpecs};
 ghost use Rattle.meaning.specs.declared.command.Spec.{Spec as SpecValue};
