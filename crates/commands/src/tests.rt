@@ -49,7 +49,42 @@ fn lines_and_what_they_say(rt: HostRuntime) -> Result<(), Fail> {
         (b"DIRECTORY [10]\n", wrong),
         (b"DIRECTORY\n", stranger),
         (b"DIRECTORY [10,20]\n", stranger),
-        (b"COPY BAR.TXT=FOO.TXT\n", wrong),
+        (b"RENAME BAR.TXT=FOO.TXT\n", wrong),
+        (b"DELETE FOO.TXT\n", wrong),
+        (b"PROTECT FOO.TXT<055>\n", wrong),
+    ] {
+        let got = printed(&rt, input)?;
+        assert!(rt; got.as_slice() == text, "of {input:?}: {got:?}");
+    }
+    Ok(())
+}
+
+/// How files are named: up to six characters, an extension of up to three, and a directory.
+#[test]
+fn names_of_files(rt: HostRuntime) -> Result<(), Fail> {
+    let wrong = b"?Command error\n".as_slice();
+    let stranger = b"?Not logged in\n".as_slice();
+    for (input, text) in [
+        (b"COPY BAR.TXT=FOO.TXT\n".as_slice(), stranger),
+        (b"copy b=f[10,20]\n", stranger),
+        (b"COPY   A23456.789[10,20]=FOO\n", stranger),
+        (b"TYPE FOO\n", stranger),
+        (b"TYPE FOO.\n", stranger),
+        (b"TYPE 7.7[000001,777777]\r\n", stranger),
+        (b"TYPE A234567\n", wrong),
+        (b"TYPE FOO.TEXT\n", wrong),
+        (b"TYPE .TXT\n", wrong),
+        (b"TYPE FOO-1\n", wrong),
+        (b"TYPE FOO.TXT.TXT\n", wrong),
+        (b"TYPE FOO [10,20]\n", wrong),
+        (b"TYPE FOO[0,20]\n", wrong),
+        (b"TYPE FOO[10,20].TXT\n", wrong),
+        (b"TYPE [10,20]\n", wrong),
+        (b"TYPE\n", wrong),
+        (b"COPY BAR= FOO\n", wrong),
+        (b"COPY BAR=FOO=BAZ\n", wrong),
+        (b"COPY =FOO\n", wrong),
+        (b"COPY BAR\n", wrong),
     ] {
         let got = printed(&rt, input)?;
         assert!(rt; got.as_slice() == text, "of {input:?}: {got:?}");
