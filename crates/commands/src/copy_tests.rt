@@ -1,5 +1,5 @@
-use crate::session_tests::{image, image_with};
-use crate::{Monitor, SessionError, Tally, script, session};
+use crate::session_tests::{expect_text, image, image_with, room, started};
+use crate::{Monitor, SessionError, script, session};
 use blockdisk::MemDisk;
 use meaning::Reply;
 use monitor::Call;
@@ -42,12 +42,16 @@ fn made(rt: &impl Abort, alloc: Global, monitor: &mut Monitor<MemDisk>, call: Ca
     answers(rt, alloc, monitor, call, Reply::Done);
 }
 
+fn log_in(rt: &impl Abort, alloc: Global, monitor: &mut Monitor<MemDisk>, owner: Ppn) {
+    assert_eq!(rt; monitor.login(alloc, WRITER, owner, 0o2000), Reply::Done);
+}
+
 /// The job that writes logs in, and opens a channel for this file of the extension TXT.
 fn name_file(rt: &impl Abort, alloc: Global, monitor: &mut Monitor<MemDisk>, name: u64) {
     let Some(owner) = Ppn::new(0o10, 0o20) else {
         panic!(rt; "no number");
     };
-    assert_eq!(rt; monitor.login(alloc, WRITER, owner, 0o2000), Reply::Done);
+    log_in(rt, alloc, monitor, owner);
     put(monitor, OPEN, 0o17);
     put(monitor, OPEN + 1, 0o446353000000);
     put(monitor, FILE, name);
@@ -137,77 +141,52 @@ fn volume_with(
 ) -> Result<Monitor<MemDisk>, Fail> {
     let mut disk = MemDisk::new(alloc, blocks, 8192)?;
     assert_eq!(rt; Volume::init(&mut disk), Ok(()));
-    let Ok(mut monitor) = Monitor::start(alloc, disk) else {
-        panic!(rt; "the volume is refused");
-    };
-    let mut reader: &[u8] = b"LOGIN [10,20]\nMAKDIR [10,20]\n";
-    let mut writer = Vec::new(alloc);
-    let tally = session(
-        alloc,
-        &mut reader,
-        &mut writer,
-        &mut monitor,
-        Moment::new(0, 0)?,
-    )?;
-    assert!(rt; !tally.refused);
+    let mut monitor = started(rt, alloc, disk);
+    let lines = b"LOGIN [10,20]\nMAKDIR [10,20]\n";
+    expect_text(rt, alloc, &mut monitor, 0, lines, b"Job 1 [10,20]\nOK\n")?;
     write_foo(rt, alloc, &mut monitor, words);
     Ok(monitor)
 }
 
-/// A copy has all words of the file, however long it is: so does its text.
-#[test]
-fn copies_of_several_lengths(rt: HostRuntime) -> Result<(), Fail> {
-    for (words, size) in [
-        (0, 0),
-        (1, 0o777777000000),
-        (127, 0o777601000000),
-        (128, 0o777600000000),
-        (129, 0o777577000000),
-        (300, 0o777324000000),
-    ] {
-        let mut monitor = volume_with(&rt, rt.alloc(), 64, words)?;
-        let mut reader: &[u8] = b"LOGIN [10,20]\nCOPY BAR.TXT=FOO.TXT\n";
-        let mut writer = Vec::new(rt.alloc());
-        let moment = Moment::new(0, 0)?;
-        let tally = session(rt.alloc(), &mut reader, &mut writer, &mut monitor, moment)?;
-        assert!(rt; writer.as_slice() == b"Job 1 [10,20]\nOK\n".as_slice());
-        assert!(rt; !tally.refused);
-        expect_bar(&rt, rt.alloc(), &mut monitor, words, size);
-    }
+/// FOO.TXT of so many words is copied, on a volume of so many blocks; LOOKUP leaves this behind the copy's name.
+fn copy_of(rt: &impl Abort, alloc: Global, blocks: u32, words: u32, size: u64) -> Result<(), Fail> {
+    let mut monitor = volume_with(rt, alloc, blocks, words)?;
+    let lines = b"LOGIN [10,20]\nCOPY BAR.TXT=FOO.TXT\n";
+    let tally = expect_text(rt, alloc, &mut monitor, 0, lines, b"Job 1 [10,20]\nOK\n")?;
+    assert!(rt; !tally.refused);
+    expect_bar(rt, alloc, &mut monitor, words, size);
     Ok(())
 }
 
-/// LOOKUP says the blocks of a file of more than 131072 words, and not its words.
+/// A copy has all words of the file, however long it is. LOOKUP says the blocks of a file of more than 131072 words,
+/// and not its words.
 #[test]
-fn a_copy_of_a_long_file(rt: HostRuntime) -> Result<(), Fail> {
-    let mut monitor = volume_with(&rt, rt.alloc(), 4096, 131073)?;
-    let mut reader: &[u8] = b"LOGIN [10,20]\nCOPY BAR.TXT=FOO.TXT\n";
-    let mut writer = Vec::new(rt.alloc());
-    let moment = Moment::new(0, 0)?;
-    let tally = session(rt.alloc(), &mut reader, &mut writer, &mut monitor, moment)?;
-    assert!(rt; writer.as_slice() == b"Job 1 [10,20]\nOK\n".as_slice());
-    assert!(rt; !tally.refused);
-    expect_bar(&rt, rt.alloc(), &mut monitor, 131073, 0o002001000000);
+fn copies_of_several_lengths(rt: HostRuntime) -> Result<(), Fail> {
+    for (blocks, words, size) in [
+        (64, 0, 0),
+        (64, 1, 0o777777000000),
+        (64, 127, 0o777601000000),
+        (64, 128, 0o777600000000),
+        (64, 129, 0o777577000000),
+        (64, 300, 0o777324000000),
+        (4096, 131073, 0o002001000000),
+    ] {
+        copy_of(&rt, rt.alloc(), blocks, words, size)?;
+    }
     Ok(())
 }
 
 /// What COPY and TYPE print, where they are done and where they are refused.
 #[test]
 fn a_session_that_copies_and_types(rt: HostRuntime) -> Result<(), Fail> {
-    let disk = image(&rt, rt.alloc())?;
-    let Ok(mut monitor) = Monitor::start(rt.alloc(), disk) else {
-        panic!(rt; "the image is refused");
-    };
-    let mut reader: &[u8] =
+    let mut monitor = started(&rt, rt.alloc(), image(&rt, rt.alloc())?);
+    let lines =
         b"TYPE FOO.TXT\nLOGIN [10,20]\nCOPY BAR.TXT=FOO.TXT\nDIRECTORY\nTYPE BAR.TXT\nTYPE BAR\nCOPY BAZ=BAR\nCOPY BAZ[11,5]=BAR.TXT\nCOPY BAZ=FOO.TXT[11,5]\ncopy foo.txt[10,20] = bar.txt\nTYPE FOOBAR7.TXT\n";
-    let mut writer = Vec::new(rt.alloc());
-    let moment = Moment::new(0, 0)?;
-    let tally = session(rt.alloc(), &mut reader, &mut writer, &mut monitor, moment)?;
-    let text: &[u8] =
+    let text =
         b"?Not logged in\nJob 1 [10,20]\nOK\nBAR    TXT     1  <057>   1-Jan-1964\nFOO    TXT     1  <057>   4-Jan-1975\nTotal 2 blocks in 2 files [10,20]\nHELLO\r\n?File not found\n?File not found\n?No such directory\n?No such directory\n?Command error\n?Command error\n";
-    assert!(rt; writer.as_slice() == text, "{writer:?}");
+    let tally = expect_text(&rt, rt.alloc(), &mut monitor, 0, lines, text)?;
     assert!(rt; tally.refused && !tally.broke);
-    assert_eq!(rt; monitor.room(), 43);
+    assert_eq!(rt; room(&monitor), 43);
     Ok(())
 }
 
@@ -215,16 +194,63 @@ fn a_session_that_copies_and_types(rt: HostRuntime) -> Result<(), Fail> {
 #[test]
 fn a_copy_that_finds_no_room(rt: HostRuntime) -> Result<(), Fail> {
     let mut monitor = volume_with(&rt, rt.alloc(), 64, 3072)?;
-    assert_eq!(rt; monitor.room(), 22);
-    let mut reader: &[u8] = b"LOGIN [10,20]\nCOPY BAR.TXT=FOO.TXT\nDIRECTORY\n";
-    let mut writer = Vec::new(rt.alloc());
-    let moment = Moment::new(0, 0)?;
-    let tally = session(rt.alloc(), &mut reader, &mut writer, &mut monitor, moment)?;
-    let text: &[u8] =
+    assert_eq!(rt; room(&monitor), 22);
+    let lines = b"LOGIN [10,20]\nCOPY BAR.TXT=FOO.TXT\nDIRECTORY\n";
+    let text =
         b"Job 1 [10,20]\n?No room\nFOO    TXT    24  <057>   4-Jan-1975\nTotal 24 blocks in 1 files [10,20]\n";
-    assert!(rt; writer.as_slice() == text, "{writer:?}");
+    let tally = expect_text(&rt, rt.alloc(), &mut monitor, 0, lines, text)?;
     assert!(rt; tally.refused && !tally.broke);
-    assert_eq!(rt; monitor.room(), 22);
+    assert_eq!(rt; room(&monitor), 22);
+    Ok(())
+}
+
+/// What lines print on an image whose disk takes so many writes and syncs, in a session or as a call script; nothing
+/// where the image is refused.
+fn printed_with(
+    rt: &impl Abort,
+    alloc: Global,
+    calls: usize,
+    is_script: bool,
+    lines: &[u8],
+) -> Result<Vec<u8>, Fail> {
+    let mut writer = Vec::new(alloc);
+    let disk = image_with(rt, alloc, calls)?;
+    if let Ok(mut monitor) = Monitor::start(alloc, disk) {
+        let mut reader = lines;
+        let moment = Moment::new(0, 0)?;
+        let tally = if is_script {
+            script(alloc, &mut reader, &mut writer, &mut monitor, moment)?
+        } else {
+            session(alloc, &mut reader, &mut writer, &mut monitor, moment)?
+        };
+        assert!(rt; tally.broke == tally.refused);
+    }
+    Ok(writer)
+}
+
+/// Each write and sync fails in turn, from the first on that a start leaves: this is printed, and that once all
+/// are served.
+fn expect_broken(
+    rt: &impl Abort,
+    alloc: Global,
+    is_script: bool,
+    lines: &[u8],
+    broken: &[u8],
+    text: &[u8],
+) -> Result<(), Fail> {
+    let mut has_broken = false;
+    for calls in 0..40 {
+        let printed = printed_with(rt, alloc, calls, is_script, lines)?;
+        if printed.as_slice() == broken {
+            has_broken = true;
+        } else {
+            assert!(rt;
+                printed.is_empty() && !has_broken || printed.as_slice() == text,
+                "{printed:?}"
+            );
+        }
+    }
+    assert!(rt; has_broken);
     Ok(())
 }
 
@@ -232,56 +258,20 @@ const LINES: &[u8] = b"LOGIN [10,20]\nCOPY BAR.TXT=FOO.TXT\nTYPE BAR.TXT\nTYPE F
 
 const TEXT: &[u8] = b"Job 1 [10,20]\nOK\nHELLO\r\nHELLO\r\n";
 
-/// Each write and sync fails in turn: the line says so, and each later line that the service has stopped.
+/// The line says so, and each later one that the service has stopped.
 #[test]
 fn each_write_or_sync_of_a_copy_fails(rt: HostRuntime) -> Result<(), Fail> {
-    let mut broken = 0;
-    for calls in 0..40 {
-        let disk = image_with(&rt, rt.alloc(), calls)?;
-        let Ok(mut monitor) = Monitor::start(rt.alloc(), disk) else {
-            continue;
-        };
-        let mut reader = LINES;
-        let mut writer = Vec::new(rt.alloc());
-        let moment = Moment::new(0, 0)?;
-        let tally = session(rt.alloc(), &mut reader, &mut writer, &mut monitor, moment)?;
-        if tally.broke {
-            let text: &[u8] = b"Job 1 [10,20]\n?Device fault\n?Service stopped\n?Service stopped\n";
-            assert!(rt; writer.as_slice() == text, "{writer:?}");
-            broken += 1;
-        } else {
-            assert!(rt; writer.as_slice() == TEXT, "{writer:?}");
-        }
-    }
-    assert!(rt; broken > 4 && broken < 40);
-    Ok(())
+    let broken = b"Job 1 [10,20]\n?Device fault\n?Service stopped\n?Service stopped\n";
+    expect_broken(&rt, rt.alloc(), false, LINES, broken, TEXT)
 }
 
-/// The same of a call script: the line of the call says so, and each later line that the service has failed.
+/// The same of a call script: each later line says that the service has failed.
 #[test]
 fn each_write_or_sync_of_a_script_fails(rt: HostRuntime) -> Result<(), Fail> {
-    let mut broken = 0;
-    for calls in 0..20 {
-        let disk = image_with(&rt, rt.alloc(), calls)?;
-        let Ok(mut monitor) = Monitor::start(rt.alloc(), disk) else {
-            continue;
-        };
-        let mut reader: &[u8] =
-            b"1 LOGIN 1,2 1000\n1 DEP 300 000011000005\n1 MAKDIR 300\n1 EXA 300\n1 RESET\n";
-        let mut writer = Vec::new(rt.alloc());
-        let moment = Moment::new(0, 0)?;
-        let tally = script(rt.alloc(), &mut reader, &mut writer, &mut monitor, moment)?;
-        if tally.broke {
-            let text: &[u8] = b"DONE\nDONE\nDEVICE\nFAILED\nFAILED\n";
-            assert!(rt; writer.as_slice() == text, "{writer:?}");
-            broken += 1;
-        } else {
-            let text: &[u8] = b"DONE\nDONE\nDONE\nVALUE 000011000005\nDONE\n";
-            assert!(rt; writer.as_slice() == text, "{writer:?}");
-        }
-    }
-    assert!(rt; broken > 2 && broken < 20);
-    Ok(())
+    let lines = b"1 LOGIN 1,2 1000\n1 DEP 300 000011000005\n1 MAKDIR 300\n1 EXA 300\n1 RESET\n";
+    let broken = b"DONE\nDONE\nDEVICE\nFAILED\nFAILED\n";
+    let text = b"DONE\nDONE\nDONE\nVALUE 000011000005\nDONE\n";
+    expect_broken(&rt, rt.alloc(), true, lines, broken, text)
 }
 
 /// Run with each allocation refused in turn: a line whose calls find no memory says so, and a text that finds none

@@ -56,63 +56,68 @@ pub fn image_with(rt: &impl Abort, alloc: Global, calls: usize) -> Result<MemDis
     Ok(disk)
 }
 
-#[test]
-fn a_session_over_an_image(rt: HostRuntime) -> Result<(), Fail> {
-    let disk = image(&rt, rt.alloc())?;
-    let Ok(mut monitor) = Monitor::start(rt.alloc(), disk) else {
+/// A monitor over a disk that has to be accepted. What `start` promises stays behind this function: the proofs of tests
+/// are short without it.
+pub fn started(rt: &impl Abort, alloc: Global, disk: MemDisk) -> Monitor<MemDisk> {
+    let Ok(monitor) = Monitor::start(alloc, disk) else {
         panic!(rt; "the image is refused");
     };
-    let mut reader: &[u8] =
-        b"DIRECTORY\nlogin [10,20]\r\n\nDIRECTORY\nDIRECTORY [11,5]\nLOGIN [0,20]";
-    let mut writer = Vec::new(rt.alloc());
-    let moment = Moment::new(0, 0)?;
-    let tally = session(rt.alloc(), &mut reader, &mut writer, &mut monitor, moment)?;
-    let text: &[u8] =
+    monitor
+}
+
+/// A session at a date has to print this text; gives what is counted of it.
+pub fn expect_text(
+    rt: &impl Abort,
+    alloc: Global,
+    monitor: &mut Monitor<MemDisk>,
+    date: u32,
+    lines: &[u8],
+    text: &[u8],
+) -> Result<Tally, Fail> {
+    let mut reader = lines;
+    let mut writer = Vec::new(alloc);
+    let moment = Moment::new(date, 0)?;
+    let tally = session(alloc, &mut reader, &mut writer, monitor, moment)?;
+    assert!(rt; writer.as_slice() == text, "{writer:?}");
+    Ok(tally)
+}
+
+pub fn room(monitor: &Monitor<MemDisk>) -> i64 {
+    monitor.room()
+}
+
+#[test]
+fn a_session_over_an_image(rt: HostRuntime) -> Result<(), Fail> {
+    let mut monitor = started(&rt, rt.alloc(), image(&rt, rt.alloc())?);
+    let lines = b"DIRECTORY\nlogin [10,20]\r\n\nDIRECTORY\nDIRECTORY [11,5]\nLOGIN [0,20]";
+    let text =
         b"?Not logged in\nJob 1 [10,20]\nFOO    TXT     1  <057>   4-Jan-1975\nTotal 1 blocks in 1 files [10,20]\n?No such directory\n?Command error\n";
-    assert!(rt; writer.as_slice() == text);
+    let tally = expect_text(&rt, rt.alloc(), &mut monitor, 0, lines, text)?;
     assert!(rt; tally.refused && !tally.broke);
-    assert_eq!(rt; monitor.room(), 45);
+    assert_eq!(rt; room(&monitor), 45);
     Ok(())
 }
 
 #[test]
 fn a_session_that_is_done(rt: HostRuntime) -> Result<(), Fail> {
-    let disk = image(&rt, rt.alloc())?;
-    let Ok(mut monitor) = Monitor::start(rt.alloc(), disk) else {
-        panic!(rt; "the image is refused");
-    };
-    let mut reader: &[u8] = b"LOGIN [1,2]\nDIRECTORY [10,20]\n";
-    let mut writer = Vec::new(rt.alloc());
-    let moment = Moment::new(4095, 1439)?;
-    let tally = session(rt.alloc(), &mut reader, &mut writer, &mut monitor, moment)?;
-    let text: &[u8] =
+    let mut monitor = started(&rt, rt.alloc(), image(&rt, rt.alloc())?);
+    let lines = b"LOGIN [1,2]\nDIRECTORY [10,20]\n";
+    let text =
         b"Job 1 [1,2]\nFOO    TXT     1  <057>   4-Jan-1975\nTotal 1 blocks in 1 files [10,20]\n";
-    assert!(rt; writer.as_slice() == text);
-    assert!(rt;
-        tally
-            == Tally {
-                refused: false,
-                broke: false
-            }
-    );
+    let tally = expect_text(&rt, rt.alloc(), &mut monitor, 4095, lines, text)?;
+    assert!(rt; !tally.refused && !tally.broke);
     Ok(())
 }
 
 /// Directories are made, and refused: one that is there, and one of somebody else.
 #[test]
 fn a_session_that_makes_directories(rt: HostRuntime) -> Result<(), Fail> {
-    let disk = image(&rt, rt.alloc())?;
-    let Ok(mut monitor) = Monitor::start(rt.alloc(), disk) else {
-        panic!(rt; "the image is refused");
-    };
-    let mut reader: &[u8] =
+    let mut monitor = started(&rt, rt.alloc(), image(&rt, rt.alloc())?);
+    let lines =
         b"MAKDIR [11,5]\nLOGIN [10,20]\nMAKDIR [10,20]\nMAKDIR [11,5]<755>\nLOGIN [11,5]\nMAKDIR [11,5]<770>\nDIRECTORY\nLOGIN [10,20]\nDIRECTORY [11,5]\n";
-    let mut writer = Vec::new(rt.alloc());
-    let moment = Moment::new(0, 0)?;
-    let tally = session(rt.alloc(), &mut reader, &mut writer, &mut monitor, moment)?;
-    let text: &[u8] =
+    let text =
         b"?Not logged in\nJob 1 [10,20]\n?File name already exists\n?Protection failure\nJob 1 [11,5]\nOK\nNo files [11,5]\nJob 1 [10,20]\n?Protection failure\n";
-    assert!(rt; writer.as_slice() == text, "{writer:?}");
+    let tally = expect_text(&rt, rt.alloc(), &mut monitor, 0, lines, text)?;
     assert!(rt; tally.refused && !tally.broke);
     Ok(())
 }
@@ -120,17 +125,11 @@ fn a_session_that_makes_directories(rt: HostRuntime) -> Result<(), Fail> {
 /// A directory is made for anybody by [1,2], and others look into it where no protection is asked for, or 755.
 #[test]
 fn a_session_that_makes_open_directories(rt: HostRuntime) -> Result<(), Fail> {
-    let disk = image(&rt, rt.alloc())?;
-    let Ok(mut monitor) = Monitor::start(rt.alloc(), disk) else {
-        panic!(rt; "the image is refused");
-    };
-    let mut reader: &[u8] =
+    let mut monitor = started(&rt, rt.alloc(), image(&rt, rt.alloc())?);
+    let lines =
         b"LOGIN [1,2]\nMAKDIR [11,5]\nMAKDIR [11,6]<755>\nLOGIN [10,20]\nDIRECTORY [11,5]\nDIRECTORY [11,6]\n";
-    let mut writer = Vec::new(rt.alloc());
-    let moment = Moment::new(0, 0)?;
-    let tally = session(rt.alloc(), &mut reader, &mut writer, &mut monitor, moment)?;
-    let text: &[u8] = b"Job 1 [1,2]\nOK\nOK\nJob 1 [10,20]\nNo files [11,5]\nNo files [11,6]\n";
-    assert!(rt; writer.as_slice() == text, "{writer:?}");
+    let text = b"Job 1 [1,2]\nOK\nOK\nJob 1 [10,20]\nNo files [11,5]\nNo files [11,6]\n";
+    let tally = expect_text(&rt, rt.alloc(), &mut monitor, 0, lines, text)?;
     assert!(rt; !tally.refused && !tally.broke);
     Ok(())
 }
