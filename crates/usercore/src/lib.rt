@@ -25,19 +25,11 @@ mod buffer;
 mod byte_size;
 mod command_list;
 mod error;
-#[cfg(test)]
-mod list_tests;
 mod moves;
 mod ring_check;
 mod ring_parts;
-#[cfg(test)]
-mod ring_tests;
 mod ring_words;
 mod rings;
-#[cfg(test)]
-mod step_tests;
-#[cfg(test)]
-mod tests;
 mod user_core;
 
 pub use area::Area;

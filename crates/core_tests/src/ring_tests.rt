@@ -1,8 +1,8 @@
-use crate::tests::{deposit, holds, word};
-use crate::{Area, ByteSize, Core, CoreError, RingStep};
+use crate::word_tests::{deposit, holds, word};
 use meaning::IoStatus;
 use std::process::Abort;
 use std::test::Fail;
+use usercore::{Area, ByteSize, Core, CoreError, RingStep};
 use words36::Word;
 
 /// Where the header of a ring stands in most tests.

@@ -1,7 +1,7 @@
-use crate::tests::{deposit, holds, word};
-use crate::{Core, CoreError, word_count};
+use crate::word_tests::{deposit, holds, word};
 use std::process::Abort;
 use std::test::Fail;
+use usercore::{Core, CoreError, word_count};
 use words36::Word;
 
 /// The words 1 to 5.

@@ -1,6 +1,6 @@
-use crate::{Area, Core, CoreError};
 use std::process::Abort;
 use std::test::Fail;
+use usercore::{Area, Core, CoreError};
 use words36::Word;
 
 /// The word of this number.

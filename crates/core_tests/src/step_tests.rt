@@ -9,12 +9,12 @@ ghost use Rattle.meaning.specs.Opening.{header_opened};
 ghost use Rattle.meaning.specs.Closing.{header_closed};
 ghost use Rattle.usercore.specs.ByteSizes.{bits_of};
 
-use crate::tests::{deposit, holds, word};
-use crate::{Area, ByteSize, Core, CoreError, RingStep, word_count};
+use crate::word_tests::{deposit, holds, word};
 use meaning::IoStatus;
 use std::alloc::Global;
 use std::process::Abort;
 use std::test::Fail;
+use usercore::{Area, ByteSize, Core, CoreError, RingStep, word_count};
 use words36::Word;
 
 /// An OPEN of both sides, as the file machine has it.
@@ -87,7 +87,7 @@ fn close_sides(core: &mut Core, output: u32, output_closes: bool, input: u32, in
     core.ring_close(output, input);
 }
 
-/// The clauses of the calls above follow from those of this crate alone.
+/// The clauses of the calls above follow from those of `usercore` alone.
 #[test]
 fn calls_are_those_of_the_file_machine(rt: HostRuntime) -> Result<(), Fail> {
     let mut core = Core::new(rt.alloc(), 0o2000)?;

@@ -1,0 +1,13 @@
+//! Tests of a job's core by its public calls alone: its words, its command lists, its rings of buffers, and each step
+//! of these as the file machine takes it. They stand apart from the crate that they test so that it is proved once.
+//! There is no code here beside them.
+#![tactic(auto)]
+
+#[cfg(test)]
+mod list_tests;
+#[cfg(test)]
+mod ring_tests;
+#[cfg(test)]
+mod step_tests;
+#[cfg(test)]
+mod word_tests;
