@@ -27,8 +27,6 @@ mod memory;
 mod memory_calls;
 mod seeking;
 mod system;
-#[cfg(test)]
-mod tests;
 
 pub use calls::FileCalls;
 pub use durable::Durable;

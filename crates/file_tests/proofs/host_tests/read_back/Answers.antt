@@ -4,7 +4,7 @@ use Rattle.imagefile.specs.HostFile.{calls_of}
 use Rattle.imagefile.specs.SeekingFile.{system_of}
 use Rattle.imagefile.specs.Recorded.{after_calls}
 use Rattle.imagefile.specs.ImageLaws.{window-same}
-use Rattle.imagefile.proofs.tests.read_back.Goals as goal
+use Rattle.file_tests.proofs.host_tests.read_back.Goals as goal
 
 on_ok : {T E P Q : Type 0} (result : Result T E) → (P → Q) → OnOk result P → OnOk result Q
 on_ok (Ok value) f p = f p

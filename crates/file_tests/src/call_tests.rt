@@ -1,0 +1,193 @@
+ghost use Rattle.std.specs.Prelude.{◌≡◌, IfOk};
+ghost use Rattle.imagefile.specs.Host.{unknown_file};
+
+use crate::image_tests::{expect_v1, v1};
+use blockdisk::Fault;
+use imagefile::{Durable, FileCalls, HostCalls, HostFile, ImageDisk, MemFile, SeekingFile};
+use std::fs::{Metadata, OpenFile};
+use std::io::{self, Read, Seek, SeekFrom, Write};
+use std::process::Abort;
+use std::test::Fail;
+
+/// The calls of a system that does one byte at a time, over a list of bytes: each call that finds no
+/// turn left fails.
+#[derive(Drop)]
+struct Sluggish {
+    bytes: Vec<u8>,
+    turns: usize,
+}
+
+impl Sluggish {
+    fn turn(&mut self) -> io::Result<()> {
+        self.turns = self
+            .turns
+            .checked_sub(1)
+            .ok_or(io::Error::from(io::ErrorKind::Other))?;
+        Ok(())
+    }
+}
+
+impl FileCalls for Sluggish {
+    ghost Unseen = { Unit {0} };
+
+    ghost supposed = { tt };
+
+    ghost state = { λ u file. unknown_file };
+
+    ghost lasts = { Unit {0} };
+
+    ghost counts_now = { λ u file t r h le may. absurd h };
+
+    ghost only_now = { λ u file r h left. absurd h };
+
+    ghost reaches_back = { λ u file t s r h le left. absurd h };
+
+    fn size(&mut self) -> io::Result<u64> {
+        self.turn()?;
+        Ok(self.bytes.len() as u64)
+    }
+
+    fn read_some(&mut self, at: u64, bytes: &mut [u8]) -> io::Result<usize> {
+        self.turn()?;
+        match (self.bytes.get(at as usize), bytes.first_mut()) {
+            (Some(&byte), Some(place)) => {
+                *place = byte;
+                Ok(1)
+            }
+            _ => Ok(0),
+        }
+    }
+
+    fn write_some(&mut self, at: u64, bytes: &[u8]) -> io::Result<usize> {
+        self.turn()?;
+        match (self.bytes.get_mut(at as usize), bytes.first()) {
+            (Some(place), Some(&byte)) => {
+                *place = byte;
+                Ok(1)
+            }
+            _ => Ok(0),
+        }
+    }
+
+    fn sync_all(&mut self) -> io::Result<()> {
+        self.turn()
+    }
+}
+
+#[test]
+fn calls_that_do_less_than_asked(rt: HostRuntime) -> Result<(), Fail> {
+    let mut file = HostFile::new(Sluggish {
+        bytes: vec![in rt.alloc(); 0; 6]?,
+        turns: 17,
+    });
+    assert_eq!(rt; file.len(), Ok(6));
+    assert_eq!(rt; file.write_at(1, &[1, 2, 3, 4]), Ok(()));
+    assert_eq!(rt; file.sync(), Ok(()));
+    let mut bytes = [9; 6];
+    assert_eq!(rt; file.read_at(0, &mut bytes), Ok(()));
+    assert_eq!(rt; bytes, [0, 1, 2, 3, 4, 0]);
+    assert_eq!(rt; file.write_at(4, &[5, 6, 7]), Err(Fault::Device)); // past the end
+    assert_eq!(rt; file.write_at(0, &[8]), Ok(()));
+    assert_eq!(rt; file.write_at(1, &[8, 8]), Err(Fault::Device)); // at the second byte
+    assert_eq!(rt; file.len(), Err(Fault::Device));
+    assert_eq!(rt; file.read_at(0, &mut bytes), Err(Fault::Device));
+    assert_eq!(rt; file.sync(), Err(Fault::Device));
+    Ok(())
+}
+
+/// A file in memory as what a system's calls work on.
+#[test]
+fn an_image_behind_calls(rt: HostRuntime) -> Result<(), Fail> {
+    let file = MemFile::new(rt.alloc(), &v1(&rt, rt.alloc())?, 2)?;
+    match ImageDisk::new(HostFile::new(file)) {
+        Ok(mut disk) => expect_v1(&rt, &mut disk),
+        Err(_refused) => assert!(rt; false),
+    }
+    Ok(())
+}
+
+/// The calls of the standard library's on a file: all do what they are asked but one.
+#[derive(Clone, Copy, PartialEq, Eq)]
+enum StdCall {
+    Seek,
+    Read,
+    Write,
+    Sync,
+}
+
+/// A file that fails one call and keeps nothing.
+#[derive(Drop)]
+struct Failing {
+    call: StdCall,
+}
+
+impl Failing {
+    fn answer<T>(&self, call: StdCall, value: T) -> io::Result<T>
+    where
+        T: Drop,
+        ensures { IfOk result (λ answered. answered ≡ value) }
+    {
+        if self.call == call {
+            return Err(io::Error::from(io::ErrorKind::Other));
+        }
+        Ok(value)
+    }
+}
+
+impl Read for Failing {
+    fn read(&mut self, buf: &mut [u8]) -> io::Result<usize> {
+        self.answer(StdCall::Read, buf.len())
+    }
+}
+
+impl Write for Failing {
+    fn write(&mut self, buf: &[u8]) -> io::Result<usize> {
+        self.answer(StdCall::Write, buf.len())
+    }
+
+    fn flush(&mut self) -> io::Result<()> {
+        Ok(())
+    }
+}
+
+impl Seek for Failing {
+    fn seek(&mut self, to: SeekFrom) -> io::Result<u64> {
+        match to {
+            SeekFrom::Start(at) => self.answer(StdCall::Seek, at),
+            _ => self.answer(StdCall::Seek, 4096),
+        }
+    }
+}
+
+impl OpenFile for Failing {
+    fn metadata(&self) -> io::Result<Metadata> {
+        Err(io::Error::from(io::ErrorKind::Unsupported))
+    }
+
+    fn set_len(&self, _size: u64) -> io::Result<()> {
+        Err(io::Error::from(io::ErrorKind::Unsupported))
+    }
+
+    fn sync_all(&self) -> io::Result<()> {
+        self.answer(StdCall::Sync, ())
+    }
+
+    fn sync_data(&self) -> io::Result<()> {
+        Err(io::Error::from(io::ErrorKind::Unsupported))
+    }
+}
+
+/// What a file's calls answer is what the standard library answered, that of a sync too.
+#[test]
+fn each_call_of_the_host_fails(rt: HostRuntime) {
+    for call in [StdCall::Seek, StdCall::Read, StdCall::Write, StdCall::Sync] {
+        let mut file = HostFile::new(SeekingFile::new(HostCalls::new(Failing { call })));
+        let seeks = call != StdCall::Seek;
+        assert!(rt; file.len() == if seeks { Ok(4096) } else { Err(Fault::Device) });
+        let read = file.read_at(1, &mut [0; 8]);
+        assert_eq!(rt; read.is_ok(), seeks && call != StdCall::Read);
+        let written = file.write_at(1, &[0; 8]);
+        assert_eq!(rt; written.is_ok(), seeks && call != StdCall::Write);
+        assert_eq!(rt; file.sync().is_ok(), call != StdCall::Sync);
+    }
+}
