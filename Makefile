@@ -2,11 +2,12 @@
 
 PREFIX ?= /usr/local
 
-.PHONY: help test examples build run install
+.PHONY: help test wrong-bodies examples build run install
 
 help:
-	@echo 'make test     prove every crate from nothing, run the tests, try the wrong bodies that must be refused, and'
-	@echo '              run the examples'
+	@echo 'make test     the gate: prove every crate from nothing, run the tests, try the wrong bodies of must-fail/, run'
+	@echo '              the examples, and try the tool that tries the other wrong bodies'
+	@echo 'make wrong-bodies  try those of wrong-bodies/, of all crates or of those in CRATES="NAME .."'
 	@echo 'make examples run the examples alone, on the program that is there, or on one that is built first'
 	@echo 'make build    prove and build the program, as bin/filser'
 	@echo 'make run      build it, and do a first run in a fresh folder'
@@ -16,6 +17,11 @@ help:
 test:
 	rt ci
 	sh examples/run crates/filser/out/filser
+	tools/test-wrong-bodies
+
+# Many by one check, over what earlier checks kept: the first time every crate is proved too.
+wrong-bodies:
+	tools/wrong-bodies $(CRATES)
 
 # A program that is there is taken as it is: after a change of the source it is make build that makes another one.
 examples:
