@@ -26,8 +26,6 @@
 
 mod chain;
 mod edit;
-#[cfg(test)]
-mod edit_tests;
 mod entry;
 mod error;
 mod file;
@@ -36,16 +34,10 @@ mod image;
 mod laws;
 mod list;
 mod load;
-#[cfg(test)]
-mod load_tests;
 mod master;
 mod parse;
 mod room;
-#[cfg(test)]
-mod room_tests;
 mod space;
-#[cfg(test)]
-mod tests;
 
 pub use chain::Chain;
 pub use entry::{Entry, EntryFault};

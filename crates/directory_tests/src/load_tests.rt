@@ -1,9 +1,9 @@
 ghost use Rattle.std.specs.Prelude.{◌<◌, ◌≤◌};
 ghost use Rattle.blockdisk.specs.Memory.{memory_state};
 
-use crate::{Chain, DirectoryError, Entry, FileEntry, MasterEntry};
 use alloctab::Reached;
 use blockdisk::{Disk, Fault, MemDisk};
+use directory::{Chain, DirectoryError, Entry, FileEntry, MasterEntry};
 use std::alloc::Global;
 use std::process::Abort;
 use std::test::Fail;

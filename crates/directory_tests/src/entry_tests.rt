@@ -1,5 +1,6 @@
-use crate::image::block_image;
-use crate::{Chain, Entry, EntryFault, FileEntry, MasterEntry, chain_stands};
+use crate::edit_tests::is_put;
+use changeset::ChangeSet;
+use directory::{Chain, DirectoryError, Entry, EntryFault, FileEntry, MasterEntry, chain_stands};
 use std::cmp::Ordering;
 use std::process::Abort;
 use std::test::Fail;
@@ -33,6 +34,18 @@ fn foo(rt: &impl Abort, ext: u32) -> FileName {
     }
 }
 
+/// Inserts an entry into a chain whose last block has room for it; gives what was put.
+fn insert<E: Entry>(
+    rt: &impl Abort,
+    chain: &mut Chain<E>,
+    entry: E,
+) -> Result<ChangeSet, DirectoryError> {
+    assert!(rt; !chain.needs_block());
+    let mut set = ChangeSet::new();
+    chain.insert(entry, None, &mut set)?;
+    Ok(set)
+}
+
 /// The entry of directory 10,20 with protection 775, whose chain begins at block 16.
 const DIRECTORY: [u64; 3] = [0o000010000020, 0o775000000000, 0o20];
 
@@ -47,7 +60,10 @@ fn the_entry_of_a_directory(rt: HostRuntime) -> Result<(), Fail> {
     assert!(rt; MasterEntry::parse(three(DIRECTORY)) == Ok(entry));
     assert!(rt; entry.key() == ppn);
     assert_eq!(rt; entry.target(), 16);
-    assert!(rt; block_image(&[entry], 0) == block_of(DIRECTORY));
+    let mut chain = Chain::bare(rt.alloc(), 16)?;
+    let set = insert(&rt, &mut chain, entry)?;
+    assert!(rt; is_put(&set, 16, &block_of(DIRECTORY)));
+    assert_eq!(rt; set.puts().len(), 1);
     assert!(rt; MasterEntry::new(ppn, 0o1000, 16).is_none());
     Ok(())
 }
@@ -60,7 +76,10 @@ fn the_entry_of_a_file(rt: HostRuntime) -> Result<(), Fail> {
     assert!(rt; FileEntry::parse(three(FILE)) == Ok(entry));
     assert!(rt; entry.key() == name);
     assert_eq!(rt; entry.target(), 17);
-    assert!(rt; block_image(&[entry], 0) == block_of(FILE));
+    let mut chain = Chain::bare(rt.alloc(), 16)?;
+    let set = insert(&rt, &mut chain, entry)?;
+    assert!(rt; is_put(&set, 16, &block_of(FILE)));
+    assert_eq!(rt; set.puts().len(), 1);
     let none = FileName {
         name: Word::ZERO,
         ext: name.ext,
@@ -112,11 +131,21 @@ fn keys_in_order(rt: HostRuntime) -> Result<(), Fail> {
 
 #[test]
 fn a_chain_of_no_entries(rt: HostRuntime) -> Result<(), Fail> {
-    let chain: Chain<FileEntry> = Chain::bare(rt.alloc(), 16)?;
+    let mut chain: Chain<FileEntry> = Chain::bare(rt.alloc(), 16)?;
     assert!(rt; chain.blocks() == [16].as_slice());
     assert!(rt; chain.entries().is_empty());
     assert_eq!(rt; chain.len(), 0);
     chain_stands(&chain);
-    assert!(rt; block_image(chain.entries(), 0) == [Word::ZERO; BLOCK_WORDS]);
+    let name = foo(&rt, 0o647064);
+    let entry = FileEntry::new(name, 17).expect(&rt, "an entry");
+    insert(&rt, &mut chain, entry)?;
+    let mut set = ChangeSet::new();
+    match chain.find(&name) {
+        Some(_) => assert_eq!(rt; chain.remove(&name, &mut set), None),
+        None => panic!(rt; "the key is there"),
+    }
+    assert!(rt; chain.entries().is_empty());
+    assert!(rt; is_put(&set, 16, &[Word::ZERO; BLOCK_WORDS]));
+    assert_eq!(rt; set.puts().len(), 1);
     Ok(())
 }

@@ -2,9 +2,9 @@ ghost use Rattle.std.specs.Prelude.{◌≡◌};
 ghost use Rattle.meaning.specs.Maps.{times};
 
 use crate::load_tests::{SIZE, block_of, files, put, read, word};
-use crate::{Chain, DirectoryError, FileEntry};
 use blockdisk::MemDisk;
 use changeset::ChangeSet;
+use directory::{Chain, DirectoryError, FileEntry};
 use std::alloc::Global;
 use std::process::Abort;
 use std::test::Fail;

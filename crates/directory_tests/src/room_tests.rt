@@ -1,7 +1,7 @@
 use crate::edit_tests::{chain_of, fresh_block, is_put, name};
 use crate::load_tests::{block_of, files};
-use crate::{Chain, DirectoryError, Entry, FileEntry};
 use changeset::ChangeSet;
+use directory::{Chain, DirectoryError, Entry, FileEntry};
 use std::alloc::Global;
 use std::process::Abort;
 use std::test::Fail;
