@@ -27,8 +27,6 @@
 #![tactic(auto)]
 
 mod body;
-#[cfg(test)]
-mod body_tests;
 mod build;
 mod error;
 mod head;
@@ -42,12 +40,8 @@ mod put;
 mod read;
 mod runs;
 mod space;
-#[cfg(test)]
-mod tests;
 mod version;
 mod write;
-#[cfg(test)]
-mod write_tests;
 
 pub use body::get_words;
 pub use build::prime_block;

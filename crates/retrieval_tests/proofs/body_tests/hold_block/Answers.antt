@@ -2,7 +2,7 @@ use Rattle.std.proofs.Common.{◌≡◌, ◌+◌, ℕ, ap, sym, ◌∙◌, subst
 use Rattle.alloctab.specs.TableState.{TableState, IsTable, holds, with_held, uses}
 use Rattle.meaning.specs.Faults.{InSpace}
 use Rattle.retrieval.proofs.Holding.{uses-with_held}
-use Rattle.retrieval.proofs.body_tests.hold_block.Goals as goal
+use Rattle.retrieval_tests.proofs.body_tests.hold_block.Goals as goal
 
 once_more : (t t' : TableState) (n : ℕ) → IsTable t → t.size ≡ 1024 → InSpace 1024 n → t' ≡ with_held t n (holds t n + 1) → uses t' ≡ uses t + 1
 once_more t t' n sound size inside is =

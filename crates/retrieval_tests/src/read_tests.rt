@@ -1,7 +1,7 @@
 ghost use Rattle.blockdisk.specs.Memory.{memory_state};
 
-use crate::{BodyError, Mode, Prime, RetrievalError, Version, prime_block, read_version};
 use blockdisk::{Disk, Fault, MemDisk};
+use retrieval::{BodyError, Mode, Prime, RetrievalError, Version, prime_block, read_version};
 use std::alloc::Global;
 use std::process::Abort;
 use std::test::Fail;

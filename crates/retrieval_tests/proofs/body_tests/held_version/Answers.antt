@@ -7,7 +7,7 @@ use Rattle.meaning.specs.Maps.{times}
 use Rattle.meaning.proofs.MapSums.{times-append}
 use Rattle.retrieval.specs.Versions.{VersionState}
 use Rattle.retrieval.proofs.Growing.{all_append}
-use Rattle.retrieval.proofs.body_tests.held_version.Goals as goal
+use Rattle.retrieval_tests.proofs.body_tests.held_version.Goals as goal
 
 pub loop-place-preserved : goal.loop-place-preserved
 loop-place-preserved c =

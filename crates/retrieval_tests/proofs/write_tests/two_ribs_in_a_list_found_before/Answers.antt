@@ -1,7 +1,7 @@
 use Rattle.std.proofs.Common.{◌∷◌, ◌<◌, ℕ, sym, subst, ◌∙◌}
 use Rattle.std.specs.List.{AllByRecursion}
 use Rattle.retrieval.proofs.Taking.{takes_apart, takes_inside, takes_nonzero, later}
-use Rattle.retrieval.proofs.write_tests.two_ribs_in_a_list_found_before.Goals as goal
+use Rattle.retrieval_tests.proofs.write_tests.two_ribs_in_a_list_found_before.Goals as goal
 
 pub write_retrieval_blocks-answer-requires-clause-inside : goal.write_retrieval_blocks-answer-requires-clause-inside
 write_retrieval_blocks-answer-requires-clause-inside g c =

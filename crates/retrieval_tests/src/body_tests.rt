@@ -9,11 +9,11 @@ ghost use Rattle.meaning.specs.Retrieval.{HasBody, most_blocks};
 ghost use Rattle.meaning.specs.Splices.{splice, length_after, words_from};
 ghost use Rattle.retrieval.specs.Writing.{IsFixed};
 
-use crate::tests::FailingDisk;
+use crate::read_tests::FailingDisk;
 use crate::write_tests::{SIZE, disk_of, table_of, word};
-use crate::{BodyError, Version, get_words, put_words};
 use alloctab::Table;
 use blockdisk::{Disk, MemDisk, NoMemory};
+use retrieval::{BodyError, Version, get_words, put_words};
 use std::alloc::{AllocError, Global};
 use std::process::Abort;
 use std::test::Fail;

@@ -9,12 +9,12 @@ ghost use Rattle.retrieval.specs.Reading.{IsReadAs};
 ghost use Rattle.retrieval.specs.Writing.{IsFixed, rib_count};
 ghost use Rattle.retrieval.specs.declared.error.RetrievalError.TheVariants.{BadRetrieval};
 
-use crate::{
+use alloctab::{Reached, Table, TableError};
+use blockdisk::{Disk, MemDisk, NoMemory};
+use retrieval::{
     Mode, Prime, RetrievalError, Version, read_version, rib_count, take_retrieval_blocks,
     write_retrieval_blocks, write_version,
 };
-use alloctab::{Reached, Table, TableError};
-use blockdisk::{Disk, MemDisk, NoMemory};
 use std::alloc::Global;
 use std::process::Abort;
 use std::test::Fail;

@@ -2,7 +2,7 @@ use Rattle.std.proofs.Common.{◌≡◌, ℕ, length, take, ap, sym, ◌∙◌, 
 use Rattle.std.specs.Prelude.{IfOk}
 use Rattle.meaning.specs.Splices.{splice, length_after, words_from}
 use Rattle.meaning.proofs.SpliceLaws.{length-splice}
-use Rattle.retrieval.proofs.body_tests.put_and_get.Goals as goal
+use Rattle.retrieval_tests.proofs.body_tests.put_and_get.Goals as goal
 
 pub returns : goal.returns
 returns g c = record {

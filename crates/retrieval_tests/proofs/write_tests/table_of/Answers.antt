@@ -7,7 +7,7 @@ use Rattle.alloctab.specs.Lists.{digit, digit_at}
 use Rattle.alloctab.specs.TableState.{TableState, IsFree, bit, holds, used, used_in_space, space, uses}
 use Rattle.alloctab.specs.TableLaws.{used-free}
 use Rattle.alloctab.specs.Reached.{wanted_bit}
-use Rattle.retrieval.proofs.write_tests.table_of.Goals as goal
+use Rattle.retrieval_tests.proofs.write_tests.table_of.Goals as goal
 
 no_flags : (k n : ℕ) → get_or (replicate k false) n false ≡ false
 no_flags zero n = refl

@@ -3,7 +3,7 @@ use Rattle.std.specs.List.{AllByRecursion}
 use Rattle.alloctab.specs.TableState.{holds, uses}
 use Rattle.meaning.specs.Faults.{InSpace}
 use Rattle.meaning.specs.Maps.{times}
-use Rattle.retrieval.proofs.body_tests.held_version.Given as goal
+use Rattle.retrieval_tests.proofs.body_tests.held_version.Given as goal
 
 abbrev pub invariant-loop-place : goal.invariant-loop-place
 invariant-loop-place l = record {

@@ -1,7 +1,7 @@
 use Rattle.std.proofs.Common.{◌≡◌, ◌<◌, ◌*◌, ◌^◌, length}
 use Rattle.std.specs.List.{AllByRecursion}
 use Rattle.meaning.specs.Faults.{InSpace}
-use Rattle.retrieval.proofs.write_tests.version_of.Given as goal
+use Rattle.retrieval_tests.proofs.write_tests.version_of.Given as goal
 
 abbrev pub invariant-loop-i : goal.invariant-loop-i
 invariant-loop-i l = record {
