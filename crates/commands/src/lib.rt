@@ -31,8 +31,6 @@
 mod answer;
 mod asking;
 mod concluding;
-#[cfg(test)]
-mod copy_tests;
 mod copying;
 mod error;
 #[cfg(test)]
@@ -57,8 +55,6 @@ mod run;
 #[cfg(test)]
 mod script_tests;
 mod service;
-#[cfg(test)]
-mod session_tests;
 mod specs;
 mod stream;
 #[cfg(test)]

@@ -1,5 +1,5 @@
-use crate::{Monitor, Tally, session};
 use blockdisk::{Disk, MemDisk, NoMemory};
+use commands::{Monitor, SessionError, Tally, script, session};
 use std::alloc::Global;
 use std::process::Abort;
 use std::test::Fail;
@@ -56,13 +56,42 @@ pub fn image_with(rt: &impl Abort, alloc: Global, calls: usize) -> Result<MemDis
     Ok(disk)
 }
 
-/// A monitor over a disk that has to be accepted. What `start` promises stays behind this function: the proofs of tests
+/// A monitor over a disk, where that is accepted. What `start` promises stays behind this function: the proofs of tests
 /// are short without it.
+pub fn start(alloc: Global, disk: MemDisk) -> Option<Monitor<MemDisk>> {
+    Monitor::start(alloc, disk).ok()
+}
+
+/// A monitor over a disk that has to be accepted.
 pub fn started(rt: &impl Abort, alloc: Global, disk: MemDisk) -> Monitor<MemDisk> {
-    let Ok(monitor) = Monitor::start(alloc, disk) else {
+    let Some(monitor) = start(alloc, disk) else {
         panic!(rt; "the image is refused");
     };
     monitor
+}
+
+/// What a session prints at a moment goes to the writer. What `session` promises stays behind this function.
+pub fn talk(
+    alloc: Global,
+    monitor: &mut Monitor<MemDisk>,
+    moment: Moment,
+    lines: &[u8],
+    writer: &mut Vec<u8>,
+) -> Result<Tally, SessionError> {
+    let mut reader = lines;
+    session(alloc, &mut reader, writer, monitor, moment)
+}
+
+/// The same of a call script.
+pub fn play(
+    alloc: Global,
+    monitor: &mut Monitor<MemDisk>,
+    moment: Moment,
+    lines: &[u8],
+    writer: &mut Vec<u8>,
+) -> Result<Tally, SessionError> {
+    let mut reader = lines;
+    script(alloc, &mut reader, writer, monitor, moment)
 }
 
 /// A session at a date has to print this text; gives what is counted of it.
@@ -74,10 +103,8 @@ pub fn expect_text(
     lines: &[u8],
     text: &[u8],
 ) -> Result<Tally, Fail> {
-    let mut reader = lines;
     let mut writer = Vec::new(alloc);
-    let moment = Moment::new(date, 0)?;
-    let tally = session(alloc, &mut reader, &mut writer, monitor, moment)?;
+    let tally = talk(alloc, monitor, Moment::new(date, 0)?, lines, &mut writer)?;
     assert!(rt; writer.as_slice() == text, "{writer:?}");
     Ok(tally)
 }

@@ -1,6 +1,6 @@
-use crate::session_tests::{expect_text, image, image_with, room, started};
-use crate::{Monitor, SessionError, script, session};
+use crate::session_tests::{expect_text, image, image_with, play, room, start, started, talk};
 use blockdisk::MemDisk;
+use commands::{Monitor, SessionError};
 use meaning::Reply;
 use monitor::Call;
 use std::alloc::Global;
@@ -215,13 +215,12 @@ fn printed_with(
 ) -> Result<Vec<u8>, Fail> {
     let mut writer = Vec::new(alloc);
     let disk = image_with(rt, alloc, calls)?;
-    if let Ok(mut monitor) = Monitor::start(alloc, disk) {
-        let mut reader = lines;
+    if let Some(mut monitor) = start(alloc, disk) {
         let moment = Moment::new(0, 0)?;
         let tally = if is_script {
-            script(alloc, &mut reader, &mut writer, &mut monitor, moment)?
+            play(alloc, &mut monitor, moment, lines, &mut writer)?
         } else {
-            session(alloc, &mut reader, &mut writer, &mut monitor, moment)?
+            talk(alloc, &mut monitor, moment, lines, &mut writer)?
         };
         assert!(rt; tally.broke == tally.refused);
     }
@@ -280,12 +279,11 @@ fn each_write_or_sync_of_a_script_fails(rt: HostRuntime) -> Result<(), Fail> {
 fn each_allocation_of_a_copy_refused(rt: HostRuntime) -> Result<(), Fail> {
     let mut writer = Vec::with_capacity(rt.alloc(), 200)?;
     let disk = image(&rt, rt.alloc())?;
-    let Ok(mut monitor) = Monitor::start(rt.alloc(), disk) else {
+    let Some(mut monitor) = start(rt.alloc(), disk) else {
         return Ok(());
     };
-    let mut reader = LINES;
     let moment = Moment::new(0, 0)?;
-    match session(rt.alloc(), &mut reader, &mut writer, &mut monitor, moment) {
+    match talk(rt.alloc(), &mut monitor, moment, LINES, &mut writer) {
         Ok(tally) => assert!(rt; tally.refused || writer.as_slice() == TEXT, "{writer:?}"),
         Err(error) => {
             assert_eq!(rt; error, SessionError::NoMemory);
