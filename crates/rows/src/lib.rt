@@ -1,11 +1,7 @@
-//! Tests that cross the crates: what a volume does on an image, from the bytes of a file up, and what a monitor
-//! answers to the calls of its jobs, one after the other. There is no code here beside them.
+//! Tests that cross the crates: what a volume does on an image, from the bytes of a file up, and what the calls of a
+//! monitor's jobs come to, one after the other, in worked rows. There is no code here beside them.
 #![tactic(auto)]
 
-#[cfg(test)]
-mod call_tests;
-#[cfg(test)]
-mod event_tests;
 #[cfg(test)]
 mod fault_rows;
 #[cfg(test)]
@@ -14,7 +10,5 @@ mod images;
 mod list_rows;
 #[cfg(test)]
 mod monitor_rows;
-#[cfg(test)]
-mod monitor_tests;
 #[cfg(test)]
 mod reading_rows;
