@@ -11,7 +11,7 @@ ghost use Rattle.retrieval.specs.Writing.{IsFixed};
 
 use crate::read_tests::FailingDisk;
 use crate::write_tests::{SIZE, disk_of, table_of, word};
-use alloctab::Table;
+use alloctab::{Table, TableError};
 use blockdisk::{Disk, MemDisk, NoMemory};
 use retrieval::{BodyError, Version, get_words, put_words};
 use std::alloc::{AllocError, Global};
@@ -156,6 +156,144 @@ fn put_and_get<D: Disk>(
     get_words(alloc, disk, version, 1, version.length())
 }
 
+/// A table with 40 blocks booked, with the first block of the bodies in use where that is asked for, and a version of
+/// so many words as `held_version` makes it.
+fn held<D: Disk>(
+    rt: &impl Abort,
+    alloc: Global,
+    disk: &mut D,
+    is_set: bool,
+    words: u32,
+    shared: u32,
+) -> Result<(Table, Version), TableError>
+    ensures size { IfOk result (λ held. held.0.size ≡ 1024) }
+    ensures fixed { IfOk result (λ held. IsFixed held.0) }
+    ensures booked { IfOk result (λ held. held.0.booked ≡ 40) }
+    ensures used { IfOk result (λ held. uses held.0 ≤ 21) }
+    ensures held { IfOk result (λ held. (n : ℕ) → times n held.1.blocks ≤ holds held.0 n) }
+    ensures inside { IfOk result (λ held. AllByRecursion (InSpace 1024) held.1.blocks) }
+    ensures counted { IfOk result (λ held. length held.1.blocks ≡ blocks_of held.1.words) }
+    ensures words { IfOk result (λ held. held.1.words ≡ words) }
+{
+    assert!(rt; disk.blocks() == SIZE && words <= 1280);
+    let mut table = table_of(rt, alloc, disk, 40)?;
+    if is_set {
+        mark_used(&mut table, FIRST);
+    }
+    let Ok(version) = held_version(alloc, &mut table, words, shared) else {
+        return Err(TableError::NoMemory);
+    };
+    Ok((table, version))
+}
+
+/// Reads words of a version that is held.
+fn get_held<D: Disk>(
+    rt: &impl Abort,
+    alloc: Global,
+    disk: &mut D,
+    version: &Version,
+    block: u32,
+    count: u32,
+) -> Result<Vec<Word>, BodyError>
+    requires inside { AllByRecursion (InSpace 1024) version.now.blocks }
+    requires counted { length version.now.blocks ≡ blocks_of version.now.words }
+{
+    assert!(rt; disk.blocks() == SIZE && 0 < block);
+    get_words(alloc, disk, version, block, count)
+}
+
+/// Puts so many new words into a version that is held.
+fn put_new<D: Disk>(
+    rt: &impl Abort,
+    alloc: Global,
+    disk: &mut D,
+    table: &mut Table,
+    version: &mut Version,
+    block: u32,
+    count: u32,
+) -> Result<(), BodyError>
+    requires size { table.old.size ≡ 1024 }
+    requires fixed { IsFixed table.old }
+    requires booked { table.old.booked ≡ 40 }
+    requires used { uses table.old ≤ 21 }
+    requires held { (n : ℕ) → times n version.old.blocks ≤ holds table.old n }
+    requires inside { AllByRecursion (InSpace 1024) version.old.blocks }
+    requires counted { length version.old.blocks ≡ blocks_of version.old.words }
+    ensures { table.new.size ≡ 1024 }
+{
+    assert!(rt; disk.blocks() == SIZE && version.length() <= 384);
+    assert!(rt; 0 < block && block <= 4 && count <= 300);
+    let new = new_words(alloc, count)?;
+    put_words(disk, table, version, block, new.as_slice())
+}
+
+/// Puts so many new words into a version that is held, and reads the whole of it.
+fn put_new_and_get<D: Disk>(
+    rt: &impl Abort,
+    alloc: Global,
+    disk: &mut D,
+    table: &mut Table,
+    version: &mut Version,
+    block: u32,
+    count: u32,
+) -> Result<Vec<Word>, BodyError>
+    requires size { table.old.size ≡ 1024 }
+    requires fixed { IsFixed table.old }
+    requires booked { table.old.booked ≡ 40 }
+    requires used { uses table.old ≤ 21 }
+    requires held { (n : ℕ) → times n version.old.blocks ≤ holds table.old n }
+    requires inside { AllByRecursion (InSpace 1024) version.old.blocks }
+    requires counted { length version.old.blocks ≡ blocks_of version.old.words }
+{
+    assert!(rt; disk.blocks() == SIZE && version.length() <= 384);
+    assert!(rt; 0 < block && block <= 4 && count <= 300);
+    let new = new_words(alloc, count)?;
+    put_and_get(alloc, disk, table, version, block, new.as_slice())
+}
+
+/// These are the words of a body of so many words after so many new ones were put from a block on, as `word_after`
+/// has them.
+fn expect_words_after(rt: &impl Abort, words: &[Word], length: u32, block: u32, count: u32) {
+    assert!(rt; 0 < block && block <= 4 && length <= 384 && count <= 300);
+    let start = u64::from(block - 1) * 128;
+    let end = if count == 0 {
+        0
+    } else {
+        start + u64::from(count)
+    };
+    assert_eq!(rt; words.len() as u64, end.max(u64::from(length)));
+    for (place, got) in words.iter().enumerate() {
+        assert!(rt; place < 4096);
+        let wanted = word_after(place as u64, u64::from(length), start, u64::from(count));
+        assert!(rt; *got == wanted);
+    }
+}
+
+/// So many new words are put from a block on into a body of so many words, and read back.
+fn expect_read_back(
+    rt: &impl Abort,
+    alloc: Global,
+    disk: &mut MemDisk,
+    length: u32,
+    block: u32,
+    count: u32,
+) -> Result<(), Fail> {
+    let (mut table, mut version) = held(rt, alloc, disk, false, length, 10)?;
+    let read = put_new_and_get(rt, alloc, disk, &mut table, &mut version, block, count);
+    let length_after = version.length();
+    drop(version);
+    drop(table);
+    let words = read?;
+    expect_length(rt, words.as_slice(), length_after);
+    expect_words_after(rt, words.as_slice(), length, block, count);
+    Ok(())
+}
+
+/// There are so many words.
+fn expect_length(rt: &impl Abort, words: &[Word], length: u32) {
+    assert_eq!(rt; length as usize, words.len());
+}
+
 #[test]
 fn words_put_and_read_back(rt: HostRuntime) -> Result<(), Fail> {
     for (length, block, count) in [
@@ -168,33 +306,51 @@ fn words_put_and_read_back(rt: HostRuntime) -> Result<(), Fail> {
         (384, 1, 0),
     ] {
         let mut disk = counted_disk(&rt, rt.alloc(), 16)?;
-        assert!(rt; disk.blocks() == SIZE);
-        assert!(rt; length <= 384 && 0 < block && block <= 4 && count <= 300);
-        let mut table = table_of(&rt, rt.alloc(), &mut disk, 40)?;
-        let mut version = held_version(rt.alloc(), &mut table, length, 10)?;
-        let new = new_words(rt.alloc(), count)?;
-        let words = put_and_get(
-            rt.alloc(),
-            &mut disk,
-            &mut table,
-            &mut version,
-            block,
-            new.as_slice(),
-        )?;
-        let start = u64::from(block - 1) * 128;
-        let end = if count == 0 {
-            0
-        } else {
-            start + u64::from(count)
-        };
-        assert_eq!(rt; words.len() as u64, end.max(u64::from(length)));
-        assert_eq!(rt; version.length() as usize, words.len());
-        for (place, got) in words.iter().enumerate() {
-            assert!(rt; place < 4096);
-            let wanted = word_after(place as u64, u64::from(length), start, u64::from(count));
-            assert!(rt; *got == wanted);
-        }
+        let done = expect_read_back(&rt, rt.alloc(), &mut disk, length, block, count);
+        drop(disk);
+        done?;
     }
+    Ok(())
+}
+
+/// The first block of a version stands in this block after a put, and where that is another one, the block that
+/// another version reaches has kept its words.
+fn expect_first_at(
+    rt: &impl Abort,
+    disk: &mut MemDisk,
+    table: &Table,
+    version: &Version,
+    shared: u32,
+    at: u32,
+)
+    requires { table.now.size ≡ 1024 }
+{
+    assert!(rt; version.blocks() == [at, FIRST + 1, FIRST + 2].as_slice());
+    assert_eq!(rt; table.is_free(15), at == FIRST);
+    assert_eq!(rt; table.is_held_alone(FIRST), shared == 0 || at == FIRST);
+    assert!(rt; disk.blocks() == SIZE);
+    if let Ok(words) = disk.read(FIRST) {
+        assert_eq!(rt; words == counted_block(0), at != FIRST);
+    }
+}
+
+/// Ten new words are put into the first block of a body of 300 words, and stand in the block `at` then.
+fn expect_put_at(
+    rt: &impl Abort,
+    alloc: Global,
+    disk: &mut MemDisk,
+    shared: u32,
+    is_set: bool,
+    at: u32,
+) -> Result<(), Fail> {
+    let (mut table, mut version) = held(rt, alloc, disk, is_set, 300, shared)?;
+    let put = put_new(rt, alloc, disk, &mut table, &mut version, 1, 10);
+    if put.is_ok() {
+        expect_first_at(rt, disk, &table, &version, shared, at);
+    }
+    drop(version);
+    drop(table);
+    put?;
     Ok(())
 }
 
@@ -204,22 +360,37 @@ fn words_put_and_read_back(rt: HostRuntime) -> Result<(), Fail> {
 fn shared_blocks_are_not_written(rt: HostRuntime) -> Result<(), Fail> {
     for (shared, is_set, at) in [(0, false, 15), (10, true, 15), (10, false, FIRST)] {
         let mut disk = counted_disk(&rt, rt.alloc(), 16)?;
-        assert!(rt; disk.blocks() == SIZE);
-        let mut table = table_of(&rt, rt.alloc(), &mut disk, 40)?;
-        if is_set {
-            mark_used(&mut table, FIRST);
-        }
-        let mut version = held_version(rt.alloc(), &mut table, 300, shared)?;
-        let new = new_words(rt.alloc(), 10)?;
-        put_words(&mut disk, &mut table, &mut version, 1, new.as_slice())?;
-        assert!(rt; version.blocks() == [at, FIRST + 1, FIRST + 2].as_slice());
-        assert_eq!(rt; table.is_free(15), at == FIRST);
-        assert_eq!(rt; table.is_held_alone(FIRST), shared == 0 || at == FIRST);
-        assert!(rt; disk.blocks() == SIZE);
-        if let Ok(words) = disk.read(FIRST) {
-            assert_eq!(rt; words == counted_block(0), at != FIRST);
-        }
+        let done = expect_put_at(&rt, rt.alloc(), &mut disk, shared, is_set, at);
+        drop(disk);
+        done?;
     }
+    Ok(())
+}
+
+/// These are so many of the words 1, 2, 3 and so on of the bodies, from a block on.
+fn expect_counted(rt: &impl Abort, words: &[Word], block: u32, wanted: usize) {
+    assert_eq!(rt; words.len(), wanted);
+    for (place, got) in words.iter().enumerate() {
+        assert!(rt; place < 4096 && 0 < block && block <= 4);
+        assert!(rt; *got == word(u64::from(block - 1) * 128 + place as u64 + 1));
+    }
+}
+
+/// So many words are read from a block on of a body of 300 words, where so many are asked for.
+fn expect_words_from(
+    rt: &impl Abort,
+    alloc: Global,
+    disk: &mut MemDisk,
+    block: u32,
+    count: u32,
+    wanted: usize,
+) -> Result<(), Fail> {
+    let (table, version) = held(rt, alloc, disk, false, 300, 10)?;
+    let read = get_held(rt, alloc, disk, &version, block, count);
+    drop(version);
+    drop(table);
+    let words = read?;
+    expect_counted(rt, words.as_slice(), block, wanted);
     Ok(())
 }
 
@@ -235,43 +406,95 @@ fn words_from_a_block_on(rt: HostRuntime) -> Result<(), Fail> {
         (u32::MAX, u32::MAX, 0),
     ] {
         let mut disk = counted_disk(&rt, rt.alloc(), 0)?;
-        assert!(rt; disk.blocks() == SIZE && 0 < block);
-        let mut table = table_of(&rt, rt.alloc(), &mut disk, 40)?;
-        let version = held_version(rt.alloc(), &mut table, 300, 10)?;
-        let words = get_words(rt.alloc(), &mut disk, &version, block, count)?;
-        assert_eq!(rt; words.len(), wanted);
-        for (place, got) in words.iter().enumerate() {
-            assert!(rt; place < 4096 && block <= 4);
-            assert!(rt; *got == word(u64::from(block - 1) * 128 + place as u64 + 1));
-        }
+        let done = expect_words_from(&rt, rt.alloc(), &mut disk, block, count, wanted);
+        drop(disk);
+        done?;
     }
+    Ok(())
+}
+
+/// What a read and a put of so many words from a block on answer, on a disk whose block `FIRST + 1` is damaged.
+fn expect_damage(
+    rt: &impl Abort,
+    alloc: Global,
+    disk: &mut MemDisk,
+    block: u32,
+    count: u32,
+    bad: Option<BodyError>,
+) -> Result<(), Fail> {
+    assert!(rt; disk.blocks() == SIZE);
+    disk.damage(FIRST + 1);
+    let (mut table, mut version) = held(rt, alloc, disk, false, 300, 10)?;
+    let read = get_held(rt, alloc, disk, &version, block, count).err();
+    let put = put_new(rt, alloc, disk, &mut table, &mut version, block, count).err();
+    let length = version.length();
+    drop(version);
+    drop(table);
+    assert!(rt; read == bad);
+    assert!(rt; put == bad);
+    assert_eq!(rt; length, 300);
     Ok(())
 }
 
 /// Only blocks that are asked for, or in which words stay, are read.
 #[test]
 fn a_damaged_block(rt: HostRuntime) -> Result<(), Fail> {
-    for (block, count) in [(2, 10), (1, 128), (3, 44)] {
+    for (block, count, bad) in [
+        (2, 10, Some(BodyError::BadData(FIRST + 1))),
+        (1, 128, None),
+        (3, 44, None),
+    ] {
         let mut disk = counted_disk(&rt, rt.alloc(), 16)?;
-        assert!(rt; disk.blocks() == SIZE);
-        disk.damage(FIRST + 1);
-        assert!(rt; disk.blocks() == SIZE);
-        assert!(rt; 0 < block && block <= 3 && count <= 128);
-        let mut table = table_of(&rt, rt.alloc(), &mut disk, 40)?;
-        let mut version = held_version(rt.alloc(), &mut table, 300, 10)?;
-        let bad = if block == 2 {
-            Some(BodyError::BadData(FIRST + 1))
-        } else {
-            None
-        };
-        let read = get_words(rt.alloc(), &mut disk, &version, block, count).err();
-        assert!(rt; read == bad);
-        let new = new_words(rt.alloc(), count)?;
-        assert!(rt; disk.blocks() == SIZE);
-        let put = put_words(&mut disk, &mut table, &mut version, block, new.as_slice()).err();
-        assert!(rt; put == bad);
-        assert_eq!(rt; version.length(), 300);
+        let done = expect_damage(&rt, rt.alloc(), &mut disk, block, count, bad);
+        drop(disk);
+        done?;
     }
+    Ok(())
+}
+
+/// A disk on which these bodies stand, with room for so many writes, which fails after so many reads and writes.
+fn failing_disk(
+    rt: &impl Abort,
+    alloc: Global,
+    writes: usize,
+    calls: u32,
+) -> Result<FailingDisk, NoMemory> {
+    let inner = counted_disk(rt, alloc, writes)?;
+    Ok(FailingDisk {
+        inner,
+        calls,
+        failures: 0,
+    })
+}
+
+/// A call that makes so many reads and writes failed where the disk serves fewer of them.
+fn expect_failure(
+    rt: &impl Abort,
+    failed: Option<BodyError>,
+    failures: u64,
+    served: u32,
+    made: u32,
+) {
+    if served < made {
+        assert!(rt; failed == Some(BodyError::Device));
+        assert_eq!(rt; failures, 1);
+    } else {
+        assert!(rt; failed.is_none());
+    }
+}
+
+/// 300 words are read from three blocks of a disk that serves so many calls.
+fn expect_failing_read(
+    rt: &impl Abort,
+    alloc: Global,
+    disk: &mut FailingDisk,
+    calls: u32,
+) -> Result<(), Fail> {
+    let (table, version) = held(rt, alloc, &mut disk.inner, false, 300, 10)?;
+    let failed = get_held(rt, alloc, disk, &version, 1, 300).err();
+    drop(version);
+    drop(table);
+    expect_failure(rt, failed, disk.failures, calls, 3);
     Ok(())
 }
 
@@ -279,24 +502,28 @@ fn a_damaged_block(rt: HostRuntime) -> Result<(), Fail> {
 #[test]
 fn each_read_of_words_may_fail(rt: HostRuntime) -> Result<(), Fail> {
     for calls in 0..4 {
-        let mut inner = counted_disk(&rt, rt.alloc(), 0)?;
-        assert!(rt; inner.blocks() == SIZE);
-        let mut table = table_of(&rt, rt.alloc(), &mut inner, 40)?;
-        let version = held_version(rt.alloc(), &mut table, 300, 10)?;
-        let mut disk = FailingDisk {
-            inner,
-            calls,
-            failures: 0,
-        };
-        assert!(rt; disk.blocks() == SIZE);
-        let failed = get_words(rt.alloc(), &mut disk, &version, 1, 300).err();
-        if calls < 3 {
-            assert!(rt; failed == Some(BodyError::Device));
-            assert_eq!(rt; disk.failures, 1);
-        } else {
-            assert!(rt; failed.is_none());
-        }
+        let mut disk = failing_disk(&rt, rt.alloc(), 0, calls)?;
+        let done = expect_failing_read(&rt, rt.alloc(), &mut disk, calls);
+        drop(disk);
+        done?;
     }
+    Ok(())
+}
+
+/// A word is put at block 3 of a body of 100 words on a disk that serves so many calls.
+fn expect_failing_put(
+    rt: &impl Abort,
+    alloc: Global,
+    disk: &mut FailingDisk,
+    calls: u32,
+) -> Result<(), Fail> {
+    let (mut table, mut version) = held(rt, alloc, &mut disk.inner, false, 100, 10)?;
+    let failed = put_new(rt, alloc, disk, &mut table, &mut version, 3, 1).err();
+    let length = version.length();
+    drop(version);
+    drop(table);
+    expect_failure(rt, failed, disk.failures, calls, 4);
+    assert_eq!(rt; length, if calls < 4 { 100 } else { 257 });
     Ok(())
 }
 
@@ -304,55 +531,47 @@ fn each_read_of_words_may_fail(rt: HostRuntime) -> Result<(), Fail> {
 #[test]
 fn each_call_of_a_put_may_fail(rt: HostRuntime) -> Result<(), Fail> {
     for calls in 0..5 {
-        let mut inner = counted_disk(&rt, rt.alloc(), 16)?;
-        assert!(rt; inner.blocks() == SIZE);
-        let mut table = table_of(&rt, rt.alloc(), &mut inner, 40)?;
-        let mut version = held_version(rt.alloc(), &mut table, 100, 10)?;
-        let new = new_words(rt.alloc(), 1)?;
-        let mut disk = FailingDisk {
-            inner,
-            calls,
-            failures: 0,
-        };
-        assert!(rt; disk.blocks() == SIZE);
-        let failed = put_words(&mut disk, &mut table, &mut version, 3, new.as_slice()).err();
-        if calls < 4 {
-            assert!(rt; failed == Some(BodyError::Device));
-            assert_eq!(rt; disk.failures, 1);
-            assert_eq!(rt; version.length(), 100);
-        } else {
-            assert!(rt; failed.is_none());
-            assert_eq!(rt; version.length(), 257);
-        }
+        let mut disk = failing_disk(&rt, rt.alloc(), 16, calls)?;
+        let done = expect_failing_put(&rt, rt.alloc(), &mut disk, calls);
+        drop(disk);
+        done?;
     }
     Ok(())
+}
+
+/// A call that failed had no memory.
+fn expect_no_memory(rt: &impl Abort, failed: Option<BodyError>) {
+    if let Some(error) = failed {
+        assert!(rt; error == BodyError::NoMemory);
+    }
+}
+
+/// A version of 300 words is as it was made, and the first free block is still there to be taken.
+fn expect_unchanged(rt: &impl Abort, table: &mut Table, version: &Version) {
+    assert_eq!(rt; version.length(), 300);
+    assert!(rt; version.blocks() == [FIRST, FIRST + 1, FIRST + 2].as_slice());
+    assert_eq!(rt; table.take(), Some(15));
+}
+
+/// A read and a put that have no memory say so.
+fn expect_refusals(rt: &impl Abort, alloc: Global, disk: &mut MemDisk) {
+    let Ok((mut table, mut version)) = held(rt, alloc, disk, false, 300, 10) else {
+        return;
+    };
+    let read = get_held(rt, alloc, disk, &version, 1, 300).err();
+    expect_no_memory(rt, read);
+    let put = put_new(rt, alloc, disk, &mut table, &mut version, 3, 300).err();
+    expect_no_memory(rt, put);
+    if put.is_some() {
+        expect_unchanged(rt, &mut table, &version);
+    }
 }
 
 /// Run with each allocation refused in turn: the answer is `NoMemory`, and a put changes nothing then.
 #[test]
 fn each_allocation_of_words_refused(rt: HostRuntime) -> Result<(), Fail> {
-    let Ok(mut disk) = counted_disk(&rt, rt.alloc(), 16) else {
-        return Ok(());
-    };
-    assert!(rt; disk.blocks() == SIZE);
-    let Ok(mut table) = table_of(&rt, rt.alloc(), &mut disk, 40) else {
-        return Ok(());
-    };
-    let Ok(mut version) = held_version(rt.alloc(), &mut table, 300, 10) else {
-        return Ok(());
-    };
-    let Ok(new) = new_words(rt.alloc(), 300) else {
-        return Ok(());
-    };
-    if let Err(error) = get_words(rt.alloc(), &mut disk, &version, 1, 300) {
-        assert!(rt; error == BodyError::NoMemory);
-    }
-    assert!(rt; disk.blocks() == SIZE);
-    if let Err(error) = put_words(&mut disk, &mut table, &mut version, 3, new.as_slice()) {
-        assert!(rt; error == BodyError::NoMemory);
-        assert_eq!(rt; version.length(), 300);
-        assert!(rt; version.blocks() == [FIRST, FIRST + 1, FIRST + 2].as_slice());
-        assert_eq!(rt; table.take(), Some(15));
+    if let Ok(mut disk) = counted_disk(&rt, rt.alloc(), 16) {
+        expect_refusals(&rt, rt.alloc(), &mut disk);
     }
     Ok(())
 }

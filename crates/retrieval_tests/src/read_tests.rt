@@ -1,6 +1,6 @@
 ghost use Rattle.blockdisk.specs.Memory.{memory_state};
 
-use blockdisk::{Disk, Fault, MemDisk};
+use blockdisk::{Disk, Fault, MemDisk, NoMemory};
 use retrieval::{BodyError, Mode, Prime, RetrievalError, Version, prime_block, read_version};
 use std::alloc::Global;
 use std::process::Abort;
@@ -20,6 +20,7 @@ const FOO: [u64; 5] = [
     0o000010000020,
 ];
 
+/// The word of this number.
 fn word(number: u64) -> Word {
     Word::new(number).unwrap_or(Word::ZERO)
 }
@@ -51,11 +52,13 @@ fn xrb(next: u64, runs: &[(u64, u64)]) -> Block {
     block_of(&[0o706242000000 + count, next], 2, runs)
 }
 
+/// Puts a block on a disk.
 fn load(rt: &impl Abort, disk: &mut MemDisk, n: u32, block: &Block) {
     assert!(rt; n < disk.blocks());
     disk.load(n, block);
 }
 
+/// The version whose prime block is in this block of a disk.
 fn read<D: Disk>(
     rt: &impl Abort,
     alloc: Global,
@@ -67,6 +70,29 @@ fn read<D: Disk>(
     read_version(alloc, disk, at)
 }
 
+/// A disk with this prime block in 20, and this extension in 21.
+fn disk_with(
+    rt: &impl Abort,
+    alloc: Global,
+    prime: &Block,
+    extension: &Block,
+) -> Result<MemDisk, NoMemory> {
+    let mut disk = MemDisk::new(alloc, SIZE, 0)?;
+    load(rt, &mut disk, 20, prime);
+    load(rt, &mut disk, 21, extension);
+    Ok(disk)
+}
+
+/// How many blocks the version has whose prime block is in 20.
+fn count_blocks<D: Disk>(
+    rt: &impl Abort,
+    alloc: Global,
+    disk: &mut D,
+) -> Result<usize, RetrievalError> {
+    let (_prime, version) = read(rt, alloc, disk, 20)?;
+    Ok(version.blocks().len())
+}
+
 /// What a disk with this prime block in 20 answers, and this extension in 21.
 fn answer(
     rt: &impl Abort,
@@ -74,20 +100,54 @@ fn answer(
     prime: &Block,
     extension: &Block,
 ) -> Result<usize, RetrievalError> {
-    let Ok(mut disk) = MemDisk::new(alloc, SIZE, 0) else {
-        return Err(RetrievalError::NoMemory);
-    };
-    load(rt, &mut disk, 20, prime);
-    load(rt, &mut disk, 21, extension);
-    let (_prime, version) = read(rt, alloc, &mut disk, 20)?;
-    Ok(version.blocks().len())
+    let mut disk = disk_with(rt, alloc, prime, extension)?;
+    count_blocks(rt, alloc, &mut disk)
 }
 
-#[test]
-fn a_small_file(rt: HostRuntime) -> Result<(), Fail> {
-    let mut disk = MemDisk::new(rt.alloc(), 64, 0)?;
-    load(&rt, &mut disk, 17, &rib(2, 0, &[(1, 18)]));
-    let (prime, version) = read(&rt, rt.alloc(), &mut disk, 17)?;
+/// A disk with this prime block in 20 gives a version of so many blocks, or is refused.
+fn expect(
+    rt: &impl Abort,
+    alloc: Global,
+    prime: &Block,
+    extension: &Block,
+    wanted: Result<usize, RetrievalError>,
+) {
+    assert_eq!(rt; answer(rt, alloc, prime, extension), wanted);
+}
+
+/// The same of a prime block with so many words, this next one and these runs, with no extension in 21.
+fn expect_alone(
+    rt: &impl Abort,
+    alloc: Global,
+    length: u64,
+    next: u64,
+    runs: &[(u64, u64)],
+    wanted: Result<usize, RetrievalError>,
+) {
+    let none = [Word::ZERO; BLOCK_WORDS];
+    expect(rt, alloc, &rib(length, next, runs), &none, wanted);
+}
+
+/// The same of a prime block with so many words and this next one that is full of runs of one block.
+fn expect_full(
+    rt: &impl Abort,
+    alloc: Global,
+    length: u64,
+    next: u64,
+    extension: &Block,
+    wanted: Result<usize, RetrievalError>,
+) {
+    expect(
+        rt,
+        alloc,
+        &rib(length, next, &[(1, 100); 112]),
+        extension,
+        wanted,
+    );
+}
+
+/// The attributes of FOO.TXT.
+fn expect_foo(rt: &impl Abort, prime: &Prime) {
     assert_eq!(rt; prime.file.name, word(0o465757000000));
     assert_eq!(rt; prime.file.ext.bits(), 0o647064);
     assert_eq!(rt; prime.ppn.word(), word(0o000010000020));
@@ -95,75 +155,61 @@ fn a_small_file(rt: HostRuntime) -> Result<(), Fail> {
     assert_eq!(rt; prime.mode, Mode::Ascii);
     assert_eq!(rt; prime.moment.date, 4095);
     assert_eq!(rt; prime.moment.minute, 0);
+}
+
+/// A version of two words in block 18.
+fn expect_two_words(rt: &impl Abort, version: &Version) {
     assert_eq!(rt; version.length(), 2);
     assert!(rt; version.blocks() == [18].as_slice());
     assert!(rt; version.ribs().is_empty());
     assert_eq!(rt; version.block(0), Some(18));
     assert_eq!(rt; version.block(1), None);
+}
+
+#[test]
+fn a_small_file(rt: HostRuntime) -> Result<(), Fail> {
+    let mut disk = MemDisk::new(rt.alloc(), 64, 0)?;
+    load(&rt, &mut disk, 17, &rib(2, 0, &[(1, 18)]));
+    let read = read(&rt, rt.alloc(), &mut disk, 17);
+    drop(disk);
+    let (prime, version) = read?;
+    expect_foo(&rt, &prime);
+    expect_two_words(&rt, &version);
     Ok(())
 }
 
 #[test]
 fn lengths_and_blocks(rt: HostRuntime) {
-    let none = [Word::ZERO; BLOCK_WORDS];
-    assert_eq!(rt; answer(&rt, rt.alloc(), &rib(0, 0, &[]), &none), Ok(0));
-    assert_eq!(rt;
-        answer(&rt, rt.alloc(), &rib(1, 0, &[(1, 30)]), &none),
-        Ok(1)
-    );
-    assert_eq!(rt;
-        answer(&rt, rt.alloc(), &rib(128, 0, &[(1, 30)]), &none),
-        Ok(1)
-    );
-    assert_eq!(rt;
-        answer(&rt, rt.alloc(), &rib(129, 0, &[(1, 30), (1, 40)]), &none),
-        Ok(2)
-    );
-    assert_eq!(rt;
-        answer(&rt, rt.alloc(), &rib(129, 0, &[(2, 30)]), &none),
-        Ok(2)
-    );
-    assert_eq!(rt;
-        answer(&rt, rt.alloc(), &rib(384, 0, &[(3, 30)]), &none),
-        Ok(3)
-    );
+    let cases: [(u64, &[(u64, u64)], usize); 6] = [
+        (0, &[], 0),
+        (1, &[(1, 30)], 1),
+        (128, &[(1, 30)], 1),
+        (129, &[(1, 30), (1, 40)], 2),
+        (129, &[(2, 30)], 2),
+        (384, &[(3, 30)], 3),
+    ];
+    for (length, runs, count) in cases {
+        expect_alone(&rt, rt.alloc(), length, 0, runs, Ok(count));
+    }
 }
 
 #[test]
 fn versions_with_an_extension(rt: HostRuntime) {
     let none = [Word::ZERO; BLOCK_WORDS];
-    let all = [(1, 100); 112];
-    assert_eq!(rt;
-        answer(&rt, rt.alloc(), &rib(112 * 128, 0, &all), &none),
-        Ok(112)
-    );
-    assert_eq!(rt;
-        answer(
-            &rt,
-            rt.alloc(),
-            &rib(113 * 128, 21, &all),
-            &xrb(0, &[(1, 99)])
-        ),
-        Ok(113)
-    );
-    assert_eq!(rt;
-        answer(
-            &rt,
-            rt.alloc(),
-            &rib(238 * 128, 21, &all),
-            &xrb(0, &[(1, 200); 126])
-        ),
-        Ok(238)
+    expect_full(&rt, rt.alloc(), 112 * 128, 0, &none, Ok(112));
+    expect_full(&rt, rt.alloc(), 113 * 128, 21, &xrb(0, &[(1, 99)]), Ok(113));
+    expect_full(
+        &rt,
+        rt.alloc(),
+        238 * 128,
+        21,
+        &xrb(0, &[(1, 200); 126]),
+        Ok(238),
     );
 }
 
-#[test]
-fn two_extensions(rt: HostRuntime) -> Result<(), Fail> {
-    let mut disk = MemDisk::new(rt.alloc(), SIZE, 0)?;
-    load(&rt, &mut disk, 20, &rib(239 * 128, 21, &[(1, 100); 112]));
-    load(&rt, &mut disk, 21, &xrb(22, &[(1, 200); 126]));
-    load(&rt, &mut disk, 22, &xrb(0, &[(1, 300)]));
-    let (_prime, version) = read(&rt, rt.alloc(), &mut disk, 20)?;
+/// A version of 239 blocks, whose prime block has 112 of them, and its extensions in 21 and 22 the rest.
+fn expect_two_extensions(rt: &impl Abort, version: &Version) {
     assert_eq!(rt; version.length(), 239 * 128);
     assert_eq!(rt; version.blocks().len(), 239);
     assert_eq!(rt; version.block(111), Some(100));
@@ -171,38 +217,77 @@ fn two_extensions(rt: HostRuntime) -> Result<(), Fail> {
     assert_eq!(rt; version.block(237), Some(200));
     assert_eq!(rt; version.block(238), Some(300));
     assert!(rt; version.ribs() == [21, 22].as_slice());
+}
+
+#[test]
+fn two_extensions(rt: HostRuntime) -> Result<(), Fail> {
+    let prime = rib(239 * 128, 21, &[(1, 100); 112]);
+    let mut disk = disk_with(&rt, rt.alloc(), &prime, &xrb(22, &[(1, 200); 126]))?;
+    load(&rt, &mut disk, 22, &xrb(0, &[(1, 300)]));
+    let read = read(&rt, rt.alloc(), &mut disk, 20);
+    drop(disk);
+    let (_prime, version) = read?;
+    expect_two_extensions(&rt, &version);
     Ok(())
 }
 
 /// The prime block of a file, built again from what was read of it.
-fn built(rt: &impl Abort, alloc: Global, prime: &Block, extension: &Block) -> Option<Block> {
-    let mut disk = MemDisk::new(alloc, SIZE, 0).ok()?;
-    load(rt, &mut disk, 20, prime);
-    load(rt, &mut disk, 21, extension);
+fn rebuilt<D: Disk>(rt: &impl Abort, alloc: Global, disk: &mut D) -> Option<Block> {
     assert!(rt; disk.blocks() == SIZE);
-    let Ok((attributes, version)) = read_version(alloc, &mut disk, 20) else {
+    let Ok((attributes, version)) = read_version(alloc, disk, 20) else {
         return None;
     };
     Some(prime_block(&attributes, &version))
 }
 
+/// The prime block of the file that has this prime block and this extension is built again as this block.
+fn expect_built(
+    rt: &impl Abort,
+    alloc: Global,
+    prime: &Block,
+    extension: &Block,
+    wanted: &Block,
+) -> Result<(), NoMemory> {
+    let mut disk = disk_with(rt, alloc, prime, extension)?;
+    let built = rebuilt(rt, alloc, &mut disk);
+    drop(disk);
+    assert!(rt; built == Some(*wanted));
+    Ok(())
+}
+
 #[test]
-fn prime_blocks_are_built_again(rt: HostRuntime) {
+fn prime_blocks_are_built_again(rt: HostRuntime) -> Result<(), Fail> {
     let none = [Word::ZERO; BLOCK_WORDS];
     let small = rib(2, 0, &[(1, 30)]);
-    assert!(rt; built(&rt, rt.alloc(), &small, &none) == Some(small));
+    expect_built(&rt, rt.alloc(), &small, &none, &small)?;
     let pieces = rib(300, 0, &[(2, 30), (1, 99)]);
     let alone = rib(300, 0, &[(1, 30), (1, 31), (1, 99)]);
-    assert!(rt; built(&rt, rt.alloc(), &pieces, &none) == Some(alone));
+    expect_built(&rt, rt.alloc(), &pieces, &none, &alone)?;
     let large = rib(113 * 128, 21, &[(1, 100); 112]);
-    assert!(rt; built(&rt, rt.alloc(), &large, &xrb(0, &[(1, 99)])) == Some(large));
+    expect_built(&rt, rt.alloc(), &large, &xrb(0, &[(1, 99)]), &large)?;
+    Ok(())
+}
+
+/// The same of the prime block of a file of two words in which this word was put in a place.
+fn expect_changed(
+    rt: &impl Abort,
+    alloc: Global,
+    place: usize,
+    number: u64,
+    wanted: Result<usize, RetrievalError>,
+) {
+    let none = [Word::ZERO; BLOCK_WORDS];
+    let mut block = rib(2, 0, &[(1, 30)]);
+    assert!(rt; place < BLOCK_WORDS);
+    block[place] = word(number);
+    expect(rt, alloc, &block, &none, wanted);
 }
 
 #[test]
 fn bad_first_words(rt: HostRuntime) {
     let none = [Word::ZERO; BLOCK_WORDS];
     let bad: Result<usize, RetrievalError> = Err(RetrievalError::BadRetrieval(20));
-    assert_eq!(rt; answer(&rt, rt.alloc(), &none, &none), bad);
+    expect(&rt, rt.alloc(), &none, &none, bad);
     for (place, number) in [
         (0, 0o625142000001),
         (2, 0o647064000001),
@@ -217,129 +302,108 @@ fn bad_first_words(rt: HostRuntime) {
         (17, 1),
         (127, 1),
     ] {
-        let mut block = rib(2, 0, &[(1, 30)]);
-        assert!(rt; place < BLOCK_WORDS);
-        block[place] = word(number);
-        assert_eq!(rt; answer(&rt, rt.alloc(), &block, &none), bad);
+        expect_changed(&rt, rt.alloc(), place, number, bad);
     }
-    let mut late = rib(2, 0, &[(1, 30)]);
-    late[3] = word(0o057002637777); // a minute before midnight
-    assert_eq!(rt; answer(&rt, rt.alloc(), &late, &none), Ok(1));
+    // a minute before midnight
+    expect_changed(&rt, rt.alloc(), 3, 0o057002637777, Ok(1));
 }
 
 #[test]
 fn bad_pointers(rt: HostRuntime) {
-    let none = [Word::ZERO; BLOCK_WORDS];
-    let bad: Result<usize, RetrievalError> = Err(RetrievalError::BadRetrieval(20));
-    assert_eq!(rt; answer(&rt, rt.alloc(), &rib(2, 0, &[(1, 14)]), &none), bad);
-    assert_eq!(rt;
-        answer(&rt, rt.alloc(), &rib(2, 0, &[(1, 1024)]), &none),
-        bad
-    );
-    assert_eq!(rt;
-        answer(&rt, rt.alloc(), &rib(256, 0, &[(2, 1023)]), &none),
-        bad
-    );
-    assert_eq!(rt;
-        answer(&rt, rt.alloc(), &rib(2, 21, &[(1, 30)]), &none),
-        bad
-    );
-    assert_eq!(rt; answer(&rt, rt.alloc(), &rib(2, 0, &[]), &none), bad);
-    assert_eq!(rt; answer(&rt, rt.alloc(), &rib(2, 0, &[(2, 30)]), &none), bad);
+    let cases: [(u64, u64, &[(u64, u64)]); 6] = [
+        (2, 0, &[(1, 14)]),
+        (2, 0, &[(1, 1024)]),
+        (256, 0, &[(2, 1023)]),
+        (2, 21, &[(1, 30)]),
+        (2, 0, &[]),
+        (2, 0, &[(2, 30)]),
+    ];
+    for (length, next, runs) in cases {
+        let bad = Err(RetrievalError::BadRetrieval(20));
+        expect_alone(&rt, rt.alloc(), length, next, runs, bad);
+    }
 }
 
 #[test]
 fn bad_extensions_of_prime_blocks(rt: HostRuntime) {
     let none = [Word::ZERO; BLOCK_WORDS];
     let bad: Result<usize, RetrievalError> = Err(RetrievalError::BadRetrieval(20));
-    let all = [(1, 100); 112];
-    assert_eq!(rt;
-        answer(&rt, rt.alloc(), &rib(113 * 128, 14, &all), &none),
-        bad
-    );
-    assert_eq!(rt;
-        answer(&rt, rt.alloc(), &rib(113 * 128, 1024, &all), &none),
-        bad
-    );
-    assert_eq!(rt;
-        answer(
-            &rt,
-            rt.alloc(),
-            &rib(114 * 128, 21, &all),
-            &xrb(0, &[(1, 30)])
-        ),
-        bad
-    );
-    assert_eq!(rt;
-        answer(
-            &rt,
-            rt.alloc(),
-            &rib(112 * 128, 21, &all),
-            &xrb(0, &[(1, 30)])
-        ),
-        bad
-    );
-    assert_eq!(rt;
-        answer(
-            &rt,
-            rt.alloc(),
-            &rib(1000 * 128, 21, &all),
-            &xrb(21, &[(1, 30); 126])
-        ),
-        bad
-    );
+    expect_full(&rt, rt.alloc(), 113 * 128, 14, &none, bad);
+    expect_full(&rt, rt.alloc(), 113 * 128, 1024, &none, bad);
+    let short = xrb(0, &[(1, 30)]);
+    expect_full(&rt, rt.alloc(), 114 * 128, 21, &short, bad);
+    expect_full(&rt, rt.alloc(), 112 * 128, 21, &short, bad);
+    let ring = xrb(21, &[(1, 30); 126]);
+    expect_full(&rt, rt.alloc(), 1000 * 128, 21, &ring, bad);
+}
+
+/// A damaged block is bad, whether it is the extension in 21 or the prime block in 20.
+fn expect_damage(rt: &impl Abort, alloc: Global, disk: &mut MemDisk) {
+    for n in [21, 20] {
+        assert!(rt; n < disk.blocks());
+        disk.damage(n);
+        let failed = count_blocks(rt, alloc, disk).err();
+        assert!(rt; failed == Some(RetrievalError::BadRetrieval(n)));
+    }
+}
+
+/// An extension that is not one.
+fn expect_bad_extension(rt: &impl Abort, alloc: Global, length: u64, extension: &Block) {
+    let bad = Err(RetrievalError::BadRetrieval(21));
+    expect_full(rt, alloc, length, 21, extension, bad);
 }
 
 #[test]
 fn bad_extensions(rt: HostRuntime) -> Result<(), Fail> {
-    let bad: Result<usize, RetrievalError> = Err(RetrievalError::BadRetrieval(21));
-    let prime = rib(113 * 128, 21, &[(1, 100); 112]);
-    assert_eq!(rt;
-        answer(&rt, rt.alloc(), &prime, &[Word::ZERO; BLOCK_WORDS]),
-        bad
-    );
-    assert_eq!(rt; answer(&rt, rt.alloc(), &prime, &xrb(0, &[])), bad);
-    assert_eq!(rt; answer(&rt, rt.alloc(), &prime, &xrb(0, &[(0, 30)])), bad);
-    assert_eq!(rt; answer(&rt, rt.alloc(), &prime, &xrb(0, &[(1, 14)])), bad);
-    assert_eq!(rt; answer(&rt, rt.alloc(), &prime, &xrb(22, &[(1, 30)])), bad);
-    let long = rib(300 * 128, 21, &[(1, 100); 112]);
-    assert_eq!(rt;
-        answer(&rt, rt.alloc(), &long, &xrb(1024, &[(1, 30); 126])),
-        bad
-    );
+    let none = [Word::ZERO; BLOCK_WORDS];
+    expect_bad_extension(&rt, rt.alloc(), 113 * 128, &none);
+    let cases: [(u64, &[(u64, u64)]); 4] = [
+        (0, &[]),
+        (0, &[(0, 30)]),
+        (0, &[(1, 14)]),
+        (22, &[(1, 30)]),
+    ];
+    for (next, runs) in cases {
+        expect_bad_extension(&rt, rt.alloc(), 113 * 128, &xrb(next, runs));
+    }
+    expect_bad_extension(&rt, rt.alloc(), 300 * 128, &xrb(1024, &[(1, 30); 126]));
     let mut slack = xrb(0, &[(1, 30)]);
     slack[127] = word(1);
-    assert_eq!(rt; answer(&rt, rt.alloc(), &prime, &slack), bad);
-    let mut disk = MemDisk::new(rt.alloc(), SIZE, 0)?;
-    load(&rt, &mut disk, 20, &prime);
-    assert!(rt; 21 < disk.blocks());
-    disk.damage(21);
-    assert!(rt;
-        read(&rt, rt.alloc(), &mut disk, 20).err() == Some(RetrievalError::BadRetrieval(21))
-    );
-    assert!(rt; 20 < disk.blocks());
-    disk.damage(20);
-    assert!(rt;
-        read(&rt, rt.alloc(), &mut disk, 20).err() == Some(RetrievalError::BadRetrieval(20))
-    );
+    expect_bad_extension(&rt, rt.alloc(), 113 * 128, &slack);
+    let prime = rib(113 * 128, 21, &[(1, 100); 112]);
+    let mut disk = disk_with(&rt, rt.alloc(), &prime, &none)?;
+    expect_damage(&rt, rt.alloc(), &mut disk);
     Ok(())
 }
 
-#[test]
-fn versions_change(rt: HostRuntime) -> Result<(), Fail> {
-    let mut version = Version::new(rt.alloc());
+/// A copy that was made of a version when it had 200 words.
+fn expect_copy(rt: &impl Abort, copy: &Version) {
+    assert_eq!(rt; copy.length(), 200);
+    assert!(rt; copy.blocks() == [30, 35].as_slice());
+    assert!(rt; copy.ribs() == [40].as_slice());
+}
+
+/// Fills an empty version with 200 words in two blocks, and one rib.
+fn fill(rt: &impl Abort, version: &mut Version) -> Result<(), NoMemory> {
     assert_eq!(rt; version.length(), 0);
     version.push(30)?;
     version.push(31)?;
     version.push_rib(40)?;
     version.set_length(200);
     assert!(rt; version.blocks().len() == 2);
-    version.set_block(1, 35)?;
-    let copy = version.copy()?;
+    version.set_block(1, 35)
+}
+
+#[test]
+fn versions_change(rt: HostRuntime) -> Result<(), Fail> {
+    let mut version = Version::new(rt.alloc());
+    let filled = fill(&rt, &mut version);
+    let copied = version.copy();
     version.set_length(100);
-    assert_eq!(rt; copy.length(), 200);
-    assert!(rt; copy.blocks() == [30, 35].as_slice());
-    assert!(rt; copy.ribs() == [40].as_slice());
+    drop(version);
+    filled?;
+    let copy = copied?;
+    expect_copy(&rt, &copy);
     Ok(())
 }
 
@@ -374,20 +438,29 @@ fn modes_have_numbers(rt: HostRuntime) {
     }
 }
 
+/// An error has this text.
+fn expect_text(rt: &impl Abort, text: String, wanted: &str) {
+    let is_same = text.as_str() == wanted;
+    drop(text);
+    assert!(rt; is_same);
+}
+
 #[test]
 fn errors_have_texts(rt: HostRuntime) -> Result<(), Fail> {
-    let bad = RetrievalError::BadRetrieval(17).to_string(rt.alloc())?;
-    assert_eq!(rt; bad.as_str(), "bad retrieval block 17");
-    let device = RetrievalError::Device.to_string(rt.alloc())?;
-    assert_eq!(rt; device.as_str(), "device fault");
-    let memory = RetrievalError::NoMemory.to_string(rt.alloc())?;
-    assert_eq!(rt; memory.as_str(), "out of memory");
-    let bad = BodyError::BadData(17).to_string(rt.alloc())?;
-    assert_eq!(rt; bad.as_str(), "bad data block 17");
-    let device = BodyError::Device.to_string(rt.alloc())?;
-    assert_eq!(rt; device.as_str(), "device fault");
-    let memory = BodyError::NoMemory.to_string(rt.alloc())?;
-    assert_eq!(rt; memory.as_str(), "out of memory");
+    for (error, wanted) in [
+        (RetrievalError::BadRetrieval(17), "bad retrieval block 17"),
+        (RetrievalError::Device, "device fault"),
+        (RetrievalError::NoMemory, "out of memory"),
+    ] {
+        expect_text(&rt, error.to_string(rt.alloc())?, wanted);
+    }
+    for (error, wanted) in [
+        (BodyError::BadData(17), "bad data block 17"),
+        (BodyError::Device, "device fault"),
+        (BodyError::NoMemory, "out of memory"),
+    ] {
+        expect_text(&rt, error.to_string(rt.alloc())?, wanted);
+    }
     Ok(())
 }
 
@@ -438,47 +511,51 @@ impl Disk for FailingDisk {
 
 #[test]
 fn each_read_may_fail(rt: HostRuntime) -> Result<(), Fail> {
-    for calls in 0..3 {
-        let mut inner = MemDisk::new(rt.alloc(), SIZE, 0)?;
-        load(&rt, &mut inner, 20, &rib(113 * 128, 21, &[(1, 100); 112]));
-        load(&rt, &mut inner, 21, &xrb(0, &[(1, 99)]));
+    let prime = rib(113 * 128, 21, &[(1, 100); 112]);
+    for (calls, wanted) in [
+        (0, Some(RetrievalError::Device)),
+        (1, Some(RetrievalError::Device)),
+        (2, None),
+    ] {
+        let inner = disk_with(&rt, rt.alloc(), &prime, &xrb(0, &[(1, 99)]))?;
         let mut disk = FailingDisk {
             inner,
             calls,
             failures: 0,
         };
-        let failed = read(&rt, rt.alloc(), &mut disk, 20).err();
-        assert!(rt;
-            failed
-                == if calls < 2 {
-                    Some(RetrievalError::Device)
-                } else {
-                    None
-                }
-        );
+        let failed = count_blocks(&rt, rt.alloc(), &mut disk).err();
+        drop(disk);
+        assert!(rt; failed == wanted);
     }
     Ok(())
+}
+
+/// A version of 113 blocks, and a copy of it, if there is memory.
+fn expect_one_extension(rt: &impl Abort, version: &Version) {
+    if let Ok(copy) = version.copy() {
+        let count = copy.blocks().len();
+        drop(copy);
+        assert_eq!(rt; count, 113);
+    }
+    assert_eq!(rt; version.ribs().len(), 1);
+}
+
+/// A version is read twice from a disk; where a read fails there is no memory.
+fn expect_reads(rt: &impl Abort, alloc: Global, disk: &mut MemDisk) {
+    if let Err(error) = count_blocks(rt, alloc, disk) {
+        assert_eq!(rt; error, RetrievalError::NoMemory);
+    }
+    match read(rt, alloc, disk, 20) {
+        Ok((_prime, version)) => expect_one_extension(rt, &version),
+        Err(error) => assert_eq!(rt; error, RetrievalError::NoMemory),
+    }
 }
 
 /// Run with each allocation refused in turn: the answer is `NoMemory`, and the next read succeeds.
 #[test]
 fn each_allocation_refused(rt: HostRuntime) {
-    let Ok(mut disk) = MemDisk::new(rt.alloc(), SIZE, 0) else {
-        return;
-    };
     let prime = rib(113 * 128, 21, &[(1, 100); 112]);
-    load(&rt, &mut disk, 20, &prime);
-    load(&rt, &mut disk, 21, &xrb(0, &[(1, 99)]));
-    if let Err(error) = read(&rt, rt.alloc(), &mut disk, 20) {
-        assert_eq!(rt; error, RetrievalError::NoMemory);
-    }
-    match read(&rt, rt.alloc(), &mut disk, 20) {
-        Ok((_prime, version)) => {
-            if let Ok(copy) = version.copy() {
-                assert_eq!(rt; copy.blocks().len(), 113);
-            }
-            assert_eq!(rt; version.ribs().len(), 1);
-        }
-        Err(error) => assert_eq!(rt; error, RetrievalError::NoMemory),
+    if let Ok(mut disk) = disk_with(&rt, rt.alloc(), &prime, &xrb(0, &[(1, 99)])) {
+        expect_reads(&rt, rt.alloc(), &mut disk);
     }
 }

@@ -23,6 +23,7 @@ use words36::{BLOCK_WORDS, FileName, Half, Moment, Ppn, Word};
 /// A disk of so many blocks has its table in 14 and its free space from 15 on.
 pub(crate) const SIZE: u32 = 1024;
 
+/// The word of this number.
 pub(crate) fn word(number: u64) -> Word {
     Word::new(number).unwrap_or(Word::ZERO)
 }
@@ -114,26 +115,114 @@ fn write_and_read<D: Disk>(
     read_version(alloc, disk, at)
 }
 
+/// A version of so many blocks, and a table with as many booked as it has with its prime block and its ribs.
+fn listed<D: Disk>(
+    rt: &impl Abort,
+    alloc: Global,
+    disk: &mut D,
+    count: u32,
+) -> Result<(Table, Version), TableError>
+    ensures size { IfOk result (λ listed. listed.0.size ≡ 1024) }
+    ensures fixed { IfOk result (λ listed. IsFixed listed.0) }
+    ensures booked { IfOk result (λ listed. used_in_space listed.0 + (1 + rib_count (length listed.1.blocks)) ≤ listed.0.booked) }
+    ensures room { IfOk result (λ listed. listed.0.booked ≤ 242) }
+    ensures words { IfOk result (λ listed. listed.1.words ≤ 30592) }
+    ensures enough { IfOk result (λ listed. length listed.1.blocks ≡ blocks_of listed.1.words) }
+    ensures fit { IfOk result (λ listed. AllByRecursion (λ n. n < 2 ^ 18) listed.1.blocks) }
+    ensures inside { IfOk result (λ listed. AllByRecursion (InSpace 1024) listed.1.blocks) }
+{
+    assert!(rt; disk.blocks() == SIZE && count <= 239);
+    let ribs = count.saturating_sub(112).div_ceil(126);
+    let table = table_of(rt, alloc, disk, count + 1 + ribs)?;
+    let Ok(version) = version_of(alloc, count) else {
+        return Err(TableError::NoMemory);
+    };
+    Ok((table, version))
+}
+
+/// Writes FOO.TXT with a version that is listed.
+fn write_listed<D: Disk>(
+    rt: &impl Abort,
+    alloc: Global,
+    disk: &mut D,
+    table: &mut Table,
+    version: &mut Version,
+) -> Result<u32, RetrievalError>
+    requires size { table.old.size ≡ 1024 }
+    requires fixed { IsFixed table.old }
+    requires booked { used_in_space table.old + (1 + rib_count (length version.old.blocks)) ≤ table.old.booked }
+    requires room { table.old.booked ≤ 242 }
+    requires words { version.old.words ≤ 30592 }
+    requires enough { length version.old.blocks ≡ blocks_of version.old.words }
+    requires fit { AllByRecursion (λ n. n < 2 ^ 18) version.old.blocks }
+{
+    let prime = foo(rt);
+    assert!(rt; disk.blocks() == SIZE);
+    write_version(alloc, disk, table, &prime, version)
+}
+
+/// Writes FOO.TXT with a version that is listed, and reads it back.
+fn write_listed_and_read<D: Disk>(
+    rt: &impl Abort,
+    alloc: Global,
+    disk: &mut D,
+    table: &mut Table,
+    version: &mut Version,
+) -> Result<(Prime, Version), RetrievalError>
+    requires size { table.old.size ≡ 1024 }
+    requires fixed { IsFixed table.old }
+    requires booked { used_in_space table.old + (1 + rib_count (length version.old.blocks)) ≤ table.old.booked }
+    requires room { table.old.booked ≤ 242 }
+    requires words { version.old.words ≤ 30592 }
+    requires enough { length version.old.blocks ≡ blocks_of version.old.words }
+    requires fit { AllByRecursion (λ n. n < 2 ^ 18) version.old.blocks }
+    requires inside { AllByRecursion (InSpace 1024) version.old.blocks }
+{
+    let prime = foo(rt);
+    assert!(rt; disk.blocks() == SIZE);
+    write_and_read(alloc, disk, table, &prime, version)
+}
+
+/// What was read is FOO.TXT with a version of so many blocks and ribs that was written.
+fn expect_written(
+    rt: &impl Abort,
+    prime: &Prime,
+    read: &Version,
+    version: &Version,
+    count: u32,
+    ribs: u32,
+) {
+    assert!(rt; count <= 239 && ribs == count.saturating_sub(112).div_ceil(126));
+    assert!(rt; *prime == foo(rt));
+    assert_eq!(rt; read.length(), count * 128);
+    assert!(rt; read.blocks() == version.blocks());
+    assert!(rt; read.ribs() == version.ribs());
+    assert_eq!(rt; read.ribs().len(), ribs as usize);
+}
+
+/// A version of so many blocks is written with so many ribs, and read back.
+fn expect_read_back(
+    rt: &impl Abort,
+    alloc: Global,
+    disk: &mut MemDisk,
+    count: u32,
+    ribs: u32,
+) -> Result<(), Fail> {
+    let (mut table, mut version) = listed(rt, alloc, disk, count)?;
+    let answer = write_listed_and_read(rt, alloc, disk, &mut table, &mut version);
+    drop(table);
+    let (prime, read) = answer?;
+    expect_written(rt, &prime, &read, &version, count, ribs);
+    Ok(())
+}
+
 #[test]
 fn versions_written_and_read_back(rt: HostRuntime) -> Result<(), Fail> {
     for (count, ribs) in [(0u32, 0u32), (1, 0), (112, 0), (113, 1), (238, 1), (239, 2)] {
         let mut disk = disk_of(&rt, rt.alloc(), 8)?;
-        assert!(rt; disk.blocks() == SIZE);
-        assert!(rt; count <= 239 && ribs == count.saturating_sub(112).div_ceil(126));
-        let mut table = table_of(&rt, rt.alloc(), &mut disk, count + 1 + ribs)?;
-        let mut version = version_of(rt.alloc(), count)?;
-        let (prime, read) = write_and_read(
-            rt.alloc(),
-            &mut disk,
-            &mut table,
-            &foo(&rt),
-            &mut version,
-        )?;
-        assert!(rt; prime == foo(&rt));
-        assert_eq!(rt; read.length(), count * 128);
-        assert!(rt; read.blocks() == version.blocks());
-        assert!(rt; read.ribs() == version.ribs());
-        assert_eq!(rt; read.ribs().len(), ribs as usize);
+        let done = expect_read_back(&rt, rt.alloc(), &mut disk, count, ribs);
+        drop(disk);
+        done?;
     }
     Ok(())
 }
@@ -152,21 +241,35 @@ fn has_words(rt: &impl Abort, disk: &mut MemDisk, n: u32, words: &[(usize, u64)]
     true
 }
 
-/// A version of 239 blocks takes three more: 15 is its prime block, and 16 and 17 are its ribs, the first of them
-/// full and the second with one pointer.
-#[test]
-fn two_ribs_in_a_list_found_before(rt: HostRuntime) -> Result<(), Fail> {
-    let mut disk = disk_of(&rt, rt.alloc(), 8)?;
-    assert!(rt; disk.blocks() == SIZE);
-    let mut table = table_of(&rt, rt.alloc(), &mut disk, 242)?;
-    let mut version = version_of(rt.alloc(), 239)?;
-    let ribs = vec![in rt.alloc(); 0; rib_count(version.blocks().len())]?;
+/// Writes FOO.TXT with a version that is listed, with a list for its ribs that was found before. Answers the prime
+/// block.
+fn write_found<D: Disk>(
+    rt: &impl Abort,
+    disk: &mut D,
+    table: &mut Table,
+    version: &mut Version,
+    ribs: Vec<u32>,
+) -> u32
+    requires size { table.old.size ≡ 1024 }
+    requires fixed { IsFixed table.old }
+    requires booked { used_in_space table.old + (1 + rib_count (length version.old.blocks)) ≤ table.old.booked }
+    requires room { table.old.booked ≤ 242 }
+    requires words { version.old.words ≤ 30592 }
+    requires enough { length version.old.blocks ≡ blocks_of version.old.words }
+    requires fit { AllByRecursion (λ n. n < 2 ^ 18) version.old.blocks }
+    requires ribs { length ribs.items ≡ rib_count (length version.old.blocks) }
+{
+    let prime = foo(rt);
     let _booked = table.booked(); // which says that the table is sound
-    let at = take_retrieval_blocks(&mut table, &mut version, ribs);
-    assert_eq!(rt; at, 15);
-    let answer = write_retrieval_blocks(&mut disk, at, &foo(&rt), &version);
+    let at = take_retrieval_blocks(table, version, ribs);
+    assert!(rt; disk.blocks() == SIZE);
+    let answer = write_retrieval_blocks(disk, at, &prime, version);
     assert_eq!(rt; answer, Ok(()));
-    assert!(rt; version.ribs() == [16, 17].as_slice());
+    at
+}
+
+/// The prime block of 239 blocks stands in 15.
+fn expect_head(rt: &impl Abort, disk: &mut MemDisk) {
     let head = [
         (0, 0o625142000000),
         (3, 0o057740217777),
@@ -174,20 +277,24 @@ fn two_ribs_in_a_list_found_before(rt: HostRuntime) -> Result<(), Fail> {
         (6, 112),
         (7, 16),
     ];
-    assert!(rt; has_words(&rt, &mut disk, 15, &head));
+    assert!(rt; has_words(rt, disk, 15, &head));
     let pointers = [
         (16, 0o1000000 + 500),
         (17, 0o1000000 + 502),
         (127, 0o1000000 + 722),
     ];
-    assert!(rt; has_words(&rt, &mut disk, 15, &pointers));
+    assert!(rt; has_words(rt, disk, 15, &pointers));
+}
+
+/// The ribs of 239 blocks stand in 16 and 17.
+fn expect_ribs(rt: &impl Abort, disk: &mut MemDisk) {
     let full = [
         (0, 0o706242000176),
         (1, 17),
         (2, 0o1000000 + 724),
         (127, 0o1000000 + 974),
     ];
-    assert!(rt; has_words(&rt, &mut disk, 16, &full));
+    assert!(rt; has_words(rt, disk, 16, &full));
     let last = [
         (0, 0o706242000001),
         (1, 0),
@@ -195,49 +302,95 @@ fn two_ribs_in_a_list_found_before(rt: HostRuntime) -> Result<(), Fail> {
         (3, 0),
         (127, 0),
     ];
-    assert!(rt; has_words(&rt, &mut disk, 17, &last));
+    assert!(rt; has_words(rt, disk, 17, &last));
+}
+
+/// A version of 239 blocks is written with a list for its ribs that was found before.
+fn expect_two_ribs(rt: &impl Abort, alloc: Global, disk: &mut MemDisk) -> Result<(), Fail> {
+    let (mut table, mut version) = listed(rt, alloc, disk, 239)?;
+    let ribs = vec![in alloc; 0; rib_count(version.blocks().len())]?;
+    let at = write_found(rt, disk, &mut table, &mut version, ribs);
+    drop(table);
+    let has_ribs = version.ribs() == [16, 17].as_slice();
+    drop(version);
+    assert_eq!(rt; at, 15);
+    assert!(rt; has_ribs);
+    expect_head(rt, disk);
+    expect_ribs(rt, disk);
+    Ok(())
+}
+
+/// A version of 239 blocks takes three more: 15 is its prime block, and 16 and 17 are its ribs, the first of them
+/// full and the second with one pointer.
+#[test]
+fn two_ribs_in_a_list_found_before(rt: HostRuntime) -> Result<(), Fail> {
+    let mut disk = disk_of(&rt, rt.alloc(), 8)?;
+    let done = expect_two_ribs(&rt, rt.alloc(), &mut disk);
+    drop(disk);
+    done?;
+    Ok(())
+}
+
+/// What the write of a version of 113 blocks answers.
+fn expect_answer(
+    rt: &impl Abort,
+    alloc: Global,
+    disk: &mut MemDisk,
+    wanted: Result<u32, RetrievalError>,
+) -> Result<(), Fail> {
+    let (mut table, mut version) = listed(rt, alloc, disk, 113)?;
+    let answer = write_listed(rt, alloc, disk, &mut table, &mut version);
+    drop(version);
+    drop(table);
+    assert_eq!(rt; answer, wanted);
     Ok(())
 }
 
 /// A version of 113 blocks has one rib: its write fails, or that of the prime block.
 #[test]
 fn each_write_may_fail(rt: HostRuntime) -> Result<(), Fail> {
-    for calls in 0..3 {
+    for (calls, wanted) in [
+        (0, Err(RetrievalError::Device)),
+        (1, Err(RetrievalError::Device)),
+        (2, Ok(15)),
+    ] {
         let mut disk = disk_of(&rt, rt.alloc(), calls)?;
-        assert!(rt; disk.blocks() == SIZE);
-        let mut table = table_of(&rt, rt.alloc(), &mut disk, 115)?;
-        let mut version = version_of(rt.alloc(), 113)?;
-        let answer = write_version(rt.alloc(), &mut disk, &mut table, &foo(&rt), &mut version);
-        if calls < 2 {
-            assert_eq!(rt; answer, Err(RetrievalError::Device));
-        } else {
-            assert_eq!(rt; answer, Ok(15));
-        }
+        let done = expect_answer(&rt, rt.alloc(), &mut disk, wanted);
+        drop(disk);
+        done?;
     }
     Ok(())
+}
+
+/// A version of 113 blocks has no ribs, and the first free block is still there to be taken.
+fn expect_unchanged(rt: &impl Abort, table: &mut Table, version: &Version) {
+    assert!(rt; version.blocks().len() == 113 && version.ribs().is_empty());
+    assert_eq!(rt; table.take(), Some(15));
+}
+
+/// The write of a version of 113 blocks answers 15, or has no memory and changes nothing.
+fn expect_write(rt: &impl Abort, alloc: Global, disk: &mut MemDisk) {
+    let Ok((mut table, mut version)) = listed(rt, alloc, disk, 113) else {
+        return;
+    };
+    let answer = write_listed(rt, alloc, disk, &mut table, &mut version);
+    if answer.is_err() {
+        expect_unchanged(rt, &mut table, &version);
+    }
+    drop(version);
+    drop(table);
+    match answer {
+        Ok(at) => assert_eq!(rt; at, 15),
+        Err(error) => assert_eq!(rt; error, RetrievalError::NoMemory),
+    }
 }
 
 /// Run with each allocation refused in turn: the answer is `NoMemory`, the version has no ribs, and the
 /// first free block is still there to be taken.
 #[test]
 fn each_allocation_of_a_write_refused(rt: HostRuntime) -> Result<(), Fail> {
-    let Ok(mut disk) = disk_of(&rt, rt.alloc(), 8) else {
-        return Ok(());
-    };
-    assert!(rt; disk.blocks() == SIZE);
-    let Ok(mut table) = table_of(&rt, rt.alloc(), &mut disk, 115) else {
-        return Ok(());
-    };
-    let Ok(mut version) = version_of(rt.alloc(), 113) else {
-        return Ok(());
-    };
-    match write_version(rt.alloc(), &mut disk, &mut table, &foo(&rt), &mut version) {
-        Ok(at) => assert_eq!(rt; at, 15),
-        Err(error) => {
-            assert_eq!(rt; error, RetrievalError::NoMemory);
-            assert!(rt; version.blocks().len() == 113 && version.ribs().is_empty());
-            assert_eq!(rt; table.take(), Some(15));
-        }
+    if let Ok(mut disk) = disk_of(&rt, rt.alloc(), 8) {
+        expect_write(&rt, rt.alloc(), &mut disk);
     }
     Ok(())
 }
