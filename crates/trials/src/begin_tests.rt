@@ -3,15 +3,15 @@ ghost use Rattle.blockdisk.specs.Memory.{memory_state};
 ghost use Rattle.volume.specs.LiveCores.{core_of};
 ghost use Rattle.volume.specs.Rest.{IsSound};
 
-use crate::open_tests::{SIZE, v1};
-use crate::publish_tests::open;
-use blockdisk::MemDisk;
+use crate::disks::{SIZE, expect_room, opened, v1};
+use crate::publish_tests::{empty, expect_directory, fresh};
+use blockdisk::{MemDisk, NoMemory};
 use meaning::ErrorCode;
 use retrieval::{Mode, Prime};
 use std::alloc::{AllocError, Global};
 use std::process::Abort;
 use std::test::Fail;
-use volume::{CallError, Pending, Volume, VolumeError};
+use volume::{CallError, Pending, Volume};
 use words36::{FileName, Half, Moment, Ppn, Word};
 
 /// The file of V1, FOO.TXT.
@@ -50,11 +50,37 @@ fn prime_of(rt: &impl Abort, n: u32, file: FileName) -> Prime {
 }
 
 /// V1, opened. Its room is 45, and [10,20] has one file.
-fn opened(rt: &impl Abort, alloc: Global) -> Result<Volume<MemDisk>, VolumeError>
+fn v1_opened(rt: &impl Abort, alloc: Global) -> Result<Volume<MemDisk>, NoMemory>
     ensures { IfOk result (λ volume. IsSound (memory_state volume.disk) (core_of volume.map) volume.failed) }
 {
     let disk = v1(rt, alloc, 1)?;
-    open(alloc, disk)
+    Ok(opened(rt, alloc, disk))
+}
+
+/// Begins a version. What else `begin` promises stays behind this function.
+fn begin_version(
+    alloc: Global,
+    volume: &mut Volume<MemDisk>,
+    prime: Prime,
+) -> Result<Pending, CallError>
+    requires { IsSound (memory_state volume.old.disk) (core_of volume.old.map) volume.old.failed }
+    ensures { IsSound (memory_state volume.new.disk) (core_of volume.new.map) volume.new.failed }
+{
+    volume.begin(alloc, prime)
+}
+
+/// No version is begun, for this reason.
+fn expect_unbegun(
+    rt: &impl Abort,
+    alloc: Global,
+    volume: &mut Volume<MemDisk>,
+    prime: Prime,
+    error: CallError,
+)
+    requires { IsSound (memory_state volume.old.disk) (core_of volume.old.map) volume.old.failed }
+    ensures { IsSound (memory_state volume.new.disk) (core_of volume.new.map) volume.new.failed }
+{
+    assert!(rt; begin_version(alloc, volume, prime) == Err(error));
 }
 
 /// Begins a version, which costs so many blocks.
@@ -69,7 +95,7 @@ fn begin(
     ensures { IsSound (memory_state volume.new.disk) (core_of volume.new.map) volume.new.failed }
 {
     let before = volume.room();
-    let Ok(pending) = volume.begin(alloc, prime) else {
+    let Ok(pending) = begin_version(alloc, volume, prime) else {
         panic!(rt; "a version is refused");
     };
     assert!(rt; before.checked_sub(cost) == Some(volume.room()));
@@ -118,21 +144,54 @@ fn discard_each(rt: &impl Abort, volume: &mut Volume<MemDisk>, pendings: &[Pendi
     }
 }
 
+/// Begins a version of a file, which costs a block of 45, and drops it.
+fn begin_and_drop(rt: &impl Abort, alloc: Global, volume: &mut Volume<MemDisk>, prime: Prime)
+    requires { IsSound (memory_state volume.old.disk) (core_of volume.old.map) volume.old.failed }
+    ensures { IsSound (memory_state volume.new.disk) (core_of volume.new.map) volume.new.failed }
+{
+    let pending = begin(rt, alloc, volume, prime, 1);
+    expect_room(rt, volume, 44);
+    discard(rt, volume, pending, 1);
+    expect_room(rt, volume, 45);
+}
+
 /// A version costs its prime block, whether its name is new or not, and gives it back.
 #[test]
 fn versions_are_begun_and_dropped(rt: HostRuntime) -> Result<(), Fail> {
-    let mut volume = opened(&rt, rt.alloc())?;
-    assert_eq!(rt; volume.room(), 45);
     let new = prime_of(&rt, 0o20, numbered(1));
-    let first = begin(&rt, rt.alloc(), &mut volume, new, 1);
-    assert_eq!(rt; volume.room(), 44);
-    discard(&rt, &mut volume, first, 1);
-    assert_eq!(rt; volume.room(), 45);
     let present = prime_of(&rt, 0o20, foo());
-    let second = begin(&rt, rt.alloc(), &mut volume, present, 1);
-    assert_eq!(rt; volume.room(), 44);
-    discard(&rt, &mut volume, second, 1);
-    assert_eq!(rt; volume.room(), 45);
+    let mut volume = v1_opened(&rt, rt.alloc())?;
+    expect_room(&rt, &volume, 45);
+    begin_and_drop(&rt, rt.alloc(), &mut volume, new);
+    begin_and_drop(&rt, rt.alloc(), &mut volume, present);
+    Ok(())
+}
+
+/// Begins a creation that asks for a block of the directory, and a version of FOO.TXT, and drops them.
+fn grow_and_shrink(rt: &impl Abort, alloc: Global, volume: &mut Volume<MemDisk>)
+    requires { IsSound (memory_state volume.old.disk) (core_of volume.old.map) volume.old.failed }
+    ensures { IsSound (memory_state volume.new.disk) (core_of volume.new.map) volume.new.failed }
+{
+    expect_room(rt, volume, 4);
+    let last = begin(rt, alloc, volume, prime_of(rt, 0o20, numbered(42)), 2);
+    let other = begin(rt, alloc, volume, prime_of(rt, 0o20, foo()), 1);
+    expect_room(rt, volume, 1);
+    discard(rt, volume, last, 2);
+    discard(rt, volume, other, 1);
+}
+
+/// Begins 41 creations and one more, and drops them all.
+fn begin_beyond_a_block(
+    rt: &impl Abort,
+    alloc: Global,
+    volume: &mut Volume<MemDisk>,
+) -> Result<(), AllocError>
+    requires { IsSound (memory_state volume.old.disk) (core_of volume.old.map) volume.old.failed }
+{
+    let pendings = begin_each(rt, alloc, volume, 1, 42)?;
+    grow_and_shrink(rt, alloc, volume);
+    discard_each(rt, volume, pendings.as_slice());
+    expect_room(rt, volume, 45);
     Ok(())
 }
 
@@ -140,27 +199,34 @@ fn versions_are_begun_and_dropped(rt: HostRuntime) -> Result<(), Fail> {
 /// for a block more, which the last creation that goes gives back, and a version of FOO.TXT does not.
 #[test]
 fn a_directory_grows(rt: HostRuntime) -> Result<(), Fail> {
-    let mut volume = opened(&rt, rt.alloc())?;
-    let pendings = begin_each(&rt, rt.alloc(), &mut volume, 1, 42)?;
-    assert_eq!(rt; volume.room(), 4);
-    let new = prime_of(&rt, 0o20, numbered(42));
-    let last = begin(&rt, rt.alloc(), &mut volume, new, 2);
-    let present = prime_of(&rt, 0o20, foo());
-    let other = begin(&rt, rt.alloc(), &mut volume, present, 1);
-    assert_eq!(rt; volume.room(), 1);
-    discard(&rt, &mut volume, last, 2);
-    discard(&rt, &mut volume, other, 1);
-    discard_each(&rt, &mut volume, pendings.as_slice());
-    assert_eq!(rt; volume.room(), 45);
+    let mut volume = v1_opened(&rt, rt.alloc())?;
+    let done = begin_beyond_a_block(&rt, rt.alloc(), &mut volume);
+    drop(volume);
+    done?;
     Ok(())
 }
 
 #[test]
 fn no_directory(rt: HostRuntime) -> Result<(), Fail> {
-    let mut volume = opened(&rt, rt.alloc())?;
-    let refused = volume.begin(rt.alloc(), prime_of(&rt, 0o21, foo()));
-    assert!(rt; refused == Err(CallError::Refused(ErrorCode::NoDirectory)));
-    assert_eq!(rt; volume.room(), 45);
+    let absent = CallError::Refused(ErrorCode::NoDirectory);
+    let prime = prime_of(&rt, 0o21, foo());
+    let mut volume = v1_opened(&rt, rt.alloc())?;
+    expect_unbegun(&rt, rt.alloc(), &mut volume, prime, absent);
+    expect_room(&rt, &volume, 45);
+    Ok(())
+}
+
+/// Begins 46 creations, of which the 43rd asks for a block of the directory, and is refused one more.
+fn begin_all(rt: &impl Abort, alloc: Global, volume: &mut Volume<MemDisk>) -> Result<(), AllocError>
+    requires { IsSound (memory_state volume.old.disk) (core_of volume.old.map) volume.old.failed }
+{
+    begin_each(rt, alloc, volume, 1, 43)?;
+    begin(rt, alloc, volume, prime_of(rt, 0o20, numbered(43)), 2);
+    begin_each(rt, alloc, volume, 44, 47)?;
+    expect_room(rt, volume, 0);
+    let full = CallError::Refused(ErrorCode::NoRoom);
+    expect_unbegun(rt, alloc, volume, prime_of(rt, 0o20, numbered(47)), full);
+    expect_room(rt, volume, 0);
     Ok(())
 }
 
@@ -168,66 +234,85 @@ fn no_directory(rt: HostRuntime) -> Result<(), Fail> {
 /// directory, take them all.
 #[test]
 fn a_volume_is_full(rt: HostRuntime) -> Result<(), Fail> {
-    let mut disk = MemDisk::new(rt.alloc(), SIZE, 100)?;
-    Volume::init(&mut disk)?;
-    let mut volume = open(rt.alloc(), disk)?;
-    assert!(rt; volume.make_dir(rt.alloc(), ppn_of(&rt, 0o20), 0o775) == Ok(()));
-    assert_eq!(rt; volume.room(), 47);
-    begin_each(&rt, rt.alloc(), &mut volume, 1, 43)?;
-    let next = prime_of(&rt, 0o20, numbered(43));
-    begin(&rt, rt.alloc(), &mut volume, next, 2);
-    begin_each(&rt, rt.alloc(), &mut volume, 44, 47)?;
-    assert_eq!(rt; volume.room(), 0);
-    let refused = volume.begin(rt.alloc(), prime_of(&rt, 0o20, numbered(47)));
-    assert!(rt; refused == Err(CallError::Refused(ErrorCode::NoRoom)));
-    assert_eq!(rt; volume.room(), 0);
+    let mut volume = fresh(&rt, rt.alloc(), SIZE, 100)?;
+    expect_room(&rt, &volume, 47);
+    let done = begin_all(&rt, rt.alloc(), &mut volume);
+    drop(volume);
+    done?;
     Ok(())
+}
+
+/// Begins 41 creations and three versions of FOO.TXT, after which one block is left; a version of FOO.TXT takes it.
+fn begin_to_the_last(
+    rt: &impl Abort,
+    alloc: Global,
+    volume: &mut Volume<MemDisk>,
+) -> Result<(), AllocError>
+    requires { IsSound (memory_state volume.old.disk) (core_of volume.old.map) volume.old.failed }
+{
+    begin_each(rt, alloc, volume, 1, 42)?;
+    let present = prime_of(rt, 0o20, foo());
+    begin_three(rt, alloc, volume);
+    expect_room(rt, volume, 1);
+    let full = CallError::Refused(ErrorCode::NoRoom);
+    expect_unbegun(rt, alloc, volume, prime_of(rt, 0o20, numbered(42)), full);
+    begin(rt, alloc, volume, present, 1);
+    expect_room(rt, volume, 0);
+    Ok(())
+}
+
+/// Begins three versions of FOO.TXT, each of which costs a block.
+fn begin_three(rt: &impl Abort, alloc: Global, volume: &mut Volume<MemDisk>)
+    requires { IsSound (memory_state volume.old.disk) (core_of volume.old.map) volume.old.failed }
+    ensures { IsSound (memory_state volume.new.disk) (core_of volume.new.map) volume.new.failed }
+{
+    begin(rt, alloc, volume, prime_of(rt, 0o20, foo()), 1);
+    begin(rt, alloc, volume, prime_of(rt, 0o20, foo()), 1);
+    begin(rt, alloc, volume, prime_of(rt, 0o20, foo()), 1);
 }
 
 /// With room for one block a version of a file that is there is begun, and one that needs a block of its
 /// directory is not.
 #[test]
 fn the_last_block(rt: HostRuntime) -> Result<(), Fail> {
-    let mut volume = opened(&rt, rt.alloc())?;
-    begin_each(&rt, rt.alloc(), &mut volume, 1, 42)?;
-    begin(&rt, rt.alloc(), &mut volume, prime_of(&rt, 0o20, foo()), 1);
-    begin(&rt, rt.alloc(), &mut volume, prime_of(&rt, 0o20, foo()), 1);
-    begin(&rt, rt.alloc(), &mut volume, prime_of(&rt, 0o20, foo()), 1);
-    assert_eq!(rt; volume.room(), 1);
-    let refused = volume.begin(rt.alloc(), prime_of(&rt, 0o20, numbered(42)));
-    assert!(rt; refused == Err(CallError::Refused(ErrorCode::NoRoom)));
-    let present = prime_of(&rt, 0o20, foo());
-    begin(&rt, rt.alloc(), &mut volume, present, 1);
-    assert_eq!(rt; volume.room(), 0);
+    let mut volume = v1_opened(&rt, rt.alloc())?;
+    let done = begin_to_the_last(&rt, rt.alloc(), &mut volume);
+    drop(volume);
+    done?;
     Ok(())
 }
 
 /// A volume that has failed begins nothing.
 #[test]
 fn a_failed_volume(rt: HostRuntime) -> Result<(), Fail> {
-    let mut disk = MemDisk::new(rt.alloc(), SIZE, 9)?;
-    Volume::init(&mut disk)?;
-    let mut volume = open(rt.alloc(), disk)?;
-    let made = volume.make_dir(rt.alloc(), ppn_of(&rt, 0o20), 0o775);
-    assert!(rt; made == Err(CallError::Device));
-    let refused = volume.begin(rt.alloc(), prime_of(&rt, 0o20, foo()));
-    assert!(rt; refused == Err(CallError::Failed));
+    let ppn = ppn_of(&rt, 0o20);
+    let prime = prime_of(&rt, 0o20, foo());
+    let mut volume = empty(&rt, rt.alloc(), SIZE, 9)?;
+    expect_directory(&rt, rt.alloc(), &mut volume, ppn, Err(CallError::Device));
+    expect_unbegun(&rt, rt.alloc(), &mut volume, prime, CallError::Failed);
     Ok(())
+}
+
+/// Begins a version; after `NoMemory` all is as before, and the next call begins it.
+fn begin_again(rt: &impl Abort, alloc: Global, volume: &mut Volume<MemDisk>)
+    requires { IsSound (memory_state volume.old.disk) (core_of volume.old.map) volume.old.failed }
+{
+    let refused = begin_version(alloc, volume, prime_of(rt, 0o20, numbered(1)));
+    if refused == Err(CallError::NoMemory) {
+        expect_room(rt, volume, 45);
+        assert!(rt; volume.map.pending.is_empty());
+        let again = begin_version(alloc, volume, prime_of(rt, 0o20, numbered(1)));
+        assert!(rt; again.is_ok());
+        expect_room(rt, volume, 44);
+    }
 }
 
 /// Run with each allocation refused in turn: after `NoMemory` all is as before, and the next call begins the
 /// version.
 #[test]
 fn each_allocation_of_a_version_refused(rt: HostRuntime) {
-    let Ok(mut volume) = opened(&rt, rt.alloc()) else {
+    let Ok(mut volume) = v1_opened(&rt, rt.alloc()) else {
         return;
     };
-    let refused = volume.begin(rt.alloc(), prime_of(&rt, 0o20, numbered(1)));
-    if refused == Err(CallError::NoMemory) {
-        assert_eq!(rt; volume.room(), 45);
-        assert!(rt; volume.map.pending.is_empty());
-        let again = volume.begin(rt.alloc(), prime_of(&rt, 0o20, numbered(1)));
-        assert!(rt; again.is_ok());
-        assert_eq!(rt; volume.room(), 44);
-    }
+    begin_again(&rt, rt.alloc(), &mut volume);
 }

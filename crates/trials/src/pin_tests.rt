@@ -1,4 +1,4 @@
-ghost use Rattle.std.specs.Prelude.{◌≡◌, ◌<◌, IfSome};
+ghost use Rattle.std.specs.Prelude.{◌≡◌, ◌<◌, IfOk, IfSome};
 ghost use Rattle.blockdisk.specs.Memory.{memory_state};
 ghost use Rattle.volume.specs.LiveCores.{core_of};
 ghost use Rattle.volume.specs.Pins.{IsReadable};
@@ -6,9 +6,9 @@ ghost use Rattle.volume.specs.Rest.{IsSound};
 ghost use Rattle.volume.specs.declared.handles.VersionHandle.TheVariants.{Pinned};
 
 use crate::begin_tests::ppn_of;
-use crate::open_tests::{SIZE, failing, v1, word};
-use crate::publish_tests::file_name;
-use blockdisk::{Disk, MemDisk};
+use crate::disks::{expect_room, open, opened, spoiled, v1};
+use crate::publish_tests::{FOO, hold, pin_refusal};
+use blockdisk::{Disk, MemDisk, NoMemory};
 use meaning::ErrorCode;
 use std::alloc::Global;
 use std::process::Abort;
@@ -27,13 +27,11 @@ pub(crate) fn open_and_pin<D: Disk + Drop>(
 ) -> Option<(Volume<D>, Pin)>
     ensures { IfSome result (λ pinned. IsSound (D.state pinned.0.disk) (core_of pinned.0.map) pinned.0.failed × IsReadable (core_of pinned.0.map) (Pinned pinned.1)) }
 {
-    let Ok(mut volume) = Volume::open(alloc, disk) else {
+    let Some(mut volume) = open(alloc, disk) else {
         return None;
     };
-    match volume.pin(ppn_of(rt, 0o20), &file_name(0o465757000000)) {
-        Ok(pin) => Some((volume, pin)),
-        Err(_refused) => panic!(rt; "the file isn't there"),
-    }
+    let pin = hold(rt, &mut volume);
+    Some((volume, pin))
 }
 
 /// What is read of a pinned version from a block on.
@@ -54,32 +52,69 @@ pub(crate) fn read<D: Disk>(
     volume.get_words(alloc, VersionHandle::Pinned(pin), block, count)
 }
 
+/// V1 on a disk with room to record so many writes and syncs, opened, with FOO.TXT pinned.
+fn v1_pinned(
+    rt: &impl Abort,
+    alloc: Global,
+    calls: usize,
+) -> Result<(Volume<MemDisk>, Pin), NoMemory>
+    ensures { IfOk result (λ pinned. IsSound (memory_state pinned.0.disk) (core_of pinned.0.map) pinned.0.failed × IsReadable (core_of pinned.0.map) (Pinned pinned.1)) }
+{
+    let disk = v1(rt, alloc, calls)?;
+    let mut volume = opened(rt, alloc, disk);
+    let pin = hold(rt, &mut volume);
+    Ok((volume, pin))
+}
+
+/// So many words were read: the first ones of FOO.TXT.
+fn expect_first(rt: &impl Abort, read: &[Word], words: usize) {
+    assert_eq!(rt; read.len(), words);
+    for (word, wanted) in read.iter().zip(WORDS) {
+        assert_eq!(rt; word.bits(), wanted);
+    }
+}
+
+/// So many words of FOO.TXT are read, from a block on and at most so many.
+fn expect_read(
+    rt: &impl Abort,
+    alloc: Global,
+    volume: &mut Volume<MemDisk>,
+    pin: Pin,
+    block: u32,
+    count: u32,
+    words: usize,
+)
+    requires sound { IsSound (memory_state volume.old.disk) (core_of volume.old.map) volume.old.failed }
+    requires live { IsReadable (core_of volume.old.map) (Pinned pin) }
+    requires first { 0 < block }
+    ensures sound { IsSound (memory_state volume.new.disk) (core_of volume.new.map) volume.new.failed }
+    ensures live { IsReadable (core_of volume.new.map) (Pinned pin) }
+{
+    match read(alloc, volume, pin, block, count) {
+        Ok(read) => expect_first(rt, read.as_slice(), words),
+        Err(_refused) => panic!(rt; "the file isn't read"),
+    }
+}
+
+/// Reads FOO.TXT as far as it goes, and lets it go.
+fn read_and_let_go(rt: &impl Abort, alloc: Global, volume: &mut Volume<MemDisk>, pin: Pin)
+    requires sound { IsSound (memory_state volume.old.disk) (core_of volume.old.map) volume.old.failed }
+    requires live { IsReadable (core_of volume.old.map) (Pinned pin) }
+{
+    expect_read(rt, alloc, volume, pin, 1, 2, 2);
+    expect_read(rt, alloc, volume, pin, 1, 1, 1);
+    expect_read(rt, alloc, volume, pin, 1, 200, 2);
+    expect_read(rt, alloc, volume, pin, 2, 5, 0);
+    expect_read(rt, alloc, volume, pin, u32::MAX, 5, 0);
+    volume.unpin(pin);
+    expect_room(rt, volume, 45);
+}
+
 /// A file of two words is read, as far as it goes; letting it go changes nothing else.
 #[test]
 fn a_pinned_file_is_read(rt: HostRuntime) -> Result<(), Fail> {
-    let disk = v1(&rt, rt.alloc(), 1)?;
-    let Some((mut volume, pin)) = open_and_pin(&rt, rt.alloc(), disk) else {
-        panic!(rt; "V1 is refused");
-    };
-    for (block, count, words) in [
-        (1, 2, 2),
-        (1, 1, 1),
-        (1, 200, 2),
-        (2, 5, 0),
-        (u32::MAX, 5, 0),
-    ] {
-        assert!(rt; block > 0);
-        let read = match read(rt.alloc(), &mut volume, pin, block, count) {
-            Ok(read) => read,
-            Err(_refused) => panic!(rt; "the file isn't read"),
-        };
-        assert_eq!(rt; read.len(), words);
-        for (word, wanted) in read.as_slice().iter().zip(WORDS) {
-            assert_eq!(rt; word.bits(), wanted);
-        }
-    }
-    volume.unpin(pin);
-    assert_eq!(rt; volume.room(), 45);
+    let (mut volume, pin) = v1_pinned(&rt, rt.alloc(), 1)?;
+    read_and_let_go(&rt, rt.alloc(), &mut volume, pin);
     Ok(())
 }
 
@@ -93,19 +128,21 @@ fn make_beside(rt: &impl Abort, alloc: Global, volume: &mut Volume<MemDisk>, pin
     assert!(rt; volume.make_dir(alloc, ppn_of(rt, 0o30), 0o775) == Ok(()));
 }
 
+/// A directory is made beside a reader, who then reads the first word.
+fn make_and_read(rt: &impl Abort, alloc: Global, volume: &mut Volume<MemDisk>, pin: Pin)
+    requires sound { IsSound (memory_state volume.old.disk) (core_of volume.old.map) volume.old.failed }
+    requires live { IsReadable (core_of volume.old.map) (Pinned pin) }
+{
+    make_beside(rt, alloc, volume, pin);
+    expect_room(rt, volume, 44);
+    expect_read(rt, alloc, volume, pin, 1, 1, 1);
+}
+
 /// A reader reads on while a directory is made.
 #[test]
 fn a_reader_sees_no_directory_made(rt: HostRuntime) -> Result<(), Fail> {
-    let disk = v1(&rt, rt.alloc(), 100)?;
-    let Some((mut volume, pin)) = open_and_pin(&rt, rt.alloc(), disk) else {
-        panic!(rt; "V1 is refused");
-    };
-    make_beside(&rt, rt.alloc(), &mut volume, pin);
-    assert_eq!(rt; volume.room(), 44);
-    match read(rt.alloc(), &mut volume, pin, 1, 1) {
-        Ok(read) => assert!(rt; read.as_slice() == [word(WORDS[0])].as_slice()),
-        Err(_refused) => panic!(rt; "the file isn't read"),
-    }
+    let (mut volume, pin) = v1_pinned(&rt, rt.alloc(), 100)?;
+    make_and_read(&rt, rt.alloc(), &mut volume, pin);
     Ok(())
 }
 
@@ -114,20 +151,43 @@ fn refusal(rt: &impl Abort, alloc: Global, programmer: u32, name: u64) -> Option
     let Ok(disk) = v1(rt, alloc, 1) else {
         return None;
     };
-    let Ok(mut volume) = Volume::open(alloc, disk) else {
-        return None;
-    };
-    volume.pin(ppn_of(rt, programmer), &file_name(name)).err()
+    let mut volume = opened(rt, alloc, disk);
+    pin_refusal(rt, &mut volume, ppn_of(rt, programmer), name)
 }
 
 #[test]
 fn what_is_not_there_is_not_pinned(rt: HostRuntime) {
-    let foo = 0o465757000000;
-    let elsewhere = refusal(&rt, rt.alloc(), 0o30, foo);
+    let elsewhere = refusal(&rt, rt.alloc(), 0o30, FOO);
     assert!(rt; elsewhere == Some(CallError::Refused(ErrorCode::NoDirectory)));
     let other = refusal(&rt, rt.alloc(), 0o20, 1);
     assert!(rt; other == Some(CallError::Refused(ErrorCode::NotFound)));
-    assert!(rt; refusal(&rt, rt.alloc(), 0o20, foo) == None);
+    assert!(rt; refusal(&rt, rt.alloc(), 0o20, FOO) == None);
+}
+
+/// A reader of a file of two words reads it, or the device fails, and the volume with it. Tells whether it is read.
+fn is_read<D: Disk>(rt: &impl Abort, alloc: Global, volume: &mut Volume<D>, pin: Pin) -> bool
+    requires sound { IsSound (D.state volume.old.disk) (core_of volume.old.map) volume.old.failed }
+    requires live { IsReadable (core_of volume.old.map) (Pinned pin) }
+{
+    match read(alloc, volume, pin, 1, 2) {
+        Ok(words) => {
+            assert!(rt; words.len() == 2 && !volume.failed);
+            true
+        }
+        Err(error) => {
+            assert!(rt; error == CallError::Device && volume.failed);
+            false
+        }
+    }
+}
+
+/// Whether FOO.TXT is read from V1 on a disk that fails each read after so many; nothing where it isn't opened.
+fn is_read_after(rt: &impl Abort, alloc: Global, reads: u32) -> Result<Option<bool>, NoMemory> {
+    let disk = spoiled(v1(rt, alloc, 1)?, reads, true);
+    let Some((mut volume, pin)) = open_and_pin(rt, alloc, disk) else {
+        return Ok(None);
+    };
+    Ok(Some(is_read(rt, alloc, &mut volume, pin)))
 }
 
 /// The disk fails at each of its reads in turn: the file's block is read last, and where that fails the volume
@@ -136,22 +196,24 @@ fn what_is_not_there_is_not_pinned(rt: HostRuntime) {
 fn the_read_of_a_word_may_fail(rt: HostRuntime) -> Result<(), Fail> {
     let mut read_and_failed = (false, false);
     for reads in 0..16 {
-        let disk = failing(v1(&rt, rt.alloc(), 1)?, SIZE, reads);
-        if let Some((mut volume, pin)) = open_and_pin(&rt, rt.alloc(), disk) {
-            match volume.get_words(rt.alloc(), VersionHandle::Pinned(pin), 1, 2) {
-                Ok(words) => {
-                    assert!(rt; words.len() == 2 && !volume.failed);
-                    read_and_failed.0 = true;
-                }
-                Err(error) => {
-                    assert!(rt; error == CallError::Device && volume.failed);
-                    read_and_failed.1 = true;
-                }
-            }
+        match is_read_after(&rt, rt.alloc(), reads)? {
+            Some(true) => read_and_failed.0 = true,
+            Some(false) => read_and_failed.1 = true,
+            None => {}
         }
     }
     assert!(rt; read_and_failed.0 && read_and_failed.1);
     Ok(())
+}
+
+/// A read that finds no memory changes nothing, and the next one is answered.
+fn read_again(rt: &impl Abort, alloc: Global, volume: &mut Volume<MemDisk>, pin: Pin)
+    requires sound { IsSound (memory_state volume.old.disk) (core_of volume.old.map) volume.old.failed }
+    requires live { IsReadable (core_of volume.old.map) (Pinned pin) }
+{
+    if read(alloc, volume, pin, 1, 2) == Err(CallError::NoMemory) {
+        assert!(rt; read(alloc, volume, pin, 1, 2).is_ok());
+    }
 }
 
 /// Run with each allocation refused in turn: a read that finds no memory changes nothing, and the next one is
@@ -164,8 +226,5 @@ fn each_allocation_of_a_read_refused(rt: HostRuntime) {
     let Some((mut volume, pin)) = open_and_pin(&rt, rt.alloc(), disk) else {
         return;
     };
-    let first = read(rt.alloc(), &mut volume, pin, 1, 2);
-    if first == Err(CallError::NoMemory) {
-        assert!(rt; read(rt.alloc(), &mut volume, pin, 1, 2).is_ok());
-    }
+    read_again(&rt, rt.alloc(), &mut volume, pin);
 }

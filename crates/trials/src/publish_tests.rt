@@ -10,16 +10,16 @@ ghost use Rattle.volume.specs.declared.handles.VersionHandle.TheVariants.{Pinned
 ghost use Rattle.volume.specs.declared.live.LiveVersion.{LiveVersion};
 ghost use Rattle.volume.specs.declared.pending.PendingVersion.{PendingVersion};
 
-use crate::open_tests::word;
+use crate::disks::{expect_failure, expect_room, opened, reopened, word};
 use crate::pin_tests;
-use blockdisk::{Disk, MemDisk};
+use blockdisk::{Disk, MemDisk, NoMemory};
 use meaning::{Entry, ErrorCode};
 use retrieval::{Mode, Prime};
 use slab::Slab;
 use std::alloc::{AllocError, Global};
 use std::process::Abort;
 use std::test::Fail;
-use volume::{CallError, FileFacts, LiveVersion, Pending, Pin, Volume, VolumeError};
+use volume::{CallError, FileFacts, LiveVersion, Pending, Pin, Volume};
 use words36::{BLOCK_WORDS, FileName, Half, Moment, Ppn, Word};
 
 /// FOO in SIXBIT.
@@ -64,6 +64,39 @@ pub(crate) fn numbers(alloc: Global, first: u32, count: u32) -> Result<Vec<Word>
     Ok(words)
 }
 
+/// An empty volume of so many blocks, on a disk with room to record so many writes and syncs.
+pub(crate) fn empty(
+    rt: &impl Abort,
+    alloc: Global,
+    size: u32,
+    calls: usize,
+) -> Result<Volume<MemDisk>, NoMemory>
+    ensures { IfOk result (λ volume. IsSound (memory_state volume.disk) (core_of volume.map) volume.failed) }
+{
+    let mut disk = MemDisk::new(alloc, size, calls)?;
+    expect_made(rt, &mut disk);
+    Ok(opened(rt, alloc, disk))
+}
+
+/// An empty volume is made on a disk.
+fn expect_made<D: Disk>(rt: &impl Abort, disk: &mut D) {
+    assert!(rt; Volume::init(disk) == Ok(()));
+}
+
+/// Making a directory, with protection 775, is answered so.
+pub(crate) fn expect_directory<D: Disk>(
+    rt: &impl Abort,
+    alloc: Global,
+    volume: &mut Volume<D>,
+    ppn: Ppn,
+    wanted: Result<(), CallError>,
+)
+    requires sound { IsSound (D.state volume.old.disk) (core_of volume.old.map) volume.old.failed }
+    ensures sound { IsSound (D.state volume.new.disk) (core_of volume.new.map) volume.new.failed }
+{
+    assert!(rt; volume.make_dir(alloc, ppn, 0o775) == wanted);
+}
+
 /// A fresh volume of so many blocks, with the directory [10,20], on a disk with room to record so many writes and
 /// syncs.
 pub(crate) fn fresh(
@@ -71,24 +104,12 @@ pub(crate) fn fresh(
     alloc: Global,
     size: u32,
     calls: usize,
-) -> Result<Volume<MemDisk>, VolumeError>
+) -> Result<Volume<MemDisk>, NoMemory>
     ensures { IfOk result (λ volume. IsSound (memory_state volume.disk) (core_of volume.map) volume.failed) }
 {
-    let mut disk = MemDisk::new(alloc, size, calls)?;
-    Volume::init(&mut disk)?;
-    let mut volume = open(alloc, disk)?;
-    assert!(rt; volume.make_dir(alloc, ppn_of(rt), 0o775) == Ok(()));
+    let mut volume = empty(rt, alloc, size, calls)?;
+    expect_directory(rt, alloc, &mut volume, ppn_of(rt), Ok(()));
     Ok(volume)
-}
-
-/// Opens the volume on a disk in memory.
-pub(crate) fn open(alloc: Global, disk: MemDisk) -> Result<Volume<MemDisk>, VolumeError>
-    ensures { IfOk result (λ volume. IsSound (memory_state volume.disk) (core_of volume.map) volume.failed) }
-{
-    match Volume::open(alloc, disk) {
-        Ok(volume) => Ok(volume),
-        Err((error, _disk)) => Err(error),
-    }
 }
 
 /// Begins a version of a file of [10,20], and puts words into it.
@@ -115,7 +136,7 @@ pub(crate) fn write<D: Disk>(
 }
 
 /// Publishes a version.
-pub(crate) fn publish<D: Disk>(
+fn publish<D: Disk>(
     alloc: Global,
     volume: &mut Volume<D>,
     pending: Pending,
@@ -132,6 +153,26 @@ pub(crate) fn publish<D: Disk>(
     volume.publish(alloc, pending, block, words)
 }
 
+/// Publishing a version with these last words at a block, counted from 1, is answered so.
+pub(crate) fn expect_published<D: Disk>(
+    rt: &impl Abort,
+    alloc: Global,
+    volume: &mut Volume<D>,
+    pending: Pending,
+    block: u32,
+    words: &[Word],
+    wanted: Result<(), CallError>,
+)
+    requires sound { IsSound (D.state volume.old.disk) (core_of volume.old.map) volume.old.failed }
+    requires live { IsSome (pending_at (core_of volume.old.map).pending pending.key) }
+    requires placed { (p : PendingVersion) → pending_at (core_of volume.old.map).pending pending.key ≡ Some p → IsPlaced (core_of volume.old.map) p }
+    requires first { 0 < block }
+    ensures sound { IsSound (D.state volume.new.disk) (core_of volume.new.map) volume.new.failed }
+    ensures readers { (pin : Pin) → IsReadable (core_of volume.old.map) (Pinned pin) → IsReadable (core_of volume.new.map) (Pinned pin) }
+{
+    assert!(rt; publish(alloc, volume, pending, block, words) == wanted);
+}
+
 /// Begins a version of a file, puts words into it, and publishes it, which leaves so much room.
 pub(crate) fn store<D: Disk>(
     rt: &impl Abort,
@@ -146,7 +187,7 @@ pub(crate) fn store<D: Disk>(
     ensures readers { (pin : Pin) → IsReadable (core_of volume.old.map) (Pinned pin) → IsReadable (core_of volume.new.map) (Pinned pin) }
 {
     let pending = write(rt, alloc, volume, name, words);
-    assert!(rt; publish(alloc, volume, pending, 1, &[]) == Ok(()));
+    expect_published(rt, alloc, volume, pending, 1, &[], Ok(()));
     assert_eq!(rt; Some(volume.room()), room);
 }
 
@@ -192,6 +233,46 @@ pub(crate) fn expect_words<D: Disk>(
     }
 }
 
+/// FOO.TXT has so many blocks and words.
+fn expect_facts<D: Disk>(rt: &impl Abort, volume: &Volume<D>, blocks: u32, words: u32)
+    requires { IsSound (D.state volume.now.disk) (core_of volume.now.map) volume.now.failed }
+{
+    let facts = FileFacts {
+        protection: 0o057,
+        mode: Mode::Dump,
+        moment: moment(rt),
+        words,
+        blocks,
+    };
+    assert!(rt; volume.look(ppn_of(rt), &file_name(FOO)) == Ok(facts));
+}
+
+/// The directory [10,20] has one file, FOO.TXT, of so many blocks.
+fn expect_listed<D: Disk>(rt: &impl Abort, alloc: Global, volume: &Volume<D>, blocks: u32)
+    requires { IsSound (D.state volume.now.disk) (core_of volume.now.map) volume.now.failed }
+{
+    let line = Entry {
+        name: file_name(FOO),
+        protection: 0o057,
+        date: 4095,
+        blocks,
+    };
+    match volume.list(alloc, ppn_of(rt)) {
+        Ok(lines) => assert!(rt; lines.as_slice() == [line].as_slice()),
+        Err(_refused) => panic!(rt; "the directory isn't listed"),
+    }
+}
+
+/// A reader holds FOO.TXT, reads these words, and lets it go.
+fn expect_held<D: Disk>(rt: &impl Abort, alloc: Global, volume: &mut Volume<D>, words: &[Word])
+    requires sound { IsSound (D.state volume.old.disk) (core_of volume.old.map) volume.old.failed }
+    ensures sound { IsSound (D.state volume.new.disk) (core_of volume.new.map) volume.new.failed }
+{
+    let pin = hold(rt, volume);
+    expect_words(rt, alloc, volume, pin, words);
+    volume.unpin(pin);
+}
+
 /// The volume has one file, FOO.TXT, of so many blocks with these words, and so much room.
 pub(crate) fn expect_file<D: Disk>(
     rt: &impl Abort,
@@ -204,29 +285,30 @@ pub(crate) fn expect_file<D: Disk>(
     requires sound { IsSound (D.state volume.old.disk) (core_of volume.old.map) volume.old.failed }
     ensures sound { IsSound (D.state volume.new.disk) (core_of volume.new.map) volume.new.failed }
 {
-    assert_eq!(rt; volume.room(), room);
     let length = u32::try_from(words.len()).expect(rt, "a length");
-    let facts = FileFacts {
-        protection: 0o057,
-        mode: Mode::Dump,
-        moment: moment(rt),
-        words: length,
-        blocks,
-    };
-    assert!(rt; volume.look(ppn_of(rt), &file_name(FOO)) == Ok(facts));
-    let line = Entry {
-        name: file_name(FOO),
-        protection: 0o057,
-        date: 4095,
-        blocks,
-    };
-    match volume.list(alloc, ppn_of(rt)) {
-        Ok(lines) => assert!(rt; lines.as_slice() == [line].as_slice()),
-        Err(_refused) => panic!(rt; "the directory isn't listed"),
-    }
-    let pin = hold(rt, volume);
-    expect_words(rt, alloc, volume, pin, words);
-    volume.unpin(pin);
+    expect_room(rt, volume, room);
+    expect_facts(rt, volume, blocks, length);
+    expect_listed(rt, alloc, volume, blocks);
+    expect_held(rt, alloc, volume, words);
+}
+
+/// Writes FOO.TXT of two blocks, and of two words more by its publication.
+fn publish_new(rt: &impl Abort, alloc: Global, volume: &mut Volume<MemDisk>, first: &[Word])
+    requires { IsSound (memory_state volume.old.disk) (core_of volume.old.map) volume.old.failed }
+    ensures { IsSound (memory_state volume.new.disk) (core_of volume.new.map) volume.new.failed }
+{
+    expect_room(rt, volume, 47);
+    let pending = write(rt, alloc, volume, FOO, first);
+    expect_room(rt, volume, 44);
+    expect_published(
+        rt,
+        alloc,
+        volume,
+        pending,
+        3,
+        &[word(257), word(258)],
+        Ok(()),
+    );
 }
 
 /// A new file of two blocks and two words, which are put at block 3 by the publication, is there, and when the disk
@@ -234,16 +316,12 @@ pub(crate) fn expect_file<D: Disk>(
 #[test]
 fn a_new_file_is_published(rt: HostRuntime) -> Result<(), Fail> {
     let alloc = rt.alloc();
-    let mut volume = fresh(&rt, alloc, 64, 1000)?;
-    assert_eq!(rt; volume.room(), 47);
     let first = numbers(alloc, 1, 2 * BLOCK)?;
-    let pending = write(&rt, alloc, &mut volume, FOO, first.as_slice());
-    assert_eq!(rt; volume.room(), 44);
-    let last = [word(257), word(258)];
-    assert!(rt; publish(alloc, &mut volume, pending, 3, &last) == Ok(()));
     let words = numbers(alloc, 1, 2 * BLOCK + 2)?;
+    let mut volume = fresh(&rt, alloc, 64, 1000)?;
+    publish_new(&rt, alloc, &mut volume, first.as_slice());
     expect_file(&rt, alloc, &mut volume, 3, words.as_slice(), 43);
-    let mut volume = open(alloc, volume.disk)?;
+    let mut volume = reopened(&rt, alloc, volume);
     expect_file(&rt, alloc, &mut volume, 3, words.as_slice(), 43);
     Ok(())
 }
@@ -270,36 +348,95 @@ fn expect_no_room(
     }
 }
 
+/// A version of 40 blocks finds no room for last words, three times, and is published without them.
+fn publish_full(rt: &impl Abort, alloc: Global, volume: &mut Volume<MemDisk>, words: &[Word])
+    requires { IsSound (memory_state volume.old.disk) (core_of volume.old.map) volume.old.failed }
+    ensures { IsSound (memory_state volume.new.disk) (core_of volume.new.map) volume.new.failed }
+{
+    let pending = write(rt, alloc, volume, FOO, words);
+    expect_room(rt, volume, 6);
+    expect_no_room(rt, alloc, volume, pending, 47);
+    expect_no_room(rt, alloc, volume, pending, 16385);
+    expect_no_room(rt, alloc, volume, pending, u32::MAX);
+    expect_room(rt, volume, 6);
+    expect_published(rt, alloc, volume, pending, 1, &[], Ok(()));
+}
+
 /// A version of 40 blocks leaves room 6. With last words it would have 47 blocks, or more than a file has: it is as
 /// it was, and is published without them.
 #[test]
 fn last_words_find_no_room(rt: HostRuntime) -> Result<(), Fail> {
     let alloc = rt.alloc();
-    let mut volume = fresh(&rt, alloc, 64, 1000)?;
     let words = numbers(alloc, 1, 40 * BLOCK)?;
-    let pending = write(&rt, alloc, &mut volume, FOO, words.as_slice());
-    assert_eq!(rt; volume.room(), 6);
-    expect_no_room(&rt, alloc, &mut volume, pending, 47);
-    expect_no_room(&rt, alloc, &mut volume, pending, 16385);
-    expect_no_room(&rt, alloc, &mut volume, pending, u32::MAX);
-    assert_eq!(rt; volume.room(), 6);
-    assert!(rt; publish(alloc, &mut volume, pending, 1, &[]) == Ok(()));
+    let mut volume = fresh(&rt, alloc, 64, 1000)?;
+    publish_full(&rt, alloc, &mut volume, words.as_slice());
     expect_file(&rt, alloc, &mut volume, 40, words.as_slice(), 6);
     Ok(())
+}
+
+/// Publishes a version of no words with a last word at block 46.
+fn publish_far(rt: &impl Abort, alloc: Global, volume: &mut Volume<MemDisk>)
+    requires { IsSound (memory_state volume.old.disk) (core_of volume.old.map) volume.old.failed }
+    ensures { IsSound (memory_state volume.new.disk) (core_of volume.new.map) volume.new.failed }
+{
+    let pending = write(rt, alloc, volume, FOO, &[]);
+    expect_room(rt, volume, 46);
+    expect_published(rt, alloc, volume, pending, 46, &[word(7)], Ok(()));
 }
 
 /// Last words take the last of the room: zeros stand before them.
 #[test]
 fn last_words_take_all_room(rt: HostRuntime) -> Result<(), Fail> {
     let alloc = rt.alloc();
-    let mut volume = fresh(&rt, alloc, 64, 1000)?;
-    let pending = write(&rt, alloc, &mut volume, FOO, &[]);
-    assert_eq!(rt; volume.room(), 46);
-    assert!(rt; publish(alloc, &mut volume, pending, 46, &[word(7)]) == Ok(()));
     let mut words = vec![in alloc; Word::ZERO; 45 * BLOCK_WORDS]?;
     words.push(word(7))?;
+    let mut volume = fresh(&rt, alloc, 64, 1000)?;
+    publish_far(&rt, alloc, &mut volume);
     expect_file(&rt, alloc, &mut volume, 46, words.as_slice(), 0);
     Ok(())
+}
+
+/// Each call that asks is answered `Failed`.
+fn expect_no_answer(rt: &impl Abort, alloc: Global, volume: &Volume<MemDisk>)
+    requires { IsSound (memory_state volume.now.disk) (core_of volume.now.map) volume.now.failed }
+{
+    let ppn = ppn_of(rt);
+    assert!(rt; volume.directory(ppn) == Err(CallError::Failed));
+    assert!(rt; volume.look(ppn, &file_name(FOO)) == Err(CallError::Failed));
+    let listed = volume.list(alloc, ppn);
+    assert!(rt; listed == Err(CallError::Failed));
+}
+
+/// A read is answered `Failed`.
+fn expect_unread(rt: &impl Abort, alloc: Global, volume: &mut Volume<MemDisk>, pin: Pin)
+    requires sound { IsSound (memory_state volume.old.disk) (core_of volume.old.map) volume.old.failed }
+    requires live { IsReadable (core_of volume.old.map) (Pinned pin) }
+    ensures sound { IsSound (memory_state volume.new.disk) (core_of volume.new.map) volume.new.failed }
+{
+    let read = pin_tests::read(alloc, volume, pin, 1, 1);
+    assert!(rt; read == Err(CallError::Failed));
+}
+
+/// Why a file isn't pinned.
+pub(crate) fn pin_refusal<D: Disk>(
+    rt: &impl Abort,
+    volume: &mut Volume<D>,
+    ppn: Ppn,
+    name: u64,
+) -> Option<CallError>
+    requires sound { IsSound (D.state volume.old.disk) (core_of volume.old.map) volume.old.failed }
+    ensures sound { IsSound (D.state volume.new.disk) (core_of volume.new.map) volume.new.failed }
+{
+    expect_few_readers(rt, &volume.map.versions);
+    volume.pin(ppn, &file_name(name)).err()
+}
+
+/// A version isn't begun, for this reason.
+fn expect_unbegun(rt: &impl Abort, alloc: Global, volume: &mut Volume<MemDisk>, error: CallError)
+    requires { IsSound (memory_state volume.old.disk) (core_of volume.old.map) volume.old.failed }
+    ensures { IsSound (memory_state volume.new.disk) (core_of volume.new.map) volume.new.failed }
+{
+    assert!(rt; volume.begin(alloc, prime_of(rt, FOO)) == Err(error));
 }
 
 /// Each call is answered `Failed`.
@@ -307,19 +444,27 @@ fn expect_failed(rt: &impl Abort, alloc: Global, volume: &mut Volume<MemDisk>, p
     requires sound { IsSound (memory_state volume.old.disk) (core_of volume.old.map) volume.old.failed }
     requires live { IsReadable (core_of volume.old.map) (Pinned pin) }
 {
+    expect_failure(rt, volume, true);
+    expect_no_answer(rt, alloc, volume);
+    expect_unread(rt, alloc, volume, pin);
     let ppn = ppn_of(rt);
-    let name = file_name(FOO);
-    assert!(rt; volume.failed);
-    assert!(rt; volume.directory(ppn) == Err(CallError::Failed));
-    assert!(rt; volume.look(ppn, &name) == Err(CallError::Failed));
-    let listed = volume.list(alloc, ppn);
-    assert!(rt; listed == Err(CallError::Failed));
-    let read = pin_tests::read(alloc, volume, pin, 1, 1);
-    assert!(rt; read == Err(CallError::Failed));
-    expect_few_readers(rt, &volume.map.versions);
-    assert!(rt; volume.pin(ppn, &name) == Err(CallError::Failed));
-    assert!(rt; volume.begin(alloc, prime_of(rt, FOO)) == Err(CallError::Failed));
-    assert!(rt; volume.make_dir(alloc, ppn, 0o775) == Err(CallError::Failed));
+    assert!(rt; pin_refusal(rt, volume, ppn, FOO) == Some(CallError::Failed));
+    expect_unbegun(rt, alloc, volume, CallError::Failed);
+    expect_directory(rt, alloc, volume, ppn, Err(CallError::Failed));
+}
+
+/// Publishes FOO.TXT twice, with a reader of the first version. The second publication fails.
+fn fail_to_publish(rt: &impl Abort, alloc: Global, volume: &mut Volume<MemDisk>) -> Pin
+    requires sound { IsSound (memory_state volume.old.disk) (core_of volume.old.map) volume.old.failed }
+    ensures sound { IsSound (memory_state volume.new.disk) (core_of volume.new.map) volume.new.failed }
+    ensures live { IsReadable (core_of volume.new.map) (Pinned result) }
+{
+    store(rt, alloc, volume, FOO, &[], Some(46));
+    let pin = hold(rt, volume);
+    let pending = write(rt, alloc, volume, FOO, &[]);
+    expect_failure(rt, volume, false);
+    expect_published(rt, alloc, volume, pending, 1, &[], Err(CallError::Device));
+    pin
 }
 
 /// The record has room for the calls of a fresh volume, for eight and four of a first publication, and for no write
@@ -328,11 +473,7 @@ fn expect_failed(rt: &impl Abort, alloc: Global, volume: &mut Volume<MemDisk>, p
 fn the_first_write_of_a_publication_fails(rt: HostRuntime) -> Result<(), Fail> {
     let alloc = rt.alloc();
     let mut volume = fresh(&rt, alloc, 64, 21 + 12)?;
-    store(&rt, alloc, &mut volume, FOO, &[], Some(46));
-    let pin = hold(&rt, &mut volume);
-    let pending = write(&rt, alloc, &mut volume, FOO, &[]);
-    assert!(rt; !volume.failed);
-    assert!(rt; publish(alloc, &mut volume, pending, 1, &[]) == Err(CallError::Device));
+    let pin = fail_to_publish(&rt, alloc, &mut volume);
     expect_failed(&rt, alloc, &mut volume, pin);
     Ok(())
 }
@@ -346,15 +487,22 @@ fn give_up(volume: &mut Volume<MemDisk>)
     volume.failed = true;
 }
 
+/// A version is begun, the volume is given up, and the version isn't published.
+fn publish_given_up(rt: &impl Abort, alloc: Global, volume: &mut Volume<MemDisk>)
+    requires { IsSound (memory_state volume.old.disk) (core_of volume.old.map) volume.old.failed }
+{
+    let pending = write(rt, alloc, volume, FOO, &[word(7)]);
+    give_up(volume);
+    expect_published(rt, alloc, volume, pending, 1, &[], Err(CallError::Failed));
+}
+
 #[test]
 fn a_failed_volume_publishes_nothing(rt: HostRuntime) -> Result<(), Fail> {
     let alloc = rt.alloc();
     let mut volume = fresh(&rt, alloc, 64, 1000)?;
-    let pending = write(&rt, alloc, &mut volume, FOO, &[word(7)]);
-    give_up(&mut volume);
-    assert!(rt; publish(alloc, &mut volume, pending, 1, &[]) == Err(CallError::Failed));
-    let mut volume = open(alloc, volume.disk)?;
-    assert_eq!(rt; volume.room(), 47);
+    publish_given_up(&rt, alloc, &mut volume);
+    let mut volume = reopened(&rt, alloc, volume);
+    expect_room(&rt, &volume, 47);
     store(&rt, alloc, &mut volume, FOO, &[word(7)], Some(45));
     Ok(())
 }

@@ -5,15 +5,16 @@ ghost use Rattle.volume.specs.Pins.{IsReadable};
 ghost use Rattle.volume.specs.Rest.{IsSound};
 ghost use Rattle.volume.specs.declared.handles.VersionHandle.TheVariants.{Pinned};
 
-use crate::open_tests::{beginning, load};
+use crate::disks::{disk_of, expect_failure, expect_room, forget, opened, reopened};
 use crate::publish_tests::{
-    BLOCK, FOO, expect_file, expect_words, fresh, hold, numbers, open, publish, store, write,
+    BLOCK, FOO, expect_file, expect_published, expect_words, fresh, hold, numbers, store, write,
 };
-use blockdisk::{Disk, Fault, MemDisk};
+use blockdisk::{Disk, Fault, MemDisk, NoMemory};
+use std::alloc::Global;
 use std::process::Abort;
 use std::test::Fail;
 use volume::{CallError, Pin, Volume};
-use words36::Block;
+use words36::{Block, Word};
 
 /// The writes and syncs up to a volume with the directory [10,20]: seven and one of `init`, one sync of `open`, and
 /// eight and four of `make_dir`.
@@ -53,31 +54,47 @@ fn let_go_beside(volume: &mut Volume<MemDisk>, pin: Pin, other: Pin)
     volume.unpin(pin);
 }
 
+/// Supersedes a file twice, with a reader of the first version and one of the second.
+fn supersede_twice(
+    rt: &impl Abort,
+    alloc: Global,
+    volume: &mut Volume<MemDisk>,
+    first: &[Word],
+    second: &[Word],
+    third: &[Word],
+)
+    requires { IsSound (memory_state volume.old.disk) (core_of volume.old.map) volume.old.failed }
+    ensures { IsSound (memory_state volume.new.disk) (core_of volume.new.map) volume.new.failed }
+{
+    store(rt, alloc, volume, FOO, first, Some(44));
+    let reader = hold(rt, volume);
+    store(rt, alloc, volume, FOO, second, Some(40));
+    expect_words(rt, alloc, volume, reader, first);
+    let later = hold_beside(rt, volume, reader);
+    expect_words(rt, alloc, volume, later, second);
+    store(rt, alloc, volume, FOO, third, Some(38));
+    expect_words(rt, alloc, volume, reader, first);
+    expect_words(rt, alloc, volume, later, second);
+    let_go_beside(volume, later, reader);
+    expect_room(rt, volume, 42);
+    expect_words(rt, alloc, volume, reader, first);
+    volume.unpin(reader);
+}
+
 /// A file is superseded twice. A reader of its first version and one of the second read these until they let go,
 /// and each version costs until then: 3, 4 and 2 blocks of the 47.
 #[test]
 fn readers_across_two_publications(rt: HostRuntime) -> Result<(), Fail> {
     let alloc = rt.alloc();
-    let mut volume = fresh(&rt, alloc, 64, 1000)?;
     let first = numbers(alloc, 1, 2 * BLOCK)?;
     let second = numbers(alloc, 1001, 2 * BLOCK + 44)?;
     let third = numbers(alloc, 2001, 1)?;
-    store(&rt, alloc, &mut volume, FOO, first.as_slice(), Some(44));
-    let reader = hold(&rt, &mut volume);
-    store(&rt, alloc, &mut volume, FOO, second.as_slice(), Some(40));
-    expect_words(&rt, alloc, &mut volume, reader, first.as_slice());
-    let later = hold_beside(&rt, &mut volume, reader);
-    expect_words(&rt, alloc, &mut volume, later, second.as_slice());
-    store(&rt, alloc, &mut volume, FOO, third.as_slice(), Some(38));
-    expect_words(&rt, alloc, &mut volume, reader, first.as_slice());
-    expect_words(&rt, alloc, &mut volume, later, second.as_slice());
-    let_go_beside(&mut volume, later, reader);
-    assert_eq!(rt; volume.room(), 42);
-    expect_words(&rt, alloc, &mut volume, reader, first.as_slice());
-    volume.unpin(reader);
-    expect_file(&rt, alloc, &mut volume, 1, third.as_slice(), 45);
-    let mut volume = open(alloc, volume.disk)?;
-    expect_file(&rt, alloc, &mut volume, 1, third.as_slice(), 45);
+    let (first, second, third) = (first.as_slice(), second.as_slice(), third.as_slice());
+    let mut volume = fresh(&rt, alloc, 64, 1000)?;
+    supersede_twice(&rt, alloc, &mut volume, first, second, third);
+    expect_file(&rt, alloc, &mut volume, 1, third, 45);
+    let mut volume = reopened(&rt, alloc, volume);
+    expect_file(&rt, alloc, &mut volume, 1, third, 45);
     Ok(())
 }
 
@@ -121,6 +138,47 @@ impl Disk for CountingDisk {
     }
 }
 
+/// A disk has counted so many writes and syncs.
+fn expect_counts(rt: &impl Abort, disk: &CountingDisk, writes: u32, syncs: u32) {
+    assert_eq!(rt; disk.writes, writes);
+    assert_eq!(rt; disk.syncs, syncs);
+}
+
+/// Writes these words as FOO.TXT, by so many writes before the publication, and so many with it.
+fn count_publication(
+    rt: &impl Abort,
+    alloc: Global,
+    volume: &mut Volume<CountingDisk>,
+    words: &[Word],
+    before: u32,
+    all: u32,
+)
+    requires { IsSound (memory_state volume.old.disk.disk) (core_of volume.old.map) volume.old.failed }
+    ensures { IsSound (memory_state volume.new.disk.disk) (core_of volume.new.map) volume.new.failed }
+{
+    expect_counts(rt, &volume.disk, 0, 1);
+    let pending = write(rt, alloc, volume, FOO, words);
+    expect_counts(rt, &volume.disk, before, 1);
+    expect_published(rt, alloc, volume, pending, 1, &[], Ok(()));
+    expect_counts(rt, &volume.disk, all, 1 + 4);
+}
+
+/// A disk in memory that has counted nothing yet.
+fn counting(disk: MemDisk) -> CountingDisk {
+    CountingDisk {
+        disk,
+        writes: 0,
+        syncs: 0,
+    }
+}
+
+/// A fresh volume of 512 blocks with a FOO.TXT of no words, whose disk counts from now on.
+fn with_a_file(rt: &impl Abort, alloc: Global) -> Result<CountingDisk, NoMemory> {
+    let mut volume = fresh(rt, alloc, 512, 1000)?;
+    store(rt, alloc, &mut volume, FOO, &[], Some(494));
+    Ok(counting(disk_of(volume)))
+}
+
 /// Each data block is written once, when its words are put. A publication writes the ribs and the prime block; then
 /// two images, the header, the gate, two blocks in their places, and the gate. It syncs four times.
 #[test]
@@ -128,25 +186,85 @@ fn the_calls_of_a_publication(rt: HostRuntime) -> Result<(), Fail> {
     let alloc = rt.alloc();
     for (blocks, ribs) in [(0u32, 0u32), (1, 0), (2, 0), (112, 0), (113, 1), (239, 2)] {
         assert!(rt; blocks < 240 && ribs < 3);
-        let mut volume = fresh(&rt, alloc, 512, 1000)?;
-        store(&rt, alloc, &mut volume, FOO, &[], Some(494));
-        let disk = CountingDisk {
-            disk: volume.disk,
-            writes: 0,
-            syncs: 0,
-        };
-        let Ok(mut volume) = Volume::open(alloc, disk) else {
-            panic!(rt; "the disk is refused");
-        };
-        assert!(rt; volume.disk.writes == 0 && volume.disk.syncs == 1);
-        let words = numbers(alloc, 1, blocks * BLOCK)?;
-        let pending = write(&rt, alloc, &mut volume, FOO, words.as_slice());
-        assert!(rt; volume.disk.writes == blocks && volume.disk.syncs == 1);
-        assert!(rt; publish(alloc, &mut volume, pending, 1, &[]) == Ok(()));
-        assert_eq!(rt; volume.disk.writes, blocks + ribs + 1 + 2 + 1 + 1 + 2 + 1);
-        assert_eq!(rt; volume.disk.syncs, 1 + 4);
+        let all = blocks + ribs + 1 + 2 + 1 + 1 + 2 + 1;
         let room = 494 - i64::from(blocks) - i64::from(ribs);
+        let words = numbers(alloc, 1, blocks * BLOCK)?;
+        let disk = with_a_file(&rt, alloc)?;
+        let mut volume = opened(&rt, alloc, disk);
+        count_publication(&rt, alloc, &mut volume, words.as_slice(), blocks, all);
         expect_file(&rt, alloc, &mut volume, blocks, words.as_slice(), room);
+    }
+    Ok(())
+}
+
+/// The disk after a publication over a file with the words `old`, of which `first` are put before, and `rest` by it at
+/// block 3. It has room to record so many writes and syncs; the publication is done where these are all.
+fn cut_off(
+    rt: &impl Abort,
+    alloc: Global,
+    old: &[Word],
+    (first, rest): (&[Word], &[Word]),
+    calls: usize,
+    is_done: bool,
+) -> Result<MemDisk, NoMemory> {
+    let wanted = if is_done {
+        Ok(())
+    } else {
+        Err(CallError::Device)
+    };
+    let mut volume = fresh(rt, alloc, 64, calls)?;
+    store(rt, alloc, &mut volume, FOO, old, Some(44));
+    let pending = write(rt, alloc, &mut volume, FOO, first);
+    expect_published(rt, alloc, &mut volume, pending, 3, rest, wanted);
+    expect_failure(rt, &volume, !is_done);
+    let mut disk = disk_of(volume);
+    forget(rt, &mut disk);
+    Ok(disk)
+}
+
+/// The disk of a volume is opened, which has one file, FOO.TXT, of so many blocks with these words, and so much room.
+fn expect_disk(
+    rt: &impl Abort,
+    alloc: Global,
+    disk: MemDisk,
+    blocks: u32,
+    words: &[Word],
+    room: i64,
+) {
+    let mut volume = opened(rt, alloc, disk);
+    expect_file(rt, alloc, &mut volume, blocks, words, room);
+}
+
+/// A publication over a file is cut off before each of its writes and syncs, and then is done: the last words, so many,
+/// are put by it, and the others before, by so many writes. The file is the new one once the gate was opened.
+fn expect_cuts(
+    rt: &impl Abort,
+    alloc: Global,
+    (old, new): (&[Word], &[Word]),
+    last: u32,
+    written: usize,
+    shut: usize,
+) -> Result<(), Fail> {
+    let first = numbers(alloc, 1001, (2 * BLOCK + 2).saturating_sub(last))?;
+    let rest = numbers(alloc, 1257, last)?;
+    let parts = (first.as_slice(), rest.as_slice());
+    // two data blocks of the old file, with its publication, and some of the new one
+    let before = (FRESH + 2 + SHUT + FROM_GATE).saturating_add(written);
+    let whole = shut.saturating_add(FROM_GATE);
+    for calls in 0..=whole {
+        let disk = cut_off(
+            rt,
+            alloc,
+            old,
+            parts,
+            before.saturating_add(calls),
+            calls == whole,
+        )?;
+        if calls > shut {
+            expect_disk(rt, alloc, disk, 3, new, 43);
+        } else {
+            expect_disk(rt, alloc, disk, 2, old, 44);
+        }
     }
     Ok(())
 }
@@ -159,34 +277,8 @@ fn each_write_or_sync_of_a_publication_may_fail(rt: HostRuntime) -> Result<(), F
     let alloc = rt.alloc();
     let old = numbers(alloc, 1, BLOCK + 1)?;
     let new = numbers(alloc, 1001, 2 * BLOCK + 2)?;
-    for (last, written, shut) in [(0, 3, SHUT), (2, 2, SHUT + 1)] {
-        let whole = shut + FROM_GATE;
-        for calls in 0..=whole {
-            // two data blocks of the old file, with its publication, and some of the new one
-            let before = FRESH + 2 + SHUT + FROM_GATE + written;
-            let mut volume = fresh(&rt, alloc, 64, before + calls)?;
-            store(&rt, alloc, &mut volume, FOO, old.as_slice(), Some(44));
-            let first = numbers(alloc, 1001, 2 * BLOCK + 2 - last)?;
-            let pending = write(&rt, alloc, &mut volume, FOO, first.as_slice());
-            let rest = numbers(alloc, 1257, last)?;
-            let published = publish(alloc, &mut volume, pending, 3, rest.as_slice());
-            let is_done = calls == whole;
-            let wanted = if is_done {
-                Ok(())
-            } else {
-                Err(CallError::Device)
-            };
-            assert!(rt; published == wanted);
-            assert!(rt; volume.failed != is_done);
-            let mut disk = volume.disk;
-            load(&rt, &mut disk, 0, &beginning(&[])); // the record is empty then
-            let mut volume = open(alloc, disk)?;
-            if calls > shut {
-                expect_file(&rt, alloc, &mut volume, 3, new.as_slice(), 43);
-            } else {
-                expect_file(&rt, alloc, &mut volume, 2, old.as_slice(), 44);
-            }
-        }
-    }
+    let files = (old.as_slice(), new.as_slice());
+    expect_cuts(&rt, alloc, files, 0, 3, SHUT)?;
+    expect_cuts(&rt, alloc, files, 2, 2, SHUT + 1)?;
     Ok(())
 }

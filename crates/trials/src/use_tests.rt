@@ -6,7 +6,7 @@ ghost use Rattle.volume.specs.Pins.{IsReadable};
 ghost use Rattle.volume.specs.Rest.{IsSound};
 ghost use Rattle.volume.specs.declared.handles.VersionHandle.TheVariants.{Pinned};
 
-use crate::open_tests::{self, load, prime, v1, word};
+use crate::disks::{self, expect_room, load, prime, v1, word};
 use crate::pin_tests::{self, open_and_pin};
 use crate::publish_tests::{FOO, file_name, fresh, ppn_of};
 use crate::put_tests::{self, put};
@@ -53,45 +53,80 @@ fn write(
     }
 }
 
+/// Writes a version of so many blocks, which has to leave so much room.
+fn write_leaving(
+    rt: &impl Abort,
+    alloc: Global,
+    volume: &mut Volume<MemDisk>,
+    blocks: usize,
+    room: i64,
+) -> Pending
+    requires sound { IsSound (memory_state volume.old.disk) (core_of volume.old.map) volume.old.failed }
+    requires few { blocks < 1000 }
+    ensures sound { IsSound (memory_state volume.new.disk) (core_of volume.new.map) volume.new.failed }
+    ensures live { IsSome (pending_at (core_of volume.new.map).pending result.key) }
+{
+    let Some(pending) = write(rt, alloc, volume, 1, blocks) else {
+        panic!(rt; "the words aren't put");
+    };
+    expect_room(rt, volume, room);
+    pending
+}
+
+/// Writes a version of so many blocks, which leaves so much room of 495, and drops it.
+fn write_and_drop(
+    rt: &impl Abort,
+    alloc: Global,
+    volume: &mut Volume<MemDisk>,
+    blocks: usize,
+    room: i64,
+)
+    requires sound { IsSound (memory_state volume.old.disk) (core_of volume.old.map) volume.old.failed }
+    requires few { blocks < 1000 }
+{
+    expect_room(rt, volume, 495);
+    let pending = write_leaving(rt, alloc, volume, blocks, room);
+    volume.discard(pending);
+    expect_room(rt, volume, 495);
+}
+
 /// A version of 112 blocks costs 113, one of 113 blocks 115; and all is given back.
 #[test]
 fn a_version_of_113_blocks_has_an_extension(rt: HostRuntime) -> Result<(), Fail> {
-    for (blocks, room) in [(112, 382), (113, 380)] {
-        let mut volume = fresh(&rt, rt.alloc(), 512, 1000)?;
-        assert_eq!(rt; volume.room(), 495);
-        let Some(pending) = write(&rt, rt.alloc(), &mut volume, 1, blocks) else {
-            panic!(rt; "the words aren't put");
-        };
-        assert_eq!(rt; volume.room(), room);
-        volume.discard(pending);
-        assert_eq!(rt; volume.room(), 495);
-    }
+    let mut volume = fresh(&rt, rt.alloc(), 512, 1000)?;
+    write_and_drop(&rt, rt.alloc(), &mut volume, 112, 382);
+    let mut volume = fresh(&rt, rt.alloc(), 512, 1000)?;
+    write_and_drop(&rt, rt.alloc(), &mut volume, 113, 380);
     Ok(())
+}
+
+/// Fills a volume of room 47, is refused one word more, and drops all.
+fn fill_and_empty(rt: &impl Abort, alloc: Global, volume: &mut Volume<MemDisk>)
+    requires { IsSound (memory_state volume.old.disk) (core_of volume.old.map) volume.old.failed }
+{
+    expect_room(rt, volume, 47);
+    let pending = write_leaving(rt, alloc, volume, 46, 0);
+    let full = put(volume, pending, 47, &[word(7)]);
+    assert!(rt; full == Err(CallError::Refused(ErrorCode::NoRoom)));
+    volume.discard(pending);
+    expect_room(rt, volume, 47);
 }
 
 /// Of room 47 a version of 46 blocks takes all; the next word finds none, and dropping it gives all back.
 #[test]
 fn a_volume_is_filled_and_emptied(rt: HostRuntime) -> Result<(), Fail> {
     let mut volume = fresh(&rt, rt.alloc(), 64, 1000)?;
-    assert_eq!(rt; volume.room(), 47);
-    let Some(pending) = write(&rt, rt.alloc(), &mut volume, 1, 46) else {
-        panic!(rt; "the words aren't put");
-    };
-    assert_eq!(rt; volume.room(), 0);
-    let full = put(&mut volume, pending, 47, &[word(7)]);
-    assert!(rt; full == Err(CallError::Refused(ErrorCode::NoRoom)));
-    volume.discard(pending);
-    assert_eq!(rt; volume.room(), 47);
+    fill_and_empty(&rt, rt.alloc(), &mut volume);
     Ok(())
 }
 
 /// V1 with 130 words in FOO.TXT, in blocks 18 and 19. Its room is 44.
 fn two_blocks(rt: &impl Abort, alloc: Global) -> Result<MemDisk, NoMemory> {
     let mut disk = v1(rt, alloc, 1000)?;
-    open_tests::put(rt, &mut disk, 14, &[0o777777600000]);
-    let foo = prime(0o057000007777, 130, 0o000002000022);
+    disks::put(rt, &mut disk, 14, &[0o777777600000]);
+    let foo = prime(130, 0o000002000022);
     load(rt, &mut disk, 17, &foo);
-    open_tests::put(rt, &mut disk, 19, &[0o123456765432, 0o765432123456]);
+    disks::put(rt, &mut disk, 19, &[0o123456765432, 0o765432123456]);
     Ok(disk)
 }
 
@@ -148,7 +183,7 @@ fn begin_beside(
     let Ok(pending) = volume.begin(alloc, prime_of(rt, name)) else {
         panic!(rt; "no version is begun");
     };
-    assert_eq!(rt; volume.room(), room);
+    expect_room(rt, volume, room);
     expect_file(rt, alloc, volume, pin);
     pending
 }
@@ -176,7 +211,7 @@ fn put_beside(
     ensures live { IsSome (pending_at (core_of volume.new.map).pending pending.key) }
 {
     assert!(rt; volume.put_words(pending, block, words) == Ok(()));
-    assert_eq!(rt; volume.room(), room);
+    expect_room(rt, volume, room);
     expect_file(rt, alloc, volume, pin);
 }
 
@@ -200,38 +235,45 @@ fn discard_beside(
     ensures other { IsSome (pending_at (core_of volume.new.map).pending other.key) }
 {
     volume.discard(pending);
-    assert_eq!(rt; volume.room(), room);
+    expect_room(rt, volume, room);
     expect_file(rt, alloc, volume, pin);
 }
 
-/// A file is read while others write: a version of the same name, which is dropped and written anew, and one
-/// of another name with a gap, into which words are put later. All room is given back.
-#[test]
-fn a_reader_reads_on(rt: HostRuntime) -> Result<(), Fail> {
-    let alloc = rt.alloc();
-    let disk = two_blocks(&rt, alloc)?;
-    let Some((mut volume, pin)) = open_and_pin(&rt, alloc, disk) else {
-        panic!(rt; "the disk is refused");
-    };
-    let three = vec![in alloc; word(OTHERS); 3 * BLOCK_WORDS]?;
-    let new = begin_beside(&rt, alloc, &mut volume, pin, 1, 43);
-    let same = begin_beside(&rt, alloc, &mut volume, pin, FOO, 42);
+/// A version has 257 words: those that were put at its second and its third block, and zeros.
+fn expect_version(rt: &impl Abort, alloc: Global, volume: &mut Volume<MemDisk>, pending: Pending)
+    requires sound { IsSound (memory_state volume.old.disk) (core_of volume.old.map) volume.old.failed }
+    requires live { IsSome (pending_at (core_of volume.old.map).pending pending.key) }
+    ensures sound { IsSound (memory_state volume.new.disk) (core_of volume.new.map) volume.new.failed }
+    ensures live { IsSome (pending_at (core_of volume.new.map).pending pending.key) }
+{
+    match put_tests::read(alloc, volume, pending, 1) {
+        Ok(words) => {
+            let wanted = [(128, 8), (129, 9), (256, 7)];
+            expect_words(rt, words.as_slice(), 257, &wanted);
+        }
+        Err(_refused) => panic!(rt; "the version isn't read"),
+    }
+}
+
+/// Writes two versions beside a reader, one of them anew, and drops them. `three` are the words of three blocks.
+fn write_beside(
+    rt: &impl Abort,
+    alloc: Global,
+    volume: &mut Volume<MemDisk>,
+    pin: Pin,
+    three: &[Word],
+)
+    requires sound { IsSound (memory_state volume.old.disk) (core_of volume.old.map) volume.old.failed }
+    requires reader { IsReadable (core_of volume.old.map) (Pinned pin) }
+{
+    let new = begin_beside(rt, alloc, volume, pin, 1, 43);
+    let same = begin_beside(rt, alloc, volume, pin, FOO, 42);
+    put_beside(rt, alloc, volume, pin, new, same, 1, three, 39);
+    put_beside(rt, alloc, volume, pin, same, new, 3, &[word(7)], 36);
     put_beside(
-        &rt,
+        rt,
         alloc,
-        &mut volume,
-        pin,
-        new,
-        same,
-        1,
-        three.as_slice(),
-        39,
-    );
-    put_beside(&rt, alloc, &mut volume, pin, same, new, 3, &[word(7)], 36);
-    put_beside(
-        &rt,
-        alloc,
-        &mut volume,
+        volume,
         pin,
         same,
         new,
@@ -239,29 +281,26 @@ fn a_reader_reads_on(rt: HostRuntime) -> Result<(), Fail> {
         &[word(8), word(9)],
         36,
     );
-    discard_beside(&rt, alloc, &mut volume, pin, new, same, 40);
-    let again = begin_beside(&rt, alloc, &mut volume, pin, FOO, 39);
-    put_beside(
-        &rt,
-        alloc,
-        &mut volume,
-        pin,
-        new,
-        again,
-        2,
-        three.as_slice(),
-        35,
-    );
+    discard_beside(rt, alloc, volume, pin, new, same, 40);
+    let again = begin_beside(rt, alloc, volume, pin, FOO, 39);
+    put_beside(rt, alloc, volume, pin, new, again, 2, three, 35);
     volume.unpin(pin);
     volume.discard(again);
-    match put_tests::read(alloc, &mut volume, new, 1) {
-        Ok(words) => {
-            let wanted = [(128, 8), (129, 9), (256, 7)];
-            expect_words(&rt, words.as_slice(), 257, &wanted);
-        }
-        Err(_refused) => panic!(rt; "the version isn't read"),
-    }
+    expect_version(rt, alloc, volume, new);
     volume.discard(new);
-    assert_eq!(rt; volume.room(), 44);
+    expect_room(rt, volume, 44);
+}
+
+/// A file is read while others write: a version of the same name, which is dropped and written anew, and one
+/// of another name with a gap, into which words are put later. All room is given back.
+#[test]
+fn a_reader_reads_on(rt: HostRuntime) -> Result<(), Fail> {
+    let alloc = rt.alloc();
+    let three = vec![in alloc; word(OTHERS); 3 * BLOCK_WORDS]?;
+    let disk = two_blocks(&rt, alloc)?;
+    let Some((mut volume, pin)) = open_and_pin(&rt, alloc, disk) else {
+        panic!(rt; "the disk is refused");
+    };
+    write_beside(&rt, alloc, &mut volume, pin, three.as_slice());
     Ok(())
 }

@@ -1,3 +1,8 @@
+ghost use Rattle.std.specs.Prelude.{IfOk};
+ghost use Rattle.blockdisk.specs.Memory.{memory_state};
+ghost use Rattle.volume.specs.LiveCores.{core_of};
+ghost use Rattle.volume.specs.Rest.{IsSound};
+
 use blockdisk::{Disk, Fault, MemDisk, NoMemory};
 use std::alloc::Global;
 use std::process::Abort;
@@ -100,20 +105,61 @@ pub(crate) fn v1_to_recover(
     Ok(disk)
 }
 
+/// Opens the volume on a disk in memory. What else `open` promises stays behind this function.
+pub(crate) fn open(alloc: Global, disk: MemDisk) -> Result<Volume<MemDisk>, (VolumeError, MemDisk)>
+    ensures { IfOk result (λ volume. IsSound (memory_state volume.disk) (core_of volume.map) volume.failed) }
+{
+    Volume::open(alloc, disk)
+}
+
+/// Opens the volume on a disk that has to be accepted.
+pub(crate) fn opened(rt: &impl Abort, alloc: Global, disk: MemDisk) -> Volume<MemDisk>
+    ensures { IsSound (memory_state result.disk) (core_of result.map) result.failed }
+{
+    let Ok(volume) = open(alloc, disk) else {
+        panic!(rt; "the disk is refused");
+    };
+    volume
+}
+
+/// Why the volume on a disk isn't opened, with the disk handed back; nothing where it is opened.
+pub(crate) fn refused(alloc: Global, disk: MemDisk) -> Option<(VolumeError, MemDisk)> {
+    open(alloc, disk).err()
+}
+
 /// What the volume on a disk has booked, or why it isn't opened.
-pub(crate) fn booked<D: Disk + Drop>(alloc: Global, disk: D) -> Result<u64, VolumeError> {
-    match Volume::open(alloc, disk) {
+pub(crate) fn booked(alloc: Global, disk: MemDisk) -> Result<u64, VolumeError> {
+    match open(alloc, disk) {
         Ok(volume) => Ok(volume.map.table.booked()),
         Err((error, _disk)) => Err(error),
     }
 }
 
-#[test]
-fn v1_is_accepted(rt: HostRuntime) -> Result<(), Fail> {
-    let disk = v1(&rt, rt.alloc(), 1)?;
-    let Ok(volume) = Volume::open(rt.alloc(), disk) else {
-        panic!(rt; "V1 is refused");
+/// The volume on a disk has so much booked, or isn't opened for this reason.
+pub(crate) fn expect_booked(
+    rt: &impl Abort,
+    alloc: Global,
+    disk: MemDisk,
+    wanted: Result<u64, VolumeError>,
+) {
+    let found = booked(alloc, disk);
+    assert!(rt; found == wanted, "{found:?}");
+}
+
+/// What V1 has in its one directory: its one file, as its prime block says.
+fn expect_file_of_v1(rt: &impl Abort, volume: &Volume<MemDisk>, key: usize) {
+    let Some(stored) = volume.map.versions.get(key) else {
+        panic!(rt; "no version");
     };
+    assert_eq!(rt; stored.at, 17);
+    assert!(rt; stored.is_current && stored.readers == 0);
+    assert_eq!(rt; stored.version.length(), 2);
+    assert!(rt; stored.version.blocks() == [18].as_slice());
+    assert_eq!(rt; stored.prime.protection, 0o057);
+}
+
+/// What V1 has in core: four blocks, one directory, and one file.
+fn expect_v1(rt: &impl Abort, volume: &Volume<MemDisk>) {
     assert!(rt; !volume.failed);
     assert_eq!(rt; volume.map.table.booked(), 4);
     assert!(rt; volume.map.table.can_book(45) && !volume.map.table.can_book(46));
@@ -125,25 +171,28 @@ fn v1_is_accepted(rt: HostRuntime) -> Result<(), Fail> {
     let [key] = directory.keys.as_slice() else {
         panic!(rt; "another number of files");
     };
-    let Some(stored) = volume.map.versions.get(*key) else {
-        panic!(rt; "no version");
-    };
-    assert_eq!(rt; stored.at, 17);
-    assert!(rt; stored.is_current && stored.readers == 0);
-    assert_eq!(rt; stored.version.length(), 2);
-    assert!(rt; stored.version.blocks() == [18].as_slice());
-    assert_eq!(rt; stored.prime.protection, 0o057);
+    expect_file_of_v1(rt, volume, *key);
+}
+
+#[test]
+fn v1_is_accepted(rt: HostRuntime) -> Result<(), Fail> {
+    let disk = v1(&rt, rt.alloc(), 1)?;
+    let volume = opened(&rt, rt.alloc(), disk);
+    expect_v1(&rt, &volume);
     Ok(())
+}
+
+/// The volume has four blocks booked, and this block stands at this number.
+fn expect_four_and(rt: &impl Abort, volume: &mut Volume<MemDisk>, n: u32, block: &Block) {
+    assert_eq!(rt; volume.map.table.booked(), 4);
+    expect_block(rt, &mut volume.disk, n, block);
 }
 
 #[test]
 fn a_volume_is_recovered(rt: HostRuntime) -> Result<(), Fail> {
     let disk = v1_to_recover(&rt, rt.alloc(), 5)?;
-    let Ok(mut volume) = Volume::open(rt.alloc(), disk) else {
-        panic!(rt; "V1 isn't recovered");
-    };
-    assert_eq!(rt; volume.map.table.booked(), 4);
-    expect_block(&rt, &mut volume.disk, 15, &beginning(&MASTER));
+    let mut volume = opened(&rt, rt.alloc(), disk);
+    expect_four_and(&rt, &mut volume, 15, &beginning(&MASTER));
     expect_block(&rt, &mut volume.disk, 3, &beginning(&[]));
     Ok(())
 }
@@ -156,11 +205,8 @@ fn a_gate_with_another_word(rt: HostRuntime) -> Result<(), Fail> {
     let mut gate = [word(OPEN); BLOCK_WORDS];
     gate[77] = Word::ZERO;
     load(&rt, &mut disk, 3, &gate);
-    let Ok(mut volume) = Volume::open(rt.alloc(), disk) else {
-        panic!(rt; "V1 is refused");
-    };
-    assert_eq!(rt; volume.map.table.booked(), 4);
-    expect_block(&rt, &mut volume.disk, 3, &gate);
+    let mut volume = opened(&rt, rt.alloc(), disk);
+    expect_four_and(&rt, &mut volume, 3, &gate);
     Ok(())
 }
 
@@ -169,19 +215,29 @@ fn a_gate_with_another_word(rt: HostRuntime) -> Result<(), Fail> {
 fn the_table_comes_last(rt: HostRuntime) -> Result<(), Fail> {
     let mut disk = v1(&rt, rt.alloc(), 1)?;
     damage(&rt, &mut disk, 14);
-    assert_eq!(rt; booked(rt.alloc(), disk), Err(VolumeError::TableWrong(14)));
+    expect_booked(&rt, rt.alloc(), disk, Err(VolumeError::TableWrong(14)));
     let mut disk = v1(&rt, rt.alloc(), 1)?;
     damage(&rt, &mut disk, 14);
     damage(&rt, &mut disk, 18);
-    assert_eq!(rt; booked(rt.alloc(), disk), Err(VolumeError::BadData(18)));
+    expect_booked(&rt, rt.alloc(), disk, Err(VolumeError::BadData(18)));
     Ok(())
+}
+
+/// Makes an empty volume on a disk in memory. What `init` promises stays behind this function.
+pub(crate) fn init(disk: &mut MemDisk) -> Result<(), VolumeError> {
+    Volume::init(disk)
+}
+
+/// An empty volume is made on a disk.
+pub(crate) fn expect_made(rt: &impl Abort, disk: &mut MemDisk) {
+    assert!(rt; init(disk) == Ok(()));
 }
 
 #[test]
 fn a_fresh_volume(rt: HostRuntime) -> Result<(), Fail> {
     let mut disk = MemDisk::new(rt.alloc(), SIZE, 9)?;
-    assert_eq!(rt; Volume::init(&mut disk), Ok(()));
-    assert_eq!(rt; booked(rt.alloc(), disk), Ok(1));
+    expect_made(&rt, &mut disk);
+    expect_booked(&rt, rt.alloc(), disk, Ok(1));
     Ok(())
 }
 
@@ -190,7 +246,7 @@ fn a_fresh_volume(rt: HostRuntime) -> Result<(), Fail> {
 fn each_write_or_sync_may_fail(rt: HostRuntime) -> Result<(), Fail> {
     for calls in 0..5 {
         let disk = v1_to_recover(&rt, rt.alloc(), calls)?;
-        assert_eq!(rt; booked(rt.alloc(), disk), Err(VolumeError::Device));
+        expect_booked(&rt, rt.alloc(), disk, Err(VolumeError::Device));
     }
     Ok(())
 }
@@ -249,18 +305,27 @@ pub(crate) fn failing(inner: MemDisk, size: u32, reads: u32) -> FailingDisk {
     }
 }
 
+/// How many reads a failing disk has left when the volume on it is opened; or why that is refused, and how often the
+/// disk has failed then.
+pub(crate) fn left_of_reads(alloc: Global, disk: FailingDisk) -> Result<u32, (VolumeError, u64)> {
+    match Volume::open(alloc, disk) {
+        Ok(volume) => Ok(volume.disk.reads),
+        Err((error, disk)) => Err((error, disk.failures)),
+    }
+}
+
 /// To open the volume on a disk takes `all` reads. Where the disk fails after so many it is refused, and the disk has
 /// failed once; but it is opened where these are all.
 pub(crate) fn expect_reads(rt: &impl Abort, alloc: Global, disk: MemDisk, reads: u32, all: u32) {
     let size = disk.blocks();
-    match Volume::open(alloc, failing(disk, size, reads)) {
-        Ok(volume) => {
+    match left_of_reads(alloc, failing(disk, size, reads)) {
+        Ok(left) => {
             assert_eq!(rt; reads, all);
-            assert_eq!(rt; volume.disk.reads, 0);
+            assert_eq!(rt; left, 0);
         }
-        Err((error, disk)) => {
+        Err((error, failures)) => {
             assert!(rt; reads < all && error == VolumeError::Device);
-            assert_eq!(rt; disk.failures, 1);
+            assert_eq!(rt; failures, 1);
         }
     }
 }
@@ -275,6 +340,11 @@ fn each_read_may_fail(rt: HostRuntime) -> Result<(), Fail> {
     Ok(())
 }
 
+/// The refusal names memory.
+pub(crate) fn expect_no_memory(rt: &impl Abort, error: VolumeError) {
+    assert!(rt; error == VolumeError::NoMemory);
+}
+
 /// Run with each allocation refused in turn: the answer is `NoMemory`, with the disk handed back, and the
 /// next call opens it.
 #[test]
@@ -282,10 +352,10 @@ fn each_allocation_refused(rt: HostRuntime) {
     let Ok(disk) = v1(&rt, rt.alloc(), 2) else {
         return;
     };
-    if let Err((error, disk)) = Volume::open(rt.alloc(), disk) {
-        assert!(rt; error == VolumeError::NoMemory);
-        if let Ok(volume) = Volume::open(rt.alloc(), disk) {
-            assert_eq!(rt; volume.map.table.booked(), 4);
+    if let Some((error, disk)) = refused(rt.alloc(), disk) {
+        expect_no_memory(&rt, error);
+        if let Ok(booked) = booked(rt.alloc(), disk) {
+            assert_eq!(rt; booked, 4);
         }
     }
 }

@@ -1,4 +1,4 @@
-use Rattle.trials.proofs.supersede_tests.readers_across_two_publications.Goals as goal
+use Rattle.trials.proofs.supersede_tests.supersede_twice.Goals as goal
 
 pub expect_words-requires-clause-live : goal.expect_words-requires-clause-live
 expect_words-requires-clause-live g c = c.store-2.ensures.readers c.hold-reader.result c.hold-reader.ensures.live

@@ -1,14 +1,21 @@
+ghost use Rattle.blockdisk.specs.Memory.{memory_state};
+ghost use Rattle.volume.specs.LiveCores.{core_of};
+ghost use Rattle.volume.specs.Rest.{IsSound};
+
 use crate::open_tests::{
-    DIRECTORY, HOME, MASTER, beginning, booked, damage, expect_reads, load, prime, put, v1, word,
+    DIRECTORY, HOME, MASTER, beginning, damage, expect_booked, expect_no_memory, expect_reads,
+    load, opened, prime, put, refused, v1, word,
 };
-use crate::publish_tests::{FOO, file_name, ppn_of};
 use blockdisk::{MemDisk, NoMemory};
 use retrieval::Mode;
 use std::alloc::Global;
 use std::process::Abort;
 use std::test::Fail;
 use volume::{FileFacts, Volume, VolumeError};
-use words36::{BLOCK_WORDS, Block, Moment};
+use words36::{BLOCK_WORDS, Block, FileName, Half, Moment, Ppn};
+
+/// FOO in SIXBIT.
+const FOO: u64 = 0o465757000000;
 
 /// BAR in SIXBIT.
 const BAR: u64 = 0o424162000000;
@@ -65,28 +72,8 @@ fn with_a_rib(rt: &impl Abort, alloc: Global) -> Result<MemDisk, NoMemory> {
     Ok(disk)
 }
 
-/// The volume on a disk has one file, FOO.TXT, with what V1's prime block says, so many words and data blocks, and
-/// these extensions; and so many blocks are in use.
-fn expect_file(
-    rt: &impl Abort,
-    alloc: Global,
-    disk: MemDisk,
-    (words, blocks): (u32, u32),
-    ribs: &[u32],
-    booked: u64,
-) {
-    let Ok(volume) = Volume::open(alloc, disk) else {
-        panic!(rt; "the disk is refused");
-    };
-    assert_eq!(rt; volume.map.table.booked(), booked);
-    let facts = FileFacts {
-        protection: 0o057,
-        mode: Mode::Ascii,
-        moment: Moment::new(4095, 0).expect(rt, "a moment"),
-        words,
-        blocks,
-    };
-    assert!(rt; volume.look(ppn_of(rt), &file_name(FOO)) == Ok(facts));
+/// The volume has one file, with so many data blocks and these extensions.
+fn expect_blocks(rt: &impl Abort, volume: &Volume<MemDisk>, blocks: u32, ribs: &[u32]) {
     let [directory] = volume.map.directories.as_slice() else {
         panic!(rt; "another number of directories");
     };
@@ -98,6 +85,46 @@ fn expect_file(
     };
     assert_eq!(rt; stored.version.blocks().len(), blocks as usize);
     assert!(rt; stored.version.ribs() == ribs);
+}
+
+/// FOO.TXT has what V1's prime block says, so many words and data blocks.
+fn expect_facts(rt: &impl Abort, volume: &Volume<MemDisk>, words: u32, blocks: u32)
+    requires { IsSound (memory_state volume.now.disk) (core_of volume.now.map) volume.now.failed }
+{
+    let facts = FileFacts {
+        protection: 0o057,
+        mode: Mode::Ascii,
+        moment: Moment::new(4095, 0).expect(rt, "a moment"),
+        words,
+        blocks,
+    };
+    let foo = FileName {
+        name: word(FOO),
+        ext: Half::from_bits(0o647064),
+    };
+    let ppn = Ppn::new(0o10, 0o20).expect(rt, "a PPN");
+    assert!(rt; volume.look(ppn, &foo) == Ok(facts));
+}
+
+/// So many blocks are in use.
+fn expect_in_use(rt: &impl Abort, volume: &Volume<MemDisk>, booked: u64) {
+    assert_eq!(rt; volume.map.table.booked(), booked);
+}
+
+/// The volume on a disk has one file, FOO.TXT, with what V1's prime block says, so many words and data blocks, and
+/// these extensions; and so many blocks are in use.
+fn expect_file(
+    rt: &impl Abort,
+    alloc: Global,
+    disk: MemDisk,
+    (words, blocks): (u32, u32),
+    ribs: &[u32],
+    booked: u64,
+) {
+    let volume = opened(rt, alloc, disk);
+    expect_in_use(rt, &volume, booked);
+    expect_facts(rt, &volume, words, blocks);
+    expect_blocks(rt, &volume, blocks, ribs);
 }
 
 #[test]
@@ -132,7 +159,7 @@ fn a_file_with_a_rib(rt: HostRuntime) -> Result<(), Fail> {
     expect_file(&rt, rt.alloc(), disk, (113 * 128, 113), &[21], 117);
     let mut disk = with_a_rib(&rt, rt.alloc())?;
     damage(&rt, &mut disk, 212);
-    assert_eq!(rt; booked(rt.alloc(), disk), Err(VolumeError::BadData(212)));
+    expect_booked(&rt, rt.alloc(), disk, Err(VolumeError::BadData(212)));
     Ok(())
 }
 
@@ -154,7 +181,7 @@ fn each_block_of_a_file_with_a_rib_is_reached(rt: HostRuntime) -> Result<(), Fai
         let mut table = beginning(&TABLE);
         table[place] = word(number);
         load(&rt, &mut disk, 14, &table);
-        assert_eq!(rt; booked(rt.alloc(), disk), Err(VolumeError::TableWrong(14)));
+        expect_booked(&rt, rt.alloc(), disk, Err(VolumeError::TableWrong(14)));
     }
     Ok(())
 }
@@ -170,10 +197,7 @@ fn a_block_of_two_files(rt: HostRuntime) -> Result<(), Fail> {
         let mut bar = prime(ATTRIBUTES, 2, 0o1000000 + u64::from(block));
         bar[1] = word(BAR);
         load(&rt, &mut disk, 24, &bar);
-        assert_eq!(rt;
-            booked(rt.alloc(), disk),
-            Err(VolumeError::BlockTwice(block))
-        );
+        expect_booked(&rt, rt.alloc(), disk, Err(VolumeError::BlockTwice(block)));
     }
     Ok(())
 }
@@ -195,8 +219,8 @@ fn each_allocation_for_a_rib_refused(rt: HostRuntime) {
     let Ok(disk) = with_a_rib(&rt, rt.alloc()) else {
         return;
     };
-    if let Err((error, disk)) = Volume::open(rt.alloc(), disk) {
-        assert!(rt; error == VolumeError::NoMemory);
+    if let Some((error, disk)) = refused(rt.alloc(), disk) {
+        expect_no_memory(&rt, error);
         expect_file(&rt, rt.alloc(), disk, (113 * 128, 113), &[21], 117);
     }
 }

@@ -1,10 +1,10 @@
 use Rattle.std.proofs.Common.{Option, IsSome, sym, ap, subst, ◌∙◌}
 use Rattle.volume.specs.Live.{pending_at}
 use Rattle.volume.specs.declared.pending.PendingVersion.{PendingVersion}
-use Rattle.trials.proofs.use_tests.a_reader_reads_on.Goals as goal
+use Rattle.trials.proofs.use_tests.write_beside.Goals as goal
 
-pub read-requires-clause-live : goal.read-requires-clause-live
-read-requires-clause-live g c =
+pub expect_version-requires-clause-live : goal.expect_version-requires-clause-live
+expect_version-requires-clause-live g c =
     let key = c.begin_beside-new.result.key in
     let apart = c.begin_beside-again.ensures.apart key c.discard_beside.ensures.other in
     let stays = c.discard.ensures.others key apart ∙ ap (λ l. pending_at l key) c.unpin.ensures.pending in
