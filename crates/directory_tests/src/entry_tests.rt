@@ -1,6 +1,7 @@
-use crate::edit_tests::is_put;
+use crate::edit_tests::{expect_blocks, expect_puts, remove};
 use changeset::ChangeSet;
 use directory::{Chain, DirectoryError, Entry, EntryFault, FileEntry, MasterEntry, chain_stands};
+use std::alloc::Global;
 use std::cmp::Ordering;
 use std::process::Abort;
 use std::test::Fail;
@@ -52,18 +53,38 @@ const DIRECTORY: [u64; 3] = [0o000010000020, 0o775000000000, 0o20];
 /// The entry of FOO.TXT, whose prime retrieval block is block 17.
 const FILE: [u64; 3] = [0o465757000000, 0o647064000000, 0o21];
 
+/// An entry is these words, and they are the entry.
+fn expect_words<E: Entry + PartialEq>(rt: &impl Abort, entry: E, words: [u64; 3]) {
+    assert!(rt; entry.words() == three(words));
+    match E::parse(three(words)) {
+        Ok(read) => assert!(rt; read == entry),
+        Err(_fault) => assert!(rt; false),
+    }
+}
+
+/// An entry is put into the first block of a chain as these words.
+fn expect_alone<E: Entry>(
+    rt: &impl Abort,
+    alloc: Global,
+    entry: E,
+    words: [u64; 3],
+) -> Result<(), DirectoryError> {
+    let mut chain = Chain::bare(alloc, 16)?;
+    let answer = insert(rt, &mut chain, entry);
+    drop(chain);
+    let set = answer?;
+    expect_puts(rt, &set, &[(16, block_of(words))]);
+    Ok(())
+}
+
 #[test]
 fn the_entry_of_a_directory(rt: HostRuntime) -> Result<(), Fail> {
     let ppn = Ppn::new(0o10, 0o20).expect(&rt, "a number");
     let entry = MasterEntry::new(ppn, 0o775, 16).expect(&rt, "an entry");
-    assert!(rt; entry.words() == three(DIRECTORY));
-    assert!(rt; MasterEntry::parse(three(DIRECTORY)) == Ok(entry));
+    expect_words(&rt, entry, DIRECTORY);
     assert!(rt; entry.key() == ppn);
     assert_eq!(rt; entry.target(), 16);
-    let mut chain = Chain::bare(rt.alloc(), 16)?;
-    let set = insert(&rt, &mut chain, entry)?;
-    assert!(rt; is_put(&set, 16, &block_of(DIRECTORY)));
-    assert_eq!(rt; set.puts().len(), 1);
+    expect_alone(&rt, rt.alloc(), entry, DIRECTORY)?;
     assert!(rt; MasterEntry::new(ppn, 0o1000, 16).is_none());
     Ok(())
 }
@@ -72,20 +93,24 @@ fn the_entry_of_a_directory(rt: HostRuntime) -> Result<(), Fail> {
 fn the_entry_of_a_file(rt: HostRuntime) -> Result<(), Fail> {
     let name = foo(&rt, 0o647064);
     let entry = FileEntry::new(name, 17).expect(&rt, "an entry");
-    assert!(rt; entry.words() == three(FILE));
-    assert!(rt; FileEntry::parse(three(FILE)) == Ok(entry));
+    expect_words(&rt, entry, FILE);
     assert!(rt; entry.key() == name);
     assert_eq!(rt; entry.target(), 17);
-    let mut chain = Chain::bare(rt.alloc(), 16)?;
-    let set = insert(&rt, &mut chain, entry)?;
-    assert!(rt; is_put(&set, 16, &block_of(FILE)));
-    assert_eq!(rt; set.puts().len(), 1);
+    expect_alone(&rt, rt.alloc(), entry, FILE)?;
     let none = FileName {
         name: Word::ZERO,
         ext: name.ext,
     };
     assert!(rt; FileEntry::new(none, 17).is_none());
     Ok(())
+}
+
+/// These words are no entry, by this fault.
+fn expect_fault<E: Entry>(rt: &impl Abort, words: [u64; 3], fault: EntryFault) {
+    match E::parse(three(words)) {
+        Ok(_entry) => assert!(rt; false),
+        Err(found) => assert!(rt; found == fault),
+    }
 }
 
 #[test]
@@ -96,10 +121,10 @@ fn words_of_no_directory(rt: HostRuntime) -> Result<(), Fail> {
         [0o000010000020, 0o775000000001, 0o20],
         [0o000010000020, 0o775400000000, 0o20],
     ] {
-        assert!(rt; MasterEntry::parse(three(words)) == Err(EntryFault::Malformed));
+        expect_fault::<MasterEntry>(&rt, words, EntryFault::Malformed);
     }
     let far = [0o000010000020, 0o775000000000, 0o40000000000];
-    assert!(rt; MasterEntry::parse(three(far)) == Err(EntryFault::Outside));
+    expect_fault::<MasterEntry>(&rt, far, EntryFault::Outside);
     Ok(())
 }
 
@@ -109,19 +134,23 @@ fn words_of_no_file(rt: HostRuntime) -> Result<(), Fail> {
         [0, 0o647064000000, 0o21],
         [0o465757000000, 0o647064000001, 0o21],
     ] {
-        assert!(rt; FileEntry::parse(three(words)) == Err(EntryFault::Malformed));
+        expect_fault::<FileEntry>(&rt, words, EntryFault::Malformed);
     }
     let far = [0o465757000000, 0o647064000000, 0o40000000000];
-    assert!(rt; FileEntry::parse(three(far)) == Err(EntryFault::Outside));
+    expect_fault::<FileEntry>(&rt, far, EntryFault::Outside);
     Ok(())
 }
 
 #[test]
 fn keys_in_order(rt: HostRuntime) -> Result<(), Fail> {
     let entry = FileEntry::new(foo(&rt, 5), 17).expect(&rt, "an entry");
-    assert!(rt; entry.cmp_key(&foo(&rt, 4)) == Ordering::Greater);
-    assert!(rt; entry.cmp_key(&foo(&rt, 5)) == Ordering::Equal);
-    assert!(rt; entry.cmp_key(&foo(&rt, 6)) == Ordering::Less);
+    for (ext, order) in [
+        (4, Ordering::Greater),
+        (5, Ordering::Equal),
+        (6, Ordering::Less),
+    ] {
+        assert!(rt; entry.cmp_key(&foo(&rt, ext)) == order);
+    }
     let ppn = Ppn::new(1, 2).expect(&rt, "a number");
     let other = Ppn::new(2, 1).expect(&rt, "a number");
     let directory = MasterEntry::new(ppn, 0, 16).expect(&rt, "an entry");
@@ -129,23 +158,36 @@ fn keys_in_order(rt: HostRuntime) -> Result<(), Fail> {
     Ok(())
 }
 
-#[test]
-fn a_chain_of_no_entries(rt: HostRuntime) -> Result<(), Fail> {
-    let mut chain: Chain<FileEntry> = Chain::bare(rt.alloc(), 16)?;
-    assert!(rt; chain.blocks() == [16].as_slice());
+/// A chain has no entries.
+fn expect_none(rt: &impl Abort, chain: &Chain<FileEntry>) {
+    expect_blocks(rt, chain, &[16]);
     assert!(rt; chain.entries().is_empty());
     assert_eq!(rt; chain.len(), 0);
-    chain_stands(&chain);
-    let name = foo(&rt, 0o647064);
-    let entry = FileEntry::new(name, 17).expect(&rt, "an entry");
-    insert(&rt, &mut chain, entry)?;
-    let mut set = ChangeSet::new();
-    match chain.find(&name) {
-        Some(_) => assert_eq!(rt; chain.remove(&name, &mut set), None),
-        None => panic!(rt; "the key is there"),
-    }
+    chain_stands(chain);
+}
+
+/// An entry goes into an empty chain and out of it.
+fn expect_in_and_out(
+    rt: &impl Abort,
+    chain: &mut Chain<FileEntry>,
+    entry: FileEntry,
+) -> Result<(), DirectoryError> {
+    insert(rt, chain, entry)?;
+    let (freed, set) = remove(rt, chain, &entry.key());
+    expect_puts(rt, &set, &[(16, [Word::ZERO; BLOCK_WORDS])]);
+    drop(set);
+    assert_eq!(rt; freed, None);
     assert!(rt; chain.entries().is_empty());
-    assert!(rt; is_put(&set, 16, &[Word::ZERO; BLOCK_WORDS]));
-    assert_eq!(rt; set.puts().len(), 1);
+    Ok(())
+}
+
+#[test]
+fn a_chain_of_no_entries(rt: HostRuntime) -> Result<(), Fail> {
+    let entry = FileEntry::new(foo(&rt, 0o647064), 17).expect(&rt, "an entry");
+    let mut chain: Chain<FileEntry> = Chain::bare(rt.alloc(), 16)?;
+    expect_none(&rt, &chain);
+    let done = expect_in_and_out(&rt, &mut chain, entry);
+    drop(chain);
+    done?;
     Ok(())
 }
