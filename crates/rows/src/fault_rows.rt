@@ -67,6 +67,15 @@ impl Disk for FailingDisk {
     }
 }
 
+/// A monitor over a disk, or why that is refused. What `Monitor::start` promises stays behind this function: the proofs
+/// of tests are short without it.
+fn start_over(alloc: Global, disk: FailingDisk) -> Result<Monitor<FailingDisk>, StartError> {
+    match Monitor::start(alloc, disk) {
+        Ok(monitor) => Ok(monitor),
+        Err((error, _disk)) => Err(error),
+    }
+}
+
 /// A monitor over a disk with FOO.TXT that fails after so many reads; none where the start meets that.
 fn started(
     rt: &impl Abort,
@@ -78,9 +87,9 @@ fn started(
         reads,
         failures: 0,
     };
-    match Monitor::start(alloc, disk) {
+    match start_over(alloc, disk) {
         Ok(monitor) => Ok(Some(monitor)),
-        Err((StartError::Device, _disk)) => Ok(None),
+        Err(StartError::Device) => Ok(None),
         Err(_refused) => panic!(rt; "the disk is refused"),
     }
 }
@@ -93,12 +102,27 @@ fn call(monitor: &mut Monitor<FailingDisk>, alloc: Global, call: Call) -> Reply 
     }
 }
 
-/// Logs job 1 in as [10,20], with the words of an OPEN at 200, those of FOO.TXT at `BLOCK`, and a list of two words.
-fn prepare(rt: &impl Abort, monitor: &mut Monitor<FailingDisk>, alloc: Global) {
+/// A call of job 1 is answered so.
+fn expect_call(
+    rt: &impl Abort,
+    monitor: &mut Monitor<FailingDisk>,
+    alloc: Global,
+    asked: Call,
+    wanted: Reply,
+) {
+    assert!(rt; call(monitor, alloc, asked) == wanted);
+}
+
+/// Logs job 1 in as [10,20].
+fn log_in(rt: &impl Abort, monitor: &mut Monitor<FailingDisk>, alloc: Global) {
     let Some(owner) = Ppn::new(0o10, 0o20) else {
         panic!(rt; "no such number");
     };
     assert!(rt; monitor.login(alloc, 1, owner, 0o2000) == Reply::Done);
+}
+
+/// Puts the words of an OPEN at 200, those of FOO.TXT at `BLOCK`, and a list of two words into the core of job 1.
+fn fill_core(rt: &impl Abort, monitor: &mut Monitor<FailingDisk>) {
     for (address, number) in [
         (0o200u32, 0o17u64),
         (0o201, 0o446353000000),
@@ -109,7 +133,45 @@ fn prepare(rt: &impl Abort, monitor: &mut Monitor<FailingDisk>, alloc: Global) {
         let word = Word::new(number).unwrap_or(Word::ZERO);
         assert!(rt; monitor.deposit(1, address, word) == Reply::Done);
     }
-    assert!(rt; call(monitor, alloc, Call::Open(3, 0o200)) == Reply::Done);
+}
+
+/// Logs job 1 in as [10,20], with what its calls need in its core, opens channel 3 and looks FOO.TXT up.
+fn prepare(rt: &impl Abort, monitor: &mut Monitor<FailingDisk>, alloc: Global) {
+    log_in(rt, monitor, alloc);
+    fill_core(rt, monitor);
+    expect_call(rt, monitor, alloc, Call::Open(3, 0o200), Reply::Done);
+    expect_call(rt, monitor, alloc, Call::Lookup(3, BLOCK), Reply::Done);
+}
+
+/// After the fault every call is answered Failed.
+fn expect_failed(rt: &impl Abort, monitor: &mut Monitor<FailingDisk>, alloc: Global) {
+    assert!(rt; monitor.examine(1, 0o1000) == Reply::Failed);
+    expect_call(rt, monitor, alloc, Call::In(3, LIST), Reply::Failed);
+}
+
+/// Whether an IN meets the fault, which is blamed then.
+fn is_met(rt: &impl Abort, monitor: &mut Monitor<FailingDisk>, alloc: Global) -> bool {
+    prepare(rt, monitor, alloc);
+    let reply = call(monitor, alloc, Call::In(3, LIST));
+    if reply == Reply::Done {
+        return false;
+    }
+    assert!(rt; reply == Reply::Device);
+    expect_failed(rt, monitor, alloc);
+    true
+}
+
+/// Lets a monitor go.
+fn let_go(_monitor: Monitor<FailingDisk>) {}
+
+/// Whether an IN meets the fault of a disk that fails after so many reads.
+fn is_met_after(rt: &impl Abort, alloc: Global, reads: u32) -> Result<bool, NoMemory> {
+    let Some(mut monitor) = started(rt, alloc, reads)? else {
+        return Ok(false);
+    };
+    let is_met = is_met(rt, &mut monitor, alloc);
+    let_go(monitor);
+    Ok(is_met)
 }
 
 /// The reads of a start, and that of an IN, fail in turn. A LOOKUP asks the disk for nothing. After the fault every
@@ -118,19 +180,10 @@ fn prepare(rt: &impl Abort, monitor: &mut Monitor<FailingDisk>, alloc: Global) {
 fn each_read_fails(rt: HostRuntime) -> Result<(), Fail> {
     let mut faults = 0u32;
     for reads in 0..16u32 {
-        let Some(mut monitor) = started(&rt, rt.alloc(), reads)? else {
-            continue;
-        };
-        prepare(&rt, &mut monitor, rt.alloc());
-        assert!(rt; call(&mut monitor, rt.alloc(), Call::Lookup(3, BLOCK)) == Reply::Done);
-        let reply = call(&mut monitor, rt.alloc(), Call::In(3, LIST));
-        if reply == Reply::Done {
-            continue;
+        if is_met_after(&rt, rt.alloc(), reads)? {
+            assert!(rt; faults == 0);
+            faults = 1;
         }
-        assert!(rt; reply == Reply::Device && faults == 0);
-        faults = 1;
-        assert!(rt; monitor.examine(1, 0o1000) == Reply::Failed);
-        assert!(rt; call(&mut monitor, rt.alloc(), Call::In(3, LIST)) == Reply::Failed);
     }
     assert!(rt; faults == 1);
     Ok(())

@@ -1,3 +1,7 @@
+ghost use Rattle.std.specs.Prelude.{IfOk};
+ghost use Rattle.volume.specs.LiveCores.{core_of};
+ghost use Rattle.volume.specs.Rest.{IsSound};
+
 use blockdisk::{Disk, Fault, NoMemory};
 use imagefile::{Durable, ImageDisk, MemFile};
 use std::alloc::{AllocError, Global};
@@ -54,10 +58,8 @@ fn put(rt: &impl Abort, image: &mut [u8], block: usize, words: &[u64]) {
     }
 }
 
-/// The bytes of an image with one file of two words.
-fn v1(rt: &impl Abort, alloc: Global) -> Result<Vec<u8>, AllocError> {
-    let mut bytes = vec![in alloc; 0; SIZE]?;
-    let image = bytes.as_mut_slice();
+/// Puts the blocks of an image with one file of two words into bytes that are zeros.
+fn put_image(rt: &impl Abort, image: &mut [u8]) {
     put(rt, image, 1, &HOME);
     put(rt, image, 2, &HOME);
     put(rt, image, 14, &[0o777777400000]);
@@ -65,7 +67,22 @@ fn v1(rt: &impl Abort, alloc: Global) -> Result<Vec<u8>, AllocError> {
     put(rt, image, 16, &DIRECTORY);
     put(rt, image, 17, &PRIME);
     put(rt, image, 18, &WORDS);
+}
+
+/// The bytes of an image with one file of two words.
+fn v1(rt: &impl Abort, alloc: Global) -> Result<Vec<u8>, AllocError> {
+    let mut bytes = vec![in alloc; 0; SIZE]?;
+    put_image(rt, bytes.as_mut_slice());
     Ok(bytes)
+}
+
+/// The disk of an image in memory, with room to record so many writes and syncs; none where there is no such image.
+fn disk_of(
+    alloc: Global,
+    bytes: &[u8],
+    calls: usize,
+) -> Result<Option<ImageDisk<MemFile>>, NoMemory> {
+    Ok(ImageDisk::new(MemFile::new(alloc, bytes, calls)?).ok())
 }
 
 /// The disk of an image in memory, with room to record so many writes and syncs.
@@ -75,10 +92,17 @@ fn image_disk(
     bytes: &[u8],
     calls: usize,
 ) -> Result<ImageDisk<MemFile>, NoMemory> {
-    match ImageDisk::new(MemFile::new(alloc, bytes, calls)?) {
-        Ok(disk) => Ok(disk),
-        Err(_refused) => panic!(rt; "no image"),
-    }
+    let Some(disk) = disk_of(alloc, bytes, calls)? else {
+        panic!(rt; "no image");
+    };
+    Ok(disk)
+}
+
+/// The bytes of a file are as many as those of an image, and are read into these.
+fn read_all(rt: &impl Abort, file: &mut MemFile, bytes: &mut [u8]) {
+    assert_eq!(rt; bytes.len(), SIZE);
+    assert_eq!(rt; file.len(), Ok(SIZE as u64));
+    assert_eq!(rt; file.read_at(0, bytes), Ok(()));
 }
 
 /// All bytes of the file behind a disk.
@@ -88,9 +112,8 @@ fn bytes_of(
     disk: ImageDisk<MemFile>,
 ) -> Result<Vec<u8>, AllocError> {
     let mut file = disk.finish();
-    assert_eq!(rt; file.len(), Ok(SIZE as u64));
     let mut bytes = vec![in alloc; 1; SIZE]?;
-    assert_eq!(rt; file.read_at(0, bytes.as_mut_slice()), Ok(()));
+    read_all(rt, &mut file, bytes.as_mut_slice());
     Ok(bytes)
 }
 
@@ -101,28 +124,115 @@ fn ppn(rt: &impl Abort, project: u32, programmer: u32) -> Ppn {
     }
 }
 
-/// With room to record it all an image is accepted, and its bytes stay.
-#[test]
-fn an_image_is_opened(rt: HostRuntime) -> Result<(), Fail> {
-    let image = v1(&rt, rt.alloc())?;
-    let disk = image_disk(&rt, rt.alloc(), &image, 9)?;
-    let Ok(volume) = Volume::open(rt.alloc(), disk) else {
-        panic!(rt; "the image is refused");
-    };
-    assert_eq!(rt; volume.blocks(), 64);
-    assert_eq!(rt; volume.room(), 45);
-    let owner = ppn(&rt, 0o10, 0o20);
-    assert!(rt; volume.directory(owner) == Ok(0o775));
+/// The volume of a disk, or why it is refused. Of what `Volume::open` promises this says what its callers need: their
+/// proofs are short without the rest.
+fn open<D: Disk + Drop>(alloc: Global, disk: D) -> Result<Volume<D>, (VolumeError, D)>
+    ensures sound { IfOk result (λ volume. IsSound (D.state volume.disk) (core_of volume.map) volume.failed) }
+{
+    Volume::open(alloc, disk)
+}
+
+/// The volume of a disk that has to be accepted.
+fn opened<D: Disk + Drop>(rt: &impl Abort, alloc: Global, disk: D) -> Volume<D>
+    ensures sound { IsSound (D.state result.disk) (core_of result.map) result.failed }
+{
+    match open(alloc, disk) {
+        Ok(volume) => volume,
+        Err(_refused) => panic!(rt; "the image is refused"),
+    }
+}
+
+/// The disk of a volume, which is let go.
+fn disk_behind<D: Disk + Drop>(volume: Volume<D>) -> D {
+    volume.disk
+}
+
+/// So many blocks are left.
+fn expect_room<D: Disk>(rt: &impl Abort, volume: &Volume<D>, wanted: i64)
+    requires sound { IsSound (D.state volume.now.disk) (core_of volume.now.map) volume.now.failed }
+{
+    assert_eq!(rt; volume.room(), wanted);
+}
+
+/// The directory [10,20] has this protection.
+fn expect_directory<D: Disk>(rt: &impl Abort, volume: &Volume<D>, protection: u16)
+    requires sound { IsSound (D.state volume.now.disk) (core_of volume.now.map) volume.now.failed }
+{
+    assert!(rt; volume.directory(ppn(rt, 0o10, 0o20)) == Ok(protection));
+}
+
+/// FOO.TXT of [10,20] has two words.
+fn expect_foo<D: Disk>(rt: &impl Abort, volume: &Volume<D>)
+    requires sound { IsSound (D.state volume.now.disk) (core_of volume.now.map) volume.now.failed }
+{
     let name = FileName {
         name: Word::from_bits(0o465757000000),
         ext: Half::from_bits(0o647064),
     };
-    let Ok(facts) = volume.look(owner, &name) else {
+    let Ok(facts) = volume.look(ppn(rt, 0o10, 0o20), &name) else {
         panic!(rt; "the file isn't there");
     };
     assert_eq!(rt; facts.words, 2);
-    let bytes = bytes_of(&rt, rt.alloc(), volume.disk)?;
-    assert!(rt; bytes == image);
+}
+
+/// The volume has 64 blocks, of which 45 are left, and in [10,20] FOO.TXT.
+fn expect_image<D: Disk>(rt: &impl Abort, volume: &Volume<D>)
+    requires sound { IsSound (D.state volume.now.disk) (core_of volume.now.map) volume.now.failed }
+{
+    assert_eq!(rt; volume.blocks(), 64);
+    expect_room(rt, volume, 45);
+    expect_directory(rt, volume, 0o775);
+    expect_foo(rt, volume);
+}
+
+/// The bytes of an image are these.
+fn expect_bytes(rt: &impl Abort, found: &[u8], wanted: &[u8]) {
+    assert!(rt; found == wanted);
+}
+
+/// An image is opened and looked at, after which its bytes are as they were.
+fn open_image(rt: &impl Abort, alloc: Global, image: &[u8]) -> Result<(), Fail> {
+    let disk = image_disk(rt, alloc, image, 9)?;
+    let volume = opened(rt, alloc, disk);
+    expect_image(rt, &volume);
+    let bytes = bytes_of(rt, alloc, disk_behind(volume))?;
+    expect_bytes(rt, bytes.as_slice(), image);
+    Ok(())
+}
+
+/// With room to record it all an image is accepted, and its bytes stay.
+#[test]
+fn an_image_is_opened(rt: HostRuntime) -> Result<(), Fail> {
+    let image = v1(&rt, rt.alloc())?;
+    let done = open_image(&rt, rt.alloc(), image.as_slice());
+    drop(image);
+    done
+}
+
+/// Why a disk is refused, and the disk that is handed back; nothing where it is accepted.
+fn refused<D: Disk + Drop>(alloc: Global, disk: D) -> Option<(VolumeError, D)> {
+    open(alloc, disk).err()
+}
+
+/// The disk that is handed back by an `open` that blames the device.
+fn blamed<D: Disk + Drop>(rt: &impl Abort, alloc: Global, disk: D) -> D {
+    let Some((error, disk)) = refused(alloc, disk) else {
+        panic!(rt; "a sync that fails is overlooked");
+    };
+    expect_blame(rt, error);
+    disk
+}
+
+/// A refusal is a fault of the device.
+fn expect_blame(rt: &impl Abort, error: VolumeError) {
+    assert!(rt; error == VolumeError::Device);
+}
+
+/// An image whose disk has no room to record anything is refused, after which its bytes are as they were.
+fn refuse_image(rt: &impl Abort, alloc: Global, image: &[u8]) -> Result<(), Fail> {
+    let disk = image_disk(rt, alloc, image, 0)?;
+    let bytes = bytes_of(rt, alloc, blamed(rt, alloc, disk))?;
+    expect_bytes(rt, bytes.as_slice(), image);
     Ok(())
 }
 
@@ -131,58 +241,92 @@ fn an_image_is_opened(rt: HostRuntime) -> Result<(), Fail> {
 #[test]
 fn a_record_that_is_full(rt: HostRuntime) -> Result<(), Fail> {
     let image = v1(&rt, rt.alloc())?;
-    let disk = image_disk(&rt, rt.alloc(), &image, 0)?;
-    let Err((error, disk)) = Volume::open(rt.alloc(), disk) else {
-        panic!(rt; "a sync that fails is overlooked");
-    };
-    assert!(rt; error == VolumeError::Device);
-    let bytes = bytes_of(&rt, rt.alloc(), disk)?;
-    assert!(rt; bytes == image);
-    Ok(())
+    let done = refuse_image(&rt, rt.alloc(), image.as_slice());
+    drop(image);
+    done
+}
+
+/// Opens the gate of an image whose log has the master directory, and damages that in its place.
+fn damage(rt: &impl Abort, image: &mut [u8]) {
+    put(rt, image, 3, &[OPEN; BLOCK_WORDS]);
+    put(rt, image, 4, &[0o545747000000, 1, 0o17]);
+    put(rt, image, 5, &MASTER);
+    put(rt, image, 15, &[1 << 63]);
+}
+
+/// Block 15 of a disk of 64 blocks is damaged.
+fn expect_damaged(rt: &impl Abort, disk: &mut ImageDisk<MemFile>) {
+    assert!(rt; disk.blocks() == 64);
+    assert!(rt; disk.read(15) == Err(Fault::Damaged));
+}
+
+/// The gate and the master directory are as they were.
+fn expect_recovered(rt: &impl Abort, found: &[u8], wanted: &[u8]) {
+    assert!(rt; found.len() == SIZE && wanted.len() == SIZE);
+    expect_bytes(rt, &found[3072..4096], &wanted[3072..4096]);
+    expect_bytes(rt, &found[15360..16384], &wanted[15360..16384]);
+}
+
+/// The bytes that are left of a damaged image once it was opened.
+fn recovered(rt: &impl Abort, alloc: Global, image: &[u8]) -> Result<Vec<u8>, Fail> {
+    let mut disk = image_disk(rt, alloc, image, 9)?;
+    expect_damaged(rt, &mut disk);
+    let volume = opened(rt, alloc, disk);
+    expect_room(rt, &volume, 45);
+    Ok(bytes_of(rt, alloc, disk_behind(volume))?)
 }
 
 /// A block whose bytes spell no words is written again from a good log, and the gate is closed.
 #[test]
 fn a_damaged_block_is_recovered(rt: HostRuntime) -> Result<(), Fail> {
     let whole = v1(&rt, rt.alloc())?;
-    let mut bytes = v1(&rt, rt.alloc())?;
-    let image = bytes.as_mut_slice();
-    put(&rt, image, 3, &[OPEN; BLOCK_WORDS]);
-    put(&rt, image, 4, &[0o545747000000, 1, 0o17]);
-    put(&rt, image, 5, &MASTER);
-    put(&rt, image, 15, &[1 << 63]);
-    let mut disk = image_disk(&rt, rt.alloc(), image, 9)?;
-    assert!(rt; disk.blocks() == 64);
-    assert!(rt; disk.read(15) == Err(Fault::Damaged));
-    let Ok(volume) = Volume::open(rt.alloc(), disk) else {
-        panic!(rt; "the image isn't recovered");
-    };
-    assert_eq!(rt; volume.room(), 45);
-    let bytes = bytes_of(&rt, rt.alloc(), volume.disk)?;
-    let (found, wanted) = (bytes.as_slice(), whole.as_slice());
-    assert!(rt; found.len() == SIZE && wanted.len() == SIZE);
-    assert!(rt; found[3072..4096] == wanted[3072..4096]);
-    assert!(rt; found[15360..16384] == wanted[15360..16384]);
+    let mut image = v1(&rt, rt.alloc())?;
+    damage(&rt, image.as_mut_slice());
+    let bytes = recovered(&rt, rt.alloc(), image.as_slice())?;
+    expect_recovered(&rt, bytes.as_slice(), whole.as_slice());
     Ok(())
 }
+
+/// Makes a disk a volume in which there is no directory.
+fn init<D: Disk>(rt: &impl Abort, disk: &mut D) {
+    assert!(rt; Volume::init(disk) == Ok(()));
+}
+
+/// Makes the directory [10,20].
+fn make_directory<D: Disk>(rt: &impl Abort, alloc: Global, volume: &mut Volume<D>)
+    requires sound { IsSound (D.state volume.old.disk) (core_of volume.old.map) volume.old.failed }
+{
+    assert!(rt; volume.make_dir(alloc, ppn(rt, 0o10, 0o20), 0o755) == Ok(()));
+}
+
+/// The bytes of a volume in which the directory [10,20] was made.
+fn made(rt: &impl Abort, alloc: Global) -> Result<Vec<u8>, Fail> {
+    let empty = vec![in alloc; 0; SIZE]?;
+    let mut disk = image_disk(rt, alloc, empty.as_slice(), 64)?;
+    init(rt, &mut disk);
+    let mut volume = opened(rt, alloc, disk);
+    make_directory(rt, alloc, &mut volume);
+    Ok(bytes_of(rt, alloc, disk_behind(volume))?)
+}
+
+/// The directory is there, and so many blocks are left.
+fn expect_made<D: Disk>(rt: &impl Abort, volume: &Volume<D>)
+    requires sound { IsSound (D.state volume.now.disk) (core_of volume.now.map) volume.now.failed }
+{
+    expect_room(rt, volume, 47);
+    expect_directory(rt, volume, 0o755);
+}
+
+/// Lets a volume go.
+fn let_go<D: Disk + Drop>(_volume: Volume<D>) {}
 
 /// A directory that was made is there when the bytes are opened anew.
 #[test]
 fn a_directory_is_found_again(rt: HostRuntime) -> Result<(), Fail> {
-    let empty = vec![in rt.alloc(); 0; SIZE]?;
-    let mut disk = image_disk(&rt, rt.alloc(), &empty, 64)?;
-    assert!(rt; Volume::init(&mut disk) == Ok(()));
-    let Ok(mut volume) = Volume::open(rt.alloc(), disk) else {
-        panic!(rt; "a fresh volume is refused");
-    };
-    let owner = ppn(&rt, 0o10, 0o20);
-    assert!(rt; volume.make_dir(rt.alloc(), owner, 0o755) == Ok(()));
-    let bytes = bytes_of(&rt, rt.alloc(), volume.disk)?;
-    let disk = image_disk(&rt, rt.alloc(), &bytes, 9)?;
-    let Ok(volume) = Volume::open(rt.alloc(), disk) else {
-        panic!(rt; "the image is refused");
-    };
-    assert_eq!(rt; volume.room(), 47);
-    assert!(rt; volume.directory(owner) == Ok(0o755));
+    let bytes = made(&rt, rt.alloc())?;
+    let disk = image_disk(&rt, rt.alloc(), bytes.as_slice(), 9)?;
+    let volume = opened(&rt, rt.alloc(), disk);
+    expect_made(&rt, &volume);
+    let_go(volume);
     Ok(())
 }

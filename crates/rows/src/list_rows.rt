@@ -1,7 +1,7 @@
 use crate::monitor_rows::{
-    BLOCK, LIST, TXT, WORDS, login, open, put_word, put_words, ready, word_at,
+    BLOCK, LIST, TXT, WORDS, expect_room, expect_word, fill, let_go, login, open, put_word, ready,
 };
-use blockdisk::{Disk, MemDisk};
+use blockdisk::{MemDisk, NoMemory};
 use meaning::Reply;
 use monitor::{Call, Event, Monitor};
 use std::alloc::{AllocError, Global};
@@ -168,14 +168,51 @@ fn expect_replies(rt: &impl Abort, replies: &[Reply], order: Order) {
     }
 }
 
+/// A job has read its own ten words of both versions.
+fn expect_own_words(rt: &impl Abort, monitor: &Monitor<MemDisk>, job: u32) {
+    for place in 0..10u32 {
+        expect_word(rt, monitor, (job, FIRST + place), written(job, 1, place));
+        expect_word(rt, monitor, (job, SECOND + place), written(job, 2, place));
+    }
+}
+
 /// Each job has read its own ten words of both versions.
 fn expect_read(rt: &impl Abort, monitor: &Monitor<MemDisk>) {
     for job in 1..5u32 {
-        for place in 0..10u32 {
-            assert!(rt; word_at(monitor, job, FIRST + place) == Some(written(job, 1, place)));
-            assert!(rt; word_at(monitor, job, SECOND + place) == Some(written(job, 2, place)));
-        }
+        expect_own_words(rt, monitor, job);
     }
+}
+
+/// What these events are answered with. What `serve` promises stays behind this function.
+fn serve(
+    monitor: &mut Monitor<MemDisk>,
+    alloc: Global,
+    events: &[Event],
+) -> Result<Vec<Reply>, NoMemory> {
+    monitor.serve(alloc, events)
+}
+
+/// The 200 events in this order are served, and answered as they should be.
+fn serve_in_order(
+    rt: &impl Abort,
+    monitor: &mut Monitor<MemDisk>,
+    alloc: Global,
+    order: Order,
+) -> Result<(), Fail> {
+    let events = events(rt, alloc, order)?;
+    let replies = serve(monitor, alloc, events.as_slice())?;
+    expect_replies(rt, replies.as_slice(), order);
+    Ok(())
+}
+
+/// A monitor serves the four jobs in this order, each of which then has its words.
+fn serve_four_jobs(rt: &impl Abort, alloc: Global, order: Order) -> Result<(), Fail> {
+    let mut monitor = ready(rt, alloc, 64)?;
+    let served = serve_in_order(rt, &mut monitor, alloc, order);
+    expect_read(rt, &monitor);
+    expect_room(rt, &monitor, 47 - 8);
+    let_go(monitor);
+    served
 }
 
 /// However the events of four jobs follow each other, each has the same replies and reads the words of its own file,
@@ -183,13 +220,21 @@ fn expect_read(rt: &impl Abort, monitor: &Monitor<MemDisk>) {
 #[test]
 fn four_jobs_read_their_own_files(rt: HostRuntime) -> Result<(), Fail> {
     for order in [Order::Apart, Order::ByOne, Order::ByFive] {
-        let mut monitor = ready(&rt, rt.alloc(), 64)?;
-        let events = events(&rt, rt.alloc(), order)?;
-        let replies = monitor.serve(rt.alloc(), events.as_slice())?;
-        expect_replies(&rt, replies.as_slice(), order);
-        expect_read(&rt, &monitor);
-        assert_eq!(rt; monitor.room(), 47 - 8);
+        serve_four_jobs(&rt, rt.alloc(), order)?;
     }
+    Ok(())
+}
+
+/// These events are answered with these replies.
+fn expect_served(
+    rt: &impl Abort,
+    monitor: &mut Monitor<MemDisk>,
+    alloc: Global,
+    events: &[Event],
+    wanted: &[Reply],
+) -> Result<(), NoMemory> {
+    let replies = serve(monitor, alloc, events)?;
+    assert!(rt; replies.as_slice() == wanted);
     Ok(())
 }
 
@@ -197,56 +242,68 @@ fn four_jobs_read_their_own_files(rt: HostRuntime) -> Result<(), Fail> {
 /// many words from 1000 on.
 fn prepare(rt: &impl Abort, monitor: &mut Monitor<MemDisk>, job: u32, count: u64) {
     let left = 0o1000000 - count % 8;
-    assert!(rt;
-        put_words(
-            monitor,
-            job,
-            BLOCK,
-            [0o465757000000, u64::from(TXT) << 18, 0, 0]
-        )
-    );
-    assert!(rt; put_words(monitor, job, LIST, [left * 0o1000000 + 0o777, 0, 0, 0]));
+    let name = [0o465757000000, u64::from(TXT) << 18, 0, 0];
+    fill(rt, monitor, job, BLOCK, name);
+    fill(rt, monitor, job, LIST, [left * 0o1000000 + 0o777, 0, 0, 0]);
 }
 
-/// Two jobs with channel 3 open, and FOO.TXT of the words 1 and 2.
-fn two_jobs(rt: &impl Abort, alloc: Global) -> Result<Monitor<MemDisk>, Fail> {
-    let mut monitor = ready(rt, alloc, 64)?;
-    login(rt, &mut monitor, alloc, 2);
-    open(rt, &mut monitor, alloc, 2, 3);
-    prepare(rt, &mut monitor, 1, 2);
-    assert!(rt; put_word(&mut monitor, 1, WORDS, 1));
-    assert!(rt; put_word(&mut monitor, 1, WORDS + 1, 2));
+/// Puts a word of a file into the core of job 1.
+fn put_first(rt: &impl Abort, monitor: &mut Monitor<MemDisk>, address: u32, number: u64) {
+    assert!(rt; put_word(monitor, 1, address, number));
+}
+
+/// Job 1 writes FOO.TXT of the words 1 and 2.
+fn write_foo(
+    rt: &impl Abort,
+    monitor: &mut Monitor<MemDisk>,
+    alloc: Global,
+) -> Result<(), NoMemory> {
+    prepare(rt, monitor, 1, 2);
+    put_first(rt, monitor, WORDS, 1);
+    put_first(rt, monitor, WORDS + 1, 2);
     let list = [
         call(rt, 1, Call::Enter(3, BLOCK)),
         call(rt, 1, Call::Out(3, LIST)),
         call(rt, 1, Call::Close(3, 0)),
     ];
-    let replies = monitor.serve(alloc, &list)?;
-    assert!(rt; replies.as_slice() == [Reply::Done, Reply::Done, Reply::Done].as_slice());
-    prepare(rt, &mut monitor, 1, 1);
-    prepare(rt, &mut monitor, 2, 4);
-    assert!(rt; put_word(&mut monitor, 1, WORDS, 7));
-    Ok(monitor)
+    expect_served(rt, monitor, alloc, &list, &[Reply::Done; 3])
 }
 
-/// The example that the README walks through: job 2 reads on in the file that it looked up, which job 1 supersedes.
-#[test]
-fn a_reader_across_a_supersede(rt: HostRuntime) -> Result<(), Fail> {
-    let mut monitor = two_jobs(&rt, rt.alloc())?;
-    let list = [
-        call(&rt, 2, Call::Lookup(3, BLOCK)),
-        call(&rt, 1, Call::Enter(3, BLOCK)),
-        call(&rt, 1, Call::Out(3, LIST)),
-        call(&rt, 1, Call::Close(3, 0)),
-        call(&rt, 2, Call::In(3, LIST)),
+/// Two jobs with channel 3 open, and FOO.TXT of the words 1 and 2.
+fn prepare_two_jobs(
+    rt: &impl Abort,
+    monitor: &mut Monitor<MemDisk>,
+    alloc: Global,
+) -> Result<(), NoMemory> {
+    login(rt, monitor, alloc, 2);
+    open(rt, monitor, alloc, 2, 3);
+    write_foo(rt, monitor, alloc)?;
+    prepare(rt, monitor, 1, 1);
+    prepare(rt, monitor, 2, 4);
+    put_first(rt, monitor, WORDS, 7);
+    Ok(())
+}
+
+/// The events of the example.
+fn example(rt: &impl Abort) -> [Event; 11] {
+    [
+        call(rt, 2, Call::Lookup(3, BLOCK)),
+        call(rt, 1, Call::Enter(3, BLOCK)),
+        call(rt, 1, Call::Out(3, LIST)),
+        call(rt, 1, Call::Close(3, 0)),
+        call(rt, 2, Call::In(3, LIST)),
         Event::Examine(2, WORDS),
-        call(&rt, 2, Call::In(3, LIST)),
+        call(rt, 2, Call::In(3, LIST)),
         Event::Deposit(2, BLOCK + 3, word(0)),
-        call(&rt, 2, Call::Lookup(3, BLOCK)),
-        call(&rt, 2, Call::In(3, LIST)),
+        call(rt, 2, Call::Lookup(3, BLOCK)),
+        call(rt, 2, Call::In(3, LIST)),
         Event::Examine(2, WORDS),
-    ];
-    let wanted = [
+    ]
+}
+
+/// What they are answered with.
+fn example_replies() -> [Reply; 11] {
+    [
         Reply::Done,
         Reply::Done,
         Reply::Done,
@@ -258,9 +315,27 @@ fn a_reader_across_a_supersede(rt: HostRuntime) -> Result<(), Fail> {
         Reply::Done,
         Reply::Done,
         Reply::Value(word(7)),
-    ];
-    let replies = monitor.serve(rt.alloc(), &list)?;
-    assert!(rt; replies.as_slice() == wanted.as_slice());
-    assert!(rt; word_at(&monitor, 2, WORDS + 1) == Some(2));
+    ]
+}
+
+/// The example is played: job 2 has the second word of the first version then.
+fn play_example(
+    rt: &impl Abort,
+    monitor: &mut Monitor<MemDisk>,
+    alloc: Global,
+) -> Result<(), NoMemory> {
+    prepare_two_jobs(rt, monitor, alloc)?;
+    expect_served(rt, monitor, alloc, &example(rt), &example_replies())?;
+    expect_word(rt, monitor, (2, WORDS + 1), 2);
+    Ok(())
+}
+
+/// The example that the README walks through: job 2 reads on in the file that it looked up, which job 1 supersedes.
+#[test]
+fn a_reader_across_a_supersede(rt: HostRuntime) -> Result<(), Fail> {
+    let mut monitor = ready(&rt, rt.alloc(), 64)?;
+    let played = play_example(&rt, &mut monitor, rt.alloc());
+    let_go(monitor);
+    played?;
     Ok(())
 }
