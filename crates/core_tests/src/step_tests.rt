@@ -9,7 +9,7 @@ ghost use Rattle.meaning.specs.Opening.{header_opened};
 ghost use Rattle.meaning.specs.Closing.{header_closed};
 ghost use Rattle.usercore.specs.ByteSizes.{bits_of};
 
-use crate::word_tests::{deposit, holds, word};
+use crate::word_tests::{expect_words, place, word};
 use meaning::IoStatus;
 use std::alloc::Global;
 use std::process::Abort;
@@ -87,21 +87,32 @@ fn close_sides(core: &mut Core, output: u32, output_closes: bool, input: u32, in
     core.ring_close(output, input);
 }
 
+/// An IN and an OUT by the rings of an OPEN, and a CLOSE of the output side.
+fn expect_rings(rt: &impl Abort, core: &mut Core) {
+    open_sides(core, 0o1000, 0o1010, 0);
+    let status = IoStatus::of_mode(0);
+    let read = in_by_ring(core, 0o1010, ByteSize::Ascii, status, &[word(2)]);
+    assert_eq!(rt; read, Ok(()));
+    let put = out_by_ring(core, 0o1000, ByteSize::Ascii);
+    assert!(rt; put.is_ok());
+    close_sides(core, 0o1000, true, 0o1010, false);
+    expect_words(rt, core, 0o1000, &[0o400000000547, 0o000700000550, 0]);
+    expect_words(rt, core, 0o1010, &[0o141, 0o000700000142, 5]);
+}
+
 /// The clauses of the calls above follow from those of `usercore` alone.
 #[test]
 fn calls_are_those_of_the_file_machine(rt: HostRuntime) -> Result<(), Fail> {
     let mut core = Core::new(rt.alloc(), 0o2000)?;
-    open_sides(&mut core, 0o1000, 0o1010, 0);
-    let status = IoStatus::of_mode(0);
-    let read = in_by_ring(&mut core, 0o1010, ByteSize::Ascii, status, &[word(2)]);
+    expect_rings(&rt, &mut core);
+    place(&rt, &mut core, 0o400, &[0o777776000577, 0]);
+    let read = in_by_list(&mut core, 0o400, &[word(8), word(9)]);
+    let put = out_by_list(rt.alloc(), &core, 0o400);
+    drop(core);
+    let words = put?;
+    let are_same = words.as_slice() == [word(8), word(9)].as_slice();
+    drop(words);
     assert_eq!(rt; read, Ok(()));
-    assert!(rt; out_by_ring(&mut core, 0o1000, ByteSize::Ascii).is_ok());
-    close_sides(&mut core, 0o1000, true, 0o1010, false);
-    assert!(rt; holds(&core, 0o1000, &[0o400000000547, 0o000700000550, 0]));
-    assert!(rt; holds(&core, 0o1010, &[0o141, 0o000700000142, 5]));
-    deposit(&mut core, 0o400, &[0o777776000577, 0])?;
-    assert_eq!(rt; in_by_list(&mut core, 0o400, &[word(8), word(9)]), Ok(()));
-    let words = out_by_list(rt.alloc(), &core, 0o400)?;
-    assert!(rt; words.as_slice() == [word(8), word(9)].as_slice());
+    assert!(rt; are_same);
     Ok(())
 }

@@ -30,39 +30,82 @@ pub(crate) fn holds(core: &Core, first: usize, numbers: &[u64]) -> bool {
         .all(|(word, &number)| word.bits() == number)
 }
 
+/// Puts words from an address on, where there is room for them.
+pub(crate) fn place(rt: &impl Abort, core: &mut Core, first: u32, numbers: &[u64]) {
+    assert_eq!(rt; deposit(core, first, numbers), Ok(()));
+}
+
+/// A core has these words from an address on.
+pub(crate) fn expect_words(rt: &impl Abort, core: &Core, first: usize, numbers: &[u64]) {
+    assert!(rt; holds(core, first, numbers));
+}
+
+/// The word at an address, or the refusal to give it.
+fn expect_word(rt: &impl Abort, core: &Core, address: u32, wanted: Result<Word, CoreError>) {
+    assert_eq!(rt; core.word(address), wanted);
+}
+
+/// What setting a word answers.
+fn expect_set(
+    rt: &impl Abort,
+    core: &mut Core,
+    address: u32,
+    number: u64,
+    wanted: Result<(), CoreError>,
+) {
+    assert_eq!(rt; core.set_word(address, word(number)), wanted);
+}
+
+/// A core as it is made, and with the word for rings set anew.
+fn expect_new(rt: &impl Abort, core: &mut Core) {
+    assert_eq!(rt; core.length(), 1024);
+    expect_words(rt, core, 0o120, &[0, 0o140, 0]);
+    expect_set(rt, core, 0o121, 0o777777001234, Ok(()));
+    core.reset_rings();
+    expect_word(rt, core, 0o121, Ok(word(0o777777000140)));
+}
+
 #[test]
 fn a_new_core(rt: HostRuntime) -> Result<(), Fail> {
     let mut core = Core::new(rt.alloc(), 0o2000)?;
-    assert_eq!(rt; core.length(), 1024);
-    assert!(rt; holds(&core, 0o120, &[0, 0o140, 0]));
-    assert_eq!(rt; core.set_word(0o121, word(0o777777001234)), Ok(()));
-    core.reset_rings();
-    assert_eq!(rt; core.word(0o121)?, word(0o777777000140));
+    expect_new(&rt, &mut core);
     Ok(())
+}
+
+/// The words at the ends of a core of 512 words are set, and the one behind them is refused.
+fn expect_ends(rt: &impl Abort, core: &mut Core) {
+    for (address, number, wanted) in [
+        (0, 1, Ok(())),
+        (0o777, 2, Ok(())),
+        (0o1000, 3, Err(CoreError::AddressCheck)),
+    ] {
+        expect_set(rt, core, address, number, wanted);
+    }
+    expect_word(rt, core, 0, Ok(word(1)));
+    expect_word(rt, core, 0o777, Ok(word(2)));
+    expect_word(rt, core, 0o1000, Err(CoreError::AddressCheck));
 }
 
 #[test]
 fn words_at_the_ends_of_a_core(rt: HostRuntime) -> Result<(), Fail> {
     let mut core = Core::new(rt.alloc(), 0o1000)?;
-    assert_eq!(rt; core.set_word(0, word(1)), Ok(()));
-    assert_eq!(rt; core.set_word(0o777, word(2)), Ok(()));
-    let refused = Err(CoreError::AddressCheck);
-    assert_eq!(rt; core.set_word(0o1000, word(3)), refused);
-    assert_eq!(rt; core.word(0), Ok(word(1)));
-    assert_eq!(rt; core.word(0o777), Ok(word(2)));
-    assert_eq!(rt; core.word(0o1000), Err(CoreError::AddressCheck));
+    expect_ends(&rt, &mut core);
     Ok(())
 }
 
-#[test]
-fn words_in_a_row(rt: HostRuntime) -> Result<(), Fail> {
-    let mut core = Core::new(rt.alloc(), 0o1000)?;
-    assert_eq!(rt; core.put(0o775, &[word(5), word(6), word(7)]), Ok(()));
-    assert!(rt; holds(&core, 0o774, &[0, 5, 6, 7]));
-    let refused = Err(CoreError::AddressCheck);
-    assert_eq!(rt; core.put(0o776, &[word(1), word(1), word(1)]), refused);
-    assert!(rt; holds(&core, 0o774, &[0, 5, 6, 7]));
-    assert_eq!(rt; core.put(u32::MAX, &[word(1)]), refused);
+/// What putting words answers.
+fn expect_put(
+    rt: &impl Abort,
+    core: &mut Core,
+    address: u32,
+    words: &[Word],
+    wanted: Result<(), CoreError>,
+) {
+    assert_eq!(rt; core.put(address, words), wanted);
+}
+
+/// These areas are in no core of 512 words.
+fn expect_no_areas(rt: &impl Abort, core: &Core) {
     for area in [
         Area {
             first: 0o777776,
@@ -80,24 +123,47 @@ fn words_in_a_row(rt: HostRuntime) -> Result<(), Fail> {
         let answer = core.words(area).err();
         assert_eq!(rt; answer, Some(CoreError::AddressCheck));
     }
+}
+
+/// Words are put at the end of a core of 512 words, and not past it.
+fn expect_rows(rt: &impl Abort, core: &mut Core) {
+    let refused = Err(CoreError::AddressCheck);
+    expect_put(rt, core, 0o775, &[word(5), word(6), word(7)], Ok(()));
+    expect_words(rt, core, 0o774, &[0, 5, 6, 7]);
+    expect_put(rt, core, 0o776, &[word(1), word(1), word(1)], refused);
+    expect_words(rt, core, 0o774, &[0, 5, 6, 7]);
+    expect_put(rt, core, u32::MAX, &[word(1)], refused);
+}
+
+#[test]
+fn words_in_a_row(rt: HostRuntime) -> Result<(), Fail> {
+    let mut core = Core::new(rt.alloc(), 0o1000)?;
+    expect_rows(&rt, &mut core);
+    expect_no_areas(&rt, &core);
     Ok(())
 }
 
 #[test]
 fn sizes_of_cores(rt: HostRuntime) {
-    for words in [0, 0o777, 0o400001, u32::MAX] {
-        let answer = Core::new(rt.alloc(), words).err();
-        assert_eq!(rt; answer, Some(CoreError::AddressCheck));
+    for (words, wanted) in [
+        (0, Some(CoreError::AddressCheck)),
+        (0o777, Some(CoreError::AddressCheck)),
+        (0o400001, Some(CoreError::AddressCheck)),
+        (u32::MAX, Some(CoreError::AddressCheck)),
+        (0o1000, None),
+        (0o400000, None),
+    ] {
+        let failed = Core::new(rt.alloc(), words).err();
+        assert_eq!(rt; failed, wanted);
     }
-    assert!(rt; Core::new(rt.alloc(), 0o1000).is_ok());
-    assert!(rt; Core::new(rt.alloc(), 0o400000).is_ok());
 }
 
 /// Run with each allocation refused in turn: the answer is `NoMemory`, and the next core is made.
 #[test]
 fn each_allocation_refused(rt: HostRuntime) {
-    if let Err(error) = Core::new(rt.alloc(), 0o1000) {
+    if let Some(error) = Core::new(rt.alloc(), 0o1000).err() {
         assert_eq!(rt; error, CoreError::NoMemory);
-        assert!(rt; Core::new(rt.alloc(), 0o1000).is_ok());
+        let failed = Core::new(rt.alloc(), 0o1000).err();
+        assert_eq!(rt; failed, None);
     }
 }
