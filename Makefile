@@ -15,7 +15,7 @@ help:
 
 # The program that rt ci leaves is the one that it built from nothing.
 test:
-	rt ci
+	tools/timed rt ci
 	sh examples/run crates/filser/out/filser
 	tools/test-wrong-bodies
 
