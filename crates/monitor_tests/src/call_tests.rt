@@ -1,4 +1,4 @@
-use crate::job_tests::{expect_room, log_in, start, word};
+use crate::job_tests::{expect_room, let_go, log_in, start, word};
 use blockdisk::MemDisk;
 use meaning::Reply;
 use monitor::{Call, Monitor};
@@ -133,6 +133,7 @@ fn words_are_put_and_asked_for(rt: HostRuntime) -> Result<(), Fail> {
     expect_word(&rt, &monitor, (1, 0), Reply::NoJob);
     log_in(&rt, &mut monitor, rt.alloc(), 1, (0o10, 0o20));
     put_and_ask(&rt, &mut monitor);
+    let_go(monitor);
     Ok(())
 }
 
@@ -163,6 +164,7 @@ fn channels_are_opened(rt: HostRuntime) -> Result<(), Fail> {
     expect_not_opened(&rt, &mut monitor, rt.alloc());
     log_in_to_open(&rt, &mut monitor, rt.alloc(), 1, (0o10, 0o20));
     open_channels(&rt, &mut monitor, rt.alloc());
+    let_go(monitor);
     Ok(())
 }
 
@@ -195,6 +197,7 @@ fn other_devices_and_modes_are_stopped(rt: HostRuntime) -> Result<(), Fail> {
     let mut monitor = start(&rt, rt.alloc(), 0o775000000000)?;
     log_in(&rt, &mut monitor, rt.alloc(), 1, (0o10, 0o20));
     open_others(&rt, &mut monitor, rt.alloc());
+    let_go(monitor);
     Ok(())
 }
 
@@ -258,6 +261,7 @@ fn a_new_file_is_entered(rt: HostRuntime) -> Result<(), Fail> {
     enter_bar(&rt, &mut monitor, rt.alloc());
     enter_bar_twice(&rt, &mut monitor, rt.alloc());
     enter_bar_again(&rt, &mut monitor, rt.alloc());
+    let_go(monitor);
     Ok(())
 }
 
@@ -279,6 +283,7 @@ fn a_file_is_superseded(rt: HostRuntime) -> Result<(), Fail> {
     expect_room(&rt, &monitor, 44);
     log_in(&rt, &mut monitor, rt.alloc(), 1, (0o10, 0o20));
     expect_room(&rt, &monitor, 45);
+    let_go(monitor);
     Ok(())
 }
 
@@ -320,5 +325,6 @@ fn an_enter_is_refused(rt: HostRuntime) -> Result<(), Fail> {
     refuse_enters(&rt, &mut monitor, rt.alloc());
     expect_number(&rt, &monitor, (2, 0o301), 0o647064000001);
     expect_room(&rt, &monitor, 45);
+    let_go(monitor);
     Ok(())
 }

@@ -1,4 +1,4 @@
-use crate::job_tests::{expect_room, image, room, start, started, word};
+use crate::job_tests::{expect_room, image, let_go, room, start, started, word};
 use blockdisk::{MemDisk, NoMemory};
 use meaning::Reply;
 use monitor::{Call, Event, Monitor, start_after_crash};
@@ -105,6 +105,7 @@ fn a_file_is_written_by_a_list(rt: HostRuntime) -> Result<(), Fail> {
     write_bar(&rt, &mut monitor, rt.alloc());
     expect_room(&rt, &monitor, 43);
     expect_served(&rt, &mut monitor, rt.alloc(), &[], &[]);
+    let_go(monitor);
     Ok(())
 }
 
@@ -144,13 +145,16 @@ fn a_failed_device_ends_a_list(rt: HostRuntime) -> Result<(), Fail> {
         &[put(0, 1)],
         &[Reply::Failed],
     );
+    let_go(monitor);
     Ok(())
 }
 
 /// How many blocks are left of what a crash left of a disk, once that is started; none where it is refused.
 fn room_after_crash(alloc: Global, stopped: &MemDisk, left: MemDisk) -> Option<i64> {
     let monitor = start_after_crash(alloc, stopped, left).ok()?;
-    Some(room(&monitor))
+    let room = room(&monitor);
+    let_go(monitor);
+    Some(room)
 }
 
 /// The same, of an image whose crash left all that was written.
