@@ -305,6 +305,12 @@ fn files_are_listed_by_name_and_then_extension(rt: HostRuntime) -> Result<(), Fa
     Ok(())
 }
 
+/// How many entries the list of a chain has, if there is memory for it.
+fn count_listed<E: Entry>(alloc: Global, chain: &Chain<E>) -> Option<usize> {
+    let list = chain.list_sorted(alloc).ok()?;
+    Some(list.len())
+}
+
 /// A file is inserted into an empty chain, or there is no memory and the chain stays as it was.
 fn expect_one_or_none(rt: &impl Abort, alloc: Global, chain: &mut Chain<FileEntry>) {
     let failed = insert(rt, chain, file(rt, name(1, 0), 100)).err();
@@ -313,9 +319,7 @@ fn expect_one_or_none(rt: &impl Abort, alloc: Global, chain: &mut Chain<FileEntr
         assert_eq!(rt; error, DirectoryError::NoMemory);
     }
     expect_blocks(rt, chain, &[20]);
-    if let Ok(list) = chain.list_sorted(alloc) {
-        let count = list.len();
-        drop(list);
+    if let Some(count) = count_listed(alloc, chain) {
         assert_eq!(rt; count, chain.len());
     }
 }

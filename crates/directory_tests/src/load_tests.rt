@@ -172,33 +172,35 @@ fn chains_of_each_length(rt: HostRuntime) -> Result<(), Fail> {
     Ok(())
 }
 
-/// The master directory has one entry, of `[10,20]`.
-fn expect_one_directory(rt: &impl Abort, chain: &Chain<MasterEntry>) {
-    assert!(rt; chain.blocks() == [15].as_slice());
+/// The only entry of a chain in this block.
+fn only_entry<E: Entry>(rt: &impl Abort, chain: &Chain<E>, block: u32) -> E {
+    assert!(rt; chain.blocks() == [block].as_slice());
     let entries = chain.entries();
     assert!(rt; entries.len() == 1);
-    assert_eq!(rt; entries[0].ppn.word(), word(0o000010000020));
-    assert_eq!(rt; entries[0].protection, 0o775);
-    assert_eq!(rt; entries[0].first, 16);
+    entries[0]
 }
 
-/// The directory has one entry, of FOO.TXT.
-fn expect_one_file(rt: &impl Abort, chain: &Chain<FileEntry>) {
-    assert!(rt; chain.blocks() == [16].as_slice());
-    let entries = chain.entries();
-    assert!(rt; entries.len() == 1);
-    assert_eq!(rt; entries[0].name.name, word(0o465757000000));
-    assert_eq!(rt; entries[0].name.ext.bits(), 0o647064);
-    assert_eq!(rt; entries[0].prime, 17);
+/// The entry of the directory `[10,20]`.
+fn expect_directory(rt: &impl Abort, entry: &MasterEntry) {
+    assert_eq!(rt; entry.ppn.word(), word(0o000010000020));
+    assert_eq!(rt; entry.protection, 0o775);
+    assert_eq!(rt; entry.first, 16);
+}
+
+/// The entry of FOO.TXT.
+fn expect_foo(rt: &impl Abort, entry: &FileEntry) {
+    assert_eq!(rt; entry.name.name, word(0o465757000000));
+    assert_eq!(rt; entry.name.ext.bits(), 0o647064);
+    assert_eq!(rt; entry.prime, 17);
 }
 
 /// Reads the master directory of a small disk, and its directory.
 fn expect_two(rt: &impl Abort, alloc: Global, disk: &mut MemDisk) -> Result<(), DirectoryError> {
     let master: Chain<MasterEntry> = read(rt, alloc, disk, 15)?;
-    expect_one_directory(rt, &master);
+    expect_directory(rt, &only_entry(rt, &master, 15));
     drop(master);
     let directory: Chain<FileEntry> = read(rt, alloc, disk, 16)?;
-    expect_one_file(rt, &directory);
+    expect_foo(rt, &only_entry(rt, &directory, 16));
     Ok(())
 }
 
