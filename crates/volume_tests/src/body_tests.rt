@@ -1,17 +1,17 @@
-ghost use Rattle.blockdisk.specs.Memory.{memory_state};
 ghost use Rattle.volume.specs.LiveCores.{core_of};
 ghost use Rattle.volume.specs.Rest.{IsSound};
 
 use crate::open_tests::{
-    DIRECTORY, HOME, MASTER, beginning, damage, expect_booked, expect_no_memory, expect_reads,
-    load, opened, prime, put, refused, v1, word,
+    DIRECTORY, HOME, MASTER, beginning, damage, expect_booked, expect_in_use, expect_no_memory,
+    expect_numbers, expect_reads, load, only_version, opened, prime, put, refused, replaced, v1,
+    word,
 };
-use blockdisk::{MemDisk, NoMemory};
+use blockdisk::{Disk, MemDisk, NoMemory};
 use retrieval::Mode;
 use std::alloc::Global;
 use std::process::Abort;
 use std::test::Fail;
-use volume::{FileFacts, Volume, VolumeError};
+use volume::{FileFacts, LiveVersion, Volume, VolumeError};
 use words36::{BLOCK_WORDS, Block, FileName, Half, Moment, Ppn};
 
 /// FOO in SIXBIT.
@@ -72,24 +72,15 @@ fn with_a_rib(rt: &impl Abort, alloc: Global) -> Result<MemDisk, NoMemory> {
     Ok(disk)
 }
 
-/// The volume has one file, with so many data blocks and these extensions.
-fn expect_blocks(rt: &impl Abort, volume: &Volume<MemDisk>, blocks: u32, ribs: &[u32]) {
-    let [directory] = volume.map.directories.as_slice() else {
-        panic!(rt; "another number of directories");
-    };
-    let [key] = directory.keys.as_slice() else {
-        panic!(rt; "another number of files");
-    };
-    let Some(stored) = volume.map.versions.get(*key) else {
-        panic!(rt; "no version");
-    };
+/// A version has so many data blocks and these extensions.
+fn expect_blocks(rt: &impl Abort, stored: &LiveVersion, blocks: u32, ribs: &[u32]) {
     assert_eq!(rt; stored.version.blocks().len(), blocks as usize);
-    assert!(rt; stored.version.ribs() == ribs);
+    expect_numbers(rt, stored.version.ribs(), ribs);
 }
 
 /// FOO.TXT has what V1's prime block says, so many words and data blocks.
-fn expect_facts(rt: &impl Abort, volume: &Volume<MemDisk>, words: u32, blocks: u32)
-    requires { IsSound (memory_state volume.now.disk) (core_of volume.now.map) volume.now.failed }
+fn expect_facts<D: Disk>(rt: &impl Abort, volume: &Volume<D>, words: u32, blocks: u32)
+    requires { IsSound (D.state volume.now.disk) (core_of volume.now.map) volume.now.failed }
 {
     let facts = FileFacts {
         protection: 0o057,
@@ -106,11 +97,6 @@ fn expect_facts(rt: &impl Abort, volume: &Volume<MemDisk>, words: u32, blocks: u
     assert!(rt; volume.look(ppn, &foo) == Ok(facts));
 }
 
-/// So many blocks are in use.
-fn expect_in_use(rt: &impl Abort, volume: &Volume<MemDisk>, booked: u64) {
-    assert_eq!(rt; volume.map.table.booked(), booked);
-}
-
 /// The volume on a disk has one file, FOO.TXT, with what V1's prime block says, so many words and data blocks, and
 /// these extensions; and so many blocks are in use.
 fn expect_file(
@@ -124,7 +110,7 @@ fn expect_file(
     let volume = opened(rt, alloc, disk);
     expect_in_use(rt, &volume, booked);
     expect_facts(rt, &volume, words, blocks);
-    expect_blocks(rt, &volume, blocks, ribs);
+    expect_blocks(rt, only_version(rt, &volume.map), blocks, ribs);
 }
 
 #[test]
@@ -178,9 +164,12 @@ fn each_block_of_a_file_with_a_rib_is_reached(rt: HostRuntime) -> Result<(), Fai
         (5, 0o777777777774),
     ] {
         let mut disk = with_a_rib(&rt, rt.alloc())?;
-        let mut table = beginning(&TABLE);
-        table[place] = word(number);
-        load(&rt, &mut disk, 14, &table);
+        load(
+            &rt,
+            &mut disk,
+            14,
+            &replaced(&rt, &beginning(&TABLE), place, number),
+        );
         expect_booked(&rt, rt.alloc(), disk, Err(VolumeError::TableWrong(14)));
     }
     Ok(())
@@ -225,13 +214,32 @@ fn each_allocation_for_a_rib_refused(rt: HostRuntime) {
     }
 }
 
+/// An error has this text.
+fn expect_text(rt: &impl Abort, alloc: Global, error: VolumeError, text: &str) -> Result<(), Fail> {
+    let printed = error.to_string(alloc)?;
+    assert_eq!(rt; printed.as_str(), text);
+    Ok(())
+}
+
 #[test]
 fn errors_have_texts(rt: HostRuntime) -> Result<(), Fail> {
-    let bad = VolumeError::BadRetrieval(17).to_string(rt.alloc())?;
-    assert_eq!(rt; bad.as_str(), "bad retrieval block 17");
-    let twice = VolumeError::BlockTwice(18).to_string(rt.alloc())?;
-    assert_eq!(rt; twice.as_str(), "block 18 reached twice");
-    let data = VolumeError::BadData(18).to_string(rt.alloc())?;
-    assert_eq!(rt; data.as_str(), "bad data block 18");
+    expect_text(
+        &rt,
+        rt.alloc(),
+        VolumeError::BadRetrieval(17),
+        "bad retrieval block 17",
+    )?;
+    expect_text(
+        &rt,
+        rt.alloc(),
+        VolumeError::BlockTwice(18),
+        "block 18 reached twice",
+    )?;
+    expect_text(
+        &rt,
+        rt.alloc(),
+        VolumeError::BadData(18),
+        "bad data block 18",
+    )?;
     Ok(())
 }

@@ -1,22 +1,21 @@
 use crate::open_tests::{
-    DIRECTORY, HOME, MASTER, booked, damage, expect_booked, load, prime, put, refused, v1,
-    v1_to_recover, word,
+    DIRECTORY, HOME, MASTER, booked, damage, expect_booked, load, prime, put, refused, replaced,
+    v1, v1_to_recover,
 };
 use blockdisk::{Disk, Fault, MemDisk, NoMemory};
 use std::alloc::Global;
 use std::process::Abort;
 use std::test::Fail;
 use volume::VolumeError;
-use words36::BLOCK_WORDS;
+use words36::Block;
 
-/// Gives a block that is good another word at this place.
-fn set_word(rt: &impl Abort, disk: &mut MemDisk, n: u32, place: usize, number: u64) {
-    assert!(rt; n < disk.blocks() && place < BLOCK_WORDS);
-    let Ok(mut block) = disk.read(n) else {
+/// The words of a block that is good.
+fn block_of<D: Disk>(rt: &impl Abort, disk: &mut D, n: u32) -> Block {
+    assert!(rt; n < disk.blocks());
+    let Ok(block) = disk.read(n) else {
         panic!(rt; "a block of V1 is damaged");
     };
-    block[place] = word(number);
-    load(rt, disk, n, &block);
+    block
 }
 
 /// V1 with another word at this place of a block.
@@ -28,7 +27,8 @@ fn with_word(
     number: u64,
 ) -> Result<MemDisk, NoMemory> {
     let mut disk = v1(rt, alloc, 1)?;
-    set_word(rt, &mut disk, n, place, number);
+    let block = block_of(rt, &mut disk, n);
+    load(rt, &mut disk, n, &replaced(rt, &block, place, number));
     Ok(disk)
 }
 
@@ -96,7 +96,7 @@ fn bad_logs(rt: HostRuntime) -> Result<(), Fail> {
 }
 
 /// A block is damaged.
-fn expect_damaged(rt: &impl Abort, disk: &mut MemDisk, n: u32) {
+fn expect_damaged<D: Disk>(rt: &impl Abort, disk: &mut D, n: u32) {
     assert!(rt; n < disk.blocks());
     assert!(rt; disk.read(n) == Err(Fault::Damaged));
 }

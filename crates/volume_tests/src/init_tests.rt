@@ -1,18 +1,17 @@
 use crate::open_tests::{
-    FailingDisk, HOME, SIZE, beginning, expect_block, expect_made, failing, filled, init,
-    left_of_reads, load, opened, v1,
+    FailingDisk, HOME, SIZE, beginning, expect_block, expect_in_use, expect_made, expect_numbers,
+    failing, filled, init, left_of_reads, load, opened, v1,
 };
 use blockdisk::{MemDisk, NoMemory};
 use std::alloc::Global;
 use std::process::Abort;
 use std::test::Fail;
-use volume::{Volume, VolumeError};
+use volume::{LiveMap, VolumeError};
 
-/// The master directory has this one block, and nothing else is in use.
-fn expect_bare(rt: &impl Abort, volume: &Volume<MemDisk>, master: u32) {
-    assert!(rt; volume.map.master.blocks() == [master].as_slice());
-    assert!(rt; volume.map.directories.is_empty());
-    assert_eq!(rt; volume.map.table.booked(), 1);
+/// The master directory has this one block, and there is no other directory.
+fn expect_bare(rt: &impl Abort, map: &LiveMap, master: u32) {
+    expect_numbers(rt, map.master.blocks(), &[master]);
+    assert!(rt; map.directories.is_empty());
 }
 
 /// The volume on a disk is opened: its master directory has this one block, and nothing else is in use.
@@ -20,7 +19,8 @@ fn expect_empty(rt: &impl Abort, alloc: Global, disk: MemDisk, master: u32) {
     let mut disk = disk;
     load(rt, &mut disk, 0, &filled(0)); // the record is empty then
     let volume = opened(rt, alloc, disk);
-    expect_bare(rt, &volume, master);
+    expect_bare(rt, &volume.map, master);
+    expect_in_use(rt, &volume, 1);
 }
 
 /// Gives these blocks this number in each word.
@@ -95,7 +95,7 @@ fn making_stops_at_each_fault(rt: HostRuntime) -> Result<(), Fail> {
 
 /// A disk is not made a volume for this reason, and has failed so often then.
 fn expect_unmade(rt: &impl Abort, disk: &mut FailingDisk, error: VolumeError, failures: u64) {
-    assert_eq!(rt; Volume::init(disk), Err(error));
+    assert_eq!(rt; init(disk), Err(error));
     assert_eq!(rt; disk.failures, failures);
 }
 

@@ -4,9 +4,10 @@ ghost use Rattle.volume.specs.LiveCores.{core_of};
 ghost use Rattle.volume.specs.Rest.{IsSound};
 
 use crate::open_tests::{
-    SIZE, beginning, expect_block, expect_booked, expect_made, load, opened, word,
+    SIZE, beginning, disk_of, expect_answer, expect_block, expect_booked, expect_made,
+    expect_protection, expect_room, load, make_dir, opened, word,
 };
-use blockdisk::{MemDisk, NoMemory};
+use blockdisk::{Disk, MemDisk, NoMemory};
 use meaning::ErrorCode;
 use std::alloc::{AllocError, Global};
 use std::process::Abort;
@@ -53,47 +54,13 @@ fn fresh(rt: &impl Abort, alloc: Global, calls: u16) -> Result<Volume<MemDisk>, 
     Ok(opened(rt, alloc, disk))
 }
 
-/// So much room is left.
-fn expect_room(rt: &impl Abort, volume: &Volume<MemDisk>, room: i64)
-    requires { IsSound (memory_state volume.now.disk) (core_of volume.now.map) volume.now.failed }
-{
-    assert_eq!(rt; volume.room(), room);
-}
-
-/// Makes the directory [1,n] with protection 775. What else `make_dir` promises stays behind this function.
-fn make(
-    rt: &impl Abort,
-    alloc: Global,
-    volume: &mut Volume<MemDisk>,
-    n: u8,
-) -> Result<(), CallError>
-    requires { IsSound (memory_state volume.old.disk) (core_of volume.old.map) volume.old.failed }
-    ensures { IsSound (memory_state volume.new.disk) (core_of volume.new.map) volume.new.failed }
-{
-    volume.make_dir(alloc, ppn_of(rt, n), 0o775)
-}
-
-/// The making of the directory [1,n] is answered so.
-fn expect_answer(
-    rt: &impl Abort,
-    alloc: Global,
-    volume: &mut Volume<MemDisk>,
-    n: u8,
-    wanted: Result<(), CallError>,
-)
-    requires { IsSound (memory_state volume.old.disk) (core_of volume.old.map) volume.old.failed }
-    ensures { IsSound (memory_state volume.new.disk) (core_of volume.new.map) volume.new.failed }
-{
-    assert!(rt; make(rt, alloc, volume, n) == wanted);
-}
-
 /// Makes the directory [1,n], which leaves a block less.
-fn make_one(rt: &impl Abort, alloc: Global, volume: &mut Volume<MemDisk>, n: u8)
-    requires { IsSound (memory_state volume.old.disk) (core_of volume.old.map) volume.old.failed }
-    ensures { IsSound (memory_state volume.new.disk) (core_of volume.new.map) volume.new.failed }
+fn make_one<D: Disk>(rt: &impl Abort, alloc: Global, volume: &mut Volume<D>, n: u8)
+    requires { IsSound (D.state volume.old.disk) (core_of volume.old.map) volume.old.failed }
+    ensures { IsSound (D.state volume.new.disk) (core_of volume.new.map) volume.new.failed }
 {
     let before = volume.room();
-    expect_answer(rt, alloc, volume, n, Ok(()));
+    expect_answer(rt, alloc, volume, ppn_of(rt, n), Ok(()));
     assert!(rt; before.checked_sub(1) == Some(volume.room()));
 }
 
@@ -135,7 +102,7 @@ fn make_43(rt: &impl Abort, alloc: Global, volume: &mut Volume<MemDisk>)
     expect_room(rt, volume, 48);
     make_each(rt, alloc, volume, 1, 43);
     expect_room(rt, volume, 6);
-    expect_answer(rt, alloc, volume, 43, Ok(()));
+    expect_answer(rt, alloc, volume, ppn_of(rt, 43), Ok(()));
     expect_room(rt, volume, 4);
 }
 
@@ -155,11 +122,6 @@ fn expect_each(rt: &impl Abort, disk: &mut MemDisk, first: u32, end: u32, block:
     for n in first..end {
         expect_block(rt, disk, n, block);
     }
-}
-
-/// The disk of a volume, which is given up.
-fn disk_of(volume: Volume<MemDisk>) -> MemDisk {
-    volume.disk
 }
 
 /// The first block of the master directory has room for 42 directories, which take the blocks from 16 on.
@@ -183,21 +145,21 @@ fn make_all(rt: &impl Abort, alloc: Global, volume: &mut Volume<MemDisk>)
     ensures { IsSound (memory_state volume.new.disk) (core_of volume.new.map) volume.new.failed }
 {
     make_each(rt, alloc, volume, 1, 43);
-    expect_answer(rt, alloc, volume, 43, Ok(()));
+    expect_answer(rt, alloc, volume, ppn_of(rt, 43), Ok(()));
     make_each(rt, alloc, volume, 44, 48);
     expect_room(rt, volume, 0);
     expect_answer(
         rt,
         alloc,
         volume,
-        48,
+        ppn_of(rt, 48),
         Err(CallError::Refused(ErrorCode::NoRoom)),
     );
     expect_answer(
         rt,
         alloc,
         volume,
-        1,
+        ppn_of(rt, 1),
         Err(CallError::Refused(ErrorCode::NameExists)),
     );
     expect_room(rt, volume, 0);
@@ -241,7 +203,7 @@ fn a_volume_is_full(rt: HostRuntime) -> Result<(), Fail> {
 }
 
 /// The volume has failed, or hasn't.
-fn expect_failed(rt: &impl Abort, volume: &Volume<MemDisk>, is_failed: bool) {
+fn expect_failed<D>(rt: &impl Abort, volume: &Volume<D>, is_failed: bool) {
     assert!(rt; volume.failed == is_failed);
 }
 
@@ -262,25 +224,11 @@ fn cut_off(
     };
     let mut volume = fresh(rt, alloc, record)?;
     make_each(rt, alloc, &mut volume, 1, n);
-    expect_answer(rt, alloc, &mut volume, n, wanted);
+    expect_answer(rt, alloc, &mut volume, ppn_of(rt, n), wanted);
     expect_failed(rt, &volume, !is_done);
     let mut disk = disk_of(volume);
     load(rt, &mut disk, 0, &beginning(&[])); // the record is empty then
     Ok(disk)
-}
-
-/// So much room is left, and the directory [1,n] has this protection.
-fn expect_directory(
-    rt: &impl Abort,
-    volume: &Volume<MemDisk>,
-    n: u8,
-    room: i64,
-    protection: Result<u16, CallError>,
-)
-    requires { IsSound (memory_state volume.now.disk) (core_of volume.now.map) volume.now.failed }
-{
-    expect_room(rt, volume, room);
-    assert!(rt; volume.directory(ppn_of(rt, n)) == protection);
 }
 
 /// The `make_dir` of the directory [1,n] behind so many others is cut off before each of its writes and syncs, and then
@@ -300,7 +248,8 @@ fn expect_cuts(
             (before, Err(CallError::Refused(ErrorCode::NoDirectory)))
         };
         let volume = opened(rt, alloc, disk);
-        expect_directory(rt, &volume, n, room, protection);
+        expect_room(rt, &volume, room);
+        expect_protection(rt, &volume, ppn_of(rt, n), protection);
     }
     Ok(())
 }
@@ -324,9 +273,9 @@ fn each_write_or_sync_of_a_directory_may_fail(rt: HostRuntime) -> Result<(), Fai
 fn make_again(rt: &impl Abort, alloc: Global, volume: &mut Volume<MemDisk>)
     requires { IsSound (memory_state volume.old.disk) (core_of volume.old.map) volume.old.failed }
 {
-    if make(rt, alloc, volume, 1) == Err(CallError::NoMemory) {
+    if make_dir(alloc, volume, ppn_of(rt, 1)) == Err(CallError::NoMemory) {
         expect_room(rt, volume, 48);
-        expect_answer(rt, alloc, volume, 1, Ok(()));
+        expect_answer(rt, alloc, volume, ppn_of(rt, 1), Ok(()));
     }
     expect_room(rt, volume, 47);
 }

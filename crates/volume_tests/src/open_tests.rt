@@ -1,14 +1,14 @@
 ghost use Rattle.std.specs.Prelude.{IfOk};
-ghost use Rattle.blockdisk.specs.Memory.{memory_state};
 ghost use Rattle.volume.specs.LiveCores.{core_of};
 ghost use Rattle.volume.specs.Rest.{IsSound};
 
+use alloctab::Table;
 use blockdisk::{Disk, Fault, MemDisk, NoMemory};
 use std::alloc::Global;
 use std::process::Abort;
 use std::test::Fail;
-use volume::{Volume, VolumeError};
-use words36::{BLOCK_WORDS, Block, Word};
+use volume::{CallError, LiveDirectory, LiveMap, LiveVersion, Volume, VolumeError};
+use words36::{BLOCK_WORDS, Block, Ppn, Word};
 
 /// How many blocks vector V1 of the formats has. Its table is block 14, its free space begins at 15.
 pub(crate) const SIZE: u32 = 64;
@@ -36,6 +36,14 @@ pub(crate) fn beginning(words: &[u64]) -> Block {
         *place = word(number);
     }
     block
+}
+
+/// A block with another word at this place.
+pub(crate) fn replaced(rt: &impl Abort, block: &Block, place: usize, number: u64) -> Block {
+    assert!(rt; place < BLOCK_WORDS);
+    let mut changed = *block;
+    changed[place] = word(number);
+    changed
 }
 
 /// A block whose words are all this number.
@@ -105,16 +113,16 @@ pub(crate) fn v1_to_recover(
     Ok(disk)
 }
 
-/// Opens the volume on a disk in memory. What else `open` promises stays behind this function.
-pub(crate) fn open(alloc: Global, disk: MemDisk) -> Result<Volume<MemDisk>, (VolumeError, MemDisk)>
-    ensures { IfOk result (λ volume. IsSound (memory_state volume.disk) (core_of volume.map) volume.failed) }
+/// Opens the volume on a disk. What else `open` promises stays behind this function.
+pub(crate) fn open<D: Disk + Drop>(alloc: Global, disk: D) -> Result<Volume<D>, (VolumeError, D)>
+    ensures { IfOk result (λ volume. IsSound (D.state volume.disk) (core_of volume.map) volume.failed) }
 {
     Volume::open(alloc, disk)
 }
 
 /// Opens the volume on a disk that has to be accepted.
-pub(crate) fn opened(rt: &impl Abort, alloc: Global, disk: MemDisk) -> Volume<MemDisk>
-    ensures { IsSound (memory_state result.disk) (core_of result.map) result.failed }
+pub(crate) fn opened<D: Disk + Drop>(rt: &impl Abort, alloc: Global, disk: D) -> Volume<D>
+    ensures { IsSound (D.state result.disk) (core_of result.map) result.failed }
 {
     let Ok(volume) = open(alloc, disk) else {
         panic!(rt; "the disk is refused");
@@ -123,12 +131,17 @@ pub(crate) fn opened(rt: &impl Abort, alloc: Global, disk: MemDisk) -> Volume<Me
 }
 
 /// Why the volume on a disk isn't opened, with the disk handed back; nothing where it is opened.
-pub(crate) fn refused(alloc: Global, disk: MemDisk) -> Option<(VolumeError, MemDisk)> {
+pub(crate) fn refused<D: Disk + Drop>(alloc: Global, disk: D) -> Option<(VolumeError, D)> {
     open(alloc, disk).err()
 }
 
+/// The disk of a volume, which is given up.
+pub(crate) fn disk_of<D>(volume: Volume<D>) -> D {
+    volume.disk
+}
+
 /// What the volume on a disk has booked, or why it isn't opened.
-pub(crate) fn booked(alloc: Global, disk: MemDisk) -> Result<u64, VolumeError> {
+pub(crate) fn booked<D: Disk + Drop>(alloc: Global, disk: D) -> Result<u64, VolumeError> {
     match open(alloc, disk) {
         Ok(volume) => Ok(volume.map.table.booked()),
         Err((error, _disk)) => Err(error),
@@ -136,64 +149,135 @@ pub(crate) fn booked(alloc: Global, disk: MemDisk) -> Result<u64, VolumeError> {
 }
 
 /// The volume on a disk has so much booked, or isn't opened for this reason.
-pub(crate) fn expect_booked(
+pub(crate) fn expect_booked<D: Disk + Drop>(
     rt: &impl Abort,
     alloc: Global,
-    disk: MemDisk,
+    disk: D,
     wanted: Result<u64, VolumeError>,
 ) {
     let found = booked(alloc, disk);
     assert!(rt; found == wanted, "{found:?}");
 }
 
-/// What V1 has in its one directory: its one file, as its prime block says.
-fn expect_file_of_v1(rt: &impl Abort, volume: &Volume<MemDisk>, key: usize) {
-    let Some(stored) = volume.map.versions.get(key) else {
+/// So many blocks are in use.
+pub(crate) fn expect_in_use<D>(rt: &impl Abort, volume: &Volume<D>, booked: u64) {
+    assert_eq!(rt; volume.map.table.booked(), booked);
+}
+
+/// So much room is left.
+pub(crate) fn expect_room<D: Disk>(rt: &impl Abort, volume: &Volume<D>, room: i64)
+    requires { IsSound (D.state volume.now.disk) (core_of volume.now.map) volume.now.failed }
+{
+    assert_eq!(rt; volume.room(), room);
+}
+
+/// A directory has this protection, or there is none for this reason.
+pub(crate) fn expect_protection<D: Disk>(
+    rt: &impl Abort,
+    volume: &Volume<D>,
+    ppn: Ppn,
+    wanted: Result<u16, CallError>,
+)
+    requires { IsSound (D.state volume.now.disk) (core_of volume.now.map) volume.now.failed }
+{
+    assert!(rt; volume.directory(ppn) == wanted);
+}
+
+/// Makes a directory with protection 775. What else `make_dir` promises stays behind this function.
+pub(crate) fn make_dir<D: Disk>(
+    alloc: Global,
+    volume: &mut Volume<D>,
+    ppn: Ppn,
+) -> Result<(), CallError>
+    requires { IsSound (D.state volume.old.disk) (core_of volume.old.map) volume.old.failed }
+    ensures { IsSound (D.state volume.new.disk) (core_of volume.new.map) volume.new.failed }
+{
+    volume.make_dir(alloc, ppn, 0o775)
+}
+
+/// The making of a directory is answered so.
+pub(crate) fn expect_answer<D: Disk>(
+    rt: &impl Abort,
+    alloc: Global,
+    volume: &mut Volume<D>,
+    ppn: Ppn,
+    wanted: Result<(), CallError>,
+)
+    requires { IsSound (D.state volume.old.disk) (core_of volume.old.map) volume.old.failed }
+    ensures { IsSound (D.state volume.new.disk) (core_of volume.new.map) volume.new.failed }
+{
+    assert!(rt; make_dir(alloc, volume, ppn) == wanted);
+}
+
+/// These are the numbers that are wanted.
+pub(crate) fn expect_numbers(rt: &impl Abort, found: &[u32], wanted: &[u32]) {
+    assert!(rt; found == wanted);
+}
+
+/// The only directory of a volume.
+fn only_directory<'a>(rt: &impl Abort, map: &'a LiveMap) -> &'a LiveDirectory {
+    let [directory] = map.directories.as_slice() else {
+        panic!(rt; "another number of directories");
+    };
+    directory
+}
+
+/// The version of the only file of a volume, in its only directory.
+pub(crate) fn only_version<'a>(rt: &impl Abort, map: &'a LiveMap) -> &'a LiveVersion {
+    let [key] = only_directory(rt, map).keys.as_slice() else {
+        panic!(rt; "another number of files");
+    };
+    let Some(stored) = map.versions.get(*key) else {
         panic!(rt; "no version");
     };
+    stored
+}
+
+/// The file of V1, as its prime block says.
+fn expect_file_of_v1(rt: &impl Abort, stored: &LiveVersion) {
     assert_eq!(rt; stored.at, 17);
     assert!(rt; stored.is_current && stored.readers == 0);
     assert_eq!(rt; stored.version.length(), 2);
-    assert!(rt; stored.version.blocks() == [18].as_slice());
+    expect_numbers(rt, stored.version.blocks(), &[18]);
     assert_eq!(rt; stored.prime.protection, 0o057);
 }
 
+/// V1's table has four blocks booked, and room for 45 more.
+fn expect_table_of_v1(rt: &impl Abort, table: &Table) {
+    assert_eq!(rt; table.booked(), 4);
+    assert!(rt; table.can_book(45) && !table.can_book(46));
+}
+
 /// What V1 has in core: four blocks, one directory, and one file.
-fn expect_v1(rt: &impl Abort, volume: &Volume<MemDisk>) {
+fn expect_v1(rt: &impl Abort, map: &LiveMap) {
+    expect_table_of_v1(rt, &map.table);
+    expect_numbers(rt, map.master.blocks(), &[15]);
+    expect_numbers(rt, only_directory(rt, map).chain.blocks(), &[16]);
+    expect_file_of_v1(rt, only_version(rt, map));
+}
+
+/// The volume has not failed.
+fn expect_serving<D>(rt: &impl Abort, volume: &Volume<D>) {
     assert!(rt; !volume.failed);
-    assert_eq!(rt; volume.map.table.booked(), 4);
-    assert!(rt; volume.map.table.can_book(45) && !volume.map.table.can_book(46));
-    assert!(rt; volume.map.master.blocks() == [15].as_slice());
-    let [directory] = volume.map.directories.as_slice() else {
-        panic!(rt; "another number of directories");
-    };
-    assert!(rt; directory.chain.blocks() == [16].as_slice());
-    let [key] = directory.keys.as_slice() else {
-        panic!(rt; "another number of files");
-    };
-    expect_file_of_v1(rt, volume, *key);
 }
 
 #[test]
 fn v1_is_accepted(rt: HostRuntime) -> Result<(), Fail> {
     let disk = v1(&rt, rt.alloc(), 1)?;
     let volume = opened(&rt, rt.alloc(), disk);
-    expect_v1(&rt, &volume);
+    expect_serving(&rt, &volume);
+    expect_v1(&rt, &volume.map);
     Ok(())
-}
-
-/// The volume has four blocks booked, and this block stands at this number.
-fn expect_four_and(rt: &impl Abort, volume: &mut Volume<MemDisk>, n: u32, block: &Block) {
-    assert_eq!(rt; volume.map.table.booked(), 4);
-    expect_block(rt, &mut volume.disk, n, block);
 }
 
 #[test]
 fn a_volume_is_recovered(rt: HostRuntime) -> Result<(), Fail> {
     let disk = v1_to_recover(&rt, rt.alloc(), 5)?;
-    let mut volume = opened(&rt, rt.alloc(), disk);
-    expect_four_and(&rt, &mut volume, 15, &beginning(&MASTER));
-    expect_block(&rt, &mut volume.disk, 3, &beginning(&[]));
+    let volume = opened(&rt, rt.alloc(), disk);
+    expect_in_use(&rt, &volume, 4);
+    let mut disk = disk_of(volume);
+    expect_block(&rt, &mut disk, 15, &beginning(&MASTER));
+    expect_block(&rt, &mut disk, 3, &beginning(&[]));
     Ok(())
 }
 
@@ -205,8 +289,10 @@ fn a_gate_with_another_word(rt: HostRuntime) -> Result<(), Fail> {
     let mut gate = [word(OPEN); BLOCK_WORDS];
     gate[77] = Word::ZERO;
     load(&rt, &mut disk, 3, &gate);
-    let mut volume = opened(&rt, rt.alloc(), disk);
-    expect_four_and(&rt, &mut volume, 3, &gate);
+    let volume = opened(&rt, rt.alloc(), disk);
+    expect_in_use(&rt, &volume, 4);
+    let mut disk = disk_of(volume);
+    expect_block(&rt, &mut disk, 3, &gate);
     Ok(())
 }
 
@@ -223,13 +309,13 @@ fn the_table_comes_last(rt: HostRuntime) -> Result<(), Fail> {
     Ok(())
 }
 
-/// Makes an empty volume on a disk in memory. What `init` promises stays behind this function.
-pub(crate) fn init(disk: &mut MemDisk) -> Result<(), VolumeError> {
+/// Makes an empty volume on a disk. What `init` promises stays behind this function.
+pub(crate) fn init<D: Disk>(disk: &mut D) -> Result<(), VolumeError> {
     Volume::init(disk)
 }
 
 /// An empty volume is made on a disk.
-pub(crate) fn expect_made(rt: &impl Abort, disk: &mut MemDisk) {
+pub(crate) fn expect_made<D: Disk>(rt: &impl Abort, disk: &mut D) {
     assert!(rt; init(disk) == Ok(()));
 }
 
@@ -308,7 +394,7 @@ pub(crate) fn failing(inner: MemDisk, size: u32, reads: u32) -> FailingDisk {
 /// How many reads a failing disk has left when the volume on it is opened; or why that is refused, and how often the
 /// disk has failed then.
 pub(crate) fn left_of_reads(alloc: Global, disk: FailingDisk) -> Result<u32, (VolumeError, u64)> {
-    match Volume::open(alloc, disk) {
+    match open(alloc, disk) {
         Ok(volume) => Ok(volume.disk.reads),
         Err((error, disk)) => Err((error, disk.failures)),
     }
