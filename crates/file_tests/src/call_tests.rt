@@ -1,9 +1,9 @@
 ghost use Rattle.std.specs.Prelude.{◌≡◌, IfOk};
 ghost use Rattle.imagefile.specs.Host.{unknown_file};
 
-use crate::image_tests::{expect_v1, v1};
+use crate::image_tests::{disk_over, expect_v1, v1_file};
 use blockdisk::Fault;
-use imagefile::{Durable, FileCalls, HostCalls, HostFile, ImageDisk, MemFile, SeekingFile};
+use imagefile::{Durable, FileCalls, HostCalls, HostFile, SeekingFile, SystemCalls};
 use std::fs::{Metadata, OpenFile};
 use std::io::{self, Read, Seek, SeekFrom, Write};
 use std::process::Abort;
@@ -74,35 +74,59 @@ impl FileCalls for Sluggish {
     }
 }
 
+/// What a write of these bytes answers.
+fn expect_write(
+    rt: &impl Abort,
+    file: &mut HostFile<Sluggish>,
+    at: u64,
+    bytes: &[u8],
+    wanted: Result<(), Fault>,
+) {
+    assert_eq!(rt; file.write_at(at, bytes), wanted);
+}
+
+/// The six bytes of a file, read from its begin on, or the refusal to read them.
+fn first_bytes(file: &mut HostFile<Sluggish>) -> Result<[u8; 6], Fault> {
+    let mut bytes = [9; 6];
+    file.read_at(0, &mut bytes)?;
+    Ok(bytes)
+}
+
+/// Calls that find turns are done byte by byte.
+fn expect_done(rt: &impl Abort, file: &mut HostFile<Sluggish>) {
+    assert_eq!(rt; file.len(), Ok(6));
+    expect_write(rt, file, 1, &[1, 2, 3, 4], Ok(()));
+    assert_eq!(rt; file.sync(), Ok(()));
+    assert_eq!(rt; first_bytes(file), Ok([0, 1, 2, 3, 4, 0]));
+    expect_write(rt, file, 4, &[5, 6, 7], Err(Fault::Device)); // past the end
+    expect_write(rt, file, 0, &[8], Ok(()));
+}
+
+/// The last turn is the first byte of a write, and each call after it fails.
+fn expect_failed(rt: &impl Abort, file: &mut HostFile<Sluggish>) {
+    expect_write(rt, file, 1, &[8, 8], Err(Fault::Device)); // at the second byte
+    assert_eq!(rt; file.len(), Err(Fault::Device));
+    assert_eq!(rt; first_bytes(file), Err(Fault::Device));
+    assert_eq!(rt; file.sync(), Err(Fault::Device));
+}
+
 #[test]
 fn calls_that_do_less_than_asked(rt: HostRuntime) -> Result<(), Fail> {
     let mut file = HostFile::new(Sluggish {
         bytes: vec![in rt.alloc(); 0; 6]?,
         turns: 17,
     });
-    assert_eq!(rt; file.len(), Ok(6));
-    assert_eq!(rt; file.write_at(1, &[1, 2, 3, 4]), Ok(()));
-    assert_eq!(rt; file.sync(), Ok(()));
-    let mut bytes = [9; 6];
-    assert_eq!(rt; file.read_at(0, &mut bytes), Ok(()));
-    assert_eq!(rt; bytes, [0, 1, 2, 3, 4, 0]);
-    assert_eq!(rt; file.write_at(4, &[5, 6, 7]), Err(Fault::Device)); // past the end
-    assert_eq!(rt; file.write_at(0, &[8]), Ok(()));
-    assert_eq!(rt; file.write_at(1, &[8, 8]), Err(Fault::Device)); // at the second byte
-    assert_eq!(rt; file.len(), Err(Fault::Device));
-    assert_eq!(rt; file.read_at(0, &mut bytes), Err(Fault::Device));
-    assert_eq!(rt; file.sync(), Err(Fault::Device));
+    expect_done(&rt, &mut file);
+    expect_failed(&rt, &mut file);
     Ok(())
 }
 
 /// A file in memory as what a system's calls work on.
 #[test]
 fn an_image_behind_calls(rt: HostRuntime) -> Result<(), Fail> {
-    let file = MemFile::new(rt.alloc(), &v1(&rt, rt.alloc())?, 2)?;
-    match ImageDisk::new(HostFile::new(file)) {
-        Ok(mut disk) => expect_v1(&rt, &mut disk),
-        Err(_refused) => assert!(rt; false),
-    }
+    let file = v1_file(&rt, rt.alloc())?;
+    let mut disk = disk_over(&rt, HostFile::new(file));
+    expect_v1(&rt, &mut disk);
     Ok(())
 }
 
@@ -177,17 +201,27 @@ impl OpenFile for Failing {
     }
 }
 
+/// What a file's calls answer where this one fails below.
+fn expect_answers<S: SystemCalls>(
+    rt: &impl Abort,
+    file: &mut HostFile<SeekingFile<S>>,
+    call: StdCall,
+) {
+    let seeks = call != StdCall::Seek;
+    assert!(rt; file.len() == if seeks { Ok(4096) } else { Err(Fault::Device) });
+    let read = file.read_at(1, &mut [0; 8]);
+    assert_eq!(rt; read.is_ok(), seeks && call != StdCall::Read);
+    let written = file.write_at(1, &[0; 8]);
+    assert_eq!(rt; written.is_ok(), seeks && call != StdCall::Write);
+    let synced = file.sync();
+    assert_eq!(rt; synced.is_ok(), call != StdCall::Sync);
+}
+
 /// What a file's calls answer is what the standard library answered, that of a sync too.
 #[test]
 fn each_call_of_the_host_fails(rt: HostRuntime) {
     for call in [StdCall::Seek, StdCall::Read, StdCall::Write, StdCall::Sync] {
         let mut file = HostFile::new(SeekingFile::new(HostCalls::new(Failing { call })));
-        let seeks = call != StdCall::Seek;
-        assert!(rt; file.len() == if seeks { Ok(4096) } else { Err(Fault::Device) });
-        let read = file.read_at(1, &mut [0; 8]);
-        assert_eq!(rt; read.is_ok(), seeks && call != StdCall::Read);
-        let written = file.write_at(1, &[0; 8]);
-        assert_eq!(rt; written.is_ok(), seeks && call != StdCall::Write);
-        assert_eq!(rt; file.sync().is_ok(), call != StdCall::Sync);
+        expect_answers(&rt, &mut file, call);
     }
 }

@@ -41,16 +41,50 @@ const V1: [(usize, usize, u64); 31] = [
     (18, 1, 0o064240000000),
 ];
 
-/// The bytes of that image.
-pub(crate) fn v1(rt: &impl Abort, alloc: Global) -> Result<Vec<u8>, AllocError> {
-    let mut bytes = vec![in alloc; 0; 65536]?;
-    let image = bytes.as_mut_slice();
+/// Writes the words of that image into bytes that are all zero.
+fn put_v1(rt: &impl Abort, image: &mut [u8]) {
     for &(block, place, word) in &V1 {
         assert!(rt; block < 64 && place < 128 && image.len() == 65536);
         let at = 1024 * block + 8 * place;
         image[at..at + 8].copy_from_slice(&word.to_be_bytes());
     }
+}
+
+/// The bytes of that image.
+pub(crate) fn v1(rt: &impl Abort, alloc: Global) -> Result<Vec<u8>, AllocError> {
+    let mut bytes = vec![in alloc; 0; 65536]?;
+    put_v1(rt, bytes.as_mut_slice());
     Ok(bytes)
+}
+
+/// That image as a file in memory, with room for two calls.
+pub(crate) fn v1_file(rt: &impl Abort, alloc: Global) -> Result<MemFile, Fail> {
+    let bytes = v1(rt, alloc)?;
+    let file = MemFile::new(alloc, bytes.as_slice(), 2);
+    drop(bytes);
+    Ok(file?)
+}
+
+/// The disk over a file that is an image.
+pub(crate) fn disk_over<F: Durable + Drop>(rt: &impl Abort, file: F) -> ImageDisk<F> {
+    match ImageDisk::new(file) {
+        Ok(disk) => disk,
+        Err(_refused) => panic!(rt; "the file is an image"),
+    }
+}
+
+/// A file of so many bytes is no image, and is given back.
+pub(crate) fn expect_bad_size<F: Durable + Drop>(rt: &impl Abort, file: F, bytes: u64) {
+    match ImageDisk::new(file) {
+        Ok(_disk) => assert!(rt; false),
+        Err(refused) => {
+            let (error, mut file) = refused;
+            let length = file.len();
+            drop(file);
+            assert_eq!(rt; error, ImageError::BadSize);
+            assert_eq!(rt; length, Ok(bytes));
+        }
+    }
 }
 
 /// A block whose words are all this number.
@@ -61,25 +95,50 @@ fn filled(number: u64) -> Block {
     }
 }
 
+/// A word of a block of a disk.
+fn expect_word<D: Disk>(rt: &impl Abort, disk: &mut D, n: u32, place: usize, word: u64) {
+    assert!(rt; n < disk.blocks() && place < BLOCK_WORDS);
+    match disk.read(n) {
+        Ok(block) => assert_eq!(rt; block[place].bits(), word),
+        Err(_) => assert!(rt; false),
+    }
+}
+
+/// What reading a block answers.
+fn expect_block<D: Disk>(rt: &impl Abort, disk: &mut D, n: u32, wanted: Result<Block, Fault>) {
+    assert!(rt; n < disk.blocks());
+    assert!(rt; disk.read(n) == wanted);
+}
+
+/// What writing a block of this number answers.
+fn expect_write<D: Disk>(
+    rt: &impl Abort,
+    disk: &mut D,
+    n: u32,
+    number: u64,
+    wanted: Result<(), Fault>,
+) {
+    assert!(rt; n < disk.blocks());
+    assert_eq!(rt; disk.write(n, &filled(number)), wanted);
+}
+
+/// The words of V1 are read.
+fn expect_words<D: Disk>(rt: &impl Abort, disk: &mut D) {
+    for &(n, place, word) in &V1 {
+        assert!(rt; n < 64 && disk.blocks() == 64);
+        expect_word(rt, disk, n as u32, place, word);
+    }
+}
+
 /// The words of V1's blocks 17 and 18 are read, and a block is written, synced and read back.
 pub(crate) fn expect_v1<D: Disk>(rt: &impl Abort, disk: &mut D) {
     assert_eq!(rt; disk.blocks(), 64);
-    for &(n, place, word) in &V1 {
-        assert!(rt; n < 64 && disk.blocks() == 64 && place < BLOCK_WORDS);
-        match disk.read(n as u32) {
-            Ok(block) => assert_eq!(rt; block[place].bits(), word),
-            Err(_) => assert!(rt; false),
-        }
-    }
-    assert!(rt; disk.blocks() == 64);
-    assert!(rt; disk.read(63) == Ok(filled(0)));
-    assert!(rt; disk.blocks() == 64);
-    assert_eq!(rt; disk.write(63, &filled(0o123456701234)), Ok(()));
+    expect_words(rt, disk);
+    expect_block(rt, disk, 63, Ok(filled(0)));
+    expect_write(rt, disk, 63, 0o123456701234, Ok(()));
     assert_eq!(rt; disk.sync(), Ok(()));
-    assert!(rt; disk.blocks() == 64);
-    assert!(rt; disk.read(63) == Ok(filled(0o123456701234)));
-    assert!(rt; disk.blocks() == 64);
-    assert!(rt; disk.read(62) == Ok(filled(0)));
+    expect_block(rt, disk, 63, Ok(filled(0o123456701234)));
+    expect_block(rt, disk, 62, Ok(filled(0)));
 }
 
 #[test]
@@ -96,79 +155,80 @@ fn lengths_of_images(rt: HostRuntime) {
     }
 }
 
+/// A disk whose file has no call left fails at a write and a sync, and reads on.
+fn expect_used_up<D: Disk>(rt: &impl Abort, disk: &mut D) {
+    expect_write(rt, disk, 0, 1, Err(Fault::Device));
+    assert_eq!(rt; disk.sync(), Err(Fault::Device));
+    expect_block(rt, disk, 0, Ok(filled(0)));
+}
+
 #[test]
 fn an_image_in_memory(rt: HostRuntime) -> Result<(), Fail> {
-    let file = MemFile::new(rt.alloc(), &v1(&rt, rt.alloc())?, 2)?;
-    match ImageDisk::new(file) {
-        Ok(mut disk) => {
-            expect_v1(&rt, &mut disk);
-            assert!(rt; disk.blocks() == 64);
-            assert_eq!(rt; disk.write(0, &filled(1)), Err(Fault::Device));
-            assert_eq!(rt; disk.sync(), Err(Fault::Device));
-            assert!(rt; disk.blocks() == 64);
-            assert!(rt; disk.read(0) == Ok(filled(0)));
-            let mut file = disk.finish();
-            assert_eq!(rt; file.len(), Ok(65536));
-        }
-        Err(_) => assert!(rt; false),
-    }
+    let file = v1_file(&rt, rt.alloc())?;
+    let mut disk = disk_over(&rt, file);
+    expect_v1(&rt, &mut disk);
+    expect_used_up(&rt, &mut disk);
+    let mut file = disk.finish();
+    let length = file.len();
+    drop(file);
+    assert_eq!(rt; length, Ok(65536));
     Ok(())
+}
+
+/// Writes the first word of FOO.TXT into block 0, a word whose top bits are set into block 1, and a byte that no word
+/// has into block 2.
+fn put_words(rt: &impl Abort, image: &mut [u8]) {
+    assert!(rt; image.len() == 3072);
+    image[0..8].copy_from_slice(&[0, 0, 0, 0x09, 0x11, 0x66, 0x4c, 0x9e]);
+    image[2044] = 0x10;
+    image[2043] = 0x0f;
+    image[3067] = 0x10;
+}
+
+/// These words are read, and the block of no words is damaged until it is written.
+fn expect_three_blocks<D: Disk>(rt: &impl Abort, disk: &mut D) {
+    assert_eq!(rt; disk.blocks(), 3);
+    expect_word(rt, disk, 0, 0, 0o442131446236);
+    expect_word(rt, disk, 1, 127, 0xf10000000);
+    expect_block(rt, disk, 2, Err(Fault::Damaged));
+    expect_write(rt, disk, 2, 7, Ok(()));
+    expect_block(rt, disk, 2, Ok(filled(7)));
 }
 
 /// The first word of FOO.TXT, and a word whose top bits are set.
 #[test]
 fn bytes_of_words(rt: HostRuntime) -> Result<(), Fail> {
     let mut bytes = vec![in rt.alloc(); 0; 3072]?;
-    let image = bytes.as_mut_slice();
-    assert!(rt; image.len() == 3072);
-    image[0..8].copy_from_slice(&[0, 0, 0, 0x09, 0x11, 0x66, 0x4c, 0x9e]);
-    image[2044] = 0x10;
-    image[2043] = 0x0f;
-    image[3067] = 0x10;
-    match ImageDisk::new(MemFile::new(rt.alloc(), image, 1)?) {
-        Ok(mut disk) => {
-            assert_eq!(rt; disk.blocks(), 3);
-            match disk.read(0) {
-                Ok(block) => assert_eq!(rt; block[0].bits(), 0o442131446236),
-                Err(_) => assert!(rt; false),
-            }
-            assert!(rt; disk.blocks() == 3);
-            match disk.read(1) {
-                Ok(block) => assert_eq!(rt; block[127].bits(), 0xf10000000),
-                Err(_) => assert!(rt; false),
-            }
-            assert!(rt; disk.blocks() == 3);
-            assert!(rt; disk.read(2) == Err(Fault::Damaged));
-            assert!(rt; disk.blocks() == 3);
-            assert_eq!(rt; disk.write(2, &filled(7)), Ok(()));
-            assert!(rt; disk.blocks() == 3);
-            assert!(rt; disk.read(2) == Ok(filled(7)));
-        }
-        Err(_) => assert!(rt; false),
-    }
+    put_words(&rt, bytes.as_mut_slice());
+    let file = MemFile::new(rt.alloc(), bytes.as_slice(), 1);
+    drop(bytes);
+    let mut disk = disk_over(&rt, file?);
+    expect_three_blocks(&rt, &mut disk);
     Ok(())
 }
 
 #[test]
 fn a_file_that_is_no_image(rt: HostRuntime) -> Result<(), Fail> {
     let file = MemFile::new(rt.alloc(), &[1; 1025], 1)?;
-    match ImageDisk::new(file) {
-        Ok(_disk) => assert!(rt; false),
-        Err(refused) => {
-            let (error, mut file) = refused;
-            assert_eq!(rt; error, ImageError::BadSize);
-            assert_eq!(rt; file.len(), Ok(1025));
-        }
-    }
+    expect_bad_size(&rt, file, 1025);
     Ok(())
+}
+
+/// An error has this text.
+fn expect_text(rt: &impl Abort, text: String, wanted: &str) {
+    let is_same = text.as_str() == wanted;
+    drop(text);
+    assert!(rt; is_same);
 }
 
 #[test]
 fn texts_of_errors(rt: HostRuntime) -> Result<(), Fail> {
-    let size = ImageError::BadSize.to_string(rt.alloc())?;
-    assert_eq!(rt; size.as_str(), "not an image's size");
-    let device = ImageError::Device.to_string(rt.alloc())?;
-    assert_eq!(rt; device.as_str(), "device fault");
+    for (error, wanted) in [
+        (ImageError::BadSize, "not an image's size"),
+        (ImageError::Device, "device fault"),
+    ] {
+        expect_text(&rt, error.to_string(rt.alloc())?, wanted);
+    }
     Ok(())
 }
 
