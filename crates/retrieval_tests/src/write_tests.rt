@@ -124,7 +124,8 @@ fn listed<D: Disk>(
 ) -> Result<(Table, Version), TableError>
     ensures size { IfOk result (λ listed. listed.0.size ≡ 1024) }
     ensures fixed { IfOk result (λ listed. IsFixed listed.0) }
-    ensures booked { IfOk result (λ listed. used_in_space listed.0 + (1 + rib_count (length listed.1.blocks)) ≤ listed.0.booked) }
+    ensures booked { IfOk result (λ listed. used_in_space listed.0 + (1 + rib_count (length listed.1.blocks))
+        ≤ listed.0.booked) }
     ensures room { IfOk result (λ listed. listed.0.booked ≤ 242) }
     ensures words { IfOk result (λ listed. listed.1.words ≤ 30592) }
     ensures enough { IfOk result (λ listed. length listed.1.blocks ≡ blocks_of listed.1.words) }
