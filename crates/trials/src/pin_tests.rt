@@ -75,19 +75,19 @@ fn expect_first(rt: &impl Abort, read: &[Word], words: usize) {
 }
 
 /// So many words of FOO.TXT are read, from a block on and at most so many.
-fn expect_read(
+fn expect_read<D: Disk>(
     rt: &impl Abort,
     alloc: Global,
-    volume: &mut Volume<MemDisk>,
+    volume: &mut Volume<D>,
     pin: Pin,
     block: u32,
     count: u32,
     words: usize,
 )
-    requires sound { IsSound (memory_state volume.old.disk) (core_of volume.old.map) volume.old.failed }
+    requires sound { IsSound (D.state volume.old.disk) (core_of volume.old.map) volume.old.failed }
     requires live { IsReadable (core_of volume.old.map) (Pinned pin) }
     requires first { 0 < block }
-    ensures sound { IsSound (memory_state volume.new.disk) (core_of volume.new.map) volume.new.failed }
+    ensures sound { IsSound (D.state volume.new.disk) (core_of volume.new.map) volume.new.failed }
     ensures live { IsReadable (core_of volume.new.map) (Pinned pin) }
 {
     match read(alloc, volume, pin, block, count) {
@@ -97,8 +97,8 @@ fn expect_read(
 }
 
 /// Reads FOO.TXT as far as it goes, and lets it go.
-fn read_and_let_go(rt: &impl Abort, alloc: Global, volume: &mut Volume<MemDisk>, pin: Pin)
-    requires sound { IsSound (memory_state volume.old.disk) (core_of volume.old.map) volume.old.failed }
+fn read_and_let_go<D: Disk>(rt: &impl Abort, alloc: Global, volume: &mut Volume<D>, pin: Pin)
+    requires sound { IsSound (D.state volume.old.disk) (core_of volume.old.map) volume.old.failed }
     requires live { IsReadable (core_of volume.old.map) (Pinned pin) }
 {
     expect_read(rt, alloc, volume, pin, 1, 2, 2);
@@ -119,18 +119,18 @@ fn a_pinned_file_is_read(rt: HostRuntime) -> Result<(), Fail> {
 }
 
 /// Makes a directory while a version is pinned.
-fn make_beside(rt: &impl Abort, alloc: Global, volume: &mut Volume<MemDisk>, pin: Pin)
-    requires sound { IsSound (memory_state volume.old.disk) (core_of volume.old.map) volume.old.failed }
+fn make_beside<D: Disk>(rt: &impl Abort, alloc: Global, volume: &mut Volume<D>, pin: Pin)
+    requires sound { IsSound (D.state volume.old.disk) (core_of volume.old.map) volume.old.failed }
     requires live { IsReadable (core_of volume.old.map) (Pinned pin) }
-    ensures sound { IsSound (memory_state volume.new.disk) (core_of volume.new.map) volume.new.failed }
+    ensures sound { IsSound (D.state volume.new.disk) (core_of volume.new.map) volume.new.failed }
     ensures live { IsReadable (core_of volume.new.map) (Pinned pin) }
 {
     assert!(rt; volume.make_dir(alloc, ppn_of(rt, 0o30), 0o775) == Ok(()));
 }
 
 /// A directory is made beside a reader, who then reads the first word.
-fn make_and_read(rt: &impl Abort, alloc: Global, volume: &mut Volume<MemDisk>, pin: Pin)
-    requires sound { IsSound (memory_state volume.old.disk) (core_of volume.old.map) volume.old.failed }
+fn make_and_read<D: Disk>(rt: &impl Abort, alloc: Global, volume: &mut Volume<D>, pin: Pin)
+    requires sound { IsSound (D.state volume.old.disk) (core_of volume.old.map) volume.old.failed }
     requires live { IsReadable (core_of volume.old.map) (Pinned pin) }
 {
     make_beside(rt, alloc, volume, pin);
@@ -207,8 +207,8 @@ fn the_read_of_a_word_may_fail(rt: HostRuntime) -> Result<(), Fail> {
 }
 
 /// A read that finds no memory changes nothing, and the next one is answered.
-fn read_again(rt: &impl Abort, alloc: Global, volume: &mut Volume<MemDisk>, pin: Pin)
-    requires sound { IsSound (memory_state volume.old.disk) (core_of volume.old.map) volume.old.failed }
+fn read_again<D: Disk>(rt: &impl Abort, alloc: Global, volume: &mut Volume<D>, pin: Pin)
+    requires sound { IsSound (D.state volume.old.disk) (core_of volume.old.map) volume.old.failed }
     requires live { IsReadable (core_of volume.old.map) (Pinned pin) }
 {
     if read(alloc, volume, pin, 1, 2) == Err(CallError::NoMemory) {

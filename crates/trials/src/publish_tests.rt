@@ -293,9 +293,9 @@ pub(crate) fn expect_file<D: Disk>(
 }
 
 /// Writes FOO.TXT of two blocks, and of two words more by its publication.
-fn publish_new(rt: &impl Abort, alloc: Global, volume: &mut Volume<MemDisk>, first: &[Word])
-    requires { IsSound (memory_state volume.old.disk) (core_of volume.old.map) volume.old.failed }
-    ensures { IsSound (memory_state volume.new.disk) (core_of volume.new.map) volume.new.failed }
+fn publish_new<D: Disk>(rt: &impl Abort, alloc: Global, volume: &mut Volume<D>, first: &[Word])
+    requires { IsSound (D.state volume.old.disk) (core_of volume.old.map) volume.old.failed }
+    ensures { IsSound (D.state volume.new.disk) (core_of volume.new.map) volume.new.failed }
 {
     expect_room(rt, volume, 47);
     let pending = write(rt, alloc, volume, FOO, first);
@@ -327,18 +327,18 @@ fn a_new_file_is_published(rt: HostRuntime) -> Result<(), Fail> {
 }
 
 /// Last words at block `block` find no room.
-fn expect_no_room(
+fn expect_no_room<D: Disk>(
     rt: &impl Abort,
     alloc: Global,
-    volume: &mut Volume<MemDisk>,
+    volume: &mut Volume<D>,
     pending: Pending,
     block: u32,
 )
-    requires sound { IsSound (memory_state volume.old.disk) (core_of volume.old.map) volume.old.failed }
+    requires sound { IsSound (D.state volume.old.disk) (core_of volume.old.map) volume.old.failed }
     requires live { IsSome (pending_at (core_of volume.old.map).pending pending.key) }
     requires placed { (p : PendingVersion) → pending_at (core_of volume.old.map).pending pending.key ≡ Some p → IsPlaced (core_of volume.old.map) p }
     requires first { 0 < block }
-    ensures sound { IsSound (memory_state volume.new.disk) (core_of volume.new.map) volume.new.failed }
+    ensures sound { IsSound (D.state volume.new.disk) (core_of volume.new.map) volume.new.failed }
     ensures live { IsSome (pending_at (core_of volume.new.map).pending pending.key) }
     ensures placed { (p : PendingVersion) → pending_at (core_of volume.new.map).pending pending.key ≡ Some p → IsPlaced (core_of volume.new.map) p }
 {
@@ -349,9 +349,9 @@ fn expect_no_room(
 }
 
 /// A version of 40 blocks finds no room for last words, three times, and is published without them.
-fn publish_full(rt: &impl Abort, alloc: Global, volume: &mut Volume<MemDisk>, words: &[Word])
-    requires { IsSound (memory_state volume.old.disk) (core_of volume.old.map) volume.old.failed }
-    ensures { IsSound (memory_state volume.new.disk) (core_of volume.new.map) volume.new.failed }
+fn publish_full<D: Disk>(rt: &impl Abort, alloc: Global, volume: &mut Volume<D>, words: &[Word])
+    requires { IsSound (D.state volume.old.disk) (core_of volume.old.map) volume.old.failed }
+    ensures { IsSound (D.state volume.new.disk) (core_of volume.new.map) volume.new.failed }
 {
     let pending = write(rt, alloc, volume, FOO, words);
     expect_room(rt, volume, 6);
@@ -375,9 +375,9 @@ fn last_words_find_no_room(rt: HostRuntime) -> Result<(), Fail> {
 }
 
 /// Publishes a version of no words with a last word at block 46.
-fn publish_far(rt: &impl Abort, alloc: Global, volume: &mut Volume<MemDisk>)
-    requires { IsSound (memory_state volume.old.disk) (core_of volume.old.map) volume.old.failed }
-    ensures { IsSound (memory_state volume.new.disk) (core_of volume.new.map) volume.new.failed }
+fn publish_far<D: Disk>(rt: &impl Abort, alloc: Global, volume: &mut Volume<D>)
+    requires { IsSound (D.state volume.old.disk) (core_of volume.old.map) volume.old.failed }
+    ensures { IsSound (D.state volume.new.disk) (core_of volume.new.map) volume.new.failed }
 {
     let pending = write(rt, alloc, volume, FOO, &[]);
     expect_room(rt, volume, 46);
@@ -397,8 +397,8 @@ fn last_words_take_all_room(rt: HostRuntime) -> Result<(), Fail> {
 }
 
 /// Each call that asks is answered `Failed`.
-fn expect_no_answer(rt: &impl Abort, alloc: Global, volume: &Volume<MemDisk>)
-    requires { IsSound (memory_state volume.now.disk) (core_of volume.now.map) volume.now.failed }
+fn expect_no_answer<D: Disk>(rt: &impl Abort, alloc: Global, volume: &Volume<D>)
+    requires { IsSound (D.state volume.now.disk) (core_of volume.now.map) volume.now.failed }
 {
     let ppn = ppn_of(rt);
     assert!(rt; volume.directory(ppn) == Err(CallError::Failed));
@@ -408,10 +408,10 @@ fn expect_no_answer(rt: &impl Abort, alloc: Global, volume: &Volume<MemDisk>)
 }
 
 /// A read is answered `Failed`.
-fn expect_unread(rt: &impl Abort, alloc: Global, volume: &mut Volume<MemDisk>, pin: Pin)
-    requires sound { IsSound (memory_state volume.old.disk) (core_of volume.old.map) volume.old.failed }
+fn expect_unread<D: Disk>(rt: &impl Abort, alloc: Global, volume: &mut Volume<D>, pin: Pin)
+    requires sound { IsSound (D.state volume.old.disk) (core_of volume.old.map) volume.old.failed }
     requires live { IsReadable (core_of volume.old.map) (Pinned pin) }
-    ensures sound { IsSound (memory_state volume.new.disk) (core_of volume.new.map) volume.new.failed }
+    ensures sound { IsSound (D.state volume.new.disk) (core_of volume.new.map) volume.new.failed }
 {
     let read = pin_tests::read(alloc, volume, pin, 1, 1);
     assert!(rt; read == Err(CallError::Failed));
@@ -432,16 +432,16 @@ pub(crate) fn pin_refusal<D: Disk>(
 }
 
 /// A version isn't begun, for this reason.
-fn expect_unbegun(rt: &impl Abort, alloc: Global, volume: &mut Volume<MemDisk>, error: CallError)
-    requires { IsSound (memory_state volume.old.disk) (core_of volume.old.map) volume.old.failed }
-    ensures { IsSound (memory_state volume.new.disk) (core_of volume.new.map) volume.new.failed }
+fn expect_unbegun<D: Disk>(rt: &impl Abort, alloc: Global, volume: &mut Volume<D>, error: CallError)
+    requires { IsSound (D.state volume.old.disk) (core_of volume.old.map) volume.old.failed }
+    ensures { IsSound (D.state volume.new.disk) (core_of volume.new.map) volume.new.failed }
 {
     assert!(rt; volume.begin(alloc, prime_of(rt, FOO)) == Err(error));
 }
 
 /// Each call is answered `Failed`.
-fn expect_failed(rt: &impl Abort, alloc: Global, volume: &mut Volume<MemDisk>, pin: Pin)
-    requires sound { IsSound (memory_state volume.old.disk) (core_of volume.old.map) volume.old.failed }
+fn expect_failed<D: Disk>(rt: &impl Abort, alloc: Global, volume: &mut Volume<D>, pin: Pin)
+    requires sound { IsSound (D.state volume.old.disk) (core_of volume.old.map) volume.old.failed }
     requires live { IsReadable (core_of volume.old.map) (Pinned pin) }
 {
     expect_failure(rt, volume, true);
@@ -454,9 +454,9 @@ fn expect_failed(rt: &impl Abort, alloc: Global, volume: &mut Volume<MemDisk>, p
 }
 
 /// Publishes FOO.TXT twice, with a reader of the first version. The second publication fails.
-fn fail_to_publish(rt: &impl Abort, alloc: Global, volume: &mut Volume<MemDisk>) -> Pin
-    requires sound { IsSound (memory_state volume.old.disk) (core_of volume.old.map) volume.old.failed }
-    ensures sound { IsSound (memory_state volume.new.disk) (core_of volume.new.map) volume.new.failed }
+fn fail_to_publish<D: Disk>(rt: &impl Abort, alloc: Global, volume: &mut Volume<D>) -> Pin
+    requires sound { IsSound (D.state volume.old.disk) (core_of volume.old.map) volume.old.failed }
+    ensures sound { IsSound (D.state volume.new.disk) (core_of volume.new.map) volume.new.failed }
     ensures live { IsReadable (core_of volume.new.map) (Pinned result) }
 {
     store(rt, alloc, volume, FOO, &[], Some(46));
@@ -479,17 +479,17 @@ fn the_first_write_of_a_publication_fails(rt: HostRuntime) -> Result<(), Fail> {
 }
 
 /// Gives a volume up, as a call does that meets a fault.
-fn give_up(volume: &mut Volume<MemDisk>)
-    requires sound { IsSound (memory_state volume.old.disk) (core_of volume.old.map) volume.old.failed }
-    ensures sound { IsSound (memory_state volume.new.disk) (core_of volume.new.map) volume.new.failed }
+fn give_up<D: Disk>(volume: &mut Volume<D>)
+    requires sound { IsSound (D.state volume.old.disk) (core_of volume.old.map) volume.old.failed }
+    ensures sound { IsSound (D.state volume.new.disk) (core_of volume.new.map) volume.new.failed }
     ensures map { volume.new.map ≡ volume.old.map }
 {
     volume.failed = true;
 }
 
 /// A version is begun, the volume is given up, and the version isn't published.
-fn publish_given_up(rt: &impl Abort, alloc: Global, volume: &mut Volume<MemDisk>)
-    requires { IsSound (memory_state volume.old.disk) (core_of volume.old.map) volume.old.failed }
+fn publish_given_up<D: Disk>(rt: &impl Abort, alloc: Global, volume: &mut Volume<D>)
+    requires { IsSound (D.state volume.old.disk) (core_of volume.old.map) volume.old.failed }
 {
     let pending = write(rt, alloc, volume, FOO, &[word(7)]);
     give_up(volume);

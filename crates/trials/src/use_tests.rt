@@ -1,5 +1,4 @@
 ghost use Rattle.std.specs.Prelude.{◌≡◌, ◌<◌, ℕ, IsSome, IfSome};
-ghost use Rattle.blockdisk.specs.Memory.{memory_state};
 ghost use Rattle.volume.specs.Live.{pending_at};
 ghost use Rattle.volume.specs.LiveCores.{core_of};
 ghost use Rattle.volume.specs.Pins.{IsReadable};
@@ -10,7 +9,7 @@ use crate::disks::{self, expect_room, load, prime, v1, word};
 use crate::pin_tests::{self, open_and_pin};
 use crate::publish_tests::{FOO, file_name, fresh, ppn_of};
 use crate::put_tests::{self, put};
-use blockdisk::{MemDisk, NoMemory};
+use blockdisk::{Disk, MemDisk, NoMemory};
 use meaning::ErrorCode;
 use retrieval::{Mode, Prime};
 use std::alloc::Global;
@@ -29,16 +28,16 @@ fn prime_of(rt: &impl Abort, name: u64) -> Prime {
 }
 
 /// Begins a version, and puts so many blocks of words into it. Nothing where that is refused.
-fn write(
+fn write<D: Disk>(
     rt: &impl Abort,
     alloc: Global,
-    volume: &mut Volume<MemDisk>,
+    volume: &mut Volume<D>,
     name: u64,
     blocks: usize,
 ) -> Option<Pending>
-    requires sound { IsSound (memory_state volume.old.disk) (core_of volume.old.map) volume.old.failed }
+    requires sound { IsSound (D.state volume.old.disk) (core_of volume.old.map) volume.old.failed }
     requires few { blocks < 1000 }
-    ensures sound { IsSound (memory_state volume.new.disk) (core_of volume.new.map) volume.new.failed }
+    ensures sound { IsSound (D.state volume.new.disk) (core_of volume.new.map) volume.new.failed }
     ensures live { IfSome result (λ pending. IsSome (pending_at (core_of volume.new.map).pending pending.key)) }
 {
     let Ok(words) = vec![in alloc; word(OTHERS); blocks * BLOCK_WORDS] else {
@@ -54,16 +53,16 @@ fn write(
 }
 
 /// Writes a version of so many blocks, which has to leave so much room.
-fn write_leaving(
+fn write_leaving<D: Disk>(
     rt: &impl Abort,
     alloc: Global,
-    volume: &mut Volume<MemDisk>,
+    volume: &mut Volume<D>,
     blocks: usize,
     room: i64,
 ) -> Pending
-    requires sound { IsSound (memory_state volume.old.disk) (core_of volume.old.map) volume.old.failed }
+    requires sound { IsSound (D.state volume.old.disk) (core_of volume.old.map) volume.old.failed }
     requires few { blocks < 1000 }
-    ensures sound { IsSound (memory_state volume.new.disk) (core_of volume.new.map) volume.new.failed }
+    ensures sound { IsSound (D.state volume.new.disk) (core_of volume.new.map) volume.new.failed }
     ensures live { IsSome (pending_at (core_of volume.new.map).pending result.key) }
 {
     let Some(pending) = write(rt, alloc, volume, 1, blocks) else {
@@ -74,14 +73,14 @@ fn write_leaving(
 }
 
 /// Writes a version of so many blocks, which leaves so much room of 495, and drops it.
-fn write_and_drop(
+fn write_and_drop<D: Disk>(
     rt: &impl Abort,
     alloc: Global,
-    volume: &mut Volume<MemDisk>,
+    volume: &mut Volume<D>,
     blocks: usize,
     room: i64,
 )
-    requires sound { IsSound (memory_state volume.old.disk) (core_of volume.old.map) volume.old.failed }
+    requires sound { IsSound (D.state volume.old.disk) (core_of volume.old.map) volume.old.failed }
     requires few { blocks < 1000 }
 {
     expect_room(rt, volume, 495);
@@ -101,8 +100,8 @@ fn a_version_of_113_blocks_has_an_extension(rt: HostRuntime) -> Result<(), Fail>
 }
 
 /// Fills a volume of room 47, is refused one word more, and drops all.
-fn fill_and_empty(rt: &impl Abort, alloc: Global, volume: &mut Volume<MemDisk>)
-    requires { IsSound (memory_state volume.old.disk) (core_of volume.old.map) volume.old.failed }
+fn fill_and_empty<D: Disk>(rt: &impl Abort, alloc: Global, volume: &mut Volume<D>)
+    requires { IsSound (D.state volume.old.disk) (core_of volume.old.map) volume.old.failed }
 {
     expect_room(rt, volume, 47);
     let pending = write_leaving(rt, alloc, volume, 46, 0);
@@ -145,10 +144,10 @@ fn expect_words(rt: &impl Abort, words: &[Word], length: usize, wanted: &[(usize
 }
 
 /// The reader reads its file: the words are those that it had, whatever was put elsewhere.
-fn expect_file(rt: &impl Abort, alloc: Global, volume: &mut Volume<MemDisk>, pin: Pin)
-    requires sound { IsSound (memory_state volume.old.disk) (core_of volume.old.map) volume.old.failed }
+fn expect_file<D: Disk>(rt: &impl Abort, alloc: Global, volume: &mut Volume<D>, pin: Pin)
+    requires sound { IsSound (D.state volume.old.disk) (core_of volume.old.map) volume.old.failed }
     requires live { IsReadable (core_of volume.old.map) (Pinned pin) }
-    ensures sound { IsSound (memory_state volume.new.disk) (core_of volume.new.map) volume.new.failed }
+    ensures sound { IsSound (D.state volume.new.disk) (core_of volume.new.map) volume.new.failed }
     ensures map { volume.new.map ≡ volume.old.map }
 {
     let Ok(words) = pin_tests::read(alloc, volume, pin, 1, 1000) else {
@@ -164,17 +163,17 @@ fn expect_file(rt: &impl Abort, alloc: Global, volume: &mut Volume<MemDisk>, pin
 }
 
 /// Begins a version beside a reader and others that are being written, which leaves so much room.
-fn begin_beside(
+fn begin_beside<D: Disk>(
     rt: &impl Abort,
     alloc: Global,
-    volume: &mut Volume<MemDisk>,
+    volume: &mut Volume<D>,
     pin: Pin,
     name: u64,
     room: i64,
 ) -> Pending
-    requires sound { IsSound (memory_state volume.old.disk) (core_of volume.old.map) volume.old.failed }
+    requires sound { IsSound (D.state volume.old.disk) (core_of volume.old.map) volume.old.failed }
     requires reader { IsReadable (core_of volume.old.map) (Pinned pin) }
-    ensures sound { IsSound (memory_state volume.new.disk) (core_of volume.new.map) volume.new.failed }
+    ensures sound { IsSound (D.state volume.new.disk) (core_of volume.new.map) volume.new.failed }
     ensures reader { IsReadable (core_of volume.new.map) (Pinned pin) }
     ensures live { IsSome (pending_at (core_of volume.new.map).pending result.key) }
     ensures others { (k : ℕ) → IsSome (pending_at (core_of volume.old.map).pending k) → IsSome (pending_at (core_of volume.new.map).pending k) }
@@ -189,10 +188,10 @@ fn begin_beside(
 }
 
 /// Puts words into a version beside a reader and another version, which leaves so much room.
-fn put_beside(
+fn put_beside<D: Disk>(
     rt: &impl Abort,
     alloc: Global,
-    volume: &mut Volume<MemDisk>,
+    volume: &mut Volume<D>,
     pin: Pin,
     other: Pending,
     pending: Pending,
@@ -200,12 +199,12 @@ fn put_beside(
     words: &[Word],
     room: i64,
 )
-    requires sound { IsSound (memory_state volume.old.disk) (core_of volume.old.map) volume.old.failed }
+    requires sound { IsSound (D.state volume.old.disk) (core_of volume.old.map) volume.old.failed }
     requires reader { IsReadable (core_of volume.old.map) (Pinned pin) }
     requires other { IsSome (pending_at (core_of volume.old.map).pending other.key) }
     requires live { IsSome (pending_at (core_of volume.old.map).pending pending.key) }
     requires first { 0 < block }
-    ensures sound { IsSound (memory_state volume.new.disk) (core_of volume.new.map) volume.new.failed }
+    ensures sound { IsSound (D.state volume.new.disk) (core_of volume.new.map) volume.new.failed }
     ensures reader { IsReadable (core_of volume.new.map) (Pinned pin) }
     ensures other { IsSome (pending_at (core_of volume.new.map).pending other.key) }
     ensures live { IsSome (pending_at (core_of volume.new.map).pending pending.key) }
@@ -216,21 +215,21 @@ fn put_beside(
 }
 
 /// Drops a version beside a reader and another version, which leaves so much room.
-fn discard_beside(
+fn discard_beside<D: Disk>(
     rt: &impl Abort,
     alloc: Global,
-    volume: &mut Volume<MemDisk>,
+    volume: &mut Volume<D>,
     pin: Pin,
     other: Pending,
     pending: Pending,
     room: i64,
 )
-    requires sound { IsSound (memory_state volume.old.disk) (core_of volume.old.map) volume.old.failed }
+    requires sound { IsSound (D.state volume.old.disk) (core_of volume.old.map) volume.old.failed }
     requires reader { IsReadable (core_of volume.old.map) (Pinned pin) }
     requires other { IsSome (pending_at (core_of volume.old.map).pending other.key) }
     requires live { IsSome (pending_at (core_of volume.old.map).pending pending.key) }
     requires apart { other.key ≡ pending.key → ⊥ }
-    ensures sound { IsSound (memory_state volume.new.disk) (core_of volume.new.map) volume.new.failed }
+    ensures sound { IsSound (D.state volume.new.disk) (core_of volume.new.map) volume.new.failed }
     ensures reader { IsReadable (core_of volume.new.map) (Pinned pin) }
     ensures other { IsSome (pending_at (core_of volume.new.map).pending other.key) }
 {
@@ -240,10 +239,10 @@ fn discard_beside(
 }
 
 /// A version has 257 words: those that were put at its second and its third block, and zeros.
-fn expect_version(rt: &impl Abort, alloc: Global, volume: &mut Volume<MemDisk>, pending: Pending)
-    requires sound { IsSound (memory_state volume.old.disk) (core_of volume.old.map) volume.old.failed }
+fn expect_version<D: Disk>(rt: &impl Abort, alloc: Global, volume: &mut Volume<D>, pending: Pending)
+    requires sound { IsSound (D.state volume.old.disk) (core_of volume.old.map) volume.old.failed }
     requires live { IsSome (pending_at (core_of volume.old.map).pending pending.key) }
-    ensures sound { IsSound (memory_state volume.new.disk) (core_of volume.new.map) volume.new.failed }
+    ensures sound { IsSound (D.state volume.new.disk) (core_of volume.new.map) volume.new.failed }
     ensures live { IsSome (pending_at (core_of volume.new.map).pending pending.key) }
 {
     match put_tests::read(alloc, volume, pending, 1) {
@@ -256,14 +255,14 @@ fn expect_version(rt: &impl Abort, alloc: Global, volume: &mut Volume<MemDisk>, 
 }
 
 /// Writes two versions beside a reader, one of them anew, and drops them. `three` are the words of three blocks.
-fn write_beside(
+fn write_beside<D: Disk>(
     rt: &impl Abort,
     alloc: Global,
-    volume: &mut Volume<MemDisk>,
+    volume: &mut Volume<D>,
     pin: Pin,
     three: &[Word],
 )
-    requires sound { IsSound (memory_state volume.old.disk) (core_of volume.old.map) volume.old.failed }
+    requires sound { IsSound (D.state volume.old.disk) (core_of volume.old.map) volume.old.failed }
     requires reader { IsReadable (core_of volume.old.map) (Pinned pin) }
 {
     let new = begin_beside(rt, alloc, volume, pin, 1, 43);
