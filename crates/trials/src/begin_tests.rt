@@ -3,7 +3,7 @@ ghost use Rattle.blockdisk.specs.Memory.{memory_state};
 ghost use Rattle.volume.specs.LiveCores.{core_of};
 ghost use Rattle.volume.specs.Rest.{IsSound};
 
-use crate::disks::{SIZE, expect_room, opened, v1};
+use crate::disks::{SIZE, expect_room, open, opened, v1};
 use crate::publish_tests::{empty, expect_directory, fresh};
 use blockdisk::{MemDisk, NoMemory};
 use meaning::ErrorCode;
@@ -311,7 +311,10 @@ fn begin_again(rt: &impl Abort, alloc: Global, volume: &mut Volume<MemDisk>)
 /// version.
 #[test]
 fn each_allocation_of_a_version_refused(rt: HostRuntime) {
-    let Ok(mut volume) = v1_opened(&rt, rt.alloc()) else {
+    let Ok(disk) = v1(&rt, rt.alloc(), 1) else {
+        return;
+    };
+    let Some(mut volume) = open(rt.alloc(), disk) else {
         return;
     };
     begin_again(&rt, rt.alloc(), &mut volume);

@@ -5,7 +5,7 @@ ghost use Rattle.volume.specs.Rest.{IsSound};
 
 use crate::open_tests::{
     SIZE, beginning, disk_of, expect_answer, expect_block, expect_booked, expect_made,
-    expect_protection, expect_room, load, make_dir, opened, word,
+    expect_protection, expect_room, load, make_dir, open, opened, word,
 };
 use blockdisk::{Disk, MemDisk, NoMemory};
 use meaning::ErrorCode;
@@ -42,15 +42,21 @@ fn ppn_of(rt: &impl Abort, n: u8) -> Ppn {
     ppn
 }
 
-/// A fresh volume of 64 blocks, on a disk with room to record so many writes and syncs more.
-fn fresh(rt: &impl Abort, alloc: Global, calls: u16) -> Result<Volume<MemDisk>, NoMemory>
-    ensures { IfOk result (λ volume. IsSound (memory_state volume.disk) (core_of volume.map) volume.failed) }
-{
+/// A disk of 64 blocks with an empty volume, which has room to record so many writes and syncs once that is opened.
+fn fresh_disk(rt: &impl Abort, alloc: Global, calls: u16) -> Result<MemDisk, NoMemory> {
     let mut disk = MemDisk::new(alloc, SIZE, BEFORE + usize::from(calls))?;
     for n in 0..SIZE {
         load(rt, &mut disk, n, &[word(OLD); BLOCK_WORDS]);
     }
     expect_made(rt, &mut disk);
+    Ok(disk)
+}
+
+/// A fresh volume of 64 blocks, on a disk with room to record so many writes and syncs more.
+fn fresh(rt: &impl Abort, alloc: Global, calls: u16) -> Result<Volume<MemDisk>, NoMemory>
+    ensures { IfOk result (λ volume. IsSound (memory_state volume.disk) (core_of volume.map) volume.failed) }
+{
+    let disk = fresh_disk(rt, alloc, calls)?;
     Ok(opened(rt, alloc, disk))
 }
 
@@ -284,7 +290,10 @@ fn make_again(rt: &impl Abort, alloc: Global, volume: &mut Volume<MemDisk>)
 /// directory.
 #[test]
 fn each_allocation_of_a_directory_refused(rt: HostRuntime) {
-    let Ok(mut volume) = fresh(&rt, rt.alloc(), 100) else {
+    let Ok(disk) = fresh_disk(&rt, rt.alloc(), 100) else {
+        return;
+    };
+    let Ok(mut volume) = open(rt.alloc(), disk) else {
         return;
     };
     make_again(&rt, rt.alloc(), &mut volume);
