@@ -1,5 +1,6 @@
 -- What a `HostFile` is made of.
-use Rattle.std.specs.Prelude.{ℕ}
+use Rattle.std.specs.Prelude.{ℕ, Option}
+use Rattle.std.specs.declared.io.Error.{Error}
 use Rattle.imagefile.specs.declared.host.HostFile.{HostFile}
 
 module _ {C : Type 0} where
@@ -8,3 +9,6 @@ module _ {C : Type 0} where
 
   abbrev pub failures_of : HostFile C → ℕ
   failures_of file = file.failures
+
+  abbrev pub failure_of : HostFile C → Option Error
+  failure_of file = file.failure

@@ -1,26 +1,28 @@
-ghost use Rattle.std.specs.Prelude.{◌≡◌, ◌+◌, ◌<◌, ◌≤◌, ℕ, [], length, take, IfOk, OnOk, OnErr, IsErrOf};
+ghost use Rattle.std.specs.Prelude.{◌≡◌, ◌+◌, ◌<◌, ◌≤◌, ℕ, [], length, take, None, IsSome, IfOk, OnOk, OnErr, IsErrOf};
 ghost use Rattle.blockdisk.specs.Disk.{one_more};
 ghost use Rattle.blockdisk.specs.declared.fault.Fault.TheVariants.{Device, Damaged};
 ghost use Rattle.imagefile.specs.File.{FileGoesOn, FileKeeps, FileWrites, FileSyncs, window};
-ghost use Rattle.imagefile.specs.Host.{lasting};
+ghost use Rattle.imagefile.specs.Host.{lasting, the_first_of};
 
 use crate::{Durable, FileCalls, HostCalls, SeekingFile};
 use blockdisk::Fault;
 use std::fs::File;
+use std::io::{Error, ErrorKind};
 
 /// A file of the host's, whose calls are made until all is done.
 ///
 /// What a call answered is right wherever the file is honest after it: so say the clauses `answers`
 /// and `changes`, for everything that can be supposed of what no call shows. As a `Durable` it is
-/// honest where that honesty also lasts.
+/// honest where that honesty also lasts. Why its first call failed is kept, for people.
 #[derive(Drop)]
 pub struct HostFile<C: FileCalls = SeekingFile> {
     calls: C,
     failures: u64,
+    failure: Option<Error>,
 }
 
 impl HostFile {
-    ghost use Rattle.imagefile.specs.HostFile.{calls_of, failures_of};
+    ghost use Rattle.imagefile.specs.HostFile.{calls_of, failures_of, failure_of};
     ghost use Rattle.imagefile.specs.SeekingFile.{system_of};
     ghost use Rattle.imagefile.specs.HostCalls.{file_of, history_of};
 
@@ -29,29 +31,47 @@ impl HostFile {
         ensures file { file_of (system_of (calls_of result)) ≡ file }
         ensures history { history_of (system_of (calls_of result)) ≡ [] }
         ensures none_failed { failures_of result ≡ 0 }
+        ensures no_failure { failure_of result ≡ None }
     {
         HostFile::new(SeekingFile::new(HostCalls::new(file)))
     }
 }
 
 impl<C: FileCalls> HostFile<C> {
-    ghost use Rattle.imagefile.specs.HostFile.{calls_of, failures_of};
+    ghost use Rattle.imagefile.specs.HostFile.{calls_of, failures_of, failure_of};
 
     /// The file of these calls. No call has failed yet.
     pub fn new(calls: C) -> Self
         ensures calls { calls_of result ≡ calls }
         ensures none_failed { failures_of result ≡ 0 }
+        ensures no_failure { failure_of result ≡ None }
     {
-        HostFile { calls, failures: 0 }
+        HostFile {
+            calls,
+            failures: 0,
+            failure: None,
+        }
     }
 
-    /// Counts a failure.
-    fn device_fault(&mut self) -> Fault
+    /// Why the first call failed that did: the system's error, `UnexpectedEof` where a read came to the end of the
+    /// file, or `WriteZero` where a write took nothing.
+    pub fn failure(&self) -> Option<Error>
+        ensures { result ≡ failure_of self.now }
+    {
+        self.failure
+    }
+
+    /// Counts a failure, and keeps why the first one was.
+    fn device_fault(&mut self, error: Error) -> Fault
         ensures fault { result ≡ Device }
         ensures calls { calls_of self.new ≡ calls_of self.old }
         ensures failures { failures_of self.new ≡ one_more (failures_of self.old) }
+        ensures failure { failure_of self.new ≡ the_first_of (failure_of self.old) error }
     {
         self.failures = self.failures.saturating_add(1);
+        if self.failure.is_none() {
+            self.failure = Some(error);
+        }
         Fault::Device
     }
 
@@ -69,11 +89,13 @@ impl<C: FileCalls> HostFile<C> {
         ensures goes_on { (u : C.Unseen) → FileGoesOn C.lasts (C.state u (calls_of self.old)) (C.state u (calls_of self.new)) }
         ensures device { IsErrOf result Damaged → ⊥ }
         ensures failed { IsErrOf result Device → failures_of self.new ≡ one_more (failures_of self.old) }
+        ensures told { OnErr result (IsSome (failure_of self.new)) }
         ensures served { OnOk result (failures_of self.new ≡ failures_of self.old) }
     {
         match self.calls.read_some(at, bytes) {
             Ok(count) if count > 0 => Ok(count),
-            _ => Err(self.device_fault()),
+            Ok(_) => Err(self.device_fault(ErrorKind::UnexpectedEof.into())),
+            Err(error) => Err(self.device_fault(error)),
         }
     }
 
@@ -92,17 +114,19 @@ impl<C: FileCalls> HostFile<C> {
         ensures goes_on { (u : C.Unseen) → FileGoesOn C.lasts (C.state u (calls_of self.old)) (C.state u (calls_of self.new)) }
         ensures device { IsErrOf result Damaged → ⊥ }
         ensures failed { IsErrOf result Device → failures_of self.new ≡ one_more (failures_of self.old) }
+        ensures told { OnErr result (IsSome (failure_of self.new)) }
         ensures served { OnOk result (failures_of self.new ≡ failures_of self.old) }
     {
         match self.calls.write_some(at, bytes) {
             Ok(count) if count > 0 || bytes.is_empty() => Ok(count),
-            _ => Err(self.device_fault()),
+            Ok(_) => Err(self.device_fault(ErrorKind::WriteZero.into())),
+            Err(error) => Err(self.device_fault(error)),
         }
     }
 }
 
 impl<C: FileCalls> Durable for HostFile<C> {
-    ghost use Rattle.imagefile.specs.HostFile.{calls_of, failures_of};
+    ghost use Rattle.imagefile.specs.HostFile.{calls_of, failures_of, failure_of};
 
     ghost state = { λ file. lasting C.lasts (C.state C.supposed file.calls) file.failures };
 
@@ -118,11 +142,12 @@ impl<C: FileCalls> Durable for HostFile<C> {
         ensures goes_on { (u : C.Unseen) → FileGoesOn C.lasts (C.state u (calls_of self.old)) (C.state u (calls_of self.new)) }
         ensures device { IsErrOf result Damaged → ⊥ }
         ensures failed { IsErrOf result Device → failures_of self.new ≡ one_more (failures_of self.old) }
+        ensures told { OnErr result (IsSome (failure_of self.new)) }
         ensures served { OnOk result (failures_of self.new ≡ failures_of self.old) }
     {
         match self.calls.size() {
             Ok(size) => Ok(size),
-            Err(_) => Err(self.device_fault()),
+            Err(error) => Err(self.device_fault(error)),
         }
     }
 
@@ -133,12 +158,13 @@ impl<C: FileCalls> Durable for HostFile<C> {
         ensures goes_on { (u : C.Unseen) → FileGoesOn C.lasts (C.state u (calls_of self.old)) (C.state u (calls_of self.new)) }
         ensures device { IsErrOf result Damaged → ⊥ }
         ensures failed { IsErrOf result Device → failures_of self.new ≡ one_more (failures_of self.old) }
+        ensures told { OnErr result (IsSome (failure_of self.new)) }
         ensures served { OnOk result (failures_of self.new ≡ failures_of self.old) }
     {
         let mut done = 0;
         while done < bytes.len() {
             let Some(place) = at.checked_add(done as u64) else {
-                return Err(self.device_fault());
+                return Err(self.device_fault(ErrorKind::InvalidInput.into()));
             };
             done += self.get_some(place, &mut bytes[done..])?;
         }
@@ -153,12 +179,13 @@ impl<C: FileCalls> Durable for HostFile<C> {
         ensures goes_on { (u : C.Unseen) → FileGoesOn C.lasts (C.state u (calls_of self.old)) (C.state u (calls_of self.new)) }
         ensures device { IsErrOf result Damaged → ⊥ }
         ensures failed { IsErrOf result Device → failures_of self.new ≡ one_more (failures_of self.old) }
+        ensures told { OnErr result (IsSome (failure_of self.new)) }
         ensures served { OnOk result (failures_of self.new ≡ failures_of self.old) }
     {
         let mut done = self.put_some(at, bytes)?;
         while done < bytes.len() {
             let Some(place) = at.checked_add(done as u64) else {
-                return Err(self.device_fault());
+                return Err(self.device_fault(ErrorKind::InvalidInput.into()));
             };
             done += self.put_some(place, &bytes[done..])?;
         }
@@ -172,11 +199,12 @@ impl<C: FileCalls> Durable for HostFile<C> {
         ensures goes_on { (u : C.Unseen) → FileGoesOn C.lasts (C.state u (calls_of self.old)) (C.state u (calls_of self.new)) }
         ensures device { IsErrOf result Damaged → ⊥ }
         ensures failed { IsErrOf result Device → failures_of self.new ≡ one_more (failures_of self.old) }
+        ensures told { OnErr result (IsSome (failure_of self.new)) }
         ensures served { OnOk result (failures_of self.new ≡ failures_of self.old) }
     {
         match self.calls.sync_all() {
             Ok(()) => Ok(()),
-            Err(_) => Err(self.device_fault()),
+            Err(error) => Err(self.device_fault(error)),
         }
     }
 }
