@@ -3,3 +3,5 @@ pub mod Requests
 pub mod Statuses
 pub mod Refusals
 pub mod Endings
+pub mod Streams
+pub mod HostFaults

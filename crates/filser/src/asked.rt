@@ -10,3 +10,13 @@ pub enum Request<'a> {
     /// `calls`: serve the input as a call script on this image, at a date and a minute of the day.
     Calls(&'a str, u32, u32),
 }
+
+impl<'a> Request<'a> {
+    /// The path of the image that it names, where it names one.
+    pub fn image(&self) -> Option<&'a str> {
+        match self {
+            Request::Fresh => None,
+            Request::Init(path, _) | Request::Run(path, _, _) | Request::Calls(path, _, _) => Some(*path),
+        }
+    }
+}

@@ -1,7 +1,8 @@
-use crate::image_tests::{V1, expect_on, expect_run, image_of, put};
+use crate::image_tests::{V1, expect_failed, expect_run, expect_told, image_of, put};
+use crate::{MissingStreams, work};
 use std::alloc::{AllocError, Allocator, Global};
 use std::fs::{self, File, Metadata, OpenOptions};
-use std::io;
+use std::io::{self, Read};
 use std::process::Abort;
 use std::rt::Files;
 use std::test::Fail;
@@ -111,22 +112,26 @@ fn expect_guarded<F: Files<File = File> + Alloc<A = Global> + Abort>(
     access: Access,
     path: &str,
     output: &str,
+    told: &str,
     code: u8,
 ) {
     let host = Guarded { files: rt, access };
     let run = ["filser", "run", path];
-    expect_on(rt, &host, rt.alloc(), &run, "LOGIN [10,20]\n", output, code);
+    let line = "LOGIN [10,20]\n";
+    expect_told(rt, &host, rt.alloc(), &run, line, output, told, code);
 }
 
-/// Making an image at a path fails with the device, on a host that allows this.
+/// Making an image at a path fails with the device, on a host that allows this, and nothing is left there.
 fn expect_unmade<F: Files<File = File> + Alloc<A = Global> + Abort>(
     rt: &F,
     access: Access,
     path: &str,
+    told: &str,
 ) {
     let host = Guarded { files: rt, access };
     let init = ["filser", "init", path, "64"];
-    expect_on(rt, &host, rt.alloc(), &init, "", "?Device fault\n", 4);
+    expect_told(rt, &host, rt.alloc(), &init, "", "?Device fault\n", told, 4);
+    assert!(rt; fs::read(rt, path).is_err());
 }
 
 /// A directory of the host's is no image, and its name is taken.
@@ -136,9 +141,11 @@ fn a_directory_in_place_of_an_image(rt: HostRuntime) -> Result<(), Fail> {
     fs::create_dir(&rt, "filser_folder")?;
     let path = "filser_folder/v.img";
     fs::create_dir(&rt, path)?;
-    expect_run(&rt, path, "LOGIN [10,20]\n", "?Device fault\n", 4);
+    let told = "filser: filser_folder/v.img: Is a directory (os error 21)\n";
+    expect_failed(&rt, path, told);
     let init = ["filser", "init", path, "64"];
-    expect_on(&rt, &rt, rt.alloc(), &init, "", "?Image exists\n", 3);
+    let told = "filser: filser_folder/v.img: File exists (os error 17)\n";
+    expect_told(&rt, &rt, rt.alloc(), &init, "", "?Image exists\n", told, 3);
     fs::remove_dir(&rt, path)?;
     fs::remove_dir(&rt, "filser_folder")?;
     Ok(())
@@ -168,12 +175,13 @@ fn an_image_that_is_not_read(rt: HostRuntime) -> Result<(), Fail> {
     let _ = fs::remove_dir_all(&rt, "filser_unread");
     fs::create_dir(&rt, "filser_unread")?;
     let path = "filser_unread/v.img";
-    expect_unmade(&rt, Access::Nothing, path);
-    assert!(rt; fs::read(&rt, path).is_err());
+    let denied = "filser: filser_unread/v.img: permission denied\n";
+    let unread = "filser: filser_unread/v.img: Bad file descriptor (os error 9)\n";
+    expect_unmade(&rt, Access::Nothing, path, denied);
     let image = interrupted(&rt, rt.alloc())?;
     fs::write(&rt, path, image.as_slice())?;
-    for access in [Access::Nothing, Access::Writing] {
-        expect_guarded(&rt, access, path, "?Device fault\n", 4);
+    for (access, told) in [(Access::Nothing, denied), (Access::Writing, unread)] {
+        expect_guarded(&rt, access, path, "?Device fault\n", told, 4);
         assert!(rt; fs::read(&rt, path)?.as_slice() == image.as_slice());
     }
     fs::remove_dir_all(&rt, "filser_unread")?;
@@ -189,11 +197,12 @@ fn an_image_that_is_only_read(rt: HostRuntime) -> Result<(), Fail> {
     let path = "filser_read/v.img";
     let whole = logged(&rt, rt.alloc())?;
     fs::write(&rt, path, whole.as_slice())?;
-    expect_guarded(&rt, Access::Reading, path, "Job 1 [10,20]\n", 0);
+    expect_guarded(&rt, Access::Reading, path, "Job 1 [10,20]\n", "", 0);
     assert!(rt; fs::read(&rt, path)?.as_slice() == whole.as_slice());
     let image = interrupted(&rt, rt.alloc())?;
     fs::write(&rt, path, image.as_slice())?;
-    expect_guarded(&rt, Access::Reading, path, "?Device fault\n", 4);
+    let told = "filser: filser_read/v.img: Bad file descriptor (os error 9)\n";
+    expect_guarded(&rt, Access::Reading, path, "?Device fault\n", told, 4);
     assert!(rt; fs::read(&rt, path)?.as_slice() == image.as_slice());
     expect_run(&rt, path, "LOGIN [10,20]\n", "Job 1 [10,20]\n", 0);
     assert!(rt; fs::read(&rt, path)?.as_slice() == whole.as_slice());
@@ -201,14 +210,72 @@ fn an_image_that_is_only_read(rt: HostRuntime) -> Result<(), Fail> {
     Ok(())
 }
 
-/// An image that is made and then can't be written is left as it is: without a byte.
+/// Of an image that is made and then can't be written nothing is left.
 #[test]
 fn an_image_that_is_made_and_not_written(rt: HostRuntime) -> Result<(), Fail> {
     let _ = fs::remove_dir_all(&rt, "filser_unwritten");
     fs::create_dir(&rt, "filser_unwritten")?;
     let path = "filser_unwritten/v.img";
-    expect_unmade(&rt, Access::Reading, path);
-    assert!(rt; fs::read(&rt, path)?.is_empty());
+    let told = "filser: filser_unwritten/v.img: Bad file descriptor (os error 9)\n";
+    expect_unmade(&rt, Access::Reading, path, told);
     fs::remove_dir_all(&rt, "filser_unwritten")?;
     Ok(())
+}
+
+/// An image that is locked isn't served, and is as it was; one that no longer is, is served.
+#[test]
+fn an_image_in_use(rt: HostRuntime) -> Result<(), Fail> {
+    let _ = fs::remove_dir_all(&rt, "filser_locked");
+    fs::create_dir(&rt, "filser_locked")?;
+    let path = "filser_locked/v.img";
+    let image = interrupted(&rt, rt.alloc())?;
+    fs::write(&rt, path, image.as_slice())?;
+    let other = File::open(&rt, path)?;
+    other.lock()?;
+    let told = "filser: filser_locked/v.img: in use by another process\n";
+    expect_failed(&rt, path, told);
+    assert!(rt; fs::read(&rt, path)?.as_slice() == image.as_slice());
+    other.unlock()?;
+    expect_run(&rt, path, "LOGIN [10,20]\n", "Job 1 [10,20]\n", 0);
+    fs::remove_dir_all(&rt, "filser_locked")?;
+    Ok(())
+}
+
+/// An input that gives these bytes, and then breaks off.
+struct Broken<'a> {
+    bytes: &'a [u8],
+}
+
+impl Read for Broken<'_> {
+    fn read(&mut self, buf: &mut [u8]) -> io::Result<usize> {
+        if self.bytes.is_empty() {
+            return Err(io::Error::from(io::ErrorKind::ConnectionReset));
+        }
+        self.bytes.read(buf)
+    }
+}
+
+/// The line that an input broke off in is told: the third, after two that were answered.
+#[test]
+fn an_input_that_breaks_off(rt: HostRuntime) {
+    let alloc = rt.alloc();
+    let mut reader = Broken {
+        bytes: "LOGIN [10,20]\nFOO\nDIR".as_bytes(),
+    };
+    let mut writer = Vec::new(alloc);
+    let mut errors = Vec::new(alloc);
+    let missing = MissingStreams::none();
+    let status = work(
+        &rt,
+        alloc,
+        &["filser"],
+        &missing,
+        &mut reader,
+        &mut writer,
+        &mut errors,
+    );
+    assert_eq!(rt; status, 4);
+    assert!(rt; writer.as_slice() == "Job 1 [10,20]\n?Command error\n".as_bytes());
+    let told = "filser: standard input: line 3: connection reset\n";
+    assert!(rt; errors.as_slice() == told.as_bytes());
 }

@@ -1,53 +1,134 @@
-ghost use Rattle.std.specs.Prelude.{◌≡◌, ◌⊎◌, IfErr};
+ghost use Rattle.std.specs.Prelude.{◌≡◌, ◌⊎◌, IfOk, IfErr};
 ghost use Rattle.filser.specs.Refusals.{IsFileRefusal};
+ghost use Rattle.filser.specs.Streams.{IsApart};
 ghost use Rattle.filser.specs.declared.refusal.Refusal.TheVariants.{Exists, Start};
 ghost use Rattle.volume.specs.declared.error.VolumeError.TheVariants.{Device};
 
-use crate::Refusal;
+use crate::fault::tell;
+use crate::streams::{ERRORS, stream_of};
+use crate::{HostFault, ImageFault, Refusal};
 use commands::Volume;
 use imagefile::{HostFile, ImageDisk, ImageError};
-use std::fs::{File, OpenOptions};
-use std::io;
+use std::fs::{self, File, OpenOptions, TryLockError};
+use std::io::{self, ErrorKind, Write};
+use std::os::fd::AsRawFd;
 use std::rt::Files;
 use volume::VolumeError;
-
-/// How many bytes a block takes in an image: eight to a word, the most significant first.
-const BLOCK_BYTES: u64 = 1024;
+use words36::BLOCK_BYTES;
 
 /// An image of the host's, that is worked on in place.
 pub(crate) type Image = ImageDisk<HostFile>;
 
-/// A file that couldn't be opened, made or written.
-const DEVICE: Refusal = Refusal::Start(VolumeError::Device);
+/// Why the first call failed that did on a file, for people.
+fn failure_of(file: &HostFile) -> Option<HostFault> {
+    file.failure().map(HostFault::System)
+}
+
+/// Tells people why the file of an image failed, where it did.
+pub(crate) fn tell_failure<E: Write>(errors: &mut E, path: &str, image: Image) {
+    if let Some(fault) = failure_of(&image.finish()) {
+        tell(errors, path, &fault);
+    }
+}
+
+/// The file, unless it has the number of a standard stream: what is printed then would land in it.
+///
+/// # Errors
+///
+/// `Input`, `Output` or `Errors`, by the number.
+fn apart(file: File) -> Result<File, ImageFault>
+    ensures apart { IfOk result (λ kept. (kept ≡ file) × IsApart kept) }
+    ensures refused { IfErr result (λ fault. IsFileRefusal fault.refusal) }
+{
+    if file.as_raw_fd() <= ERRORS {
+        return Err(ImageFault::from(stream_of(file.as_raw_fd())));
+    }
+    Ok(file)
+}
+
+/// Takes the file of an image for this process alone, until the process ends. It never waits. A file system without
+/// locks can't keep others away, and people are told so.
+///
+/// # Errors
+///
+/// `InUse` where another process has it.
+fn claim<E: Write>(file: &File, path: &str, errors: &mut E) -> Result<(), ImageFault>
+    ensures { IfErr result (λ fault. IsFileRefusal fault.refusal) }
+{
+    match file.try_lock() {
+        Ok(()) => Ok(()),
+        Err(TryLockError::WouldBlock) => Err(ImageFault::from(HostFault::InUse)),
+        Err(TryLockError::Error(error)) => {
+            tell(
+                errors,
+                path,
+                &format_args!("nothing keeps another process away: {error}"),
+            );
+            Ok(())
+        }
+    }
+}
 
 /// The image in a file.
 ///
 /// # Errors
 ///
 /// `NotVolume` where its length is not that of an image, `Device` where the device failed.
-fn image_in(file: File) -> Result<Image, Refusal>
-    ensures { IfErr result IsFileRefusal }
+fn image_in(file: File) -> Result<Image, ImageFault>
+    requires { IsApart file }
+    ensures { IfErr result (λ fault. IsFileRefusal fault.refusal) }
 {
     match ImageDisk::new(HostFile::from_file(file)) {
         Ok(image) => Ok(image),
-        Err((ImageError::BadSize, _)) => Err(Refusal::Start(VolumeError::NotVolume)),
-        Err((ImageError::Device, _)) => Err(DEVICE),
+        Err((ImageError::BadSize, _)) => Err(ImageFault {
+            refusal: Refusal::Start(VolumeError::NotVolume),
+            host: None,
+        }),
+        Err((ImageError::Device, file)) => Err(ImageFault {
+            refusal: Refusal::Start(VolumeError::Device),
+            host: failure_of(&file),
+        }),
     }
 }
 
-/// The image at a path.
+/// The open file of an image, for this process alone and none of the standard streams.
 ///
 /// # Errors
 ///
-/// `Device` where the file can't be opened, or its length can't be asked for, `NotVolume` where its length
-/// is not that of an image.
-pub(crate) fn open_image<F: Files<File = File>>(files: &F, path: &str) -> Result<Image, Refusal>
-    ensures { IfErr result IsFileRefusal }
+/// `InUse` where another process has it, `System` where the file can't be opened.
+fn open_file<F: Files<File = File>, E: Write>(
+    files: &F,
+    path: &str,
+    errors: &mut E,
+) -> Result<File, ImageFault>
+    ensures apart { IfOk result IsApart }
+    ensures refused { IfErr result (λ fault. IsFileRefusal fault.refusal) }
 {
     match OpenOptions::new().read(true).write(true).open(files, path) {
-        Ok(file) => image_in(file),
-        Err(_) => Err(DEVICE),
+        Ok(file) => {
+            let file = apart(file)?;
+            claim(&file, path, errors)?;
+            Ok(file)
+        }
+        Err(error) => Err(ImageFault::from(HostFault::System(error))),
     }
+}
+
+/// The image at a path, for this process alone.
+///
+/// # Errors
+///
+/// `Device` where the file can't be opened, another process has it, it is a standard stream, or its length can't be
+/// asked for, `NotVolume` where its length is not that of an image.
+pub(crate) fn open_image<F: Files<File = File>, E: Write>(
+    files: &F,
+    path: &str,
+    errors: &mut E,
+) -> Result<Image, ImageFault>
+    ensures { IfErr result (λ fault. IsFileRefusal fault.refusal) }
+{
+    let file = open_file(files, path, errors)?;
+    image_in(file)
 }
 
 /// A new file.
@@ -55,33 +136,82 @@ pub(crate) fn open_image<F: Files<File = File>>(files: &F, path: &str) -> Result
 /// # Errors
 ///
 /// `Exists` where something has that name, `Device` where it can't be made.
-fn new_file<F: Files<File = File>>(files: &F, path: &str) -> Result<File, Refusal>
-    ensures { IfErr result (λ refusal. (refusal ≡ Exists) ⊎ (refusal ≡ Start Device)) }
+fn new_file<F: Files<File = File>>(files: &F, path: &str) -> Result<File, ImageFault>
+    ensures { IfErr result (λ fault. (fault.refusal ≡ Exists) ⊎ (fault.refusal ≡ Start Device)) }
 {
     match File::create_new(files, path) {
         Ok(file) => Ok(file),
-        Err(error) if error.kind() == io::ErrorKind::AlreadyExists => Err(Refusal::Exists),
-        Err(_) => Err(DEVICE),
+        Err(error) if error.kind() == ErrorKind::AlreadyExists => Err(ImageFault {
+            refusal: Refusal::Exists,
+            host: Some(HostFault::System(error)),
+        }),
+        Err(error) => Err(ImageFault::from(HostFault::System(error))),
     }
 }
 
-/// Makes an image of so many blocks with no directory on it. The blocks that a new volume doesn't have
-/// written are zero.
+/// Writes so many blocks of zeros, so that a file system without room for an image refuses it when it is made, and not
+/// when somebody's file is written.
 ///
 /// # Errors
 ///
-/// `Exists` where something has that name; it is left alone. `Device` where the file can't be made or
-/// written; what there is of it is left.
-pub fn make_image<F: Files<File = File>>(files: &F, path: &str, blocks: u32) -> Result<(), Refusal>
-    ensures { IfErr result (λ refusal. (refusal ≡ Exists) ⊎ IsFileRefusal refusal) }
+/// The system's.
+fn write_zeros(file: &File, blocks: u32) -> io::Result<()> {
+    let zeros = [0; BLOCK_BYTES];
+    let mut writer = file;
+    for _ in 0..blocks {
+        writer.write_all(&zeros)?;
+    }
+    file.sync_all()
+}
+
+/// Makes a volume of so many blocks in a new file.
+///
+/// # Errors
+///
+/// `Device` where the file can't be written, or another process has it.
+fn fill<E: Write>(
+    file: File,
+    path: &str,
+    blocks: u32,
+    errors: &mut E,
+) -> Result<(), ImageFault>
+    ensures { IfErr result (λ fault. IsFileRefusal fault.refusal) }
 {
-    let file = new_file(files, path)?;
-    if file.set_len(BLOCK_BYTES * u64::from(blocks)).is_err() {
-        return Err(DEVICE);
+    let file = apart(file)?;
+    claim(&file, path, errors)?;
+    if let Err(error) = write_zeros(&file, blocks) {
+        return Err(ImageFault::from(HostFault::System(error)));
     }
     let mut image = image_in(file)?;
     match Volume::init(&mut image) {
         Ok(()) => Ok(()),
-        Err(error) => Err(Refusal::Start(error)),
+        Err(error) => Err(ImageFault {
+            refusal: Refusal::Start(error),
+            host: failure_of(&image.finish()),
+        }),
+    }
+}
+
+/// Makes an image of so many blocks with no directory on it. All of them are written.
+///
+/// # Errors
+///
+/// `Exists` where something has that name; it is left alone. `Device` where the file can't be made or written; it is
+/// removed then.
+pub fn make_image<F: Files<File = File>, E: Write>(
+    files: &F,
+    path: &str,
+    blocks: u32,
+    errors: &mut E,
+) -> Result<(), ImageFault>
+    ensures { IfErr result (λ fault. (fault.refusal ≡ Exists) ⊎ IsFileRefusal fault.refusal) }
+{
+    let file = new_file(files, path)?;
+    match fill(file, path, blocks, errors) {
+        Ok(()) => Ok(()),
+        Err(fault) => {
+            let _ = fs::remove_file(files, path);
+            Err(fault)
+        }
     }
 }

@@ -1,4 +1,4 @@
-use crate::{Refusal, make_image, work};
+use crate::{MissingStreams, Refusal, make_image, work};
 use std::alloc::{AllocError, Global};
 use std::fs::{self, File};
 use std::io;
@@ -80,27 +80,37 @@ pub(crate) fn image_of(
     Ok(bytes)
 }
 
-/// A run with these words over this input and these files prints this, and has this status; nothing goes to
-/// the standard error.
-pub(crate) fn expect_on<T: Abort, F: Files<File = File>>(
+/// A run with these words over this input and these files prints this, tells this on the standard error, and has
+/// this status.
+pub(crate) fn expect_told<T: Abort, F: Files<File = File>>(
     rt: &T,
     files: &F,
     alloc: Global,
     words: &[&str],
     input: &str,
     output: &str,
+    told: &str,
     code: u8,
 ) {
     let mut reader = input.as_bytes();
     let mut writer = Vec::new(alloc);
     let mut errors = Vec::new(alloc);
-    let status = work(files, alloc, words, &mut reader, &mut writer, &mut errors);
+    let missing = MissingStreams::none();
+    let status = work(
+        files,
+        alloc,
+        words,
+        &missing,
+        &mut reader,
+        &mut writer,
+        &mut errors,
+    );
     assert_eq!(rt; status, code);
     assert!(rt; writer.as_slice() == output.as_bytes());
-    assert!(rt; errors.is_empty());
+    assert!(rt; errors.as_slice() == told.as_bytes());
 }
 
-/// The same over the host's files.
+/// The same over the host's files, where nothing is told.
 fn expect<F: Files<File = File> + Abort>(
     rt: &F,
     alloc: Global,
@@ -109,7 +119,7 @@ fn expect<F: Files<File = File> + Abort>(
     output: &str,
     code: u8,
 ) {
-    expect_on(rt, rt, alloc, words, input, output, code);
+    expect_told(rt, rt, alloc, words, input, output, "", code);
 }
 
 /// The same of a run on the image at a path.
@@ -145,6 +155,15 @@ fn an_image_is_made(rt: HostRuntime) -> Result<(), Fail> {
     Ok(())
 }
 
+/// A new image doesn't get this name, since it is taken.
+fn expect_taken<F: Files<File = File> + Alloc<A = Global> + Abort>(rt: &F, path: &str) {
+    let mut errors = Vec::new(rt.alloc());
+    match make_image(rt, path, 64, &mut errors) {
+        Ok(()) => panic!(rt; "an image is made"),
+        Err(fault) => assert!(rt; fault.refusal == Refusal::Exists),
+    }
+}
+
 /// A new image gets no name that is taken, and none in a folder that isn't there.
 #[test]
 fn names_where_no_image_is_made(rt: HostRuntime) -> Result<(), Fail> {
@@ -154,11 +173,13 @@ fn names_where_no_image_is_made(rt: HostRuntime) -> Result<(), Fail> {
     let image = image_of(&rt, rt.alloc(), &FRESH)?;
     fs::write(&rt, path, image.as_slice())?;
     let init = ["filser", "init", path, "128"];
-    expect(&rt, rt.alloc(), &init, "", "?Image exists\n", 3);
+    let told = "filser: filser_taken/v.img: File exists (os error 17)\n";
+    expect_told(&rt, &rt, rt.alloc(), &init, "", "?Image exists\n", told, 3);
     assert!(rt; fs::read(&rt, path)?.as_slice() == image.as_slice());
-    assert!(rt; make_image(&rt, path, 64) == Err(Refusal::Exists));
+    expect_taken(&rt, path);
     let init = ["filser", "init", "filser_taken/none/v.img", "64"];
-    expect(&rt, rt.alloc(), &init, "", "?Device fault\n", 4);
+    let told = "filser: filser_taken/none/v.img: No such file or directory (os error 2)\n";
+    expect_told(&rt, &rt, rt.alloc(), &init, "", "?Device fault\n", told, 4);
     fs::remove_dir_all(&rt, "filser_taken")?;
     Ok(())
 }
@@ -263,7 +284,8 @@ fn files_that_are_no_images(rt: HostRuntime) -> Result<(), Fail> {
     let _ = fs::remove_dir_all(&rt, "filser_others");
     fs::create_dir(&rt, "filser_others")?;
     let path = "filser_others/v.img";
-    expect_run(&rt, path, "LOGIN [10,20]\n", "?Device fault\n", 4);
+    let told = "filser: filser_others/v.img: No such file or directory (os error 2)\n";
+    expect_failed(&rt, path, told);
     expect_refused(&rt, path, b"", "?Not a volume\n")?;
     expect_refused(&rt, path, b"FILSER", "?Not a volume\n")?;
     let mut image = image_of(&rt, rt.alloc(), &V1)?;
@@ -302,6 +324,7 @@ fn outcome<F: Files<File = File> + Alloc<A = Global>>(
         rt,
         alloc,
         words,
+        &MissingStreams::none(),
         &mut "".as_bytes(),
         &mut writer,
         &mut errors,

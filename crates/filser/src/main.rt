@@ -8,34 +8,41 @@
 //! 4. Why a run ends before a line is served is shown as the definition has it, byte by byte, and the
 //!    status of such a run is the definition's. (`specs/Refusals.antt`)
 //! 5. `work` is a whole run: it ends, takes nothing but what it is handed, and answers a status from 0 to
-//!    4. `main` hands it the standard streams and the host's files, and does nothing else.
+//!    4. `main` holds the numbers of the standard streams that are missing, hands `work` the streams and the host's
+//!    files, and does nothing else.
+//! 6. No file with the number of a standard stream is taken for an image. (`open_file`, `apart`)
 //!
 //! What an image stands for, and what a line does, is not known here.
 #![tactic(auto)]
 
 mod asked;
 mod error;
+mod fault;
 #[cfg(test)]
 mod host_tests;
 mod image;
 #[cfg(test)]
 mod image_tests;
+mod lines;
 mod program;
 mod reading;
 mod refusal;
 mod serving;
 mod status;
+mod streams;
 mod table;
 #[cfg(test)]
 mod tests;
 
 pub use asked::Request;
 pub use error::RequestError;
+pub use fault::{HostFault, ImageFault};
 pub use image::make_image;
 pub use program::work;
 pub use reading::request;
 pub use refusal::Refusal;
 pub use status::Status;
+pub use streams::MissingStreams;
 use std::env;
 use std::io::{self, ErrorKind};
 use std::process::ExitCode;
@@ -55,7 +62,12 @@ fn main(rt: HostRuntime) -> ExitCode {
 }
 
 /// The status of a run, or why there are no arguments: one isn't text, or memory ran out.
+///
+/// The numbers of the standard streams are held before anything else is opened.
 fn run(rt: &HostRuntime) -> io::Result<u8> {
+    let Ok(missing) = MissingStreams::hold(rt) else {
+        return Ok(Status::Fault.code());
+    };
     let alloc = rt.alloc();
     let words: Vec<String> = env::args(rt)?.collect(alloc)?;
     let texts: Vec<&str> = words.iter().map(|word| word.as_str()).collect(alloc)?;
@@ -65,6 +77,7 @@ fn run(rt: &HostRuntime) -> io::Result<u8> {
         rt,
         alloc,
         texts.as_slice(),
+        &missing,
         &mut rt.reader(),
         &mut output,
         &mut errors,

@@ -1,14 +1,18 @@
-ghost use Rattle.std.specs.Prelude.{◌≡◌, ◌≢◌, ◌⊎◌, ◌≤◌, [], map};
+ghost use Rattle.std.specs.Prelude.{◌≡◌, ◌≢◌, ◌⊎◌, ◌≤◌, [], map, true, IfSome};
 ghost use Rattle.clap.specs.Words.{fault_of, kind_of, subcommand_of};
 ghost use Rattle.filser.specs.CommandLine.{command_line};
 ghost use Rattle.filser.specs.Endings.{AreMistaken, AskToSee, EndsUnasked, IsShown};
+ghost use Rattle.filser.specs.HostFaults.{forbids_errors, forbids_output};
 ghost use Rattle.filser.specs.Requests.{Asks, InRange};
 ghost use Rattle.filser.specs.declared.asked.Request.{Request as Asked};
 ghost use Rattle.filser.specs.declared.status.Status.TheVariants.{Done, BadArguments, Fault};
 
-use crate::image::open_image;
+use crate::fault::tell;
+use crate::image::{open_image, tell_failure};
+use crate::lines::LineReader;
 use crate::serving::{say, serve, serve_calls, serve_fresh};
-use crate::{Request, RequestError, Status, make_image, request};
+use crate::streams::stream_at;
+use crate::{ImageFault, MissingStreams, Request, RequestError, Status, make_image, request};
 use clap::Error;
 use std::alloc::Global;
 use std::fs::File;
@@ -17,15 +21,16 @@ use std::rt::Files;
 use words36::Moment;
 
 /// A whole run of the program: reads the words, the first of which is its name, does what they ask for over
-/// the files of the host, and answers the exit status, 0 to 4. Texts go to `writer`, but for those on wrong
-/// arguments, which go to `errors`.
+/// the files of the host, and answers the exit status, 0 to 4. Texts go to `writer`. To `errors` go those on wrong
+/// arguments, why the host didn't give what was asked of an image, and the line that the input broke off in.
 ///
 /// Where several faults stand, the first of these is met: the arguments, a new file that is there, a file
-/// that can't be opened or made, its size, the start, the input.
+/// that can't be opened or made or that another process has, its size, the start, the input.
 pub fn work<F: Files<File = File>, R: Read, W: Write, E: Write>(
     files: &F,
     alloc: Global,
     words: &[&str],
+    missing: &MissingStreams,
     reader: &mut R,
     writer: &mut W,
     errors: &mut E,
@@ -36,7 +41,11 @@ pub fn work<F: Files<File = File>, R: Read, W: Write, E: Write>(
     ensures asked { (r : Asked) → Asks (subcommand_of command_line (map (λ w. w.now) words.now)) r
         → fault_of command_line (map (λ w. w.now) words.now) ≡ [] → result ≢ 2 }
 {
-    let status = answer(files, alloc, words, reader, writer, errors);
+    let mut lines = LineReader::new(reader);
+    let status = answer(files, alloc, words, missing, &mut lines, writer, errors);
+    if let Some((line, fault)) = lines.fault() {
+        tell(errors, "standard input", &format_args!("line {line}: {fault}"));
+    }
     match writer.flush() {
         Ok(()) => status.code(),
         Err(_) => Status::Fault.code(),
@@ -48,6 +57,7 @@ fn answer<F: Files<File = File>, R: Read, W: Write, E: Write>(
     files: &F,
     alloc: Global,
     words: &[&str],
+    missing: &MissingStreams,
     reader: &mut R,
     writer: &mut W,
     errors: &mut E,
@@ -58,37 +68,95 @@ fn answer<F: Files<File = File>, R: Read, W: Write, E: Write>(
         → fault_of command_line (map (λ w. w.now) words.now) ≡ [] → result ≢ BadArguments }
 {
     match request(alloc, words) {
-        Ok(asked) => perform(files, alloc, asked, reader, writer),
+        Ok(asked) => start(files, alloc, asked, missing, reader, writer, errors),
         Err(error) => refuse(&error, writer, errors),
     }
 }
 
+/// Does what is asked for, unless that would print into the image, or there is nothing to read or to print to.
+fn start<F: Files<File = File>, R: Read, W: Write, E: Write>(
+    files: &F,
+    alloc: Global,
+    asked: Request<'_>,
+    missing: &MissingStreams,
+    reader: &mut R,
+    writer: &mut W,
+    errors: &mut E,
+) -> Status
+    requires { InRange asked }
+    ensures { result ≢ BadArguments }
+{
+    if let Some(path) = asked.image() {
+        if let Some(stream) = stream_at(files, path) {
+            return refuse_image(ImageFault::from(stream), path, writer, errors);
+        }
+    }
+    if missing.are_needed() {
+        tell(errors, "standard input or output", &"it is closed");
+        return Status::Fault;
+    }
+    perform(files, alloc, asked, reader, writer, errors)
+}
+
 /// Does what is asked for.
-fn perform<F: Files<File = File>, R: Read, W: Write>(
+fn perform<F: Files<File = File>, R: Read, W: Write, E: Write>(
     files: &F,
     alloc: Global,
     asked: Request<'_>,
     reader: &mut R,
     writer: &mut W,
+    errors: &mut E,
 ) -> Status
     requires { InRange asked }
     ensures { result ≢ BadArguments }
 {
     match asked {
         Request::Fresh => serve_fresh(alloc, moment(0, 0), reader, writer),
-        Request::Init(path, blocks) => match make_image(files, path, blocks) {
+        Request::Init(path, blocks) => match make_image(files, path, blocks, errors) {
             Ok(()) => Status::Done,
-            Err(refusal) => say(writer, refusal),
+            Err(fault) => refuse_image(fault, path, writer, errors),
         },
-        Request::Run(path, date, minute) => match open_image(files, path) {
-            Ok(image) => serve(alloc, image, moment(date, minute), reader, writer),
-            Err(refusal) => say(writer, refusal),
+        Request::Run(path, date, minute) => match open_image(files, path, errors) {
+            Ok(image) => {
+                let (status, image) = serve(alloc, image, moment(date, minute), reader, writer);
+                tell_failure(errors, path, image);
+                status
+            }
+            Err(fault) => refuse_image(fault, path, writer, errors),
         },
-        Request::Calls(path, date, minute) => match open_image(files, path) {
-            Ok(image) => serve_calls(alloc, image, moment(date, minute), reader, writer),
-            Err(refusal) => say(writer, refusal),
+        Request::Calls(path, date, minute) => match open_image(files, path, errors) {
+            Ok(image) => {
+                let (status, image) = serve_calls(alloc, image, moment(date, minute), reader, writer);
+                tell_failure(errors, path, image);
+                status
+            }
+            Err(fault) => refuse_image(fault, path, writer, errors),
         },
     }
+}
+
+/// Says why an image isn't served or made, and tells people what the host has to do with it. Nothing is written to a
+/// stream that leads to the image.
+fn refuse_image<W: Write, E: Write>(
+    fault: ImageFault,
+    path: &str,
+    writer: &mut W,
+    errors: &mut E,
+) -> Status
+    ensures serving { result ≢ BadArguments }
+    ensures unsaid { IfSome fault.host (λ host. forbids_output host ≡ true → W.contents writer.new ≡ W.contents writer.old) }
+    ensures untold { IfSome fault.host (λ host. forbids_errors host ≡ true → E.contents errors.new ≡ E.contents errors.old) }
+{
+    let Some(host) = fault.host else {
+        return say(writer, fault.refusal);
+    };
+    if !host.forbids_errors() {
+        tell(errors, path, &host);
+    }
+    if host.forbids_output() {
+        return fault.refusal.status();
+    }
+    say(writer, fault.refusal)
 }
 
 /// A moment of numbers that are in range.

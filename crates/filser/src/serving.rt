@@ -7,7 +7,7 @@ ghost use Rattle.filser.specs.declared.status.Status.TheVariants.{BadArguments, 
 
 use crate::{Refusal, Status};
 use blockdisk::{Disk, MemDisk};
-use commands::{Monitor, Tally, Volume, script, session};
+use commands::{Monitor, SessionError, Tally, Volume, script, session};
 use std::alloc::Global;
 use std::io::{Read, Write};
 use words36::Moment;
@@ -47,43 +47,52 @@ fn status_of(tally: Tally) -> Status
     })
 }
 
-/// Serves the lines of the reader on a disk, at a moment, and writes what they print.
+/// The status of a session or a script, which may have broken off.
+fn ending(talked: Result<Tally, SessionError>) -> Status
+    ensures { result ≢ BadArguments }
+{
+    match talked {
+        Ok(tally) => status_of(tally),
+        Err(_) => Status::Fault,
+    }
+}
+
+/// Serves the lines of the reader on a disk, at a moment, and writes what they print. The disk is handed back.
 pub(crate) fn serve<D: Disk + Drop, R: Read, W: Write>(
     alloc: Global,
     disk: D,
     moment: Moment,
     reader: &mut R,
     writer: &mut W,
-) -> Status
-    ensures { result ≢ BadArguments }
+) -> (Status, D)
+    ensures { result.0 ≢ BadArguments }
 {
-    let mut monitor = match Monitor::start(alloc, disk) {
-        Ok(monitor) => monitor,
-        Err((error, _)) => return say(writer, Refusal::Start(error)),
-    };
-    match session(alloc, reader, writer, &mut monitor, moment) {
-        Ok(tally) => status_of(tally),
-        Err(_) => Status::Fault,
+    match Monitor::start(alloc, disk) {
+        Ok(mut monitor) => {
+            let talked = session(alloc, reader, writer, &mut monitor, moment);
+            (ending(talked), monitor.finish())
+        }
+        Err((error, disk)) => (say(writer, Refusal::Start(error)), disk),
     }
 }
 
-/// Serves the call script of the reader on a disk, at a moment, and writes a line for each reply.
+/// Serves the call script of the reader on a disk, at a moment, and writes a line for each reply. The disk is handed
+/// back.
 pub(crate) fn serve_calls<D: Disk + Drop, R: Read, W: Write>(
     alloc: Global,
     disk: D,
     moment: Moment,
     reader: &mut R,
     writer: &mut W,
-) -> Status
-    ensures { result ≢ BadArguments }
+) -> (Status, D)
+    ensures { result.0 ≢ BadArguments }
 {
-    let mut monitor = match Monitor::start(alloc, disk) {
-        Ok(monitor) => monitor,
-        Err((error, _)) => return say(writer, Refusal::Start(error)),
-    };
-    match script(alloc, reader, writer, &mut monitor, moment) {
-        Ok(tally) => status_of(tally),
-        Err(_) => Status::Fault,
+    match Monitor::start(alloc, disk) {
+        Ok(mut monitor) => {
+            let talked = script(alloc, reader, writer, &mut monitor, moment);
+            (ending(talked), monitor.finish())
+        }
+        Err((error, disk)) => (say(writer, Refusal::Start(error)), disk),
     }
 }
 
@@ -100,7 +109,7 @@ pub(crate) fn serve_fresh<R: Read, W: Write>(
         return Status::Fault;
     };
     match Volume::init(&mut disk) {
-        Ok(()) => serve(alloc, disk, moment, reader, writer),
+        Ok(()) => serve(alloc, disk, moment, reader, writer).0,
         Err(error) => say(writer, Refusal::Start(error)),
     }
 }

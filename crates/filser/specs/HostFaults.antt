@@ -1,0 +1,20 @@
+-- Which standard stream stays untouched, since it leads to an image.
+use Rattle.std.specs.Prelude.{Bool, true, false}
+use Rattle.filser.specs.declared.fault.HostFault.{HostFault}
+use Rattle.filser.specs.declared.fault.HostFault.TheVariants.{System, InUse, Input, Output, Errors}
+
+-- nothing may be printed
+abbrev pub forbids_output : HostFault → Bool
+forbids_output (System error) = false
+forbids_output InUse = false
+forbids_output Input = false
+forbids_output Output = true
+forbids_output Errors = true
+
+-- nothing may be told
+abbrev pub forbids_errors : HostFault → Bool
+forbids_errors (System error) = false
+forbids_errors InUse = false
+forbids_errors Input = false
+forbids_errors Output = false
+forbids_errors Errors = true

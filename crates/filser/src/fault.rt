@@ -1,0 +1,79 @@
+ghost use Rattle.std.specs.Prelude.{◌≡◌, Some};
+ghost use Rattle.filser.specs.HostFaults.{forbids_errors, forbids_output};
+ghost use Rattle.filser.specs.declared.refusal.Refusal.TheVariants.{Start};
+ghost use Rattle.volume.specs.declared.error.VolumeError.TheVariants.{Device};
+
+use crate::Refusal;
+use std::fmt::Display;
+use std::io::{self, Write};
+use thiserror::Error;
+use volume::VolumeError;
+
+/// Why the host doesn't give what is asked of it, as people are told on the standard error.
+#[derive(Clone, Copy, Debug, Error)]
+pub enum HostFault {
+    /// A call of the system's failed.
+    #[error(transparent)]
+    System(#[from] io::Error),
+    /// Another process has the image.
+    #[error("in use by another process")]
+    InUse,
+    /// The standard input leads to the image.
+    #[error("the standard input of this run")]
+    Input,
+    /// What is printed would land in the image. So nothing is printed.
+    #[error("the standard output of this run")]
+    Output,
+    /// What is told would land in the image. So nothing is told or printed.
+    #[error("the standard error of this run")]
+    Errors,
+}
+
+impl HostFault {
+    /// Whether nothing may be written to the standard output.
+    pub fn forbids_output(&self) -> bool
+        ensures { result ≡ forbids_output self.now }
+    {
+        match self {
+            HostFault::Output | HostFault::Errors => true,
+            HostFault::System(_) | HostFault::InUse | HostFault::Input => false,
+        }
+    }
+
+    /// Whether nothing may be written to the standard error.
+    pub fn forbids_errors(&self) -> bool
+        ensures { result ≡ forbids_errors self.now }
+    {
+        match self {
+            HostFault::Errors => true,
+            HostFault::System(_) | HostFault::InUse | HostFault::Input | HostFault::Output => false,
+        }
+    }
+}
+
+/// Why an image isn't served: the line that is printed, with the status, and what the host has to do with it, if it has.
+#[derive(Clone, Copy, Debug)]
+pub struct ImageFault {
+    /// What is printed.
+    pub refusal: Refusal,
+    /// What people are told beside it.
+    pub host: Option<HostFault>,
+}
+
+impl From<HostFault> for ImageFault {
+    fn from(fault: HostFault) -> Self
+        ensures refusal { result.refusal ≡ Start Device }
+        ensures host { result.host ≡ Some fault }
+    {
+        ImageFault {
+            refusal: Refusal::Start(VolumeError::Device),
+            host: Some(fault),
+        }
+    }
+}
+
+/// Tells people something about a file, or about another part of the host: a line on the standard error, which is left
+/// out where that fails.
+pub(crate) fn tell<E: Write, T: Display>(errors: &mut E, name: &str, what: &T) {
+    let _ = writeln!(errors, "filser: {name}: {what}");
+}

@@ -1,0 +1,118 @@
+ghost use Rattle.std.specs.Prelude.{IfOk, IfSome, pos, ◌≤ℤ◌};
+ghost use Rattle.std.specs.Fd.{file_raw_fd};
+
+use crate::HostFault;
+use std::fs::{self, File, Metadata};
+use std::io;
+use std::os::fd::{AsRawFd, RawFd};
+use std::os::unix::fs::MetadataExt;
+use std::rt::Files;
+
+/// The number of the standard input.
+const INPUT: RawFd = 0;
+
+/// The number of the standard output.
+const OUTPUT: RawFd = 1;
+
+/// The number of the standard error, which is the last.
+pub(crate) const ERRORS: RawFd = 2;
+
+/// What is opened in the place of a standard stream: it is on every host, and nothing can be read from it as a file or
+/// written to it.
+const HOLDER: &str = "/";
+
+/// The standard streams that the program was started without. An open file stands in the place of each, so that no
+/// file that is opened later gets its number, and what is printed can't land in an image.
+#[derive(Drop)]
+pub struct MissingStreams {
+    first: Option<File>,
+    second: Option<File>,
+    third: Option<File>,
+}
+
+impl MissingStreams {
+    /// None is missing.
+    pub fn none() -> Self {
+        MissingStreams {
+            first: None,
+            second: None,
+            third: None,
+        }
+    }
+
+    /// Finds the streams that are missing, and takes their places. The system gives a file the lowest number that is
+    /// free, so that the first one above them shows that all are taken.
+    ///
+    /// # Errors
+    ///
+    /// The system's, where no file can be opened.
+    pub fn hold<F: Files<File = File>>(files: &F) -> io::Result<Self> {
+        let first = holder(files)?;
+        let second = holder(files)?;
+        let third = holder(files)?;
+        Ok(MissingStreams {
+            first,
+            second,
+            third,
+        })
+    }
+
+    /// Whether the input or the output is missing, without which there is no run.
+    pub fn are_needed(&self) -> bool {
+        self.have(INPUT) || self.have(OUTPUT)
+    }
+
+    /// Whether the stream of this number is missing.
+    fn have(&self, number: RawFd) -> bool {
+        is_numbered(&self.first, number)
+            || is_numbered(&self.second, number)
+            || is_numbered(&self.third, number)
+    }
+}
+
+/// A file in the place of the next standard stream that is missing, or none where none is.
+fn holder<F: Files<File = File>>(files: &F) -> io::Result<Option<File>>
+    ensures { IfOk result (λ held. IfSome held (λ file. file_raw_fd file ≤ℤ pos 2)) }
+{
+    let file = File::open(files, HOLDER)?;
+    if file.as_raw_fd() > ERRORS {
+        return Ok(None);
+    }
+    Ok(Some(file))
+}
+
+/// Whether there is a file, and it has this number.
+fn is_numbered(file: &Option<File>, number: RawFd) -> bool {
+    match file {
+        Some(file) => file.as_raw_fd() == number,
+        None => false,
+    }
+}
+
+/// The stream of this number, as a fault of an image that it leads to.
+pub(crate) fn stream_of(number: RawFd) -> HostFault {
+    match number {
+        INPUT => HostFault::Input,
+        OUTPUT => HostFault::Output,
+        _ => HostFault::Errors,
+    }
+}
+
+/// Whether two names lead to one file.
+fn are_one(first: &Metadata, second: &Metadata) -> bool {
+    first.dev() == second.dev() && first.ino() == second.ino()
+}
+
+/// The standard stream that leads to the file at a path, where one does, as far as the host has names for the streams:
+/// of several the one that forbids the most.
+pub(crate) fn stream_at<F: Files<File = File>>(files: &F, path: &str) -> Option<HostFault> {
+    let named = fs::metadata(files, path).ok()?;
+    for (number, stream) in [(ERRORS, "/dev/fd/2"), (OUTPUT, "/dev/fd/1"), (INPUT, "/dev/fd/0")] {
+        if let Ok(found) = fs::metadata(files, stream) {
+            if are_one(&found, &named) {
+                return Some(stream_of(number));
+            }
+        }
+    }
+    None
+}
