@@ -3,5 +3,4 @@ pub mod Requests
 pub mod Statuses
 pub mod Refusals
 pub mod Endings
-pub mod Streams
 pub mod HostFaults

@@ -242,6 +242,7 @@ fn an_image_in_use(rt: HostRuntime) -> Result<(), Fail> {
 }
 
 /// An input that gives these bytes, and then breaks off.
+#[derive(Drop)]
 struct Broken<'a> {
     bytes: &'a [u8],
 }

@@ -1,17 +1,16 @@
 ghost use Rattle.std.specs.Prelude.{◌≡◌, ◌⊎◌, IfOk, IfErr};
 ghost use Rattle.filser.specs.Refusals.{IsFileRefusal};
-ghost use Rattle.filser.specs.Streams.{IsApart};
+ghost use Rattle.imagefile.specs.Streams.{IsApart};
 ghost use Rattle.filser.specs.declared.refusal.Refusal.TheVariants.{Exists, Start};
 ghost use Rattle.volume.specs.declared.error.VolumeError.TheVariants.{Device};
 
 use crate::fault::tell;
-use crate::streams::{ERRORS, stream_of};
+use crate::streams::stream_of;
 use crate::{HostFault, ImageFault, Refusal};
 use commands::Volume;
-use imagefile::{HostFile, ImageDisk, ImageError};
+use imagefile::{HostFile, ImageDisk, ImageError, apart};
 use std::fs::{self, File, OpenOptions, TryLockError};
 use std::io::{self, ErrorKind, Write};
-use std::os::fd::AsRawFd;
 use std::rt::Files;
 use volume::VolumeError;
 use words36::BLOCK_BYTES;
@@ -36,14 +35,14 @@ pub(crate) fn tell_failure<E: Write>(errors: &mut E, path: &str, image: Image) {
 /// # Errors
 ///
 /// `Input`, `Output` or `Errors`, by the number.
-fn apart(file: File) -> Result<File, ImageFault>
+fn kept_apart(file: File) -> Result<File, ImageFault>
     ensures apart { IfOk result (λ kept. (kept ≡ file) × IsApart kept) }
     ensures refused { IfErr result (λ fault. IsFileRefusal fault.refusal) }
 {
-    if file.as_raw_fd() <= ERRORS {
-        return Err(ImageFault::from(stream_of(file.as_raw_fd())));
+    match apart(file) {
+        Ok(file) => Ok(file),
+        Err(number) => Err(ImageFault::from(stream_of(number))),
     }
-    Ok(file)
 }
 
 /// Takes the file of an image for this process alone, until the process ends. It never waits. A file system without
@@ -106,7 +105,7 @@ fn open_file<F: Files<File = File>, E: Write>(
 {
     match OpenOptions::new().read(true).write(true).open(files, path) {
         Ok(file) => {
-            let file = apart(file)?;
+            let file = kept_apart(file)?;
             claim(&file, path, errors)?;
             Ok(file)
         }
@@ -177,7 +176,7 @@ fn fill<E: Write>(
 ) -> Result<(), ImageFault>
     ensures { IfErr result (λ fault. IsFileRefusal fault.refusal) }
 {
-    let file = apart(file)?;
+    let file = kept_apart(file)?;
     claim(&file, path, errors)?;
     if let Err(error) = write_zeros(&file, blocks) {
         return Err(ImageFault::from(HostFault::System(error)));

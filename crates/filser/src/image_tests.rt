@@ -278,6 +278,17 @@ fn spoiled_images(rt: HostRuntime) -> Result<(), Fail> {
     Ok(())
 }
 
+/// A run on the image at a path ends with a fault of the device, and this is told.
+pub(crate) fn expect_failed<F: Files<File = File> + Alloc<A = Global> + Abort>(
+    rt: &F,
+    path: &str,
+    told: &str,
+) {
+    let run = ["filser", "run", path];
+    let line = "LOGIN [10,20]\n";
+    expect_told(rt, rt, rt.alloc(), &run, line, "?Device fault\n", told, 4);
+}
+
 /// A file that isn't there, files that are no image, and a gate that is open over no log.
 #[test]
 fn files_that_are_no_images(rt: HostRuntime) -> Result<(), Fail> {

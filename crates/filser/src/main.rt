@@ -10,7 +10,7 @@
 //! 5. `work` is a whole run: it ends, takes nothing but what it is handed, and answers a status from 0 to
 //!    4. `main` holds the numbers of the standard streams that are missing, hands `work` the streams and the host's
 //!    files, and does nothing else.
-//! 6. No file with the number of a standard stream is taken for an image. (`open_file`, `apart`)
+//! 6. No file with the number of a standard stream is taken for an image. (`open_file`)
 //!
 //! What an image stands for, and what a line does, is not known here.
 #![tactic(auto)]

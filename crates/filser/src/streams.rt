@@ -15,7 +15,7 @@ const INPUT: RawFd = 0;
 const OUTPUT: RawFd = 1;
 
 /// The number of the standard error, which is the last.
-pub(crate) const ERRORS: RawFd = 2;
+const ERRORS: RawFd = 2;
 
 /// What is opened in the place of a standard stream: it is on every host, and nothing can be read from it as a file or
 /// written to it.

@@ -12,3 +12,4 @@ pub mod HostCalls
 pub mod Recorded
 pub mod RecordedLaws
 pub mod SeekingFile
+pub mod Streams

@@ -15,7 +15,9 @@
 //!    standard library, as far as its traits say what a call does (`made`): of a sync they say nothing.
 //! 7. It is honest while that record is one that a file gives which keeps to the model, and such a file's
 //!    record always is. (`SeekingFile`, `answers_by_the_model_are_honest`)
-//! 8. `Device` is answered exactly with one more failure, on every file. (`failed`, `served`)
+//! 8. `Device` is answered exactly with one more failure, on every file. (`failed`, `served`) Why the first call failed
+//!    that did is kept. (`told`)
+//! 9. A file that has the number of a standard stream is told from one that hasn't. (`apart`)
 #![tactic(auto)]
 
 mod call_record;
@@ -26,6 +28,7 @@ mod image;
 mod memory;
 mod memory_calls;
 mod seeking;
+mod streams;
 mod system;
 
 pub use calls::FileCalls;
@@ -34,4 +37,5 @@ pub use host::HostFile;
 pub use image::{ImageDisk, ImageError, block_count, damage_is_by_the_format};
 pub use memory::MemFile;
 pub use seeking::{SeekingFile, answers_by_the_model_are_honest};
+pub use streams::apart;
 pub use system::{HostCalls, SystemCalls};
