@@ -17,6 +17,7 @@ help:
 test:
 	tools/timed rt ci
 	sh examples/run crates/filser/out/filser
+	sh examples/starts crates/filser/out/filser
 	tools/test-wrong-bodies
 
 # Many by one check, over what earlier checks kept: the first time every crate is proved too.
@@ -27,6 +28,7 @@ wrong-bodies:
 examples:
 	@test -x crates/filser/out/filser || $(MAKE) build
 	sh examples/run crates/filser/out/filser
+	sh examples/starts crates/filser/out/filser
 
 # The first time every crate below the program is proved too; what was proved is kept below crates/*/out.
 build:

@@ -24,8 +24,9 @@ Exit status:
   0  all was done
   1  a line of the input was refused
   2  the arguments were wrong
-  3  the image was refused
-  4  the device, the input or the output failed, or memory ran out
+  3  the image was refused, or its start found no memory
+  4  the device, the input or the output failed, another process has the
+     image, or memory ran out
 
 Example:
   filser init DISK.IMG 4096
