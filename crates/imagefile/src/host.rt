@@ -14,11 +14,15 @@ use std::io::{Error, ErrorKind};
 /// What a call answered is right wherever the file is honest after it: so say the clauses `answers`
 /// and `changes`, for everything that can be supposed of what no call shows. As a `Durable` it is
 /// honest where that honesty also lasts. Why its first call failed is kept, for people.
+///
+/// A sync first looks that the file is as long as it was when its length was asked for: where somebody has cut it
+/// short meanwhile, what was written behind its end is no file's, and nothing is called done.
 #[derive(Drop)]
 pub struct HostFile<C: FileCalls = SeekingFile> {
     calls: C,
     failures: u64,
     failure: Option<Error>,
+    size: Option<u64>,
 }
 
 impl HostFile {
@@ -50,6 +54,7 @@ impl<C: FileCalls> HostFile<C> {
             calls,
             failures: 0,
             failure: None,
+            size: None,
         }
     }
 
@@ -73,6 +78,29 @@ impl<C: FileCalls> HostFile<C> {
             self.failure = Some(error);
         }
         Fault::Device
+    }
+
+    /// Looks that the file is as long as it was, where its length was asked for.
+    ///
+    /// # Errors
+    ///
+    /// `Device` where it isn't, or the call failed.
+    fn keep_size(&mut self) -> Result<(), Fault>
+        ensures keeps { (u : C.Unseen) → (C.state u (calls_of self.new)).honest → FileKeeps (C.state u (calls_of self.old)) (C.state u (calls_of self.new)) }
+        ensures goes_on { (u : C.Unseen) → FileGoesOn C.lasts (C.state u (calls_of self.old)) (C.state u (calls_of self.new)) }
+        ensures device { IsErrOf result Damaged → ⊥ }
+        ensures failed { IsErrOf result Device → failures_of self.new ≡ one_more (failures_of self.old) }
+        ensures told { OnErr result (IsSome (failure_of self.new)) }
+        ensures served { OnOk result (failures_of self.new ≡ failures_of self.old) }
+    {
+        let Some(wanted) = self.size else {
+            return Ok(());
+        };
+        match self.calls.size() {
+            Ok(size) if size == wanted => Ok(()),
+            Ok(_) => Err(self.device_fault(ErrorKind::UnexpectedEof.into())),
+            Err(error) => Err(self.device_fault(error)),
+        }
     }
 
     /// Reads some of the bytes from place `at` on, and answers how many: at least one.
@@ -146,7 +174,10 @@ impl<C: FileCalls> Durable for HostFile<C> {
         ensures served { OnOk result (failures_of self.new ≡ failures_of self.old) }
     {
         match self.calls.size() {
-            Ok(size) => Ok(size),
+            Ok(size) => {
+                self.size = Some(size);
+                Ok(size)
+            }
             Err(error) => Err(self.device_fault(error)),
         }
     }
@@ -202,6 +233,7 @@ impl<C: FileCalls> Durable for HostFile<C> {
         ensures told { OnErr result (IsSome (failure_of self.new)) }
         ensures served { OnOk result (failures_of self.new ≡ failures_of self.old) }
     {
+        self.keep_size()?;
         match self.calls.sync_all() {
             Ok(()) => Ok(()),
             Err(error) => Err(self.device_fault(error)),
