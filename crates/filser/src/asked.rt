@@ -16,7 +16,9 @@ impl<'a> Request<'a> {
     pub fn image(&self) -> Option<&'a str> {
         match self {
             Request::Fresh => None,
-            Request::Init(path, _) | Request::Run(path, _, _) | Request::Calls(path, _, _) => Some(*path),
+            Request::Init(path, _) | Request::Run(path, _, _) | Request::Calls(path, _, _) => Some(
+                *path,
+            ),
         }
     }
 }

@@ -168,12 +168,7 @@ fn write_zeros(file: &File, blocks: u32) -> io::Result<()> {
 /// # Errors
 ///
 /// `Device` where the file can't be written, or another process has it.
-fn fill<E: Write>(
-    file: File,
-    path: &str,
-    blocks: u32,
-    errors: &mut E,
-) -> Result<(), ImageFault>
+fn fill<E: Write>(file: File, path: &str, blocks: u32, errors: &mut E) -> Result<(), ImageFault>
     ensures { IfErr result (λ fault. IsFileRefusal fault.refusal) }
 {
     let file = kept_apart(file)?;

@@ -42,10 +42,10 @@ pub use program::work;
 pub use reading::request;
 pub use refusal::Refusal;
 pub use status::Status;
-pub use streams::MissingStreams;
 use std::env;
 use std::io::{self, ErrorKind};
 use std::process::ExitCode;
+pub use streams::MissingStreams;
 
 /// Runs the program on its arguments and the standard streams.
 fn main(rt: HostRuntime) -> ExitCode {

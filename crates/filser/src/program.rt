@@ -44,7 +44,11 @@ pub fn work<F: Files<File = File>, R: Read, W: Write, E: Write>(
     let mut lines = LineReader::new(reader);
     let status = answer(files, alloc, words, missing, &mut lines, writer, errors);
     if let Some((line, fault)) = lines.fault() {
-        tell(errors, "standard input", &format_args!("line {line}: {fault}"));
+        tell(
+            errors,
+            "standard input",
+            &format_args!("line {line}: {fault}"),
+        );
     }
     match writer.flush() {
         Ok(()) => status.code(),
@@ -126,7 +130,13 @@ fn perform<F: Files<File = File>, R: Read, W: Write, E: Write>(
         },
         Request::Calls(path, date, minute) => match open_image(files, path, errors) {
             Ok(image) => {
-                let (status, image) = serve_calls(alloc, image, moment(date, minute), reader, writer);
+                let (status, image) = serve_calls(
+                    alloc,
+                    image,
+                    moment(date, minute),
+                    reader,
+                    writer,
+                );
                 tell_failure(errors, path, image);
                 status
             }

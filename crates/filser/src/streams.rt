@@ -107,7 +107,11 @@ fn are_one(first: &Metadata, second: &Metadata) -> bool {
 /// of several the one that forbids the most.
 pub(crate) fn stream_at<F: Files<File = File>>(files: &F, path: &str) -> Option<HostFault> {
     let named = fs::metadata(files, path).ok()?;
-    for (number, stream) in [(ERRORS, "/dev/fd/2"), (OUTPUT, "/dev/fd/1"), (INPUT, "/dev/fd/0")] {
+    for (number, stream) in [
+        (ERRORS, "/dev/fd/2"),
+        (OUTPUT, "/dev/fd/1"),
+        (INPUT, "/dev/fd/0"),
+    ] {
         if let Ok(found) = fs::metadata(files, stream) {
             if are_one(&found, &named) {
                 return Some(stream_of(number));
