@@ -33,7 +33,9 @@ Example:
   printf 'LOGIN [10,20]\\nDIRECTORY\\n' | filser run DISK.IMG
 
 Each run pays for one start, which reads the whole image's files, so one run
-over many lines beats many runs. One process serves an image at a time.";
+over many lines beats many runs. One process serves an image at a time: it
+locks the file, which keeps away other runs of filser, and neither editors nor
+copies nor, on some network file systems, other machines.";
 
 /// A text that has to be given.
 fn wanted<'a>(alloc: Global, id: &'a str, help: &'a str) -> Arg<'a>
