@@ -58,10 +58,10 @@ impl Table {
         ensures unbooked { IfOk result (λ table. table.booked ≡ 0) }
         ensures unchanged { IfOk result (λ table. table.changed ≡ replicate (table_blocks table.size) false) }
 
-        ensures read { (D.state disk.old).honest → IfOk result (λ table. IsTableOf (D.state disk.old).size (D.state disk.old).contents (bit table)) }
-        ensures wrong { (D.state disk.old).honest → (n : ℕ) → IsErrOf result (TableWrong n) → IsBadTableBlock (D.state disk.old).size (D.state disk.old).contents n }
+        ensures read { (D.state disk.new).honest → IfOk result (λ table. IsTableOf (D.state disk.old).size (D.state disk.old).contents (bit table)) }
+        ensures wrong { (D.state disk.new).honest → (n : ℕ) → IsErrOf result (TableWrong n) → IsBadTableBlock (D.state disk.old).size (D.state disk.old).contents n }
 
-        ensures reads { (D.state disk.old).honest → OnlyReads (D.state disk.old) (D.state disk.new) }
+        ensures reads { (D.state disk.new).honest → OnlyReads (D.state disk.old) (D.state disk.new) }
         ensures same { SameDisk (D.state disk.old) (D.state disk.new) }
         ensures failed { IsErrOf result Device → (D.state disk.new).failures ≡ one_more (D.state disk.old).failures }
         ensures untouched { IsErrOf result NoMemory → disk.new ≡ disk.old }

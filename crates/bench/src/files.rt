@@ -82,7 +82,7 @@ pub fn publish_file<D: Disk>(
     requires sound { IsSound (D.state volume.old.disk.inner) (core_of volume.old.map) volume.old.failed }
     requires named { 0 < prime.file.name }
     ensures sound { IsSound (D.state volume.new.disk.inner) (core_of volume.new.map) volume.new.failed }
-    ensures done { (D.state volume.old.disk.inner).honest → (f : Files File) → RestsAt (D.state volume.old.disk.inner) f
+    ensures done { (D.state volume.new.disk.inner).honest → (f : Files File) → RestsAt (D.state volume.old.disk.inner) f
         → OnOk result (RestsAt (D.state volume.new.disk.inner) (files_published f prime.ppn prime.file (file_of prime words.now))) }
 {
     let pending = volume.begin(alloc, prime)?;

@@ -11,7 +11,7 @@ Contents = ℕ → Option (List ℕ)
 pub record DiskState : Type 1 where
   -- the number of blocks
   pub size : ℕ
-  -- it keeps to the laws below
+  -- it has kept to the laws below so far; once it hasn't, it is honest no more
   pub honest : Type 0
   -- how often a call answered Device, counted up to 2^64 - 1
   pub failures : ℕ
@@ -42,10 +42,9 @@ pub record Passes (s s' : DiskState) (P : Contents → Type 0) : Type 0 where
   -- what was left stays so
   pub keeps : (t : ℕ) (c : Contents) → t ≤ s.clock → s.left_since t c → s'.left_since t c
 
--- What every call keeps, on every disk.
+-- What every call keeps, on every disk. Its answer may end honesty, and none brings it back.
 pub record SameDisk (s s' : DiskState) : Type 0 where
   pub size : s'.size ≡ s.size
-  pub honest : s.honest → s'.honest
   pub was_honest : s'.honest → s.honest
 
 -- one more failure

@@ -12,12 +12,11 @@ pub same_contents : (c d : Contents) → ((n : ℕ) → d n ≡ c n) → d ≡ c
 same_contents c d same = λ i n. same n i
 
 pub same_disk_start : (s : DiskState) → SameDisk s s
-same_disk_start s = record { size = refl; honest = λ h. h; was_honest = λ h. h }
+same_disk_start s = record { size = refl; was_honest = λ h. h }
 
 pub same_disk_on : (s s' s'' : DiskState) → SameDisk s s' → SameDisk s' s'' → SameDisk s s''
 same_disk_on s s' s'' first second = record {
   size = second.size ∙ first.size;
-  honest = λ h. second.honest (first.honest h);
   was_honest = λ h. first.was_honest (second.was_honest h);
 }
 

@@ -13,9 +13,9 @@ use words36::Block;
 /// `Device` where the device failed; the block may then hold anything.
 pub fn write_through<D: Disk>(disk: &mut D, n: u32, block: &Block) -> Result<(), Fault>
     requires { n < (D.state disk.old).size }
-    ensures put { (D.state disk.old).honest → OnOk result ((D.state disk.new).contents n ≡ Some block.now) }
-    ensures settled { (D.state disk.old).honest → OnOk result (NoneOpen (D.state disk.new)) }
-    ensures touched { (D.state disk.old).honest → Touches (λ m. m ≡ n) (D.state disk.old) (D.state disk.new) }
+    ensures put { (D.state disk.new).honest → OnOk result ((D.state disk.new).contents n ≡ Some block.now) }
+    ensures settled { (D.state disk.new).honest → OnOk result (NoneOpen (D.state disk.new)) }
+    ensures touched { (D.state disk.new).honest → Touches (λ m. m ≡ n) (D.state disk.old) (D.state disk.new) }
     ensures same { SameDisk (D.state disk.old) (D.state disk.new) }
     ensures device { IsErrOf result Damaged → ⊥ }
     ensures failed { IsErrOf result Device → (D.state disk.new).failures ≡ one_more (D.state disk.old).failures }
@@ -40,9 +40,9 @@ pub fn write_copies<D: Disk>(
     requires first_inside { first < (D.state disk.old).size }
     requires second_inside { second < (D.state disk.old).size }
     requires apart { first ≢ second }
-    ensures new { (D.state disk.old).honest → OnOk result (BothAreNew first second block.now (D.state disk.old).contents (D.state disk.new).contents) }
-    ensures settled { (D.state disk.old).honest → OnOk result (NoneOpen (D.state disk.new)) }
-    ensures leaves { (D.state disk.old).honest → NoneOpen (D.state disk.old)
+    ensures new { (D.state disk.new).honest → OnOk result (BothAreNew first second block.now (D.state disk.old).contents (D.state disk.new).contents) }
+    ensures settled { (D.state disk.new).honest → OnOk result (NoneOpen (D.state disk.new)) }
+    ensures leaves { (D.state disk.new).honest → NoneOpen (D.state disk.old)
         → LeavesOnly (D.state disk.old) (D.state disk.new) (OneIsWhole first second block.now (D.state disk.old).contents) }
     ensures same { SameDisk (D.state disk.old) (D.state disk.new) }
     ensures device { IsErrOf result Damaged → ⊥ }

@@ -8,8 +8,9 @@ use words36::Block;
 /// A disk of a fixed number of blocks of 128 words, counted from 0.
 ///
 /// Between two syncs a block that was written may after a crash hold anything, or be damaged; the
-/// other blocks stay. What is said of a disk that is `honest` is its promise, kept while nobody else
-/// writes it and it returns what was written; the rest holds on every disk.
+/// other blocks stay. A disk is `honest` while it has kept to this so far: nobody else wrote it, and it
+/// returned what was written. That is of what happened, so that nobody has to know answers to come: what
+/// a call ensures of contents it ensures where the disk is honest *after* it. The rest holds on every disk.
 pub trait Disk {
     ghost state: { Self → DiskState };
 
@@ -24,9 +25,9 @@ pub trait Disk {
     /// `Device` where the device failed, `Damaged` exactly where the block holds no words.
     fn read(&mut self, n: u32) -> Result<Block, Fault>
         requires { n < (state self.old).size }
-        ensures words { (state self.old).honest → IfOk result (λ block. (state self.old).contents n ≡ Some block) }
-        ensures damaged { (state self.old).honest → IsErrOf result Damaged → (state self.old).contents n ≡ None }
-        ensures keeps { (state self.old).honest → Keeps (state self.old) (state self.new) }
+        ensures words { (state self.new).honest → IfOk result (λ block. (state self.old).contents n ≡ Some block) }
+        ensures damaged { (state self.new).honest → IsErrOf result Damaged → (state self.old).contents n ≡ None }
+        ensures keeps { (state self.new).honest → Keeps (state self.old) (state self.new) }
         ensures same { SameDisk (state self.old) (state self.new) }
         ensures failed { IsErrOf result Device → (state self.new).failures ≡ one_more (state self.old).failures }
         ensures served { (IsErrOf result Device → ⊥) → (state self.new).failures ≡ (state self.old).failures };
@@ -38,9 +39,9 @@ pub trait Disk {
     /// `Device` where the device failed; the block may then hold anything.
     fn write(&mut self, n: u32, block: &Block) -> Result<(), Fault>
         requires { n < (state self.old).size }
-        ensures put { (state self.old).honest → OnOk result ((state self.new).contents n ≡ Some block.now) }
-        ensures moves { (state self.old).honest → OnOk result ((state self.old).clock < (state self.new).clock) }
-        ensures writes { (state self.old).honest → Writes n (state self.old) (state self.new) }
+        ensures put { (state self.new).honest → OnOk result ((state self.new).contents n ≡ Some block.now) }
+        ensures moves { (state self.new).honest → OnOk result ((state self.old).clock < (state self.new).clock) }
+        ensures writes { (state self.new).honest → Writes n (state self.old) (state self.new) }
         ensures same { SameDisk (state self.old) (state self.new) }
         ensures device { IsErrOf result Damaged → ⊥ }
         ensures failed { IsErrOf result Device → (state self.new).failures ≡ one_more (state self.old).failures }
@@ -52,9 +53,9 @@ pub trait Disk {
     ///
     /// `Device` where the device failed; the open blocks stay open.
     fn sync(&mut self) -> Result<(), Fault>
-        ensures syncs { (state self.old).honest → OnOk result (Syncs (state self.old) (state self.new)) }
-        ensures moves { (state self.old).honest → OnOk result ((state self.old).clock < (state self.new).clock) }
-        ensures keeps { (state self.old).honest → OnErr result (Keeps (state self.old) (state self.new)) }
+        ensures syncs { (state self.new).honest → OnOk result (Syncs (state self.old) (state self.new)) }
+        ensures moves { (state self.new).honest → OnOk result ((state self.old).clock < (state self.new).clock) }
+        ensures keeps { (state self.new).honest → OnErr result (Keeps (state self.old) (state self.new)) }
         ensures same { SameDisk (state self.old) (state self.new) }
         ensures device { IsErrOf result Damaged → ⊥ }
         ensures failed { IsErrOf result Device → (state self.new).failures ≡ one_more (state self.old).failures }

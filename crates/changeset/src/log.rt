@@ -76,9 +76,9 @@ pub fn write_log<D: Disk>(disk: &mut D, puts: &[Put]) -> Result<(), Fault>
     requires few { length puts.now ≤ log_images (D.state disk.old).size }
     requires distinct { AreDistinct puts.now }
     requires in_range { AllByRecursion (IsTarget (D.state disk.old).size) (targets puts.now) }
-    ensures logged { (D.state disk.old).honest → OnOk result (IsLog (D.state disk.old).size (D.state disk.new).contents puts.now) }
-    ensures settled { (D.state disk.old).honest → OnOk result (NoneOpen (D.state disk.new)) }
-    ensures touched { (D.state disk.old).honest → Touches (IsInLog (D.state disk.old).size) (D.state disk.old) (D.state disk.new) }
+    ensures logged { (D.state disk.new).honest → OnOk result (IsLog (D.state disk.old).size (D.state disk.new).contents puts.now) }
+    ensures settled { (D.state disk.new).honest → OnOk result (NoneOpen (D.state disk.new)) }
+    ensures touched { (D.state disk.new).honest → Touches (IsInLog (D.state disk.old).size) (D.state disk.old) (D.state disk.new) }
     ensures same { SameDisk (D.state disk.old) (D.state disk.new) }
     ensures device { IsErrOf result Damaged → ⊥ }
     ensures failed { IsErrOf result Device → (D.state disk.new).failures ≡ one_more (D.state disk.old).failures }
@@ -94,8 +94,8 @@ pub fn write_log<D: Disk>(disk: &mut D, puts: &[Put]) -> Result<(), Fault>
 fn write_images<D: Disk>(disk: &mut D, puts: &[Put]) -> Result<(), Fault>
     requires few { length puts.now ≤ most_puts }
     requires room { log_start + length puts.now ≤ (D.state disk.old).size }
-    ensures images { (D.state disk.old).honest → OnOk result (AreImages (D.state disk.new).contents log_start puts.now) }
-    ensures touched { (D.state disk.old).honest → Touches (λ n. (log_start ≤ n) × (n < log_start + length puts.now)) (D.state disk.old) (D.state disk.new) }
+    ensures images { (D.state disk.new).honest → OnOk result (AreImages (D.state disk.new).contents log_start puts.now) }
+    ensures touched { (D.state disk.new).honest → Touches (λ n. (log_start ≤ n) × (n < log_start + length puts.now)) (D.state disk.old) (D.state disk.new) }
     ensures same { SameDisk (D.state disk.old) (D.state disk.new) }
     ensures device { IsErrOf result Damaged → ⊥ }
     ensures failed { IsErrOf result Device → (D.state disk.new).failures ≡ one_more (D.state disk.old).failures }
@@ -115,11 +115,11 @@ fn write_images<D: Disk>(disk: &mut D, puts: &[Put]) -> Result<(), Fault>
 pub fn read_log<D: Disk>(disk: &mut D, size: u32) -> Result<ArrayVec<Put, MAX_PUTS>, LogError>
     requires size { size ≡ (D.state disk.old).size }
     requires volume { IsVolumeSize size }
-    ensures log { (D.state disk.old).honest → IfOk result (λ puts. IsLog size (D.state disk.old).contents puts.items) }
-    ensures bad { (D.state disk.old).honest → IsErrOf result BadLog → (puts : List Put) → IsLog size (D.state disk.old).contents puts → ⊥ }
+    ensures log { (D.state disk.new).honest → IfOk result (λ puts. IsLog size (D.state disk.old).contents puts.items) }
+    ensures bad { (D.state disk.new).honest → IsErrOf result BadLog → (puts : List Put) → IsLog size (D.state disk.old).contents puts → ⊥ }
     ensures distinct { IfOk result (λ puts. AreDistinct puts.items) }
     ensures in_range { IfOk result (λ puts. AllByRecursion (IsTarget size) (targets puts.items)) }
-    ensures reads { (D.state disk.old).honest → OnlyReads (D.state disk.old) (D.state disk.new) }
+    ensures reads { (D.state disk.new).honest → OnlyReads (D.state disk.old) (D.state disk.new) }
     ensures same { SameDisk (D.state disk.old) (D.state disk.new) }
     ensures many { IsErrOf result TooMany → ⊥ }
     ensures failed { IsErrOf result Failed → (D.state disk.new).failures ≡ one_more (D.state disk.old).failures }
@@ -152,10 +152,10 @@ fn read_put<D: Disk>(
     requires volume { IsVolumeSize size }
     requires few { i < log_images size }
     ensures target { IfOk result (λ put. IsNextTarget size header.now before.now i put.block) }
-    ensures image { (D.state disk.old).honest → IfOk result (λ put. (D.state disk.old).contents (log_start + i) ≡ Some put.words) }
-    ensures bad { (D.state disk.old).honest → IsErrOf result BadLog → (put : Put) → IsNextTarget size header.now before.now i put.block
+    ensures image { (D.state disk.new).honest → IfOk result (λ put. (D.state disk.old).contents (log_start + i) ≡ Some put.words) }
+    ensures bad { (D.state disk.new).honest → IsErrOf result BadLog → (put : Put) → IsNextTarget size header.now before.now i put.block
         → (D.state disk.old).contents (log_start + i) ≡ Some put.words → ⊥ }
-    ensures reads { (D.state disk.old).honest → OnlyReads (D.state disk.old) (D.state disk.new) }
+    ensures reads { (D.state disk.new).honest → OnlyReads (D.state disk.old) (D.state disk.new) }
     ensures same { SameDisk (D.state disk.old) (D.state disk.new) }
     ensures many { IsErrOf result TooMany → ⊥ }
     ensures failed { IsErrOf result Failed → (D.state disk.new).failures ≡ one_more (D.state disk.old).failures }

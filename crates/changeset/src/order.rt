@@ -26,17 +26,17 @@ pub fn commit<D: Disk>(disk: &mut D, set: &ChangeSet) -> Result<(), LogError>
 
     // A crash at any moment leaves contents that settle, but for gate and log, to some that a crash could
     // leave before, or to those read before with all puts.
-    ensures crash { (D.state disk.old).honest → IsShut (D.state disk.old) → LeavesOnly (D.state disk.old) (D.state disk.new) (AllOrNone set.now (D.state disk.old)) }
+    ensures crash { (D.state disk.new).honest → IsShut (D.state disk.old) → LeavesOnly (D.state disk.old) (D.state disk.new) (AllOrNone set.now (D.state disk.old)) }
 
     // At Ok they are the latter.
-    ensures all { (D.state disk.old).honest → OnOk result (SameOutside (IsGateOrLog (D.state disk.old).size) (with_puts set.now (D.state disk.old).contents) (D.state disk.new).contents) }
-    ensures settled { (D.state disk.old).honest → OnOk result (NoneOpen (D.state disk.new)) }
-    ensures gate { (D.state disk.old).honest → 0 < length set.now → OnOk result ((D.state disk.new).contents 3 ≡ Some (replicate 128 0)) }
-    ensures shut { (D.state disk.old).honest → IsShut (D.state disk.old) → OnOk result (IsShut (D.state disk.new)) }
+    ensures all { (D.state disk.new).honest → OnOk result (SameOutside (IsGateOrLog (D.state disk.old).size) (with_puts set.now (D.state disk.old).contents) (D.state disk.new).contents) }
+    ensures settled { (D.state disk.new).honest → OnOk result (NoneOpen (D.state disk.new)) }
+    ensures gate { (D.state disk.new).honest → 0 < length set.now → OnOk result ((D.state disk.new).contents 3 ≡ Some (replicate 128 0)) }
+    ensures shut { (D.state disk.new).honest → IsShut (D.state disk.old) → OnOk result (IsShut (D.state disk.new)) }
 
     // No other block is written, and none at all where there are no puts.
-    ensures touched { (D.state disk.old).honest → Touches (λ n. IsGateOrLog (D.state disk.old).size n ⊎ IsPutIn set.now n) (D.state disk.old) (D.state disk.new) }
-    ensures nothing { (D.state disk.old).honest → set.now ≡ [] → Still (D.state disk.old) (D.state disk.new) }
+    ensures touched { (D.state disk.new).honest → Touches (λ n. IsGateOrLog (D.state disk.old).size n ⊎ IsPutIn set.now n) (D.state disk.old) (D.state disk.new) }
+    ensures nothing { (D.state disk.new).honest → set.now ≡ [] → Still (D.state disk.old) (D.state disk.new) }
 
     // On every disk.
     ensures many { IsErrOf result TooMany ↔ (log_images (D.state disk.old).size < length set.now) }
@@ -64,11 +64,11 @@ fn commit_some<D: Disk>(disk: &mut D, puts: &[Put]) -> Result<(), Fault>
     requires few { length puts.now ≤ log_images (D.state disk.old).size }
     requires distinct { AreDistinct puts.now }
     requires in_range { AllByRecursion (IsTarget (D.state disk.old).size) (targets puts.now) }
-    ensures crash { (D.state disk.old).honest → IsShut (D.state disk.old) → LeavesOnly (D.state disk.old) (D.state disk.new) (AllOrNone puts.now (D.state disk.old)) }
-    ensures all { (D.state disk.old).honest → OnOk result (SameOutside (IsGateOrLog (D.state disk.old).size) (with_puts puts.now (D.state disk.old).contents) (D.state disk.new).contents) }
-    ensures settled { (D.state disk.old).honest → OnOk result (NoneOpen (D.state disk.new)) }
-    ensures gate { (D.state disk.old).honest → OnOk result ((D.state disk.new).contents 3 ≡ Some (replicate 128 0)) }
-    ensures touched { (D.state disk.old).honest → Touches (λ n. IsGateOrLog (D.state disk.old).size n ⊎ IsPutIn puts.now n) (D.state disk.old) (D.state disk.new) }
+    ensures crash { (D.state disk.new).honest → IsShut (D.state disk.old) → LeavesOnly (D.state disk.old) (D.state disk.new) (AllOrNone puts.now (D.state disk.old)) }
+    ensures all { (D.state disk.new).honest → OnOk result (SameOutside (IsGateOrLog (D.state disk.old).size) (with_puts puts.now (D.state disk.old).contents) (D.state disk.new).contents) }
+    ensures settled { (D.state disk.new).honest → OnOk result (NoneOpen (D.state disk.new)) }
+    ensures gate { (D.state disk.new).honest → OnOk result ((D.state disk.new).contents 3 ≡ Some (replicate 128 0)) }
+    ensures touched { (D.state disk.new).honest → Touches (λ n. IsGateOrLog (D.state disk.old).size n ⊎ IsPutIn puts.now n) (D.state disk.old) (D.state disk.new) }
     ensures same { SameDisk (D.state disk.old) (D.state disk.new) }
     ensures device { IsErrOf result Damaged → ⊥ }
     ensures failed { IsErrOf result Device → (D.state disk.new).failures ≡ one_more (D.state disk.old).failures }
@@ -90,12 +90,12 @@ pub fn redo<D: Disk>(disk: &mut D, puts: &[Put]) -> Result<(), Fault>
     requires in_range { AllByRecursion (IsTarget (D.state disk.old).size) (targets puts.now) }
 
     // Whatever a crash leaves settles to the contents with all puts.
-    ensures crash { (D.state disk.old).honest → NoneOpen (D.state disk.old) → (size : ℕ) → ArePending size (D.state disk.old).contents puts.now
+    ensures crash { (D.state disk.new).honest → NoneOpen (D.state disk.old) → (size : ℕ) → ArePending size (D.state disk.old).contents puts.now
         → LeavesOnly (D.state disk.old) (D.state disk.new) (SettlesAs size (with_puts puts.now (D.state disk.old).contents)) }
-    ensures all { (D.state disk.old).honest → OnOk result (SameOutside IsGate (with_puts puts.now (D.state disk.old).contents) (D.state disk.new).contents) }
-    ensures settled { (D.state disk.old).honest → OnOk result (NoneOpen (D.state disk.new)) }
-    ensures gate { (D.state disk.old).honest → OnOk result ((D.state disk.new).contents 3 ≡ Some (replicate 128 0)) }
-    ensures touched { (D.state disk.old).honest → Touches (λ n. IsGate n ⊎ IsPutIn puts.now n) (D.state disk.old) (D.state disk.new) }
+    ensures all { (D.state disk.new).honest → OnOk result (SameOutside IsGate (with_puts puts.now (D.state disk.old).contents) (D.state disk.new).contents) }
+    ensures settled { (D.state disk.new).honest → OnOk result (NoneOpen (D.state disk.new)) }
+    ensures gate { (D.state disk.new).honest → OnOk result ((D.state disk.new).contents 3 ≡ Some (replicate 128 0)) }
+    ensures touched { (D.state disk.new).honest → Touches (λ n. IsGate n ⊎ IsPutIn puts.now n) (D.state disk.old) (D.state disk.new) }
     ensures same { SameDisk (D.state disk.old) (D.state disk.new) }
     ensures device { IsErrOf result Damaged → ⊥ }
     ensures failed { IsErrOf result Device → (D.state disk.new).failures ≡ one_more (D.state disk.old).failures }
@@ -109,9 +109,9 @@ pub fn redo<D: Disk>(disk: &mut D, puts: &[Put]) -> Result<(), Fault>
 fn write_places<D: Disk>(disk: &mut D, puts: &[Put]) -> Result<(), Fault>
     requires distinct { AreDistinct puts.now }
     requires in_range { AllByRecursion (λ n. n < (D.state disk.old).size) (targets puts.now) }
-    ensures placed { (D.state disk.old).honest → OnOk result ((n : ℕ) → (D.state disk.new).contents n ≡ with_puts puts.now (D.state disk.old).contents n) }
-    ensures settled { (D.state disk.old).honest → OnOk result (NoneOpen (D.state disk.new)) }
-    ensures touched { (D.state disk.old).honest → Touches (IsPutIn puts.now) (D.state disk.old) (D.state disk.new) }
+    ensures placed { (D.state disk.new).honest → OnOk result ((n : ℕ) → (D.state disk.new).contents n ≡ with_puts puts.now (D.state disk.old).contents n) }
+    ensures settled { (D.state disk.new).honest → OnOk result (NoneOpen (D.state disk.new)) }
+    ensures touched { (D.state disk.new).honest → Touches (IsPutIn puts.now) (D.state disk.old) (D.state disk.new) }
     ensures same { SameDisk (D.state disk.old) (D.state disk.new) }
     ensures device { IsErrOf result Damaged → ⊥ }
     ensures failed { IsErrOf result Device → (D.state disk.new).failures ≡ one_more (D.state disk.old).failures }

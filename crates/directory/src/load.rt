@@ -125,11 +125,11 @@ fn add_block<E: Entry>(
 /// Reads a block of a chain.
 fn read_block<D: Disk>(disk: &mut D, n: u32) -> Result<Block, DirectoryError>
     requires { n < (D.state disk.old).size }
-    ensures words { (D.state disk.old).honest → IfOk result (λ block. (D.state disk.old).contents n ≡ Some block) }
-    ensures bad { (D.state disk.old).honest → (k : ℕ) → IsErrOf result (BadDirectory k) → (k ≡ n) × ((D.state disk.old).contents n ≡ None) }
+    ensures words { (D.state disk.new).honest → IfOk result (λ block. (D.state disk.old).contents n ≡ Some block) }
+    ensures bad { (D.state disk.new).honest → (k : ℕ) → IsErrOf result (BadDirectory k) → (k ≡ n) × ((D.state disk.old).contents n ≡ None) }
     ensures twice { (k : ℕ) → IsErrOf result (BlockTwice k) → ⊥ }
     ensures memory { IsErrOf result NoMemory → ⊥ }
-    ensures reads { (D.state disk.old).honest → OnlyReads (D.state disk.old) (D.state disk.new) }
+    ensures reads { (D.state disk.new).honest → OnlyReads (D.state disk.old) (D.state disk.new) }
     ensures same { SameDisk (D.state disk.old) (D.state disk.new) }
     ensures failed { IsErrOf result Device → (D.state disk.new).failures ≡ one_more (D.state disk.old).failures }
     ensures served { (IsErrOf result Device → ⊥) → (D.state disk.new).failures ≡ (D.state disk.old).failures }
@@ -156,13 +156,13 @@ fn read_on<E: Entry, D: Disk>(
     requires inside { n < size }
     requires marks { length reached.old ≡ size }
     requires good { AreGood E.order E.IsEntry E.target size (map E.view entries.old.items) }
-    ensures ok { IfOk result (λ next. ReadsOn E.order E.words_of E.IsEntry E.target size (D.state disk.old).honest (D.state disk.old).contents n next (map E.view entries.old.items) (map E.view entries.new.items)) }
+    ensures ok { IfOk result (λ next. ReadsOn E.order E.words_of E.IsEntry E.target size (D.state disk.new).honest (D.state disk.old).contents n next (map E.view entries.old.items) (map E.view entries.new.items)) }
     ensures blocks { IfOk result (λ next. blocks.new.items ≡ blocks.old.items ++ n ∷ []) }
     ensures fresh { IfOk result (λ next. flag_at reached.old n ≡ false) }
     ensures marked { reached.new ≡ slice_set reached.old n true }
-    ensures bad { (D.state disk.old).honest → (k : ℕ) → IsErrOf result (BadDirectory k) → (k ≡ n) × IsBadAt E.order E.words_of E.IsEntry E.target size (D.state disk.old).contents n (map E.view entries.old.items) }
+    ensures bad { (D.state disk.new).honest → (k : ℕ) → IsErrOf result (BadDirectory k) → (k ≡ n) × IsBadAt E.order E.words_of E.IsEntry E.target size (D.state disk.old).contents n (map E.view entries.old.items) }
     ensures twice { (k : ℕ) → IsErrOf result (BlockTwice k) → (k ≡ n) × (flag_at reached.old n ≡ true) }
-    ensures reads { (D.state disk.old).honest → OnlyReads (D.state disk.old) (D.state disk.new) }
+    ensures reads { (D.state disk.new).honest → OnlyReads (D.state disk.old) (D.state disk.new) }
     ensures same { SameDisk (D.state disk.old) (D.state disk.new) }
     ensures failed { IsErrOf result Device → (D.state disk.new).failures ≡ one_more (D.state disk.old).failures }
     ensures served { (IsErrOf result Device → ⊥) → (D.state disk.new).failures ≡ (D.state disk.old).failures }
@@ -205,21 +205,21 @@ impl<E: Entry> Chain<E> {
         requires volume { IsVolumeSize (D.state disk.old).size }
         requires first { InSpace (D.state disk.old).size first }
         requires marks { length reached.old ≡ (D.state disk.old).size }
-        ensures on { (D.state disk.old).honest → IfOk result (λ chain. IsOn E.words_of (D.state disk.old).contents (viewed E.view chain)) }
-        ensures walk { (D.state disk.old).honest → IfOk result (λ chain. Leads E.words_of (D.state disk.old).contents first (nodes_of chain.blocks (map E.view chain.entries)) 0) }
+        ensures on { (D.state disk.new).honest → IfOk result (λ chain. IsOn E.words_of (D.state disk.old).contents (viewed E.view chain)) }
+        ensures walk { (D.state disk.new).honest → IfOk result (λ chain. Leads E.words_of (D.state disk.old).contents first (nodes_of chain.blocks (map E.view chain.entries)) 0) }
         ensures first { IfOk result (λ chain. head_or_zero chain.blocks ≡ first) }
         ensures chain { IfOk result (λ chain. IsChain E.order E.IsEntry (viewed E.view chain)) }
         ensures inside { IfOk result (λ chain. AllByRecursion (InSpace (D.state disk.old).size) chain.blocks) }
         ensures targets { IfOk result (λ chain. AllByRecursion (λ e. InSpace (D.state disk.old).size (E.target e)) (map E.view chain.entries)) }
         ensures marked { IfOk result (λ chain. (n : ℕ) → digit_at reached.new n ≡ digit_at reached.old n + times n chain.blocks) }
         ensures length { length reached.new ≡ length reached.old }
-        ensures bad { (D.state disk.old).honest → (k : ℕ) → IsErrOf result (BadDirectory k) → IsBadChain E.order E.words_of E.IsEntry E.target (D.state disk.old).size (D.state disk.old).contents first k }
-        ensures twice { (D.state disk.old).honest → (k : ℕ) → IsErrOf result (BlockTwice k) → IsMetTwice E.words_of (D.state disk.old).contents reached.old first k }
-        ensures whole { (D.state disk.old).honest → (nodes : List (Node (E.Key × E.Held))) → IsWholeChain E.order E.words_of E.IsEntry E.target (D.state disk.old).size (D.state disk.old).contents reached.old first nodes
+        ensures bad { (D.state disk.new).honest → (k : ℕ) → IsErrOf result (BadDirectory k) → IsBadChain E.order E.words_of E.IsEntry E.target (D.state disk.old).size (D.state disk.old).contents first k }
+        ensures twice { (D.state disk.new).honest → (k : ℕ) → IsErrOf result (BlockTwice k) → IsMetTwice E.words_of (D.state disk.old).contents reached.old first k }
+        ensures whole { (D.state disk.new).honest → (nodes : List (Node (E.Key × E.Held))) → IsWholeChain E.order E.words_of E.IsEntry E.target (D.state disk.old).size (D.state disk.old).contents reached.old first nodes
             → (k : ℕ) → IsErrOf result (BadDirectory k) → ⊥ }
-        ensures once { (D.state disk.old).honest → (nodes : List (Node (E.Key × E.Held))) → IsWholeChain E.order E.words_of E.IsEntry E.target (D.state disk.old).size (D.state disk.old).contents reached.old first nodes
+        ensures once { (D.state disk.new).honest → (nodes : List (Node (E.Key × E.Held))) → IsWholeChain E.order E.words_of E.IsEntry E.target (D.state disk.old).size (D.state disk.old).contents reached.old first nodes
             → (k : ℕ) → IsErrOf result (BlockTwice k) → ⊥ }
-        ensures reads { (D.state disk.old).honest → OnlyReads (D.state disk.old) (D.state disk.new) }
+        ensures reads { (D.state disk.new).honest → OnlyReads (D.state disk.old) (D.state disk.new) }
         ensures same { SameDisk (D.state disk.old) (D.state disk.new) }
         ensures failed { IsErrOf result Device → (D.state disk.new).failures ≡ one_more (D.state disk.old).failures }
         ensures served { (IsErrOf result Device → ⊥) → (D.state disk.new).failures ≡ (D.state disk.old).failures }

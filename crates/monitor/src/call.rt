@@ -87,7 +87,7 @@ fn serve<D: Disk>(
     ensures light { IsLight call.now (slot jobs.old number) → (result ≡ NoMemory → ⊥) × (volume.new.disk ≡ volume.old.disk) }
     ensures memory { result ≡ NoMemory → (volume.new.disk ≡ volume.old.disk) × (core_of volume.new.map ≡ core_of volume.old.map) × (volume.new.failed ≡ volume.old.failed) × (jobs.new ≡ jobs.old) }
     ensures failed { IsTrue volume.new.failed ↔ ((result ≡ Device) ⊎ (result ≡ Failed)) }
-    ensures blamed { (D.state volume.old.disk).honest → result ≡ Failed → ⊥ }
+    ensures blamed { (D.state volume.new.disk).honest → result ≡ Failed → ⊥ }
     ensures counted { result ≡ Device → (D.state volume.new.disk).failures ≡ one_more (D.state volume.old.disk).failures }
     ensures served { (result ≡ Device → ⊥) → (D.state volume.new.disk).failures ≡ (D.state volume.old.disk).failures }
     ensures same { SameDisk (D.state volume.old.disk) (D.state volume.new.disk) }
@@ -96,7 +96,7 @@ fn serve<D: Disk>(
         → (jobs.new ≡ jobs.old) × ((under : UnderKeys) → result ≡ open_unserved (job_of under there) channel address) }
     ensures unread { (channel address : ℕ) → call.now ≡ Enter channel address → (there : JobRecord) → slot jobs.old number ≡ Some there → IsReading (slot there.channels channel)
         → (core_of volume.new.map ≡ core_of volume.old.map) × (result ≡ enter_unserved there address) × (jobs.new ≡ slice_set jobs.old number (Some (enter_refused there address))) }
-    ensures answered { (D.state volume.old.disk).honest → IsServed call.now (slot jobs.old number) → (old : Service) → Serves (D.state volume.old.disk) (core_of volume.old.map) volume.old.failed jobs.old old
+    ensures answered { (D.state volume.new.disk).honest → IsServed call.now (slot jobs.old number) → (old : Service) → Serves (D.state volume.old.disk) (core_of volume.old.map) volume.old.failed jobs.old old
         → (new : Service) × Serves (D.state volume.new.disk) (core_of volume.new.map) volume.new.failed jobs.new new
         × Answers (pack_of (D.state volume.old.disk)) old (Calls number (call_of call.now) moment) result new }
 {
@@ -136,16 +136,16 @@ impl<D: Disk> Monitor<D> {
     /// it. OPEN in a mode with buffers is `Stopped` as one in a mode that there isn't, and ENTER on a channel that
     /// reads is `Refused(5)`.
     pub fn call(&mut self, alloc: Global, job: u32, call: &Call, moment: Moment) -> Reply
-        ensures answered { (D.state self.old.disk).honest → IsServed call.now (slot self.old.jobs job) → (old : Service) → Serves (D.state self.old.disk) self.old.map self.old.failed self.old.jobs old
+        ensures answered { (D.state self.new.disk).honest → IsServed call.now (slot self.old.jobs job) → (old : Service) → Serves (D.state self.old.disk) self.old.map self.old.failed self.old.jobs old
             → (new : Service) × Serves (D.state self.new.disk) self.new.map self.new.failed self.new.jobs new
             × Answers (pack_of (D.state self.old.disk)) old (Calls job (call_of call.now) moment) result new }
         // Reading holds still: what an IN answers and leaves is told by its own job's record, which no call of another job
         // changes.
-        ensures still { (D.state self.old.disk).honest → (channel address : ℕ) → call.now ≡ In channel address → moment.date ≤ 4095 → (s : State) → Serves (D.state self.old.disk) self.old.map self.old.failed self.old.jobs (Serving s)
+        ensures still { (D.state self.new.disk).honest → (channel address : ℕ) → call.now ≡ In channel address → moment.date ≤ 4095 → (s : State) → Serves (D.state self.old.disk) self.old.map self.old.failed self.old.jobs (Serving s)
             → (own : MachineJob) → job_at s job ≡ Some own → (result ≡ NoMemory → ⊥) → (result ≡ Device → ⊥)
             → (after : State) × Serves (D.state self.new.disk) self.new.map self.new.failed self.new.jobs (Serving after)
             × (result ≡ (read_of own channel address).0) × (job_at after job ≡ Some (read_of own channel address).1) }
-        ensures apart { (D.state self.old.disk).honest → IsServed call.now (slot self.old.jobs job) → (s : State) → Serves (D.state self.old.disk) self.old.map self.old.failed self.old.jobs (Serving s)
+        ensures apart { (D.state self.new.disk).honest → IsServed call.now (slot self.old.jobs job) → (s : State) → Serves (D.state self.old.disk) self.old.map self.old.failed self.old.jobs (Serving s)
             → (after : Service) × Serves (D.state self.new.disk) self.new.map self.new.failed self.new.jobs after × Answers (pack_of (D.state self.old.disk)) (Serving s) (Calls job (call_of call.now) moment) result after
             × ((t : State) → after ≡ Serving t → (m : ℕ) → (m ≡ job → ⊥) → job_at t m ≡ job_at s m) }
         // No other job is changed.
@@ -159,7 +159,7 @@ impl<D: Disk> Monitor<D> {
         // It fails with the device, and is Failed from then on; else only a broken promise of the disk makes it so.
         ensures failed { IsTrue self.new.failed ↔ ((result ≡ Device) ⊎ (result ≡ Failed)) }
         ensures broken { self.old.failed ≡ true → (result ≡ Failed) × (self.new ≡ self.old) }
-        ensures blamed { (D.state self.old.disk).honest → result ≡ Failed → self.old.failed ≡ true }
+        ensures blamed { (D.state self.new.disk).honest → result ≡ Failed → self.old.failed ≡ true }
         ensures counted { result ≡ Device → (D.state self.new.disk).failures ≡ one_more (D.state self.old.disk).failures }
         ensures served { (result ≡ Device → ⊥) → (D.state self.new.disk).failures ≡ (D.state self.old.disk).failures }
         ensures same { SameDisk (D.state self.old.disk) (D.state self.new.disk) }

@@ -266,9 +266,9 @@ fn begin_at<D: Disk>(
     ensures same { OnErr result (core_of volume.new.map ≡ core_of volume.old.map) }
     ensures only { (IsErrOf result VolumeFailed → IsTrue volume.old.failed) × (IsErrOf result VolumeDevice → ⊥) }
     ensures prime { IfOk result (λ begun. IsPrimeAt job.now address moment begun.1) }
-    ensures protection { (D.state volume.old.disk).honest → volume.old.failed ≡ false → (files : Files File) → RestsAt (D.state volume.old.disk) files
+    ensures protection { (D.state volume.new.disk).honest → volume.old.failed ≡ false → (files : Files File) → RestsAt (D.state volume.old.disk) files
         → IfOk result (λ begun. begun.1.protection ≡ protection_for (found_in (get files begun.1.ppn) begun.1.file) (protection_or (slice_index job.now.core (address + 2)) 0o057)) }
-    ensures answered { (D.state volume.old.disk).honest → volume.old.failed ≡ false → (s : State) → IsKnown (D.state volume.old.disk) (core_of volume.old.map) s
+    ensures answered { (D.state volume.new.disk).honest → volume.old.failed ≡ false → (s : State) → IsKnown (D.state volume.old.disk) (core_of volume.old.map) s
         → (under : UnderKeys) → IsAnswer result (begin_answer_at (pack_of (D.state volume.old.disk)) s (job_of under job.now) (place_at (job_of under job.now) address)) }
 {
     let Some(ppn) = owner_at(job, address) else {
@@ -315,7 +315,7 @@ pub fn enter<D: Disk>(
     ensures untouched { (volume.new.disk ≡ volume.old.disk) × (volume.new.failed ≡ volume.old.failed) }
     ensures only { (result ≡ Failed → ⊥) × (result ≡ Device → ⊥) }
     ensures begun { result ≡ Done → (channel : Channel) × (key : ℕ) × (prime : Prime) × IsEntering (core_of volume.old.map) (core_of volume.new.map) job.old job.new number address moment channel key prime
-        × ((D.state volume.old.disk).honest → (files : Files File) → RestsAt (D.state volume.old.disk) files
+        × ((D.state volume.new.disk).honest → (files : Files File) → RestsAt (D.state volume.old.disk) files
         → prime.protection ≡ protection_for (found_in (get files prime.ppn) prime.file) (protection_or (slice_index job.old.core (address + 2)) 0o057)) }
     ensures placed { ArePlaced (core_of volume.old.map) → ArePlaced (core_of volume.new.map) }
     ensures kept { (result ≡ Done → ⊥) → (core_of volume.new.map ≡ core_of volume.old.map) × (job.new ≡ record job.old { core = job.new.core }) }
@@ -323,7 +323,7 @@ pub fn enter<D: Disk>(
     ensures reads { KeepsReading (core_of volume.old.map).live (core_of volume.new.map).live job.old job.new }
     // On a channel that reads no file is updated yet.
     ensures unserved { IsReading (slot job.old.channels number) → (result ≡ enter_unserved job.old address) × (job.new ≡ enter_refused job.old address) }
-    ensures row { (D.state volume.old.disk).honest → reader_of (slot job.old.channels number) ≡ None → (s : State) → IsKnown (D.state volume.old.disk) (core_of volume.old.map) s
+    ensures row { (D.state volume.new.disk).honest → reader_of (slot job.old.channels number) ≡ None → (s : State) → IsKnown (D.state volume.old.disk) (core_of volume.old.map) s
         → (under : UnderKeys) → IsEnterAnswer (pack_of (D.state volume.old.disk)) s (job_of under job.old) (job_of under job.new) (channel_at (job_of under job.old) number) address result }
 {
     let Some(channel) = job.channel(number) else {

@@ -32,10 +32,10 @@ pub enum Event {
 
 /// One event, and its reply.
 fn serve_event<D: Disk>(alloc: Global, monitor: &mut Monitor<D>, event: &Event) -> Reply
-    ensures answered { (D.state monitor.old.disk).honest → (old : Service) → Serves (D.state monitor.old.disk) monitor.old.map monitor.old.failed monitor.old.jobs old → IsServedIn old event.now
+    ensures answered { (D.state monitor.new.disk).honest → (old : Service) → Serves (D.state monitor.old.disk) monitor.old.map monitor.old.failed monitor.old.jobs old → IsServedIn old event.now
         → (new : Service) × Serves (D.state monitor.new.disk) monitor.new.map monitor.new.failed monitor.new.jobs new
         × Answers (pack_of (D.state monitor.old.disk)) old (event_of event.now) result new }
-    ensures crash { (D.state monitor.old.disk).honest → (s : State) → Serves (D.state monitor.old.disk) monitor.old.map monitor.old.failed monitor.old.jobs (Serving s)
+    ensures crash { (D.state monitor.new.disk).honest → (s : State) → Serves (D.state monitor.old.disk) monitor.old.map monitor.old.failed monitor.old.jobs (Serving s)
         → LeavesOnly (D.state monitor.old.disk) (D.state monitor.new.disk) (StandsForEither (pack_of (D.state monitor.old.disk)) s (event_of event.now)) }
     ensures others { (m : ℕ) → (m ≡ job_of event.now → ⊥) → slot monitor.new.jobs m ≡ slot monitor.old.jobs m }
     ensures memory { result ≡ replies.NoMemory → monitor.new ≡ monitor.old }
@@ -56,11 +56,11 @@ fn serve_event<D: Disk>(alloc: Global, monitor: &mut Monitor<D>, event: &Event) 
 impl<D: Disk> Monitor<D> {
     /// Serves one event, and gives its reply: that of `login`, `deposit`, `examine` or `call`.
     pub fn event(&mut self, alloc: Global, event: &Event) -> Reply
-        ensures answered { (D.state self.old.disk).honest → (old : Service) → Serves (D.state self.old.disk) self.old.map self.old.failed self.old.jobs old → IsServedIn old event.now
+        ensures answered { (D.state self.new.disk).honest → (old : Service) → Serves (D.state self.old.disk) self.old.map self.old.failed self.old.jobs old → IsServedIn old event.now
             → (new : Service) × Serves (D.state self.new.disk) self.new.map self.new.failed self.new.jobs new
             × Answers (pack_of (D.state self.old.disk)) old (event_of event.now) result new }
         // At any moment of it a crash leaves the files from before, or those after it.
-        ensures crash { (D.state self.old.disk).honest → (s : State) → Serves (D.state self.old.disk) self.old.map self.old.failed self.old.jobs (Serving s)
+        ensures crash { (D.state self.new.disk).honest → (s : State) → Serves (D.state self.old.disk) self.old.map self.old.failed self.old.jobs (Serving s)
             → LeavesOnly (D.state self.old.disk) (D.state self.new.disk) (StandsForEither (pack_of (D.state self.old.disk)) s (event_of event.now)) }
         // On every disk: no event of another job changes a job, and one that finds no memory leaves all as it was.
         ensures others { (m : ℕ) → (m ≡ job_of event.now → ⊥) → slot self.new.jobs m ≡ slot self.old.jobs m }
@@ -85,13 +85,13 @@ impl<D: Disk> Monitor<D> {
     ///
     /// `NoMemory` where the replies find no room: then no event was served.
     pub fn serve(&mut self, alloc: Global, events: &[Event]) -> Result<Vec<Reply>, NoMemory>
-        ensures runs { IfOk result (λ replies. (D.state self.old.disk).honest → (s : State) → Serves (D.state self.old.disk) self.old.map self.old.failed self.old.jobs (Serving s)
+        ensures runs { IfOk result (λ replies. (D.state self.new.disk).honest → (s : State) → Serves (D.state self.old.disk) self.old.map self.old.failed self.old.jobs (Serving s)
             → AreServed (pack_of (D.state self.old.disk)) (Serving s) events.now replies.items
             → (new : Service) × Serves (D.state self.new.disk) self.new.map self.new.failed self.new.jobs new
             × RunsOn (pack_of (D.state self.old.disk)) (D.state self.new.disk) (D.state self.old.disk).clock (Serving s) (map event_of events.now) replies.items new
             × RunsBy D.state (pack_of (D.state self.old.disk)) self.old.disk (Serving s) (map event_of events.now) replies.items self.new.disk new) }
         // The words that an IN moves are those of the file that its LOOKUP found, whatever other jobs do.
-        ensures still { IfOk result (λ replies. (D.state self.old.disk).honest → (s : State) → Serves (D.state self.old.disk) self.old.map self.old.failed self.old.jobs (Serving s)
+        ensures still { IfOk result (λ replies. (D.state self.new.disk).honest → (s : State) → Serves (D.state self.old.disk) self.old.map self.old.failed self.old.jobs (Serving s)
             → AreServed (pack_of (D.state self.old.disk)) (Serving s) events.now replies.items → HoldsStill (pack_of (D.state self.old.disk)) (Serving s) (map event_of events.now) replies.items) }
         ensures count { IfOk result (λ replies. length replies.items ≡ length events.now) }
         ensures none { IsErr result → self.new ≡ self.old }

@@ -112,7 +112,7 @@ pub fn find_input<D: Disk>(
     ensures core { core_of volume.new.map ≡ record (core_of volume.old.map) { live = (core_of volume.new.map).live } }
 
     // It is answered as the machine answers on a channel without an output side, and the file is the machine's.
-    ensures answered { (D.state volume.old.disk).honest → (s : State) → IsKnown (D.state volume.old.disk) (core_of volume.old.map) s
+    ensures answered { (D.state volume.new.disk).honest → (s : State) → IsKnown (D.state volume.old.disk) (core_of volume.old.map) s
         → (under : UnderKeys) (c : MachineChannel) → c.output ≡ None → lies_outside job.now.core address 4 ≡ false
         → IsLookupAnswer (D.state volume.old.disk).contents (core_of volume.new.map).live s (job_of under job.now) c address result }
 {
@@ -188,9 +188,9 @@ pub fn lookup<D: Disk>(volume: &mut Volume<D>, job: &mut Job, number: u32, addre
     ensures kept { (result ≡ Done → ⊥) → (core_of volume.new.map ≡ core_of volume.old.map) × (job.new ≡ record job.old { core = job.new.core }) }
     ensures reads { KeepsReading (core_of volume.old.map).live (core_of volume.new.map).live job.old job.new }
     ensures looked { result ≡ Done → (channel : Channel) × (input : Input) × (held : VolumeCore) × IsLookingUp (core_of volume.old.map) held (core_of volume.new.map) job.old job.new number address channel input
-        × ((D.state volume.old.disk).honest → (s : State) → IsKnown (D.state volume.old.disk) (core_of volume.old.map) s
+        × ((D.state volume.new.disk).honest → (s : State) → IsKnown (D.state volume.old.disk) (core_of volume.old.map) s
         → IsFound (D.state volume.old.disk).contents held.live s job.old job.new address input) }
-    ensures row { (D.state volume.old.disk).honest → (s : State) → IsKnown (D.state volume.old.disk) (core_of volume.old.map) s
+    ensures row { (D.state volume.new.disk).honest → (s : State) → IsKnown (D.state volume.old.disk) (core_of volume.old.map) s
         → (under : UnderKeys) → IsLookupRow s (job_of under job.old) (job_of under job.new) (channel_at (job_of under job.old) number) address result }
 {
     let Some(channel) = job.channel(number) else {

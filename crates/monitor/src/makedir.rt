@@ -49,17 +49,17 @@ pub fn make_dir<D: Disk>(
     ensures keeps { Keeps (core_of volume.old.map).pending (core_of volume.new.map).pending job.old job.new }
     ensures reads { KeepsReading (core_of volume.old.map).live (core_of volume.new.map).live job.old job.new }
     // A crash finds the files as they were, or with the directory.
-    ensures crash { (D.state volume.old.disk).honest → (f : Files File) → RestsAt (D.state volume.old.disk) f
+    ensures crash { (D.state volume.new.disk).honest → (f : Files File) → RestsAt (D.state volume.old.disk) f
         → LeavesOnly (D.state volume.old.disk) (D.state volume.new.disk) (StandsForEither (D.state volume.old.disk).size f (files_made f (asked_owner job.old.core address) (asked_protection job.old.core address))) }
-    ensures done { (D.state volume.old.disk).honest → (f : Files File) → RestsAt (D.state volume.old.disk) f
+    ensures done { (D.state volume.new.disk).honest → (f : Files File) → RestsAt (D.state volume.old.disk) f
         → result ≡ Done → RestsAt (D.state volume.new.disk) (files_made f (asked_owner job.old.core address) (asked_protection job.old.core address)) }
     // The versions in use stay, and so does each directory in its place, with the prime blocks of its files.
     ensures live { (core_of volume.new.map).live ≡ (core_of volume.old.map).live }
     ensures pending { (core_of volume.new.map).pending ≡ (core_of volume.old.map).pending }
     ensures directories { (owner : ℕ) (d : KnownDirectory) → IsDirectoryOf (core_of volume.old.map) owner d → IsDirectoryOf (core_of volume.new.map) owner d }
     ensures primes { (owner : ℕ) (name : FileName) (n : ℕ) → prime_at (core_of volume.old.map) owner name ≡ Some n → prime_at (core_of volume.new.map) owner name ≡ Some n }
-    ensures readers { (D.state volume.old.disk).honest → KeepsRead (D.state volume.old.disk).contents (D.state volume.new.disk).contents (core_of volume.old.map) }
-    ensures writers { (D.state volume.old.disk).honest → KeepsEachWritten (D.state volume.old.disk).contents (D.state volume.new.disk).contents (core_of volume.old.map) }
+    ensures readers { (D.state volume.new.disk).honest → KeepsRead (D.state volume.old.disk).contents (D.state volume.new.disk).contents (core_of volume.old.map) }
+    ensures writers { (D.state volume.new.disk).honest → KeepsEachWritten (D.state volume.old.disk).contents (D.state volume.new.disk).contents (core_of volume.old.map) }
     // It blames the device where that failed.
     ensures failed { IsTrue volume.new.failed ↔ (result ≡ Device) }
     ensures counted { result ≡ Device → (D.state volume.new.disk).failures ≡ one_more (D.state volume.old.disk).failures }

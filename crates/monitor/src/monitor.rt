@@ -49,21 +49,21 @@ impl<D: Disk> Monitor<D> {
     ///
     /// The refusals of `Volume::open`, with the disk handed back.
     pub fn start(alloc: Global, disk: D) -> Result<Monitor<D>, (StartError, D)>
-        ensures started { (D.state disk).honest → (files : Files File) → Stands (D.state disk).size (D.state disk).contents files
-            → (s : State) → IsStart files s → IfOk result (λ m. Serves (D.state m.disk) m.map m.failed m.jobs (Serving s)) }
+        ensures started { (files : Files File) → Stands (D.state disk).size (D.state disk).contents files
+            → (s : State) → IsStart files s → IfOk result (λ m. (D.state m.disk).honest → Serves (D.state m.disk) m.map m.failed m.jobs (Serving s)) }
         // It starts only where the disk stands for some files, and nothing but the recovery was written.
-        ensures recovered { (D.state disk).honest → IfOk result (λ m. IsRecovered (D.state disk).size (D.state disk).contents (D.state m.disk).contents) }
-        ensures stood { (D.state disk).honest → IfOk result (λ m. (files : Files File) × Stands (D.state disk).size (D.state disk).contents files
+        ensures recovered { IfOk result (λ m. (D.state m.disk).honest → IsRecovered (D.state disk).size (D.state disk).contents (D.state m.disk).contents) }
+        ensures stood { IfOk result (λ m. (D.state m.disk).honest → (files : Files File) × Stands (D.state disk).size (D.state disk).contents files
             × ((s : State) → IsStart files s → Serves (D.state m.disk) m.map m.failed m.jobs (Serving s))) }
-        ensures settled { (D.state disk).honest → IfOk result (λ m. NoneOpen (D.state m.disk)) }
-        ensures crash { (D.state disk).honest → IfOk result (λ m. LeavesOnly (D.state disk) (D.state m.disk) (StandsLikeBefore (D.state disk))) }
-        ensures synced { (D.state disk).honest → IfOk result (λ m. (t : ℕ) × LeavesFrom t (D.state disk) (D.state m.disk) (StandsLike (D.state disk))) }
+        ensures settled { IfOk result (λ m. (D.state m.disk).honest → NoneOpen (D.state m.disk)) }
+        ensures crash { IfOk result (λ m. (D.state m.disk).honest → LeavesOnly (D.state disk) (D.state m.disk) (StandsLikeBefore (D.state disk))) }
+        ensures synced { IfOk result (λ m. (D.state m.disk).honest → (t : ℕ) × LeavesFrom t (D.state disk) (D.state m.disk) (StandsLike (D.state disk))) }
 
-        ensures refused { (D.state disk).honest → IfErr result (λ refused. Refuses (D.state disk).size (D.state refused.1).contents refused.0) }
-        ensures kept { (D.state disk).honest → IfErr result (λ refused. (refused.0 ≡ Device → ⊥)
+        ensures refused { IfErr result (λ refused. (D.state refused.1).honest → Refuses (D.state disk).size (D.state refused.1).contents refused.0) }
+        ensures kept { IfErr result (λ refused. (D.state refused.1).honest → (refused.0 ≡ Device → ⊥)
             → Still (D.state disk) (D.state refused.1) ⊎ IsRecovered (D.state disk).size (D.state disk).contents (D.state refused.1).contents) }
-        ensures crash_refused { (D.state disk).honest → IfErr result (λ refused. LeavesOnly (D.state disk) (D.state refused.1) (StandsLikeBefore (D.state disk))) }
-        ensures synced_refused { (D.state disk).honest → IfErr result (λ refused. (refused.0 ≡ Device) ⊎ ((t : ℕ) × LeavesFrom t (D.state disk) (D.state refused.1) (StandsLike (D.state disk)))) }
+        ensures crash_refused { IfErr result (λ refused. (D.state refused.1).honest → LeavesOnly (D.state disk) (D.state refused.1) (StandsLikeBefore (D.state disk))) }
+        ensures synced_refused { IfErr result (λ refused. (D.state refused.1).honest → (refused.0 ≡ Device) ⊎ ((t : ℕ) × LeavesFrom t (D.state disk) (D.state refused.1) (StandsLike (D.state disk)))) }
 
         ensures same { IfOk result (λ m. SameDisk (D.state disk) (D.state m.disk)) }
         ensures served { IfOk result (λ m. (D.state m.disk).failures ≡ (D.state disk).failures) }

@@ -100,15 +100,15 @@ pub fn out<D: Disk>(
     ensures keeps { volume.new.failed ≡ false → Keeps (core_of volume.old.map).pending (core_of volume.new.map).pending job.old job.new }
     ensures reads { volume.new.failed ≡ false → KeepsReading (core_of volume.old.map).live (core_of volume.new.map).live job.old job.new }
     // A crash finds the files as they were.
-    ensures quiet { (D.state volume.old.disk).honest → (f : Files File) → RestsAt (D.state volume.old.disk) f
+    ensures quiet { (D.state volume.new.disk).honest → (f : Files File) → RestsAt (D.state volume.old.disk) f
         → LeavesOnly (D.state volume.old.disk) (D.state volume.new.disk) (λ c. Stands (D.state volume.old.disk).size c f) }
-    ensures rests { (D.state volume.old.disk).honest → (f : Files File) → RestsAt (D.state volume.old.disk) f → RestsAt (D.state volume.new.disk) f }
+    ensures rests { (D.state volume.new.disk).honest → (f : Files File) → RestsAt (D.state volume.old.disk) f → RestsAt (D.state volume.new.disk) f }
     // No other version changes.
     ensures others { (key : ℕ) → IsOther (slot job.old.channels number) key → pending_at (core_of volume.new.map).pending key ≡ pending_at (core_of volume.old.map).pending key }
     ensures live { (core_of volume.new.map).live ≡ (core_of volume.old.map).live }
     ensures known { (core_of volume.new.map).known ≡ record (core_of volume.old.map).known { table = (core_of volume.new.map).known.table } }
-    ensures readers { (D.state volume.old.disk).honest → KeepsRead (D.state volume.old.disk).contents (D.state volume.new.disk).contents (core_of volume.old.map) }
-    ensures writers { (D.state volume.old.disk).honest → (key : ℕ) (p : PendingVersion) → IsOther (slot job.old.channels number) key → pending_at (core_of volume.old.map).pending key ≡ Some p
+    ensures readers { (D.state volume.new.disk).honest → KeepsRead (D.state volume.old.disk).contents (D.state volume.new.disk).contents (core_of volume.old.map) }
+    ensures writers { (D.state volume.new.disk).honest → (key : ℕ) (p : PendingVersion) → IsOther (slot job.old.channels number) key → pending_at (core_of volume.old.map).pending key ≡ Some p
         → (n : ℕ) → 0 < times n p.version.blocks → (D.state volume.new.disk).contents n ≡ (D.state volume.old.disk).contents n }
     // It fails with the volume, and blames the device where that failed.
     ensures failed { IsTrue volume.new.failed ↔ ((result ≡ Device) ⊎ (result ≡ Failed)) }

@@ -75,7 +75,7 @@ pub fn read_in<D: Disk>(
     ensures checked { result ≡ AddressCheck ↔ (dump_list core.old address ≡ None) }
     ensures named { result ≡ Moved 0 ↔ (dump_list core.old address ≡ Some []) }
     // The words are those of the body that was pinned,
-    ensures moved { (D.state volume.old.disk).honest → (v : LiveVersion) → slot (core_of volume.old.map).live pin.key ≡ Some v → (body : List ℕ) → length body ≡ v.version.words
+    ensures moved { (D.state volume.new.disk).honest → (v : LiveVersion) → slot (core_of volume.old.map).live pin.key ≡ Some v → (body : List ℕ) → length body ≡ v.version.words
         → HasBody (D.state volume.old.disk).contents v.version.blocks body → (areas : List Words) → dump_list core.old address ≡ Some areas
         → (n : ℕ) → result ≡ Moved n → core.new ≡ after_writes core.old (dealt areas (words_from body block)) }
     // and, on every disk, as many as the list names and the body has.
@@ -88,13 +88,13 @@ pub fn read_in<D: Disk>(
     ensures length { length core.new ≡ length core.old }
 
     // Nothing is written, and the volume stays.
-    ensures reads { (D.state volume.old.disk).honest → OnlyReads (D.state volume.old.disk) (D.state volume.new.disk) }
-    ensures rests { (D.state volume.old.disk).honest → (files : Files File) → RestsAt (D.state volume.old.disk) files → RestsAt (D.state volume.new.disk) files }
+    ensures reads { (D.state volume.new.disk).honest → OnlyReads (D.state volume.old.disk) (D.state volume.new.disk) }
+    ensures rests { (D.state volume.new.disk).honest → (files : Files File) → RestsAt (D.state volume.old.disk) files → RestsAt (D.state volume.new.disk) files }
     ensures core { volume.new.map ≡ volume.old.map }
     ensures idle { (result ≡ AddressCheck) ⊎ (result ≡ AtEnd) ⊎ (result ≡ Moved 0) ⊎ (result ≡ NoMemory) → volume.new.disk ≡ volume.old.disk }
     // It fails with the volume, and blames the device where that failed.
     ensures failed { IsTrue volume.new.failed ↔ ((result ≡ Device) ⊎ (result ≡ Failed)) }
-    ensures blamed { result ≡ Failed → (D.state volume.old.disk).honest → ⊥ }
+    ensures blamed { result ≡ Failed → (D.state volume.new.disk).honest → ⊥ }
     ensures counted { result ≡ Device → (D.state volume.new.disk).failures ≡ one_more (D.state volume.old.disk).failures }
     ensures served { (result ≡ Device → ⊥) → (D.state volume.new.disk).failures ≡ (D.state volume.old.disk).failures }
     ensures same { SameDisk (D.state volume.old.disk) (D.state volume.new.disk) }

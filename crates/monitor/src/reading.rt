@@ -65,10 +65,10 @@ pub fn read<D: Disk>(
     ensures core { core_of volume.new.map ≡ core_of volume.old.map }
     ensures outcome { IsIn (D.state volume.old.disk) (core_of volume.old.map) job.old job.new number address result }
     ensures reads { KeepsReading (core_of volume.old.map).live (core_of volume.new.map).live job.old job.new }
-    ensures only_reads { (D.state volume.old.disk).honest → OnlyReads (D.state volume.old.disk) (D.state volume.new.disk) }
-    ensures rests { (D.state volume.old.disk).honest → (files : Files File) → RestsAt (D.state volume.old.disk) files → RestsAt (D.state volume.new.disk) files }
+    ensures only_reads { (D.state volume.new.disk).honest → OnlyReads (D.state volume.old.disk) (D.state volume.new.disk) }
+    ensures rests { (D.state volume.new.disk).honest → (files : Files File) → RestsAt (D.state volume.old.disk) files → RestsAt (D.state volume.new.disk) files }
     ensures failed { IsTrue volume.new.failed ↔ ((result ≡ Device) ⊎ (result ≡ Failed)) }
-    ensures blamed { (D.state volume.old.disk).honest → result ≡ Failed → ⊥ }
+    ensures blamed { (D.state volume.new.disk).honest → result ≡ Failed → ⊥ }
     ensures counted { result ≡ Device → (D.state volume.new.disk).failures ≡ one_more (D.state volume.old.disk).failures }
     ensures served { (result ≡ Device → ⊥) → (D.state volume.new.disk).failures ≡ (D.state volume.old.disk).failures }
     ensures same { SameDisk (D.state volume.old.disk) (D.state volume.new.disk) }

@@ -31,20 +31,20 @@ pub fn start_after_crash<D: Disk, E: Disk>(
     stopped: &D,
     left: E,
 ) -> Result<Monitor<E>, (StartError, E)>
-    ensures found { (D.state stopped.now).honest → (E.state left).honest → (E.state left).size ≡ (D.state stopped.now).size
+    ensures found { (D.state stopped.now).honest → (E.state left).size ≡ (D.state stopped.now).size
         → (t : ℕ) (s : State) (events : List Event) (replies : List Reply) (new : Service) → RunsOn (pack_of (D.state stopped.now)) (D.state stopped.now) t (Serving s) events replies new
         → (D.state stopped.now).left_since t (E.state left).contents
         → (found : State) × IsAlong (pack_of (D.state stopped.now)) (Serving s) events replies found
-        × IfOk result (λ m. ServesFiles (E.state m.disk) m.map m.failed m.jobs (without_serials found.files)) }
-    ensures refused { (D.state stopped.now).honest → (E.state left).honest → (E.state left).size ≡ (D.state stopped.now).size
+        × IfOk result (λ m. (E.state m.disk).honest → ServesFiles (E.state m.disk) m.map m.failed m.jobs (without_serials found.files)) }
+    ensures refused { (D.state stopped.now).honest → (E.state left).size ≡ (D.state stopped.now).size
         → (t : ℕ) (s : State) (events : List Event) (replies : List Reply) (new : Service) → RunsOn (pack_of (D.state stopped.now)) (D.state stopped.now) t (Serving s) events replies new
         → (D.state stopped.now).left_since t (E.state left).contents
-        → IfErr result (λ refused. (refused.0 ≡ NoMemory) ⊎ (refused.0 ≡ Device)) }
+        → IfErr result (λ refused. (E.state refused.1).honest → (refused.0 ≡ NoMemory) ⊎ (refused.0 ≡ Device)) }
     // What was left between the moment before an event and the moment after it: the files before it or after it.
-    ensures between { (E.state left).honest → (E.state left).size ≡ (D.state stopped.now).size
+    ensures between { (E.state left).size ≡ (D.state stopped.now).size
         → (t u : ℕ) (s : State) (event : Event) → Between (D.state stopped.now) t u (StandsForEither (pack_of (D.state stopped.now)) s event)
         → (D.state stopped.now).left_since t (E.state left).contents → ((D.state stopped.now).left_since u (E.state left).contents → ⊥)
-        → IfOk result (λ m. ServesFiles (E.state m.disk) m.map m.failed m.jobs (without_serials s.files)
+        → IfOk result (λ m. (E.state m.disk).honest → ServesFiles (E.state m.disk) m.map m.failed m.jobs (without_serials s.files)
         ⊎ ServesFiles (E.state m.disk) m.map m.failed m.jobs (without_serials (step (pack_of (D.state stopped.now)) 0 s event).1.files)) }
 {
     Monitor::start(alloc, left)

@@ -50,7 +50,7 @@ pub fn serve_open<D: Disk>(
     ensures light { result ≡ NoMemory → ⊥ }
     ensures kept { core_of volume.new.map ≡ core_of volume.old.map }
     ensures unserved { (there : JobRecord) → slot jobs.old number ≡ Some there → is_buffered (mode_at there.core address) ≡ true → (jobs.new ≡ jobs.old) × ((under : UnderKeys) → result ≡ open_unserved (job_of under there) channel address) }
-    ensures answered { (D.state volume.old.disk).honest → IsUnbuffered address (slot jobs.old number) → (old : Service) → Serves (D.state volume.old.disk) (core_of volume.old.map) volume.old.failed jobs.old old
+    ensures answered { (D.state volume.new.disk).honest → IsUnbuffered address (slot jobs.old number) → (old : Service) → Serves (D.state volume.old.disk) (core_of volume.old.map) volume.old.failed jobs.old old
         → (new : Service) × Serves (D.state volume.new.disk) (core_of volume.new.map) volume.new.failed jobs.new new
         × Answers (pack_of (D.state volume.old.disk)) old (Calls number (Open channel address) moment) result new }
 {
@@ -85,7 +85,7 @@ pub fn serve_useto<D: Disk>(
     ensures untouched { (volume.new.disk ≡ volume.old.disk) × (volume.new.failed ≡ volume.old.failed) }
     ensures only { (result ≡ Failed → ⊥) × (result ≡ Device → ⊥) }
     ensures light { result ≡ NoMemory → ⊥ }
-    ensures answered { (D.state volume.old.disk).honest → (old : Service) → Serves (D.state volume.old.disk) (core_of volume.old.map) volume.old.failed jobs.old old
+    ensures answered { (D.state volume.new.disk).honest → (old : Service) → Serves (D.state volume.old.disk) (core_of volume.old.map) volume.old.failed jobs.old old
         → (new : Service) × Serves (D.state volume.new.disk) (core_of volume.new.map) volume.new.failed jobs.new new
         × Answers (pack_of (D.state volume.old.disk)) old (Calls number (Useto channel block) moment) result new }
 {
@@ -123,7 +123,7 @@ pub fn serve_enter<D: Disk>(
     ensures only { (result ≡ Failed → ⊥) × (result ≡ Device → ⊥) }
     // On a channel that reads no file is updated yet.
     ensures unserved { (there : JobRecord) → slot jobs.old number ≡ Some there → IsReading (slot there.channels channel) → (core_of volume.new.map ≡ core_of volume.old.map) × (result ≡ enter_unserved there address) × (jobs.new ≡ slice_set jobs.old number (Some (enter_refused there address))) }
-    ensures answered { (D.state volume.old.disk).honest → IsUnread channel (slot jobs.old number) → (old : Service) → Serves (D.state volume.old.disk) (core_of volume.old.map) volume.old.failed jobs.old old
+    ensures answered { (D.state volume.new.disk).honest → IsUnread channel (slot jobs.old number) → (old : Service) → Serves (D.state volume.old.disk) (core_of volume.old.map) volume.old.failed jobs.old old
         → (new : Service) × Serves (D.state volume.new.disk) (core_of volume.new.map) volume.new.failed jobs.new new
         × Answers (pack_of (D.state volume.old.disk)) old (Calls number (Enter channel address) moment) result new }
 {
@@ -156,7 +156,7 @@ pub fn serve_reset<D: Disk>(
     ensures untouched { (volume.new.disk ≡ volume.old.disk) × (volume.new.failed ≡ volume.old.failed) }
     ensures only { (result ≡ Failed → ⊥) × (result ≡ Device → ⊥) }
     ensures light { result ≡ NoMemory → ⊥ }
-    ensures answered { (D.state volume.old.disk).honest → (old : Service) → Serves (D.state volume.old.disk) (core_of volume.old.map) volume.old.failed jobs.old old
+    ensures answered { (D.state volume.new.disk).honest → (old : Service) → Serves (D.state volume.old.disk) (core_of volume.old.map) volume.old.failed jobs.old old
         → (new : Service) × Serves (D.state volume.new.disk) (core_of volume.new.map) volume.new.failed jobs.new new
         × Answers (pack_of (D.state volume.old.disk)) old (Calls number (Reset) moment) result new }
 {

@@ -45,7 +45,7 @@ pub fn serve_lookup<D: Disk>(
     ensures untouched { (volume.new.disk ≡ volume.old.disk) × (volume.new.failed ≡ volume.old.failed) }
     ensures only { (result ≡ Failed → ⊥) × (result ≡ Device → ⊥) }
     ensures light { result ≡ NoMemory → ⊥ }
-    ensures answered { (D.state volume.old.disk).honest → (old : Service) → Serves (D.state volume.old.disk) (core_of volume.old.map) volume.old.failed jobs.old old
+    ensures answered { (D.state volume.new.disk).honest → (old : Service) → Serves (D.state volume.old.disk) (core_of volume.old.map) volume.old.failed jobs.old old
         → (new : Service) × Serves (D.state volume.new.disk) (core_of volume.new.map) volume.new.failed jobs.new new
         × Answers (pack_of (D.state volume.old.disk)) old (Calls number (Lookup channel address) moment) result new }
 {
@@ -78,17 +78,17 @@ pub fn serve_in<D: Disk>(
     ensures placed { ArePlaced (core_of volume.new.map) }
     ensures reading { AreReading (core_of volume.new.map).live jobs.new }
     ensures others { (m : ℕ) → (m ≡ number → ⊥) → slot jobs.new m ≡ slot jobs.old m }
-    ensures answered { (D.state volume.old.disk).honest → (old : Service) → Serves (D.state volume.old.disk) (core_of volume.old.map) volume.old.failed jobs.old old
+    ensures answered { (D.state volume.new.disk).honest → (old : Service) → Serves (D.state volume.old.disk) (core_of volume.old.map) volume.old.failed jobs.old old
         → (new : Service) × Serves (D.state volume.new.disk) (core_of volume.new.map) volume.new.failed jobs.new new
         × Answers (pack_of (D.state volume.old.disk)) old (Calls number (In channel address) moment) result new }
     // A crash finds the files as they were.
     ensures crash { CallCrashes (D.state volume.old.disk) (D.state volume.new.disk) (core_of volume.old.map) jobs.old number (In channel address) moment }
-    ensures quiet { (D.state volume.old.disk).honest → (f : Files File) → RestsAt (D.state volume.old.disk) f
+    ensures quiet { (D.state volume.new.disk).honest → (f : Files File) → RestsAt (D.state volume.old.disk) f
         → LeavesOnly (D.state volume.old.disk) (D.state volume.new.disk) (λ c. Stands (D.state volume.old.disk).size c f) }
     ensures kept { core_of volume.new.map ≡ core_of volume.old.map }
     ensures memory { result ≡ NoMemory → (volume.new.disk ≡ volume.old.disk) × (volume.new.failed ≡ volume.old.failed) × (jobs.new ≡ jobs.old) }
     ensures failed { IsTrue volume.new.failed ↔ ((result ≡ Device) ⊎ (result ≡ Failed)) }
-    ensures blamed { (D.state volume.old.disk).honest → result ≡ Failed → ⊥ }
+    ensures blamed { (D.state volume.new.disk).honest → result ≡ Failed → ⊥ }
     ensures idle { IsIdle result → volume.new.disk ≡ volume.old.disk }
     ensures counted { result ≡ Device → (D.state volume.new.disk).failures ≡ one_more (D.state volume.old.disk).failures }
     ensures served { (result ≡ Device → ⊥) → (D.state volume.new.disk).failures ≡ (D.state volume.old.disk).failures }
@@ -125,7 +125,7 @@ pub fn serve_useti<D: Disk>(
     ensures untouched { (volume.new.disk ≡ volume.old.disk) × (volume.new.failed ≡ volume.old.failed) }
     ensures only { (result ≡ Failed → ⊥) × (result ≡ Device → ⊥) }
     ensures light { result ≡ NoMemory → ⊥ }
-    ensures answered { (D.state volume.old.disk).honest → (old : Service) → Serves (D.state volume.old.disk) (core_of volume.old.map) volume.old.failed jobs.old old
+    ensures answered { (D.state volume.new.disk).honest → (old : Service) → Serves (D.state volume.old.disk) (core_of volume.old.map) volume.old.failed jobs.old old
         → (new : Service) × Serves (D.state volume.new.disk) (core_of volume.new.map) volume.new.failed jobs.new new
         × Answers (pack_of (D.state volume.old.disk)) old (Calls number (Useti channel block) moment) result new }
 {

@@ -16,10 +16,10 @@ use words36::{BLOCK_WORDS, Block, Word};
 /// Reads a data block.
 pub(crate) fn read_data<D: Disk>(disk: &mut D, n: u32) -> Result<Block, BodyError>
     requires { n < (D.state disk.old).size }
-    ensures words { (D.state disk.old).honest → IfOk result (λ block. (D.state disk.old).contents n ≡ Some block) }
-    ensures bad { (D.state disk.old).honest → (k : ℕ) → IsErrOf result (BadData k) → (k ≡ n) × ((D.state disk.old).contents n ≡ None) }
+    ensures words { (D.state disk.new).honest → IfOk result (λ block. (D.state disk.old).contents n ≡ Some block) }
+    ensures bad { (D.state disk.new).honest → (k : ℕ) → IsErrOf result (BadData k) → (k ≡ n) × ((D.state disk.old).contents n ≡ None) }
     ensures memory { IsErrOf result NoMemory → ⊥ }
-    ensures keeps { (D.state disk.old).honest → Keeps (D.state disk.old) (D.state disk.new) }
+    ensures keeps { (D.state disk.new).honest → Keeps (D.state disk.old) (D.state disk.new) }
     ensures same { SameDisk (D.state disk.old) (D.state disk.new) }
     ensures failed { IsErrOf result Device → (D.state disk.new).failures ≡ one_more (D.state disk.old).failures }
     ensures served { (IsErrOf result Device → ⊥) → (D.state disk.new).failures ≡ (D.state disk.old).failures }
@@ -59,15 +59,15 @@ pub fn get_words<D: Disk>(
     requires counted { length version.now.blocks ≡ blocks_of version.now.words }
     requires first { 0 < block }
 
-    ensures words { (D.state disk.old).honest → (body : List ℕ) → length body ≡ version.now.words → HasBody (D.state disk.old).contents version.now.blocks body → IfOk result (λ words. words.items ≡ take count (words_from body block)) }
+    ensures words { (D.state disk.new).honest → (body : List ℕ) → length body ≡ version.now.words → HasBody (D.state disk.old).contents version.now.blocks body → IfOk result (λ words. words.items ≡ take count (words_from body block)) }
     ensures few { IfOk result (λ words. length words.items ≡ min count (version.now.words - block_start block)) }
-    ensures damaged { (D.state disk.old).honest → (k : ℕ) → IsErrOf result (BadData k) → (0 < times k version.now.blocks) × ((D.state disk.old).contents k ≡ None) }
+    ensures damaged { (D.state disk.new).honest → (k : ℕ) → IsErrOf result (BadData k) → (0 < times k version.now.blocks) × ((D.state disk.old).contents k ≡ None) }
     ensures memory { IsErrOf result NoMemory → disk.new ≡ disk.old }
     // Where there are no words the disk isn't asked.
     ensures none { IfOk result (λ words. length words.items ≡ 0 → disk.new ≡ disk.old) }
 
     // On every disk.
-    ensures keeps { (D.state disk.old).honest → Keeps (D.state disk.old) (D.state disk.new) }
+    ensures keeps { (D.state disk.new).honest → Keeps (D.state disk.old) (D.state disk.new) }
     ensures same { SameDisk (D.state disk.old) (D.state disk.new) }
     ensures failed { IsErrOf result Device → (D.state disk.new).failures ≡ one_more (D.state disk.old).failures }
     ensures served { (IsErrOf result Device → ⊥) → (D.state disk.new).failures ≡ (D.state disk.old).failures }

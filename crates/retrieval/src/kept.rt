@@ -68,10 +68,10 @@ pub(crate) fn read_kept<D: Disk>(
     requires counted { length blocks.now ≡ blocks_of total }
     requires fits { at * 128 + count ≤ 2097152 }
 
-    ensures kept { (D.state disk.old).honest → (body : List ℕ) → length body ≡ total → AreWhole (D.state disk.old).contents blocks.now → HasBody (D.state disk.old).contents blocks.now body → IfOk result (λ kept. Stays body (min at (total / 128)) at count kept.place kept.words) }
-    ensures damaged { (D.state disk.old).honest → (k : ℕ) → IsErrOf result (BadData k) → (0 < times k blocks.now) × ((D.state disk.old).contents k ≡ None) }
+    ensures kept { (D.state disk.new).honest → (body : List ℕ) → length body ≡ total → AreWhole (D.state disk.old).contents blocks.now → HasBody (D.state disk.old).contents blocks.now body → IfOk result (λ kept. Stays body (min at (total / 128)) at count kept.place kept.words) }
+    ensures damaged { (D.state disk.new).honest → (k : ℕ) → IsErrOf result (BadData k) → (0 < times k blocks.now) × ((D.state disk.old).contents k ≡ None) }
     ensures memory { IsErrOf result NoMemory → ⊥ }
-    ensures keeps { (D.state disk.old).honest → Keeps (D.state disk.old) (D.state disk.new) }
+    ensures keeps { (D.state disk.new).honest → Keeps (D.state disk.old) (D.state disk.new) }
     ensures same { SameDisk (D.state disk.old) (D.state disk.new) }
     ensures failed { IsErrOf result Device → (D.state disk.new).failures ≡ one_more (D.state disk.old).failures }
     ensures served { (IsErrOf result Device → ⊥) → (D.state disk.new).failures ≡ (D.state disk.old).failures }

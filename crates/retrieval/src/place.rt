@@ -74,7 +74,7 @@ pub(crate) fn write_places<D: Disk>(
     requires used { uses table.old < table.old.booked }
     requires room { table.old.booked ≤ space table.old.size }
 
-    ensures placed { (D.state disk.old).honest → OnOk result (IsPlaced (D.state disk.old).contents (D.state disk.new).contents version.old.blocks version.new.blocks at words.now kept.now.place kept.now.words first (at + blocks_of (length words.now))) }
+    ensures placed { (D.state disk.new).honest → OnOk result (IsPlaced (D.state disk.old).contents (D.state disk.new).contents version.old.blocks version.new.blocks at words.now kept.now.place kept.now.words first (at + blocks_of (length words.now))) }
 
     ensures version { version.new ≡ record version.old { blocks = version.new.blocks } }
     ensures long { length version.new.blocks ≡ length version.old.blocks }
@@ -84,7 +84,7 @@ pub(crate) fn write_places<D: Disk>(
     ensures held { (n : ℕ) → holds table.new n + times n version.old.blocks ≡ holds table.old n + times n version.new.blocks }
     ensures used { uses table.new ≡ uses table.old }
     ensures stays { KeepsOwn table.old version.old.blocks version.new.blocks }
-    ensures touched { (D.state disk.old).honest → Touches (IsOwn table.old version.old.blocks) (D.state disk.old) (D.state disk.new) }
+    ensures touched { (D.state disk.new).honest → Touches (IsOwn table.old version.old.blocks) (D.state disk.old) (D.state disk.new) }
 
     ensures same { SameDisk (D.state disk.old) (D.state disk.new) }
     ensures device { IsErrOf result Damaged → ⊥ }

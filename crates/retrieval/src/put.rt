@@ -40,10 +40,10 @@ fn prepare<D: Disk>(
 
     ensures ok { OnOk result (version.new ≡ record version.old { blocks = version.old.blocks ++ replicate (blocks - length version.old.blocks) 0 }) }
     ensures err { OnErr result (version.new ≡ version.old) }
-    ensures kept { (D.state disk.old).honest → (body : List ℕ) → length body ≡ version.old.words → AreWhole (D.state disk.old).contents version.old.blocks → HasBody (D.state disk.old).contents version.old.blocks body → IfOk result (λ kept. Stays body (min at (version.old.words / 128)) at count kept.place kept.words) }
-    ensures damaged { (D.state disk.old).honest → (k : ℕ) → IsErrOf result (BadData k) → (0 < times k version.old.blocks) × ((D.state disk.old).contents k ≡ None) }
+    ensures kept { (D.state disk.new).honest → (body : List ℕ) → length body ≡ version.old.words → AreWhole (D.state disk.old).contents version.old.blocks → HasBody (D.state disk.old).contents version.old.blocks body → IfOk result (λ kept. Stays body (min at (version.old.words / 128)) at count kept.place kept.words) }
+    ensures damaged { (D.state disk.new).honest → (k : ℕ) → IsErrOf result (BadData k) → (0 < times k version.old.blocks) × ((D.state disk.old).contents k ≡ None) }
     ensures memory { IsErrOf result NoMemory → disk.new ≡ disk.old }
-    ensures keeps { (D.state disk.old).honest → Keeps (D.state disk.old) (D.state disk.new) }
+    ensures keeps { (D.state disk.new).honest → Keeps (D.state disk.old) (D.state disk.new) }
     ensures same { SameDisk (D.state disk.old) (D.state disk.new) }
     ensures failed { IsErrOf result Device → (D.state disk.new).failures ≡ one_more (D.state disk.old).failures }
     ensures served { (IsErrOf result Device → ⊥) → (D.state disk.new).failures ≡ (D.state disk.old).failures }
@@ -86,7 +86,7 @@ pub fn put_words<D: Disk>(
     requires booked { uses table.old + (blocks_of (length_after version.old.words block (length words.now)) - length version.old.blocks) < table.old.booked }
     requires room { table.old.booked ≤ space table.old.size }
 
-    ensures body { (D.state disk.old).honest → OnOk result ((body : List ℕ) → length body ≡ version.old.words → HasBody (D.state disk.old).contents version.old.blocks body → HasBody (D.state disk.new).contents version.new.blocks (splice body block words.now)) }
+    ensures body { (D.state disk.new).honest → OnOk result ((body : List ℕ) → length body ≡ version.old.words → HasBody (D.state disk.old).contents version.old.blocks body → HasBody (D.state disk.new).contents version.new.blocks (splice body block words.now)) }
     ensures length { OnOk result (version.new.words ≡ length_after version.old.words block (length words.now)) }
     ensures counted { OnOk result (length version.new.blocks ≡ blocks_of version.new.words) }
 
@@ -99,9 +99,9 @@ pub fn put_words<D: Disk>(
     ensures held { (n : ℕ) → holds table.new n + times n version.old.blocks ≡ holds table.old n + times n version.new.blocks }
     ensures used { uses table.new + length version.old.blocks ≡ uses table.old + length version.new.blocks }
     ensures stays { KeepsOwn table.old version.old.blocks version.new.blocks }
-    ensures touched { (D.state disk.old).honest → Touches (IsOwn table.old version.old.blocks) (D.state disk.old) (D.state disk.new) }
+    ensures touched { (D.state disk.new).honest → Touches (IsOwn table.old version.old.blocks) (D.state disk.old) (D.state disk.new) }
     ensures memory { IsErrOf result NoMemory → (table.new ≡ table.old) × (version.new ≡ version.old) × (disk.new ≡ disk.old) }
-    ensures damaged { (D.state disk.old).honest → (k : ℕ) → IsErrOf result (BadData k) → (0 < times k version.old.blocks) × ((D.state disk.old).contents k ≡ None) }
+    ensures damaged { (D.state disk.new).honest → (k : ℕ) → IsErrOf result (BadData k) → (0 < times k version.old.blocks) × ((D.state disk.old).contents k ≡ None) }
     ensures left { OnErr result (version.new.words ≡ version.old.words) }
     ensures undone { (k : ℕ) → IsErrOf result (BadData k) → (table.new ≡ table.old) × (version.new ≡ version.old) }
 

@@ -21,10 +21,10 @@ use words36::{BLOCK_WORDS, Block};
 /// Reads a retrieval block.
 fn read_block<D: Disk>(disk: &mut D, n: u32) -> Result<Block, RetrievalError>
     requires { n < (D.state disk.old).size }
-    ensures words { (D.state disk.old).honest → IfOk result (λ block. (D.state disk.old).contents n ≡ Some block) }
-    ensures bad { (D.state disk.old).honest → (k : ℕ) → IsErrOf result (BadRetrieval k) → (k ≡ n) × ((D.state disk.old).contents n ≡ None) }
+    ensures words { (D.state disk.new).honest → IfOk result (λ block. (D.state disk.old).contents n ≡ Some block) }
+    ensures bad { (D.state disk.new).honest → (k : ℕ) → IsErrOf result (BadRetrieval k) → (k ≡ n) × ((D.state disk.old).contents n ≡ None) }
     ensures memory { IsErrOf result NoMemory → ⊥ }
-    ensures keeps { (D.state disk.old).honest → Keeps (D.state disk.old) (D.state disk.new) }
+    ensures keeps { (D.state disk.new).honest → Keeps (D.state disk.old) (D.state disk.new) }
     ensures same { SameDisk (D.state disk.old) (D.state disk.new) }
     ensures failed { IsErrOf result Device → (D.state disk.new).failures ≡ one_more (D.state disk.old).failures }
     ensures served { (IsErrOf result Device → ⊥) → (D.state disk.new).failures ≡ (D.state disk.old).failures }
@@ -142,16 +142,16 @@ pub fn read_version<D: Disk>(
 ) -> Result<(Prime, Version), RetrievalError>
     requires volume { IsVolumeSize (D.state disk.old).size }
     requires inside { at < (D.state disk.old).size }
-    ensures ok { (D.state disk.old).honest → IfOk result (λ read. IsVersionAt (D.state disk.old).size (D.state disk.old).contents at read.0 read.1) }
-    ensures bad { (D.state disk.old).honest → (k : ℕ) → IsErrOf result (BadRetrieval k) → IsBadVersion (D.state disk.old).size (D.state disk.old).contents 1 at k }
-    ensures whole { (D.state disk.old).honest → (p : PrimeRecord) (ribs blocks : List ℕ) → IsWholeVersion (D.state disk.old).size (D.state disk.old).contents at p ribs blocks → (k : ℕ) → IsErrOf result (BadRetrieval k) → ⊥ }
-    ensures reads { (D.state disk.old).honest → (p : PrimeRecord) (ribs blocks : List ℕ) → IsRetrieved 1 (D.state disk.old).contents p at ribs blocks → p.place.name.ext < 2 ^ 18 → IfOk result (λ read. IsReadAs p ribs blocks read.0 read.1) }
+    ensures ok { (D.state disk.new).honest → IfOk result (λ read. IsVersionAt (D.state disk.old).size (D.state disk.old).contents at read.0 read.1) }
+    ensures bad { (D.state disk.new).honest → (k : ℕ) → IsErrOf result (BadRetrieval k) → IsBadVersion (D.state disk.old).size (D.state disk.old).contents 1 at k }
+    ensures whole { (D.state disk.new).honest → (p : PrimeRecord) (ribs blocks : List ℕ) → IsWholeVersion (D.state disk.old).size (D.state disk.old).contents at p ribs blocks → (k : ℕ) → IsErrOf result (BadRetrieval k) → ⊥ }
+    ensures reads { (D.state disk.new).honest → (p : PrimeRecord) (ribs blocks : List ℕ) → IsRetrieved 1 (D.state disk.old).contents p at ribs blocks → p.place.name.ext < 2 ^ 18 → IfOk result (λ read. IsReadAs p ribs blocks read.0 read.1) }
     ensures blocks_inside { IfOk result (λ read. AllByRecursion (InSpace (D.state disk.old).size) read.1.blocks) }
     ensures ribs_inside { IfOk result (λ read. AllByRecursion (InSpace (D.state disk.old).size) read.1.ribs) }
     ensures counted { IfOk result (λ read. length read.1.blocks ≡ blocks_of read.1.words) }
     ensures few { IfOk result (λ read. read.1.words ≤ most_blocks * 128) }
     ensures few_ribs { IfOk result (λ read. length read.1.ribs ≤ rib_count (length read.1.blocks)) }
-    ensures keeps { (D.state disk.old).honest → Keeps (D.state disk.old) (D.state disk.new) }
+    ensures keeps { (D.state disk.new).honest → Keeps (D.state disk.old) (D.state disk.new) }
     ensures same { SameDisk (D.state disk.old) (D.state disk.new) }
     ensures failed { IsErrOf result Device → (D.state disk.new).failures ≡ one_more (D.state disk.old).failures }
     ensures served { (IsErrOf result Device → ⊥) → (D.state disk.new).failures ≡ (D.state disk.old).failures }

@@ -62,8 +62,8 @@ fn write_ribs<D: Disk>(disk: &mut D, ribs: &[u32], blocks: &[u32]) -> Result<(),
     requires apart { AreApart ribs.now }
     requires count { length ribs.now ≡ (length blocks.now + 125) / 126 }
     requires fit { AllByRecursion (λ n. n < 2 ^ 18) blocks.now }
-    ensures written { (D.state disk.old).honest → OnOk result (AreExtensions (D.state disk.new).contents (extensions_of ribs.now blocks.now)) }
-    ensures touched { (D.state disk.old).honest → Touches (λ n. 0 < times n ribs.now) (D.state disk.old) (D.state disk.new) }
+    ensures written { (D.state disk.new).honest → OnOk result (AreExtensions (D.state disk.new).contents (extensions_of ribs.now blocks.now)) }
+    ensures touched { (D.state disk.new).honest → Touches (λ n. 0 < times n ribs.now) (D.state disk.old) (D.state disk.new) }
     ensures same { SameDisk (D.state disk.old) (D.state disk.new) }
     ensures device { IsErrOf result Damaged → ⊥ }
     ensures failed { IsErrOf result DeviceFault → (D.state disk.new).failures ≡ one_more (D.state disk.old).failures }
@@ -150,8 +150,8 @@ pub fn write_retrieval_blocks<D: Disk>(
     requires words { version.now.words ≤ 2097152 }
     requires enough { length version.now.blocks ≡ blocks_of version.now.words }
     requires fit { AllByRecursion (λ n. n < 2 ^ 18) version.now.blocks }
-    ensures written { (D.state disk.old).honest → OnOk result (IsRetrieved 1 (D.state disk.new).contents (with_length prime.now version.now.words) at version.now.ribs version.now.blocks) }
-    ensures touched { (D.state disk.old).honest → Touches (λ n. 0 < times n (at ∷ version.now.ribs)) (D.state disk.old) (D.state disk.new) }
+    ensures written { (D.state disk.new).honest → OnOk result (IsRetrieved 1 (D.state disk.new).contents (with_length prime.now version.now.words) at version.now.ribs version.now.blocks) }
+    ensures touched { (D.state disk.new).honest → Touches (λ n. 0 < times n (at ∷ version.now.ribs)) (D.state disk.old) (D.state disk.new) }
     ensures same { SameDisk (D.state disk.old) (D.state disk.new) }
     ensures device { IsErrOf result Damaged → ⊥ }
     ensures failed { IsErrOf result DeviceFault → (D.state disk.new).failures ≡ one_more (D.state disk.old).failures }
@@ -188,8 +188,8 @@ pub fn write_version<D: Disk>(
     requires room { table.old.booked ≤ space table.old.size }
 
     // What was written stands there, and is read back: `whole` and `reads` of `read_version`.
-    ensures written { (D.state disk.old).honest → IfOk result (λ n. IsRetrieved 1 (D.state disk.new).contents (with_length prime.now version.new.words) n version.new.ribs version.new.blocks) }
-    ensures read_back { (D.state disk.old).honest → AllByRecursion (InSpace (D.state disk.old).size) version.old.blocks → IfOk result (λ n. IsWholeVersion (D.state disk.new).size (D.state disk.new).contents n (with_length prime.now version.new.words) version.new.ribs version.new.blocks) }
+    ensures written { (D.state disk.new).honest → IfOk result (λ n. IsRetrieved 1 (D.state disk.new).contents (with_length prime.now version.new.words) n version.new.ribs version.new.blocks) }
+    ensures read_back { (D.state disk.new).honest → AllByRecursion (InSpace (D.state disk.old).size) version.old.blocks → IfOk result (λ n. IsWholeVersion (D.state disk.new).size (D.state disk.new).contents n (with_length prime.now version.new.words) version.new.ribs version.new.blocks) }
     ensures kept { version.new ≡ record version.old { ribs = version.new.ribs } }
     ensures count { OnOk result (length version.new.ribs ≡ rib_count (length version.new.blocks)) }
 
@@ -200,7 +200,7 @@ pub fn write_version<D: Disk>(
     ensures left { IsErrOf result Device → (n : ℕ) × Takes table.old (n ∷ version.new.ribs) table.new }
 
     // Nothing but blocks that were free is written, whatever the answer.
-    ensures touched { (D.state disk.old).honest → Touches (λ n. IsFree table.old n × InSpace (D.state disk.old).size n) (D.state disk.old) (D.state disk.new) }
+    ensures touched { (D.state disk.new).honest → Touches (λ n. IsFree table.old n × InSpace (D.state disk.old).size n) (D.state disk.old) (D.state disk.new) }
     ensures memory { IsErrOf result NoMemory → (table.new ≡ table.old) × (version.new ≡ version.old) × (disk.new ≡ disk.old) }
     ensures bad { (k : ℕ) → IsErrOf result (BadRetrieval k) → ⊥ }
 

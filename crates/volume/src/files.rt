@@ -40,7 +40,7 @@ fn read_named<D: Disk>(
 ) -> Result<StoredVersion, VolumeError>
     requires volume { IsVolumeSize (D.state disk.old).size }
     requires inside { prime < (D.state disk.old).size }
-    ensures ok { (D.state disk.old).honest → IfOk result (λ v. IsVersionAt (D.state disk.old).size (D.state disk.old).contents prime v.prime v.version) }
+    ensures ok { (D.state disk.new).honest → IfOk result (λ v. IsVersionAt (D.state disk.old).size (D.state disk.old).contents prime v.prime v.version) }
     ensures name { IfOk result (λ v. v.prime.file ≡ name) }
     ensures ppn { IfOk result (λ v. v.prime.ppn ≡ ppn) }
     ensures blocks_inside { IfOk result (λ v. AllByRecursion (InSpace (D.state disk.old).size) v.version.blocks) }
@@ -48,9 +48,9 @@ fn read_named<D: Disk>(
     ensures counted { IfOk result (λ v. length v.version.blocks ≡ blocks_of v.version.words) }
     ensures few { IfOk result (λ v. v.version.words ≤ most_blocks * 128) }
     ensures few_ribs { IfOk result (λ v. length v.version.ribs ≤ rib_count (length v.version.blocks)) }
-    ensures bad_version { (D.state disk.old).honest → (k : ℕ) → IsErrOf result (BadRetrieval k) → IsBadVersion (D.state disk.old).size (D.state disk.old).contents 1 prime k ⊎ ((k ≡ prime) × IsOtherPlace (D.state disk.old).contents (place_of ppn name) prime) }
+    ensures bad_version { (D.state disk.new).honest → (k : ℕ) → IsErrOf result (BadRetrieval k) → IsBadVersion (D.state disk.old).size (D.state disk.old).contents 1 prime k ⊎ ((k ≡ prime) × IsOtherPlace (D.state disk.old).contents (place_of ppn name) prime) }
     ensures only { IfErr result IsVersionRefusal }
-    ensures keeps { (D.state disk.old).honest → Keeps (D.state disk.old) (D.state disk.new) }
+    ensures keeps { (D.state disk.new).honest → Keeps (D.state disk.old) (D.state disk.new) }
     ensures same { SameDisk (D.state disk.old) (D.state disk.new) }
     ensures failed { IsErrOf result Device → (D.state disk.new).failures ≡ one_more (D.state disk.old).failures }
     ensures served { (IsErrOf result Device → ⊥) → (D.state disk.new).failures ≡ (D.state disk.old).failures }
@@ -73,10 +73,10 @@ fn read_named<D: Disk>(
 /// Reads each of these data blocks once.
 fn read_data<D: Disk>(disk: &mut D, blocks: &[u32]) -> Result<(), VolumeError>
     requires { AllByRecursion (InSpace (D.state disk.old).size) blocks.now }
-    ensures ok { (D.state disk.old).honest → OnOk result (AllByRecursion (IsWholeBlock (D.state disk.old).contents) blocks.now) }
-    ensures damaged { (D.state disk.old).honest → (k : ℕ) → IsErrOf result (BadData k) → (0 < times k blocks.now) × ((D.state disk.old).contents k ≡ None) }
+    ensures ok { (D.state disk.new).honest → OnOk result (AllByRecursion (IsWholeBlock (D.state disk.old).contents) blocks.now) }
+    ensures damaged { (D.state disk.new).honest → (k : ℕ) → IsErrOf result (BadData k) → (0 < times k blocks.now) × ((D.state disk.old).contents k ≡ None) }
     ensures only { IfErr result IsDataRefusal }
-    ensures keeps { (D.state disk.old).honest → Keeps (D.state disk.old) (D.state disk.new) }
+    ensures keeps { (D.state disk.new).honest → Keeps (D.state disk.old) (D.state disk.new) }
     ensures same { SameDisk (D.state disk.old) (D.state disk.new) }
     ensures failed { IsErrOf result Device → (D.state disk.new).failures ≡ one_more (D.state disk.old).failures }
     ensures served { (IsErrOf result Device → ⊥) → (D.state disk.new).failures ≡ (D.state disk.old).failures }
@@ -111,7 +111,7 @@ pub fn read_file<D: Disk>(
     requires volume { IsVolumeSize (D.state disk.old).size }
     requires inside { InSpace (D.state disk.old).size prime }
     requires marks { length reached.old ≡ (D.state disk.old).size }
-    ensures ok { (D.state disk.old).honest → IfOk result (λ v. IsFileFound (D.state disk.old).contents (place_of ppn name) prime v.prime v.version) }
+    ensures ok { (D.state disk.new).honest → IfOk result (λ v. IsFileFound (D.state disk.old).contents (place_of ppn name) prime v.prime v.version) }
     ensures name { IfOk result (λ v. v.prime.file ≡ name) }
     ensures ppn { IfOk result (λ v. v.prime.ppn ≡ ppn) }
     ensures marks { IfOk result (λ v. (n : ℕ) → digit_at reached.new n ≡ digit_at reached.old n + times n (prime ∷ (v.version.ribs ++ v.version.blocks))) }
@@ -122,11 +122,11 @@ pub fn read_file<D: Disk>(
     ensures few_ribs { IfOk result (λ v. length v.version.ribs ≤ rib_count (length v.version.blocks)) }
     ensures length { length reached.new ≡ length reached.old }
     ensures memory { IsErrOf result NoMemory → reached.new ≡ reached.old }
-    ensures bad_version { (D.state disk.old).honest → (k : ℕ) → IsErrOf result (BadRetrieval k) → IsBadVersion (D.state disk.old).size (D.state disk.old).contents 1 prime k ⊎ ((k ≡ prime) × IsOtherPlace (D.state disk.old).contents (place_of ppn name) prime) }
-    ensures twice { (D.state disk.old).honest → (k : ℕ) → IsErrOf result (BlockTwice k) → IsReachedTwice (D.state disk.old).contents (place_of ppn name) prime reached.old k }
-    ensures bad_data { (D.state disk.old).honest → (k : ℕ) → IsErrOf result (BadData k) → IsDamagedData (D.state disk.old).contents (place_of ppn name) prime k }
+    ensures bad_version { (D.state disk.new).honest → (k : ℕ) → IsErrOf result (BadRetrieval k) → IsBadVersion (D.state disk.old).size (D.state disk.old).contents 1 prime k ⊎ ((k ≡ prime) × IsOtherPlace (D.state disk.old).contents (place_of ppn name) prime) }
+    ensures twice { (D.state disk.new).honest → (k : ℕ) → IsErrOf result (BlockTwice k) → IsReachedTwice (D.state disk.old).contents (place_of ppn name) prime reached.old k }
+    ensures bad_data { (D.state disk.new).honest → (k : ℕ) → IsErrOf result (BadData k) → IsDamagedData (D.state disk.old).contents (place_of ppn name) prime k }
     ensures only { IfErr result IsFileRefusal }
-    ensures keeps { (D.state disk.old).honest → Keeps (D.state disk.old) (D.state disk.new) }
+    ensures keeps { (D.state disk.new).honest → Keeps (D.state disk.old) (D.state disk.new) }
     ensures same { SameDisk (D.state disk.old) (D.state disk.new) }
     ensures failed { IsErrOf result Device → (D.state disk.new).failures ≡ one_more (D.state disk.old).failures }
     ensures served { (IsErrOf result Device → ⊥) → (D.state disk.new).failures ≡ (D.state disk.old).failures }

@@ -30,14 +30,14 @@ const WORD_BITS: u32 = 36;
 /// device failed.
 pub fn init<D: Disk>(disk: &mut D) -> Result<(), VolumeError>
     // The disk is a volume then, and stands for no files: whatever a crash leaves.
-    ensures stands { (D.state disk.old).honest → OnOk result (AtRest (D.state disk.new) (λ c. Stands (D.state disk.old).size c empty)) }
-    ensures map { (D.state disk.old).honest → OnOk result (HasMap (D.state disk.old).size (D.state disk.new).contents (bare_map (D.state disk.old).size)) }
-    ensures settled { (D.state disk.old).honest → OnOk result (NoneOpen (D.state disk.new)) }
-    ensures shut { (D.state disk.old).honest → OnOk result (IsGateOpen (D.state disk.old).size (D.state disk.new).contents → ⊥) }
+    ensures stands { (D.state disk.new).honest → OnOk result (AtRest (D.state disk.new) (λ c. Stands (D.state disk.old).size c empty)) }
+    ensures map { (D.state disk.new).honest → OnOk result (HasMap (D.state disk.old).size (D.state disk.new).contents (bare_map (D.state disk.old).size)) }
+    ensures settled { (D.state disk.new).honest → OnOk result (NoneOpen (D.state disk.new)) }
+    ensures shut { (D.state disk.new).honest → OnOk result (IsGateOpen (D.state disk.old).size (D.state disk.new).contents → ⊥) }
 
     // What is written, and where.
-    ensures bare { (D.state disk.old).honest → OnOk result (IsBare (D.state disk.old).size (D.state disk.new).contents) }
-    ensures touched { (D.state disk.old).honest → Touches (IsInitBlock (D.state disk.old).size) (D.state disk.old) (D.state disk.new) }
+    ensures bare { (D.state disk.new).honest → OnOk result (IsBare (D.state disk.old).size (D.state disk.new).contents) }
+    ensures touched { (D.state disk.new).honest → Touches (IsInitBlock (D.state disk.old).size) (D.state disk.old) (D.state disk.new) }
 
     // On every disk.
     ensures range { IsErrOf result NotVolume ↔ (IsVolumeSize (D.state disk.old).size → ⊥) }
@@ -59,9 +59,9 @@ pub fn init<D: Disk>(disk: &mut D) -> Result<(), VolumeError>
 /// Writes the blocks of a volume with no directory, and waits until they are on the disk.
 fn write_volume<D: Disk>(disk: &mut D) -> Result<(), Fault>
     requires { IsVolumeSize (D.state disk.old).size }
-    ensures bare { (D.state disk.old).honest → OnOk result (IsBare (D.state disk.old).size (D.state disk.new).contents) }
-    ensures settled { (D.state disk.old).honest → OnOk result (NoneOpen (D.state disk.new)) }
-    ensures touched { (D.state disk.old).honest → Touches (IsInitBlock (D.state disk.old).size) (D.state disk.old) (D.state disk.new) }
+    ensures bare { (D.state disk.new).honest → OnOk result (IsBare (D.state disk.old).size (D.state disk.new).contents) }
+    ensures settled { (D.state disk.new).honest → OnOk result (NoneOpen (D.state disk.new)) }
+    ensures touched { (D.state disk.new).honest → Touches (IsInitBlock (D.state disk.old).size) (D.state disk.old) (D.state disk.new) }
     ensures same { SameDisk (D.state disk.old) (D.state disk.new) }
     ensures device { IsErrOf result Damaged → ⊥ }
     ensures failed { IsErrOf result Failed → (D.state disk.new).failures ≡ one_more (D.state disk.old).failures }
@@ -77,9 +77,9 @@ fn write_volume<D: Disk>(disk: &mut D) -> Result<(), Fault>
 fn write_fresh<D: Disk>(disk: &mut D, from: u32, end: u32) -> Result<(), Fault>
     requires volume { IsVolumeSize (D.state disk.old).size }
     requires inside { end ≤ (D.state disk.old).size }
-    ensures written { (D.state disk.old).honest → OnOk result ((n : ℕ) → from ≤ n → n < end
+    ensures written { (D.state disk.new).honest → OnOk result ((n : ℕ) → from ≤ n → n < end
         → (D.state disk.new).contents n ≡ Some (fresh_words (D.state disk.old).size n)) }
-    ensures touched { (D.state disk.old).honest → Touches (λ n. (from ≤ n) × (n < end)) (D.state disk.old) (D.state disk.new) }
+    ensures touched { (D.state disk.new).honest → Touches (λ n. (from ≤ n) × (n < end)) (D.state disk.old) (D.state disk.new) }
     ensures same { SameDisk (D.state disk.old) (D.state disk.new) }
     ensures device { IsErrOf result Damaged → ⊥ }
     ensures failed { IsErrOf result Failed → (D.state disk.new).failures ≡ one_more (D.state disk.old).failures }

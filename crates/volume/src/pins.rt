@@ -53,7 +53,7 @@ impl<D: Disk> Volume<D> {
         requires sound { IsSound (D.state self.old.disk) (core_of self.old.map) self.old.failed }
         requires few { (key : ℕ) (v : LiveVersion) → slot (core_of self.old.map).live key ≡ Some v → v.readers + 1 < 2 ^ 32 }
         ensures sound { IsSound (D.state self.new.disk) (core_of self.new.map) self.new.failed }
-        ensures value { (D.state self.old.disk).honest → self.old.failed ≡ false → (files : Files File) → RestsAt (D.state self.old.disk) files
+        ensures value { (D.state self.new.disk).honest → self.old.failed ≡ false → (files : Files File) → RestsAt (D.state self.old.disk) files
             → IsPinAnswer (D.state self.old.disk).contents (core_of self.new.map).live name.now result (get files ppn) }
 
         // It is the version that core has for the place.

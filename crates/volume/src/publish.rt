@@ -88,16 +88,16 @@ impl<D: Disk> Volume<D> {
         ensures sound { IsSound (D.state self.new.disk) (core_of self.new.map) self.new.failed }
         ensures turned { (p : PendingVersion) → pending_at (core_of self.old.map).pending key ≡ Some p
             → (at : ℕ) × (ribs : List ℕ) × (puts : List Put) × Turns (D.state self.old.disk).size (core_of self.old.map) (core_of self.new.map) key p at ribs puts }
-        ensures crash { (D.state self.old.disk).honest → (f : Files File) → RestsAt (D.state self.old.disk) f → (p : PendingVersion) → pending_at (core_of self.old.map).pending key ≡ Some p
+        ensures crash { (D.state self.new.disk).honest → (f : Files File) → RestsAt (D.state self.old.disk) f → (p : PendingVersion) → pending_at (core_of self.old.map).pending key ≡ Some p
             → (body : List ℕ) → length body ≡ p.version.words → HasBody (D.state self.old.disk).contents p.version.blocks body
             → LeavesOnly (D.state self.old.disk) (D.state self.new.disk) (StandsForEither (D.state self.old.disk).size f (files_published f p.prime.ppn p.prime.file (file_of p.prime body))) }
-        ensures done { (D.state self.old.disk).honest → (f : Files File) → RestsAt (D.state self.old.disk) f → (p : PendingVersion) → pending_at (core_of self.old.map).pending key ≡ Some p
+        ensures done { (D.state self.new.disk).honest → (f : Files File) → RestsAt (D.state self.old.disk) f → (p : PendingVersion) → pending_at (core_of self.old.map).pending key ≡ Some p
             → (body : List ℕ) → length body ≡ p.version.words → HasBody (D.state self.old.disk).contents p.version.blocks body
             → OnOk result (RestsAt (D.state self.new.disk) (files_published f p.prime.ppn p.prime.file (file_of p.prime body))) }
         // The blocks of other versions stay.
-        ensures readers { (D.state self.old.disk).honest → (k : ℕ) (v : LiveVersion) → slot (core_of self.old.map).live k ≡ Some v → 0 < v.readers
+        ensures readers { (D.state self.new.disk).honest → (k : ℕ) (v : LiveVersion) → slot (core_of self.old.map).live k ≡ Some v → 0 < v.readers
             → (n : ℕ) → 0 < times n v.version.blocks → (D.state self.new.disk).contents n ≡ (D.state self.old.disk).contents n }
-        ensures writers { (D.state self.old.disk).honest → (k : ℕ) (q : PendingVersion) → (k ≡ key → ⊥) → pending_at (core_of self.old.map).pending k ≡ Some q
+        ensures writers { (D.state self.new.disk).honest → (k : ℕ) (q : PendingVersion) → (k ≡ key → ⊥) → pending_at (core_of self.old.map).pending k ≡ Some q
             → (n : ℕ) → 0 < times n q.version.blocks → (D.state self.new.disk).contents n ≡ (D.state self.old.disk).contents n }
 
         ensures only { IfErr result (λ error. error ≡ Device) }
@@ -159,11 +159,11 @@ impl<D: Disk> Volume<D> {
 
         // Let all that a crash may leave stand for f, and the version have this body. Then a crash at any moment leaves
         // what stands for f, or for f with the version, its last words put, as the file of its name.
-        ensures crash { (D.state self.old.disk).honest → (f : Files File) → RestsAt (D.state self.old.disk) f → (p : PendingVersion) → pending_at (core_of self.old.map).pending pending.key ≡ Some p
+        ensures crash { (D.state self.new.disk).honest → (f : Files File) → RestsAt (D.state self.old.disk) f → (p : PendingVersion) → pending_at (core_of self.old.map).pending pending.key ≡ Some p
             → (body : List ℕ) → length body ≡ p.version.words → HasBody (D.state self.old.disk).contents p.version.blocks body
             → LeavesOnly (D.state self.old.disk) (D.state self.new.disk) (StandsForEither (D.state self.old.disk).size f (files_published f p.prime.ppn p.prime.file (file_of p.prime (splice body block words.now)))) }
         // At Ok all that a crash may leave stands for the latter.
-        ensures done { (D.state self.old.disk).honest → (f : Files File) → RestsAt (D.state self.old.disk) f → (p : PendingVersion) → pending_at (core_of self.old.map).pending pending.key ≡ Some p
+        ensures done { (D.state self.new.disk).honest → (f : Files File) → RestsAt (D.state self.old.disk) f → (p : PendingVersion) → pending_at (core_of self.old.map).pending pending.key ≡ Some p
             → (body : List ℕ) → length body ≡ p.version.words → HasBody (D.state self.old.disk).contents p.version.blocks body
             → OnOk result (RestsAt (D.state self.new.disk) (files_published f p.prime.ppn p.prime.file (file_of p.prime (splice body block words.now)))) }
         // What it does to core, once the last words are put.
@@ -172,12 +172,12 @@ impl<D: Disk> Volume<D> {
         // All other versions stay, and their blocks do, whatever the answer.
         ensures others { (k : ℕ) → (k ≡ pending.key → ⊥) → pending_at (core_of self.new.map).pending k ≡ pending_at (core_of self.old.map).pending k }
         ensures held { (k : ℕ) (v : LiveVersion) → slot (core_of self.old.map).live k ≡ Some v → 0 < v.readers → (b : Bool) × (slot (core_of self.new.map).live k ≡ Some (record v { is_current = b })) }
-        ensures readers { (D.state self.old.disk).honest → KeepsRead (D.state self.old.disk).contents (D.state self.new.disk).contents (core_of self.old.map) }
-        ensures writers { (D.state self.old.disk).honest → KeepsWritten (D.state self.old.disk).contents (D.state self.new.disk).contents (core_of self.old.map) pending.key }
+        ensures readers { (D.state self.new.disk).honest → KeepsRead (D.state self.old.disk).contents (D.state self.new.disk).contents (core_of self.old.map) }
+        ensures writers { (D.state self.new.disk).honest → KeepsWritten (D.state self.old.disk).contents (D.state self.new.disk).contents (core_of self.old.map) pending.key }
 
         // Which error comes when, and what it leaves.
         ensures failed { self.old.failed ≡ true → IsErrOf result Failed }
-        ensures given_up { IsErrOf result Failed → (self.old.failed ≡ true) ⊎ ((D.state self.old.disk).honest → ⊥) }
+        ensures given_up { IsErrOf result Failed → (self.old.failed ≡ true) ⊎ ((D.state self.new.disk).honest → ⊥) }
         ensures room { self.old.failed ≡ false → (p : PendingVersion) → pending_at (core_of self.old.map).pending pending.key ≡ Some p
             → (IsErrOf result (Refused NoRoom) ↔ ((0 < length words.now) × ((most_blocks * 128 < length_after p.version.words block (length words.now))
             ⊎ (space (D.state self.old.disk).size < (core_of self.old.map).known.table.booked + (version_cost (length_after p.version.words block (length words.now)) - version_cost p.version.words))))) }

@@ -101,12 +101,12 @@ fn put_booked<D: Disk>(
     requires more { more + cost_of_blocks (length version.old.blocks) ≡ version_cost (length_after version.old.words block (length words.now)) }
     requires room { table.old.booked + more ≤ space table.old.size }
 
-    ensures body { (D.state disk.old).honest → OnOk result ((body : List ℕ) → length body ≡ version.old.words → HasBody (D.state disk.old).contents version.old.blocks body → HasBody (D.state disk.new).contents version.new.blocks (splice body block words.now)) }
+    ensures body { (D.state disk.new).honest → OnOk result ((body : List ℕ) → length body ≡ version.old.words → HasBody (D.state disk.old).contents version.old.blocks body → HasBody (D.state disk.new).contents version.new.blocks (splice body block words.now)) }
     ensures length { OnOk result (version.new.words ≡ length_after version.old.words block (length words.now)) }
     ensures grown { Regrows (D.state disk.old).size table.old table.new version.old version.new }
-    ensures touched { (D.state disk.old).honest → Touches (IsOwn table.old version.old.blocks) (D.state disk.old) (D.state disk.new) }
+    ensures touched { (D.state disk.new).honest → Touches (IsOwn table.old version.old.blocks) (D.state disk.old) (D.state disk.new) }
     ensures memory { IsErrOf result body.NoMemory → (table.new ≡ table.old) × (version.new ≡ version.old) × (disk.new ≡ disk.old) }
-    ensures damaged { (D.state disk.old).honest → (k : ℕ) → IsErrOf result (body.BadData k) → (0 < times k version.old.blocks) × ((D.state disk.old).contents k ≡ None) }
+    ensures damaged { (D.state disk.new).honest → (k : ℕ) → IsErrOf result (body.BadData k) → (0 < times k version.old.blocks) × ((D.state disk.old).contents k ≡ None) }
     ensures same { SameDisk (D.state disk.old) (D.state disk.new) }
     ensures failed { IsErrOf result body.Device → (D.state disk.new).failures ≡ one_more (D.state disk.old).failures }
     ensures served { (IsErrOf result body.Device → ⊥) → (D.state disk.new).failures ≡ (D.state disk.old).failures }
@@ -150,10 +150,10 @@ fn put_pending<D: Disk>(
     requires some { 0 < length words.now }
 
     ensures put { OnOk result ((p : PendingVersion) → pending_at pending.old.slots key ≡ Some p → (v : VersionState) × (pending_at pending.new.slots key ≡ Some (record p { version = v })) × (v.words ≡ length_after p.version.words block (length words.now))
-        × ((D.state disk.old).honest → (body : List ℕ) → length body ≡ p.version.words → HasBody (D.state disk.old).contents p.version.blocks body → HasBody (D.state disk.new).contents v.blocks (splice body block words.now))) }
+        × ((D.state disk.new).honest → (body : List ℕ) → length body ≡ p.version.words → HasBody (D.state disk.old).contents p.version.blocks body → HasBody (D.state disk.new).contents v.blocks (splice body block words.now))) }
     ensures grown { (p : PendingVersion) → pending_at pending.old.slots key ≡ Some p → (v : VersionState) × Regrown (D.state disk.old).size table.old table.new pending.new.slots key p v }
     ensures others { (k : ℕ) → (k ≡ key → ⊥) → pending_at pending.new.slots k ≡ pending_at pending.old.slots k }
-    ensures touched { (D.state disk.old).honest → (p : PendingVersion) → pending_at pending.old.slots key ≡ Some p → Touches (IsOwn table.old p.version.blocks) (D.state disk.old) (D.state disk.new) }
+    ensures touched { (D.state disk.new).honest → (p : PendingVersion) → pending_at pending.old.slots key ≡ Some p → Touches (IsOwn table.old p.version.blocks) (D.state disk.old) (D.state disk.new) }
 
     ensures room { (p : PendingVersion) → pending_at pending.old.slots key ≡ Some p
         → (IsErrOf result (Refused NoRoom) ↔ ((most_blocks * 128 < length_after p.version.words block (length words.now))
@@ -161,7 +161,7 @@ fn put_pending<D: Disk>(
     ensures codes { (code : ErrorCode) → IsErrOf result (Refused code) → code ≡ NoRoom }
     ensures refused { (code : ErrorCode) → IsErrOf result (Refused code) → (disk.new ≡ disk.old) × (table.new ≡ table.old) × (pending.new.slots ≡ pending.old.slots) }
     ensures memory { IsErrOf result NoMemory → (disk.new ≡ disk.old) × (table.new ≡ table.old) × (pending.new.slots ≡ pending.old.slots) }
-    ensures damaged { (D.state disk.old).honest → (p : PendingVersion) → pending_at pending.old.slots key ≡ Some p → IsErrOf result Failed → (k : ℕ) × (0 < times k p.version.blocks) × ((D.state disk.old).contents k ≡ None) }
+    ensures damaged { (D.state disk.new).honest → (p : PendingVersion) → pending_at pending.old.slots key ≡ Some p → IsErrOf result Failed → (k : ℕ) × (0 < times k p.version.blocks) × ((D.state disk.old).contents k ≡ None) }
 
     ensures same { SameDisk (D.state disk.old) (D.state disk.new) }
     ensures failed { IsErrOf result Device → (D.state disk.new).failures ≡ one_more (D.state disk.old).failures }
@@ -207,13 +207,13 @@ impl<D: Disk> Volume<D> {
         ensures sound { IsSound (D.state self.new.disk) (core_of self.new.map) self.new.failed }
 
         // Its writes are quiet: whatever a crash leaves at any moment stands for the files from before.
-        ensures quiet { (D.state self.old.disk).honest → (f : Files File) → RestsAt (D.state self.old.disk) f
+        ensures quiet { (D.state self.new.disk).honest → (f : Files File) → RestsAt (D.state self.old.disk) f
             → LeavesOnly (D.state self.old.disk) (D.state self.new.disk) (λ c. Stands (D.state self.old.disk).size c f) }
-        ensures rests { (D.state self.old.disk).honest → (f : Files File) → RestsAt (D.state self.old.disk) f → RestsAt (D.state self.new.disk) f }
+        ensures rests { (D.state self.new.disk).honest → (f : Files File) → RestsAt (D.state self.old.disk) f → RestsAt (D.state self.new.disk) f }
         // At Ok the version has the words put.
         ensures put { OnOk result ((p : PendingVersion) → pending_at (core_of self.old.map).pending pending.key ≡ Some p
             → (v : VersionState) × (pending_at (core_of self.new.map).pending pending.key ≡ Some (record p { version = v })) × (v.words ≡ length_after p.version.words block (length words.now))
-            × ((D.state self.old.disk).honest → (body : List ℕ) → length body ≡ p.version.words → HasBody (D.state self.old.disk).contents p.version.blocks body → HasBody (D.state self.new.disk).contents v.blocks (splice body block words.now))) }
+            × ((D.state self.new.disk).honest → (body : List ℕ) → length body ≡ p.version.words → HasBody (D.state self.old.disk).contents p.version.blocks body → HasBody (D.state self.new.disk).contents v.blocks (splice body block words.now))) }
         // It is there still, whatever the answer.
         ensures stays { IsSome (pending_at (core_of self.new.map).pending pending.key) }
         // All other versions stay, and their blocks do.
@@ -222,15 +222,15 @@ impl<D: Disk> Volume<D> {
         ensures versions { self.new.map.versions ≡ self.old.map.versions }
         ensures keys { (core_of self.new.map).keys ≡ (core_of self.old.map).keys }
         ensures known { (core_of self.new.map).known ≡ record (core_of self.old.map).known { table = (core_of self.new.map).known.table } }
-        ensures kept { (D.state self.old.disk).honest → (p : PendingVersion) → pending_at (core_of self.old.map).pending pending.key ≡ Some p → (n : ℕ) → (IsOwn (core_of self.old.map).known.table p.version.blocks n → ⊥)
+        ensures kept { (D.state self.new.disk).honest → (p : PendingVersion) → pending_at (core_of self.old.map).pending pending.key ≡ Some p → (n : ℕ) → (IsOwn (core_of self.old.map).known.table p.version.blocks n → ⊥)
             → (D.state self.new.disk).contents n ≡ (D.state self.old.disk).contents n }
         // So no reader and no other writer sees that a block of theirs changes.
-        ensures readers { (D.state self.old.disk).honest → KeepsRead (D.state self.old.disk).contents (D.state self.new.disk).contents (core_of self.old.map) }
-        ensures writers { (D.state self.old.disk).honest → KeepsWritten (D.state self.old.disk).contents (D.state self.new.disk).contents (core_of self.old.map) pending.key }
+        ensures readers { (D.state self.new.disk).honest → KeepsRead (D.state self.old.disk).contents (D.state self.new.disk).contents (core_of self.old.map) }
+        ensures writers { (D.state self.new.disk).honest → KeepsWritten (D.state self.old.disk).contents (D.state self.new.disk).contents (core_of self.old.map) pending.key }
 
         // Which error comes when, and what it leaves.
         ensures failed { self.old.failed ≡ true → IsErrOf result Failed }
-        ensures given_up { IsErrOf result Failed → (self.old.failed ≡ true) ⊎ ((D.state self.old.disk).honest → ⊥) }
+        ensures given_up { IsErrOf result Failed → (self.old.failed ≡ true) ⊎ ((D.state self.new.disk).honest → ⊥) }
         ensures room { self.old.failed ≡ false → (p : PendingVersion) → pending_at (core_of self.old.map).pending pending.key ≡ Some p
             → (IsErrOf result (Refused NoRoom) ↔ ((0 < length words.now) × ((most_blocks * 128 < length_after p.version.words block (length words.now))
             ⊎ (space (D.state self.old.disk).size < (core_of self.old.map).known.table.booked + (version_cost (length_after p.version.words block (length words.now)) - version_cost p.version.words))))) }

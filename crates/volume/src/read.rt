@@ -37,16 +37,16 @@ fn load_files<D: Disk>(
     requires volume { IsVolumeSize (D.state disk.old).size }
     requires inside { InSpace (D.state disk.old).size first }
     requires marks { length reached.old ≡ (D.state disk.old).size }
-    ensures on { (D.state disk.old).honest → IfOk result (λ chain. IsOn file_words (D.state disk.old).contents (viewed file_view chain)) }
-    ensures walk { (D.state disk.old).honest → IfOk result (λ chain. Leads file_words (D.state disk.old).contents first (nodes_of chain.blocks (map file_view chain.entries)) 0) }
+    ensures on { (D.state disk.new).honest → IfOk result (λ chain. IsOn file_words (D.state disk.old).contents (viewed file_view chain)) }
+    ensures walk { (D.state disk.new).honest → IfOk result (λ chain. Leads file_words (D.state disk.old).contents first (nodes_of chain.blocks (map file_view chain.entries)) 0) }
     ensures begins { IfOk result (λ chain. head_or_zero chain.blocks ≡ first) }
     ensures chain { IfOk result (λ chain. IsChain name_cmp IsFileEntry (viewed file_view chain)) }
     ensures inside { IfOk result (λ chain. AllByRecursion (InSpace (D.state disk.old).size) chain.blocks) }
     ensures targets { IfOk result (λ chain. AllByRecursion (λ e. InSpace (D.state disk.old).size e.1) (map file_view chain.entries)) }
     ensures marked { IfOk result (λ chain. (n : ℕ) → digit_at reached.new n ≡ digit_at reached.old n + times n chain.blocks) }
-    ensures met { (D.state disk.old).honest → (ppn : ℕ) → IfErr result (DirectoryMeets (D.state disk.old).size (D.state disk.old).contents (digit_at reached.old) ppn first) }
+    ensures met { (D.state disk.new).honest → (ppn : ℕ) → IfErr result (DirectoryMeets (D.state disk.old).size (D.state disk.old).contents (digit_at reached.old) ppn first) }
     ensures length { length reached.new ≡ length reached.old }
-    ensures keeps { (D.state disk.old).honest → Keeps (D.state disk.old) (D.state disk.new) }
+    ensures keeps { (D.state disk.new).honest → Keeps (D.state disk.old) (D.state disk.new) }
     ensures same { SameDisk (D.state disk.old) (D.state disk.new) }
     ensures failed { IsErrOf result Device → (D.state disk.new).failures ≡ one_more (D.state disk.old).failures }
     ensures served { (IsErrOf result Device → ⊥) → (D.state disk.new).failures ≡ (D.state disk.old).failures }
@@ -72,14 +72,14 @@ fn add_file<D: Disk>(
     requires volume { IsVolumeSize (D.state disk.old).size }
     requires inside { InSpace (D.state disk.old).size entry.now.prime }
     requires marks { length reached.old ≡ (D.state disk.old).size }
-    ensures read { (D.state disk.old).honest → OnOk result (IsAdded known_version versions.old.items versions.new.items (IsMarkedFile (D.state disk.old).contents ppn (file_view entry.now) (digit_at reached.old) (digit_at reached.new))) }
+    ensures read { (D.state disk.new).honest → OnOk result (IsAdded known_version versions.old.items versions.new.items (IsMarkedFile (D.state disk.old).contents ppn (file_view entry.now) (digit_at reached.old) (digit_at reached.new))) }
     ensures marked { OnOk result (IsAdded known_version versions.old.items versions.new.items (λ v. (n : ℕ) → digit_at reached.new n ≡ digit_at reached.old n + times n (blocks_reached entry.now.prime v.version))) }
-    ensures met { (D.state disk.old).honest → IfErr result (FileMeets (D.state disk.old).size (D.state disk.old).contents reached.old (place_of ppn entry.now.name) entry.now.prime) }
+    ensures met { (D.state disk.new).honest → IfErr result (FileMeets (D.state disk.old).size (D.state disk.old).contents reached.old (place_of ppn entry.now.name) entry.now.prime) }
     ensures whole { OnOk result (IsAdded known_version versions.old.items versions.new.items IsWholeVersion) }
     ensures aligned { OnOk result (length versions.new.items ≡ length versions.old.items + 1) }
     ensures space { IsOnlySpace (D.state disk.old).size reached.old → OnOk result (IsOnlySpace (D.state disk.old).size reached.new) }
     ensures length { length reached.new ≡ length reached.old }
-    ensures keeps { (D.state disk.old).honest → Keeps (D.state disk.old) (D.state disk.new) }
+    ensures keeps { (D.state disk.new).honest → Keeps (D.state disk.old) (D.state disk.new) }
     ensures same { SameDisk (D.state disk.old) (D.state disk.new) }
     ensures failed { IsErrOf result Device → (D.state disk.new).failures ≡ one_more (D.state disk.old).failures }
     ensures served { (IsErrOf result Device → ⊥) → (D.state disk.new).failures ≡ (D.state disk.old).failures }
@@ -103,14 +103,14 @@ fn read_files<D: Disk>(
     requires inside { AllByRecursion (λ e. InSpace (D.state disk.old).size e.1) (map file_view entries.now) }
     requires once { EachOnce name_cmp (map file_view entries.now) }
     requires marks { length reached.old ≡ (D.state disk.old).size }
-    ensures read { (D.state disk.old).honest → IfOk result (λ versions. AreFilesRead (D.state disk.old).contents ppn (map file_view entries.now) (map known_version versions.items) (digit_at reached.old) (digit_at reached.new)) }
+    ensures read { (D.state disk.new).honest → IfOk result (λ versions. AreFilesRead (D.state disk.old).contents ppn (map file_view entries.now) (map known_version versions.items) (digit_at reached.old) (digit_at reached.new)) }
     ensures marked { IfOk result (λ versions. (n : ℕ) → digit_at reached.new n ≡ digit_at reached.old n + reaches_in_entries n (map file_view entries.now) (map known_version versions.items)) }
-    ensures met { (D.state disk.old).honest → IfErr result (FilesMeet (D.state disk.old).size (D.state disk.old).contents (digit_at reached.old) ppn (map file_view entries.now)) }
+    ensures met { (D.state disk.new).honest → IfErr result (FilesMeet (D.state disk.old).size (D.state disk.old).contents (digit_at reached.old) ppn (map file_view entries.now)) }
     ensures whole { IfOk result (λ versions. AllByRecursion IsWholeVersion (map known_version versions.items)) }
     ensures aligned { IfOk result (λ versions. length versions.items ≡ length entries.now) }
     ensures space { IsOnlySpace (D.state disk.old).size reached.old → IfOk result (λ versions. IsOnlySpace (D.state disk.old).size reached.new) }
     ensures length { length reached.new ≡ length reached.old }
-    ensures keeps { (D.state disk.old).honest → Keeps (D.state disk.old) (D.state disk.new) }
+    ensures keeps { (D.state disk.new).honest → Keeps (D.state disk.old) (D.state disk.new) }
     ensures same { SameDisk (D.state disk.old) (D.state disk.new) }
     ensures failed { IsErrOf result Device → (D.state disk.new).failures ≡ one_more (D.state disk.old).failures }
     ensures served { (IsErrOf result Device → ⊥) → (D.state disk.new).failures ≡ (D.state disk.old).failures }
@@ -132,13 +132,13 @@ fn read_directory<D: Disk>(
     requires volume { IsVolumeSize (D.state disk.old).size }
     requires inside { InSpace (D.state disk.old).size entry.now.first }
     requires marks { length reached.old ≡ (D.state disk.old).size }
-    ensures read { (D.state disk.old).honest → IfOk result (λ directory. IsDirectoryFound (D.state disk.old).contents (master_view entry.now) (known_directory directory) (digit_at reached.old) (digit_at reached.new)) }
+    ensures read { (D.state disk.new).honest → IfOk result (λ directory. IsDirectoryFound (D.state disk.old).contents (master_view entry.now) (known_directory directory) (digit_at reached.old) (digit_at reached.new)) }
     ensures marked { IfOk result (λ directory. (n : ℕ) → digit_at reached.new n ≡ digit_at reached.old n + reaches_in_known n (known_directory directory)) }
-    ensures met { (D.state disk.old).honest → IfErr result (DirectoryMeets (D.state disk.old).size (D.state disk.old).contents (digit_at reached.old) entry.now.ppn entry.now.first) }
+    ensures met { (D.state disk.new).honest → IfErr result (DirectoryMeets (D.state disk.old).size (D.state disk.old).contents (digit_at reached.old) entry.now.ppn entry.now.first) }
     ensures whole { IfOk result (λ directory. IsWholeDirectory (D.state disk.old).size (known_directory directory)) }
     ensures space { IsOnlySpace (D.state disk.old).size reached.old → IfOk result (λ directory. IsOnlySpace (D.state disk.old).size reached.new) }
     ensures length { length reached.new ≡ length reached.old }
-    ensures keeps { (D.state disk.old).honest → Keeps (D.state disk.old) (D.state disk.new) }
+    ensures keeps { (D.state disk.new).honest → Keeps (D.state disk.old) (D.state disk.new) }
     ensures same { SameDisk (D.state disk.old) (D.state disk.new) }
     ensures failed { IsErrOf result Device → (D.state disk.new).failures ≡ one_more (D.state disk.old).failures }
     ensures served { (IsErrOf result Device → ⊥) → (D.state disk.new).failures ≡ (D.state disk.old).failures }
@@ -159,14 +159,14 @@ fn add_directory<D: Disk>(
     requires volume { IsVolumeSize (D.state disk.old).size }
     requires inside { InSpace (D.state disk.old).size entry.now.first }
     requires marks { length reached.old ≡ (D.state disk.old).size }
-    ensures read { (D.state disk.old).honest → OnOk result (IsAdded known_directory directories.old.items directories.new.items (λ d. IsDirectoryFound (D.state disk.old).contents (master_view entry.now) d (digit_at reached.old) (digit_at reached.new))) }
+    ensures read { (D.state disk.new).honest → OnOk result (IsAdded known_directory directories.old.items directories.new.items (λ d. IsDirectoryFound (D.state disk.old).contents (master_view entry.now) d (digit_at reached.old) (digit_at reached.new))) }
     ensures marked { OnOk result (IsAdded known_directory directories.old.items directories.new.items (λ d. (n : ℕ) → digit_at reached.new n ≡ digit_at reached.old n + reaches_in_known n d)) }
-    ensures met { (D.state disk.old).honest → IfErr result (DirectoryMeets (D.state disk.old).size (D.state disk.old).contents (digit_at reached.old) entry.now.ppn entry.now.first) }
+    ensures met { (D.state disk.new).honest → IfErr result (DirectoryMeets (D.state disk.old).size (D.state disk.old).contents (digit_at reached.old) entry.now.ppn entry.now.first) }
     ensures whole { OnOk result (IsAdded known_directory directories.old.items directories.new.items (IsWholeDirectory (D.state disk.old).size)) }
     ensures aligned { OnOk result (length directories.new.items ≡ length directories.old.items + 1) }
     ensures space { IsOnlySpace (D.state disk.old).size reached.old → OnOk result (IsOnlySpace (D.state disk.old).size reached.new) }
     ensures length { length reached.new ≡ length reached.old }
-    ensures keeps { (D.state disk.old).honest → Keeps (D.state disk.old) (D.state disk.new) }
+    ensures keeps { (D.state disk.new).honest → Keeps (D.state disk.old) (D.state disk.new) }
     ensures same { SameDisk (D.state disk.old) (D.state disk.new) }
     ensures failed { IsErrOf result Device → (D.state disk.new).failures ≡ one_more (D.state disk.old).failures }
     ensures served { (IsErrOf result Device → ⊥) → (D.state disk.new).failures ≡ (D.state disk.old).failures }
@@ -189,14 +189,14 @@ pub fn read_directories<D: Disk>(
     requires inside { AllByRecursion (λ e. InSpace (D.state disk.old).size e.1.1) (map master_view entries.now) }
     requires once { EachOnce nat_cmp (map master_view entries.now) }
     requires marks { length reached.old ≡ (D.state disk.old).size }
-    ensures read { (D.state disk.old).honest → IfOk result (λ directories. AreDirectoriesRead (D.state disk.old).contents (map master_view entries.now) (map known_directory directories.items) (digit_at reached.old) (digit_at reached.new)) }
+    ensures read { (D.state disk.new).honest → IfOk result (λ directories. AreDirectoriesRead (D.state disk.old).contents (map master_view entries.now) (map known_directory directories.items) (digit_at reached.old) (digit_at reached.new)) }
     ensures marked { IfOk result (λ directories. (n : ℕ) → digit_at reached.new n ≡ digit_at reached.old n + total (reaches_in_known n) (map known_directory directories.items)) }
-    ensures met { (D.state disk.old).honest → IfErr result (DirectoriesMeet (D.state disk.old).size (D.state disk.old).contents (digit_at reached.old) (map master_view entries.now)) }
+    ensures met { (D.state disk.new).honest → IfErr result (DirectoriesMeet (D.state disk.old).size (D.state disk.old).contents (digit_at reached.old) (map master_view entries.now)) }
     ensures whole { IfOk result (λ directories. AllByRecursion (IsWholeDirectory (D.state disk.old).size) (map known_directory directories.items)) }
     ensures aligned { IfOk result (λ directories. length directories.items ≡ length entries.now) }
     ensures space { IsOnlySpace (D.state disk.old).size reached.old → IfOk result (λ directories. IsOnlySpace (D.state disk.old).size reached.new) }
     ensures length { length reached.new ≡ length reached.old }
-    ensures keeps { (D.state disk.old).honest → Keeps (D.state disk.old) (D.state disk.new) }
+    ensures keeps { (D.state disk.new).honest → Keeps (D.state disk.old) (D.state disk.new) }
     ensures same { SameDisk (D.state disk.old) (D.state disk.new) }
     ensures failed { IsErrOf result Device → (D.state disk.new).failures ≡ one_more (D.state disk.old).failures }
     ensures served { (IsErrOf result Device → ⊥) → (D.state disk.new).failures ≡ (D.state disk.old).failures }

@@ -62,13 +62,13 @@ impl<D: Disk> Volume<D> {
         requires live { IsReadable (core_of self.old.map) handle }
         requires first { 0 < block }
         ensures sound { IsSound (D.state self.new.disk) (core_of self.new.map) self.new.failed }
-        ensures words { (D.state self.old.disk).honest → (v : VersionState) → version_under (core_of self.old.map) handle ≡ Some v → (body : List ℕ) → length body ≡ v.words
+        ensures words { (D.state self.new.disk).honest → (v : VersionState) → version_under (core_of self.old.map) handle ≡ Some v → (body : List ℕ) → length body ≡ v.words
             → HasBody (D.state self.old.disk).contents v.blocks body → IfOk result (λ words. words.items ≡ take count (words_from body block)) }
         ensures few { (v : VersionState) → version_under (core_of self.old.map) handle ≡ Some v → IfOk result (λ words. length words.items ≡ min count (v.words - block_start block)) }
 
         // Nothing is written, and core stays.
-        ensures reads { (D.state self.old.disk).honest → OnlyReads (D.state self.old.disk) (D.state self.new.disk) }
-        ensures rests { (D.state self.old.disk).honest → (files : Files File) → RestsAt (D.state self.old.disk) files → RestsAt (D.state self.new.disk) files }
+        ensures reads { (D.state self.new.disk).honest → OnlyReads (D.state self.old.disk) (D.state self.new.disk) }
+        ensures rests { (D.state self.new.disk).honest → (files : Files File) → RestsAt (D.state self.old.disk) files → RestsAt (D.state self.new.disk) files }
         ensures core { self.new.map ≡ self.old.map }
 
         // Which error comes when, and what it leaves.
@@ -77,7 +77,7 @@ impl<D: Disk> Volume<D> {
         // Where there are no words the disk isn't asked.
         ensures none { IfOk result (λ words. length words.items ≡ 0 → self.new.disk ≡ self.old.disk) }
         ensures failed { self.old.failed ≡ true → IsErrOf result Failed }
-        ensures given_up { IsErrOf result Failed → (self.old.failed ≡ true) ⊎ ((D.state self.old.disk).honest → ⊥) }
+        ensures given_up { IsErrOf result Failed → (self.old.failed ≡ true) ⊎ ((D.state self.new.disk).honest → ⊥) }
         ensures gone { IsErrOf result Failed → self.new.failed ≡ true }
         ensures device { IsErrOf result Device → self.new.failed ≡ true }
         ensures still { (IsErrOf result Device → ⊥) → (IsErrOf result Failed → ⊥) → self.new.failed ≡ self.old.failed }
