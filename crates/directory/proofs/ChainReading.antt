@@ -134,6 +134,22 @@ pub record IsLoading {K V : Type 0} (R : K → K → Ordering) (words : K × V �
   pub long : length marks ≡ size
   pub walk : honest → Leads words contents first (nodes_of blocks entries) next
 
+-- what was walked while less was known to be honest
+pub loading_less : {K V : Type 0} (R : K → K → Ordering) (words : K × V → List ℕ) (IsEntry : K × V → Type 0) (target : K × V → ℕ) (size : ℕ) (honest later : Type 0) → (later → honest)
+    → (contents : Contents) (old marks : List Bool) (first : ℕ) (blocks : List ℕ) (entries : List (K × V)) (next : ℕ)
+    → IsLoading R words IsEntry target size honest contents old marks first blocks entries next → IsLoading R words IsEntry target size later contents old marks first blocks entries next
+loading_less R words IsEntry target size honest later was contents old marks first blocks entries next l = record {
+  good = l.good;
+  full = l.full;
+  counted = l.counted;
+  next_inside = l.next_inside;
+  blocks_inside = l.blocks_inside;
+  begins = l.begins;
+  marked = l.marked;
+  long = l.long;
+  walk = λ h. l.walk (was h);
+}
+
 module _ {K V : Type 0} (R : K → K → Ordering) (words : K × V → List ℕ) (IsEntry : K × V → Type 0) (target : K × V → ℕ) (size : ℕ) (honest : Type 0) (contents : Contents) (old : List Bool) (first : ℕ) where
   pub loading_begins : InSpace size first → length old ≡ size → IsLoading R words IsEntry target size honest contents old old first [] [] first
   loading_begins inside long = record {

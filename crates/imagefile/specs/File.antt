@@ -15,7 +15,7 @@ Remains = ℕ → Option ℕ
 pub record FileState : Type 1 where
   -- the number of bytes
   pub size : ℕ
-  -- it keeps to the laws below
+  -- it has kept to the laws below so far; an answer may end that, and none brings it back
   pub honest : Type 0
   -- how often a call answered Device, counted up to 2^64 - 1
   pub failures : ℕ
@@ -52,16 +52,9 @@ pub record FilePasses (s s' : FileState) (P : Remains → Type 0) : Type 0 where
   -- what was left stays so
   pub keeps : (t : ℕ) (r : Remains) → t ≤ s.clock → s.left_since t r → s'.left_since t r
 
--- What every call keeps, on every file.
+-- What every call keeps, on every file. Its answer may end honesty, and none brings it back.
 pub record SameFile (s s' : FileState) : Type 0 where
   pub size : s'.size ≡ s.size
-  pub honest : s.honest → s'.honest
-  pub was_honest : s'.honest → s.honest
-
--- The same of a file whose honesty outlasts each call where `lasts` holds, and may end with any where it doesn't.
-pub record FileGoesOn (lasts : Type 0) (s s' : FileState) : Type 0 where
-  pub size : s'.size ≡ s.size
-  pub stays_honest : lasts → s.honest → s'.honest
   pub was_honest : s'.honest → s.honest
 
 -- A read, and a sync that failed: nothing changed.

@@ -8,8 +8,9 @@ use blockdisk::Fault;
 /// A file of a fixed number of bytes, counted from 0, that keeps to the disk's model byte by byte.
 ///
 /// Between two syncs a byte that was written may after a crash be anything; the other bytes stay.
-/// What is said of a file that is `honest` is its promise, kept while nobody else writes it and it
-/// returns what was written; the rest holds of every file.
+/// A file is `honest` while it has kept to this so far: nobody else wrote it, and it returned what was
+/// written. An answer may end that, and none brings it back. So nobody has to know answers to come: what
+/// a call ensures of the bytes it ensures where the file is honest *after* it. The rest holds of every file.
 pub trait Durable {
     ghost state: { Self → FileState };
 
@@ -19,8 +20,8 @@ pub trait Durable {
     ///
     /// `Device` where the device failed.
     fn len(&mut self) -> Result<u64, Fault>
-        ensures size { (state self.old).honest → IfOk result (λ size. size ≡ (state self.old).size) }
-        ensures keeps { (state self.old).honest → FileKeeps (state self.old) (state self.new) }
+        ensures size { (state self.new).honest → IfOk result (λ size. size ≡ (state self.old).size) }
+        ensures keeps { (state self.new).honest → FileKeeps (state self.old) (state self.new) }
         ensures same { SameFile (state self.old) (state self.new) }
         ensures device { IsErrOf result Damaged → ⊥ }
         ensures failed { IsErrOf result Device → (state self.new).failures ≡ one_more (state self.old).failures }
@@ -33,8 +34,8 @@ pub trait Durable {
     /// `Device` where the device failed; `bytes` may then hold anything.
     fn read_at(&mut self, at: u64, bytes: &mut [u8]) -> Result<(), Fault>
         requires { (state self.old).honest → at + length bytes.old ≤ (state self.old).size }
-        ensures read { (state self.old).honest → OnOk result (bytes.new ≡ window (state self.old).bytes at (length bytes.old)) }
-        ensures keeps { (state self.old).honest → FileKeeps (state self.old) (state self.new) }
+        ensures read { (state self.new).honest → OnOk result (bytes.new ≡ window (state self.old).bytes at (length bytes.old)) }
+        ensures keeps { (state self.new).honest → FileKeeps (state self.old) (state self.new) }
         ensures same { SameFile (state self.old) (state self.new) }
         ensures device { IsErrOf result Damaged → ⊥ }
         ensures failed { IsErrOf result Device → (state self.new).failures ≡ one_more (state self.old).failures }
@@ -48,9 +49,9 @@ pub trait Durable {
     /// `Device` where the device failed; those places may then hold anything.
     fn write_at(&mut self, at: u64, bytes: &[u8]) -> Result<(), Fault>
         requires { (state self.old).honest → at + length bytes.now ≤ (state self.old).size }
-        ensures put { (state self.old).honest → OnOk result (window (state self.new).bytes at (length bytes.now) ≡ bytes.now) }
-        ensures moves { (state self.old).honest → OnOk result ((state self.old).clock < (state self.new).clock) }
-        ensures writes { (state self.old).honest → FileWrites at (length bytes.now) (state self.old) (state self.new) }
+        ensures put { (state self.new).honest → OnOk result (window (state self.new).bytes at (length bytes.now) ≡ bytes.now) }
+        ensures moves { (state self.new).honest → OnOk result ((state self.old).clock < (state self.new).clock) }
+        ensures writes { (state self.new).honest → FileWrites at (length bytes.now) (state self.old) (state self.new) }
         ensures same { SameFile (state self.old) (state self.new) }
         ensures device { IsErrOf result Damaged → ⊥ }
         ensures failed { IsErrOf result Device → (state self.new).failures ≡ one_more (state self.old).failures }
@@ -62,9 +63,9 @@ pub trait Durable {
     ///
     /// `Device` where the device failed; the open bytes stay open.
     fn sync(&mut self) -> Result<(), Fault>
-        ensures syncs { (state self.old).honest → OnOk result (FileSyncs (state self.old) (state self.new)) }
-        ensures moves { (state self.old).honest → OnOk result ((state self.old).clock < (state self.new).clock) }
-        ensures keeps { (state self.old).honest → OnErr result (FileKeeps (state self.old) (state self.new)) }
+        ensures syncs { (state self.new).honest → OnOk result (FileSyncs (state self.old) (state self.new)) }
+        ensures moves { (state self.new).honest → OnOk result ((state self.old).clock < (state self.new).clock) }
+        ensures keeps { (state self.new).honest → OnErr result (FileKeeps (state self.old) (state self.new)) }
         ensures same { SameFile (state self.old) (state self.new) }
         ensures device { IsErrOf result Damaged → ⊥ }
         ensures failed { IsErrOf result Device → (state self.new).failures ≡ one_more (state self.old).failures }

@@ -58,14 +58,14 @@ impl<F: Durable> ImageDisk<F> {
     /// The file is handed back: `BadSize` where its length is not that of an image, `Device` where the
     /// device failed.
     pub fn new(file: F) -> Result<Self, (ImageError, F)>
-        ensures sized { (F.state file).honest → IfOk result (λ disk. (F.state file).size ≡ 1024 * blocks_of disk) }
+        ensures sized { IfOk result (λ disk. (F.state (file_of disk)).honest → (F.state file).size ≡ 1024 * blocks_of disk) }
         ensures few { IfOk result (λ disk. blocks_of disk < 2 ^ 32) }
-        ensures keeps { (F.state file).honest → IfOk result (λ disk. FileKeeps (F.state file) (F.state (file_of disk))) }
+        ensures keeps { IfOk result (λ disk. (F.state (file_of disk)).honest → FileKeeps (F.state file) (F.state (file_of disk))) }
         ensures same { IfOk result (λ disk. SameFile (F.state file) (F.state (file_of disk))) }
         ensures served { IfOk result (λ disk. (F.state (file_of disk)).failures ≡ (F.state file).failures) }
-        ensures kept { (F.state file).honest → IfErr result (λ refused. FileKeeps (F.state file) (F.state refused.1)) }
+        ensures kept { IfErr result (λ refused. (F.state refused.1).honest → FileKeeps (F.state file) (F.state refused.1)) }
         ensures stays { IfErr result (λ refused. SameFile (F.state file) (F.state refused.1)) }
-        ensures bad { (F.state file).honest → IfErr result (λ refused. refused.0 ≡ ImageError.BadSize → IsImageSize (F.state file).size → ⊥) }
+        ensures bad { IfErr result (λ refused. (F.state refused.1).honest → refused.0 ≡ ImageError.BadSize → IsImageSize (F.state file).size → ⊥) }
         ensures failed { IfErr result (λ refused. refused.0 ≡ ImageError.Device → (F.state refused.1).failures ≡ one_more (F.state file).failures) }
         ensures counted { IfErr result (λ refused. refused.0 ≡ ImageError.BadSize → (F.state refused.1).failures ≡ (F.state file).failures) }
     {

@@ -8,19 +8,13 @@ use std::io;
 
 /// The calls of a system that does all it is asked, or fails where the record has no room.
 impl FileCalls for MemFile {
-    ghost Unseen = { Unit {0} };
+    ghost state = { memory_state };
 
-    ghost supposed = { tt };
+    ghost counts_now = { λ m t r h le may. inr may };
 
-    ghost state = { λ u m. memory_state m };
+    ghost only_now = { λ m r h left. only_now m r left };
 
-    ghost lasts = { Unit {0} };
-
-    ghost counts_now = { λ u m t r h le may. inr may };
-
-    ghost only_now = { λ u m r h left. only_now m r left };
-
-    ghost reaches_back = { λ u m t s r h le left. reaches_back m t s r le left };
+    ghost reaches_back = { λ m t s r h le left. reaches_back m t s r le left };
 
     fn size(&mut self) -> io::Result<u64> {
         self.len().map_err(system_error)

@@ -17,7 +17,7 @@ use Rattle.monitor.specs.declared.job.Job.{Job}
 -- At any moment of the call by the job of a number, whether it is logged in or not, a crash leaves the files from before, or those of the machine after it.
 abbrev pub CallCrashes : (d d' : DiskState) (c : VolumeCore) (jobs : List (Option Job)) (n : ℕ) → Call → Moment → Type 0
 CallCrashes d d' c jobs n call moment =
-    d.honest → (s : State) → IsState d c jobs s
+    d'.honest → (s : State) → IsState d c jobs s
     → LeavesOnly d d' (λ contents. Stands d.size contents (without_serials s.files) ⊎ ((serial : ℕ) × Stands d.size contents (without_serials ((step (pack_of d) serial s (Calls n call moment)).1.files))))
 
 -- an answer with which the disk isn't touched

@@ -46,7 +46,7 @@ pub record Puts (d d' : DiskState) (c c' : VolumeCore) (o : Output) (words : Lis
   pub version : VersionState
   pub here : pending_at c'.pending o.pending.key ≡ Some (record p { version = version })
   pub length_is : version.words ≡ length_after p.version.words o.next (length words)
-  pub body : d.honest → (body : List ℕ) → length body ≡ p.version.words → HasBody d.contents p.version.blocks body → HasBody d'.contents version.blocks (splice body o.next words)
+  pub body : d'.honest → (body : List ℕ) → length body ≡ p.version.words → HasBody d.contents p.version.blocks body → HasBody d'.contents version.blocks (splice body o.next words)
 
 -- The same, where the words themselves were not gathered.
 pub record HasOutgoing (job : Job) (number a : ℕ) : Type 0 where
@@ -79,7 +79,7 @@ IsOut d d' c c' same job job' number a NoChannel = (job' ≡ job) × same × (sl
 IsOut d d' c c' same job job' number a AddressCheck = (job' ≡ job) × same × (dump_list job.core a ≡ None) × (c : Channel) × (o : Output) × (slot job.channels number ≡ Some c) × (c.output ≡ Some o)
 IsOut d d' c c' same job job' number a NoMemory = (job' ≡ job) × same × HasOutgoing job number a
 IsOut d d' c c' same job job' number a Device = (job' ≡ job) × HasOutgoing job number a
-IsOut d d' c c' same job job' number a Failed = d.honest → ⊥
+IsOut d d' c c' same job job' number a Failed = d'.honest → ⊥
 IsOut d d' c c' same job job' number a (Value word) = ⊥
 IsOut d d' c c' same job job' number a NoJob = ⊥
 IsOut d d' c c' same job job' number a DateRange = ⊥

@@ -1,4 +1,4 @@
-use Rattle.std.proofs.Common.{◌≡◌, length}
+use Rattle.std.proofs.Common.{◌≡◌, length, Some}
 use Rattle.std.specs.List.{AllByRecursion}
 use Rattle.blockdisk.specs.Disk.{SameDisk}
 use Rattle.meaning.specs.Log.{IsTarget, targets}
@@ -12,8 +12,9 @@ invariant-loop-i g l = record {
   count : length l.puts.items ≡ l.i;
   same : SameDisk (g.D.Disk.state l.fn.disk) (g.D.Disk.state l.disk);
   served : (g.D.Disk.state l.disk).failures ≡ (g.D.Disk.state l.fn.disk).failures;
-  reads : (g.D.Disk.state l.fn.disk).honest → OnlyReads (g.D.Disk.state l.fn.disk) (g.D.Disk.state l.disk);
+  reads : (g.D.Disk.state l.disk).honest → OnlyReads (g.D.Disk.state l.fn.disk) (g.D.Disk.state l.disk);
+  held : (g.D.Disk.state l.disk).honest → (g.D.Disk.state l.fn.disk).contents 4 ≡ Some l.header;
   distinct : AreDistinct l.puts.items;
   in_range : AllByRecursion (IsTarget l.size) (targets l.puts.items);
-  front : (g.D.Disk.state l.fn.disk).honest → IsFront (g.D.Disk.state l.fn.disk).contents l.header l.puts.items;
+  front : (g.D.Disk.state l.disk).honest → IsFront (g.D.Disk.state l.fn.disk).contents l.header l.puts.items;
 }

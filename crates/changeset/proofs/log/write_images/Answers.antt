@@ -15,7 +15,7 @@ loop-i-init g c = record {
 pub returns-in_err-write-clause-touched : goal.returns-in_err-write-clause-touched
 returns-in_err-write-clause-touched g c h =
     touches_write (λ n. (log_start ≤ n) × (n < log_start + length c.args.puts.now)) (log_start + c.loop-i.i) (g.D.Disk.state c.args.disk.now) (g.D.Disk.state c.loop-i.disk) (g.D.Disk.state c.write.new.self)
-    (omega arith, omega (arith, c.loop-i-test.true)) (c.loop-i.invariant.touched h) (c.write.ensures.writes (c.loop-i.invariant.same.honest h))
+    (omega arith, omega (arith, c.loop-i-test.true)) (c.loop-i.invariant.touched (c.write.ensures.same.was_honest h)) (c.write.ensures.writes h)
 
 pub loop-i-preserved : goal.loop-i-preserved
 loop-i-preserved g c =
@@ -26,9 +26,8 @@ loop-i-preserved g c =
       same = same_disk_on s now new c.loop-i.invariant.same c.write.ensures.same;
       served = c.in_ok-write.ensures.served ∙ c.loop-i.invariant.served;
       touched = λ h. touches_write (λ n. (log_start ≤ n) × (n < log_start + length c.args.puts.now)) (log_start + c.loop-i.i) s now new
-          (omega arith, omega (arith, c.loop-i-test.true)) (c.loop-i.invariant.touched h) (c.write.ensures.writes (c.loop-i.invariant.same.honest h));
+          (omega arith, omega (arith, c.loop-i-test.true)) (c.loop-i.invariant.touched (c.write.ensures.same.was_honest h)) (c.write.ensures.writes h);
       images = λ h.
-          let still_honest = c.loop-i.invariant.same.honest h in
           images_more c.args.puts.now c.loop-i.i c.index-puts-i.result c.loop-i-test.true c.index-puts-i.is now.contents new.contents log_start (log_start + c.loop-i.i) refl
-          (c.loop-i.invariant.images h) (c.write.ensures.writes still_honest).contents (c.in_ok-write.ensures.put still_honest);
+          (c.loop-i.invariant.images (c.write.ensures.same.was_honest h)) (c.write.ensures.writes h).contents (c.in_ok-write.ensures.put h);
     }

@@ -16,7 +16,7 @@ returns-in_err-write-clause-touched g c h =
     let s = g.D.Disk.state c.args.disk.now in
     let imaged = g.D.Disk.state c.write_images.new.disk in
     touches_write (IsInLog s.size) 4 s imaged (g.D.Disk.state c.write.new.self) (omega arith, omega arith)
-    (images_touched s imaged (length c.args.puts.now) c.requires.few (c.write_images.ensures.touched h)) (c.write.ensures.writes (c.write_images.ensures.same.honest h))
+    (images_touched s imaged (length c.args.puts.now) c.requires.few (c.write_images.ensures.touched (c.write.ensures.same.was_honest h))) (c.write.ensures.writes h)
 
 pub returns-clause-touched : goal.returns-clause-touched
 returns-clause-touched g c h =
@@ -24,24 +24,21 @@ returns-clause-touched g c h =
     let imaged = g.D.Disk.state c.write_images.new.disk in
     let written = g.D.Disk.state c.write.new.self in
     let end = g.D.Disk.state c.sync.new.self in
-    let honest = c.write_images.ensures.same.honest h in
-    let still_honest = c.write.ensures.same.honest honest in
     touches_still (IsInLog s.size) s written end
     (touches_write (IsInLog s.size) 4 s imaged written (omega arith, omega arith)
-    (images_touched s imaged (length c.args.puts.now) c.requires.few (c.write_images.ensures.touched h)) (c.write.ensures.writes honest))
-    (sync_still c.sync.result written end (c.sync.ensures.syncs still_honest) (c.sync.ensures.keeps still_honest))
+    (images_touched s imaged (length c.args.puts.now) c.requires.few (c.write_images.ensures.touched (c.write.ensures.same.was_honest (c.sync.ensures.same.was_honest h)))) (c.write.ensures.writes (c.sync.ensures.same.was_honest h)))
+    (sync_still c.sync.result written end (c.sync.ensures.syncs h) (c.sync.ensures.keeps h))
 
 pub returns-clause-logged : goal.returns-clause-logged
 returns-clause-logged g c h =
-    let honest = c.write_images.ensures.same.honest h in
     let imaged = g.D.Disk.state c.write_images.new.disk in
     let end = g.D.Disk.state c.sync.new.self in
     on_ok_weaker c.sync.result (λ (syncs : Syncs (g.D.Disk.state c.write.new.self) end). record {
-      header = syncs.contents 4 ∙ c.in_ok-write.ensures.put honest ∙ ap Some c.header_of-header.ensures;
+      header = syncs.contents 4 ∙ c.in_ok-write.ensures.put (c.sync.ensures.same.was_honest h) ∙ ap Some c.header_of-header.ensures;
       some = c.requires.some;
       few = c.requires.few;
       distinct = c.requires.distinct;
       in_range = c.requires.in_range;
-      images = images_same imaged.contents end.contents log_start c.args.puts.now (c.in_ok-write_images.ensures.images h)
-          (λ n low high. syncs.contents n ∙ (c.write.ensures.writes honest).contents n (λ is. omega arith));
-    }) (c.sync.ensures.syncs (c.write.ensures.same.honest honest))
+      images = images_same imaged.contents end.contents log_start c.args.puts.now (c.in_ok-write_images.ensures.images (c.write.ensures.same.was_honest (c.sync.ensures.same.was_honest h)))
+          (λ n low high. syncs.contents n ∙ (c.write.ensures.writes (c.sync.ensures.same.was_honest h)).contents n (λ is. omega arith));
+    }) (c.sync.ensures.syncs h)

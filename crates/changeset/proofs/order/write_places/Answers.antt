@@ -20,7 +20,7 @@ write-requires g c =
 pub returns-in_err-write-clause-touched : goal.returns-in_err-write-clause-touched
 returns-in_err-write-clause-touched g c h =
     touches_write (IsPutIn c.args.puts.now) c.put-item.result.block (g.D.Disk.state c.args.disk.now) (g.D.Disk.state c.loop-put.disk) (g.D.Disk.state c.write.new.self)
-    (put_in c.args.puts.now c.loop-put.put-index c.put-item.result c.loop-put-test.true c.put-item.is) (c.loop-put.invariant.touched h) (c.write.ensures.writes (c.loop-put.invariant.same.honest h))
+    (put_in c.args.puts.now c.loop-put.put-index c.put-item.result c.loop-put-test.true c.put-item.is) (c.loop-put.invariant.touched (c.write.ensures.same.was_honest h)) (c.write.ensures.writes h)
 
 pub loop-put-preserved : goal.loop-put-preserved
 loop-put-preserved g c =
@@ -31,9 +31,8 @@ loop-put-preserved g c =
       same = same_disk_on s now new c.loop-put.invariant.same c.write.ensures.same;
       served = c.in_ok-write.ensures.served ∙ c.loop-put.invariant.served;
       touched = λ h. touches_write (IsPutIn c.args.puts.now) c.put-item.result.block s now new
-          (put_in c.args.puts.now c.loop-put.put-index c.put-item.result c.loop-put-test.true c.put-item.is) (c.loop-put.invariant.touched h) (c.write.ensures.writes (c.loop-put.invariant.same.honest h));
+          (put_in c.args.puts.now c.loop-put.put-index c.put-item.result c.loop-put-test.true c.put-item.is) (c.loop-put.invariant.touched (c.write.ensures.same.was_honest h)) (c.write.ensures.writes h);
       placed = λ h.
-          let still_honest = c.loop-put.invariant.same.honest h in
           placed_more c.args.puts.now c.loop-put.put-index c.put-item.result c.loop-put-test.true c.put-item.is c.requires.distinct s.contents now.contents new.contents
-          (c.loop-put.invariant.placed h) (c.write.ensures.writes still_honest).contents (c.in_ok-write.ensures.put still_honest);
+          (c.loop-put.invariant.placed (c.write.ensures.same.was_honest h)) (c.write.ensures.writes h).contents (c.in_ok-write.ensures.put h);
     }

@@ -8,6 +8,6 @@ abbrev pub invariant-loop-put : goal.invariant-loop-put
 invariant-loop-put g l = record {
   same : SameDisk (g.D.Disk.state l.initial.disk) (g.D.Disk.state l.disk);
   served : (g.D.Disk.state l.disk).failures ≡ (g.D.Disk.state l.initial.disk).failures;
-  touched : (g.D.Disk.state l.initial.disk).honest → Touches (IsPutIn l.puts) (g.D.Disk.state l.initial.disk) (g.D.Disk.state l.disk);
-  placed : (g.D.Disk.state l.initial.disk).honest → (n : ℕ) → (g.D.Disk.state l.disk).contents n ≡ with_puts (take l.put-index l.puts) (g.D.Disk.state l.initial.disk).contents n;
+  touched : (g.D.Disk.state l.disk).honest → Touches (IsPutIn l.puts) (g.D.Disk.state l.initial.disk) (g.D.Disk.state l.disk);
+  placed : (g.D.Disk.state l.disk).honest → (n : ℕ) → (g.D.Disk.state l.disk).contents n ≡ with_puts (take l.put-index l.puts) (g.D.Disk.state l.initial.disk).contents n;
 }

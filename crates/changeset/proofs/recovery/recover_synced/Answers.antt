@@ -21,7 +21,7 @@ of_none found P is has = subst (λ (o : Option _). IfNone o P) is has
 
 pub returns-in_err-puts-clause-crash : goal.returns-in_err-puts-clause-crash
 returns-in_err-puts-clause-crash g c h none =
-    reading_leaves (g.D.Disk.state c.args.disk.now) (g.D.Disk.state c.pending_puts.new.disk) (λ d left. g.met.D.Disk.only_now c.args.disk.now d h left) none (c.pending_puts.ensures.reads h)
+    reading_leaves (g.D.Disk.state c.args.disk.now) (g.D.Disk.state c.pending_puts.new.disk) (λ d left. g.met.D.Disk.only_now c.args.disk.now d (c.pending_puts.ensures.same.was_honest h) left) none (c.pending_puts.ensures.reads h)
 
 pub returns-in_err-puts-clause-bad : goal.returns-in_err-puts-clause-bad
 returns-in_err-puts-clause-bad g c h bad =
@@ -30,7 +30,7 @@ returns-in_err-puts-clause-bad g c h bad =
 
 pub returns-in-None-clause-crash : goal.returns-in-None-clause-crash
 returns-in-None-clause-crash g c h none =
-    reading_leaves (g.D.Disk.state c.args.disk.now) (g.D.Disk.state c.pending_puts.new.disk) (λ d left. g.met.D.Disk.only_now c.args.disk.now d h left) none (c.pending_puts.ensures.reads h)
+    reading_leaves (g.D.Disk.state c.args.disk.now) (g.D.Disk.state c.pending_puts.new.disk) (λ d left. g.met.D.Disk.only_now c.args.disk.now d (c.pending_puts.ensures.same.was_honest h) left) none (c.pending_puts.ensures.reads h)
 
 pub returns-in-None-clause-recovered : goal.returns-in-None-clause-recovered
 returns-in-None-clause-recovered g c h =
@@ -40,9 +40,9 @@ returns-in-None-clause-recovered g c h =
 pub returns-in_err-redo-in-Some-clause-crash : goal.returns-in_err-redo-in-Some-clause-crash
 returns-in_err-redo-in-Some-clause-crash g c h none =
     let s = g.D.Disk.state c.args.disk.now in
-    redone_leaves s (g.D.Disk.state c.pending_puts.new.disk) (g.D.Disk.state c.redo.new.disk) (c.pending_puts.ensures.reads h) c.as_slice.result.now
-    (pending_at (λ found. found.items) s.size s.contents c.in_ok-puts.field-0 c.in-Some.puts c.as_slice.result.now c.in-Some.is c.as_slice.ensures.value (c.in_ok-puts.ensures.pending h))
-    (λ d left. g.met.D.Disk.only_now c.args.disk.now d h left) none (c.redo.ensures.crash (c.pending_puts.ensures.same.honest h))
+    redone_leaves s (g.D.Disk.state c.pending_puts.new.disk) (g.D.Disk.state c.redo.new.disk) (c.pending_puts.ensures.reads (c.redo.ensures.same.was_honest h)) c.as_slice.result.now
+    (pending_at (λ found. found.items) s.size s.contents c.in_ok-puts.field-0 c.in-Some.puts c.as_slice.result.now c.in-Some.is c.as_slice.ensures.value (c.in_ok-puts.ensures.pending (c.redo.ensures.same.was_honest h)))
+    (λ d left. g.met.D.Disk.only_now c.args.disk.now d (c.pending_puts.ensures.same.was_honest (c.redo.ensures.same.was_honest h)) left) none (c.redo.ensures.crash h)
 
 pub returns-in_err-redo-in-Some-clause-untouched : goal.returns-in_err-redo-in-Some-clause-untouched
 returns-in_err-redo-in-Some-clause-untouched g c h none_pending =
@@ -52,9 +52,9 @@ returns-in_err-redo-in-Some-clause-untouched g c h none_pending =
 pub returns-in_ok-redo-in-Some-clause-crash : goal.returns-in_ok-redo-in-Some-clause-crash
 returns-in_ok-redo-in-Some-clause-crash g c h none =
     let s = g.D.Disk.state c.args.disk.now in
-    redone_leaves s (g.D.Disk.state c.pending_puts.new.disk) (g.D.Disk.state c.redo.new.disk) (c.pending_puts.ensures.reads h) c.as_slice.result.now
-    (pending_at (λ found. found.items) s.size s.contents c.in_ok-puts.field-0 c.in-Some.puts c.as_slice.result.now c.in-Some.is c.as_slice.ensures.value (c.in_ok-puts.ensures.pending h))
-    (λ d left. g.met.D.Disk.only_now c.args.disk.now d h left) none (c.redo.ensures.crash (c.pending_puts.ensures.same.honest h))
+    redone_leaves s (g.D.Disk.state c.pending_puts.new.disk) (g.D.Disk.state c.redo.new.disk) (c.pending_puts.ensures.reads (c.redo.ensures.same.was_honest h)) c.as_slice.result.now
+    (pending_at (λ found. found.items) s.size s.contents c.in_ok-puts.field-0 c.in-Some.puts c.as_slice.result.now c.in-Some.is c.as_slice.ensures.value (c.in_ok-puts.ensures.pending (c.redo.ensures.same.was_honest h)))
+    (λ d left. g.met.D.Disk.only_now c.args.disk.now d (c.pending_puts.ensures.same.was_honest (c.redo.ensures.same.was_honest h)) left) none (c.redo.ensures.crash h)
 
 pub returns-in_ok-redo-in-Some-clause-untouched : goal.returns-in_ok-redo-in-Some-clause-untouched
 returns-in_ok-redo-in-Some-clause-untouched g c h none_pending =
@@ -64,7 +64,6 @@ returns-in_ok-redo-in-Some-clause-untouched g c h none_pending =
 pub returns-in_ok-redo-in-Some-clause-recovered : goal.returns-in_ok-redo-in-Some-clause-recovered
 returns-in_ok-redo-in-Some-clause-recovered g c h =
     let s = g.D.Disk.state c.args.disk.now in
-    let honest = c.pending_puts.ensures.same.honest h in
-    redone_recovered s (g.D.Disk.state c.pending_puts.new.disk) (g.D.Disk.state c.redo.new.disk) (c.pending_puts.ensures.reads h) c.as_slice.result.now
-    (pending_at (λ found. found.items) s.size s.contents c.in_ok-puts.field-0 c.in-Some.puts c.as_slice.result.now c.in-Some.is c.as_slice.ensures.value (c.in_ok-puts.ensures.pending h))
-    (c.in_ok-redo-in-Some.ensures.all honest) (c.in_ok-redo-in-Some.ensures.gate honest)
+    redone_recovered s (g.D.Disk.state c.pending_puts.new.disk) (g.D.Disk.state c.redo.new.disk) (c.pending_puts.ensures.reads (c.in_ok-redo-in-Some.ensures.same.was_honest h)) c.as_slice.result.now
+    (pending_at (λ found. found.items) s.size s.contents c.in_ok-puts.field-0 c.in-Some.puts c.as_slice.result.now c.in-Some.is c.as_slice.ensures.value (c.in_ok-puts.ensures.pending (c.in_ok-redo-in-Some.ensures.same.was_honest h)))
+    (c.in_ok-redo-in-Some.ensures.all h) (c.in_ok-redo-in-Some.ensures.gate h)

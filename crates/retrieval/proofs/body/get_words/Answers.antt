@@ -16,13 +16,13 @@ returns-in_err-data-clause-damaged g c h k is =
     let at : ℕ = c.args.block - 1 + c.loop-i.i in
     let below : at < length c.args.version.now.blocks = let b = c.loop-i-test.true in let e = c.words_there-wanted.ensures in let f = c.requires.counted in let d = c.requires.first in omega (arith, c.length.ensures) in
     let p = err_from_is_err_and c.from_residual-in_err-data.result c.from_residual-in_err-data.ensures.1 in
-    let e = c.read_data.ensures.bad (c.loop-i.invariant.same.honest h) k (handed_on c.from_residual-in_err-data.result c.read_data.result p.0 c.in_err-data.field-0.0 (BadData k) is p.1 p.2 c.in_err-data.was) in
-    damaged_at s.contents (g.D.Disk.state c.loop-i.disk).contents c.args.version.now.blocks c.blocks-blocks.result.now k at c.blocks-blocks.ensures below e.0 e.1 (c.loop-i.invariant.keeps h).contents
+    let e = c.read_data.ensures.bad h k (handed_on c.from_residual-in_err-data.result c.read_data.result p.0 c.in_err-data.field-0.0 (BadData k) is p.1 p.2 c.in_err-data.was) in
+    damaged_at s.contents (g.D.Disk.state c.loop-i.disk).contents c.args.version.now.blocks c.blocks-blocks.result.now k at c.blocks-blocks.ensures below e.0 e.1 (c.loop-i.invariant.keeps (c.read_data.ensures.same.was_honest h)).contents
 
 pub returns-in_err-data-clause-keeps : goal.returns-in_err-data-clause-keeps
 returns-in_err-data-clause-keeps g c h =
-    keeps_on (g.D.Disk.state c.args.disk.now) (g.D.Disk.state c.loop-i.disk) (g.D.Disk.state c.read_data.new.disk) (c.loop-i.invariant.keeps h)
-    (c.read_data.ensures.keeps (c.loop-i.invariant.same.honest h))
+    keeps_on (g.D.Disk.state c.args.disk.now) (g.D.Disk.state c.loop-i.disk) (g.D.Disk.state c.read_data.new.disk) (c.loop-i.invariant.keeps (c.read_data.ensures.same.was_honest h))
+    (c.read_data.ensures.keeps h)
 
 pub loop-i-preserved : goal.loop-i-preserved
 loop-i-preserved g c =
@@ -39,14 +39,14 @@ loop-i-preserved g c =
     record {
       same = same_disk_on s now new c.loop-i.invariant.same c.read_data.ensures.same;
       served = c.in_ok-data.ensures.served (λ is. cc) ∙ c.loop-i.invariant.served;
-      keeps = λ h. keeps_on s now new (c.loop-i.invariant.keeps h) (c.read_data.ensures.keeps (c.loop-i.invariant.same.honest h));
+      keeps = λ h. keeps_on s now new (c.loop-i.invariant.keeps (c.read_data.ensures.same.was_honest h)) (c.read_data.ensures.keeps h);
       long = search (rules, length-append, length-take);
       untouched = λ none. absurd (let b = c.loop-i-test.true in omega (arith, none));
       room = search rules;
       read = λ h body is whole has.
           let read = read_more s.contents c.args.version.now.blocks body whole has (block_start c.args.block) at items data' here few from below
-          (ap (λ (l : List ℕ). s.contents (slice_index l at)) (sym c.blocks-blocks.ensures) ∙ sym ((c.loop-i.invariant.keeps h).contents (slice_index c.blocks-blocks.result.now at)) ∙ c.in_ok-data.ensures.words (c.loop-i.invariant.same.honest h))
-          (search rules) (let a = c.loop-i.invariant.long in let e = c.min-here.ensures in let f = c.words_there-wanted.ensures in let l = c.len.ensures in omega arith) (c.loop-i.invariant.read h body is (whole_from (g.D.Disk.state c.args.disk.now).contents c.args.version.now.blocks body has) has) in
+          (ap (λ (l : List ℕ). s.contents (slice_index l at)) (sym c.blocks-blocks.ensures) ∙ sym ((c.loop-i.invariant.keeps (c.read_data.ensures.same.was_honest h)).contents (slice_index c.blocks-blocks.result.now at)) ∙ c.in_ok-data.ensures.words h)
+          (search rules) (let a = c.loop-i.invariant.long in let e = c.min-here.ensures in let f = c.words_there-wanted.ensures in let l = c.len.ensures in omega arith) (c.loop-i.invariant.read (c.read_data.ensures.same.was_honest h) body is (whole_from (g.D.Disk.state c.args.disk.now).contents c.args.version.now.blocks body has) has) in
           subst (λ (l : List ℕ). (p : ℕ) → p < length l → slice_index l p ≡ slice_index body (block_start c.args.block + p)) (sym c.in_ok-extend_from_slice.ensures.items) read;
     }
 

@@ -10,10 +10,10 @@ abbrev pub invariant-loop-i : goal.invariant-loop-i
 invariant-loop-i g l = record {
   same : SameDisk (g.D.Disk.state l.fn.disk) (g.D.Disk.state l.disk);
   served : (g.D.Disk.state l.disk).failures ≡ (g.D.Disk.state l.fn.disk).failures;
-  keeps : (g.D.Disk.state l.fn.disk).honest → Keeps (g.D.Disk.state l.fn.disk) (g.D.Disk.state l.disk);
+  keeps : (g.D.Disk.state l.disk).honest → Keeps (g.D.Disk.state l.fn.disk) (g.D.Disk.state l.disk);
   long : length l.words.items ≡ min (l.i * 128) l.wanted;
   untouched : l.wanted ≡ 0 → l.disk ≡ l.fn.disk;
   room : l.wanted ≤ vec_capacity l.words;
-  read : (g.D.Disk.state l.fn.disk).honest → (body : List ℕ) → length body ≡ l.version.words → AreWhole (g.D.Disk.state l.fn.disk).contents l.version.blocks → HasBody (g.D.Disk.state l.fn.disk).contents l.version.blocks body
+  read : (g.D.Disk.state l.disk).honest → (body : List ℕ) → length body ≡ l.version.words → AreWhole (g.D.Disk.state l.fn.disk).contents l.version.blocks → HasBody (g.D.Disk.state l.fn.disk).contents l.version.blocks body
       → (p : ℕ) → p < length l.words.items → slice_index l.words.items p ≡ slice_index body (block_start l.block + p);
 }

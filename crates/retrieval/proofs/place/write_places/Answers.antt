@@ -38,7 +38,7 @@ returns-in_err-write-clause-touched g c h =
     let held = held_again t c.loop-i.table c.loop-i.invariant.table xs c.loop-i.version.blocks c.loop-i.invariant.held c.own_place-n.new.table c.own_place-n.new.version.blocks c.own_place-n.ensures.held in
     touches_write (IsOwn t xs) c.own_place-n.result (g.D.Disk.state c.args.disk.now) (g.D.Disk.state c.loop-i.disk) (g.D.Disk.state c.write.new.self)
     (own_before t c.own_place-n.new.table same xs c.own_place-n.new.version.blocks held c.own_place-n.result c.own_place-n.ensures.own)
-    (c.loop-i.invariant.touched h) (c.write.ensures.writes (c.loop-i.invariant.same.honest h))
+    (c.loop-i.invariant.touched (c.write.ensures.same.was_honest h)) (c.write.ensures.writes h)
 
 pub returns-in_err-write-clause-adds : goal.returns-in_err-write-clause-adds
 returns-in_err-write-clause-adds g c =
@@ -80,7 +80,7 @@ loop-i-preserved g c =
       same = same_disk_on s now new c.loop-i.invariant.same c.write.ensures.same;
       served = c.in_ok-write.ensures.served ∙ c.loop-i.invariant.served;
       touched = λ h. touches_write (IsOwn t xs) n s now new (own_before t c.own_place-n.new.table same xs c.own_place-n.new.version.blocks held n c.own_place-n.ensures.own)
-          (c.loop-i.invariant.touched h) (c.write.ensures.writes (c.loop-i.invariant.same.honest h));
+          (c.loop-i.invariant.touched (c.write.ensures.same.was_honest h)) (c.write.ensures.writes h);
       version = c.own_place-n.ensures.version ∙ sym (ap (λ (v : VersionState). record v { blocks = slice_set c.loop-i.version.blocks i n }) (sym c.loop-i.invariant.version)) ∙ ap (λ (l : List ℕ). record c.args.version.now { blocks = l }) (sym blocks_are);
       long = ap length blocks_are ∙ length-set c.loop-i.version.blocks i n ∙ c.loop-i.invariant.long;
       inside = subst (AllByRecursion (InSpace s.size)) (sym blocks_are) (inside_set s.size c.loop-i.version.blocks i n c.loop-i.invariant.inside (subst (λ (z : ℕ). InSpace z n) size c.own_place-n.ensures.inside));
@@ -94,6 +94,6 @@ loop-i-preserved g c =
           c.own_place-n.ensures.stays);
       placed = λ h. subst (λ (l : List ℕ). IsPlaced s.contents new.contents xs l c.args.at c.args.words.now c.args.kept.now.place c.args.kept.now.words c.args.first (i + 1)) (sym blocks_are)
           (placed_more s.contents xs c.args.at c.args.words.now c.args.kept.now.place c.args.kept.now.words c.args.first now.contents new.contents c.loop-i.version.blocks i n c.new_block-block.result
-          (c.loop-i.invariant.placed h) c.loop-i.invariant.long first below (subst (λ (l : List ℕ). times n l ≡ 1) blocks_are c.own_place-n.ensures.alone)
-          (c.write.ensures.writes (c.loop-i.invariant.same.honest h)).contents (c.in_ok-write.ensures.put (c.loop-i.invariant.same.honest h)) c.new_block-block.ensures);
+          (c.loop-i.invariant.placed (c.write.ensures.same.was_honest h)) c.loop-i.invariant.long first below (subst (λ (l : List ℕ). times n l ≡ 1) blocks_are c.own_place-n.ensures.alone)
+          (c.write.ensures.writes h).contents (c.in_ok-write.ensures.put h) c.new_block-block.ensures);
     }

@@ -142,10 +142,10 @@ returns-in-Ok-clause-body g c h body is has =
     let counted = c.requires.counted in
     let is_first : c.min-first.result ≡ min (c.args.block - 1) (c.args.version.now.words / 128) = c.min-first.ensures ∙ ap (λ (z : ℕ). min (c.args.block - 1) (z / 128)) c.length-old.ensures in
     let placed = subst (λ (f : ℕ). IsPlaced (g.D.Disk.state c.prepare.new.disk).contents (g.D.Disk.state c.write_places.new.disk).contents xs1 c.write_places.new.version.blocks (c.args.block - 1) c.args.words.now
-    c.in_ok-kept.kept.place c.in_ok-kept.kept.words f (c.args.block - 1 + blocks_of (length c.args.words.now))) is_first (c.in-Ok.ensures.placed (c.prepare.ensures.same.honest h)) in
+    c.in_ok-kept.kept.place c.in_ok-kept.kept.words f (c.args.block - 1 + blocks_of (length c.args.words.now))) is_first (c.in-Ok.ensures.placed h) in
     subst (λ (v : VersionState). HasBody (g.D.Disk.state c.write_places.new.disk).contents v.blocks (splice body c.args.block c.args.words.now)) (sym c.set_length.ensures)
     (body_put s.contents (g.D.Disk.state c.prepare.new.disk).contents (g.D.Disk.state c.write_places.new.disk).contents xs xs1 c.write_places.new.version.blocks c.args.version.now.words c.args.block c.args.words.now c.in_ok-kept.kept.place c.in_ok-kept.kept.words
-    c.requires.counted some (c.prepare.ensures.keeps h).contents grown'.front (let filled = c.fill.ensures.long in omega arith) c.write_places.ensures.long placed body is whole has (c.in_ok-kept.ensures.kept h body is whole has))
+    c.requires.counted some (c.prepare.ensures.keeps (c.in-Ok.ensures.same.was_honest h)).contents grown'.front (let filled = c.fill.ensures.long in omega arith) c.write_places.ensures.long placed body is whole has (c.in_ok-kept.ensures.kept (c.in-Ok.ensures.same.was_honest h) body is whole has))
 
 pub returns-in-Ok-clause-table : goal.returns-in-Ok-clause-table
 returns-in-Ok-clause-table g c =
@@ -209,8 +209,8 @@ returns-in-Ok-clause-touched g c h =
     c.booked-booked.ensures.sound c.requires.fixed c.requires.inside (ap length c.blocks-had.ensures) (ap (λ (v : VersionState). v.blocks) c.in_ok-kept.ensures.ok) (ap (λ (v : VersionState). v.blocks) c.fill.ensures.kept) c.fill.ensures.taken in
     let s1 = g.D.Disk.state c.prepare.new.disk in
     let s2 = g.D.Disk.state c.write_places.new.disk in
-    touches_on (IsOwn t xs) s s1 s2 (still_touches (IsOwn t xs) s s1 (keeps_still s s1 (c.prepare.ensures.keeps h)))
-    (touches_wider (IsOwn t1 xs1) (IsOwn t xs) s1 s2 (own_before t t1 grown'.table xs xs1 grown'.held) (c.write_places.ensures.touched (c.prepare.ensures.same.honest h)))
+    touches_on (IsOwn t xs) s s1 s2 (still_touches (IsOwn t xs) s s1 (keeps_still s s1 (c.prepare.ensures.keeps (c.write_places.ensures.same.was_honest h))))
+    (touches_wider (IsOwn t1 xs1) (IsOwn t xs) s1 s2 (own_before t t1 grown'.table xs xs1 grown'.held) (c.write_places.ensures.touched h))
 
 pub returns-in-Err-clause-table : goal.returns-in-Err-clause-table
 returns-in-Err-clause-table g c =
@@ -272,8 +272,8 @@ returns-in-Err-clause-touched g c h =
     c.booked-booked.ensures.sound c.requires.fixed c.requires.inside (ap length c.blocks-had.ensures) (ap (λ (v : VersionState). v.blocks) c.in_ok-kept.ensures.ok) (ap (λ (v : VersionState). v.blocks) c.fill.ensures.kept) c.fill.ensures.taken in
     let s1 = g.D.Disk.state c.prepare.new.disk in
     let s2 = g.D.Disk.state c.write_places.new.disk in
-    touches_on (IsOwn t xs) s s1 s2 (still_touches (IsOwn t xs) s s1 (keeps_still s s1 (c.prepare.ensures.keeps h)))
-    (touches_wider (IsOwn t1 xs1) (IsOwn t xs) s1 s2 (own_before t t1 grown'.table xs xs1 grown'.held) (c.write_places.ensures.touched (c.prepare.ensures.same.honest h)))
+    touches_on (IsOwn t xs) s s1 s2 (still_touches (IsOwn t xs) s s1 (keeps_still s s1 (c.prepare.ensures.keeps (c.write_places.ensures.same.was_honest h))))
+    (touches_wider (IsOwn t1 xs1) (IsOwn t xs) s1 s2 (own_before t t1 grown'.table xs xs1 grown'.held) (c.write_places.ensures.touched h))
 
 pub returns-in-Ok-clause-adds : goal.returns-in-Ok-clause-adds
 returns-in-Ok-clause-adds g c =

@@ -50,15 +50,15 @@ returns-in_err-block-2-clause-bad g c h k is =
     let next = c.loop-next.next in
     let some : 0 < next = let e = c.loop-next-test.true in omega arith in
     let p = err_from_is_err_and c.from_residual-in_err-block-2.result c.from_residual-in_err-block-2.ensures.1 in
-    let e = c.read_block-in-loop-next.ensures.bad (c.loop-next.invariant.same.honest h) k
+    let e = c.read_block-in-loop-next.ensures.bad h k
     (handed_on c.from_residual-in_err-block-2.result c.read_block-in-loop-next.result p.0 c.in_err-block-2.field-0.0 (BadRetrieval k) is p.1 p.2 c.in_err-block-2.was) in
     bad_of c.blocks-size.result s.size s.contents c.args.at k next c.blocks-size.ensures e.0
-    (damaged_extension c.blocks-size.result s.contents c.args.at c.in_ok-prime.prime c.loop-next.version next (c.loop-next.invariant.read h) some (sym ((c.loop-next.invariant.keeps h).contents next) ∙ e.1))
+    (damaged_extension c.blocks-size.result s.contents c.args.at c.in_ok-prime.prime c.loop-next.version next (c.loop-next.invariant.read (c.read_block-in-loop-next.ensures.same.was_honest h)) some (sym ((c.loop-next.invariant.keeps (c.read_block-in-loop-next.ensures.same.was_honest h)).contents next) ∙ e.1))
 
 pub returns-in_err-block-2-clause-keeps : goal.returns-in_err-block-2-clause-keeps
 returns-in_err-block-2-clause-keeps g c h =
-    keeps_on (g.D.Disk.state c.args.disk.now) (g.D.Disk.state c.loop-next.disk) (g.D.Disk.state c.read_block-in-loop-next.new.disk) (c.loop-next.invariant.keeps h)
-    (c.read_block-in-loop-next.ensures.keeps (c.loop-next.invariant.same.honest h))
+    keeps_on (g.D.Disk.state c.args.disk.now) (g.D.Disk.state c.loop-next.disk) (g.D.Disk.state c.read_block-in-loop-next.new.disk) (c.loop-next.invariant.keeps (c.read_block-in-loop-next.ensures.same.was_honest h))
+    (c.read_block-in-loop-next.ensures.keeps h)
 
 pub returns-in_err-next-clause-bad : goal.returns-in_err-next-clause-bad
 returns-in_err-next-clause-bad g c h k is =
@@ -67,9 +67,9 @@ returns-in_err-next-clause-bad g c h k is =
     let size = c.blocks-size.result in
     let words = c.in_ok-block-2.block in
     let some : 0 < next = let e = c.loop-next-test.true in omega arith in
-    let has : s.contents next ≡ Some words = sym ((c.loop-next.invariant.keeps h).contents next) ∙ c.in_ok-block-2.ensures.words (c.loop-next.invariant.same.honest h) in
+    let has : s.contents next ≡ Some words = sym ((c.loop-next.invariant.keeps (c.in_ok-block-2.ensures.same.was_honest h)).contents next) ∙ c.in_ok-block-2.ensures.words h in
     let p = err_from_is_err_and c.from_residual-in_err-next.result c.from_residual-in_err-next.ensures.1 in
-    let read = c.loop-next.invariant.read h in
+    let read = c.loop-next.invariant.read (c.in_ok-block-2.ensures.same.was_honest h) in
     ⊎_elim
     (λ x. bad_of size s.size s.contents c.args.at k next c.blocks-size.ensures x.0 (bad_extension size s.contents c.args.at c.in_ok-prime.prime c.loop-next.version next read words some has x.1))
     (λ x. bad_of size s.size s.contents c.args.at k c.args.at c.blocks-size.ensures x.0 (bad_overfilled size s.contents c.args.at c.in_ok-prime.prime c.loop-next.version next read words some has x.1))
@@ -77,8 +77,8 @@ returns-in_err-next-clause-bad g c h k is =
 
 pub returns-in_err-next-clause-keeps : goal.returns-in_err-next-clause-keeps
 returns-in_err-next-clause-keeps g c h =
-    keeps_on (g.D.Disk.state c.args.disk.now) (g.D.Disk.state c.loop-next.disk) (g.D.Disk.state c.read_block-in-loop-next.new.disk) (c.loop-next.invariant.keeps h)
-    (c.read_block-in-loop-next.ensures.keeps (c.loop-next.invariant.same.honest h))
+    keeps_on (g.D.Disk.state c.args.disk.now) (g.D.Disk.state c.loop-next.disk) (g.D.Disk.state c.read_block-in-loop-next.new.disk) (c.loop-next.invariant.keeps (c.read_block-in-loop-next.ensures.same.was_honest h))
+    (c.read_block-in-loop-next.ensures.keeps h)
 
 pub loop-next-smaller : goal.loop-next-smaller
 loop-next-smaller g c =
@@ -98,15 +98,15 @@ loop-next-preserved g c =
     record {
       same = same_disk_on s now new c.loop-next.invariant.same c.read_block-in-loop-next.ensures.same;
       served = c.in_ok-block-2.ensures.served (λ is. cc) ∙ c.loop-next.invariant.served;
-      keeps = λ h. keeps_on s now new (c.loop-next.invariant.keeps h) (c.read_block-in-loop-next.ensures.keeps (c.loop-next.invariant.same.honest h));
+      keeps = λ h. keeps_on s now new (c.loop-next.invariant.keeps (c.read_block-in-loop-next.ensures.same.was_honest h)) (c.read_block-in-loop-next.ensures.keeps h);
       next_inside = λ more. x.next_inside more;
       blocks_inside = extended_blocks c.blocks-size.result c.in_ok-block-2.block next c.in_ok-next.next c.loop-next.version c.extend_version.new.version x c.loop-next.invariant.blocks_inside;
       ribs_inside = extended_ribs c.blocks-size.result c.in_ok-block-2.block next c.in_ok-next.next c.loop-next.version c.extend_version.new.version x (c.loop-next.invariant.next_inside some) c.loop-next.invariant.ribs_inside;
       words = subst (λ (n : ℕ). n ≤ 2097152) (sym (ap (λ (v : VersionState). v.words) x.version_is)) c.loop-next.invariant.words;
       room = x.room;
       filled = extended_filled c.blocks-size.result c.in_ok-block-2.block next c.in_ok-next.next c.loop-next.version c.extend_version.new.version some x c.loop-next.invariant.filled;
-      read = λ h. read_more c.blocks-size.result s.contents c.args.at c.in_ok-prime.prime c.loop-next.version next (c.loop-next.invariant.read h) c.in_ok-block-2.block c.in_ok-next.next
-          c.extend_version.new.version some (sym ((c.loop-next.invariant.keeps h).contents next) ∙ c.in_ok-block-2.ensures.words (c.loop-next.invariant.same.honest h)) x;
+      read = λ h. read_more c.blocks-size.result s.contents c.args.at c.in_ok-prime.prime c.loop-next.version next (c.loop-next.invariant.read (c.read_block-in-loop-next.ensures.same.was_honest h)) c.in_ok-block-2.block c.in_ok-next.next
+          c.extend_version.new.version some (sym ((c.loop-next.invariant.keeps (c.read_block-in-loop-next.ensures.same.was_honest h)).contents next) ∙ c.in_ok-block-2.ensures.words h) x;
     }
 
 pub returns-then-blocks-blocks_of-clause-bad : goal.returns-then-blocks-blocks_of-clause-bad

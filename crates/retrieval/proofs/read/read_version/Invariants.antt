@@ -11,14 +11,14 @@ abbrev pub invariant-loop-next : goal.invariant-loop-next
 invariant-loop-next g l = record {
   same : SameDisk (g.D.Disk.state l.fn.disk) (g.D.Disk.state l.disk);
   served : (g.D.Disk.state l.disk).failures ≡ (g.D.Disk.state l.fn.disk).failures;
-  keeps : (g.D.Disk.state l.fn.disk).honest → Keeps (g.D.Disk.state l.fn.disk) (g.D.Disk.state l.disk);
+  keeps : (g.D.Disk.state l.disk).honest → Keeps (g.D.Disk.state l.fn.disk) (g.D.Disk.state l.disk);
   next_inside : 0 < l.next → InSpace l.size l.next;
   blocks_inside : AllByRecursion (InSpace l.size) l.version.blocks;
   ribs_inside : AllByRecursion (InSpace l.size) l.version.ribs;
   words : l.version.words ≤ 2097152;
   room : length l.version.blocks ≤ blocks_of l.version.words;
   filled : AreFilled (length l.version.ribs) (length l.version.blocks) l.next;
-  read : (g.D.Disk.state l.fn.disk).honest → IsReadTo l.size (g.D.Disk.state l.fn.disk).contents l.at l.prime l.version l.next;
+  read : (g.D.Disk.state l.disk).honest → IsReadTo l.size (g.D.Disk.state l.fn.disk).contents l.at l.prime l.version l.next;
 }
 
 abbrev pub decreases-loop-next : goal.decreases-loop-next

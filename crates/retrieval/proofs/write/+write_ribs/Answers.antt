@@ -11,13 +11,12 @@ pub returns-clause-written : goal.returns-clause-written
 returns-clause-written g t c h =
     let now = g.D.Disk.state c.write_ribs.new.disk in
     let new = g.D.Disk.state c.write.new.self in
-    let still = c.write_ribs.ensures.same.honest h in
     let blocks = c.args.blocks.now in
     let count = c.min-here.result in
     written_on c.write.result now.contents new.contents c.args.ribs.now c.in-Some.rib.now c.in-Some.further.now blocks count c.first_of.result c.extension_of-words.result
     (take (length blocks - count) (drop count blocks)) (take count blocks)
-    c.in-Some.ensures.cases.0 c.min-here.ensures c.requires.count c.requires.fit c.requires.apart (behind blocks count) (c.in_ok-write_ribs.ensures.written h) c.first_of.ensures
-    (c.write.ensures.writes still).contents refl c.extension_of-words.ensures (c.write.ensures.put still)
+    c.in-Some.ensures.cases.0 c.min-here.ensures c.requires.count c.requires.fit c.requires.apart (behind blocks count) (c.in_ok-write_ribs.ensures.written (c.write.ensures.same.was_honest h)) c.first_of.ensures
+    (c.write.ensures.writes h).contents refl c.extension_of-words.ensures (c.write.ensures.put h)
 
 pub returns-clause-touched : goal.returns-clause-touched
 returns-clause-touched g t c h =
@@ -27,5 +26,5 @@ returns-clause-touched g t c h =
     let is = c.in-Some.ensures.cases.0 in
     touches_write (λ n. 0 < times n c.args.ribs.now) c.in-Some.rib.now s now new
     (is_in c.args.ribs.now c.in-Some.rib.now c.in-Some.further.now is)
-    (touches_wider (λ n. 0 < times n c.in-Some.further.now) (λ n. 0 < times n c.args.ribs.now) s now (in_later c.args.ribs.now c.in-Some.rib.now c.in-Some.further.now is) (c.write_ribs.ensures.touched h))
-    (c.write.ensures.writes (c.write_ribs.ensures.same.honest h))
+    (touches_wider (λ n. 0 < times n c.in-Some.further.now) (λ n. 0 < times n c.args.ribs.now) s now (in_later c.args.ribs.now c.in-Some.rib.now c.in-Some.further.now is) (c.write_ribs.ensures.touched (c.write.ensures.same.was_honest h)))
+    (c.write.ensures.writes h)

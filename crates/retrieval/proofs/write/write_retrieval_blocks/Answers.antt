@@ -12,7 +12,6 @@ pub returns-clause-written : goal.returns-clause-written
 returns-clause-written g c h =
     let now = g.D.Disk.state c.write_ribs.new.disk in
     let new = g.D.Disk.state c.write.new.self in
-    let still = c.write_ribs.ensures.same.honest h in
     let v = c.args.version.now in
     let p = c.args.prime.now in
     let blocks = c.blocks-blocks.result.now in
@@ -20,9 +19,9 @@ returns-clause-written g c h =
     let part = take (length blocks - count) (drop count blocks) in
     let fits : IsPrime 1 (with_length p v.words) = record { protection = p.protection_fits; mode = is_mode p.mode; time = p.moment.minute_in_range; date = p.date_fits; few = c.requires.words } in
     retrieved_on now.contents new.contents (with_length p v.words) c.args.at v.ribs v.blocks part c.write.result c.prime_block-words.result
-    (subst (λ (l : List ℕ). AreExtensions now.contents (extensions_of l part)) c.ribs.ensures (c.in_ok-write_ribs.ensures.written h))
+    (subst (λ (l : List ℕ). AreExtensions now.contents (extensions_of l part)) c.ribs.ensures (c.in_ok-write_ribs.ensures.written (c.write.ensures.same.was_honest h)))
     (behind blocks count ∙ drop_min blocks 112 count c.min-here.ensures ∙ ap (drop 112) c.blocks-blocks.ensures)
-    c.requires.apart (c.write.ensures.writes still).contents c.prime_block-words.ensures (c.write.ensures.put still) fits c.requires.nonzero c.requires.fit c.requires.count c.requires.enough
+    c.requires.apart (c.write.ensures.writes h).contents c.prime_block-words.ensures (c.write.ensures.put h) fits c.requires.nonzero c.requires.fit c.requires.count c.requires.enough
 
 pub returns-clause-touched : goal.returns-clause-touched
 returns-clause-touched g c h =
@@ -33,5 +32,5 @@ returns-clause-touched g c h =
     touches_write (λ n. 0 < times n (c.args.at ∷ ribs)) c.args.at s now new
     (is_in (c.args.at ∷ ribs) c.args.at ribs refl)
     (touches_wider (λ n. 0 < times n ribs) (λ n. 0 < times n (c.args.at ∷ ribs)) s now (in_later (c.args.at ∷ ribs) c.args.at ribs refl)
-    (subst (λ (l : List ℕ). Touches (λ n. 0 < times n l) s now) c.ribs.ensures (c.write_ribs.ensures.touched h)))
-    (c.write.ensures.writes (c.write_ribs.ensures.same.honest h))
+    (subst (λ (l : List ℕ). Touches (λ n. 0 < times n l) s now) c.ribs.ensures (c.write_ribs.ensures.touched (c.write.ensures.same.was_honest h))))
+    (c.write.ensures.writes h)

@@ -11,7 +11,7 @@ returns-in_err-write-clause-crash g c h k k' m m' a a' rest clear leads =
     let s = g.D.Disk.state c.args.disk.now in
     let mid = g.D.Disk.state c.write.new.self in
     let quiet : Touches (λ n. n ≡ c.args.fresh) s mid = writes_touches (λ n. n ≡ c.args.fresh) c.args.fresh s mid refl (c.write.ensures.writes h) in
-    written_leaves c.args.fresh c.args.words.now c.args.set.now s mid mid k k' m m' a a' rest clear c.requires.fresh c.write.ensures.same.size quiet (λ d left. g.met.D.Disk.only_now c.args.disk.now d h left)
+    written_leaves c.args.fresh c.args.words.now c.args.set.now s mid mid k k' m m' a a' rest clear c.requires.fresh c.write.ensures.same.size quiet (λ d left. g.met.D.Disk.only_now c.args.disk.now d (c.write.ensures.same.was_honest h) left)
 
 pub returns-in_err-write-clause-touched : goal.returns-in_err-write-clause-touched
 returns-in_err-write-clause-touched g c h =
@@ -24,26 +24,24 @@ pub returns-clause-crash : goal.returns-clause-crash
 returns-clause-crash g c h k k' m m' a a' rest clear leads =
     let s = g.D.Disk.state c.args.disk.now in
     let mid = g.D.Disk.state c.write.new.self in
-    let quiet : Touches (λ n. n ≡ c.args.fresh) s mid = writes_touches (λ n. n ≡ c.args.fresh) c.args.fresh s mid refl (c.write.ensures.writes h) in
-    let h' = c.write.ensures.same.honest h in
+    let quiet : Touches (λ n. n ≡ c.args.fresh) s mid = writes_touches (λ n. n ≡ c.args.fresh) c.args.fresh s mid refl (c.write.ensures.writes (c.commit_puts.ensures.same.was_honest h)) in
     let still = mid_rest c.args.fresh c.args.words.now c.args.set.now s mid mid k k' m m' a a' rest clear c.requires.fresh c.write.ensures.same.size quiet in
     committed_leaves c.args.fresh c.args.words.now c.args.set.now s mid (g.D.Disk.state c.commit_puts.new.disk) k k' m m' a a' rest clear c.requires.fresh c.write.ensures.same.size quiet
-    (λ d left. g.met.D.Disk.only_now c.args.disk.now d h left) leads (c.in_ok-write.ensures.put h) (c.commit_puts.ensures.crash h' still.shut)
+    (λ d left. g.met.D.Disk.only_now c.args.disk.now d (c.write.ensures.same.was_honest (c.commit_puts.ensures.same.was_honest h)) left) leads (c.in_ok-write.ensures.put (c.commit_puts.ensures.same.was_honest h)) (c.commit_puts.ensures.crash h still.shut)
 
 pub returns-clause-done : goal.returns-clause-done
 returns-clause-done g c h k k' m m' a a' rest clear leads =
     let s = g.D.Disk.state c.args.disk.now in
     let mid = g.D.Disk.state c.write.new.self in
-    let quiet : Touches (λ n. n ≡ c.args.fresh) s mid = writes_touches (λ n. n ≡ c.args.fresh) c.args.fresh s mid refl (c.write.ensures.writes h) in
-    let h' = c.write.ensures.same.honest h in
+    let quiet : Touches (λ n. n ≡ c.args.fresh) s mid = writes_touches (λ n. n ≡ c.args.fresh) c.args.fresh s mid refl (c.write.ensures.writes (c.commit_puts.ensures.same.was_honest h)) in
     let still = mid_rest c.args.fresh c.args.words.now c.args.set.now s mid mid k k' m m' a a' rest clear c.requires.fresh c.write.ensures.same.size quiet in
     on_ok_three c.commit_puts.result
-    (committed_rest c.args.fresh c.args.words.now c.args.set.now s mid (g.D.Disk.state c.commit_puts.new.disk) k k' m m' a a' rest clear c.requires.fresh c.write.ensures.same.size quiet leads (c.in_ok-write.ensures.put h))
-    (c.commit_puts.ensures.all h') (c.commit_puts.ensures.settled h') (c.commit_puts.ensures.shut h' still.shut)
+    (committed_rest c.args.fresh c.args.words.now c.args.set.now s mid (g.D.Disk.state c.commit_puts.new.disk) k k' m m' a a' rest clear c.requires.fresh c.write.ensures.same.size quiet leads (c.in_ok-write.ensures.put (c.commit_puts.ensures.same.was_honest h)))
+    (c.commit_puts.ensures.all h) (c.commit_puts.ensures.settled h) (c.commit_puts.ensures.shut h still.shut)
 
 pub returns-clause-touched : goal.returns-clause-touched
 returns-clause-touched g c h =
     let s = g.D.Disk.state c.args.disk.now in
     let mid = g.D.Disk.state c.write.new.self in
     wrote c.args.fresh c.args.set.now s mid (g.D.Disk.state c.commit_puts.new.disk) c.write.ensures.same.size
-    (writes_touches (λ n. n ≡ c.args.fresh) c.args.fresh s mid refl (c.write.ensures.writes h)) (c.commit_puts.ensures.touched (c.write.ensures.same.honest h))
+    (writes_touches (λ n. n ≡ c.args.fresh) c.args.fresh s mid refl (c.write.ensures.writes (c.commit_puts.ensures.same.was_honest h))) (c.commit_puts.ensures.touched h)

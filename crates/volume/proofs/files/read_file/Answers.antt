@@ -68,9 +68,9 @@ returns-in_err-read_data-clause-bad_data g c h k is =
     let read = g.D.Disk.state c.read_named.new.disk in
     let v = c.in_ok-stored.stored in
     let p = err_from_is_err_and c.from_residual-in_err-read_data.result c.from_residual-in_err-read_data.ensures.1 in
-    let bad = c.read_data.ensures.damaged (c.read_named.ensures.same.honest h) k (handed_on c.from_residual-in_err-read_data.result c.read_data.result p.0 c.in_err-read_data.field-0.0 (BadData k) is p.1 p.2 c.in_err-read_data.was) in
-    damaged_data s.size s.contents c.args.ppn c.args.name c.args.prime v.prime v.version (c.in_ok-stored.ensures.ok h) c.in_ok-stored.ensures.name c.in_ok-stored.ensures.ppn
-    k (subst (λ blocks. 0 < times k blocks) c.blocks-2.ensures bad.0) (sym ((c.read_named.ensures.keeps h).contents k) ∙ bad.1)
+    let bad = c.read_data.ensures.damaged h k (handed_on c.from_residual-in_err-read_data.result c.read_data.result p.0 c.in_err-read_data.field-0.0 (BadData k) is p.1 p.2 c.in_err-read_data.was) in
+    damaged_data s.size s.contents c.args.ppn c.args.name c.args.prime v.prime v.version (c.in_ok-stored.ensures.ok (c.read_data.ensures.same.was_honest h)) c.in_ok-stored.ensures.name c.in_ok-stored.ensures.ppn
+    k (subst (λ blocks. 0 < times k blocks) c.blocks-2.ensures bad.0) (sym ((c.read_named.ensures.keeps (c.read_data.ensures.same.was_honest h)).contents k) ∙ bad.1)
 
 pub returns-in_err-read_data-clause-only : goal.returns-in_err-read_data-clause-only
 returns-in_err-read_data-clause-only g c =
@@ -79,17 +79,17 @@ returns-in_err-read_data-clause-only g c =
 
 pub returns-in_err-read_data-clause-keeps : goal.returns-in_err-read_data-clause-keeps
 returns-in_err-read_data-clause-keeps g c h =
-    keeps_on (g.D.Disk.state c.args.disk.now) (g.D.Disk.state c.read_named.new.disk) (g.D.Disk.state c.read_data.new.disk) (c.read_named.ensures.keeps h) (c.read_data.ensures.keeps (c.read_named.ensures.same.honest h))
+    keeps_on (g.D.Disk.state c.args.disk.now) (g.D.Disk.state c.read_named.new.disk) (g.D.Disk.state c.read_data.new.disk) (c.read_named.ensures.keeps (c.read_data.ensures.same.was_honest h)) (c.read_data.ensures.keeps h)
 
 pub returns-clause-ok : goal.returns-clause-ok
 returns-clause-ok g c h =
     let s = g.D.Disk.state c.args.disk.now in
     let read = g.D.Disk.state c.read_named.new.disk in
     let v = c.in_ok-stored.stored in
-    let whole : AllByRecursion (IsWholeBlock read.contents) v.version.blocks = subst (AllByRecursion (IsWholeBlock read.contents)) c.blocks-2.ensures (c.in_ok-read_data.ensures.ok (c.read_named.ensures.same.honest h)) in
-    file_found s.size s.contents c.args.ppn c.args.name c.args.prime v.prime v.version (c.in_ok-stored.ensures.ok h) c.in_ok-stored.ensures.name c.in_ok-stored.ensures.ppn
-    (subst (λ (d : Contents). AllByRecursion (IsWholeBlock d) v.version.blocks) (same_contents s.contents read.contents (c.read_named.ensures.keeps h).contents) whole)
+    let whole : AllByRecursion (IsWholeBlock read.contents) v.version.blocks = subst (AllByRecursion (IsWholeBlock read.contents)) c.blocks-2.ensures (c.in_ok-read_data.ensures.ok h) in
+    file_found s.size s.contents c.args.ppn c.args.name c.args.prime v.prime v.version (c.in_ok-stored.ensures.ok (c.in_ok-read_data.ensures.same.was_honest h)) c.in_ok-stored.ensures.name c.in_ok-stored.ensures.ppn
+    (subst (λ (d : Contents). AllByRecursion (IsWholeBlock d) v.version.blocks) (same_contents s.contents read.contents (c.read_named.ensures.keeps (c.in_ok-read_data.ensures.same.was_honest h)).contents) whole)
 
 pub returns-clause-keeps : goal.returns-clause-keeps
 returns-clause-keeps g c h =
-    keeps_on (g.D.Disk.state c.args.disk.now) (g.D.Disk.state c.read_named.new.disk) (g.D.Disk.state c.read_data.new.disk) (c.read_named.ensures.keeps h) (c.read_data.ensures.keeps (c.read_named.ensures.same.honest h))
+    keeps_on (g.D.Disk.state c.args.disk.now) (g.D.Disk.state c.read_named.new.disk) (g.D.Disk.state c.read_data.new.disk) (c.read_named.ensures.keeps (c.read_data.ensures.same.was_honest h)) (c.read_data.ensures.keeps h)

@@ -22,58 +22,54 @@ returns-in_err-master-clause-met g c h =
     let s = g.D.Disk.state c.args.disk.now in
     let now = g.D.Disk.state c.read_home.new.disk in
     let p = err_from_is_err_and c.from_residual-in_err-master.result c.from_residual-in_err-master.ensures.1 in
-    let same = same_contents s.contents now.contents (c.read_home.ensures.reads h).still.contents in
+    let same = same_contents s.contents now.contents (c.read_home.ensures.reads (c.read_tree.ensures.same.was_honest h)).still.contents in
     let home : IsHome now.size now.contents (home_of_master c.in_ok-first.first) =
     subst (λ (n : ℕ). IsHome n now.contents (home_of_master c.in_ok-first.first)) (sym c.read_home.ensures.same.size)
-    (subst (λ (contents : Contents). IsHome s.size contents (home_of_master c.in_ok-first.first)) (sym same) (c.in_ok-first.ensures.ok h)) in
+    (subst (λ (contents : Contents). IsHome s.size contents (home_of_master c.in_ok-first.first)) (sym same) (c.in_ok-first.ensures.ok (c.read_tree.ensures.same.was_honest h))) in
     handed (SettledRefuses s.size s.contents) c.from_residual-in_err-master.result c.read_tree.result p.0 c.in_err-master.field-0.0 p.1 p.2 c.in_err-master.was
     (met_on (SettledRefuses now.size now.contents) (SettledRefuses s.size s.contents) c.read_tree.result
     (λ error met. subst (λ contents. SettledRefuses s.size contents error) same (subst (λ (n : ℕ). SettledRefuses n now.contents error) c.read_home.ensures.same.size met))
-    (c.read_tree.ensures.met (c.read_home.ensures.same.honest h) home))
+    (c.read_tree.ensures.met h home))
 
 pub returns-in_err-table-clause-reads : goal.returns-in_err-table-clause-reads
 returns-in_err-table-clause-reads g c h =
     let s = g.D.Disk.state c.args.disk.now in
     let first = g.D.Disk.state c.read_home.new.disk in
     let second = g.D.Disk.state c.read_tree.new.disk in
-    let h1 = c.read_home.ensures.same.honest h in
-    reads_on s first (g.D.Disk.state c.load_table.new.disk) (c.read_home.ensures.reads h)
-    (reads_on first second (g.D.Disk.state c.load_table.new.disk) (c.read_tree.ensures.reads h1) (c.load_table.ensures.reads (c.read_tree.ensures.same.honest h1)))
+    reads_on s first (g.D.Disk.state c.load_table.new.disk) (c.read_home.ensures.reads (c.read_tree.ensures.same.was_honest (c.load_table.ensures.same.was_honest h)))
+    (reads_on first second (g.D.Disk.state c.load_table.new.disk) (c.read_tree.ensures.reads (c.load_table.ensures.same.was_honest h)) (c.load_table.ensures.reads h))
 
 pub returns-clause-reads : goal.returns-clause-reads
 returns-clause-reads g c h =
     let s = g.D.Disk.state c.args.disk.now in
     let first = g.D.Disk.state c.read_home.new.disk in
     let second = g.D.Disk.state c.read_tree.new.disk in
-    let h1 = c.read_home.ensures.same.honest h in
-    reads_on s first (g.D.Disk.state c.load_table.new.disk) (c.read_home.ensures.reads h)
-    (reads_on first second (g.D.Disk.state c.load_table.new.disk) (c.read_tree.ensures.reads h1) (c.load_table.ensures.reads (c.read_tree.ensures.same.honest h1)))
+    reads_on s first (g.D.Disk.state c.load_table.new.disk) (c.read_home.ensures.reads (c.read_tree.ensures.same.was_honest (c.load_table.ensures.same.was_honest h)))
+    (reads_on first second (g.D.Disk.state c.load_table.new.disk) (c.read_tree.ensures.reads (c.load_table.ensures.same.was_honest h)) (c.load_table.ensures.reads h))
 
 pub returns-in_err-table-clause-met : goal.returns-in_err-table-clause-met
 returns-in_err-table-clause-met g c h =
     let s = g.D.Disk.state c.args.disk.now in
     let now = g.D.Disk.state c.read_home.new.disk in
     let then = g.D.Disk.state c.read_tree.new.disk in
-    let h1 = c.read_home.ensures.same.honest h in
-    let h2 = c.read_tree.ensures.same.honest h1 in
     let size = c.read_home.ensures.same.size in
-    let same = same_contents s.contents now.contents (c.read_home.ensures.reads h).still.contents in
-    let later : then.contents ≡ s.contents = same_contents s.contents then.contents (λ n. (c.read_tree.ensures.reads h1).still.contents n ∙ (c.read_home.ensures.reads h).still.contents n) in
+    let same = same_contents s.contents now.contents (c.read_home.ensures.reads (c.read_tree.ensures.same.was_honest (c.load_table.ensures.same.was_honest h))).still.contents in
+    let later : then.contents ≡ s.contents = same_contents s.contents then.contents (λ n. (c.read_tree.ensures.reads (c.load_table.ensures.same.was_honest h)).still.contents n ∙ (c.read_home.ensures.reads (c.read_tree.ensures.same.was_honest (c.load_table.ensures.same.was_honest h))).still.contents n) in
     let sizes : then.size ≡ s.size = c.read_tree.ensures.same.size ∙ size in
     let first = c.in_ok-first.first in
     let home : IsHome now.size now.contents (home_of_master first) =
-    subst (λ (n : ℕ). IsHome n now.contents (home_of_master first)) (sym size) (subst (λ (contents : Contents). IsHome s.size contents (home_of_master first)) (sym same) (c.in_ok-first.ensures.ok h)) in
+    subst (λ (n : ℕ). IsHome n now.contents (home_of_master first)) (sym size) (subst (λ (contents : Contents). IsHome s.size contents (home_of_master first)) (sym same) (c.in_ok-first.ensures.ok (c.read_tree.ensures.same.was_honest (c.load_table.ensures.same.was_honest h)))) in
     let master = viewed master_view c.in_ok-master.master in
     let directories = map known_directory c.in_ok-master.directories.items in
     let reached = c.read_tree.new.reached in
     let read : IsMapRead s.size s.contents first master directories (digit_at reached) =
     subst (λ (contents : Contents). IsMapRead s.size contents first master directories (digit_at reached)) same
-    (subst (λ (n : ℕ). IsMapRead n now.contents first master directories (digit_at reached)) size (c.in_ok-master.ensures.read h1 home)) in
+    (subst (λ (n : ℕ). IsMapRead n now.contents first master directories (digit_at reached)) size (c.in_ok-master.ensures.read (c.load_table.ensures.same.was_honest h) home)) in
     let only : IsOnlySpace s.size reached = subst (λ (n : ℕ). IsOnlySpace n reached) size c.in_ok-master.ensures.space in
     let p = err_from_is_err_and c.from_residual-in_err-table.result c.from_residual-in_err-table.ensures.1 in
     handed (SettledRefuses s.size s.contents) c.from_residual-in_err-table.result c.load_table.result p.0 c.in_err-table.field-0.0 p.1 p.2 c.in_err-table.was
     (table_refused s.size s.contents then.contents reached c.load_table.result later c.load_table.ensures.only
-    (λ n is. subst (λ (k : ℕ). IsWrongFor k then.contents reached n) sizes (c.load_table.ensures.wrong h2 n is))
+    (λ n is. subst (λ (k : ℕ). IsWrongFor k then.contents reached n) sizes (c.load_table.ensures.wrong h n is))
     (λ n wrong. table_met s.size s.contents first master directories (digit_at reached) read reached n (λ k. refl) only wrong))
 
 pub returns-clause-held : goal.returns-clause-held
@@ -81,24 +77,22 @@ returns-clause-held g c h =
     let s = g.D.Disk.state c.args.disk.now in
     let now = g.D.Disk.state c.read_home.new.disk in
     let then = g.D.Disk.state c.read_tree.new.disk in
-    let h1 = c.read_home.ensures.same.honest h in
-    let h2 = c.read_tree.ensures.same.honest h1 in
     let size = c.read_home.ensures.same.size in
-    let same = same_contents s.contents now.contents (c.read_home.ensures.reads h).still.contents in
-    let later : then.contents ≡ s.contents = same_contents s.contents then.contents (λ n. (c.read_tree.ensures.reads h1).still.contents n ∙ (c.read_home.ensures.reads h).still.contents n) in
+    let same = same_contents s.contents now.contents (c.read_home.ensures.reads (c.read_tree.ensures.same.was_honest (c.in_ok-table.ensures.same.was_honest h))).still.contents in
+    let later : then.contents ≡ s.contents = same_contents s.contents then.contents (λ n. (c.read_tree.ensures.reads (c.in_ok-table.ensures.same.was_honest h)).still.contents n ∙ (c.read_home.ensures.reads (c.read_tree.ensures.same.was_honest (c.in_ok-table.ensures.same.was_honest h))).still.contents n) in
     let sizes : then.size ≡ s.size = c.read_tree.ensures.same.size ∙ size in
     let first = c.in_ok-first.first in
     let home : IsHome now.size now.contents (home_of_master first) =
-    subst (λ (n : ℕ). IsHome n now.contents (home_of_master first)) (sym size) (subst (λ (contents : Contents). IsHome s.size contents (home_of_master first)) (sym same) (c.in_ok-first.ensures.ok h)) in
+    subst (λ (n : ℕ). IsHome n now.contents (home_of_master first)) (sym size) (subst (λ (contents : Contents). IsHome s.size contents (home_of_master first)) (sym same) (c.in_ok-first.ensures.ok (c.read_tree.ensures.same.was_honest (c.in_ok-table.ensures.same.was_honest h)))) in
     let master = viewed master_view c.in_ok-master.master in
     let directories = map known_directory c.in_ok-master.directories.items in
     let reached = c.read_tree.new.reached in
     let read : IsMapRead s.size s.contents first master directories (digit_at reached) =
     subst (λ (contents : Contents). IsMapRead s.size contents first master directories (digit_at reached)) same
-    (subst (λ (n : ℕ). IsMapRead n now.contents first master directories (digit_at reached)) size (c.in_ok-master.ensures.read h1 home)) in
+    (subst (λ (n : ℕ). IsMapRead n now.contents first master directories (digit_at reached)) size (c.in_ok-master.ensures.read (c.in_ok-table.ensures.same.was_honest h) home)) in
     let only : IsOnlySpace s.size reached = subst (λ (n : ℕ). IsOnlySpace n reached) size c.in_ok-master.ensures.space in
     let right : IsRightFor s.size s.contents reached c.in_ok-table.table =
-    subst (λ (contents : Contents). IsRightFor s.size contents reached c.in_ok-table.table) later (subst (λ (n : ℕ). IsRightFor n then.contents reached c.in_ok-table.table) sizes (c.in_ok-table.ensures.right h2)) in
+    subst (λ (contents : Contents). IsRightFor s.size contents reached c.in_ok-table.table) later (subst (λ (n : ℕ). IsRightFor n then.contents reached c.in_ok-table.table) sizes (c.in_ok-table.ensures.right h)) in
     let bits : c.book_map.new.table.bits ≡ c.in_ok-table.table.bits = ap (λ (t : TableState). t.bits) c.book_map.ensures in
     let booked : IsRightFor s.size s.contents reached c.book_map.new.table = right_bits s.size s.contents reached c.in_ok-table.table c.book_map.new.table bits right in
     (map_found s.size s.contents first master directories (digit_at reached) read, map_held s.size s.contents first master directories (digit_at reached) read reached c.book_map.new.table (λ k. refl) only booked)

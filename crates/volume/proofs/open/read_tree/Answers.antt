@@ -21,29 +21,29 @@ returns-in_err-directories-clause-met g c h home =
     let s = g.D.Disk.state c.args.disk.now in
     let now = g.D.Disk.state c.load_master.new.disk in
     let p = err_from_is_err_and c.from_residual-in_err-directories.result c.from_residual-in_err-directories.ensures.1 in
-    let same = same_contents s.contents now.contents (c.load_master.ensures.reads h).still.contents in
+    let same = same_contents s.contents now.contents (c.load_master.ensures.reads (c.read_directories.ensures.same.was_honest h)).still.contents in
     let marks = digit_at c.load_master.new.reached in
     let chain = viewed master_view c.in_ok-master.master in
     handed (SettledRefuses s.size s.contents) c.from_residual-in_err-directories.result c.read_directories.result p.0 c.in_err-directories.field-0.0 p.1 p.2 c.in_err-directories.was
     (met_on (DirectoriesMeet now.size now.contents marks (map master_view c.entries.result.now)) (SettledRefuses s.size s.contents) c.read_directories.result
-    (λ error met. directories_met s.size s.contents c.args.first (nodes_of chain.blocks chain.entries) chain.entries marks error home (c.in_ok-master.ensures.walk h)
+    (λ error met. directories_met s.size s.contents c.args.first (nodes_of chain.blocks chain.entries) chain.entries marks error home (c.in_ok-master.ensures.walk (c.read_directories.ensures.same.was_honest h))
     (chain_items master_words (IsMasterEntryOf 1) chain c.in_ok-master.ensures.chain) (λ n. c.in_ok-master.ensures.marked n ∙ ap (times n) (sym (numbers_of chain.blocks chain.entries)))
     (subst (λ (es : List MasterEntry). DirectoriesMeet s.size s.contents marks es error) (ap (map master_view) c.entries.ensures.value)
     (subst (λ contents. DirectoriesMeet s.size contents marks (map master_view c.entries.result.now) error) same
     (subst (λ (n : ℕ). DirectoriesMeet n now.contents marks (map master_view c.entries.result.now) error) c.load_master.ensures.same.size met))))
-    (c.read_directories.ensures.met (c.load_master.ensures.same.honest h)))
+    (c.read_directories.ensures.met h))
 
 pub returns-in_err-directories-clause-reads : goal.returns-in_err-directories-clause-reads
 returns-in_err-directories-clause-reads g c h =
     let now = g.D.Disk.state c.load_master.new.disk in
     let new = g.D.Disk.state c.read_directories.new.disk in
-    reads_on (g.D.Disk.state c.args.disk.now) now new (c.load_master.ensures.reads h) (reads_of now new (c.read_directories.ensures.keeps (c.load_master.ensures.same.honest h)))
+    reads_on (g.D.Disk.state c.args.disk.now) now new (c.load_master.ensures.reads (c.read_directories.ensures.same.was_honest h)) (reads_of now new (c.read_directories.ensures.keeps h))
 
 pub returns-clause-reads : goal.returns-clause-reads
 returns-clause-reads g c h =
     let now = g.D.Disk.state c.load_master.new.disk in
     let new = g.D.Disk.state c.read_directories.new.disk in
-    reads_on (g.D.Disk.state c.args.disk.now) now new (c.load_master.ensures.reads h) (reads_of now new (c.read_directories.ensures.keeps (c.load_master.ensures.same.honest h)))
+    reads_on (g.D.Disk.state c.args.disk.now) now new (c.load_master.ensures.reads (c.read_directories.ensures.same.was_honest h)) (reads_of now new (c.read_directories.ensures.keeps h))
 
 pub returns-clause-space : goal.returns-clause-space
 returns-clause-space g c =

@@ -33,18 +33,18 @@ returns-in_err-add_directory-clause-met g c h =
     let i = c.loop-entry.entry-index in
     let e = c.entry-item.result in
     let p = err_from_is_err_and c.from_residual.result c.from_residual.ensures.1 in
-    let same = same_contents s.contents now.contents (c.loop-entry.invariant.keeps h).contents in
+    let same = same_contents s.contents now.contents (c.loop-entry.invariant.keeps (c.add_directory.ensures.same.was_honest h)).contents in
     let marks = digit_at c.loop-entry.reached in
     handed (DirectoriesMeet s.size s.contents (digit_at c.args.reached.now) (map master_view c.args.entries.now)) c.from_residual.result c.add_directory.result p.0 c.in_err-add_directory.field-0.0 p.1 p.2 c.in_err-add_directory.was
     (met_on (DirectoryMeets now.size now.contents marks e.ppn e.first) (DirectoriesMeet s.size s.contents (digit_at c.args.reached.now) (map master_view c.args.entries.now)) c.add_directory.result
     (λ error met. directory_met s.size s.contents (map master_view c.args.entries.now) (map master_view (take i c.args.entries.now)) (map master_view (drop (i + 1) c.args.entries.now)) (map known_directory c.loop-entry.directories.items)
-    (digit_at c.args.reached.now) marks (master_view e) error (viewed_split master_view c.args.entries.now i e c.loop-entry-test.true c.entry-item.is) c.requires.once (c.loop-entry.invariant.read h)
+    (digit_at c.args.reached.now) marks (master_view e) error (viewed_split master_view c.args.entries.now i e c.loop-entry-test.true c.entry-item.is) c.requires.once (c.loop-entry.invariant.read (c.add_directory.ensures.same.was_honest h))
     (subst (λ contents. DirectoryMeets s.size contents marks e.ppn e.first error) same (subst (λ (n : ℕ). DirectoryMeets n now.contents marks e.ppn e.first error) c.loop-entry.invariant.same.size met)))
-    (c.add_directory.ensures.met (c.loop-entry.invariant.same.honest h)))
+    (c.add_directory.ensures.met h))
 
 pub returns-in_err-add_directory-clause-keeps : goal.returns-in_err-add_directory-clause-keeps
 returns-in_err-add_directory-clause-keeps g c h =
-    keeps_on (g.D.Disk.state c.args.disk.now) (g.D.Disk.state c.loop-entry.disk) (g.D.Disk.state c.add_directory.new.disk) (c.loop-entry.invariant.keeps h) (c.add_directory.ensures.keeps (c.loop-entry.invariant.same.honest h))
+    keeps_on (g.D.Disk.state c.args.disk.now) (g.D.Disk.state c.loop-entry.disk) (g.D.Disk.state c.add_directory.new.disk) (c.loop-entry.invariant.keeps (c.add_directory.ensures.same.was_honest h)) (c.add_directory.ensures.keeps h)
 
 pub returns-in_err-add_directory-clause-served : goal.returns-in_err-add_directory-clause-served
 returns-in_err-add_directory-clause-served g c other =
@@ -59,7 +59,7 @@ loop-entry-preserved g c =
     record {
       same = same_disk_on s now new c.loop-entry.invariant.same c.add_directory.ensures.same;
       served = c.in_ok-add_directory.ensures.served (λ is. cc) ∙ c.loop-entry.invariant.served;
-      keeps = λ h. keeps_on s now new (c.loop-entry.invariant.keeps h) (c.add_directory.ensures.keeps (c.loop-entry.invariant.same.honest h));
+      keeps = λ h. keeps_on s now new (c.loop-entry.invariant.keeps (c.add_directory.ensures.same.was_honest h)) (c.add_directory.ensures.keeps h);
       marks = c.add_directory.ensures.length ∙ c.loop-entry.invariant.marks;
       space = λ only. subst (λ (n : ℕ). IsOnlySpace n c.add_directory.new.reached) c.loop-entry.invariant.same.size
           (c.in_ok-add_directory.ensures.space (subst (λ (n : ℕ). IsOnlySpace n c.loop-entry.reached) (sym c.loop-entry.invariant.same.size) (c.loop-entry.invariant.space only)));
@@ -69,8 +69,8 @@ loop-entry-preserved g c =
       marked = total_marked known_directory reaches_in_known c.loop-entry.directories.items c.add_directory.new.directories.items
           (digit_at c.args.reached.now) (digit_at c.loop-entry.reached) (digit_at c.add_directory.new.reached) c.loop-entry.invariant.marked c.in_ok-add_directory.ensures.marked;
       read = λ h. directories_go_on known_directory s.contents now.contents master_view c.args.entries.now c.loop-entry.entry-index c.entry-item.result c.loop-entry.directories.items c.add_directory.new.directories.items
-          (digit_at c.args.reached.now) (digit_at c.loop-entry.reached) (digit_at c.add_directory.new.reached) c.loop-entry-test.true c.entry-item.is (same_contents s.contents now.contents (c.loop-entry.invariant.keeps h).contents)
-          (c.loop-entry.invariant.read h) (c.in_ok-add_directory.ensures.read (c.loop-entry.invariant.same.honest h));
+          (digit_at c.args.reached.now) (digit_at c.loop-entry.reached) (digit_at c.add_directory.new.reached) c.loop-entry-test.true c.entry-item.is (same_contents s.contents now.contents (c.loop-entry.invariant.keeps (c.add_directory.ensures.same.was_honest h)).contents)
+          (c.loop-entry.invariant.read (c.add_directory.ensures.same.was_honest h)) (c.in_ok-add_directory.ensures.read h);
     }
 
 pub loop-entry-init : goal.loop-entry-init

@@ -34,24 +34,24 @@ returns-in_err-versions-clause-met g c h =
     let s = g.D.Disk.state c.args.disk.now in
     let now = g.D.Disk.state c.load_files.new.disk in
     let p = err_from_is_err_and c.from_residual-in_err-versions.result c.from_residual-in_err-versions.ensures.1 in
-    let same = same_contents s.contents now.contents (c.load_files.ensures.keeps h).contents in
+    let same = same_contents s.contents now.contents (c.load_files.ensures.keeps (c.read_files.ensures.same.was_honest h)).contents in
     let marks = digit_at c.load_files.new.reached in
     let ppn = c.args.entry.now.ppn in
     let chain = viewed file_view c.in_ok-chain.chain in
     handed (DirectoryMeets s.size s.contents (digit_at c.args.reached.now) ppn c.args.entry.now.first) c.from_residual-in_err-versions.result c.read_files.result p.0 c.in_err-versions.field-0.0 p.1 p.2 c.in_err-versions.was
     (met_on (FilesMeet now.size now.contents marks ppn (map file_view c.entries.result.now)) (DirectoryMeets s.size s.contents (digit_at c.args.reached.now) ppn c.args.entry.now.first) c.read_files.result
-    (λ error met. files_met s.size s.contents (digit_at c.args.reached.now) marks ppn c.args.entry.now.first chain error c.in_ok-chain.ensures.chain (c.in_ok-chain.ensures.walk h) c.in_ok-chain.ensures.marked
+    (λ error met. files_met s.size s.contents (digit_at c.args.reached.now) marks ppn c.args.entry.now.first chain error c.in_ok-chain.ensures.chain (c.in_ok-chain.ensures.walk (c.read_files.ensures.same.was_honest h)) c.in_ok-chain.ensures.marked
     (subst (λ (es : List FileEntry). FilesMeet s.size s.contents marks ppn es error) (ap (map file_view) c.entries.ensures.value)
     (subst (λ contents. FilesMeet s.size contents marks ppn (map file_view c.entries.result.now) error) same (subst (λ (n : ℕ). FilesMeet n now.contents marks ppn (map file_view c.entries.result.now) error) c.load_files.ensures.same.size met))))
-    (c.read_files.ensures.met (c.load_files.ensures.same.honest h)))
+    (c.read_files.ensures.met h))
 
 pub returns-in_err-versions-clause-keeps : goal.returns-in_err-versions-clause-keeps
 returns-in_err-versions-clause-keeps g c h =
-    keeps_on (g.D.Disk.state c.args.disk.now) (g.D.Disk.state c.load_files.new.disk) (g.D.Disk.state c.read_files.new.disk) (c.load_files.ensures.keeps h) (c.read_files.ensures.keeps (c.load_files.ensures.same.honest h))
+    keeps_on (g.D.Disk.state c.args.disk.now) (g.D.Disk.state c.load_files.new.disk) (g.D.Disk.state c.read_files.new.disk) (c.load_files.ensures.keeps (c.read_files.ensures.same.was_honest h)) (c.read_files.ensures.keeps h)
 
 pub returns-clause-keeps : goal.returns-clause-keeps
 returns-clause-keeps g c h =
-    keeps_on (g.D.Disk.state c.args.disk.now) (g.D.Disk.state c.load_files.new.disk) (g.D.Disk.state c.read_files.new.disk) (c.load_files.ensures.keeps h) (c.read_files.ensures.keeps (c.load_files.ensures.same.honest h))
+    keeps_on (g.D.Disk.state c.args.disk.now) (g.D.Disk.state c.load_files.new.disk) (g.D.Disk.state c.read_files.new.disk) (c.load_files.ensures.keeps (c.read_files.ensures.same.was_honest h)) (c.read_files.ensures.keeps h)
 
 pub returns-clause-whole : goal.returns-clause-whole
 returns-clause-whole g c = record {
@@ -65,16 +65,16 @@ pub returns-clause-read : goal.returns-clause-read
 returns-clause-read g c h =
     let s = g.D.Disk.state c.args.disk.now in
     let now = g.D.Disk.state c.load_files.new.disk in
-    let same = same_contents s.contents now.contents (c.load_files.ensures.keeps h).contents in
+    let same = same_contents s.contents now.contents (c.load_files.ensures.keeps (c.in_ok-versions.ensures.same.was_honest h)).contents in
     let ppn = c.args.entry.now.ppn in
     let chain = viewed file_view c.in_ok-chain.chain in
     let versions = map known_version c.in_ok-versions.versions.items in
     let read : AreFilesRead s.contents ppn chain.entries versions (digit_at c.load_files.new.reached) (digit_at c.read_files.new.reached) =
     subst (λ (es : List FileEntry). AreFilesRead s.contents ppn es versions (digit_at c.load_files.new.reached) (digit_at c.read_files.new.reached)) (ap (map file_view) c.entries.ensures.value)
     (subst (λ (contents : Contents). AreFilesRead contents ppn (map file_view c.entries.result.now) versions (digit_at c.load_files.new.reached) (digit_at c.read_files.new.reached)) same
-    (c.in_ok-versions.ensures.read (c.load_files.ensures.same.honest h))) in
+    (c.in_ok-versions.ensures.read h)) in
     directory_found s.contents ppn c.args.entry.now.protection c.args.entry.now.first chain versions (digit_at c.args.reached.now) (digit_at c.load_files.new.reached) (digit_at c.read_files.new.reached)
-    c.args.entry.now.protection_fits c.in_ok-chain.ensures.chain (c.in_ok-chain.ensures.on h) c.in_ok-chain.ensures.begins (c.in_ok-chain.ensures.walk h) c.in_ok-chain.ensures.marked read
+    c.args.entry.now.protection_fits c.in_ok-chain.ensures.chain (c.in_ok-chain.ensures.on (c.in_ok-versions.ensures.same.was_honest h)) c.in_ok-chain.ensures.begins (c.in_ok-chain.ensures.walk (c.in_ok-versions.ensures.same.was_honest h)) c.in_ok-chain.ensures.marked read
 
 pub returns-clause-space : goal.returns-clause-space
 returns-clause-space g c only =

@@ -31,17 +31,17 @@ returns-in_err-add_file-clause-met g c h =
     let i = c.loop-entry.entry-index in
     let e = c.entry-item.result in
     let p = err_from_is_err_and c.from_residual.result c.from_residual.ensures.1 in
-    let same = same_contents s.contents now.contents (c.loop-entry.invariant.keeps h).contents in
+    let same = same_contents s.contents now.contents (c.loop-entry.invariant.keeps (c.add_file.ensures.same.was_honest h)).contents in
     handed (FilesMeet s.size s.contents (digit_at c.args.reached.now) c.args.ppn (map file_view c.args.entries.now)) c.from_residual.result c.add_file.result p.0 c.in_err-add_file.field-0.0 p.1 p.2 c.in_err-add_file.was
     (met_on (FileMeets now.size now.contents c.loop-entry.reached (place_of c.args.ppn e.name) e.prime) (FilesMeet s.size s.contents (digit_at c.args.reached.now) c.args.ppn (map file_view c.args.entries.now)) c.add_file.result
     (λ error met. file_met s.size s.contents c.args.ppn (map file_view c.args.entries.now) (map file_view (take i c.args.entries.now)) (map file_view (drop (i + 1) c.args.entries.now)) (map known_version c.loop-entry.versions.items)
-    (digit_at c.args.reached.now) (file_view e) error c.loop-entry.reached (viewed_split file_view c.args.entries.now i e c.loop-entry-test.true c.entry-item.is) c.requires.once (c.loop-entry.invariant.read h)
+    (digit_at c.args.reached.now) (file_view e) error c.loop-entry.reached (viewed_split file_view c.args.entries.now i e c.loop-entry-test.true c.entry-item.is) c.requires.once (c.loop-entry.invariant.read (c.add_file.ensures.same.was_honest h))
     (subst (λ contents. FileMeets s.size contents c.loop-entry.reached (place_of c.args.ppn e.name) e.prime error) same (subst (λ (n : ℕ). FileMeets n now.contents c.loop-entry.reached (place_of c.args.ppn e.name) e.prime error) c.loop-entry.invariant.same.size met)))
-    (c.add_file.ensures.met (c.loop-entry.invariant.same.honest h)))
+    (c.add_file.ensures.met h))
 
 pub returns-in_err-add_file-clause-keeps : goal.returns-in_err-add_file-clause-keeps
 returns-in_err-add_file-clause-keeps g c h =
-    keeps_on (g.D.Disk.state c.args.disk.now) (g.D.Disk.state c.loop-entry.disk) (g.D.Disk.state c.add_file.new.disk) (c.loop-entry.invariant.keeps h) (c.add_file.ensures.keeps (c.loop-entry.invariant.same.honest h))
+    keeps_on (g.D.Disk.state c.args.disk.now) (g.D.Disk.state c.loop-entry.disk) (g.D.Disk.state c.add_file.new.disk) (c.loop-entry.invariant.keeps (c.add_file.ensures.same.was_honest h)) (c.add_file.ensures.keeps h)
 
 pub returns-in_err-add_file-clause-served : goal.returns-in_err-add_file-clause-served
 returns-in_err-add_file-clause-served g c other =
@@ -56,7 +56,7 @@ loop-entry-preserved g c =
     record {
       same = same_disk_on s now new c.loop-entry.invariant.same c.add_file.ensures.same;
       served = c.in_ok-add_file.ensures.served (λ is. cc) ∙ c.loop-entry.invariant.served;
-      keeps = λ h. keeps_on s now new (c.loop-entry.invariant.keeps h) (c.add_file.ensures.keeps (c.loop-entry.invariant.same.honest h));
+      keeps = λ h. keeps_on s now new (c.loop-entry.invariant.keeps (c.add_file.ensures.same.was_honest h)) (c.add_file.ensures.keeps h);
       marks = c.add_file.ensures.length ∙ c.loop-entry.invariant.marks;
       whole = all_added known_version IsWholeVersion c.loop-entry.versions.items c.add_file.new.versions.items c.loop-entry.invariant.whole c.in_ok-add_file.ensures.whole;
       space = λ only. subst (λ (n : ℕ). IsOnlySpace n c.add_file.new.reached) c.loop-entry.invariant.same.size
@@ -65,6 +65,6 @@ loop-entry-preserved g c =
       marked = entries_marked known_version file_view c.args.entries.now c.loop-entry.entry-index c.entry-item.result c.loop-entry.versions.items c.add_file.new.versions.items
           (digit_at c.args.reached.now) (digit_at c.loop-entry.reached) (digit_at c.add_file.new.reached) c.loop-entry-test.true c.entry-item.is c.loop-entry.invariant.aligned c.loop-entry.invariant.marked c.in_ok-add_file.ensures.marked;
       read = λ h. files_go_on known_version s.contents now.contents c.args.ppn file_view c.args.entries.now c.loop-entry.entry-index c.entry-item.result c.loop-entry.versions.items c.add_file.new.versions.items
-          (digit_at c.args.reached.now) (digit_at c.loop-entry.reached) (digit_at c.add_file.new.reached) c.loop-entry-test.true c.entry-item.is (same_contents s.contents now.contents (c.loop-entry.invariant.keeps h).contents)
-          (c.loop-entry.invariant.read h) (c.in_ok-add_file.ensures.read (c.loop-entry.invariant.same.honest h));
+          (digit_at c.args.reached.now) (digit_at c.loop-entry.reached) (digit_at c.add_file.new.reached) c.loop-entry-test.true c.entry-item.is (same_contents s.contents now.contents (c.loop-entry.invariant.keeps (c.add_file.ensures.same.was_honest h)).contents)
+          (c.loop-entry.invariant.read (c.add_file.ensures.same.was_honest h)) (c.in_ok-add_file.ensures.read h);
     }

@@ -19,43 +19,39 @@ pub returns-in-Ok-clause-crash : goal.returns-in-Ok-clause-crash
 returns-in-Ok-clause-crash g c h =
     let s = g.D.Disk.state c.args.disk.now in
     let s1 = g.D.Disk.state c.recover.new.disk in
-    let h1 = c.recover.ensures.same.honest h in
-    crash_read s s1 (g.D.Disk.state c.read_map.new.disk) (StandsLikeBefore s) (crash_recovered s s1 (c.recover.ensures.crash h)) (λ d left. g.met.D.Disk.only_now c.recover.new.disk d h1 left) (c.read_map.ensures.reads h1)
+    crash_read s s1 (g.D.Disk.state c.read_map.new.disk) (StandsLikeBefore s) (crash_recovered s s1 (c.recover.ensures.crash (c.read_map.ensures.same.was_honest h))) (λ d left. g.met.D.Disk.only_now c.recover.new.disk d (c.read_map.ensures.same.was_honest h) left) (c.read_map.ensures.reads h)
 
 pub returns-in-Ok-clause-synced : goal.returns-in-Ok-clause-synced
 returns-in-Ok-clause-synced g c h =
     let s = g.D.Disk.state c.args.disk.now in
     let s1 = g.D.Disk.state c.recover.new.disk in
     let s2 = g.D.Disk.state c.read_map.new.disk in
-    let h1 = c.recover.ensures.same.honest h in
-    let reads = c.read_map.ensures.reads h1 in
-    let recovered : IsRecovered s.size s.contents s1.contents = c.in-Ok.ensures.recovered h in
-    let none : NoneOpen s1 = c.in-Ok.ensures.settled h in
+    let reads = c.read_map.ensures.reads h in
+    let recovered : IsRecovered s.size s.contents s1.contents = c.in-Ok.ensures.recovered (c.read_map.ensures.same.was_honest h) in
+    let none : NoneOpen s1 = c.in-Ok.ensures.settled (c.read_map.ensures.same.was_honest h) in
     ⊎_elim
     (λ device. absurd (let is : c.recover.result ≡ Err LogDevice = device.0 in let ok = c.in-Ok.is in cc))
-    (λ from. inr (from.0, from_read from.0 s s1 s2 (StandsLike s) (from_recovered from.0 s s1 from.1) (λ u d early left. g.met.D.Disk.counts_now c.recover.new.disk u d h1 early left) reads)) (c.recover.ensures.synced h)
+    (λ from. inr (from.0, from_read from.0 s s1 s2 (StandsLike s) (from_recovered from.0 s s1 from.1) (λ u d early left. g.met.D.Disk.counts_now c.recover.new.disk u d (c.read_map.ensures.same.was_honest h) early left) reads)) (c.recover.ensures.synced (c.read_map.ensures.same.was_honest h))
 
 pub returns-in-Ok-clause-rest : goal.returns-in-Ok-clause-rest
 returns-in-Ok-clause-rest g c h =
     let s = g.D.Disk.state c.args.disk.now in
     let s1 = g.D.Disk.state c.recover.new.disk in
     let s2 = g.D.Disk.state c.read_map.new.disk in
-    let h1 = c.recover.ensures.same.honest h in
-    let reads = c.read_map.ensures.reads h1 in
-    let recovered : IsRecovered s.size s.contents s1.contents = c.in-Ok.ensures.recovered h in
-    let none : NoneOpen s1 = c.in-Ok.ensures.settled h in
+    let reads = c.read_map.ensures.reads h in
+    let recovered : IsRecovered s.size s.contents s1.contents = c.in-Ok.ensures.recovered (c.read_map.ensures.same.was_honest h) in
+    let none : NoneOpen s1 = c.in-Ok.ensures.settled (c.read_map.ensures.same.was_honest h) in
     ok_on (λ read. (m : DiskMap) × IsHeld s1.size (known_of read) m s1.contents) (λ read. IsAtRest s2 (known_of read)) c.read_map.result
-    (λ read held. rest_known s s1 s2 (known_of read) held.0 c.recover.ensures.same.size c.read_map.ensures.same.size recovered none reads held.1) (c.read_map.ensures.held h1)
+    (λ read held. rest_known s s1 s2 (known_of read) held.0 c.recover.ensures.same.size c.read_map.ensures.same.size recovered none reads held.1) (c.read_map.ensures.held h)
 
 pub returns-in-Ok-clause-files : goal.returns-in-Ok-clause-files
 returns-in-Ok-clause-files g c h files stands =
     let s = g.D.Disk.state c.args.disk.now in
     let s1 = g.D.Disk.state c.recover.new.disk in
     let s2 = g.D.Disk.state c.read_map.new.disk in
-    let h1 = c.recover.ensures.same.honest h in
-    let reads = c.read_map.ensures.reads h1 in
-    let recovered : IsRecovered s.size s.contents s1.contents = c.in-Ok.ensures.recovered h in
-    let none : NoneOpen s1 = c.in-Ok.ensures.settled h in
+    let reads = c.read_map.ensures.reads h in
+    let recovered : IsRecovered s.size s.contents s1.contents = c.in-Ok.ensures.recovered (c.read_map.ensures.same.was_honest h) in
+    let none : NoneOpen s1 = c.in-Ok.ensures.settled (c.read_map.ensures.same.was_honest h) in
     ok_always (RestsAt s2 files) c.read_map.result (rest_files s s1 s2 files c.recover.ensures.same.size c.read_map.ensures.same.size recovered none reads stands)
 
 pub returns-in-Ok-clause-recovered : goal.returns-in-Ok-clause-recovered
@@ -63,9 +59,8 @@ returns-in-Ok-clause-recovered g c h =
     let s = g.D.Disk.state c.args.disk.now in
     let s1 = g.D.Disk.state c.recover.new.disk in
     let s2 = g.D.Disk.state c.read_map.new.disk in
-    let h1 = c.recover.ensures.same.honest h in
-    let reads = c.read_map.ensures.reads h1 in
-    let recovered : IsRecovered s.size s.contents s1.contents = c.in-Ok.ensures.recovered h in
+    let reads = c.read_map.ensures.reads h in
+    let recovered : IsRecovered s.size s.contents s1.contents = c.in-Ok.ensures.recovered (c.read_map.ensures.same.was_honest h) in
     let same : s2.contents ≡ s1.contents = same_contents s1.contents s2.contents reads.still.contents in
     ok_always (IsRecovered s.size s.contents s2.contents) c.read_map.result (subst (IsRecovered s.size s.contents) (sym same) recovered)
 
@@ -74,22 +69,20 @@ returns-in-Ok-clause-stood g c h =
     let s = g.D.Disk.state c.args.disk.now in
     let s1 = g.D.Disk.state c.recover.new.disk in
     let s2 = g.D.Disk.state c.read_map.new.disk in
-    let h1 = c.recover.ensures.same.honest h in
-    let reads = c.read_map.ensures.reads h1 in
-    let recovered : IsRecovered s.size s.contents s1.contents = c.in-Ok.ensures.recovered h in
-    let none : NoneOpen s1 = c.in-Ok.ensures.settled h in
+    let reads = c.read_map.ensures.reads h in
+    let recovered : IsRecovered s.size s.contents s1.contents = c.in-Ok.ensures.recovered (c.read_map.ensures.same.was_honest h) in
+    let none : NoneOpen s1 = c.in-Ok.ensures.settled (c.read_map.ensures.same.was_honest h) in
     ok_on (λ read. (m : DiskMap) × IsHeld s1.size (known_of read) m s1.contents) (λ read. (files : Files File) × Stands s.size s.contents files × RestsAt s2 files) c.read_map.result
-    (λ read held. stood_before s s1 s2 (known_of read) held.0 c.recover.ensures.same.size c.read_map.ensures.same.size recovered none reads held.1) (c.read_map.ensures.held h1)
+    (λ read held. stood_before s s1 s2 (known_of read) held.0 c.recover.ensures.same.size c.read_map.ensures.same.size recovered none reads held.1) (c.read_map.ensures.held h)
 
 pub returns-in-Ok-clause-settled : goal.returns-in-Ok-clause-settled
 returns-in-Ok-clause-settled g c h =
     let s = g.D.Disk.state c.args.disk.now in
     let s1 = g.D.Disk.state c.recover.new.disk in
     let s2 = g.D.Disk.state c.read_map.new.disk in
-    let h1 = c.recover.ensures.same.honest h in
-    let reads = c.read_map.ensures.reads h1 in
-    let recovered : IsRecovered s.size s.contents s1.contents = c.in-Ok.ensures.recovered h in
-    let none : NoneOpen s1 = c.in-Ok.ensures.settled h in
+    let reads = c.read_map.ensures.reads h in
+    let recovered : IsRecovered s.size s.contents s1.contents = c.in-Ok.ensures.recovered (c.read_map.ensures.same.was_honest h) in
+    let none : NoneOpen s1 = c.in-Ok.ensures.settled (c.read_map.ensures.same.was_honest h) in
     ok_always (NoneOpen s2) c.read_map.result (λ n. reads.is_open n ∙ none n)
 
 pub returns-in-Ok-clause-refused : goal.returns-in-Ok-clause-refused
@@ -97,24 +90,22 @@ returns-in-Ok-clause-refused g c h =
     let s = g.D.Disk.state c.args.disk.now in
     let s1 = g.D.Disk.state c.recover.new.disk in
     let s2 = g.D.Disk.state c.read_map.new.disk in
-    let h1 = c.recover.ensures.same.honest h in
-    let reads = c.read_map.ensures.reads h1 in
-    let recovered : IsRecovered s.size s.contents s1.contents = c.in-Ok.ensures.recovered h in
-    let none : NoneOpen s1 = c.in-Ok.ensures.settled h in
+    let reads = c.read_map.ensures.reads h in
+    let recovered : IsRecovered s.size s.contents s1.contents = c.in-Ok.ensures.recovered (c.read_map.ensures.same.was_honest h) in
+    let none : NoneOpen s1 = c.in-Ok.ensures.settled (c.read_map.ensures.same.was_honest h) in
     let same : s2.contents ≡ s1.contents = same_contents s1.contents s2.contents reads.still.contents in
     met_on (SettledRefuses s1.size s1.contents) (Refuses s.size s2.contents) c.read_map.result
     (λ error met. subst (λ contents. Refuses s.size contents error) (sym same) (closed_refuses s.size s1.contents recovered.gate error (subst (λ (n : ℕ). SettledRefuses n s1.contents error) c.recover.ensures.same.size met)))
-    (c.read_map.ensures.met h1)
+    (c.read_map.ensures.met h)
 
 pub returns-in-Ok-clause-kept : goal.returns-in-Ok-clause-kept
 returns-in-Ok-clause-kept g c h other =
     let s = g.D.Disk.state c.args.disk.now in
     let s1 = g.D.Disk.state c.recover.new.disk in
     let s2 = g.D.Disk.state c.read_map.new.disk in
-    let h1 = c.recover.ensures.same.honest h in
-    let reads = c.read_map.ensures.reads h1 in
-    let recovered : IsRecovered s.size s.contents s1.contents = c.in-Ok.ensures.recovered h in
-    let none : NoneOpen s1 = c.in-Ok.ensures.settled h in
+    let reads = c.read_map.ensures.reads h in
+    let recovered : IsRecovered s.size s.contents s1.contents = c.in-Ok.ensures.recovered (c.read_map.ensures.same.was_honest h) in
+    let none : NoneOpen s1 = c.in-Ok.ensures.settled (c.read_map.ensures.same.was_honest h) in
     let same : s2.contents ≡ s1.contents = same_contents s1.contents s2.contents reads.still.contents in
     inr (subst (IsRecovered s.size s.contents) (sym same) recovered)
 

@@ -41,4 +41,4 @@ returns-in-Err-BadData-clause-given_up g c is = inr (λ h.
     let s = g.D.Disk.state c.args.self.now.disk in
     let v = c.version_under-version.result.now in
     let bad = c.get_words.ensures.damaged h c.in-Err-BadData._block (cc) in
-    undamaged s.contents v c.in-Err-BadData._block (readable_body s (core_of c.args.self.now.map) c.args.self.now.failed c.requires.sound h c.if-self.false c.args.handle v c.requires.live c.version_under-version.ensures) bad.0 bad.1)
+    undamaged s.contents v c.in-Err-BadData._block (readable_body s (core_of c.args.self.now.map) c.args.self.now.failed c.requires.sound (c.get_words.ensures.same.was_honest h) c.if-self.false c.args.handle v c.requires.live c.version_under-version.ensures) bad.0 bad.1)

@@ -51,7 +51,7 @@ returns-in-Ok-write_and_commit-clause-crash g c h f rests =
     let whole = c.requires.sound.whole.map in
     let made : IsMade s.size k k' c.args.ppn c.args.protection c.in-Ok.first c.make_in_core.new.set =
     subst (λ (b : ℕ). IsMade b k k' c.args.ppn c.args.protection c.in-Ok.first c.make_in_core.new.set) c.requires.sound.whole.map.size_is c.in-Ok.ensures.made in
-    made_crash s s' k k' c.args.ppn c.args.protection c.in-Ok.first c.make_in_core.new.set c.requires.protection whole made (c.requires.sound.rest h c.if-self.false) f rests (c.write_and_commit.ensures.crash h k k')
+    made_crash s s' k k' c.args.ppn c.args.protection c.in-Ok.first c.make_in_core.new.set c.requires.protection whole made (c.requires.sound.rest (c.write_and_commit.ensures.same.was_honest h) c.if-self.false) f rests (c.write_and_commit.ensures.crash h k k')
 
 pub returns-in-Ok-write_and_commit-clause-kept : goal.returns-in-Ok-write_and_commit-clause-kept
 returns-in-Ok-write_and_commit-clause-kept g c h n from none used =
@@ -73,7 +73,7 @@ returns-in-Err-write_and_commit-clause-crash g c h f rests =
     let whole = c.requires.sound.whole.map in
     let made : IsMade s.size k k' c.args.ppn c.args.protection c.in-Ok.first c.make_in_core.new.set =
     subst (λ (b : ℕ). IsMade b k k' c.args.ppn c.args.protection c.in-Ok.first c.make_in_core.new.set) c.requires.sound.whole.map.size_is c.in-Ok.ensures.made in
-    made_crash s s' k k' c.args.ppn c.args.protection c.in-Ok.first c.make_in_core.new.set c.requires.protection whole made (c.requires.sound.rest h c.if-self.false) f rests (c.write_and_commit.ensures.crash h k k')
+    made_crash s s' k k' c.args.ppn c.args.protection c.in-Ok.first c.make_in_core.new.set c.requires.protection whole made (c.requires.sound.rest (c.write_and_commit.ensures.same.was_honest h) c.if-self.false) f rests (c.write_and_commit.ensures.crash h k k')
 
 pub returns-in-Err-write_and_commit-clause-kept : goal.returns-in-Err-write_and_commit-clause-kept
 returns-in-Err-write_and_commit-clause-kept g c h n from none used =
@@ -95,7 +95,7 @@ returns-in-Ok-write_and_commit-clause-done g c h f rests =
     let whole = c.requires.sound.whole.map in
     let made : IsMade s.size k k' c.args.ppn c.args.protection c.in-Ok.first c.make_in_core.new.set =
     subst (λ (b : ℕ). IsMade b k k' c.args.ppn c.args.protection c.in-Ok.first c.make_in_core.new.set) c.requires.sound.whole.map.size_is c.in-Ok.ensures.made in
-    let at = c.requires.sound.rest h c.if-self.false in
+    let at = c.requires.sound.rest (c.in-Ok-write_and_commit.ensures.same.was_honest h) c.if-self.false in
     made_done s s' k k' c.args.ppn c.args.protection c.in-Ok.first c.make_in_core.new.set c.requires.protection whole made at f rests c.write_and_commit.ensures.same.size
     (made_rest s s' k k' c.args.ppn c.args.protection c.in-Ok.first c.make_in_core.new.set c.requires.protection whole made at (c.in-Ok-write_and_commit.ensures.done h k k'))
 
