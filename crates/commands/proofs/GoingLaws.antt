@@ -50,10 +50,10 @@ module _ {S : Type 0} (machine : S → Machine) where
   pub goes_on : (a b c : S) (acts more : List Act) → GoesBy machine a b acts → GoesBy machine b c more → GoesBy machine a c (acts ++ more)
   goes_on a b c acts more p q = record {
     pack = q.pack ∙ p.pack;
-    honest = λ h. q.honest (p.honest h);
+    was_honest = λ h. p.was_honest (q.was_honest h);
     went = λ h first s.
-        let one = p.went h first s in
-        let next = q.went (p.honest h) one.0 one.1 in
+        let one = p.went (q.was_honest h) first s in
+        let next = q.went h one.0 one.1 in
         (next.0, next.1, acts_on (machine a).pack a b c first one.0 next.0 acts more one.2 (subst (λ (k : Pack). ActsBy machine k b one.0 more c next.0) p.pack next.2));
   }
 
@@ -72,11 +72,11 @@ module _ {S : Type 0} (machine : S → Machine) where
   goes_served_on : (a b c : S) (acts more : List Act) → GoesServed machine a b acts → GoesServed machine b c more → GoesServed machine a c (acts ++ more)
   goes_served_on a b c acts more p q = record {
     pack = q.pack ∙ p.pack;
-    honest = λ h. q.honest (p.honest h);
+    was_honest = λ h. p.was_honest (q.was_honest h);
     went = λ h first s served.
-        let one = p.went h first s (served_before (machine a).pack first acts more served) in
+        let one = p.went (q.was_honest h) first s (served_before (machine a).pack first acts more served) in
         let rest = served_behind (machine a).pack first acts more one.0 (acts_went (machine a).pack a first acts b one.0 one.2) served in
-        let next = q.went (p.honest h) one.0 one.1 (subst (λ (k : Pack). AreServedActs k one.0 more) (sym p.pack) rest) in
+        let next = q.went h one.0 one.1 (subst (λ (k : Pack). AreServedActs k one.0 more) (sym p.pack) rest) in
         (next.0, next.1, acts_on (machine a).pack a b c first one.0 next.0 acts more one.2 (subst (λ (k : Pack). ActsBy machine k b one.0 more c next.0) p.pack next.2));
   }
 
@@ -90,27 +90,27 @@ module _ {S : Type 0} (machine : S → Machine) where
     acts_none a (Serving s) h serves = (refl, refl, stands a h s serves)
 
     pub goes_nowhere : (a : S) → GoesBy machine a a []
-    goes_nowhere a = record { pack = refl; honest = λ h. h; went = λ h first serves. (first, serves, acts_none a first h serves) }
+    goes_nowhere a = record { pack = refl; was_honest = λ h. h; went = λ h first serves. (first, serves, acts_none a first h serves) }
 
     pub goes_still : (language : Language) (a : S) → Goes language machine a a []
     goes_still Commands a = goes_nowhere a
-    goes_still Events a = record { pack = refl; honest = λ h. h; went = λ h first serves served. (first, serves, acts_none a first h serves) }
+    goes_still Events a = record { pack = refl; was_honest = λ h. h; went = λ h first serves served. (first, serves, acts_none a first h serves) }
 
     -- Nothing more was done behind an act.
     acts_end : (a b : S) (last : Service) → (machine b).pack ≡ (machine a).pack → (machine b).honest → (machine b).serves last → ActsBy machine (machine a).pack b last [] b last
     acts_end a b last same h serves = subst (λ (k : Pack). ActsBy machine k b last [] b last) same (acts_none b last h serves)
 
-    module _ (a b : S) (event : Event) (reply : Reply) (p : IsAnswered (machine a) (machine b) event reply) (h : (machine a).honest) where
+    module _ (a b : S) (event : Event) (reply : Reply) (p : IsAnswered (machine a) (machine b) event reply) (h : (machine b).honest) where
       answered_acts : (first last : Service) → (machine a).serves first → (machine b).serves last → Answers (machine a).pack first (event_of event) reply last
           → ActsBy machine (machine a).pack a first (Asks (event_of event) reply ∷ []) b last
       answered_acts Broken last serves then answers = (p.broken h serves, (last, answers, refl))
-      answered_acts (Serving s) last serves then answers = (stands a h s serves, b, last, answers, p.crash h s serves, acts_end a b last p.pack (p.honest h) then)
+      answered_acts (Serving s) last serves then answers = (stands a (p.was_honest h) s serves, b, last, answers, p.crash h s serves, acts_end a b last p.pack h then)
 
     -- an event that every service serves
     pub goes_answered : (a b : S) (event : Event) (reply : Reply) → ((first : Service) → IsServedIn first event) → IsAnswered (machine a) (machine b) event reply → GoesBy machine a b (Asks (event_of event) reply ∷ [])
     goes_answered a b event reply served p = record {
       pack = p.pack;
-      honest = p.honest;
+      was_honest = p.was_honest;
       went = λ h first serves.
           let one = p.answers h first serves (served first) in
           (one.0, one.1, answered_acts a b event reply p h first one.0 serves one.1 one.2);
@@ -121,11 +121,11 @@ module _ {S : Type 0} (machine : S → Machine) where
         → IsAnswered (machine b) (machine c) event reply → GoesBy machine a c (acts ++ Asks (event_of event) reply ∷ [])
     goes_then a b c acts event reply before served p = record {
       pack = p.pack ∙ before.pack;
-      honest = λ h. p.honest (before.honest h);
+      was_honest = λ h. before.was_honest (p.was_honest h);
       went = λ h first serves.
-          let one = before.went h first serves in
-          let then = p.answers (before.honest h) one.0 one.1 (served (machine a).pack first one.0 (acts_went (machine a).pack a first acts b one.0 one.2)) in
-          let act = answered_acts b c event reply p (before.honest h) one.0 then.0 one.1 then.1 then.2 in
+          let one = before.went (p.was_honest h) first serves in
+          let then = p.answers h one.0 one.1 (served (machine a).pack first one.0 (acts_went (machine a).pack a first acts b one.0 one.2)) in
+          let act = answered_acts b c event reply p h one.0 then.0 one.1 then.1 then.2 in
           (then.0, then.1, acts_on (machine a).pack a b c first one.0 then.0 acts (Asks (event_of event) reply ∷ []) one.2 (subst (λ (k : Pack). ActsBy machine k b one.0 (Asks (event_of event) reply ∷ []) c then.0) before.pack act));
     }
 
@@ -133,21 +133,21 @@ module _ {S : Type 0} (machine : S → Machine) where
     pub goes_ordered : (a b : S) (event : Event) (reply : Reply) → IsAnswered (machine a) (machine b) event reply → GoesServed machine a b (Asks (event_of event) reply ∷ [])
     goes_ordered a b event reply p = record {
       pack = p.pack;
-      honest = p.honest;
+      was_honest = p.was_honest;
       went = λ h first serves served.
           let one = p.answers h first serves (served.0 event refl) in
           (one.0, one.1, answered_acts a b event reply p h first one.0 serves one.1 one.2);
     }
 
-    module _ (a b : S) (owner : ℕ) (answer : Result (List Entry) Reply) (p : IsListed (machine a) (machine b) 1 owner answer) (h : (machine a).honest) where
+    module _ (a b : S) (owner : ℕ) (answer : Result (List Entry) Reply) (p : IsListed (machine a) (machine b) 1 owner answer) (h : (machine b).honest) where
       listed_acts : (first last : Service) → (machine a).serves first → (machine b).serves last → Lists first 1 owner answer last → ActsBy machine (machine a).pack a first (Looks owner answer ∷ []) b last
       listed_acts Broken last serves then lists = (p.still, (last, lists, refl))
-      listed_acts (Serving s) last serves then lists = (stands a h s serves, b, last, lists, p.still, acts_end a b last p.pack (p.honest h) then)
+      listed_acts (Serving s) last serves then lists = (stands a (p.was_honest h) s serves, b, last, lists, p.still, acts_end a b last p.pack h then)
 
     pub goes_listed : (a b : S) (owner : ℕ) (answer : Result (List Entry) Reply) → IsListed (machine a) (machine b) 1 owner answer → GoesBy machine a b (Looks owner answer ∷ [])
     goes_listed a b owner answer p = record {
       pack = p.pack;
-      honest = p.honest;
+      was_honest = p.was_honest;
       went = λ h first serves.
           let one = p.lists h first serves in
           (one.0, one.1, listed_acts a b owner answer p h first one.0 serves one.1 one.2);

@@ -1,5 +1,5 @@
--- What is known of a service of files, whatever it is made of: the disk that it serves, whether it keeps its
--- promises, and which services of the definitions it may stand for.
+-- What is known of a service of files, whatever it is made of: the disk that it serves, whether it has kept its
+-- promises so far, and which services of the definitions it may stand for.
 use Rattle.std.specs.Prelude.{◌≡◌, ℕ, false, List, [], ◌∷◌, None, Result}
 use Rattle.blockdisk.specs.Disk.{DiskState, Still, LeavesOnly}
 use Rattle.meaning.specs.Crashes.{StandsForEither}
@@ -24,17 +24,17 @@ pub record Machine : Type 1 where
 -- It answered an event: at any moment of it a crash left the files from before, or those after it.
 pub record IsAnswered (old new : Machine) (event : Event) (reply : Reply) : Type 0 where
   pub pack : new.pack ≡ old.pack
-  pub honest : old.honest → new.honest
-  pub crash : old.honest → (s : State) → old.serves (Serving s) → LeavesOnly old.disk new.disk (StandsForEither old.pack s (event_of event))
-  pub broken : old.honest → old.serves Broken → Still old.disk new.disk
-  pub answers : old.honest → (first : Service) → old.serves first → IsServedIn first event → (last : Service) × new.serves last × Answers old.pack first (event_of event) reply last
+  pub was_honest : new.honest → old.honest
+  pub crash : new.honest → (s : State) → old.serves (Serving s) → LeavesOnly old.disk new.disk (StandsForEither old.pack s (event_of event))
+  pub broken : new.honest → old.serves Broken → Still old.disk new.disk
+  pub answers : new.honest → (first : Service) → old.serves first → IsServedIn first event → (last : Service) × new.serves last × Answers old.pack first (event_of event) reply last
 
 -- It listed a directory for a job, for which it asks the disk for nothing.
 pub record IsListed (old new : Machine) (job owner : ℕ) (answer : Result (List Entry) Reply) : Type 0 where
   pub pack : new.pack ≡ old.pack
-  pub honest : old.honest → new.honest
+  pub was_honest : new.honest → old.honest
   pub still : Still old.disk new.disk
-  pub lists : old.honest → (first : Service) → old.serves first → (last : Service) × new.serves last × Lists first job owner answer last
+  pub lists : new.honest → (first : Service) → old.serves first → (last : Service) × new.serves last × Lists first job owner answer last
 
 -- All that a crash may leave of a service stands for the files of the state that it serves from.
 abbrev pub AlwaysStands : {S : Type 0} → (S → Machine) → Type 0
@@ -61,8 +61,8 @@ ActsBy {S} machine pack service (Serving s) (Looks owner answer ∷ acts) end ne
 -- It went by these acts of job 1, moment by moment.
 pub record GoesBy {S : Type 0} (machine : S → Machine) (old new : S) (acts : List Act) : Type 0 where
   pub pack : (machine new).pack ≡ (machine old).pack
-  pub honest : (machine old).honest → (machine new).honest
-  pub went : (machine old).honest → (first : Service) → (machine old).serves first
+  pub was_honest : (machine new).honest → (machine old).honest
+  pub went : (machine new).honest → (first : Service) → (machine old).serves first
       → (last : Service) × (machine new).serves last × ActsBy machine (machine old).pack old first acts new last
 
 -- Acts of events that are served, in whichever state the machine may have been at each: an OPEN in a mode with buffers
@@ -79,8 +79,8 @@ AreServedActs pack service (Looks owner answer ∷ acts) = (mid : Service) → L
 -- It went by these acts, moment by moment, where they are of events that are served.
 pub record GoesServed {S : Type 0} (machine : S → Machine) (old new : S) (acts : List Act) : Type 0 where
   pub pack : (machine new).pack ≡ (machine old).pack
-  pub honest : (machine old).honest → (machine new).honest
-  pub went : (machine old).honest → (first : Service) → (machine old).serves first → AreServedActs (machine old).pack first acts
+  pub was_honest : (machine new).honest → (machine old).honest
+  pub went : (machine new).honest → (first : Service) → (machine old).serves first → AreServedActs (machine old).pack first acts
       → (last : Service) × (machine new).serves last × ActsBy machine (machine old).pack old first acts new last
 
 -- a disk of which nothing is known

@@ -161,7 +161,7 @@ pub record Session {S : Type 0} (source left sink full : Option (List ℕ)) (mac
   pub appended : Appends sink full written
   pub goes : GoesBy machine old new acts
   pub ends : Ends Commands (IsAtEnd left) moment read written acts result
-  pub served : (machine old).honest → (first : Service) → (machine old).serves first → IfOk result (λ tally. (last : Service) × (machine new).serves last × IsServedSession (machine old).pack moment read first last (spoken written tally))
+  pub served : (machine new).honest → (first : Service) → (machine old).serves first → IfOk result (λ tally. (last : Service) × (machine new).serves last × IsServedSession (machine old).pack moment read first last (spoken written tally))
 
 -- And of a call script, where its events are served.
 pub record Script {S : Type 0} (source left sink full : Option (List ℕ)) (machine : S → Machine) (old new : S) (moment : Moment) (result : Result Tally SessionError) : Type 0 where
@@ -172,5 +172,5 @@ pub record Script {S : Type 0} (source left sink full : Option (List ℕ)) (mach
   pub appended : Appends sink full written
   pub goes : GoesServed machine old new acts
   pub ends : Ends Events (IsAtEnd left) moment read written acts result
-  pub served : (machine old).honest → (first : Service) → (machine old).serves first → AreServedActs (machine old).pack first acts
+  pub served : (machine new).honest → (first : Service) → (machine old).serves first → AreServedActs (machine old).pack first acts
       → IfOk result (λ tally. (last : Service) × (machine new).serves last × IsServedScript (machine old).pack moment read first last (spoken written tally))

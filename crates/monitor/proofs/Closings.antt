@@ -31,7 +31,7 @@ closes_here jobs n job channel bits c o at closes = subst (λ j. ClosesSide j ch
 -- Where something is published.
 
 module _ (d d' : DiskState) (c c' : VolumeCore) (jobs jobs' : List (Option Job)) (n : ℕ) (job job' : Job) (moment : Moment) (there : slot jobs n ≡ Some job) (set : jobs' ≡ slice_set jobs n (Some job')) (timely : moment.date ≤ 4095) where
-  pub row_answered : (failed failed' : Bool) (call : Call) (reply : Reply) → failed ≡ false → ArePlaced c → d.honest → IsPublishRow d d' c c' failed' job job' call reply → (old : Service) → Serves d c failed jobs old
+  pub row_answered : (failed failed' : Bool) (call : Call) (reply : Reply) → failed ≡ false → ArePlaced c → d'.honest → IsPublishRow d d' c c' failed' job job' call reply → (old : Service) → Serves d c failed jobs old
       → (new : Service) × Serves d' c' failed' jobs' new × Answers (pack_of d) old (Calls n call moment) reply new
   row_answered failed failed' call reply alive placed honest is =
       in_state d c failed jobs (λ old. (new : Service) × Serves d' c' failed' jobs' new × Answers (pack_of d) old (Calls n call moment) reply new) alive (λ s state.
@@ -61,7 +61,7 @@ module _ (d d' : DiskState) (c c' : VolumeCore) (failed failed' : Bool) (key : �
   publishing_failed NoJob is = absurd is
   publishing_failed DateRange is = absurd is
 
-  pub publishing_blamed : (reply : Reply) → failed ≡ false → IsPublishing d d' c c' failed failed' key reply → d.honest → reply ≡ Failed → ⊥
+  pub publishing_blamed : (reply : Reply) → failed ≡ false → IsPublishing d d' c c' failed failed' key reply → d'.honest → reply ≡ Failed → ⊥
   publishing_blamed reply alive is honest failure = ⊎_elim (λ t. contrary alive t) (λ never. never honest) (subst (IsPublishing d d' c c' failed failed' key) failure is).0
 
   pub publishing_counted : (reply : Reply) → IsPublishing d d' c c' failed failed' key reply → reply ≡ Device → d'.failures ≡ one_more d.failures

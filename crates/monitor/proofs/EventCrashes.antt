@@ -24,14 +24,14 @@ state_stands d map jobs s is c left = rest_settles d (λ x. SettledStands d.size
 
 -- an event that leaves the disk alone
 pub untouched_event : {D : Type 0} (state : D → DiskState) → ((disk : D) (contents : Contents) → (state disk).honest → (state disk).left_since (state disk).clock contents → MayLeave (state disk) contents)
-    → (old new : D) → new ≡ old → (map : VolumeCore) (jobs : List (Option Job)) (event : Event) → (state old).honest → (s : State) → IsState (state old) map jobs s
+    → (old new : D) → new ≡ old → (map : VolumeCore) (jobs : List (Option Job)) (event : Event) → (state new).honest → (s : State) → IsState (state old) map jobs s
     → LeavesOnly (state old) (state new) (StandsForEither (pack_of (state old)) s event)
 untouched_event state only_now old new same map jobs event honest s is =
     untouched_leaves state only_now old new same honest (StandsForEither (pack_of (state old)) s event) (λ c left. inl (state_stands (state old) map jobs s is c left))
 
 -- a call, whatever serial it chose
 pub call_event : (d d' : DiskState) (map : VolumeCore) (jobs : List (Option Job)) (n : ℕ) (call : Call) (moment : Moment) → CallCrashes d d' map jobs n call moment
-    → d.honest → (s : State) → IsState d map jobs s → LeavesOnly d d' (StandsForEither (pack_of d) s (Calls n call moment))
+    → d'.honest → (s : State) → IsState d map jobs s → LeavesOnly d d' (StandsForEither (pack_of d) s (Calls n call moment))
 call_event d d' map jobs n call moment crash honest s is =
     leaves_weaker d d' _ (StandsForEither (pack_of d) s (Calls n call moment)) (crash honest s is)
     (λ c. ⊎_elim (λ was. inl was) (λ after. inr (subst (Stands d.size c) (serials.same_files (pack_of d) after.0 0 s (Calls n call moment)) after.1)))

@@ -86,7 +86,7 @@ module _ {D : Type 0} (state : D → DiskState) where
   -- what was served so far, since the value `first`
   abbrev pub Ran : MonitorState D → MonitorState D → List Event → List Reply → Type 0
   Ran first now events replies =
-      (state first.disk).honest → (s : State) → Serves (state first.disk) first.map first.failed first.jobs (Serving s) → AreServed (pack_of (state first.disk)) (Serving s) events replies
+      (state now.disk).honest → (s : State) → Serves (state first.disk) first.map first.failed first.jobs (Serving s) → AreServed (pack_of (state first.disk)) (Serving s) events replies
       → (new : Service) × Serves (state now.disk) now.map now.failed now.jobs new
       × RunsOn (pack_of (state first.disk)) (state now.disk) (state first.disk).clock (Serving s) (map event_of events) replies new
       × RunsBy state (pack_of (state first.disk)) first.disk (Serving s) (map event_of events) replies now.disk new
@@ -97,7 +97,7 @@ module _ {D : Type 0} (state : D → DiskState) where
       (Serving s, serves, runs_start (pack_of (state first.disk)) (state first.disk) s stands, by_start state (pack_of (state first.disk)) first.disk s stands)
 
   -- reading holds still along it
-  pub ran_still : (first now : MonitorState D) (events : List Event) (replies : List Reply) → Ran first now events replies → (state first.disk).honest → (s : State) → Serves (state first.disk) first.map first.failed first.jobs (Serving s)
+  pub ran_still : (first now : MonitorState D) (events : List Event) (replies : List Reply) → Ran first now events replies → (state now.disk).honest → (s : State) → Serves (state first.disk) first.map first.failed first.jobs (Serving s)
       → AreServed (pack_of (state first.disk)) (Serving s) events replies → HoldsStill (pack_of (state first.disk)) (Serving s) (map event_of events) replies
   ran_still first now events replies ran h s serves served =
       let led = ran h s serves served in
@@ -116,11 +116,11 @@ module _ {D : Type 0} (state : D → DiskState) where
     -- what one event ensures
     abbrev pub IsAnswered : Type 0
     IsAnswered =
-        d.honest → (s : Service) → Serves d old.map old.failed old.jobs s → IsServedIn s event
+        d'.honest → (s : Service) → Serves d old.map old.failed old.jobs s → IsServedIn s event
         → (t : Service) × Serves d' new.map new.failed new.jobs t × Answers (pack_of d) s (event_of event) reply t
 
     abbrev pub Crashes : Type 0
-    Crashes = d.honest → (s : State) → Serves d old.map old.failed old.jobs (Serving s) → LeavesOnly d d' (StandsForEither (pack_of d) s (event_of event))
+    Crashes = d'.honest → (s : State) → Serves d old.map old.failed old.jobs (Serving s) → LeavesOnly d d' (StandsForEither (pack_of d) s (event_of event))
 
     abbrev pub Stays : Type 0
     Stays = old.failed ≡ true → (reply ≡ Failed) × (new ≡ old)
@@ -166,10 +166,10 @@ module _ {D : Type 0} (state : D → DiskState) where
           by_more state pack old.disk new.disk u (event_of event) reply (Serving v) a leaves (refl, refl, stands) first.disk (Serving s) (map event_of events) replies runs.1,
         )
 
-    pub ran_more : length replies ≡ length events → SameDisk (state first.disk) d → SameDisk (state first.disk) d' → IsAnswered → Crashes → Stays → Ran first old events replies → Ran first new (events ++ event ∷ []) (replies ++ reply ∷ [])
-    ran_more even same same' answered crash stays ran h s serves served =
+    pub ran_more : length replies ≡ length events → SameDisk (state first.disk) d → SameDisk (state first.disk) d' → SameDisk d d' → IsAnswered → Crashes → Stays → Ran first old events replies → Ran first new (events ++ event ∷ []) (replies ++ reply ∷ [])
+    ran_more even same same' once answered crash stays ran h s serves served =
         let parts = served_parts pack (Serving s) events replies event reply even served in
-        let led = ran h s serves parts.0 in
+        let led = ran (once.was_honest h) s serves parts.0 in
         on led.0 (parts.1 led.0 (is_run pack d (state first.disk).clock (Serving s) led.0 (map event_of events) replies led.2)) led.1 (led.2, led.3)
       where
         size : pack_of d ≡ pack
@@ -178,8 +178,8 @@ module _ {D : Type 0} (state : D → DiskState) where
         on : (mid : Service) → IsServedIn mid event → Serves d old.map old.failed old.jobs mid → RunsTo first old s events replies mid → Goal s
         on Broken is failed runs = stayed s failed runs (stays failed)
         on (Serving u) is mid runs =
-            let after = answered (same.honest h) (Serving u) mid is in
-            went_on s u same' runs (subst (λ p. LeavesOnly d d' (StandsForEither p u (event_of event))) size (crash (same.honest h) u mid)) after.0 after.1
+            let after = answered h (Serving u) mid is in
+            went_on s u same' runs (subst (λ p. LeavesOnly d d' (StandsForEither p u (event_of event))) size (crash h u mid)) after.0 after.1
             (subst (λ p. Answers p (Serving u) (event_of event) reply after.0) size after.2)
 
     -- Faults of the device.

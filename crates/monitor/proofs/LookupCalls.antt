@@ -197,9 +197,9 @@ module _ (d : DiskState) (map : VolumeCore) (jobs jobs' : List (Option Job)) (n 
 
 -- LOOKUP by the job of a number, whatever it is answered with.
 
-module _ (d : DiskState) (map map' : VolumeCore) (jobs jobs' : List (Option Job)) (n : ℕ) (job job' : Job) (ch e : ℕ) (moment : Moment) (reply : Reply)
+module _ (d d' : DiskState) (map map' : VolumeCore) (jobs jobs' : List (Option Job)) (n : ℕ) (job job' : Job) (ch e : ℕ) (moment : Moment) (reply : Reply)
     (there : slot jobs n ≡ Some job) (set : jobs' ≡ slice_set jobs n (Some job')) (keyed : AreKeyed map.pending jobs) (reading : AreReading map.live jobs) (pending : map'.pending ≡ map.pending) (keeps : KeepsReading map.live map'.live job job')
-    (looked : reply ≡ Done → (c : Channel) × (input : Input) × (between : VolumeCore) × IsLookingUp map between map' job job' ch e c input × (d.honest → (s : State) → IsKnown d map s → IsFound d.contents between.live s job job' e input))
+    (looked : reply ≡ Done → (c : Channel) × (input : Input) × (between : VolumeCore) × IsLookingUp map between map' job job' ch e c input × (d'.honest → (s : State) → IsKnown d map s → IsFound d.contents between.live s job job' e input))
     (kept : (reply ≡ Done → ⊥) → (map' ≡ map) × (job' ≡ record job { core = job'.core })) where
   -- what is written stays with its output sides
   sides_same : sides_in (Some job') ≡ sides_in (Some job)
@@ -214,7 +214,7 @@ module _ (d : DiskState) (map map' : VolumeCore) (jobs jobs' : List (Option Job)
   pub lookup_reading : AreReading map'.live jobs'
   lookup_reading = subst (AreReading map'.live) (sym set) (keeps_reading map.live map'.live jobs n job job' reading there keeps)
 
-  pub lookup_answered : (failed : Bool) → failed ≡ false → IsSound d map false → d.honest → moment.date ≤ 4095 → ((s : State) → IsState d map jobs s → IsKnown d map s)
+  pub lookup_answered : (failed : Bool) → failed ≡ false → IsSound d map false → d'.honest → moment.date ≤ 4095 → ((s : State) → IsState d map jobs s → IsKnown d map s)
       → ((s : State) → IsKnown d map s → (w : UnderKeys) → IsLookupRow s (job_of w job) (job_of w job') (channel_at (job_of w job) ch) e reply)
       → (old : Service) → Serves d map failed jobs old → (new : Service) × Serves d map' failed jobs' new × Answers (pack_of d) old (Calls n (Lookup ch e) moment) reply new
   lookup_answered failed serves sound honest timely known row =

@@ -128,15 +128,15 @@ module _ {D : Type 0} (state_in : D → DiskState) (disk disk' : D) (c c' : Volu
         (row_undecided d c s.files state.under jobs sound.whole (held d c jobs job e sound honest s state) (books d c jobs job e sound honest s state) n job there e moment timely early)
 
   -- Crashes.
-  module _ (only_now : d.honest → (x : Contents) → d.left_since d.clock x → MayLeave d x)
-      (crash : d.honest → (f : Files File) → RestsAt d f → LeavesOnly d d' (StandsForEither d.size f (files_made f (asked_owner job.core e) (asked_protection job.core e)))) where
+  module _ (was : d'.honest → d.honest) (only_now : d.honest → (x : Contents) → d.left_since d.clock x → MayLeave d x)
+      (crash : d'.honest → (f : Files File) → RestsAt d f → LeavesOnly d d' (StandsForEither d.size f (files_made f (asked_owner job.core e) (asked_protection job.core e)))) where
     unmoved_crashes : Same → CallCrashes d d' c jobs n (MakeDir e) moment
     unmoved_crashes same = subst (λ x. CallCrashes d (state_in x) c jobs n (MakeDir e) moment) (sym same.0) (idle_crashes d c jobs n (MakeDir e) moment only_now)
 
     made_crashes : job' ≡ job → early_answer job.ppn job.core e ≡ Done → IsAbsent c (asked_owner job.core e) → (IsCrowded d.size c → ⊥) → CallCrashes d d' c jobs n (MakeDir e) moment
     made_crashes same early absent fits honest s state =
         leaves_weaker d d' (StandsForEither d.size (without_serials s.files) _) _ (crash honest (without_serials s.files) state.files)
-        (λ contents. ⊎_elim (λ was. inl was) (λ new. inr (0, subst (Stands d.size contents) (sym (shown d c jobs job e sound honest s state) ∙ ap (λ (r : Reply × State). without_serials r.1.files) (sym (step_done honest s state same early absent fits 0))) new)))
+        (λ contents. ⊎_elim (λ was. inl was) (λ new. inr (0, subst (Stands d.size contents) (sym (shown d c jobs job e sound (was honest) s state) ∙ ap (λ (r : Reply × State). without_serials r.1.files) (sym (step_done (was honest) s state same early absent fits 0))) new)))
 
     pub crashes_by : (reply : Reply) → IsMakeDir d.size c Same job job' e reply → CallCrashes d d' c jobs n (MakeDir e) moment
     crashes_by Done (job_is, early, absent, fits) = made_crashes job_is early absent fits

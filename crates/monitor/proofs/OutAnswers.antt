@@ -78,7 +78,7 @@ module _ {D : Type 0} (state_in : D → DiskState) (disk disk' : D) (map map' : 
       ap (λ y. is_plain ((step (pack_of d) 0 y (Calls n (Out ch a) moment)).0)) (state_is s state.under jobs state.jobs_are)
       ∙ undecided d map jobs n job there ch a moment timely 0 s.files state.under out.channel out.there out.output out.side out.listed
 
-  module _ (honest : d.honest) (rests : (f : Files File) → RestsAt d f → RestsAt (state_in disk') f)
+  module _ (honest : d.honest) (later : (state_in disk').honest) (rests : (f : Files File) → RestsAt d f → RestsAt (state_in disk') f)
       (others : (k : ℕ) → IsOther (slot job.channels ch) k → pending_at map'.pending k ≡ pending_at map.pending k) (live : map'.live ≡ map.live)
       (knows : map'.known ≡ record map.known { table = map'.known.table }) (readers : KeepsRead d.contents (state_in disk').contents map)
       (writers : (k : ℕ) (q : PendingVersion) → IsOther (slot job.channels ch) k → pending_at map.pending k ≡ Some q → (m : ℕ) → 0 < times m q.version.blocks → (state_in disk').contents m ≡ d.contents m) where
@@ -93,7 +93,7 @@ module _ {D : Type 0} (state_in : D → DiskState) (disk disk' : D) (map map' : 
         let alive = alive_after failed' Done fails (λ e. cc e) (λ e. cc e) in
         let p = version_of out in
         in_state d map failed jobs (λ old. (new : Service) × Serves (state_in disk') map' failed' jobs' new × Answers (pack_of d) old (Calls n (Out ch a) moment) Done new) serves
-        (λ s state. put_leads d (state_in disk') map map' jobs jobs' n job there ch a moment timely out (set ∙ ap (λ j. slice_set jobs n (Some j)) job_is) keyed (out_keyed alive) sound honest p.0 p.1 (put p.0 p.1)
+        (λ s state. put_leads d (state_in disk') map map' jobs jobs' n job there ch a moment timely out (set ∙ ap (λ j. slice_set jobs n (Some j)) job_is) keyed (out_keyed alive) sound honest later p.0 p.1 (put p.0 p.1)
         (λ k apart. others k (other_side (slot job.channels ch) out.channel out.output k out.there out.side apart))
         (λ k q apart. writers k q (other_side (slot job.channels ch) out.channel out.output k out.there out.side apart)) rests live knows readers (out_reading alive) s state failed' alive)
     out_answered (Stopped status) (out, is, job_is, none, same) fails =
@@ -114,7 +114,7 @@ module _ {D : Type 0} (state_in : D → DiskState) (disk disk' : D) (map map' : 
     out_answered Device (job_is, out) fails =
         in_state d map failed jobs (λ old. (new : Service) × Serves (state_in disk') map' failed' jobs' new × Answers (pack_of d) old (Calls n (Out ch a) moment) Device new) serves
         (λ s state. (Broken, fails.1 (inl refl), (refl, undecided_in out s state, refl)))
-    out_answered Failed lies fails = absurd (lies honest)
+    out_answered Failed lies fails = absurd (lies later)
     out_answered (Value word) wrong fails = absurd wrong
     out_answered NoJob wrong fails = absurd wrong
     out_answered DateRange wrong fails = absurd wrong

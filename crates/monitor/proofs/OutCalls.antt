@@ -102,7 +102,7 @@ module _ (d : DiskState) (map : VolumeCore) (jobs : List (Option Job)) (n : ℕ)
 -- The words are put.
 module _ (d d' : DiskState) (map map' : VolumeCore) (jobs jobs' : List (Option Job)) (n : ℕ) (job : Job) (there : slot jobs n ≡ Some job) (ch a : ℕ) (moment : Moment) (timely : moment.date ≤ 4095) (out : putting.Outgoing job ch a)
     (set : jobs' ≡ slice_set jobs n (Some (record job { channels = slice_set job.channels ch (Some (moved out.channel out.output (length out.words))) })))
-    (keyed : AreKeyed map.pending jobs) (keyed' : AreKeyed map'.pending jobs') (sound : IsSound d map false) (honest : d.honest)
+    (keyed : AreKeyed map.pending jobs) (keyed' : AreKeyed map'.pending jobs') (sound : IsSound d map false) (honest : d.honest) (later : d'.honest)
     (p : PendingVersion) (at : pending_at map.pending out.output.pending.key ≡ Some p) (put : Puts d d' map map' out.output out.words p)
     (others : (k : ℕ) → (k ≡ out.output.pending.key → ⊥) → pending_at map'.pending k ≡ pending_at map.pending k)
     (writers : (k : ℕ) (q : PendingVersion) → (k ≡ out.output.pending.key → ⊥) → pending_at map.pending k ≡ Some q → (m : ℕ) → 0 < times m q.version.blocks → d'.contents m ≡ d.contents m)
@@ -135,7 +135,7 @@ module _ (d d' : DiskState) (map map' : VolumeCore) (jobs jobs' : List (Option J
         time = was.time;
         date = was.date;
         words = length-splice (state.under.written key).file.body out.output.next out.words ∙ ap (λ m. length_after m out.output.next (length out.words)) was.words ∙ sym put.length_is;
-        body = put.body honest (state.under.written key).file.body was.words was.body;
+        body = put.body later (state.under.written key).file.body was.words was.body;
       }))
 
   other_version : (k : ℕ) (q : PendingVersion) → pending_at map'.pending k ≡ Some q → (k ≡ key → ⊥) → IsWriting d' q (w.written k)

@@ -47,8 +47,8 @@ module _ {D : Type 0} (state : D → DiskState) (disk disk' : D) (map map' : Vol
     out_placed NoJob wrong fails = absurd wrong
     out_placed DateRange wrong fails = absurd wrong
 
-  -- a disk that keeps to its laws isn't blamed by Failed
-  pub out_blamed : (reply : Reply) → Outcome reply → (state disk).honest → reply ≡ Failed → ⊥
+  -- a disk that has kept to its laws isn't blamed by Failed
+  pub out_blamed : (reply : Reply) → Outcome reply → (state disk').honest → reply ≡ Failed → ⊥
   out_blamed reply out honest is = subst Outcome is out honest
 
   pub out_idle : (reply : Reply) → Outcome reply → IsIdle reply → disk' ≡ disk

@@ -44,7 +44,7 @@ module _ (d d' : DiskState) (c c' : VolumeCore) (failed failed' : Bool) (key : �
       let alive = not_true failed (λ t. no_error r x Failed is (dead t)) in
       (has, alive, still (no_error r x Device is) (no_error r x Failed is) ∙ alive, served (no_error r x Device is))
 
-  module _ (refuses : failed ≡ false → IsErrOf r (Refused NoRoom) → ⊥) (codes : (code : ErrorCode) → IsErrOf r (Refused code) → code ≡ NoRoom) (given_up : IsErrOf r Failed → (failed ≡ true) ⊎ (d.honest → ⊥))
+  module _ (refuses : failed ≡ false → IsErrOf r (Refused NoRoom) → ⊥) (codes : (code : ErrorCode) → IsErrOf r (Refused code) → code ≡ NoRoom) (given_up : IsErrOf r Failed → (failed ≡ true) ⊎ (d'.honest → ⊥))
       (device : IsErrOf r Device → failed' ≡ true) (ended : IsErrOf r Failed → failed' ≡ true) (counted : IsErrOf r Device → d'.failures ≡ one_more d.failures) where
     by_error : (e : CallError) → r ≡ Err e → IsPublishing d d' c c' failed failed' key (reply_of e)
     by_error (Refused code) is =

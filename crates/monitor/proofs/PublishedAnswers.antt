@@ -52,7 +52,7 @@ module _ (d : DiskState) (c : VolumeCore) (key : ℕ) (closed : Job) (call : Cal
   stepped : (serial : ℕ) → step (pack_of d) serial s (Calls n call moment) ≡ (Done, after serial)
   stepped serial = subst (λ t. step (pack_of d) serial t (Calls n call moment) ≡ (Done, after serial)) (sym same) (steps serial s.files w)
 
-  module _ (d' : DiskState) (c' : VolumeCore) (whatever : MayPublish d d' c c' key) (live : IsSome (pending_at c.pending key)) (honest : d.honest) where
+  module _ (d' : DiskState) (c' : VolumeCore) (whatever : MayPublish d d' c c' key) (live : IsSome (pending_at c.pending key)) (honest : d'.honest) where
     pub crashes_as : LeavesOnly d d' (λ contents. Stands d.size contents (without_serials s.files) ⊎ ((serial : ℕ) × Stands d.size contents (without_serials ((step (pack_of d) serial s (Calls n call moment)).1.files))))
     crashes_as =
         let p = some_is (pending_at c.pending key) live in

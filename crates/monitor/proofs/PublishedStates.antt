@@ -76,7 +76,7 @@ module _ (d d' : DiskState) (c c' : VolumeCore) (jobs : List (Option Job)) (n : 
   pub keyed_published : AreKeyed c.pending jobs → AreKeyed c'.pending (slice_set jobs n (Some job'))
   keyed_published keyed = kept_keyed c.pending c'.pending jobs n job job' there keeps (λ k q at. (still_there k q at).1) keyed
 
-  module _ (honest : d.honest) (s : State) (state : IsState d c jobs s) (placed : ArePlaced c) (whole : IsWholeCore d.size c) (reads : KeepsReading c.live c'.live job job') (serial : ℕ) (fresh : IsFresh s serial) where
+  module _ (honest : d'.honest) (s : State) (state : IsState d c jobs s) (placed : ArePlaced c) (whole : IsWholeCore d.size c) (reads : KeepsReading c.live c'.live job job') (serial : ℕ) (fresh : IsFresh s serial) where
     abbrev w : UnderKeys
     w = state.under
 

@@ -84,26 +84,26 @@ alive_after true reply exact device failed = by (exact.0 refl)
     by (inl is) = absurd (device is)
     by (inr is) = absurd (failed is)
 
-module _ (d : DiskState) (map : VolumeCore) (failed : Bool) (jobs : List (Option Job)) (n ch a : ℕ) (moment : Moment) (serves : failed ≡ false) (timely : moment.date ≤ 4095) (keyed : AreKeyed map.pending jobs) (reading : AreReading map.live jobs) where
+module _ (d d' : DiskState) (map : VolumeCore) (failed : Bool) (jobs : List (Option Job)) (n ch a : ℕ) (moment : Moment) (serves : failed ≡ false) (timely : moment.date ≤ 4095) (keyed : AreKeyed map.pending jobs) (reading : AreReading map.live jobs) where
   module _ (job job' : Job) (there : slot jobs n ≡ Some job) (jobs' : List (Option Job)) (set : jobs' ≡ slice_set jobs n (Some job')) where
-    module _ (reply : Reply) (is : IsIn d map job job' ch a reply) where
+    module _ (reply : Reply) (is : IsIn d d' map job job' ch a reply) where
       pub in_keyed : AreKeyed map.pending jobs'
-      in_keyed = subst (AreKeyed map.pending) (sym set) (keeps_keyed map.pending map.pending jobs n job job' keyed there (in_keeps d map job job' ch a reply is map.pending))
+      in_keyed = subst (AreKeyed map.pending) (sym set) (keeps_keyed map.pending map.pending jobs n job job' keyed there (in_keeps d d' map job job' ch a reply is map.pending))
 
       pub in_reading : AreReading map.live jobs'
-      in_reading = subst (AreReading map.live) (sym set) (keeps_reading map.live map.live jobs n job job' reading there (in_reads d map job job' ch a reply is map.live))
+      in_reading = subst (AreReading map.live) (sym set) (keeps_reading map.live map.live jobs n job job' reading there (in_reads d d' map job job' ch a reply is map.live))
 
     -- the disk as it was before, in core as it is after
     abbrev Leads : Reply → Type 0
     Leads reply = (old : Service) → Serves d map failed jobs old → (new : Service) × Serves d map failed jobs' new × Answers (pack_of d) old (Calls n (In ch a) moment) reply new
 
     -- a row that needs neither memory nor the disk
-    plain : (reply : Reply) → IsIn d map job job' ch a reply → job' ≡ job → IsRow job job (In ch a) reply → Leads reply
+    plain : (reply : Reply) → IsIn d d' map job job' ch a reply → job' ≡ job → IsRow job job (In ch a) reply → Leads reply
     plain reply is same here =
         row d map map failed jobs jobs' (in_keyed reply is) (in_reading reply is) (leaves_none map) (pack_of d) (Calls n (In ch a) moment) reply
         (row_is d map failed jobs n (In ch a) moment serves timely jobs' job job reply there (set ∙ ap (λ j. slice_set jobs n (Some j)) same) here) serves
 
-    module _ (honest : d.honest) where
+    module _ (honest : d'.honest) where
       module _ (at : IsAtInput job ch) where
         held : (v : LiveVersion) × (version_at map.live at.input.pin.key ≡ Some v) × (0 < v.readers)
         held = version_held map.live job ch at.channel at.there at.input at.side (job_held map.live jobs n job reading there)
@@ -115,7 +115,7 @@ module _ (d : DiskState) (map : VolumeCore) (failed : Bool) (jobs : List (Option
         is_read s state = state.read.each at.input.pin.key held.0 held.1 held.2
 
       -- a call that the machine goes on from, in the same files
-      goes : (reply : Reply) (is : IsIn d map job job' ch a reply) (s : State) (state : IsState d map jobs s)
+      goes : (reply : Reply) (is : IsIn d d' map job job' ch a reply) (s : State) (state : IsState d map jobs s)
           → ((serial : ℕ) → step (pack_of d) serial (state_of s.files state.under jobs) (Calls n (In ch a) moment) ≡ (reply, state_of s.files state.under jobs'))
           → (new : Service) × Serves d map failed jobs' new × Answers (pack_of d) (Serving s) (Calls n (In ch a) moment) reply new
       goes reply is s state steps =
@@ -129,7 +129,7 @@ module _ (d : DiskState) (map : VolumeCore) (failed : Bool) (jobs : List (Option
           ∙ undecided job ch a read.at.channel read.at.there read.at.input read.at.side (alone read.at) read.areas read.listed state.under d jobs n there moment timely 0 s.files
 
       -- what leaves the service serving
-      in_leads : (reply : Reply) → IsIn d map job job' ch a reply → (reply ≡ Device → ⊥) → (reply ≡ Failed → ⊥) → Leads reply
+      in_leads : (reply : Reply) → IsIn d d' map job job' ch a reply → (reply ≡ Device → ⊥) → (reply ≡ Failed → ⊥) → Leads reply
       in_leads Done is device lies = in_state d map failed jobs (λ old. (new : Service) × Serves d map failed jobs' new × Answers (pack_of d) old (Calls n (In ch a) moment) Done new) serves (λ s state.
           let read = is.0 in
           let moves = is.4 in
@@ -162,7 +162,7 @@ module _ (d : DiskState) (map : VolumeCore) (failed : Bool) (jobs : List (Option
       in_leads DateRange is device lies = absurd is
 
       -- the disk was only read meanwhile
-      module _ (d' : DiskState) (map' : VolumeCore) (failed' : Bool) (core : map' ≡ map) (reads : OnlyReads d d') (rests : (f : Files File) → RestsAt d f → RestsAt d' f) where
+      module _ (map' : VolumeCore) (failed' : Bool) (core : map' ≡ map) (reads : OnlyReads d d') (rests : (f : Files File) → RestsAt d f → RestsAt d' f) where
         abbrev Answered : Reply → Service → Type 0
         Answered reply old = (new : Service) × Serves d' map' failed' jobs' new × Answers (pack_of d) old (Calls n (In ch a) moment) reply new
 
@@ -170,12 +170,12 @@ module _ (d : DiskState) (map : VolumeCore) (failed : Bool) (jobs : List (Option
         serves_on alive Broken broken = absurd (contrary serves broken)
         serves_on alive (Serving s) state = (alive, subst (λ m. IsState d' m jobs' s) (sym core) (state_read d d' reads rests map jobs' s state.1))
 
-        served : (reply : Reply) → IsIn d map job job' ch a reply → IsTrue failed' ↔ ((reply ≡ Device) ⊎ (reply ≡ Failed)) → (reply ≡ Device → ⊥) → (reply ≡ Failed → ⊥) → (old : Service) → Serves d map failed jobs old → Answered reply old
+        served : (reply : Reply) → IsIn d d' map job job' ch a reply → IsTrue failed' ↔ ((reply ≡ Device) ⊎ (reply ≡ Failed)) → (reply ≡ Device → ⊥) → (reply ≡ Failed → ⊥) → (old : Service) → Serves d map failed jobs old → Answered reply old
         served reply is fails device lies old state =
             let led = in_leads reply is device lies old state in
             (led.0, serves_on (alive_after failed' reply fails device lies) led.0 led.1, led.2)
 
-        pub in_answered : (reply : Reply) → IsIn d map job job' ch a reply → IsTrue failed' ↔ ((reply ≡ Device) ⊎ (reply ≡ Failed)) → (old : Service) → Serves d map failed jobs old → Answered reply old
+        pub in_answered : (reply : Reply) → IsIn d d' map job job' ch a reply → IsTrue failed' ↔ ((reply ≡ Device) ⊎ (reply ≡ Failed)) → (old : Service) → Serves d map failed jobs old → Answered reply old
         in_answered Done is fails = served Done is fails (λ e. cc e) (λ e. cc e)
         in_answered (Stopped status) is fails = served (Stopped status) is fails (λ e. cc e) (λ e. cc e)
         in_answered (Refused code) is fails = served (Refused code) is fails (λ e. cc e) (λ e. cc e)

@@ -143,8 +143,8 @@ module _ (job : Job) (number : ℕ) (c : Channel) (there : slot job.channels num
   reads_read live core = reads_channel live job number c there (read_on c i count) core (λ key. ap (λ o. held key (option_to_list o)) (sym side)) still_reads
 
 -- by its answer
-module _ (d : DiskState) (map : VolumeCore) (job job' : Job) (number a : ℕ) where
-  pub in_reads : (reply : Reply) → IsIn d map job job' number a reply → (live : List (Option LiveVersion)) → KeepsReading live live job job'
+module _ (d d' : DiskState) (map : VolumeCore) (job job' : Job) (number a : ℕ) where
+  pub in_reads : (reply : Reply) → IsIn d d' map job job' number a reply → (live : List (Option LiveVersion)) → KeepsReading live live job job'
   in_reads Done (read, moved, core, is, moves) live =
       subst (KeepsReading live live job) (sym is) (reads_read job number read.at.channel read.at.there read.at.input read.at.side moved live core)
   in_reads (Stopped status) (read, code, is, ends) live =
@@ -159,7 +159,7 @@ module _ (d : DiskState) (map : VolumeCore) (job job' : Job) (number a : ℕ) wh
   in_reads NoJob wrong live = absurd wrong
   in_reads DateRange wrong live = absurd wrong
 
-  pub in_keeps : (reply : Reply) → IsIn d map job job' number a reply → (pending : List (Option PendingVersion)) → Keeps pending pending job job'
+  pub in_keeps : (reply : Reply) → IsIn d d' map job job' number a reply → (pending : List (Option PendingVersion)) → Keeps pending pending job job'
   in_keeps Done (read, moved, core, is, moves) pending =
       subst (Keeps pending pending job) (sym is) (keeps_sides pending job number read.at.channel read.at.there (read_on read.at.channel read.at.input moved) core refl)
   in_keeps (Stopped status) (read, code, is, ends) pending =

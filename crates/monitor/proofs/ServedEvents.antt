@@ -56,8 +56,8 @@ module _ {D : Type 0} (state : D → DiskState) (old new : MonitorState D) (n : 
   broken_led : (reply ≡ Failed) × (new ≡ old) → old.failed ≡ true → Led Broken
   broken_led same failed = (Broken, ap (λ m. m.failed) same.1 ∙ failed, same.0)
 
-  pub call_answered : ((state old.disk).honest → IsServed call (slot old.jobs n) → (s : Service) → Serves (state old.disk) old.map old.failed old.jobs s → Led s) → (old.failed ≡ true → (reply ≡ Failed) × (new ≡ old))
-      → (state old.disk).honest → (s : Service) → IsServedIn s (events.Call n call moment) → Serves (state old.disk) old.map old.failed old.jobs s → Led s
+  pub call_answered : ((state new.disk).honest → IsServed call (slot old.jobs n) → (s : Service) → Serves (state old.disk) old.map old.failed old.jobs s → Led s) → (old.failed ≡ true → (reply ≡ Failed) × (new ≡ old))
+      → (state new.disk).honest → (s : Service) → IsServedIn s (events.Call n call moment) → Serves (state old.disk) old.map old.failed old.jobs s → Led s
   call_answered answered broken honest Broken served failed = broken_led (broken failed) failed
   call_answered answered broken honest (Serving s) served serves =
       let is = serves.1 in

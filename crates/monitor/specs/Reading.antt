@@ -35,11 +35,11 @@ pub record Ingoing (job : Job) (number a : ℕ) : Type 0 where
   pub listed : dump_list job.core a ≡ Some areas
 
 -- So many words are moved from the side's next block on into these areas of a core, which is then another one.
-pub record Moves (d : DiskState) (c : VolumeCore) (core core' : List ℕ) (i : Input) (areas : List Area) (count : ℕ) : Type 0 where
+pub record Moves (d d' : DiskState) (c : VolumeCore) (core core' : List ℕ) (i : Input) (areas : List Area) (count : ℕ) : Type 0 where
   -- a list that names words moves some
   pub some : count ≡ 0 → areas ≡ []
   pub many : (v : LiveVersion) → version_at c.live i.pin.key ≡ Some v → (body : List ℕ) → length body ≡ v.version.words → count ≡ min (word_count areas) (length (words_from body i.next))
-  pub words : d.honest → (v : LiveVersion) → version_at c.live i.pin.key ≡ Some v → (body : List ℕ) → length body ≡ v.version.words → HasBody d.contents v.version.blocks body
+  pub words : d'.honest → (v : LiveVersion) → version_at c.live i.pin.key ≡ Some v → (body : List ℕ) → length body ≡ v.version.words → HasBody d.contents v.version.blocks body
       → core' ≡ after_writes core (dealt areas (words_from body i.next))
 
 -- The body ends before the side's next block, and the areas have words.
@@ -47,20 +47,20 @@ abbrev pub EndsBefore : VolumeCore → Input → List Area → Type 0
 EndsBefore c i areas =
     (v : LiveVersion) → version_at c.live i.pin.key ≡ Some v → (body : List ℕ) → length body ≡ v.version.words → (areas ≡ [] → ⊥) × (words_from body i.next ≡ [])
 
--- What an IN does to its job, by its answer.
-abbrev pub IsIn : DiskState → VolumeCore → Job → Job → ℕ → ℕ → Reply → Type 0
-IsIn d c job job' number a Done =
+-- What an IN does to its job, by its answer, and by the disk before it and after it.
+abbrev pub IsIn : DiskState → DiskState → VolumeCore → Job → Job → ℕ → ℕ → Reply → Type 0
+IsIn d d' c job job' number a Done =
     (read : Ingoing job number a) × (count : ℕ) × (core : List ℕ) × (job' ≡ record job { core = core; channels = slice_set job.channels number (Some (read_on read.at.channel read.at.input count)) })
-    × Moves d c job.core core read.at.input read.areas count
-IsIn d c job job' number a (Stopped status) =
+    × Moves d d' c job.core core read.at.input read.areas count
+IsIn d d' c job job' number a (Stopped status) =
     (read : Ingoing job number a) × (status ≡ cleared read.at.channel.status + end_of_file) × (job' ≡ record job { channels = slice_set job.channels number (Some (record read.at.channel { status = status })) })
     × EndsBefore c read.at.input read.areas
-IsIn d c job job' number a (Refused code) = (job' ≡ job) × (code ≡ 5) × (c : Channel) × (slot job.channels number ≡ Some c) × (c.input ≡ None)
-IsIn d c job job' number a NoChannel = (job' ≡ job) × (slot job.channels number ≡ None)
-IsIn d c job job' number a AddressCheck = (job' ≡ job) × IsAtInput job number × (dump_list job.core a ≡ None)
-IsIn d c job job' number a NoMemory = (job' ≡ job) × Ingoing job number a
-IsIn d c job job' number a Device = (job' ≡ job) × Ingoing job number a
-IsIn d c job job' number a Failed = (job' ≡ job) × (d.honest → ⊥)
-IsIn d c job job' number a (Value word) = ⊥
-IsIn d c job job' number a NoJob = ⊥
-IsIn d c job job' number a DateRange = ⊥
+IsIn d d' c job job' number a (Refused code) = (job' ≡ job) × (code ≡ 5) × (c : Channel) × (slot job.channels number ≡ Some c) × (c.input ≡ None)
+IsIn d d' c job job' number a NoChannel = (job' ≡ job) × (slot job.channels number ≡ None)
+IsIn d d' c job job' number a AddressCheck = (job' ≡ job) × IsAtInput job number × (dump_list job.core a ≡ None)
+IsIn d d' c job job' number a NoMemory = (job' ≡ job) × Ingoing job number a
+IsIn d d' c job job' number a Device = (job' ≡ job) × Ingoing job number a
+IsIn d d' c job job' number a Failed = (job' ≡ job) × (d'.honest → ⊥)
+IsIn d d' c job job' number a (Value word) = ⊥
+IsIn d d' c job job' number a NoJob = ⊥
+IsIn d d' c job job' number a DateRange = ⊥

@@ -63,7 +63,7 @@ pub fn read<D: Disk>(
 
     ensures sound { IsSound (D.state volume.new.disk) (core_of volume.new.map) volume.new.failed }
     ensures core { core_of volume.new.map ≡ core_of volume.old.map }
-    ensures outcome { IsIn (D.state volume.old.disk) (core_of volume.old.map) job.old job.new number address result }
+    ensures outcome { IsIn (D.state volume.old.disk) (D.state volume.new.disk) (core_of volume.old.map) job.old job.new number address result }
     ensures reads { KeepsReading (core_of volume.old.map).live (core_of volume.new.map).live job.old job.new }
     ensures only_reads { (D.state volume.new.disk).honest → OnlyReads (D.state volume.old.disk) (D.state volume.new.disk) }
     ensures rests { (D.state volume.new.disk).honest → (files : Files File) → RestsAt (D.state volume.old.disk) files → RestsAt (D.state volume.new.disk) files }

@@ -177,15 +177,17 @@ module _ (s mid s' : DiskState) (c c' : VolumeCore) (key : ℕ) (p : PendingVers
   pub committed_failed : IsSound s' c' true
   committed_failed = sound_failed s s' c' true (after.size ∙ same.size) (new_whole s mid c c' key p v puts sound turned same) refl
 
-  pub committed_sound : (s.honest → Touches (λ n. 0 < times n (v.at ∷ v.version.ribs)) s mid) → (s.honest → IsRetrieved 1 mid.contents (with_length v.prime v.version.words) v.at v.version.ribs v.version.blocks)
-      → (mid.honest → Touches (λ n. IsGateOrLog mid.size n ⊎ IsPutIn puts n) mid s') → (mid.honest → SameOutside (IsGateOrLog mid.size) (with_puts puts mid.contents) s'.contents) → (mid.honest → NoneOpen s') → (mid.honest → IsShut mid → IsShut s')
+  pub committed_sound : (mid.honest → Touches (λ n. 0 < times n (v.at ∷ v.version.ribs)) s mid) → (mid.honest → IsRetrieved 1 mid.contents (with_length v.prime v.version.words) v.at v.version.ribs v.version.blocks)
+      → (s'.honest → Touches (λ n. IsGateOrLog mid.size n ⊎ IsPutIn puts n) mid s') → (s'.honest → SameOutside (IsGateOrLog mid.size) (with_puts puts mid.contents) s'.contents) → (s'.honest → NoneOpen s') → (s'.honest → IsShut mid → IsShut s')
       → IsSound s' c' false
   committed_sound touched retrieved put all none shut = sound_for s s' c' false (after.size ∙ same.size) (new_whole s mid c c' key p v puts sound turned same)
       (λ h' ok.
-      let h = same.was_honest (after.was_honest h') in
-      committed_bodies s mid c c' key p v puts sound turned same h (touched h) s' (put (same.honest h)))
+      let m = after.was_honest h' in
+      let h = same.was_honest m in
+      committed_bodies s mid c c' key p v puts sound turned same h (touched m) s' (put h'))
       (λ h' ok.
-      let h = same.was_honest (after.was_honest h') in
+      let m = after.was_honest h' in
+      let h = same.was_honest m in
       let has = sound.written h refl key p turned.turns.written in
-      committed_at s mid c c' key p v puts sound turned same h (touched h) (retrieved h) has.0 has.1 has.2 s' (all (same.honest h)) (none (same.honest h))
-      (shut (same.honest h) (mid_shut s mid c c' key p v puts sound turned same h (touched h))))
+      committed_at s mid c c' key p v puts sound turned same h (touched m) (retrieved m) has.0 has.1 has.2 s' (all h') (none h')
+      (shut h' (mid_shut s mid c c' key p v puts sound turned same h (touched m))))

@@ -187,7 +187,7 @@ none_damaged contents v has k there none = undamaged_at contents v.blocks has.2.
 
 module _ (s s' : DiskState) (c : VolumeCore) (sound : IsSound s c false) (same : SameDisk s s') (key : ℕ) (p : PendingVersion) (was : pending_at c.pending key ≡ Some p)
     (t : TableState) (pending : List (Option PendingVersion)) (v : VersionState) (is : Regrown s.size c.known.table t pending key p v) (others : (k : ℕ) → (k ≡ key → ⊥) → pending_at pending k ≡ pending_at c.pending k)
-    (touched : s.honest → Touches (IsOwn c.known.table p.version.blocks) s s') where
+    (touched : s'.honest → Touches (IsOwn c.known.table p.version.blocks) s s') where
   gate_set : bit c.known.table 3 ≡ 1
   gate_set = whole_fixed s.size c.known sound.whole.map 3 (omega arith)
 
@@ -195,16 +195,16 @@ module _ (s s' : DiskState) (c : VolumeCore) (sound : IsSound s c false) (same :
   put_failed = sound_failed s s' (record c { known = record c.known { table = t }; pending = pending }) true same.size (put_whole s.size c sound.whole key p was t pending v is others) refl
 
   pub put_done : (w : VersionState) (block : ℕ) (words : List ℕ) → pending_at pending key ≡ Some (record p { version = w }) → w.words ≡ length_after p.version.words block (length words)
-      → (s.honest → (body : List ℕ) → length body ≡ p.version.words → HasBody s.contents p.version.blocks body → HasBody s'.contents w.blocks (splice body block words))
+      → (s'.honest → (body : List ℕ) → length body ≡ p.version.words → HasBody s.contents p.version.blocks body → HasBody s'.contents w.blocks (splice body block words))
       → IsSound s' (record c { known = record c.known { table = t }; pending = pending }) false
   put_done w block words now long put = sound_for s s' (record c { known = record c.known { table = t }; pending = pending }) false same.size (put_whole s.size c sound.whole key p was t pending v is others)
       (λ h' ok. let h : s.honest = same.was_honest h' in
-      put_bodies s.size c sound.whole key p was s s' false sound h refl (touched h).contents (record c { known = record c.known { table = t }; pending = pending }) w block words refl others now long (put h))
+      put_bodies s.size c sound.whole key p was s s' false sound h refl (touched h').contents (record c { known = record c.known { table = t }; pending = pending }) w block words refl others now long (put h'))
       (λ h' ok. let h : s.honest = same.was_honest h' in
-      put_at s s' c.known p.version.blocks sound.whole.map.aligned (sound.rest h refl) same.size (touched h) gate_set t (λ n. ap (λ (u : TableState). bit u n) is.1.table))
+      put_at s s' c.known p.version.blocks sound.whole.map.aligned (sound.rest h refl) same.size (touched h') gate_set t (λ n. ap (λ (u : TableState). bit u n) is.1.table))
 
-  pub crash_finds : s.honest → (f : Files File) → RestsAt s f → ((d : Contents) → s.left_since s.clock d → MayLeave s d) → LeavesOnly s s' (λ d. Stands s.size d f)
-  crash_finds h f rests only_now = put_quiet s s' c.known p.version.blocks sound.whole.map.aligned (sound.rest h refl) same.size (touched h) gate_set f rests only_now
+  pub crash_finds : s'.honest → (f : Files File) → RestsAt s f → ((d : Contents) → s.left_since s.clock d → MayLeave s d) → LeavesOnly s s' (λ d. Stands s.size d f)
+  crash_finds h f rests only_now = put_quiet s s' c.known p.version.blocks sound.whole.map.aligned (sound.rest (same.was_honest h) refl) same.size (touched h) gate_set f rests only_now
 
-  pub rest_finds : s.honest → (f : Files File) → RestsAt s f → RestsAt s' f
-  rest_finds h f rests = put_rests s s' c.known p.version.blocks sound.whole.map.aligned (sound.rest h refl) same.size (touched h) gate_set f rests
+  pub rest_finds : s'.honest → (f : Files File) → RestsAt s f → RestsAt s' f
+  rest_finds h f rests = put_rests s s' c.known p.version.blocks sound.whole.map.aligned (sound.rest (same.was_honest h) refl) same.size (touched h) gate_set f rests

@@ -34,14 +34,14 @@ use Rattle.volume.proofs.Starting.{rest_read}
 pub rests_read : (s s' : DiskState) (files : Files File) → s'.size ≡ s.size → OnlyReads s s' → RestsAt s files → RestsAt s' files
 rests_read s s' files size reads rests = subst (λ (n : ℕ). AtRest s' (λ c. SettledStands n c files)) (sym size) (rest_read s s' (λ c. SettledStands s.size c files) size reads rests)
 
-pub sound_read : (s s' : DiskState) (c : VolumeCore) (failed : Bool) → s'.size ≡ s.size → (s'.honest → s.honest) → (s.honest → OnlyReads s s') → IsSound s c failed → IsSound s' c failed
+pub sound_read : (s s' : DiskState) (c : VolumeCore) (failed : Bool) → s'.size ≡ s.size → (s'.honest → s.honest) → (s'.honest → OnlyReads s s') → IsSound s c failed → IsSound s' c failed
 sound_read s s' c failed size honest reads sound = record {
   whole = subst (λ (n : ℕ). IsWholeCore n c) (sym size) sound.whole;
   rest = λ h ok.
       let own = sound.rest (honest h) ok in
-      record { map = own.map; rest = subst (λ (n : ℕ). AtRest s' (IsHeld n c.known own.map)) (sym size) (rest_read s s' (IsHeld s.size c.known own.map) size (reads (honest h)) own.rest) };
-  read = λ h ok key v at some. body_stays s.contents s'.contents v.version (sound.read (honest h) ok key v at some) (λ n there. (reads (honest h)).still.contents n);
-  written = λ h ok key p at. body_stays s.contents s'.contents p.version (sound.written (honest h) ok key p at) (λ n there. (reads (honest h)).still.contents n);
+      record { map = own.map; rest = subst (λ (n : ℕ). AtRest s' (IsHeld n c.known own.map)) (sym size) (rest_read s s' (IsHeld s.size c.known own.map) size (reads h) own.rest) };
+  read = λ h ok key v at some. body_stays s.contents s'.contents v.version (sound.read (honest h) ok key v at some) (λ n there. (reads h).still.contents n);
+  written = λ h ok key p at. body_stays s.contents s'.contents p.version (sound.written (honest h) ok key p at) (λ n there. (reads h).still.contents n);
 }
 
 -- What can be read lies in the free space.

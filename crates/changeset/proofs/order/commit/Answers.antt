@@ -9,7 +9,7 @@ use Rattle.changeset.proofs.order.commit.Goals as goal
 
 pub returns-in_err-sync-clause-crash : goal.returns-in_err-sync-clause-crash
 returns-in_err-sync-clause-crash g c h shut =
-    still_leaves c.args.set.now (g.D.Disk.state c.args.disk.now) (g.D.Disk.state c.sync.new.self) (λ d left. g.met.D.Disk.only_now c.args.disk.now d h left) shut (sync_still c.sync.result (g.D.Disk.state c.args.disk.now) (g.D.Disk.state c.sync.new.self) (c.sync.ensures.syncs h) (c.sync.ensures.keeps h))
+    still_leaves c.args.set.now (g.D.Disk.state c.args.disk.now) (g.D.Disk.state c.sync.new.self) (λ d left. g.met.D.Disk.only_now c.args.disk.now d (c.sync.ensures.same.was_honest h) left) shut (sync_still c.sync.result (g.D.Disk.state c.args.disk.now) (g.D.Disk.state c.sync.new.self) (c.sync.ensures.syncs h) (c.sync.ensures.keeps h))
 
 pub returns-in_err-sync-clause-touched : goal.returns-in_err-sync-clause-touched
 returns-in_err-sync-clause-touched g c h =
@@ -17,7 +17,7 @@ returns-in_err-sync-clause-touched g c h =
 
 pub returns-then-is_empty-clause-crash : goal.returns-then-is_empty-clause-crash
 returns-then-is_empty-clause-crash g c h shut =
-    still_leaves c.args.set.now (g.D.Disk.state c.args.disk.now) (g.D.Disk.state c.sync.new.self) (λ d left. g.met.D.Disk.only_now c.args.disk.now d h left) shut (sync_still c.sync.result (g.D.Disk.state c.args.disk.now) (g.D.Disk.state c.sync.new.self) (c.sync.ensures.syncs h) (c.sync.ensures.keeps h))
+    still_leaves c.args.set.now (g.D.Disk.state c.args.disk.now) (g.D.Disk.state c.sync.new.self) (λ d left. g.met.D.Disk.only_now c.args.disk.now d (c.sync.ensures.same.was_honest h) left) shut (sync_still c.sync.result (g.D.Disk.state c.args.disk.now) (g.D.Disk.state c.sync.new.self) (c.sync.ensures.syncs h) (c.sync.ensures.keeps h))
 
 pub returns-then-is_empty-clause-touched : goal.returns-then-is_empty-clause-touched
 returns-then-is_empty-clause-touched g c h =

@@ -47,7 +47,7 @@ returns-in_err-redo-in-Some-clause-crash g c h none =
 pub returns-in_err-redo-in-Some-clause-untouched : goal.returns-in_err-redo-in-Some-clause-untouched
 returns-in_err-redo-in-Some-clause-untouched g c h none_pending =
     let s = g.D.Disk.state c.args.disk.now in
-    absurd (none_pending c.as_slice.result.now (pending_at (λ found. found.items) s.size s.contents c.in_ok-puts.field-0 c.in-Some.puts c.as_slice.result.now c.in-Some.is c.as_slice.ensures.value (c.in_ok-puts.ensures.pending h)))
+    absurd (none_pending c.as_slice.result.now (pending_at (λ found. found.items) s.size s.contents c.in_ok-puts.field-0 c.in-Some.puts c.as_slice.result.now c.in-Some.is c.as_slice.ensures.value (c.in_ok-puts.ensures.pending (c.redo.ensures.same.was_honest h))))
 
 pub returns-in_ok-redo-in-Some-clause-crash : goal.returns-in_ok-redo-in-Some-clause-crash
 returns-in_ok-redo-in-Some-clause-crash g c h none =
@@ -59,7 +59,7 @@ returns-in_ok-redo-in-Some-clause-crash g c h none =
 pub returns-in_ok-redo-in-Some-clause-untouched : goal.returns-in_ok-redo-in-Some-clause-untouched
 returns-in_ok-redo-in-Some-clause-untouched g c h none_pending =
     let s = g.D.Disk.state c.args.disk.now in
-    absurd (none_pending c.as_slice.result.now (pending_at (λ found. found.items) s.size s.contents c.in_ok-puts.field-0 c.in-Some.puts c.as_slice.result.now c.in-Some.is c.as_slice.ensures.value (c.in_ok-puts.ensures.pending h)))
+    absurd (none_pending c.as_slice.result.now (pending_at (λ found. found.items) s.size s.contents c.in_ok-puts.field-0 c.in-Some.puts c.as_slice.result.now c.in-Some.is c.as_slice.ensures.value (c.in_ok-puts.ensures.pending (c.redo.ensures.same.was_honest h))))
 
 pub returns-in_ok-redo-in-Some-clause-recovered : goal.returns-in_ok-redo-in-Some-clause-recovered
 returns-in_ok-redo-in-Some-clause-recovered g c h =

@@ -57,13 +57,13 @@ returns-in-Moved-clause-outcome g c =
 pub returns-in-Moved-clause-reads : goal.returns-in-Moved-clause-reads
 returns-in-Moved-clause-reads g c =
     subst (λ m. KeepsReading (core_of c.args.volume.now.map).live (core_of m).live c.args.job.now c.set_channel.new.self) (sym c.read_in.ensures.core)
-    (in_reads (g.D.Disk.state c.args.volume.now.disk) (core_of c.args.volume.now.map) c.args.job.now c.set_channel.new.self c.args.number c.args.address Done (returns-in-Moved-clause-outcome g c) (core_of c.args.volume.now.map).live)
+    (in_reads (g.D.Disk.state c.args.volume.now.disk) (g.D.Disk.state c.read_in.new.volume.disk) (core_of c.args.volume.now.map) c.args.job.now c.set_channel.new.self c.args.number c.args.address Done (returns-in-Moved-clause-outcome g c) (core_of c.args.volume.now.map).live)
 
 pub returns-in-AtEnd-clause-outcome : goal.returns-in-AtEnd-clause-outcome
 returns-in-AtEnd-clause-outcome g c =
     let list = is_listed c.read_in.result AtEnd (dump_list c.args.job.now.core c.args.address) c.in-AtEnd.is (λ e. cc e) c.read_in.ensures.checked in
     let status = cleared c.in-Some.channel.status + end_of_file in
-    subst (IsIn (g.D.Disk.state c.args.volume.now.disk) (core_of c.args.volume.now.map) c.args.job.now c.stop.new.job c.args.number c.args.address) (sym c.stop.ensures.answered) (
+    subst (IsIn (g.D.Disk.state c.args.volume.now.disk) (g.D.Disk.state c.read_in.new.volume.disk) (core_of c.args.volume.now.map) c.args.job.now c.stop.new.job c.args.number c.args.address) (sym c.stop.ensures.answered) (
       record {
         at = record { channel = c.in-Some.channel; there = sym c.channel.ensures ∙ c.in-Some.is; input = c.in-Some-side.input; side = c.in-Some-side.is };
         areas = list.0;
@@ -77,4 +77,4 @@ returns-in-AtEnd-clause-outcome g c =
 pub returns-in-AtEnd-clause-reads : goal.returns-in-AtEnd-clause-reads
 returns-in-AtEnd-clause-reads g c =
     subst (λ m. KeepsReading (core_of c.args.volume.now.map).live (core_of m).live c.args.job.now c.stop.new.job) (sym c.read_in.ensures.core)
-    (in_reads (g.D.Disk.state c.args.volume.now.disk) (core_of c.args.volume.now.map) c.args.job.now c.stop.new.job c.args.number c.args.address c.stop.result (returns-in-AtEnd-clause-outcome g c) (core_of c.args.volume.now.map).live)
+    (in_reads (g.D.Disk.state c.args.volume.now.disk) (g.D.Disk.state c.read_in.new.volume.disk) (core_of c.args.volume.now.map) c.args.job.now c.stop.new.job c.args.number c.args.address c.stop.result (returns-in-AtEnd-clause-outcome g c) (core_of c.args.volume.now.map).live)

@@ -20,23 +20,24 @@ returns-in_default-clause-answered g c h unread =
 
 pub returns-clause-keyed : goal.returns-clause-keyed
 returns-clause-keyed g c =
-    enters_keyed (g.D.Disk.state c.args.volume.now.disk) (core_of c.args.volume.now.map) (core_of c.enter-reply.new.volume.map) c.args.jobs.now c.put.new.self c.args.number c.in-Some.job c.enter-reply.new.job c.args.channel c.args.address c.args.moment
+    enters_keyed (g.D.Disk.state c.args.volume.now.disk) (g.D.Disk.state c.enter-reply.new.volume.disk) (core_of c.args.volume.now.map) (core_of c.enter-reply.new.volume.map) c.args.jobs.now c.put.new.self c.args.number c.in-Some.job c.enter-reply.new.job c.args.channel c.args.address c.args.moment
     c.enter-reply.result c.in-Some.ensures.found.0 (put_back c.args.jobs.now c.take.new.self c.put.new.self c.args.number (Some c.enter-reply.new.job) c.in-Some.ensures.found.1 c.put.ensures) c.requires.keyed c.requires.reading c.enter-reply.ensures.begun c.enter-reply.ensures.kept
 
 pub returns-clause-reading : goal.returns-clause-reading
 returns-clause-reading g c =
-    enters_reading (g.D.Disk.state c.args.volume.now.disk) (core_of c.args.volume.now.map) (core_of c.enter-reply.new.volume.map) c.args.jobs.now c.put.new.self c.args.number c.in-Some.job c.enter-reply.new.job c.args.channel c.args.address c.args.moment
+    enters_reading (g.D.Disk.state c.args.volume.now.disk) (g.D.Disk.state c.enter-reply.new.volume.disk) (core_of c.args.volume.now.map) (core_of c.enter-reply.new.volume.map) c.args.jobs.now c.put.new.self c.args.number c.in-Some.job c.enter-reply.new.job c.args.channel c.args.address c.args.moment
     c.enter-reply.result c.in-Some.ensures.found.0 (put_back c.args.jobs.now c.take.new.self c.put.new.self c.args.number (Some c.enter-reply.new.job) c.in-Some.ensures.found.1 c.put.ensures) c.requires.keyed c.requires.reading c.enter-reply.ensures.begun c.enter-reply.ensures.kept
 
 pub returns-clause-answered : goal.returns-clause-answered
 returns-clause-answered g c h unread old state =
     let d = g.D.Disk.state c.args.volume.now.disk in
     let map = core_of c.args.volume.now.map in
+    let was : d.honest = subst (λ disk. (g.D.Disk.state disk).honest) c.enter-reply.ensures.untouched.0 h in
     on_disk g.D.Disk.state c.args.volume.now.disk c.enter-reply.new.volume.disk c.args.volume.now.failed c.enter-reply.new.volume.failed (core_of c.enter-reply.new.volume.map) c.put.new.self
     (Answers (pack_of d) old (Calls c.args.number (Enter c.args.channel c.args.address) c.args.moment) c.enter-reply.result) c.enter-reply.ensures.untouched
-    (enter_answered d map (core_of c.enter-reply.new.volume.map) c.args.jobs.now c.put.new.self c.args.number c.in-Some.job c.enter-reply.new.job c.args.channel c.args.address c.args.moment
+    (enter_answered d (g.D.Disk.state c.enter-reply.new.volume.disk) map (core_of c.enter-reply.new.volume.map) c.args.jobs.now c.put.new.self c.args.number c.in-Some.job c.enter-reply.new.job c.args.channel c.args.address c.args.moment
     c.enter-reply.result c.in-Some.ensures.found.0 (put_back c.args.jobs.now c.take.new.self c.put.new.self c.args.number (Some c.enter-reply.new.job) c.in-Some.ensures.found.1 c.put.ensures) c.requires.keyed c.requires.reading c.enter-reply.ensures.begun c.enter-reply.ensures.kept
-    c.args.volume.now.failed c.requires.alive (subst (IsSound d map) c.requires.alive c.requires.sound) h c.requires.timely (c.enter-reply.ensures.row h (subst (IsUnread c.args.channel) c.in-Some.ensures.found.0 unread)) old state)
+    c.args.volume.now.failed c.requires.alive (subst (IsSound d map) c.requires.alive c.requires.sound) was h c.requires.timely (c.enter-reply.ensures.row h (subst (IsUnread c.args.channel) c.in-Some.ensures.found.0 unread)) old state)
 
 pub returns-clause-memory : goal.returns-clause-memory
 returns-clause-memory g c none =

@@ -21,20 +21,20 @@ read-reply-requires-clause-held g c = job_held (core_of c.args.volume.now.map).l
 pub returns-clause-keyed : goal.returns-clause-keyed
 returns-clause-keyed g c =
     subst (λ m. AreKeyed m.pending c.put.new.self) (sym c.read-reply.ensures.core)
-    (in_keyed (g.D.Disk.state c.args.volume.now.disk) (core_of c.args.volume.now.map) c.args.volume.now.failed c.args.jobs.now c.args.number c.args.channel c.args.address c.args.moment c.requires.alive c.requires.timely c.requires.keyed c.requires.reading
+    (in_keyed (g.D.Disk.state c.args.volume.now.disk) (g.D.Disk.state c.read-reply.new.volume.disk) (core_of c.args.volume.now.map) c.args.volume.now.failed c.args.jobs.now c.args.number c.args.channel c.args.address c.args.moment c.requires.alive c.requires.timely c.requires.keyed c.requires.reading
     c.in-Some.job c.read-reply.new.job c.in-Some.ensures.found.0 c.put.new.self (put_back c.args.jobs.now c.take.new.self c.put.new.self c.args.number (Some c.read-reply.new.job) c.in-Some.ensures.found.1 c.put.ensures) c.read-reply.result c.read-reply.ensures.outcome)
 
 pub returns-clause-reading : goal.returns-clause-reading
 returns-clause-reading g c =
     subst (λ m. AreReading m.live c.put.new.self) (sym c.read-reply.ensures.core)
-    (in_reading (g.D.Disk.state c.args.volume.now.disk) (core_of c.args.volume.now.map) c.args.volume.now.failed c.args.jobs.now c.args.number c.args.channel c.args.address c.args.moment c.requires.alive c.requires.timely c.requires.keyed c.requires.reading
+    (in_reading (g.D.Disk.state c.args.volume.now.disk) (g.D.Disk.state c.read-reply.new.volume.disk) (core_of c.args.volume.now.map) c.args.volume.now.failed c.args.jobs.now c.args.number c.args.channel c.args.address c.args.moment c.requires.alive c.requires.timely c.requires.keyed c.requires.reading
     c.in-Some.job c.read-reply.new.job c.in-Some.ensures.found.0 c.put.new.self (put_back c.args.jobs.now c.take.new.self c.put.new.self c.args.number (Some c.read-reply.new.job) c.in-Some.ensures.found.1 c.put.ensures) c.read-reply.result c.read-reply.ensures.outcome)
 
 pub returns-clause-answered : goal.returns-clause-answered
 returns-clause-answered g c h =
-    in_answered (g.D.Disk.state c.args.volume.now.disk) (core_of c.args.volume.now.map) c.args.volume.now.failed c.args.jobs.now c.args.number c.args.channel c.args.address c.args.moment c.requires.alive c.requires.timely c.requires.keyed c.requires.reading
+    in_answered (g.D.Disk.state c.args.volume.now.disk) (g.D.Disk.state c.read-reply.new.volume.disk) (core_of c.args.volume.now.map) c.args.volume.now.failed c.args.jobs.now c.args.number c.args.channel c.args.address c.args.moment c.requires.alive c.requires.timely c.requires.keyed c.requires.reading
     c.in-Some.job c.read-reply.new.job c.in-Some.ensures.found.0 c.put.new.self (put_back c.args.jobs.now c.take.new.self c.put.new.self c.args.number (Some c.read-reply.new.job) c.in-Some.ensures.found.1 c.put.ensures)
-    h (g.D.Disk.state c.read-reply.new.volume.disk) (core_of c.read-reply.new.volume.map) c.read-reply.new.volume.failed c.read-reply.ensures.core (c.read-reply.ensures.only_reads h) (c.read-reply.ensures.rests h) c.read-reply.result c.read-reply.ensures.outcome c.read-reply.ensures.failed
+    h (core_of c.read-reply.new.volume.map) c.read-reply.new.volume.failed c.read-reply.ensures.core (c.read-reply.ensures.only_reads h) (c.read-reply.ensures.rests h) c.read-reply.result c.read-reply.ensures.outcome c.read-reply.ensures.failed
 
 pub returns-in_default-clause-crash : goal.returns-in_default-clause-crash
 returns-in_default-clause-crash g c =
@@ -43,7 +43,7 @@ returns-in_default-clause-crash g c =
 pub returns-clause-crash : goal.returns-clause-crash
 returns-clause-crash g c =
     quiet_crashes (g.D.Disk.state c.args.volume.now.disk) (g.D.Disk.state c.read-reply.new.volume.disk) (core_of c.args.volume.now.map) c.args.jobs.now c.args.number (In c.args.channel c.args.address) c.args.moment
-    (λ h. quiet_read (g.D.Disk.state c.args.volume.now.disk) (g.D.Disk.state c.read-reply.new.volume.disk) (c.read-reply.ensures.only_reads h) (c.read-reply.ensures.rests h) (λ contents left. g.met.D.Disk.only_now c.args.volume.now.disk contents h left))
+    (λ h. quiet_read (g.D.Disk.state c.args.volume.now.disk) (g.D.Disk.state c.read-reply.new.volume.disk) (c.read-reply.ensures.only_reads h) (c.read-reply.ensures.rests h) (λ contents left. g.met.D.Disk.only_now c.args.volume.now.disk contents (c.read-reply.ensures.same.was_honest h) left))
 
 pub returns-in_default-clause-quiet : goal.returns-in_default-clause-quiet
 returns-in_default-clause-quiet g c h =
@@ -51,7 +51,7 @@ returns-in_default-clause-quiet g c h =
 
 pub returns-clause-quiet : goal.returns-clause-quiet
 returns-clause-quiet g c h =
-    quiet_read (g.D.Disk.state c.args.volume.now.disk) (g.D.Disk.state c.read-reply.new.volume.disk) (c.read-reply.ensures.only_reads h) (c.read-reply.ensures.rests h) (λ contents left. g.met.D.Disk.only_now c.args.volume.now.disk contents h left)
+    quiet_read (g.D.Disk.state c.args.volume.now.disk) (g.D.Disk.state c.read-reply.new.volume.disk) (c.read-reply.ensures.only_reads h) (c.read-reply.ensures.rests h) (λ contents left. g.met.D.Disk.only_now c.args.volume.now.disk contents (c.read-reply.ensures.same.was_honest h) left)
 
 pub returns-clause-memory : goal.returns-clause-memory
 returns-clause-memory g c none =

@@ -27,7 +27,7 @@ lookup-reply-requires-clause-few g c = few_readers (core_of c.args.volume.now.ma
 
 pub returns-clause-keyed : goal.returns-clause-keyed
 returns-clause-keyed g c =
-    lookup_keyed (g.D.Disk.state c.args.volume.now.disk) (core_of c.args.volume.now.map) (core_of c.lookup-reply.new.volume.map) c.args.jobs.now c.put.new.self c.args.number c.in-Some.job c.lookup-reply.new.job c.args.channel c.args.address c.args.moment
+    lookup_keyed (g.D.Disk.state c.args.volume.now.disk) (g.D.Disk.state c.lookup-reply.new.volume.disk) (core_of c.args.volume.now.map) (core_of c.lookup-reply.new.volume.map) c.args.jobs.now c.put.new.self c.args.number c.in-Some.job c.lookup-reply.new.job c.args.channel c.args.address c.args.moment
     c.lookup-reply.result c.in-Some.ensures.found.0 (put_back c.args.jobs.now c.take.new.self c.put.new.self c.args.number (Some c.lookup-reply.new.job) c.in-Some.ensures.found.1 c.put.ensures) c.requires.keyed c.requires.reading c.lookup-reply.ensures.pending c.lookup-reply.ensures.reads
     c.lookup-reply.ensures.looked c.lookup-reply.ensures.kept
 
@@ -36,7 +36,7 @@ returns-clause-placed g c = placed_still (core_of c.args.volume.now.map) (core_o
 
 pub returns-clause-reading : goal.returns-clause-reading
 returns-clause-reading g c =
-    lookup_reading (g.D.Disk.state c.args.volume.now.disk) (core_of c.args.volume.now.map) (core_of c.lookup-reply.new.volume.map) c.args.jobs.now c.put.new.self c.args.number c.in-Some.job c.lookup-reply.new.job c.args.channel c.args.address c.args.moment
+    lookup_reading (g.D.Disk.state c.args.volume.now.disk) (g.D.Disk.state c.lookup-reply.new.volume.disk) (core_of c.args.volume.now.map) (core_of c.lookup-reply.new.volume.map) c.args.jobs.now c.put.new.self c.args.number c.in-Some.job c.lookup-reply.new.job c.args.channel c.args.address c.args.moment
     c.lookup-reply.result c.in-Some.ensures.found.0 (put_back c.args.jobs.now c.take.new.self c.put.new.self c.args.number (Some c.lookup-reply.new.job) c.in-Some.ensures.found.1 c.put.ensures) c.requires.keyed c.requires.reading c.lookup-reply.ensures.pending c.lookup-reply.ensures.reads
     c.lookup-reply.ensures.looked c.lookup-reply.ensures.kept
 
@@ -44,9 +44,10 @@ pub returns-clause-answered : goal.returns-clause-answered
 returns-clause-answered g c h old state =
     let d = g.D.Disk.state c.args.volume.now.disk in
     let map = core_of c.args.volume.now.map in
+    let was : d.honest = subst (λ disk. (g.D.Disk.state disk).honest) c.lookup-reply.ensures.untouched.0 h in
     let sound = subst (IsSound d map) c.requires.alive c.requires.sound in
     on_disk g.D.Disk.state c.args.volume.now.disk c.lookup-reply.new.volume.disk c.args.volume.now.failed c.lookup-reply.new.volume.failed (core_of c.lookup-reply.new.volume.map) c.put.new.self
     (Answers (pack_of d) old (Calls c.args.number (Lookup c.args.channel c.args.address) c.args.moment) c.lookup-reply.result) c.lookup-reply.ensures.untouched
-    (lookup_answered d map (core_of c.lookup-reply.new.volume.map) c.args.jobs.now c.put.new.self c.args.number c.in-Some.job c.lookup-reply.new.job c.args.channel c.args.address c.args.moment
+    (lookup_answered d (g.D.Disk.state c.lookup-reply.new.volume.disk) map (core_of c.lookup-reply.new.volume.map) c.args.jobs.now c.put.new.self c.args.number c.in-Some.job c.lookup-reply.new.job c.args.channel c.args.address c.args.moment
     c.lookup-reply.result c.in-Some.ensures.found.0 (put_back c.args.jobs.now c.take.new.self c.put.new.self c.args.number (Some c.lookup-reply.new.job) c.in-Some.ensures.found.1 c.put.ensures) c.requires.keyed c.requires.reading c.lookup-reply.ensures.pending c.lookup-reply.ensures.reads
-    c.lookup-reply.ensures.looked c.lookup-reply.ensures.kept c.args.volume.now.failed c.requires.alive sound h c.requires.timely (λ s is. known d map c.args.jobs.now s is sound h) (c.lookup-reply.ensures.row h) old state)
+    c.lookup-reply.ensures.looked c.lookup-reply.ensures.kept c.args.volume.now.failed c.requires.alive sound h c.requires.timely (λ s is. known d map c.args.jobs.now s is sound was) (c.lookup-reply.ensures.row h) old state)

@@ -44,13 +44,13 @@ returns-clause-answered g c h =
     c.in-Some.ensures.found.0 set c.requires.timely sound c.requires.keyed c.make_dir-reply.ensures.keeps)
     (made_reading g.D.Disk.state c.args.volume.now.disk c.make_dir-reply.new.volume.disk (core_of c.args.volume.now.map) (core_of c.make_dir-reply.new.volume.map) c.args.jobs.now c.put.new.self c.args.number c.in-Some.job c.make_dir-reply.new.job c.args.address c.args.moment
     c.in-Some.ensures.found.0 set c.requires.timely sound c.requires.reading c.make_dir-reply.ensures.reads)
-    h c.make_dir-reply.ensures.live c.make_dir-reply.ensures.pending c.make_dir-reply.ensures.primes (c.make_dir-reply.ensures.readers h) (c.make_dir-reply.ensures.writers h) c.make_dir-reply.result c.make_dir-reply.ensures.outcome c.make_dir-reply.ensures.failed (c.make_dir-reply.ensures.done h)
+    (c.make_dir-reply.ensures.same.was_honest h) c.make_dir-reply.ensures.live c.make_dir-reply.ensures.pending c.make_dir-reply.ensures.primes (c.make_dir-reply.ensures.readers h) (c.make_dir-reply.ensures.writers h) c.make_dir-reply.result c.make_dir-reply.ensures.outcome c.make_dir-reply.ensures.failed (c.make_dir-reply.ensures.done h)
 
 pub returns-clause-crash : goal.returns-clause-crash
 returns-clause-crash g c =
     crashes_by g.D.Disk.state c.args.volume.now.disk c.make_dir-reply.new.volume.disk (core_of c.args.volume.now.map) (core_of c.make_dir-reply.new.volume.map) c.args.jobs.now c.put.new.self c.args.number c.in-Some.job c.make_dir-reply.new.job c.args.address c.args.moment
     c.in-Some.ensures.found.0 (put_back c.args.jobs.now c.take.new.self c.put.new.self c.args.number (Some c.make_dir-reply.new.job) c.in-Some.ensures.found.1 c.put.ensures) c.requires.timely
-    (subst (IsSound (g.D.Disk.state c.args.volume.now.disk) (core_of c.args.volume.now.map)) c.requires.alive c.requires.sound) (λ h x left. g.met.D.Disk.only_now c.args.volume.now.disk x h left) c.make_dir-reply.ensures.crash
+    (subst (IsSound (g.D.Disk.state c.args.volume.now.disk) (core_of c.args.volume.now.map)) c.requires.alive c.requires.sound) c.make_dir-reply.ensures.same.was_honest (λ h x left. g.met.D.Disk.only_now c.args.volume.now.disk x h left) c.make_dir-reply.ensures.crash
     c.make_dir-reply.result c.make_dir-reply.ensures.outcome
 
 pub returns-clause-failed : goal.returns-clause-failed

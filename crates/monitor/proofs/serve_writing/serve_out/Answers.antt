@@ -46,7 +46,7 @@ returns-clause-answered g c h =
     out_answered g.D.Disk.state c.args.volume.now.disk c.out-reply.new.volume.disk (core_of c.args.volume.now.map) (core_of c.out-reply.new.volume.map) c.args.volume.now.failed c.out-reply.new.volume.failed c.args.jobs.now c.put.new.self c.args.number c.in-Some.job c.out-reply.new.job c.args.channel c.args.address c.args.moment
     c.in-Some.ensures.found.0 (put_back c.args.jobs.now c.take.new.self c.put.new.self c.args.number (Some c.out-reply.new.job) c.in-Some.ensures.found.1 c.put.ensures) c.requires.alive c.requires.timely c.requires.keyed c.requires.reading c.out-reply.ensures.keeps c.out-reply.ensures.reads
     (subst (IsSound (g.D.Disk.state c.args.volume.now.disk) (core_of c.args.volume.now.map)) c.requires.alive c.requires.sound)
-    h (c.out-reply.ensures.rests h) c.out-reply.ensures.others c.out-reply.ensures.live c.out-reply.ensures.known (c.out-reply.ensures.readers h) (c.out-reply.ensures.writers h) c.out-reply.result c.out-reply.ensures.outcome c.out-reply.ensures.failed
+    (c.out-reply.ensures.same.was_honest h) h (c.out-reply.ensures.rests h) c.out-reply.ensures.others c.out-reply.ensures.live c.out-reply.ensures.known (c.out-reply.ensures.readers h) (c.out-reply.ensures.writers h) c.out-reply.result c.out-reply.ensures.outcome c.out-reply.ensures.failed
 
 pub returns-in_default-clause-crash : goal.returns-in_default-clause-crash
 returns-in_default-clause-crash g c =

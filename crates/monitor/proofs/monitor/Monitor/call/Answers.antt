@@ -26,7 +26,7 @@ returns-then-moment-gt-LAST_DATE-clause-answered g c =
 
 pub returns-clause-answered : goal.returns-clause-answered
 returns-clause-answered g c =
-    subst (λ m. (g.D.Disk.state m.disk).honest → IsCalled (g.D.Disk.state m.disk) m.map m.failed m.jobs (g.D.Disk.state c.serve.new.volume.disk) (core_of c.serve.new.volume.map) c.serve.new.volume.failed c.serve.new.jobs
+    subst (λ m. (g.D.Disk.state c.serve.new.volume.disk).honest → IsCalled (g.D.Disk.state m.disk) m.map m.failed m.jobs (g.D.Disk.state c.serve.new.volume.disk) (core_of c.serve.new.volume.map) c.serve.new.volume.failed c.serve.new.jobs
     c.args.job c.args.moment c.serve.result c.args.call.now) c.self.view_is
     (λ h. c.serve.ensures.answered h)
 
@@ -63,7 +63,7 @@ returns-clause-unread g c =
 pub returns-clause-still : goal.returns-clause-still
 returns-clause-still g c =
     let after = λ (new : Service). Serves (g.D.Disk.state c.serve.new.volume.disk) (core_of c.serve.new.volume.map) c.serve.new.volume.failed c.serve.new.jobs new in
-    subst (λ m. (g.D.Disk.state m.disk).honest → (channel address : ℕ) → c.args.call.now ≡ In channel address → c.args.moment.date ≤ 4095 → (s : State) → Serves (g.D.Disk.state m.disk) m.map m.failed m.jobs (Serving s)
+    subst (λ m. (g.D.Disk.state c.serve.new.volume.disk).honest → (channel address : ℕ) → c.args.call.now ≡ In channel address → c.args.moment.date ≤ 4095 → (s : State) → Serves (g.D.Disk.state m.disk) m.map m.failed m.jobs (Serving s)
     → (own : machine.Job) → job_at s c.args.job ≡ Some own → (c.serve.result ≡ NoMemory → ⊥) → (c.serve.result ≡ Device → ⊥) → IsStill after (pack_of (g.D.Disk.state m.disk)) s c.args.job c.args.moment c.serve.result own channel address) c.self.view_is
     (λ h channel address asked timely s serves own there room works.
     let d = g.D.Disk.state c.self.inside.volume.disk in
@@ -73,7 +73,7 @@ returns-clause-still g c =
 pub returns-clause-apart : goal.returns-clause-apart
 returns-clause-apart g c =
     let after = λ (new : Service). Serves (g.D.Disk.state c.serve.new.volume.disk) (core_of c.serve.new.volume.map) c.serve.new.volume.failed c.serve.new.jobs new in
-    subst (λ m. (g.D.Disk.state m.disk).honest → IsServed c.args.call.now (slot m.jobs c.args.job) → (s : State) → Serves (g.D.Disk.state m.disk) m.map m.failed m.jobs (Serving s)
+    subst (λ m. (g.D.Disk.state c.serve.new.volume.disk).honest → IsServed c.args.call.now (slot m.jobs c.args.job) → (s : State) → Serves (g.D.Disk.state m.disk) m.map m.failed m.jobs (Serving s)
     → IsApart after (pack_of (g.D.Disk.state m.disk)) s c.args.job c.args.moment c.serve.result (call_of c.args.call.now)) c.self.view_is
     (λ h served s serves.
     let led = c.serve.ensures.answered h served (Serving s) serves in

@@ -102,7 +102,7 @@ returns-then-is_err-clause-crash g c h f rests p is body long has =
     let puts = c.make_current-current.new.set in
     let v = c.in-Some.version.now in
     let turned = turned_of s.size core.known.table.size core new c.args.key p v puts c.make_current-current.result c.requires.sound.whole.map.size_is (c.make_current-current.ensures p is) c.in-Some.ensures in
-    written_crash s mid core new c.args.key p v puts c.requires.sound turned c.write_retrieval_blocks-written.ensures.same h (c.write_retrieval_blocks-written.ensures.touched h) f _ rests (λ d left. g.met.D.Disk.only_now c.args.self.now.disk d (c.write_retrieval_blocks-written.ensures.same.was_honest h) left)
+    written_crash s mid core new c.args.key p v puts c.requires.sound turned c.write_retrieval_blocks-written.ensures.same (c.write_retrieval_blocks-written.ensures.same.was_honest h) (c.write_retrieval_blocks-written.ensures.touched h) f _ rests (λ d left. g.met.D.Disk.only_now c.args.self.now.disk d (c.write_retrieval_blocks-written.ensures.same.was_honest h) left)
 
 pub returns-then-is_err-clause-readers : goal.returns-then-is_err-clause-readers
 returns-then-is_err-clause-readers g c h =
@@ -114,7 +114,7 @@ returns-then-is_err-clause-readers g c h =
     let v = c.in-Some.version.now in
     let there = some_of (pending_at core.pending c.args.key) c.requires.there in
     let turned = turned_of s.size core.known.table.size core new c.args.key there.0 v puts c.make_current-current.result c.requires.sound.whole.map.size_is (c.make_current-current.ensures there.0 there.1) c.in-Some.ensures in
-    written_readers s mid core new c.args.key there.0 v puts c.requires.sound turned c.write_retrieval_blocks-written.ensures.same h (c.write_retrieval_blocks-written.ensures.touched h)
+    written_readers s mid core new c.args.key there.0 v puts c.requires.sound turned c.write_retrieval_blocks-written.ensures.same (c.write_retrieval_blocks-written.ensures.same.was_honest h) (c.write_retrieval_blocks-written.ensures.touched h)
 
 pub returns-then-is_err-clause-writers : goal.returns-then-is_err-clause-writers
 returns-then-is_err-clause-writers g c h k q other =
@@ -126,7 +126,7 @@ returns-then-is_err-clause-writers g c h k q other =
     let v = c.in-Some.version.now in
     let there = some_of (pending_at core.pending c.args.key) c.requires.there in
     let turned = turned_of s.size core.known.table.size core new c.args.key there.0 v puts c.make_current-current.result c.requires.sound.whole.map.size_is (c.make_current-current.ensures there.0 there.1) c.in-Some.ensures in
-    written_writers s mid core new c.args.key there.0 v puts c.requires.sound turned c.write_retrieval_blocks-written.ensures.same h (c.write_retrieval_blocks-written.ensures.touched h) k q
+    written_writers s mid core new c.args.key there.0 v puts c.requires.sound turned c.write_retrieval_blocks-written.ensures.same (c.write_retrieval_blocks-written.ensures.same.was_honest h) (c.write_retrieval_blocks-written.ensures.touched h) k q
 
 pub commit_puts-requires-clause-in_range : goal.commit_puts-requires-clause-in_range
 commit_puts-requires-clause-in_range g c =
@@ -167,8 +167,8 @@ returns-in-Ok-clause-crash g c h f rests p is body long has =
     let v = c.in-Some.version.now in
     let turned = turned_of s.size core.known.table.size core new c.args.key p v puts c.make_current-current.result c.requires.sound.whole.map.size_is (c.make_current-current.ensures p is) c.in-Some.ensures in
     let retrieved = ok_is c.write_retrieval_blocks-written.result _ (sym c.is_err.ensures.value ∙ c.if-is_err.false) (c.write_retrieval_blocks-written.ensures.written (c.commit_puts.ensures.same.was_honest h)) in
-    let shut = mid_shut s mid core new c.args.key p v puts c.requires.sound turned c.write_retrieval_blocks-written.ensures.same (c.commit_puts.ensures.same.was_honest h) (c.write_retrieval_blocks-written.ensures.touched (c.commit_puts.ensures.same.was_honest h)) in
-    committed_crash s mid core new c.args.key p v puts c.requires.sound turned c.write_retrieval_blocks-written.ensures.same (c.commit_puts.ensures.same.was_honest h) (c.write_retrieval_blocks-written.ensures.touched (c.commit_puts.ensures.same.was_honest h)) retrieved body long has s' (c.commit_puts.ensures.crash h shut) f rests (λ d left. g.met.D.Disk.only_now c.args.self.now.disk d (c.write_retrieval_blocks-written.ensures.same.was_honest (c.commit_puts.ensures.same.was_honest h)) left)
+    let shut = mid_shut s mid core new c.args.key p v puts c.requires.sound turned c.write_retrieval_blocks-written.ensures.same (c.write_retrieval_blocks-written.ensures.same.was_honest (c.commit_puts.ensures.same.was_honest h)) (c.write_retrieval_blocks-written.ensures.touched (c.commit_puts.ensures.same.was_honest h)) in
+    committed_crash s mid core new c.args.key p v puts c.requires.sound turned c.write_retrieval_blocks-written.ensures.same (c.write_retrieval_blocks-written.ensures.same.was_honest (c.commit_puts.ensures.same.was_honest h)) (c.write_retrieval_blocks-written.ensures.touched (c.commit_puts.ensures.same.was_honest h)) retrieved body long has s' (c.commit_puts.ensures.crash h shut) f rests (λ d left. g.met.D.Disk.only_now c.args.self.now.disk d (c.write_retrieval_blocks-written.ensures.same.was_honest (c.commit_puts.ensures.same.was_honest h)) left)
 
 pub returns-in-Err-clause-crash : goal.returns-in-Err-clause-crash
 returns-in-Err-clause-crash g c h f rests p is body long has =
@@ -181,8 +181,8 @@ returns-in-Err-clause-crash g c h f rests p is body long has =
     let v = c.in-Some.version.now in
     let turned = turned_of s.size core.known.table.size core new c.args.key p v puts c.make_current-current.result c.requires.sound.whole.map.size_is (c.make_current-current.ensures p is) c.in-Some.ensures in
     let retrieved = ok_is c.write_retrieval_blocks-written.result _ (sym c.is_err.ensures.value ∙ c.if-is_err.false) (c.write_retrieval_blocks-written.ensures.written (c.commit_puts.ensures.same.was_honest h)) in
-    let shut = mid_shut s mid core new c.args.key p v puts c.requires.sound turned c.write_retrieval_blocks-written.ensures.same (c.commit_puts.ensures.same.was_honest h) (c.write_retrieval_blocks-written.ensures.touched (c.commit_puts.ensures.same.was_honest h)) in
-    committed_crash s mid core new c.args.key p v puts c.requires.sound turned c.write_retrieval_blocks-written.ensures.same (c.commit_puts.ensures.same.was_honest h) (c.write_retrieval_blocks-written.ensures.touched (c.commit_puts.ensures.same.was_honest h)) retrieved body long has s' (c.commit_puts.ensures.crash h shut) f rests (λ d left. g.met.D.Disk.only_now c.args.self.now.disk d (c.write_retrieval_blocks-written.ensures.same.was_honest (c.commit_puts.ensures.same.was_honest h)) left)
+    let shut = mid_shut s mid core new c.args.key p v puts c.requires.sound turned c.write_retrieval_blocks-written.ensures.same (c.write_retrieval_blocks-written.ensures.same.was_honest (c.commit_puts.ensures.same.was_honest h)) (c.write_retrieval_blocks-written.ensures.touched (c.commit_puts.ensures.same.was_honest h)) in
+    committed_crash s mid core new c.args.key p v puts c.requires.sound turned c.write_retrieval_blocks-written.ensures.same (c.write_retrieval_blocks-written.ensures.same.was_honest (c.commit_puts.ensures.same.was_honest h)) (c.write_retrieval_blocks-written.ensures.touched (c.commit_puts.ensures.same.was_honest h)) retrieved body long has s' (c.commit_puts.ensures.crash h shut) f rests (λ d left. g.met.D.Disk.only_now c.args.self.now.disk d (c.write_retrieval_blocks-written.ensures.same.was_honest (c.commit_puts.ensures.same.was_honest h)) left)
 
 pub returns-in-Ok-clause-done : goal.returns-in-Ok-clause-done
 returns-in-Ok-clause-done g c h f rests p is body long has =
@@ -195,8 +195,8 @@ returns-in-Ok-clause-done g c h f rests p is body long has =
     let v = c.in-Some.version.now in
     let turned = turned_of s.size core.known.table.size core new c.args.key p v puts c.make_current-current.result c.requires.sound.whole.map.size_is (c.make_current-current.ensures p is) c.in-Some.ensures in
     let retrieved = ok_is c.write_retrieval_blocks-written.result _ (sym c.is_err.ensures.value ∙ c.if-is_err.false) (c.write_retrieval_blocks-written.ensures.written (c.in-Ok.ensures.same.was_honest h)) in
-    let shut = mid_shut s mid core new c.args.key p v puts c.requires.sound turned c.write_retrieval_blocks-written.ensures.same (c.in-Ok.ensures.same.was_honest h) (c.write_retrieval_blocks-written.ensures.touched (c.in-Ok.ensures.same.was_honest h)) in
-    committed_done s mid core new c.args.key p v puts c.requires.sound turned c.write_retrieval_blocks-written.ensures.same (c.in-Ok.ensures.same.was_honest h) (c.write_retrieval_blocks-written.ensures.touched (c.in-Ok.ensures.same.was_honest h)) retrieved body long has s' c.commit_puts.ensures.same (c.in-Ok.ensures.all h) (c.in-Ok.ensures.settled h) (c.in-Ok.ensures.shut h shut) f rests
+    let shut = mid_shut s mid core new c.args.key p v puts c.requires.sound turned c.write_retrieval_blocks-written.ensures.same (c.write_retrieval_blocks-written.ensures.same.was_honest (c.in-Ok.ensures.same.was_honest h)) (c.write_retrieval_blocks-written.ensures.touched (c.in-Ok.ensures.same.was_honest h)) in
+    committed_done s mid core new c.args.key p v puts c.requires.sound turned c.write_retrieval_blocks-written.ensures.same (c.write_retrieval_blocks-written.ensures.same.was_honest (c.in-Ok.ensures.same.was_honest h)) (c.write_retrieval_blocks-written.ensures.touched (c.in-Ok.ensures.same.was_honest h)) retrieved body long has s' c.commit_puts.ensures.same (c.in-Ok.ensures.all h) (c.in-Ok.ensures.settled h) (c.in-Ok.ensures.shut h shut) f rests
 
 pub returns-in-Ok-clause-readers : goal.returns-in-Ok-clause-readers
 returns-in-Ok-clause-readers g c h =
@@ -209,7 +209,7 @@ returns-in-Ok-clause-readers g c h =
     let v = c.in-Some.version.now in
     let there = some_of (pending_at core.pending c.args.key) c.requires.there in
     let turned = turned_of s.size core.known.table.size core new c.args.key there.0 v puts c.make_current-current.result c.requires.sound.whole.map.size_is (c.make_current-current.ensures there.0 there.1) c.in-Some.ensures in
-    committed_readers s mid core new c.args.key there.0 v puts c.requires.sound turned c.write_retrieval_blocks-written.ensures.same (c.commit_puts.ensures.same.was_honest h) (c.write_retrieval_blocks-written.ensures.touched (c.commit_puts.ensures.same.was_honest h)) s' (c.commit_puts.ensures.touched h)
+    committed_readers s mid core new c.args.key there.0 v puts c.requires.sound turned c.write_retrieval_blocks-written.ensures.same (c.write_retrieval_blocks-written.ensures.same.was_honest (c.commit_puts.ensures.same.was_honest h)) (c.write_retrieval_blocks-written.ensures.touched (c.commit_puts.ensures.same.was_honest h)) s' (c.commit_puts.ensures.touched h)
 
 pub returns-in-Ok-clause-writers : goal.returns-in-Ok-clause-writers
 returns-in-Ok-clause-writers g c h k q other =
@@ -222,7 +222,7 @@ returns-in-Ok-clause-writers g c h k q other =
     let v = c.in-Some.version.now in
     let there = some_of (pending_at core.pending c.args.key) c.requires.there in
     let turned = turned_of s.size core.known.table.size core new c.args.key there.0 v puts c.make_current-current.result c.requires.sound.whole.map.size_is (c.make_current-current.ensures there.0 there.1) c.in-Some.ensures in
-    committed_writers s mid core new c.args.key there.0 v puts c.requires.sound turned c.write_retrieval_blocks-written.ensures.same (c.commit_puts.ensures.same.was_honest h) (c.write_retrieval_blocks-written.ensures.touched (c.commit_puts.ensures.same.was_honest h)) s' (c.commit_puts.ensures.touched h) k q
+    committed_writers s mid core new c.args.key there.0 v puts c.requires.sound turned c.write_retrieval_blocks-written.ensures.same (c.write_retrieval_blocks-written.ensures.same.was_honest (c.commit_puts.ensures.same.was_honest h)) (c.write_retrieval_blocks-written.ensures.touched (c.commit_puts.ensures.same.was_honest h)) s' (c.commit_puts.ensures.touched h) k q
 
 pub returns-in-Err-clause-readers : goal.returns-in-Err-clause-readers
 returns-in-Err-clause-readers g c h =
@@ -235,7 +235,7 @@ returns-in-Err-clause-readers g c h =
     let v = c.in-Some.version.now in
     let there = some_of (pending_at core.pending c.args.key) c.requires.there in
     let turned = turned_of s.size core.known.table.size core new c.args.key there.0 v puts c.make_current-current.result c.requires.sound.whole.map.size_is (c.make_current-current.ensures there.0 there.1) c.in-Some.ensures in
-    committed_readers s mid core new c.args.key there.0 v puts c.requires.sound turned c.write_retrieval_blocks-written.ensures.same (c.commit_puts.ensures.same.was_honest h) (c.write_retrieval_blocks-written.ensures.touched (c.commit_puts.ensures.same.was_honest h)) s' (c.commit_puts.ensures.touched h)
+    committed_readers s mid core new c.args.key there.0 v puts c.requires.sound turned c.write_retrieval_blocks-written.ensures.same (c.write_retrieval_blocks-written.ensures.same.was_honest (c.commit_puts.ensures.same.was_honest h)) (c.write_retrieval_blocks-written.ensures.touched (c.commit_puts.ensures.same.was_honest h)) s' (c.commit_puts.ensures.touched h)
 
 pub returns-in-Err-clause-writers : goal.returns-in-Err-clause-writers
 returns-in-Err-clause-writers g c h k q other =
@@ -248,7 +248,7 @@ returns-in-Err-clause-writers g c h k q other =
     let v = c.in-Some.version.now in
     let there = some_of (pending_at core.pending c.args.key) c.requires.there in
     let turned = turned_of s.size core.known.table.size core new c.args.key there.0 v puts c.make_current-current.result c.requires.sound.whole.map.size_is (c.make_current-current.ensures there.0 there.1) c.in-Some.ensures in
-    committed_writers s mid core new c.args.key there.0 v puts c.requires.sound turned c.write_retrieval_blocks-written.ensures.same (c.commit_puts.ensures.same.was_honest h) (c.write_retrieval_blocks-written.ensures.touched (c.commit_puts.ensures.same.was_honest h)) s' (c.commit_puts.ensures.touched h) k q
+    committed_writers s mid core new c.args.key there.0 v puts c.requires.sound turned c.write_retrieval_blocks-written.ensures.same (c.write_retrieval_blocks-written.ensures.same.was_honest (c.commit_puts.ensures.same.was_honest h)) (c.write_retrieval_blocks-written.ensures.touched (c.commit_puts.ensures.same.was_honest h)) s' (c.commit_puts.ensures.touched h) k q
 
 pub returns-in-Err-clause-sound : goal.returns-in-Err-clause-sound
 returns-in-Err-clause-sound g c =

@@ -30,7 +30,7 @@ returns-in-Err-Device-clause-quiet g c h f rests =
     let there = some_of (pending_at core.pending c.args.pending.key) c.requires.live in
     let p : PendingVersion = there.0 in
     let grown = c.put_pending.ensures.grown p there.1 in
-    crash_finds s s' core sound c.put_pending.ensures.same c.args.pending.key p there.1 c.put_pending.new.table c.put_pending.new.pending.slots grown.0 grown.1 c.put_pending.ensures.others (λ h. c.put_pending.ensures.touched h p there.1) h f rests (λ d left. g.met.D.Disk.only_now c.args.self.now.disk d h left)
+    crash_finds s s' core sound c.put_pending.ensures.same c.args.pending.key p there.1 c.put_pending.new.table c.put_pending.new.pending.slots grown.0 grown.1 c.put_pending.ensures.others (λ h. c.put_pending.ensures.touched h p there.1) h f rests (λ d left. g.met.D.Disk.only_now c.args.self.now.disk d (c.put_pending.ensures.same.was_honest h) left)
 
 pub returns-in-Err-clause-quiet : goal.returns-in-Err-clause-quiet
 returns-in-Err-clause-quiet g c h f rests =
@@ -41,7 +41,7 @@ returns-in-Err-clause-quiet g c h f rests =
     let there = some_of (pending_at core.pending c.args.pending.key) c.requires.live in
     let p : PendingVersion = there.0 in
     let grown = c.put_pending.ensures.grown p there.1 in
-    crash_finds s s' core sound c.put_pending.ensures.same c.args.pending.key p there.1 c.put_pending.new.table c.put_pending.new.pending.slots grown.0 grown.1 c.put_pending.ensures.others (λ h. c.put_pending.ensures.touched h p there.1) h f rests (λ d left. g.met.D.Disk.only_now c.args.self.now.disk d h left)
+    crash_finds s s' core sound c.put_pending.ensures.same c.args.pending.key p there.1 c.put_pending.new.table c.put_pending.new.pending.slots grown.0 grown.1 c.put_pending.ensures.others (λ h. c.put_pending.ensures.touched h p there.1) h f rests (λ d left. g.met.D.Disk.only_now c.args.self.now.disk d (c.put_pending.ensures.same.was_honest h) left)
 
 pub returns-in-Ok-clause-quiet : goal.returns-in-Ok-clause-quiet
 returns-in-Ok-clause-quiet g c h f rests =
@@ -52,7 +52,7 @@ returns-in-Ok-clause-quiet g c h f rests =
     let there = some_of (pending_at core.pending c.args.pending.key) c.requires.live in
     let p : PendingVersion = there.0 in
     let grown = c.put_pending.ensures.grown p there.1 in
-    crash_finds s s' core sound c.put_pending.ensures.same c.args.pending.key p there.1 c.put_pending.new.table c.put_pending.new.pending.slots grown.0 grown.1 c.put_pending.ensures.others (λ h. c.put_pending.ensures.touched h p there.1) h f rests (λ d left. g.met.D.Disk.only_now c.args.self.now.disk d h left)
+    crash_finds s s' core sound c.put_pending.ensures.same c.args.pending.key p there.1 c.put_pending.new.table c.put_pending.new.pending.slots grown.0 grown.1 c.put_pending.ensures.others (λ h. c.put_pending.ensures.touched h p there.1) h f rests (λ d left. g.met.D.Disk.only_now c.args.self.now.disk d (c.put_pending.ensures.same.was_honest h) left)
 
 pub returns-in-Err-Device-clause-rests : goal.returns-in-Err-Device-clause-rests
 returns-in-Err-Device-clause-rests g c h f rests =
@@ -87,7 +87,7 @@ returns-in-Err-Device-clause-given_up g c gone =
     let grown = c.put_pending.ensures.grown p there.1 in
     inr (λ h.
     let bad = c.in-Err-Device.ensures.damaged h p there.1 gone in
-    none_damaged s.contents p.version (sound.written h refl c.args.pending.key p there.1) bad.0 bad.1 bad.2)
+    none_damaged s.contents p.version (sound.written (c.put_pending.ensures.same.was_honest h) refl c.args.pending.key p there.1) bad.0 bad.1 bad.2)
 
 pub returns-in-Ok-clause-sound : goal.returns-in-Ok-clause-sound
 returns-in-Ok-clause-sound g c =
