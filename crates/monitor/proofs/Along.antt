@@ -74,14 +74,14 @@ no_fault s s' files stands = by_error
 
 -- Results.
 
-pub ok_each : {A E X : Type 0} (Q : X → Type 0) (P : X → A → Type 0) (r : Result A E) → ((x : X) → Q x → IfOk r (P x)) → IfOk r (λ a. (x : X) → Q x → P x a)
-ok_each Q P (Ok a) each = each
-ok_each Q P (Err e) each = tt
+pub ok_each : {A E X : Type 0} (Q : X → Type 0) (H : A → Type 0) (P : X → A → Type 0) (r : Result A E) → ((x : X) → Q x → IfOk r (λ a. H a → P x a)) → IfOk r (λ a. H a → (x : X) → Q x → P x a)
+ok_each Q H P (Ok a) each = λ h x q. each x q h
+ok_each Q H P (Err e) each = tt
 
 pub err_both : {A E : Type 0} (P Q R : E → Type 0) (r : Result A E) → ((e : E) → P e → Q e → R e) → IfErr r P → IfErr r Q → IfErr r R
 err_both P Q R (Ok a) both p q = tt
 err_both P Q R (Err e) both p q = both e p q
 
-pub ok_either : {A E : Type 0} (P Q : A → Type 0) (r : Result A E) → IfOk r P ⊎ IfOk r Q → IfOk r (λ a. P a ⊎ Q a)
-ok_either P Q (Ok a) either = either
-ok_either P Q (Err e) either = tt
+pub ok_either : {A E : Type 0} (H P Q : A → Type 0) (r : Result A E) → IfOk r (λ a. H a → P a) ⊎ IfOk r (λ a. H a → Q a) → IfOk r (λ a. H a → P a ⊎ Q a)
+ok_either H P Q (Ok a) either = λ h. ⊎_elim (λ p. inl (p h)) (λ q. inr (q h)) either
+ok_either H P Q (Err e) either = tt

@@ -14,13 +14,13 @@ invariant_of-result g c = (
 )
 
 pub returns-in-Ok-clause-started : goal.returns-in-Ok-clause-started
-returns-in-Ok-clause-started g c h files stands s start = (
+returns-in-Ok-clause-started g c files stands s start h = (
   c.in_ok-volume.ensures.serves,
-  started (g.D.Disk.state c.in_ok-volume.volume.disk) (core_of c.in_ok-volume.volume.map) c.in-Ok.jobs s files (c.in_ok-volume.ensures.files h files stands) c.in_ok-volume.ensures.unread c.in_ok-volume.ensures.unwritten
+  started (g.D.Disk.state c.in_ok-volume.volume.disk) (core_of c.in_ok-volume.volume.map) c.in-Ok.jobs s files (c.in_ok-volume.ensures.files files stands h) c.in_ok-volume.ensures.unread c.in_ok-volume.ensures.unwritten
       c.in-Ok.ensures start,
 )
 
 pub returns-in-Ok-clause-stood : goal.returns-in-Ok-clause-stood
 returns-in-Ok-clause-stood g c h =
     let stood = c.in_ok-volume.ensures.stood h in
-    (stood.0, stood.1, λ s start. returns-in-Ok-clause-started g c h stood.0 stood.1 s start)
+    (stood.0, stood.1, λ s start. returns-in-Ok-clause-started g c stood.0 stood.1 s start h)
