@@ -1,10 +1,11 @@
 -- What one more call makes of a record, and a call at a place.
-use Rattle.std.proofs.Common.{◌≡◌, inl, inr, ⊎_elim, ℕ, ◌+◌, ◌-◌, ◌<◌, ◌≤◌, ◌||◌, true, false, List, ◌∷◌, length, get_or, take, Option, Some, None, Result, Ok, Err, IfOk, refl, sym, ◌∙◌, ap, subst, arith, length-take, unwrap_or}
+use Rattle.std.proofs.Common.{◌≡◌, inl, inr, ⊎_elim, ℕ, zero, suc, ◌+◌, ◌-◌, ◌<◌, ◌≤◌, ◌||◌, true, false, List, ◌∷◌, length, get_or, take, Option, Some, None, Result, Ok, Err, IfOk, refl, sym, ◌∙◌, ap, subst, arith, length-take, unwrap_or}
 use Rattle.std.proofs.lemmas.Bool.{leb-true, le-leb, and_parts, and_from, or_left, cond-true, cond-false, false_from_ne_true}
 use Rattle.std.proofs.lemmas.List.{get_or-take}
 use Rattle.imagefile.specs.File.{Bytes, MayRemain, Inside, window, FilePasses, FileKeeps, FileWrites, FileSyncs}
 use Rattle.imagefile.specs.Calls.{Call, SeekStart, SeekEnd, Read, Write, Sync, answer, came}
-use Rattle.imagefile.specs.Recorded.{Unseen, is_inside, bytes_after, after_calls, IsHonestRecord, recorded}
+use Rattle.imagefile.specs.Unseen.{Unseen, left_by}
+use Rattle.imagefile.specs.Recorded.{is_inside, bytes_after, after_calls, IsHonestRecord, recorded}
 use Rattle.imagefile.proofs.FileLaws.{keeps_on, writes_after}
 use Rattle.imagefile.proofs.Record.{window-list}
 
@@ -20,6 +21,11 @@ is_inside-of at n p inside = and_from _ _ (le-leb _ _ inside.low) (le-leb _ _ (o
 
 not_inside : (at n p : ℕ) → (Inside at n p → ⊥) → is_inside at n p ≡ false
 not_inside at n p out = false_from_ne_true (is_inside at n p) (λ is. out (inside_is at n p is))
+
+pub length-window : (b : Bytes) (at n : ℕ) → length (window b at n) ≡ n
+unfolding window
+length-window b at zero = refl
+length-window b at (suc n) = ap (λ k. suc k) (length-window b (at + 1) n)
 
 -- The bytes after a write
 
@@ -73,7 +79,7 @@ module _ (u : Unseen) (earlier : List Call) where
       let to = unwrap_or (after_calls u earlier).position 0 in
       let b = after_calls u earlier in
       record {
-        bytes = λ p out. others_stay to given (unwrap_or count 0) (u.left (length earlier)) b.bytes few p (λ inside. out (subst (λ k. Inside k (length given) p) here inside));
+        bytes = λ p out. others_stay to given (unwrap_or count 0) (left_by u (length earlier)) b.bytes few p (λ inside. out (subst (λ k. Inside k (length given) p) here inside));
         opened = λ p inside. or_left (is_inside to (length given) p) (b.is_open p) (is_inside-of to (length given) p (subst (λ k. Inside k (length given) p) (sym here) inside));
         is_open = λ p out. ap (λ o. o || b.is_open p) (not_inside to (length given) p (λ inside. out (subst (λ k. Inside k (length given) p) here inside)));
         time = passes_call (Write given count);
@@ -103,7 +109,7 @@ module _ (u : Unseen) (at place : ℕ) (earlier : List Call) where
   pub put_at : (given : List ℕ) (count : ℕ) → count ≤ length given → IsHonestRecord u (Write given (Some count) ∷ SeekStart at (Some place) ∷ earlier)
       → window (after_calls u (Write given (Some count) ∷ SeekStart at (Some place) ∷ earlier)).bytes at count ≡ take count given
   put_at given count few honest =
-      let left = u.left (length (SeekStart at (Some place) ∷ earlier)) in
+      let left = left_by u (length (SeekStart at (Some place) ∷ earlier)) in
       let b = (after_calls u earlier).bytes in
       subst (λ (p : ℕ). window (bytes_after p given count left b) at count ≡ take count given) (sym (same_place place at honest.0.1)) (given_read at given count left b few)
 

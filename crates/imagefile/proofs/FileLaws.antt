@@ -3,7 +3,7 @@ use Rattle.std.proofs.Common.{◌≡◌, ◌⊎◌, inl, inr, ⊎_elim, ℕ, suc
 use Rattle.std.proofs.lemmas.Bool.{cases_lt, false≢true}
 use Rattle.std.proofs.lemmas.List.{take_all}
 use Rattle.std.proofs.Math.Seq.{take-add}
-use Rattle.imagefile.specs.File.{Bytes, Remains, FileState, MayRemain, Inside, window, FilePasses, FileGoesOn, FileKeeps, FileWrites}
+use Rattle.imagefile.specs.File.{Bytes, Remains, FileState, MayRemain, Inside, window, FilePasses, SameFile, FileKeeps, FileWrites}
 use Rattle.imagefile.specs.ImageLaws.{window-same}
 
 inside_or_not : (at n p : ℕ) → Inside at n p ⊎ (Inside at n p → ⊥)
@@ -27,15 +27,11 @@ passes_on s s' s'' P Q first second weaker = record {
   keeps = λ t r le left. second.keeps t r (omega (arith, le, first.later)) (first.keeps t r le left);
 }
 
-pub goes_on : (lasts : Type 0) (s s' s'' : FileState) → FileGoesOn lasts s s' → FileGoesOn lasts s' s'' → FileGoesOn lasts s s''
-goes_on lasts s s' s'' first second = record {
-  size = second.size ∙ first.size;
-  stays_honest = λ l h. second.stays_honest l (first.stays_honest l h);
-  was_honest = λ h. first.was_honest (second.was_honest h);
-}
+pub same_on : (s s' s'' : FileState) → SameFile s s' → SameFile s' s'' → SameFile s s''
+same_on s s' s'' first second = record { size = second.size ∙ first.size; was_honest = λ h. first.was_honest (second.was_honest h) }
 
-pub goes_start : (lasts : Type 0) (s : FileState) → FileGoesOn lasts s s
-goes_start lasts s = record { size = refl; stays_honest = λ l h. h; was_honest = λ h. h }
+pub same_start : (s : FileState) → SameFile s s
+same_start s = record { size = refl; was_honest = λ h. h }
 
 pub keeps_start : (s : FileState) → FileKeeps s s
 keeps_start s = record {

@@ -9,7 +9,10 @@ pub mod HostFile
 pub mod Calls
 pub mod CallMade
 pub mod HostCalls
+pub mod Unseen
+pub mod Supposition
 pub mod Recorded
+pub mod Answered
 pub mod RecordedLaws
 pub mod SeekingFile
 pub mod Streams

@@ -3,16 +3,7 @@
 use Rattle.std.specs.Prelude.{◌≡◌, ◌⊎◌, ◌+◌, ◌-◌, ◌≤◌, ℕ, suc, nat_le, Bool, true, false, ◌&&◌, ◌||◌, if◌then◌else◌, unwrap_or, List, [], ◌∷◌, length, get_or, Option, Some, None, IfSome, IsSome, IsSomeAnd}
 use Rattle.imagefile.specs.File.{Bytes, Remains, FileState, window}
 use Rattle.imagefile.specs.Calls.{Call, SeekStart, SeekEnd, Read, Write, Sync}
-
--- What no call shows of a file.
-pub record Unseen : Type 0 where
-  -- the number of bytes
-  pub size : ℕ
-  -- the bytes before the first call, and which of them were open
-  pub first : Bytes
-  pub opened : ℕ → Bool
-  -- what stands where the call after so many others was to write and took nothing
-  pub left : ℕ → Bytes
+use Rattle.imagefile.specs.Unseen.{Unseen, size_of, first_bytes, first_open, left_by}
 
 -- what is so between two calls
 pub record Between : Type 0 where
@@ -46,7 +37,7 @@ after_call u n (SeekStart at place) b = record { bytes = b.bytes; is_open = b.is
 after_call u n (SeekEnd place) b = record { bytes = b.bytes; is_open = b.is_open; position = place }
 after_call u n (Read asked bytes) b = record { bytes = b.bytes; is_open = b.is_open; position = moved b.position (count_of bytes) }
 after_call u n (Write given count) b = record {
-  bytes = bytes_after (unwrap_or b.position 0) given (unwrap_or count 0) (u.left n) b.bytes;
+  bytes = bytes_after (unwrap_or b.position 0) given (unwrap_or count 0) (left_by u n) b.bytes;
   is_open = λ p. is_inside (unwrap_or b.position 0) (length given) p || b.is_open p;
   position = moved b.position count;
 }
@@ -55,7 +46,7 @@ after_call u n (Sync false) b = b
 
 -- after all calls of a record, of which the newest comes first
 abbrev pub after_calls : Unseen → List Call → Between
-after_calls u [] = record { bytes = u.first; is_open = u.opened; position = None }
+after_calls u [] = record { bytes = first_bytes u; is_open = first_open u; position = None }
 after_calls u (call ∷ earlier) = after_call u (length earlier) call (after_calls u earlier)
 
 -- What a file that keeps to the model may answer. A seek to a place asks nothing of the device, and
@@ -63,9 +54,9 @@ after_calls u (call ∷ earlier) = after_call u (length earlier) call (after_cal
 -- end, the model says nothing.
 abbrev pub IsAllowed : Unseen → Between → Call → Type 0
 IsAllowed u b (SeekStart at place) = place ≡ Some at
-IsAllowed u b (SeekEnd place) = IfSome place (λ p. p ≡ u.size)
-IsAllowed u b (Read asked bytes) = IfSome bytes (λ came. IsSomeAnd b.position (λ at. (at + length came ≤ u.size) × (came ≡ window b.bytes at (length came))))
-IsAllowed u b (Write given count) = IsSomeAnd b.position (λ at. (at + length given ≤ u.size) × IfSome count (λ n. n ≤ length given))
+IsAllowed u b (SeekEnd place) = IfSome place (λ p. p ≡ size_of u)
+IsAllowed u b (Read asked bytes) = IfSome bytes (λ came. IsSomeAnd b.position (λ at. (at + length came ≤ size_of u) × (came ≡ window b.bytes at (length came))))
+IsAllowed u b (Write given count) = IsSomeAnd b.position (λ at. (at + length given ≤ size_of u) × IfSome count (λ n. n ≤ length given))
 IsAllowed u b (Sync done) = Unit {0}
 
 -- each answer on record is one that such a file may give
@@ -85,7 +76,7 @@ LeftSince u (call ∷ earlier) t r = LeftSince u earlier t r ⊎ ((t ≤ length 
 -- the file; its failed calls are counted elsewhere
 abbrev pub recorded : Unseen → List Call → FileState
 recorded u calls = record {
-  size = u.size;
+  size = size_of u;
   honest = IsHonestRecord u calls;
   failures = 0;
   bytes = (after_calls u calls).bytes;

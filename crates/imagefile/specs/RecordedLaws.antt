@@ -1,13 +1,10 @@
 -- What a file's calls are asked for of the past moments of a record.
-use Rattle.std.specs.Prelude.{◌≤◌, ℕ, suc, false, List, [], ◌∷◌, length}
+use Rattle.std.specs.Prelude.{◌≤◌, ℕ, suc, List, [], ◌∷◌, length}
 use Rattle.std.proofs.Common.{arith, ⊎_elim, inl, inr}
 use Rattle.imagefile.specs.File.{Remains, MayRemain}
 use Rattle.imagefile.specs.Calls.{Call}
-use Rattle.imagefile.specs.Recorded.{Unseen, LeftSince, recorded}
-
--- an empty file, for those who have to suppose something
-abbrev pub nothing_unseen : Unseen
-nothing_unseen = record { size = 0; first = λ p. 0; opened = λ p. false; left = λ n p. 0 }
+use Rattle.imagefile.specs.Unseen.{Unseen}
+use Rattle.imagefile.specs.Recorded.{LeftSince, recorded}
 
 pub recorded_counts_now : (u : Unseen) (calls : List Call) (t : ℕ) (r : Remains) → t ≤ length calls → MayRemain (recorded u calls) r → LeftSince u calls t r
 recorded_counts_now u [] t r le may = (le, may)

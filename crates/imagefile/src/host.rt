@@ -1,19 +1,19 @@
 ghost use Rattle.std.specs.Prelude.{◌≡◌, ◌+◌, ◌<◌, ◌≤◌, ℕ, [], length, take, None, IsSome, IfOk, OnOk, OnErr, IsErrOf};
 ghost use Rattle.blockdisk.specs.Disk.{one_more};
 ghost use Rattle.blockdisk.specs.declared.fault.Fault.TheVariants.{Device, Damaged};
-ghost use Rattle.imagefile.specs.File.{FileGoesOn, FileKeeps, FileWrites, FileSyncs, window};
-ghost use Rattle.imagefile.specs.Host.{lasting, the_first_of};
+ghost use Rattle.imagefile.specs.File.{SameFile, FileKeeps, FileWrites, FileSyncs, window};
+ghost use Rattle.imagefile.specs.Host.{with_failures, the_first_of};
+ghost use Rattle.imagefile.specs.Supposition.{unseen_in};
 
-use crate::{Durable, FileCalls, HostCalls, SeekingFile};
+use crate::{Durable, FileCalls, HostCalls, SeekingFile, Supposition};
 use blockdisk::Fault;
 use std::fs::File;
 use std::io::{Error, ErrorKind};
 
 /// A file of the host's, whose calls are made until all is done.
 ///
-/// What a call answered is right wherever the file is honest after it: so say the clauses `answers`
-/// and `changes`, for everything that can be supposed of what no call shows. As a `Durable` it is
-/// honest where that honesty also lasts. Why its first call failed is kept, for people.
+/// It is honest while its calls are: what a call answered is right wherever they have kept to the model
+/// so far. Why its first call failed is kept, for people.
 ///
 /// A sync first looks that the file is as long as it was when its length was asked for: where somebody has cut it
 /// short meanwhile, what was written behind its end is no file's, and nothing is called done.
@@ -27,17 +27,19 @@ pub struct HostFile<C: FileCalls = SeekingFile> {
 
 impl HostFile {
     ghost use Rattle.imagefile.specs.HostFile.{calls_of, failures_of, failure_of};
-    ghost use Rattle.imagefile.specs.SeekingFile.{system_of};
+    ghost use Rattle.imagefile.specs.SeekingFile.{system_of, unseen_of};
     ghost use Rattle.imagefile.specs.HostCalls.{file_of, history_of};
 
-    /// An open file of the host, of which nothing was asked yet. Its record is empty.
-    pub fn from_file(file: File) -> Self
+    /// An open file of the host, of which nothing was asked yet, with what is supposed of it that its
+    /// calls don't show. Its record is empty, and so it is honest.
+    pub fn from_file(file: File, supposed: Supposition) -> Self
         ensures file { file_of (system_of (calls_of result)) ≡ file }
         ensures history { history_of (system_of (calls_of result)) ≡ [] }
+        ensures supposed { unseen_of (calls_of result) ≡ unseen_in supposed }
         ensures none_failed { failures_of result ≡ 0 }
         ensures no_failure { failure_of result ≡ None }
     {
-        HostFile::new(SeekingFile::new(HostCalls::new(file)))
+        HostFile::new(SeekingFile::new(HostCalls::new(file), supposed))
     }
 }
 
@@ -86,8 +88,8 @@ impl<C: FileCalls> HostFile<C> {
     ///
     /// `Device` where it isn't, or the call failed.
     fn keep_size(&mut self) -> Result<(), Fault>
-        ensures keeps { (u : C.Unseen) → (C.state u (calls_of self.new)).honest → FileKeeps (C.state u (calls_of self.old)) (C.state u (calls_of self.new)) }
-        ensures goes_on { (u : C.Unseen) → FileGoesOn C.lasts (C.state u (calls_of self.old)) (C.state u (calls_of self.new)) }
+        ensures keeps { (C.state (calls_of self.new)).honest → FileKeeps (C.state (calls_of self.old)) (C.state (calls_of self.new)) }
+        ensures same { SameFile (C.state (calls_of self.old)) (C.state (calls_of self.new)) }
         ensures device { IsErrOf result Damaged → ⊥ }
         ensures failed { IsErrOf result Device → failures_of self.new ≡ one_more (failures_of self.old) }
         ensures told { OnErr result (IsSome (failure_of self.new)) }
@@ -109,12 +111,12 @@ impl<C: FileCalls> HostFile<C> {
     ///
     /// `Device` where the call failed, or read none.
     fn get_some(&mut self, at: u64, bytes: &mut [u8]) -> Result<usize, Fault>
-        requires inside { C.lasts → (C.state C.supposed (calls_of self.old)).honest → at + length bytes.old ≤ (C.state C.supposed (calls_of self.old)).size }
+        requires inside { (C.state (calls_of self.old)).honest → at + length bytes.old ≤ (C.state (calls_of self.old)).size }
         requires some { 0 < length bytes.old }
         ensures few { IfOk result (λ count. (0 < count) × (count ≤ length bytes.old)) }
-        ensures read { (u : C.Unseen) → (C.state u (calls_of self.new)).honest → IfOk result (λ count. take count bytes.new ≡ window (C.state u (calls_of self.old)).bytes at count) }
-        ensures keeps { (u : C.Unseen) → (C.state u (calls_of self.new)).honest → FileKeeps (C.state u (calls_of self.old)) (C.state u (calls_of self.new)) }
-        ensures goes_on { (u : C.Unseen) → FileGoesOn C.lasts (C.state u (calls_of self.old)) (C.state u (calls_of self.new)) }
+        ensures read { (C.state (calls_of self.new)).honest → IfOk result (λ count. take count bytes.new ≡ window (C.state (calls_of self.old)).bytes at count) }
+        ensures keeps { (C.state (calls_of self.new)).honest → FileKeeps (C.state (calls_of self.old)) (C.state (calls_of self.new)) }
+        ensures same { SameFile (C.state (calls_of self.old)) (C.state (calls_of self.new)) }
         ensures device { IsErrOf result Damaged → ⊥ }
         ensures failed { IsErrOf result Device → failures_of self.new ≡ one_more (failures_of self.old) }
         ensures told { OnErr result (IsSome (failure_of self.new)) }
@@ -134,12 +136,12 @@ impl<C: FileCalls> HostFile<C> {
     ///
     /// `Device` where the call failed, or wrote none of them.
     fn put_some(&mut self, at: u64, bytes: &[u8]) -> Result<usize, Fault>
-        requires { C.lasts → (C.state C.supposed (calls_of self.old)).honest → at + length bytes.now ≤ (C.state C.supposed (calls_of self.old)).size }
+        requires { (C.state (calls_of self.old)).honest → at + length bytes.now ≤ (C.state (calls_of self.old)).size }
         ensures few { IfOk result (λ count. (0 < length bytes.now → 0 < count) × (count ≤ length bytes.now)) }
-        ensures put { (u : C.Unseen) → (C.state u (calls_of self.new)).honest → IfOk result (λ count. window (C.state u (calls_of self.new)).bytes at count ≡ take count bytes.now) }
-        ensures moves { (u : C.Unseen) → (C.state u (calls_of self.new)).honest → OnOk result ((C.state u (calls_of self.old)).clock < (C.state u (calls_of self.new)).clock) }
-        ensures writes { (u : C.Unseen) → (C.state u (calls_of self.new)).honest → FileWrites at (length bytes.now) (C.state u (calls_of self.old)) (C.state u (calls_of self.new)) }
-        ensures goes_on { (u : C.Unseen) → FileGoesOn C.lasts (C.state u (calls_of self.old)) (C.state u (calls_of self.new)) }
+        ensures put { (C.state (calls_of self.new)).honest → IfOk result (λ count. window (C.state (calls_of self.new)).bytes at count ≡ take count bytes.now) }
+        ensures moves { (C.state (calls_of self.new)).honest → OnOk result ((C.state (calls_of self.old)).clock < (C.state (calls_of self.new)).clock) }
+        ensures writes { (C.state (calls_of self.new)).honest → FileWrites at (length bytes.now) (C.state (calls_of self.old)) (C.state (calls_of self.new)) }
+        ensures same { SameFile (C.state (calls_of self.old)) (C.state (calls_of self.new)) }
         ensures device { IsErrOf result Damaged → ⊥ }
         ensures failed { IsErrOf result Device → failures_of self.new ≡ one_more (failures_of self.old) }
         ensures told { OnErr result (IsSome (failure_of self.new)) }
@@ -156,18 +158,18 @@ impl<C: FileCalls> HostFile<C> {
 impl<C: FileCalls> Durable for HostFile<C> {
     ghost use Rattle.imagefile.specs.HostFile.{calls_of, failures_of, failure_of};
 
-    ghost state = { λ file. lasting C.lasts (C.state C.supposed file.calls) file.failures };
+    ghost state = { λ file. with_failures (C.state file.calls) file.failures };
 
-    ghost counts_now = { λ file t r h le may. C.counts_now C.supposed file.calls t r h.1 le may };
+    ghost counts_now = { λ file t r h le may. C.counts_now file.calls t r h le may };
 
-    ghost only_now = { λ file r h left. C.only_now C.supposed file.calls r h.1 left };
+    ghost only_now = { λ file r h left. C.only_now file.calls r h left };
 
-    ghost reaches_back = { λ file t u r h le left. C.reaches_back C.supposed file.calls t u r h.1 le left };
+    ghost reaches_back = { λ file t u r h le left. C.reaches_back file.calls t u r h le left };
 
     fn len(&mut self) -> Result<u64, Fault>
-        ensures answers { (u : C.Unseen) → (C.state u (calls_of self.new)).honest → IfOk result (λ size. size ≡ (C.state u (calls_of self.old)).size) }
-        ensures changes { (u : C.Unseen) → (C.state u (calls_of self.new)).honest → FileKeeps (C.state u (calls_of self.old)) (C.state u (calls_of self.new)) }
-        ensures goes_on { (u : C.Unseen) → FileGoesOn C.lasts (C.state u (calls_of self.old)) (C.state u (calls_of self.new)) }
+        ensures size { (C.state (calls_of self.new)).honest → IfOk result (λ size. size ≡ (C.state (calls_of self.old)).size) }
+        ensures keeps { (C.state (calls_of self.new)).honest → FileKeeps (C.state (calls_of self.old)) (C.state (calls_of self.new)) }
+        ensures same { SameFile (C.state (calls_of self.old)) (C.state (calls_of self.new)) }
         ensures device { IsErrOf result Damaged → ⊥ }
         ensures failed { IsErrOf result Device → failures_of self.new ≡ one_more (failures_of self.old) }
         ensures told { OnErr result (IsSome (failure_of self.new)) }
@@ -183,10 +185,10 @@ impl<C: FileCalls> Durable for HostFile<C> {
     }
 
     fn read_at(&mut self, at: u64, bytes: &mut [u8]) -> Result<(), Fault>
-        requires { C.lasts → (C.state C.supposed (calls_of self.old)).honest → at + length bytes.old ≤ (C.state C.supposed (calls_of self.old)).size }
-        ensures answers { (u : C.Unseen) → (C.state u (calls_of self.new)).honest → OnOk result (bytes.new ≡ window (C.state u (calls_of self.old)).bytes at (length bytes.old)) }
-        ensures changes { (u : C.Unseen) → (C.state u (calls_of self.new)).honest → FileKeeps (C.state u (calls_of self.old)) (C.state u (calls_of self.new)) }
-        ensures goes_on { (u : C.Unseen) → FileGoesOn C.lasts (C.state u (calls_of self.old)) (C.state u (calls_of self.new)) }
+        requires { (C.state (calls_of self.old)).honest → at + length bytes.old ≤ (C.state (calls_of self.old)).size }
+        ensures read { (C.state (calls_of self.new)).honest → OnOk result (bytes.new ≡ window (C.state (calls_of self.old)).bytes at (length bytes.old)) }
+        ensures keeps { (C.state (calls_of self.new)).honest → FileKeeps (C.state (calls_of self.old)) (C.state (calls_of self.new)) }
+        ensures same { SameFile (C.state (calls_of self.old)) (C.state (calls_of self.new)) }
         ensures device { IsErrOf result Damaged → ⊥ }
         ensures failed { IsErrOf result Device → failures_of self.new ≡ one_more (failures_of self.old) }
         ensures told { OnErr result (IsSome (failure_of self.new)) }
@@ -203,11 +205,11 @@ impl<C: FileCalls> Durable for HostFile<C> {
     }
 
     fn write_at(&mut self, at: u64, bytes: &[u8]) -> Result<(), Fault>
-        requires { C.lasts → (C.state C.supposed (calls_of self.old)).honest → at + length bytes.now ≤ (C.state C.supposed (calls_of self.old)).size }
-        ensures answers { (u : C.Unseen) → (C.state u (calls_of self.new)).honest → OnOk result (window (C.state u (calls_of self.new)).bytes at (length bytes.now) ≡ bytes.now) }
-        ensures later { (u : C.Unseen) → (C.state u (calls_of self.new)).honest → OnOk result ((C.state u (calls_of self.old)).clock < (C.state u (calls_of self.new)).clock) }
-        ensures changes { (u : C.Unseen) → (C.state u (calls_of self.new)).honest → FileWrites at (length bytes.now) (C.state u (calls_of self.old)) (C.state u (calls_of self.new)) }
-        ensures goes_on { (u : C.Unseen) → FileGoesOn C.lasts (C.state u (calls_of self.old)) (C.state u (calls_of self.new)) }
+        requires { (C.state (calls_of self.old)).honest → at + length bytes.now ≤ (C.state (calls_of self.old)).size }
+        ensures put { (C.state (calls_of self.new)).honest → OnOk result (window (C.state (calls_of self.new)).bytes at (length bytes.now) ≡ bytes.now) }
+        ensures moves { (C.state (calls_of self.new)).honest → OnOk result ((C.state (calls_of self.old)).clock < (C.state (calls_of self.new)).clock) }
+        ensures writes { (C.state (calls_of self.new)).honest → FileWrites at (length bytes.now) (C.state (calls_of self.old)) (C.state (calls_of self.new)) }
+        ensures same { SameFile (C.state (calls_of self.old)) (C.state (calls_of self.new)) }
         ensures device { IsErrOf result Damaged → ⊥ }
         ensures failed { IsErrOf result Device → failures_of self.new ≡ one_more (failures_of self.old) }
         ensures told { OnErr result (IsSome (failure_of self.new)) }
@@ -224,10 +226,10 @@ impl<C: FileCalls> Durable for HostFile<C> {
     }
 
     fn sync(&mut self) -> Result<(), Fault>
-        ensures answers { (u : C.Unseen) → (C.state u (calls_of self.new)).honest → OnOk result (FileSyncs (C.state u (calls_of self.old)) (C.state u (calls_of self.new))) }
-        ensures later { (u : C.Unseen) → (C.state u (calls_of self.new)).honest → OnOk result ((C.state u (calls_of self.old)).clock < (C.state u (calls_of self.new)).clock) }
-        ensures changes { (u : C.Unseen) → (C.state u (calls_of self.new)).honest → OnErr result (FileKeeps (C.state u (calls_of self.old)) (C.state u (calls_of self.new))) }
-        ensures goes_on { (u : C.Unseen) → FileGoesOn C.lasts (C.state u (calls_of self.old)) (C.state u (calls_of self.new)) }
+        ensures syncs { (C.state (calls_of self.new)).honest → OnOk result (FileSyncs (C.state (calls_of self.old)) (C.state (calls_of self.new))) }
+        ensures moves { (C.state (calls_of self.new)).honest → OnOk result ((C.state (calls_of self.old)).clock < (C.state (calls_of self.new)).clock) }
+        ensures keeps { (C.state (calls_of self.new)).honest → OnErr result (FileKeeps (C.state (calls_of self.old)) (C.state (calls_of self.new))) }
+        ensures same { SameFile (C.state (calls_of self.old)) (C.state (calls_of self.new)) }
         ensures device { IsErrOf result Damaged → ⊥ }
         ensures failed { IsErrOf result Device → failures_of self.new ≡ one_more (failures_of self.old) }
         ensures told { OnErr result (IsSome (failure_of self.new)) }

@@ -4,17 +4,20 @@
 //!    significant first; it is damaged exactly where one of its words has top bits set.
 //!    (`damage_is_by_the_format`)
 //! 2. `ImageDisk` over any `Durable` is a `Disk`: its contents, open blocks, clock, crashes and count of
-//!    failures are those that the file's bytes spell, and it is honest where the file is.
+//!    failures are those that the file's bytes spell, and it is honest while the file is.
 //! 3. A file is refused exactly where its length is not a multiple of 1024 bytes or it has 2^32 blocks or
 //!    more, or where it fails; nothing is written, and the file is handed back. (`block_count`, `new`)
 //! 4. `MemFile` is a `Durable` with no assumption, and each of its calls leaves exactly what is stated.
-//! 5. `HostFile` is a `Durable` over any system's calls, honest where their honesty lasts. Beyond that,
-//!    what a call of it answered is right wherever the calls are honest after it. (`answers`, `changes`)
+//! 5. `HostFile` is a `Durable` over any system's calls, and honest while they are: an answer may end that,
+//!    and none brings it back. What a call answered is right wherever the file is honest after it, so that
+//!    nobody has to know answers to come. (`FileCalls`, `Durable`)
 //! 6. A real file is the record of its calls: each adds itself with its answer, and no other, on every
 //!    file and with no assumption. (`noted`, `asked`) What goes on record is what was asked of the
 //!    standard library, as far as its traits say what a call does (`made`): of a sync they say nothing.
-//! 7. It is honest while that record is one that a file gives which keeps to the model, and such a file's
-//!    record always is. (`SeekingFile`, `answers_by_the_model_are_honest`)
+//! 7. It is honest while that record is one that a file gives which keeps to the model and began as is
+//!    supposed. (`SeekingFile`) No contract says which beginning that is: what is proved of a function that
+//!    is given a file is proved for each. (`Supposition`) A file that answers by the model has an honest
+//!    record, however it began. (`answers_by_the_model_are_honest`, `a_file_by_the_model_is_honest`)
 //! 8. `Device` is answered exactly with one more failure, on every file. (`failed`, `served`) Why the first call failed
 //!    that did is kept. (`told`)
 //! 9. A file that has the number of a standard stream is told from one that hasn't. (`apart`)
@@ -29,6 +32,7 @@ mod memory;
 mod memory_calls;
 mod seeking;
 mod streams;
+mod supposition;
 mod system;
 
 pub use calls::FileCalls;
@@ -36,6 +40,7 @@ pub use durable::Durable;
 pub use host::HostFile;
 pub use image::{ImageDisk, ImageError, block_count, damage_is_by_the_format};
 pub use memory::MemFile;
-pub use seeking::{SeekingFile, answers_by_the_model_are_honest};
+pub use seeking::{SeekingFile, a_file_by_the_model_is_honest, answers_by_the_model_are_honest};
 pub use streams::apart;
+pub use supposition::Supposition;
 pub use system::{HostCalls, SystemCalls};

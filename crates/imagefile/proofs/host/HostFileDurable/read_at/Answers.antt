@@ -3,7 +3,7 @@ use Rattle.std.proofs.lemmas.Bool.{cases_lt}
 use Rattle.std.proofs.lemmas.List.{places}
 use borrow.Rule.Slice.PartMut.{put_mid}
 use Rattle.imagefile.specs.File.{window}
-use Rattle.imagefile.proofs.FileLaws.{goes_on, keeps_on, window-at}
+use Rattle.imagefile.proofs.FileLaws.{same_on, keeps_on, window-at}
 use Rattle.imagefile.proofs.Record.{window-list}
 use Rattle.imagefile.proofs.host.HostFileDurable.read_at.Goals as goal
 
@@ -28,9 +28,9 @@ loop-done-preserved g c =
     let buffer = c.loop-done.bytes in
     let part = c.get_some.new.bytes in
     let inv = c.loop-done.invariant in
-    let s0 = λ (u : g.C.FileCalls.Unseen). g.C.FileCalls.state u c.args.self.now.calls in
-    let s = λ (u : g.C.FileCalls.Unseen). g.C.FileCalls.state u c.loop-done.self.calls in
-    let s' = λ (u : g.C.FileCalls.Unseen). g.C.FileCalls.state u c.get_some.new.self.calls in
+    let s0 = g.C.FileCalls.state c.args.self.now.calls in
+    let s = g.C.FileCalls.state c.loop-done.self.calls in
+    let s' = g.C.FileCalls.state c.get_some.new.self.calls in
     let k = c.in_ok-done.field-0 in
     let e = c.in_ok-done.ensures in
     let place : c.in-Some.place ≡ at + done = c.in-Some.ensures.1 in
@@ -39,20 +39,20 @@ loop-done-preserved g c =
     record {
       few = long_enough buffer part done k inv.few few long;
       count = e.served ∙ inv.count;
-      goes_on = λ u. goes_on g.C.FileCalls.lasts (s0 u) (s u) (s' u) (inv.goes_on u) (e.goes_on u);
-      keeps = λ u h. keeps_on (s0 u) (s u) (s' u) (inv.keeps u ((e.goes_on u).was_honest h)) (e.keeps u h);
-      read = λ u h i less. ⊎_elim
-          (λ before. kept buffer part done k inv.few few long i before ∙ inv.read u ((e.goes_on u).was_honest h) i before)
+      same = same_on s0 s s' inv.same e.same;
+      keeps = λ h. keeps_on s0 s s' (inv.keeps (e.same.was_honest h)) (e.keeps h);
+      read = λ h i less. ⊎_elim
+          (λ before. kept buffer part done k inv.few few long i before ∙ inv.read (e.same.was_honest h) i before)
           (λ behind.
           let j = i - done in
           let inside : j < k = omega arith in
           let there : c.in-Some.place + j ≡ at + i = omega (arith, place) in
-          new buffer part done k inv.few few long i behind less ∙ sym (get_or-take k part j 0 inside) ∙ ap (λ l. get_or l j 0) (e.read u h) ∙ window-at (s u).bytes c.in-Some.place k j 0 inside ∙ ap (s u).bytes there ∙ (inv.keeps u ((e.goes_on u).was_honest h)).bytes (at + i)) (cases_lt i done);
+          new buffer part done k inv.few few long i behind less ∙ sym (get_or-take k part j 0 inside) ∙ ap (λ l. get_or l j 0) (e.read h) ∙ window-at s.bytes c.in-Some.place k j 0 inside ∙ ap s.bytes there ∙ (inv.keeps (e.same.was_honest h)).bytes (at + i)) (cases_lt i done);
     }
 
-pub returns-clause-answers : goal.returns-clause-answers
-returns-clause-answers g c u h =
+pub returns-clause-read : goal.returns-clause-read
+returns-clause-read g c h =
     let buffer = c.loop-done.bytes in
-    let b = (g.C.FileCalls.state u c.args.self.now.calls).bytes in
+    let b = (g.C.FileCalls.state c.args.self.now.calls).bytes in
     let all : length buffer ≡ length c.args.bytes.now = c.loop-done.auto.bytes in
-    sym (window-list b c.args.at buffer (λ i less. sym (c.loop-done.invariant.read u h i (omega arith)))) ∙ ap (window b c.args.at) all
+    sym (window-list b c.args.at buffer (λ i less. sym (c.loop-done.invariant.read h i (omega arith)))) ∙ ap (window b c.args.at) all

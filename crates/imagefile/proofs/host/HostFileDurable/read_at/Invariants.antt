@@ -1,14 +1,14 @@
 use Rattle.std.proofs.Common.{◌≡◌, ℕ, ◌+◌, ◌-◌, ◌<◌, ◌≤◌, length, get_or}
-use Rattle.imagefile.specs.File.{FileGoesOn, FileKeeps}
+use Rattle.imagefile.specs.File.{SameFile, FileKeeps}
 use Rattle.imagefile.proofs.host.HostFileDurable.read_at.Given as goal
 
 abbrev pub invariant-loop-done : goal.invariant-loop-done
 invariant-loop-done g l = record {
   few : l.done ≤ length l.bytes;
   count : l.self.failures ≡ l.fn.self.failures;
-  goes_on : (u : g.C.FileCalls.Unseen) → FileGoesOn g.C.FileCalls.lasts (g.C.FileCalls.state u l.fn.self.calls) (g.C.FileCalls.state u l.self.calls);
-  keeps : (u : g.C.FileCalls.Unseen) → (g.C.FileCalls.state u l.self.calls).honest → FileKeeps (g.C.FileCalls.state u l.fn.self.calls) (g.C.FileCalls.state u l.self.calls);
-  read : (u : g.C.FileCalls.Unseen) → (g.C.FileCalls.state u l.self.calls).honest → (i : ℕ) → i < l.done → get_or l.bytes i 0 ≡ (g.C.FileCalls.state u l.fn.self.calls).bytes (l.at + i);
+  same : SameFile (g.C.FileCalls.state l.fn.self.calls) (g.C.FileCalls.state l.self.calls);
+  keeps : (g.C.FileCalls.state l.self.calls).honest → FileKeeps (g.C.FileCalls.state l.fn.self.calls) (g.C.FileCalls.state l.self.calls);
+  read : (g.C.FileCalls.state l.self.calls).honest → (i : ℕ) → i < l.done → get_or l.bytes i 0 ≡ (g.C.FileCalls.state l.fn.self.calls).bytes (l.at + i);
 }
 
 abbrev pub decreases-loop-done : goal.decreases-loop-done

@@ -1,15 +1,15 @@
 use Rattle.std.proofs.Common.{◌≡◌, ◌-◌, ◌<◌, ◌≤◌, length, take}
-use Rattle.imagefile.specs.File.{FileGoesOn, FileWrites, window}
+use Rattle.imagefile.specs.File.{SameFile, FileWrites, window}
 use Rattle.imagefile.proofs.host.HostFileDurable.write_at.Given as goal
 
 abbrev pub invariant-loop-done : goal.invariant-loop-done
 invariant-loop-done g l = record {
   few : l.done ≤ length l.bytes;
   count : l.self.failures ≡ l.fn.self.failures;
-  goes_on : (u : g.C.FileCalls.Unseen) → FileGoesOn g.C.FileCalls.lasts (g.C.FileCalls.state u l.fn.self.calls) (g.C.FileCalls.state u l.self.calls);
-  moves : (u : g.C.FileCalls.Unseen) → (g.C.FileCalls.state u l.self.calls).honest → (g.C.FileCalls.state u l.fn.self.calls).clock < (g.C.FileCalls.state u l.self.calls).clock;
-  writes : (u : g.C.FileCalls.Unseen) → (g.C.FileCalls.state u l.self.calls).honest → FileWrites l.at (length l.bytes) (g.C.FileCalls.state u l.fn.self.calls) (g.C.FileCalls.state u l.self.calls);
-  put : (u : g.C.FileCalls.Unseen) → (g.C.FileCalls.state u l.self.calls).honest → window (g.C.FileCalls.state u l.self.calls).bytes l.at l.done ≡ take l.done l.bytes;
+  same : SameFile (g.C.FileCalls.state l.fn.self.calls) (g.C.FileCalls.state l.self.calls);
+  moves : (g.C.FileCalls.state l.self.calls).honest → (g.C.FileCalls.state l.fn.self.calls).clock < (g.C.FileCalls.state l.self.calls).clock;
+  writes : (g.C.FileCalls.state l.self.calls).honest → FileWrites l.at (length l.bytes) (g.C.FileCalls.state l.fn.self.calls) (g.C.FileCalls.state l.self.calls);
+  put : (g.C.FileCalls.state l.self.calls).honest → window (g.C.FileCalls.state l.self.calls).bytes l.at l.done ≡ take l.done l.bytes;
 }
 
 abbrev pub decreases-loop-done : goal.decreases-loop-done

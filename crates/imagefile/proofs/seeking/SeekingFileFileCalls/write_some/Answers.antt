@@ -2,7 +2,7 @@ use Rattle.std.proofs.Common.{◌≡◌, ◌∙◌, ◌∷◌, List, length, tak
 use Rattle.imagefile.specs.File.{FileWrites, window}
 use Rattle.imagefile.specs.Calls.{Call, Write, answer}
 use Rattle.imagefile.specs.Recorded.{IsHonestRecord, after_calls, recorded}
-use Rattle.imagefile.specs.SeekingFile.{system_of}
+use Rattle.imagefile.specs.SeekingFile.{system_of, unseen_of}
 use Rattle.imagefile.proofs.CallLaws.{write_said, writes_said}
 use Rattle.imagefile.proofs.seeking.SeekingFileFileCalls.write_some.Goals as goal
 
@@ -19,6 +19,9 @@ returns-clause-writes g c u h =
     let is = c.write.ensures.noted ∙ ap (λ calls. Write c.args.bytes.now (answer c.write.result) ∷ calls) c.in_ok-seek_start.ensures.noted in
     subst (λ (calls : List Call). FileWrites c.args.at (length c.args.bytes.now) (recorded u earlier) (recorded u calls)) (sym is)
     (writes_said u c.args.at c.in_ok-seek_start.field-0 earlier c.write.result c.args.bytes.now c.write.ensures.few (subst (IsHonestRecord u) is h))
+
+pub returns-clause-as_supposed : goal.returns-clause-as_supposed
+returns-clause-as_supposed g c h = returns-clause-writes g c (unseen_of c.args.self.now) h
 
 pub returns-clause-asked : goal.returns-clause-asked
 returns-clause-asked g c = record {

@@ -1,0 +1,35 @@
+-- What a file is asked at its places, and the record of one that answers all of it by the model, whole and at once.
+use Rattle.std.specs.Prelude.{◌+◌, ◌≤◌, ℕ, true, List, [], ◌∷◌, length, Some}
+use Rattle.imagefile.specs.File.{window}
+use Rattle.imagefile.specs.Calls.{Call, SeekEnd, Read, Write, Sync}
+use Rattle.imagefile.specs.Unseen.{Unseen, size_of}
+use Rattle.imagefile.specs.Recorded.{after_calls, asked_at}
+
+pub data Asked : Type 0 where
+  -- how many bytes it has
+  Measure : Asked
+  -- so many bytes from this place on
+  ReadAt : ℕ → ℕ → Asked
+  -- to hold these bytes from this place on
+  WriteAt : ℕ → List ℕ → Asked
+  -- to have all that was written on the device
+  SyncAll : Asked
+
+-- it lies within a file of so many bytes
+abbrev pub IsWithin : ℕ → Asked → Type 0
+IsWithin size Measure = Unit {0}
+IsWithin size (ReadAt at count) = at + count ≤ size
+IsWithin size (WriteAt at given) = at + length given ≤ size
+IsWithin size SyncAll = Unit {0}
+
+-- the record after one thing more was asked and answered
+abbrev pub one_answered : Unseen → Asked → List Call → List Call
+one_answered u Measure earlier = SeekEnd (Some (size_of u)) ∷ earlier
+one_answered u (ReadAt at count) earlier = asked_at at (Some at) (Read count (Some (window (after_calls u earlier).bytes at count))) earlier
+one_answered u (WriteAt at given) earlier = asked_at at (Some at) (Write given (Some (length given))) earlier
+one_answered u SyncAll earlier = Sync true ∷ earlier
+
+-- the record after all this was asked, of which the newest comes first
+abbrev pub answered : Unseen → List Asked → List Call
+answered u [] = []
+answered u (asked ∷ before) = one_answered u asked (answered u before)
