@@ -4,3 +4,4 @@ pub mod Statuses
 pub mod Refusals
 pub mod Endings
 pub mod HostFaults
+pub mod ServedDisks

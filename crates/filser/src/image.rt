@@ -1,14 +1,17 @@
 ghost use Rattle.std.specs.Prelude.{◌≡◌, ◌⊎◌, IfOk, IfErr};
 ghost use Rattle.filser.specs.Refusals.{IsFileRefusal};
+ghost use Rattle.filser.specs.ServedDisks.{HoldsFile};
 ghost use Rattle.imagefile.specs.Streams.{IsApart};
+ghost use Rattle.imagefile.specs.Supposition.{unseen_in};
 ghost use Rattle.filser.specs.declared.refusal.Refusal.TheVariants.{Exists, Start};
 ghost use Rattle.volume.specs.declared.error.VolumeError.TheVariants.{Device};
 
 use crate::fault::tell;
 use crate::streams::stream_of;
 use crate::{HostFault, ImageFault, Refusal};
+use blockdisk::Disk;
 use commands::Volume;
-use imagefile::{HostFile, ImageDisk, ImageError, apart};
+use imagefile::{HostFile, ImageDisk, ImageError, Supposition, apart};
 use std::fs::{self, File, OpenOptions, TryLockError};
 use std::io::{self, ErrorKind, Write};
 use std::rt::Files;
@@ -68,16 +71,17 @@ fn claim<E: Write>(file: &File, path: &str, errors: &mut E) -> Result<(), ImageF
     }
 }
 
-/// The image in a file.
+/// The image in a file that began as is supposed.
 ///
 /// # Errors
 ///
 /// `NotVolume` where its length is not that of an image, `Device` where the device failed.
-fn image_in(file: File) -> Result<Image, ImageFault>
+pub(crate) fn image_in(file: File, supposed: Supposition) -> Result<Image, ImageFault>
     requires { IsApart file }
-    ensures { IfErr result (λ fault. IsFileRefusal fault.refusal) }
+    ensures holds { IfOk result (λ image. HoldsFile (unseen_in supposed) (⟦<ImageDisk<HostFile> as Disk>⟧.state image)) }
+    ensures refused { IfErr result (λ fault. IsFileRefusal fault.refusal) }
 {
-    match ImageDisk::new(HostFile::from_file(file)) {
+    match ImageDisk::new(HostFile::from_file(file, supposed)) {
         Ok(image) => Ok(image),
         Err((ImageError::BadSize, _)) => Err(ImageFault {
             refusal: Refusal::Start(VolumeError::NotVolume),
@@ -94,8 +98,8 @@ fn image_in(file: File) -> Result<Image, ImageFault>
 ///
 /// # Errors
 ///
-/// `InUse` where another process has it, `System` where the file can't be opened.
-fn open_file<F: Files<File = File>, E: Write>(
+/// `InUse` where another process has it, `System` where the file can't be opened, or the stream whose number it has.
+pub(crate) fn open_file<F: Files<File = File>, E: Write>(
     files: &F,
     path: &str,
     errors: &mut E,
@@ -111,23 +115,6 @@ fn open_file<F: Files<File = File>, E: Write>(
         }
         Err(error) => Err(ImageFault::from(HostFault::System(error))),
     }
-}
-
-/// The image at a path, for this process alone.
-///
-/// # Errors
-///
-/// `Device` where the file can't be opened, another process has it, it is a standard stream, or its length can't be
-/// asked for, `NotVolume` where its length is not that of an image.
-pub(crate) fn open_image<F: Files<File = File>, E: Write>(
-    files: &F,
-    path: &str,
-    errors: &mut E,
-) -> Result<Image, ImageFault>
-    ensures { IfErr result (λ fault. IsFileRefusal fault.refusal) }
-{
-    let file = open_file(files, path, errors)?;
-    image_in(file)
 }
 
 /// A new file.
@@ -176,7 +163,7 @@ fn fill<E: Write>(file: File, path: &str, blocks: u32, errors: &mut E) -> Result
     if let Err(error) = write_zeros(&file, blocks) {
         return Err(ImageFault::from(HostFault::System(error)));
     }
-    let mut image = image_in(file)?;
+    let mut image = image_in(file, Supposition::any())?;
     match Volume::init(&mut image) {
         Ok(()) => Ok(()),
         Err(error) => Err(ImageFault {

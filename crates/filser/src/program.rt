@@ -1,4 +1,4 @@
-ghost use Rattle.std.specs.Prelude.{◌≡◌, ◌≢◌, ◌⊎◌, ◌≤◌, [], map, true, IfSome};
+ghost use Rattle.std.specs.Prelude.{◌≡◌, ◌≢◌, ◌⊎◌, ◌≤◌, [], map, true, IfOk, IfSome};
 ghost use Rattle.clap.specs.Words.{fault_of, kind_of, subcommand_of};
 ghost use Rattle.filser.specs.CommandLine.{command_line};
 ghost use Rattle.filser.specs.Endings.{AreMistaken, AskToSee, EndsUnasked, IsShown};
@@ -8,12 +8,13 @@ ghost use Rattle.filser.specs.declared.asked.Request.{Request as Asked};
 ghost use Rattle.filser.specs.declared.status.Status.TheVariants.{Done, BadArguments, Fault};
 
 use crate::fault::tell;
-use crate::image::{open_image, tell_failure};
+use crate::image::{Image, open_file, tell_failure};
 use crate::lines::LineReader;
-use crate::serving::{say, serve, serve_calls, serve_fresh};
+use crate::serving::{say, serve_calls_in_file, serve_file, serve_fresh};
 use crate::streams::stream_at;
 use crate::{ImageFault, MissingStreams, Request, RequestError, Status, make_image, request};
 use clap::Error;
+use imagefile::Supposition;
 use std::alloc::Global;
 use std::fs::File;
 use std::io::{Read, Write};
@@ -120,28 +121,42 @@ fn perform<F: Files<File = File>, R: Read, W: Write, E: Write>(
             Ok(()) => Status::Done,
             Err(fault) => refuse_image(fault, path, writer, errors),
         },
-        Request::Run(path, date, minute) => match open_image(files, path, errors) {
-            Ok(image) => {
-                let (status, image) = serve(alloc, image, moment(date, minute), reader, writer);
-                tell_failure(errors, path, image);
-                status
+        Request::Run(path, date, minute) => match open_file(files, path, errors) {
+            Ok(file) => {
+                let at = moment(date, minute);
+                let served = serve_file(alloc, file, Supposition::any(), at, reader, writer);
+                conclude(served, path, writer, errors)
             }
             Err(fault) => refuse_image(fault, path, writer, errors),
         },
-        Request::Calls(path, date, minute) => match open_image(files, path, errors) {
-            Ok(image) => {
-                let (status, image) = serve_calls(
-                    alloc,
-                    image,
-                    moment(date, minute),
-                    reader,
-                    writer,
-                );
-                tell_failure(errors, path, image);
-                status
+        Request::Calls(path, date, minute) => match open_file(files, path, errors) {
+            Ok(file) => {
+                let at = moment(date, minute);
+                let served =
+                    serve_calls_in_file(alloc, file, Supposition::any(), at, reader, writer);
+                conclude(served, path, writer, errors)
             }
             Err(fault) => refuse_image(fault, path, writer, errors),
         },
+    }
+}
+
+/// Tells people what the host has to do with it where the file of an image failed, or can't be served at all.
+fn conclude<W: Write, E: Write>(
+    served: Result<(Status, Image), ImageFault>,
+    path: &str,
+    writer: &mut W,
+    errors: &mut E,
+) -> Status
+    requires { IfOk served (λ done. done.0 ≢ BadArguments) }
+    ensures { result ≢ BadArguments }
+{
+    match served {
+        Ok((status, image)) => {
+            tell_failure(errors, path, image);
+            status
+        }
+        Err(fault) => refuse_image(fault, path, writer, errors),
     }
 }
 

@@ -1,14 +1,25 @@
-ghost use Rattle.std.specs.Prelude.{◌≡◌, ◌≢◌, ◌⊎◌, ◌++◌, ◌∷◌, [], max, if◌then◌else◌};
+ghost use Rattle.std.specs.Prelude.{◌≡◌, ◌≢◌, ◌⊎◌, ◌++◌, ◌∷◌, ◌*◌, ℕ, [], max, if◌then◌else◌, IfOk, IfErr};
 ghost use Rattle.std.specs.Io.KnownBytes.{Appends};
+ghost use Rattle.commands.specs.Sessions.{Session, Script};
+ghost use Rattle.meaning.specs.Files.{File, Files};
 ghost use Rattle.meaning.specs.Lines.{feed};
-ghost use Rattle.filser.specs.Refusals.{refusal_text, refusal_code};
+ghost use Rattle.meaning.specs.Stands.{Stands};
+ghost use Rattle.filser.specs.Refusals.{IsFileRefusal, refusal_text, refusal_code};
+ghost use Rattle.filser.specs.ServedDisks.{IsServed, IsUnserved, machine_over};
+ghost use Rattle.imagefile.specs.Image.{image_contents};
+ghost use Rattle.imagefile.specs.Streams.{IsApart};
+ghost use Rattle.imagefile.specs.Supposition.{unseen_in};
+ghost use Rattle.imagefile.specs.Unseen.{size_of, first_bytes};
 ghost use Rattle.filser.specs.Statuses.{status_code};
 ghost use Rattle.filser.specs.declared.status.Status.TheVariants.{BadArguments, Fault};
 
-use crate::{Refusal, Status};
+use crate::image::{Image, image_in};
+use crate::{ImageFault, Refusal, Status};
 use blockdisk::{Disk, MemDisk};
 use commands::{Monitor, SessionError, Tally, Volume, script, session};
+use imagefile::{HostFile, ImageDisk, Supposition};
 use std::alloc::Global;
+use std::fs::File;
 use std::io::{Read, Write};
 use words36::Moment;
 
@@ -65,7 +76,11 @@ pub(crate) fn serve<D: Disk + Drop, R: Read, W: Write>(
     reader: &mut R,
     writer: &mut W,
 ) -> (Status, D)
-    ensures { result.0 ≢ BadArguments }
+    ensures serving { result.0 ≢ BadArguments }
+    // Where the disk has been honest up to the end, and stood for some files: these are served, or nothing is.
+    ensures served { (D.state result.1).honest → (files : Files File) → Stands (D.state disk).size (D.state disk).contents files
+        → IsServed D.state disk result.1 files (λ first last. Session (R.remaining reader.old) (R.remaining reader.new) (W.contents writer.old) (W.contents writer.new) (machine_over D.state) first last moment)
+        ⊎ IsUnserved D.state disk result.1 }
 {
     match Monitor::start(alloc, disk) {
         Ok(mut monitor) => {
@@ -85,7 +100,11 @@ pub(crate) fn serve_calls<D: Disk + Drop, R: Read, W: Write>(
     reader: &mut R,
     writer: &mut W,
 ) -> (Status, D)
-    ensures { result.0 ≢ BadArguments }
+    ensures serving { result.0 ≢ BadArguments }
+    // Where the disk has been honest up to the end, and stood for some files: these are served, or nothing is.
+    ensures served { (D.state result.1).honest → (files : Files File) → Stands (D.state disk).size (D.state disk).contents files
+        → IsServed D.state disk result.1 files (λ first last. Script (R.remaining reader.old) (R.remaining reader.new) (W.contents writer.old) (W.contents writer.new) (machine_over D.state) first last moment)
+        ⊎ IsUnserved D.state disk result.1 }
 {
     match Monitor::start(alloc, disk) {
         Ok(mut monitor) => {
@@ -94,6 +113,60 @@ pub(crate) fn serve_calls<D: Disk + Drop, R: Read, W: Write>(
         }
         Err((error, disk)) => (say(writer, Refusal::Start(error)), disk),
     }
+}
+
+/// Serves the lines of the reader, at a moment, on the image in a file of the host. Nothing of the host is known
+/// beforehand, so that this is said for whatever may be supposed of the file: where its calls were answered, up to the
+/// end, as by a file that began so and keeps to the model, what it began with is what was served.
+///
+/// # Errors
+///
+/// As of `image_in`.
+pub(crate) fn serve_file<R: Read, W: Write>(
+    alloc: Global,
+    file: File,
+    supposed: Supposition,
+    moment: Moment,
+    reader: &mut R,
+    writer: &mut W,
+) -> Result<(Status, Image), ImageFault>
+    requires { IsApart file }
+    ensures serving { IfOk result (λ done. done.0 ≢ BadArguments) }
+    ensures refused { IfErr result (λ fault. IsFileRefusal fault.refusal) }
+    ensures served { IfOk result (λ done. (⟦<ImageDisk<HostFile> as Disk>⟧.state done.1).honest → (blocks : ℕ) (files : Files File) → size_of (unseen_in supposed) ≡ 1024 * blocks
+        → Stands blocks (image_contents (first_bytes (unseen_in supposed))) files
+        → (image : _) × (IsServed (⟦<ImageDisk<HostFile> as Disk>⟧.state) image done.1 files (λ first last. Session (R.remaining reader.old) (R.remaining reader.new) (W.contents writer.old) (W.contents writer.new) (machine_over (⟦<ImageDisk<HostFile> as Disk>⟧.state)) first last moment)
+        ⊎ IsUnserved (⟦<ImageDisk<HostFile> as Disk>⟧.state) image done.1)) }
+{
+    let image = image_in(file, supposed)?;
+    Ok(serve(alloc, image, moment, reader, writer))
+}
+
+/// Serves the call script of the reader, at a moment, on the image in a file of the host. Nothing of the host is known
+/// beforehand, so that this is said for whatever may be supposed of the file: where its calls were answered, up to the
+/// end, as by a file that began so and keeps to the model, what it began with is what was served.
+///
+/// # Errors
+///
+/// As of `image_in`.
+pub(crate) fn serve_calls_in_file<R: Read, W: Write>(
+    alloc: Global,
+    file: File,
+    supposed: Supposition,
+    moment: Moment,
+    reader: &mut R,
+    writer: &mut W,
+) -> Result<(Status, Image), ImageFault>
+    requires { IsApart file }
+    ensures serving { IfOk result (λ done. done.0 ≢ BadArguments) }
+    ensures refused { IfErr result (λ fault. IsFileRefusal fault.refusal) }
+    ensures served { IfOk result (λ done. (⟦<ImageDisk<HostFile> as Disk>⟧.state done.1).honest → (blocks : ℕ) (files : Files File) → size_of (unseen_in supposed) ≡ 1024 * blocks
+        → Stands blocks (image_contents (first_bytes (unseen_in supposed))) files
+        → (image : _) × (IsServed (⟦<ImageDisk<HostFile> as Disk>⟧.state) image done.1 files (λ first last. Script (R.remaining reader.old) (R.remaining reader.new) (W.contents writer.old) (W.contents writer.new) (machine_over (⟦<ImageDisk<HostFile> as Disk>⟧.state)) first last moment)
+        ⊎ IsUnserved (⟦<ImageDisk<HostFile> as Disk>⟧.state) image done.1)) }
+{
+    let image = image_in(file, supposed)?;
+    Ok(serve_calls(alloc, image, moment, reader, writer))
 }
 
 /// Serves the lines of the reader on a fresh volume in memory, which is gone at the end.
