@@ -3,7 +3,7 @@ ghost use Rattle.imagefile.specs.Host.{unknown_file};
 
 use crate::image_tests::{disk_over, expect_v1, v1_file};
 use blockdisk::Fault;
-use imagefile::{Durable, FileCalls, HostCalls, HostFile, SeekingFile, SystemCalls};
+use imagefile::{Durable, FileCalls, HostCalls, HostFile, SeekingFile, Supposition, SystemCalls};
 use std::fs::{Metadata, OpenFile};
 use std::io::{self, Read, Seek, SeekFrom, Write};
 use std::process::Abort;
@@ -28,19 +28,13 @@ impl Sluggish {
 }
 
 impl FileCalls for Sluggish {
-    ghost Unseen = { Unit {0} };
+    ghost state = { λ file. unknown_file };
 
-    ghost supposed = { tt };
+    ghost counts_now = { λ file t r h le may. absurd h };
 
-    ghost state = { λ u file. unknown_file };
+    ghost only_now = { λ file r h left. absurd h };
 
-    ghost lasts = { Unit {0} };
-
-    ghost counts_now = { λ u file t r h le may. absurd h };
-
-    ghost only_now = { λ u file r h left. absurd h };
-
-    ghost reaches_back = { λ u file t s r h le left. absurd h };
+    ghost reaches_back = { λ file t s r h le left. absurd h };
 
     fn size(&mut self) -> io::Result<u64> {
         self.turn()?;
@@ -201,10 +195,50 @@ impl OpenFile for Failing {
     }
 }
 
+/// A file of these calls of which nothing is promised, so that any place of it may be asked for: its length needn't be
+/// known.
+#[derive(Drop)]
+pub(crate) struct Unpromised<S: SystemCalls> {
+    calls: SeekingFile<S>,
+}
+
+impl<S: SystemCalls> FileCalls for Unpromised<S> {
+    ghost state = { λ file. unknown_file };
+
+    ghost counts_now = { λ file t r h le may. absurd h };
+
+    ghost only_now = { λ file r h left. absurd h };
+
+    ghost reaches_back = { λ file t s r h le left. absurd h };
+
+    fn size(&mut self) -> io::Result<u64> {
+        self.calls.size()
+    }
+
+    fn read_some(&mut self, at: u64, bytes: &mut [u8]) -> io::Result<usize> {
+        self.calls.read_some(at, bytes)
+    }
+
+    fn write_some(&mut self, at: u64, bytes: &[u8]) -> io::Result<usize> {
+        self.calls.write_some(at, bytes)
+    }
+
+    fn sync_all(&mut self) -> io::Result<()> {
+        self.calls.sync_all()
+    }
+}
+
+/// The file of these calls, with nothing promised of it.
+pub(crate) fn without_promise<S: SystemCalls>(calls: S) -> HostFile<Unpromised<S>> {
+    HostFile::new(Unpromised {
+        calls: SeekingFile::new(calls, Supposition::any()),
+    })
+}
+
 /// What a file's calls answer where this one fails below.
 fn expect_answers<S: SystemCalls>(
     rt: &impl Abort,
-    file: &mut HostFile<SeekingFile<S>>,
+    file: &mut HostFile<Unpromised<S>>,
     call: StdCall,
 ) {
     let seeks = call != StdCall::Seek;
@@ -221,7 +255,7 @@ fn expect_answers<S: SystemCalls>(
 #[test]
 fn each_call_of_the_host_fails(rt: HostRuntime) {
     for call in [StdCall::Seek, StdCall::Read, StdCall::Write, StdCall::Sync] {
-        let mut file = HostFile::new(SeekingFile::new(HostCalls::new(Failing { call })));
+        let mut file = without_promise(HostCalls::new(Failing { call }));
         expect_answers(&rt, &mut file, call);
     }
 }

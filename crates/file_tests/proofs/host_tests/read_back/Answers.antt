@@ -1,7 +1,7 @@
 use Rattle.std.proofs.Common.{◌∙◌, length, Result, Ok, Err, OnOk, ap}
 use Rattle.imagefile.specs.File.{window}
 use Rattle.imagefile.specs.HostFile.{calls_of}
-use Rattle.imagefile.specs.SeekingFile.{system_of}
+use Rattle.imagefile.specs.SeekingFile.{system_of, unseen_of}
 use Rattle.imagefile.specs.Recorded.{after_calls}
 use Rattle.imagefile.specs.ImageLaws.{window-same}
 use Rattle.file_tests.proofs.host_tests.read_back.Goals as goal
@@ -15,18 +15,20 @@ at_ok (Ok value) q = q
 at_ok (Err error) q = tt
 
 pub returns-clause-same : goal.returns-clause-same
-returns-clause-same g c u h =
-    let synced = (c.read_at.ensures.goes_on u).was_honest h in
-    let written = (c.in_ok-sync.ensures.goes_on u).was_honest synced in
-    let b = (after_calls u (g.S.SystemCalls.history (system_of (calls_of c.write_at.new.self)))).bytes in
-    let b' = (after_calls u (g.S.SystemCalls.history (system_of (calls_of c.sync.new.self)))).bytes in
+returns-clause-same g c h =
+    let synced = c.read_at.ensures.same.was_honest h in
+    let written = c.in_ok-sync.ensures.same.was_honest synced in
+    let file = calls_of c.write_at.new.self in
+    let file' = calls_of c.sync.new.self in
+    let b = (after_calls (unseen_of file) (g.S.SystemCalls.history (system_of file))).bytes in
+    let b' = (after_calls (unseen_of file') (g.S.SystemCalls.history (system_of file'))).bytes in
     on_ok c.read_at.result
-    (λ is. is ∙ ap (window b' c.args.at) c.requires
-    ∙ window-same b b' c.args.at (length c.args.bytes.now) (λ p inside. (c.in_ok-sync.ensures.answers u synced).bytes p)
-    ∙ c.in_ok-write_at.ensures.answers u written)
-    (c.read_at.ensures.answers u h)
+    (λ is. is ∙ ap (window b' c.args.at) c.requires.long
+    ∙ window-same b b' c.args.at (length c.args.bytes.now) (λ p inside. (c.in_ok-sync.ensures.syncs synced).bytes p)
+    ∙ c.in_ok-write_at.ensures.put written)
+    (c.read_at.ensures.read h)
 
 pub returns-clause-closed : goal.returns-clause-closed
-returns-clause-closed g c u h =
-    let synced = (c.read_at.ensures.goes_on u).was_honest h in
-    at_ok c.read_at.result (λ p. (c.read_at.ensures.changes u h).is_open p ∙ (c.in_ok-sync.ensures.answers u synced).closed p)
+returns-clause-closed g c h =
+    let synced = c.read_at.ensures.same.was_honest h in
+    at_ok c.read_at.result (λ p. (c.read_at.ensures.keeps h).is_open p ∙ (c.in_ok-sync.ensures.syncs synced).closed p)
