@@ -8,7 +8,7 @@ pub record Unseen : Type 0 where
   pub first : List ℕ
   -- which of them were open
   pub opened : List Bool
-  -- what stands at each place where the call after so many others was to write and took nothing
+  -- what the call after so many others left at each place of the file where it was to write and took nothing
   pub left : List (List ℕ)
 
 -- the number of bytes

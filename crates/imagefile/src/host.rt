@@ -4,6 +4,7 @@ ghost use Rattle.blockdisk.specs.declared.fault.Fault.TheVariants.{Device, Damag
 ghost use Rattle.imagefile.specs.File.{SameFile, FileKeeps, FileWrites, FileSyncs, window};
 ghost use Rattle.imagefile.specs.Host.{with_failures, the_first_of};
 ghost use Rattle.imagefile.specs.Supposition.{unseen_in};
+ghost use Rattle.imagefile.specs.Recorded.{IsHonestRecord};
 
 use crate::{Durable, FileCalls, HostCalls, SeekingFile, Supposition};
 use blockdisk::Fault;
@@ -36,6 +37,7 @@ impl HostFile {
         ensures file { file_of (system_of (calls_of result)) ≡ file }
         ensures history { history_of (system_of (calls_of result)) ≡ [] }
         ensures supposed { unseen_of (calls_of result) ≡ unseen_in supposed }
+        ensures honest { IsHonestRecord (unseen_of (calls_of result)) (history_of (system_of (calls_of result))) }
         ensures none_failed { failures_of result ≡ 0 }
         ensures no_failure { failure_of result ≡ None }
     {
