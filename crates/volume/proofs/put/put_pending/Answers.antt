@@ -30,5 +30,5 @@ returns-in-Ok-clause-put g c p was =
       c.put_booked.new.version,
       now,
       subst (λ (q : PendingVersion). c.put_booked.new.version.words ≡ length_after q.version.words c.args.block (length c.args.words.now)) same c.in-Ok.ensures.length,
-      subst (λ (q : PendingVersion). s.honest → (body : List ℕ) → length body ≡ q.version.words → HasBody s.contents q.version.blocks body → HasBody s'.contents c.put_booked.new.version.blocks (splice body c.args.block c.args.words.now)) same c.in-Ok.ensures.body,
+      subst (λ (q : PendingVersion). s'.honest → (body : List ℕ) → length body ≡ q.version.words → HasBody s.contents q.version.blocks body → HasBody s'.contents c.put_booked.new.version.blocks (splice body c.args.block c.args.words.now)) same c.in-Ok.ensures.body,
     )

@@ -36,11 +36,11 @@ returns-in-Ok-write_and_commit-clause-sound g c =
     let h : s.honest = c.write_and_commit.ensures.same.was_honest h' in
     bodies_of s'.contents (core_of c.args.self.now.map) (core_of c.make_in_core.new.core) c.make_in_core.ensures.live c.make_in_core.ensures.pending
     (bodies_stay s (core_of c.args.self.now.map) c.args.self.now.failed s'.contents c.requires.sound h ok
-    (λ n is. (c.write_and_commit.ensures.touched h).contents n (not_written s.size k k' c.args.ppn c.args.protection c.in-Ok.first c.make_in_core.new.set whole made n is.from is.apart is.used))))
+    (λ n is. (c.write_and_commit.ensures.touched h').contents n (not_written s.size k k' c.args.ppn c.args.protection c.in-Ok.first c.make_in_core.new.set whole made n is.from is.apart is.used))))
     (λ h' ok.
     let h : s.honest = c.write_and_commit.ensures.same.was_honest h' in
     let at = c.requires.sound.rest h ok in
-    made_at s s' k k' c.args.ppn c.args.protection c.in-Ok.first c.make_in_core.new.set c.requires.protection whole made at c.write_and_commit.ensures.same.size (c.in-Ok-write_and_commit.ensures.done h k k'))
+    made_at s s' k k' c.args.ppn c.args.protection c.in-Ok.first c.make_in_core.new.set c.requires.protection whole made at c.write_and_commit.ensures.same.size (c.in-Ok-write_and_commit.ensures.done h' k k'))
 
 pub returns-in-Ok-write_and_commit-clause-crash : goal.returns-in-Ok-write_and_commit-clause-crash
 returns-in-Ok-write_and_commit-clause-crash g c h f rests =

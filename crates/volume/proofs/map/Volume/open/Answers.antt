@@ -25,3 +25,6 @@ returns-in-Ok-keep-clause-sound g c =
 pub returns-in-Ok-keep-clause-synced : goal.returns-in-Ok-keep-clause-synced
 returns-in-Ok-keep-clause-synced g c h =
     ⊎_elim (λ device. absurd (let is : c.read_volume.result ≡ Err Device = device in let ok = c.in-Ok.is in cc)) (λ from. from) (c.read_volume.ensures.synced h)
+
+pub returns-in-Ok-keep-clause-files : goal.returns-in-Ok-keep-clause-files
+returns-in-Ok-keep-clause-files g c files stands h = c.in-Ok.ensures.files h files stands

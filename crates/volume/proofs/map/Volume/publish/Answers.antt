@@ -68,13 +68,13 @@ returns-in-Ok-put_words-clause-crash g c h f rests p there body long has =
     let put = c.in-Ok-put_words.ensures.put p (ap (λ (x : VolumeCore). pending_at x.pending c.args.pending.key) c.find_supplies.ensures.core ∙ there) in
     both_leave s mid (g.D.Disk.state c.publish_written.new.self.disk) f _ c.put_words.ensures.same.size (c.put_words.ensures.quiet (c.publish_written.ensures.same.was_honest h) f rests)
     (c.publish_written.ensures.crash h f (c.put_words.ensures.rests (c.publish_written.ensures.same.was_honest h) f rests) (record p { version = put.0 }) put.1 (splice body c.args.block c.args.words.now)
-    (length-splice body c.args.block c.args.words.now ∙ ap (λ (n : ℕ). length_after n c.args.block (length c.args.words.now)) long ∙ sym put.2) (put.3 (c.put_words.ensures.same.was_honest (c.publish_written.ensures.same.was_honest h)) body long has))
+    (length-splice body c.args.block c.args.words.now ∙ ap (λ (n : ℕ). length_after n c.args.block (length c.args.words.now)) long ∙ sym put.2) (put.3 (c.publish_written.ensures.same.was_honest h) body long has))
 
 pub returns-in-Ok-put_words-clause-done : goal.returns-in-Ok-put_words-clause-done
 returns-in-Ok-put_words-clause-done g c h f rests p there body long has =
     let put = c.in-Ok-put_words.ensures.put p (ap (λ (x : VolumeCore). pending_at x.pending c.args.pending.key) c.find_supplies.ensures.core ∙ there) in
     c.publish_written.ensures.done h f (c.put_words.ensures.rests (c.publish_written.ensures.same.was_honest h) f rests) (record p { version = put.0 }) put.1 (splice body c.args.block c.args.words.now)
-    (length-splice body c.args.block c.args.words.now ∙ ap (λ (n : ℕ). length_after n c.args.block (length c.args.words.now)) long ∙ sym put.2) (put.3 (c.put_words.ensures.same.was_honest (c.publish_written.ensures.same.was_honest h)) body long has)
+    (length-splice body c.args.block c.args.words.now ∙ ap (λ (n : ℕ). length_after n c.args.block (length c.args.words.now)) long ∙ sym put.2) (put.3 (c.publish_written.ensures.same.was_honest h) body long has)
 
 pub returns-in-Err-clause-room : goal.returns-in-Err-clause-room
 returns-in-Err-clause-room g c alive p there =
