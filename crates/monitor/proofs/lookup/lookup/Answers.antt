@@ -1,4 +1,4 @@
-use Rattle.std.proofs.Common.{◌∙◌, sym, ap, refl, Some, slice_set}
+use Rattle.std.proofs.Common.{◌∙◌, sym, ap, refl, Some, slice_set, subst}
 use Rattle.meaning.proofs.LookupLaws.{is_none_of}
 use Rattle.volume.specs.LiveCores.{core_of}
 use Rattle.monitor.specs.Sides.{channel_of}
@@ -31,7 +31,7 @@ returns-in-Ok-clause-looked g c is =
             ∙ (λ i. record c.args.job.now { core = back i; channels = slice_set c.args.job.now.channels c.args.number (Some (record c.in-Some.channel { status = status i; input = Some c.in-Ok.input })) });
       },
       λ h s known. is_found (g.D.Disk.state c.args.volume.now.disk).contents (core_of c.find_input.new.volume.map).live s nothing c.args.job.now c.set_channel.new.self c.args.address c.in-Ok.input c.in-Ok.facts (c.in-Ok.ensures.place nothing)
-          (c.in-Ok.ensures.answered h s known nothing (channel_of nothing c.in-Some.channel) (free_still nothing c.in-Some.channel (is_none_of c.in-Some.channel.output (sym c.is_some.ensures ∙ c.if-is_some.false)))
+          (c.in-Ok.ensures.answered (subst (λ disk. (g.D.Disk.state disk).honest) c.let_go.ensures.untouched.0 h) s known nothing (channel_of nothing c.in-Some.channel) (free_still nothing c.in-Some.channel (is_none_of c.in-Some.channel.output (sym c.is_some.ensures ∙ c.if-is_some.false)))
           (sym c.lies_outside.ensures.value ∙ c.if-lies_outside.false)).1
           (λ file shown short. core ∙ c.put_found.ensures file shown short),
     )
@@ -46,7 +46,7 @@ returns-in-Ok-clause-row g c h s known w =
     let there = sym c.channel.ensures ∙ c.in-Some.is in
     let free = is_none_of c.in-Some.channel.output (sym c.is_some.ensures ∙ c.if-is_some.false) in
     done s w c.args.job.now c.args.number c.args.address c.in-Some.channel there _
-    (c.in-Ok.ensures.answered h s known w (channel_of w c.in-Some.channel) (free_still w c.in-Some.channel free) (sym c.lies_outside.ensures.value ∙ c.if-lies_outside.false)).0
+    (c.in-Ok.ensures.answered (subst (λ disk. (g.D.Disk.state disk).honest) c.let_go.ensures.untouched.0 h) s known w (channel_of w c.in-Some.channel) (free_still w c.in-Some.channel free) (sym c.lies_outside.ensures.value ∙ c.if-lies_outside.false)).0
 
 pub returns-in-Err-clause-row : goal.returns-in-Err-clause-row
 returns-in-Err-clause-row g c h s known w =
