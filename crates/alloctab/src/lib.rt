@@ -20,8 +20,6 @@ mod layout;
 mod load;
 mod reached;
 mod table;
-#[cfg(test)]
-mod tests;
 
 pub use error::TableError;
 pub use reached::Reached;

@@ -5,8 +5,6 @@ mod copies;
 mod disk;
 mod fault;
 mod memory;
-#[cfg(test)]
-mod tests;
 
 pub use copies::{write_copies, write_through};
 pub use disk::Disk;

@@ -44,8 +44,6 @@ mod gate;
 mod log;
 mod order;
 mod recovery;
-#[cfg(test)]
-mod tests;
 
 pub use change_set::{ChangeSet, MAX_PUTS};
 pub use error::LogError;

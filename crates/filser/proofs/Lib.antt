@@ -1,2 +1,3 @@
+mod Began
 mod Matching
 mod Unasked

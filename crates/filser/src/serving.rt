@@ -1,11 +1,11 @@
 ghost use Rattle.std.specs.Prelude.{◌≡◌, ◌≢◌, ◌⊎◌, ◌++◌, ◌∷◌, ◌*◌, ℕ, [], max, if◌then◌else◌, IfOk, IfErr};
 ghost use Rattle.std.specs.Io.KnownBytes.{Appends};
 ghost use Rattle.commands.specs.Sessions.{Session, Script};
-ghost use Rattle.meaning.specs.Files.{File, Files};
+ghost use Rattle.meaning.specs.Files.{File as StoredFile, Files};
 ghost use Rattle.meaning.specs.Lines.{feed};
 ghost use Rattle.meaning.specs.Stands.{Stands};
 ghost use Rattle.filser.specs.Refusals.{IsFileRefusal, refusal_text, refusal_code};
-ghost use Rattle.filser.specs.ServedDisks.{IsServed, IsUnserved, machine_over};
+ghost use Rattle.filser.specs.ServedDisks.{IsEnding, IsSaid, IsServed, IsUnserved, machine_over};
 ghost use Rattle.imagefile.specs.Image.{image_contents};
 ghost use Rattle.imagefile.specs.Streams.{IsApart};
 ghost use Rattle.imagefile.specs.Supposition.{unseen_in};
@@ -32,8 +32,7 @@ const FRESH_CALLS: usize = 4096;
 /// Prints why a run ends here, and answers how it ended.
 pub(crate) fn say<W: Write>(writer: &mut W, refusal: Refusal) -> Status
     ensures serving { result ≢ BadArguments }
-    ensures said { (result ≡ Fault) ⊎ ((status_code result ≡ refusal_code refusal)
-        × Appends (W.contents writer.old) (W.contents writer.new) (refusal_text refusal ++ feed ∷ [])) }
+    ensures said { IsSaid (W.contents writer.old) (W.contents writer.new) result refusal }
 {
     match writeln!(writer, "{refusal}") {
         Ok(()) => refusal.status(),
@@ -60,7 +59,8 @@ fn status_of(tally: Tally) -> Status
 
 /// The status of a session or a script, which may have broken off.
 fn ending(talked: Result<Tally, SessionError>) -> Status
-    ensures { result ≢ BadArguments }
+    ensures ends { IsEnding result talked }
+    ensures serving { result ≢ BadArguments }
 {
     match talked {
         Ok(tally) => status_of(tally),
@@ -77,10 +77,11 @@ pub(crate) fn serve<D: Disk + Drop, R: Read, W: Write>(
     writer: &mut W,
 ) -> (Status, D)
     ensures serving { result.0 ≢ BadArguments }
+    ensures was_honest { (D.state result.1).honest → (D.state disk).honest }
     // Where the disk has been honest up to the end, and stood for some files: these are served, or nothing is.
-    ensures served { (D.state result.1).honest → (files : Files File) → Stands (D.state disk).size (D.state disk).contents files
-        → IsServed D.state disk result.1 files (λ first last. Session (R.remaining reader.old) (R.remaining reader.new) (W.contents writer.old) (W.contents writer.new) (machine_over D.state) first last moment)
-        ⊎ IsUnserved D.state disk result.1 }
+    ensures served { (D.state result.1).honest → (files : Files StoredFile) → Stands (D.state disk).size (D.state disk).contents files
+        → IsServed D.state disk result.1 result.0 files (λ first last. Session (R.remaining reader.old) (R.remaining reader.new) (W.contents writer.old) (W.contents writer.new) (machine_over D.state) first last moment)
+        ⊎ IsUnserved D.state disk result.1 result.0 (W.contents writer.old) (W.contents writer.new) }
 {
     match Monitor::start(alloc, disk) {
         Ok(mut monitor) => {
@@ -101,10 +102,11 @@ pub(crate) fn serve_calls<D: Disk + Drop, R: Read, W: Write>(
     writer: &mut W,
 ) -> (Status, D)
     ensures serving { result.0 ≢ BadArguments }
+    ensures was_honest { (D.state result.1).honest → (D.state disk).honest }
     // Where the disk has been honest up to the end, and stood for some files: these are served, or nothing is.
-    ensures served { (D.state result.1).honest → (files : Files File) → Stands (D.state disk).size (D.state disk).contents files
-        → IsServed D.state disk result.1 files (λ first last. Script (R.remaining reader.old) (R.remaining reader.new) (W.contents writer.old) (W.contents writer.new) (machine_over D.state) first last moment)
-        ⊎ IsUnserved D.state disk result.1 }
+    ensures served { (D.state result.1).honest → (files : Files StoredFile) → Stands (D.state disk).size (D.state disk).contents files
+        → IsServed D.state disk result.1 result.0 files (λ first last. Script (R.remaining reader.old) (R.remaining reader.new) (W.contents writer.old) (W.contents writer.new) (machine_over D.state) first last moment)
+        ⊎ IsUnserved D.state disk result.1 result.0 (W.contents writer.old) (W.contents writer.new) }
 {
     match Monitor::start(alloc, disk) {
         Ok(mut monitor) => {
@@ -133,10 +135,10 @@ pub(crate) fn serve_file<R: Read, W: Write>(
     requires { IsApart file }
     ensures serving { IfOk result (λ done. done.0 ≢ BadArguments) }
     ensures refused { IfErr result (λ fault. IsFileRefusal fault.refusal) }
-    ensures served { IfOk result (λ done. (⟦<ImageDisk<HostFile> as Disk>⟧.state done.1).honest → (blocks : ℕ) (files : Files File) → size_of (unseen_in supposed) ≡ 1024 * blocks
+    ensures served { IfOk result (λ done. (⟦<ImageDisk<HostFile> as Disk>⟧.state done.1).honest → (blocks : ℕ) (files : Files StoredFile) → size_of (unseen_in supposed) ≡ 1024 * blocks
         → Stands blocks (image_contents (first_bytes (unseen_in supposed))) files
-        → (image : _) × (IsServed (⟦<ImageDisk<HostFile> as Disk>⟧.state) image done.1 files (λ first last. Session (R.remaining reader.old) (R.remaining reader.new) (W.contents writer.old) (W.contents writer.new) (machine_over (⟦<ImageDisk<HostFile> as Disk>⟧.state)) first last moment)
-        ⊎ IsUnserved (⟦<ImageDisk<HostFile> as Disk>⟧.state) image done.1)) }
+        → (image : _) × (IsServed (⟦<ImageDisk<HostFile> as Disk>⟧.state) image done.1 done.0 files (λ first last. Session (R.remaining reader.old) (R.remaining reader.new) (W.contents writer.old) (W.contents writer.new) (machine_over (⟦<ImageDisk<HostFile> as Disk>⟧.state)) first last moment)
+        ⊎ IsUnserved (⟦<ImageDisk<HostFile> as Disk>⟧.state) image done.1 done.0 (W.contents writer.old) (W.contents writer.new))) }
 {
     let image = image_in(file, supposed)?;
     Ok(serve(alloc, image, moment, reader, writer))
@@ -160,10 +162,10 @@ pub(crate) fn serve_calls_in_file<R: Read, W: Write>(
     requires { IsApart file }
     ensures serving { IfOk result (λ done. done.0 ≢ BadArguments) }
     ensures refused { IfErr result (λ fault. IsFileRefusal fault.refusal) }
-    ensures served { IfOk result (λ done. (⟦<ImageDisk<HostFile> as Disk>⟧.state done.1).honest → (blocks : ℕ) (files : Files File) → size_of (unseen_in supposed) ≡ 1024 * blocks
+    ensures served { IfOk result (λ done. (⟦<ImageDisk<HostFile> as Disk>⟧.state done.1).honest → (blocks : ℕ) (files : Files StoredFile) → size_of (unseen_in supposed) ≡ 1024 * blocks
         → Stands blocks (image_contents (first_bytes (unseen_in supposed))) files
-        → (image : _) × (IsServed (⟦<ImageDisk<HostFile> as Disk>⟧.state) image done.1 files (λ first last. Script (R.remaining reader.old) (R.remaining reader.new) (W.contents writer.old) (W.contents writer.new) (machine_over (⟦<ImageDisk<HostFile> as Disk>⟧.state)) first last moment)
-        ⊎ IsUnserved (⟦<ImageDisk<HostFile> as Disk>⟧.state) image done.1)) }
+        → (image : _) × (IsServed (⟦<ImageDisk<HostFile> as Disk>⟧.state) image done.1 done.0 files (λ first last. Script (R.remaining reader.old) (R.remaining reader.new) (W.contents writer.old) (W.contents writer.new) (machine_over (⟦<ImageDisk<HostFile> as Disk>⟧.state)) first last moment)
+        ⊎ IsUnserved (⟦<ImageDisk<HostFile> as Disk>⟧.state) image done.1 done.0 (W.contents writer.old) (W.contents writer.new))) }
 {
     let image = image_in(file, supposed)?;
     Ok(serve_calls(alloc, image, moment, reader, writer))

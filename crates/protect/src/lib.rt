@@ -13,8 +13,6 @@
 #![tactic(auto)]
 
 mod rights;
-#[cfg(test)]
-mod tests;
 
 pub use meaning::{Act, ErrorCode, IoStatus};
 pub use rights::{DirectoryAct, acts_are_nested, dir_right, right};

@@ -8,8 +8,6 @@ mod error;
 mod moment;
 mod names;
 mod sixbit;
-#[cfg(test)]
-mod tests;
 mod word;
 
 pub use ascii::{pack_ascii, unpack_ascii};

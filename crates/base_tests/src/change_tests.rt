@@ -2,12 +2,13 @@ ghost use Rattle.std.specs.Prelude.{◌≡◌, ◌<◌, ◌≤◌, length};
 ghost use Rattle.std.specs.List.{AllByRecursion};
 ghost use Rattle.meaning.specs.Log.{IsTarget, targets};
 
-use crate::{ChangeSet, LogError, MAX_PUTS, commit, recover};
+use crate::disk_tests::{beginning, expect_block, filled};
 use blockdisk::{Disk, Fault, MemDisk, NoMemory};
+use changeset::{ChangeSet, LogError, MAX_PUTS, commit, recover};
 use std::alloc::Global;
 use std::process::Abort;
 use std::test::Fail;
-use words36::{BLOCK_WORDS, Block, Word};
+use words36::{Block, Word};
 
 /// The smallest volume. Its log has room for 9 images, and block 15 is the first of its free space.
 const SIZE: u32 = 64;
@@ -21,27 +22,6 @@ const FIRST_IMAGE: u32 = 5;
 /// Each word of an open gate.
 const OPEN: u64 = 0o252525252525;
 
-fn word(number: u64) -> Word {
-    match Word::new(number) {
-        Some(word) => word,
-        None => Word::ZERO,
-    }
-}
-
-/// A block whose words are all this number.
-fn filled(number: u64) -> Block {
-    [word(number); BLOCK_WORDS]
-}
-
-/// A block that begins with these words, and is zero behind them.
-fn beginning(words: &[u64]) -> Block {
-    let mut block = [Word::ZERO; BLOCK_WORDS];
-    for (place, &number) in block.iter_mut().zip(words) {
-        *place = word(number);
-    }
-    block
-}
-
 fn load(rt: &impl Abort, disk: &mut MemDisk, n: u32, block: &Block) {
     assert!(rt; n < disk.blocks());
     disk.load(n, block);
@@ -50,11 +30,6 @@ fn load(rt: &impl Abort, disk: &mut MemDisk, n: u32, block: &Block) {
 fn damage(rt: &impl Abort, disk: &mut MemDisk, n: u32) {
     assert!(rt; n < disk.blocks());
     disk.damage(n);
-}
-
-fn expect_block<D: Disk>(rt: &impl Abort, disk: &mut D, n: u32, block: &Block) {
-    assert!(rt; n < disk.blocks());
-    assert!(rt; disk.read(n) == Ok(*block));
 }
 
 /// Adds a put of a block that is all this number.

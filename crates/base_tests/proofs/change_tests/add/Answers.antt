@@ -3,7 +3,7 @@ use Rattle.std.specs.List.{AllByRecursion}
 use Rattle.meaning.specs.declared.put.Put.{Put}
 use Rattle.meaning.specs.Log.{IsTarget, targets}
 use Rattle.changeset.specs.PutLaws.{all_replaced}
-use Rattle.changeset.proofs.tests.add.Goals as goal
+use Rattle.base_tests.proofs.change_tests.add.Goals as goal
 
 pub returns : goal.returns
 returns g c =

@@ -1,4 +1,4 @@
-use crate::{Act, DirectoryAct, dir_right, right};
+use protect::{Act, DirectoryAct, dir_right, right};
 use std::test::Fail;
 use words36::Ppn;
 

@@ -1,5 +1,8 @@
-use crate::*;
 use std::test::Fail;
+use words36::{
+    BLOCK_WORDS, Day, Half, Moment, Ppn, Word, WordError, block_from_bytes, block_to_bytes,
+    date_of, day_of, pack_ascii, sixbit_of, text_of, unpack_ascii,
+};
 
 #[test]
 fn sixbit_words(rt: HostRuntime) -> Result<(), Fail> {

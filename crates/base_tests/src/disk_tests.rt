@@ -1,19 +1,32 @@
-use crate::{Disk, Fault, MemDisk, NoMemory, write_copies, write_through};
+use blockdisk::{Disk, Fault, MemDisk, NoMemory, write_copies, write_through};
 use std::process::Abort;
 use std::test::Fail;
 use words36::{BLOCK_WORDS, Block, Word};
 
-/// A block whose words are all this number.
-fn filled(number: u64) -> Block {
+fn word(number: u64) -> Word {
     match Word::new(number) {
-        Some(word) => [word; BLOCK_WORDS],
-        None => [Word::ZERO; BLOCK_WORDS],
+        Some(word) => word,
+        None => Word::ZERO,
     }
 }
 
-fn expect_block<D: Disk>(rt: &impl Abort, disk: &mut D, n: u32, number: u64) {
+/// A block whose words are all this number.
+pub(crate) fn filled(number: u64) -> Block {
+    [word(number); BLOCK_WORDS]
+}
+
+/// A block that begins with these words, and is zero behind them.
+pub(crate) fn beginning(words: &[u64]) -> Block {
+    let mut block = [Word::ZERO; BLOCK_WORDS];
+    for (place, &number) in block.iter_mut().zip(words) {
+        *place = word(number);
+    }
+    block
+}
+
+pub(crate) fn expect_block<D: Disk>(rt: &impl Abort, disk: &mut D, n: u32, block: &Block) {
     assert!(rt; n < disk.blocks());
-    assert!(rt; disk.read(n) == Ok(filled(number)));
+    assert!(rt; disk.read(n) == Ok(*block));
 }
 
 #[test]
@@ -21,7 +34,7 @@ fn a_new_disk_is_zero(rt: HostRuntime) -> Result<(), Fail> {
     let mut disk = MemDisk::new(rt.alloc(), 3, 4)?;
     assert_eq!(rt; disk.blocks(), 3);
     for n in 0..3 {
-        expect_block(&rt, &mut disk, n, 0);
+        expect_block(&rt, &mut disk, n, &filled(0));
     }
     Ok(())
 }
@@ -31,11 +44,11 @@ fn what_was_written_is_read(rt: HostRuntime) -> Result<(), Fail> {
     let mut disk = MemDisk::new(rt.alloc(), 3, 4)?;
     assert_eq!(rt; disk.blocks(), 3);
     assert_eq!(rt; disk.write(1, &filled(7)), Ok(()));
-    expect_block(&rt, &mut disk, 1, 7);
-    expect_block(&rt, &mut disk, 0, 0);
-    expect_block(&rt, &mut disk, 2, 0);
+    expect_block(&rt, &mut disk, 1, &filled(7));
+    expect_block(&rt, &mut disk, 0, &filled(0));
+    expect_block(&rt, &mut disk, 2, &filled(0));
     assert_eq!(rt; disk.sync(), Ok(()));
-    expect_block(&rt, &mut disk, 1, 7);
+    expect_block(&rt, &mut disk, 1, &filled(7));
     Ok(())
 }
 
@@ -47,9 +60,9 @@ fn a_full_record_answers_device(rt: HostRuntime) -> Result<(), Fail> {
     assert_eq!(rt; disk.sync(), Ok(()));
     assert!(rt; 0 < disk.blocks());
     assert_eq!(rt; disk.write(0, &filled(2)), Err(Fault::Device));
-    expect_block(&rt, &mut disk, 0, 1);
+    expect_block(&rt, &mut disk, 0, &filled(1));
     assert_eq!(rt; disk.sync(), Err(Fault::Device));
-    expect_block(&rt, &mut disk, 0, 1);
+    expect_block(&rt, &mut disk, 0, &filled(1));
     Ok(())
 }
 
@@ -58,7 +71,7 @@ fn loading_and_damaging(rt: HostRuntime) -> Result<(), Fail> {
     let mut disk = MemDisk::new(rt.alloc(), 3, 1)?;
     assert_eq!(rt; disk.blocks(), 3);
     disk.load(2, &filled(5));
-    expect_block(&rt, &mut disk, 2, 5);
+    expect_block(&rt, &mut disk, 2, &filled(5));
     assert!(rt; 1 < disk.blocks());
     disk.damage(1);
     assert!(rt; 1 < disk.blocks());
@@ -69,9 +82,9 @@ fn loading_and_damaging(rt: HostRuntime) -> Result<(), Fail> {
     assert!(rt; 0 < disk.blocks());
     disk.load(0, &filled(9));
     assert_eq!(rt; disk.sync(), Ok(()));
-    expect_block(&rt, &mut disk, 0, 9);
-    expect_block(&rt, &mut disk, 1, 6);
-    expect_block(&rt, &mut disk, 2, 5);
+    expect_block(&rt, &mut disk, 0, &filled(9));
+    expect_block(&rt, &mut disk, 1, &filled(6));
+    expect_block(&rt, &mut disk, 2, &filled(5));
     Ok(())
 }
 
@@ -80,11 +93,11 @@ fn two_copies(rt: HostRuntime) -> Result<(), Fail> {
     let mut disk = MemDisk::new(rt.alloc(), 3, 6)?;
     assert_eq!(rt; disk.blocks(), 3);
     assert_eq!(rt; write_copies(&mut disk, 1, 2, &filled(3)), Ok(()));
-    expect_block(&rt, &mut disk, 1, 3);
-    expect_block(&rt, &mut disk, 2, 3);
+    expect_block(&rt, &mut disk, 1, &filled(3));
+    expect_block(&rt, &mut disk, 2, &filled(3));
     assert!(rt; 0 < disk.blocks());
     assert_eq!(rt; write_through(&mut disk, 0, &filled(4)), Ok(()));
-    expect_block(&rt, &mut disk, 0, 4);
+    expect_block(&rt, &mut disk, 0, &filled(4));
     assert!(rt; 0 < disk.blocks());
     assert_eq!(rt; write_through(&mut disk, 0, &filled(5)), Err(Fault::Device));
     Ok(())

@@ -1,23 +1,15 @@
-use crate::layout::{table_blocks, table_start};
-use crate::{Reached, Table, TableError};
+use crate::disk_tests::beginning;
+use alloctab::{Reached, Table, TableError};
 use blockdisk::{Disk, Fault, MemDisk, NoMemory};
 use changeset::ChangeSet;
 use std::process::Abort;
 use std::test::Fail;
-use words36::{BLOCK_WORDS, Block, Word};
-
-/// The words of a table block that begins with these two.
-fn table_words(first: u64, second: u64) -> Block {
-    let mut words = [Word::ZERO; BLOCK_WORDS];
-    words[0] = Word::new(first).unwrap_or(Word::ZERO);
-    words[1] = Word::new(second).unwrap_or(Word::ZERO);
-    words
-}
+use words36::Block;
 
 /// Gives a disk of 64 blocks a table that begins with these words.
 fn load_table(rt: &impl Abort, disk: &mut MemDisk, first: u64, second: u64) {
     assert!(rt; disk.blocks() == 64);
-    disk.load(14, &table_words(first, second));
+    disk.load(14, &beginning(&[first, second]));
     assert!(rt; disk.blocks() == 64);
 }
 
@@ -36,27 +28,85 @@ fn the_table_of_a_small_disk(rt: HostRuntime) -> Result<(), Fail> {
     let puts = set.puts();
     assert!(rt; puts.len() == 1);
     assert_eq!(rt; puts[0].block, 14);
-    assert!(rt; puts[0].words == table_words(0o777777100000, 0));
+    assert!(rt; puts[0].words == beginning(&[0o777777100000, 0]));
     table.changes(&mut set);
     assert_eq!(rt; set.puts().len(), 1);
     Ok(())
 }
 
+/// A disk that fails from its next read on but so many. It is called dishonest, so that nothing is asked
+/// of it but its count of failures.
+#[derive(Drop)]
+struct FailingDisk {
+    disk: MemDisk,
+    reads: u32,
+    failures: u64,
+}
+
+impl Disk for FailingDisk {
+    ghost use Rattle.blockdisk.specs.Memory.{memory_state};
+
+    ghost state = { λ failing. record (memory_state failing.disk) { honest = ⊥; failures = failing.failures } };
+
+    ghost counts_now = { λ failing t c honest. absurd honest };
+
+    ghost only_now = { λ failing c honest. absurd honest };
+
+    ghost reaches_back = { λ failing t u c honest. absurd honest };
+
+    fn blocks(&self) -> u32 {
+        self.disk.blocks()
+    }
+
+    fn read(&mut self, n: u32) -> Result<Block, Fault> {
+        if self.reads == 0 {
+            self.failures = self.failures.saturating_add(1);
+            return Err(Fault::Device);
+        }
+        self.reads -= 1;
+        match self.disk.read(n) {
+            Err(Fault::Device) => {
+                self.failures = self.failures.saturating_add(1);
+                Err(Fault::Device)
+            }
+            answer => answer,
+        }
+    }
+
+    fn write(&mut self, _n: u32, _block: &Block) -> Result<(), Fault> {
+        self.failures = self.failures.saturating_add(1);
+        Err(Fault::Device)
+    }
+
+    fn sync(&mut self) -> Result<(), Fault> {
+        self.failures = self.failures.saturating_add(1);
+        Err(Fault::Device)
+    }
+}
+
+/// A table block has a bit for each of 36 * 128 = 4608 blocks, so that the tables of these disks have 1, 1, 2 and 29
+/// blocks. A table stands behind the log, whose images begin at block 5 and are as many as the table has blocks, and
+/// 8 more: it begins at 14, 14, 15 and 42, and its last block is 14, 14, 16 and 70.
 #[test]
 fn the_last_block_of_each_table(rt: HostRuntime) -> Result<(), Fail> {
-    for (size, blocks) in [(64, 1), (4608, 1), (4609, 2), (131072, 29)] {
-        let mut disk = MemDisk::new(rt.alloc(), size, 0)?;
-        assert!(rt; disk.blocks() == size);
+    for (size, blocks, last) in [(64, 1, 14), (4608, 1, 14), (4609, 2, 16), (131072, 29, 70)] {
+        // It fails at a read beyond the blocks of the table.
+        let mut failing = FailingDisk {
+            disk: MemDisk::new(rt.alloc(), size, 0)?,
+            reads: blocks,
+            failures: 0,
+        };
+        assert!(rt; failing.blocks() == size);
         assert!(rt; 64 <= size && size <= 131072);
-        assert_eq!(rt; table_blocks(size), blocks);
-        let mut table = Table::load(rt.alloc(), &mut disk)?;
+        let mut table = Table::load(rt.alloc(), &mut failing)?;
+        assert_eq!(rt; failing.reads, 0);
         assert_eq!(rt; table.is_free(size - 1), true);
         table.set(size - 1);
         let mut set = ChangeSet::new();
         table.changes(&mut set);
         let puts = set.puts();
         assert!(rt; puts.len() == 1);
-        assert_eq!(rt; puts[0].block, table_start(size) + blocks - 1);
+        assert_eq!(rt; puts[0].block, last);
     }
     Ok(())
 }
@@ -141,56 +191,6 @@ fn what_is_reached_is_set(rt: HostRuntime) -> Result<(), Fail> {
     assert!(rt; reached.mark(3));
     assert_eq!(rt; table.wrong_block(&reached), Some(14));
     Ok(())
-}
-
-/// A disk that fails from its next read on but so many. It is called dishonest, so that nothing is asked
-/// of it but its count of failures.
-#[derive(Drop)]
-struct FailingDisk {
-    disk: MemDisk,
-    reads: u32,
-    failures: u64,
-}
-
-impl Disk for FailingDisk {
-    ghost use Rattle.blockdisk.specs.Memory.{memory_state};
-
-    ghost state = { λ failing. record (memory_state failing.disk) { honest = ⊥; failures = failing.failures } };
-
-    ghost counts_now = { λ failing t c honest. absurd honest };
-
-    ghost only_now = { λ failing c honest. absurd honest };
-
-    ghost reaches_back = { λ failing t u c honest. absurd honest };
-
-    fn blocks(&self) -> u32 {
-        self.disk.blocks()
-    }
-
-    fn read(&mut self, n: u32) -> Result<Block, Fault> {
-        if self.reads == 0 {
-            self.failures = self.failures.saturating_add(1);
-            return Err(Fault::Device);
-        }
-        self.reads -= 1;
-        match self.disk.read(n) {
-            Err(Fault::Device) => {
-                self.failures = self.failures.saturating_add(1);
-                Err(Fault::Device)
-            }
-            answer => answer,
-        }
-    }
-
-    fn write(&mut self, _n: u32, _block: &Block) -> Result<(), Fault> {
-        self.failures = self.failures.saturating_add(1);
-        Err(Fault::Device)
-    }
-
-    fn sync(&mut self) -> Result<(), Fault> {
-        self.failures = self.failures.saturating_add(1);
-        Err(Fault::Device)
-    }
 }
 
 #[test]

@@ -1,0 +1,31 @@
+use Rattle.std.proofs.Common.{inl, inr, subst}
+use Rattle.monitor.proofs.Along.{no_fault}
+use Rattle.filser.proofs.serving.serve.Goals as goal
+
+pub returns-in-Ok-clause-served : goal.returns-in-Ok-clause-served
+returns-in-Ok-clause-served g c h files stands =
+    let end = subst (λ disk. (g.D.Disk.state disk).honest) c.finish.ensures h in
+    let first = c.session-talked.ensures.goes.was_honest end in
+    inl (record {
+      first = c.in-Ok.monitor;
+      last = c.session-talked.new.monitor;
+      result = c.session-talked.result;
+      begun = λ s start. c.in-Ok.ensures.started files stands s start first;
+      started = c.in-Ok.ensures.crash first;
+      talks = c.session-talked.ensures;
+      ends = c.ending.ensures.ends;
+      ended = c.finish.ensures;
+    })
+
+pub returns-in-Err-clause-served : goal.returns-in-Err-clause-served
+returns-in-Err-clause-served g c h files stands =
+    inr (record {
+      error = c.in-Err.error;
+      why = no_fault (g.D.Disk.state c.args.disk) (g.D.Disk.state c.in-Err.disk) files stands c.in-Err.error (c.in-Err.ensures.refused h) (c.in-Err.ensures.kept h);
+      said = c.say.ensures.said;
+      left = c.in-Err.ensures.crash_refused h;
+    })
+
+pub returns-in-Ok-clause-was_honest : goal.returns-in-Ok-clause-was_honest
+returns-in-Ok-clause-was_honest g c h =
+    c.in-Ok.ensures.same.was_honest (c.session-talked.ensures.goes.was_honest (subst (λ disk. (g.D.Disk.state disk).honest) c.finish.ensures h))
