@@ -132,8 +132,14 @@ fn perform<F: Files<File = File>, R: Read, W: Write, E: Write>(
         Request::Calls(path, date, minute) => match open_file(files, path, errors) {
             Ok(file) => {
                 let at = moment(date, minute);
-                let served =
-                    serve_calls_in_file(alloc, file, Supposition::any(), at, reader, writer);
+                let served = serve_calls_in_file(
+                    alloc,
+                    file,
+                    Supposition::any(),
+                    at,
+                    reader,
+                    writer,
+                );
                 conclude(served, path, writer, errors)
             }
             Err(fault) => refuse_image(fault, path, writer, errors),
