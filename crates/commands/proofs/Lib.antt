@@ -20,3 +20,4 @@ pub mod ServedLaws
 pub mod ReadingLaws
 pub mod TypingLaws
 pub mod SpecLaws
+pub mod StoppedLaws

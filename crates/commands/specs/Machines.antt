@@ -1,12 +1,13 @@
 -- What is known of a service of files, whatever it is made of: the disk that it serves, whether it has kept its
 -- promises so far, and which services of the definitions it may stand for.
-use Rattle.std.specs.Prelude.{◌≡◌, ℕ, false, List, [], ◌∷◌, None, Result}
+use Rattle.std.specs.Prelude.{◌≡◌, ◌⊎◌, ℕ, false, IsTrue, List, [], ◌∷◌, None, Result}
 use Rattle.blockdisk.specs.Disk.{DiskState, Still, LeavesOnly}
-use Rattle.meaning.specs.Crashes.{StandsForEither}
+use Rattle.meaning.specs.Crashes.{may_change, StandsForEither}
 use Rattle.meaning.specs.Jobs.{State}
 use Rattle.meaning.specs.Room.{Pack}
 use Rattle.meaning.specs.Runs.{Service, Serving, Broken, Answers, Lists}
 use Rattle.meaning.specs.Conducts.{Act, Asks, Looks}
+use Rattle.meaning.specs.Step.{step}
 use Rattle.meaning.specs.Talks.{Went}
 use Rattle.meaning.specs.declared.entry.Entry.{Entry}
 use Rattle.meaning.specs.declared.call.Event as played
@@ -21,11 +22,12 @@ pub record Machine : Type 1 where
   pub disk : DiskState
   pub serves : Service → Type 0
 
--- It answered an event: at any moment of it a crash left the files from before, or those after it.
+-- It answered an event: at any moment of it a crash left the files from before, or those after it where its answer is one
+-- that may change files.
 pub record IsAnswered (old new : Machine) (event : Event) (reply : Reply) : Type 0 where
   pub pack : new.pack ≡ old.pack
   pub was_honest : new.honest → old.honest
-  pub crash : new.honest → (s : State) → old.serves (Serving s) → LeavesOnly old.disk new.disk (StandsForEither old.pack s (event_of event))
+  pub crash : new.honest → (s : State) → old.serves (Serving s) → LeavesOnly old.disk new.disk (StandsForEither old.pack s (event_of event) reply)
   pub broken : new.honest → old.serves Broken → Still old.disk new.disk
   pub answers : new.honest → (first : Service) → old.serves first → IsServedIn first event → (last : Service) × new.serves last × Answers old.pack first (event_of event) reply last
 
@@ -42,21 +44,33 @@ AlwaysStands {S} machine = (service : S) → (machine service).honest → (s : S
 
 -- From a value of the service on job 1 went by these acts, and `end` is the value after them. At each moment, that
 -- before the first act and that after each of them, all that a crash may leave stands for the files after the acts so
--- far; from one moment to the next a crash left these, or those after one act more. A list of a directory leaves the
--- disk alone, and from a fault of the disk on nothing is written.
+-- far; from one moment to the next a crash left these, or those after one act more, where its answer is one that may
+-- change files. A list of a directory leaves the disk alone, and from a fault of the disk on nothing is written.
 abbrev pub ActsBy : {S : Type 0} → (S → Machine) → Pack → S → Service → List Act → S → Service → Type 0
 ActsBy machine pack service Broken acts end new = Still (machine service).disk (machine end).disk × Went pack Broken acts new
 ActsBy machine pack service (Serving s) [] end new = (end ≡ service) × (new ≡ Serving s) × StandsNow pack (machine service).disk s
 ActsBy {S} machine pack service (Serving s) (Asks event reply ∷ acts) end new =
     StandsNow pack (machine service).disk s
     × (mid : S) × (after : Service) × Answers pack (Serving s) event reply after
-    × LeavesOnly (machine service).disk (machine mid).disk (StandsForEither pack s event)
+    × LeavesOnly (machine service).disk (machine mid).disk (StandsForEither pack s event reply)
     × ActsBy machine pack mid after acts end new
 ActsBy {S} machine pack service (Serving s) (Looks owner answer ∷ acts) end new =
     StandsNow pack (machine service).disk s
     × (mid : S) × (after : Service) × Lists (Serving s) 1 owner answer after
     × Still (machine service).disk (machine mid).disk
     × ActsBy machine pack mid after acts end new
+
+-- The files of the state that a start finds over what a crash left in the course of these acts: those after some of
+-- them, none left out, or those after these and the next one, which was running, where its answer is one that may change
+-- files; and no third.
+abbrev pub IsAlongActs : Pack → Service → List Act → State → Type 0
+IsAlongActs pack Broken acts found = ⊥
+IsAlongActs pack (Serving s) [] found = found ≡ s
+IsAlongActs pack (Serving s) (Asks event reply ∷ acts) found =
+    (found ≡ s) ⊎ (IsTrue (may_change reply) × (found ≡ (step pack 0 s event).1))
+    ⊎ ((mid : Service) × Answers pack (Serving s) event reply mid × IsAlongActs pack mid acts found)
+IsAlongActs pack (Serving s) (Looks owner answer ∷ acts) found =
+    (found ≡ s) ⊎ ((mid : Service) × Lists (Serving s) 1 owner answer mid × IsAlongActs pack mid acts found)
 
 -- It went by these acts of job 1, moment by moment.
 pub record GoesBy {S : Type 0} (machine : S → Machine) (old new : S) (acts : List Act) : Type 0 where

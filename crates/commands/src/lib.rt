@@ -26,6 +26,8 @@
 //!    what is said of a session is said of it, where its events are served in the states that they meet. A line
 //!    with a call that is not served is answered as one that is none of the grammar. No job is reset.
 //!    (`Script`, `served_event`)
+//! 10. A start over what a crash left in the course of a session or a script, or of starts after it that were stopped
+//!    themselves, finds the files after some of its acts, or after these and the one that was running. (`start_after_acts`)
 #![tactic(auto)]
 
 mod answer;
@@ -51,6 +53,7 @@ mod ordered;
 mod orders;
 mod reading;
 mod requests;
+mod restart;
 mod run;
 #[cfg(test)]
 mod script_tests;
@@ -68,5 +71,6 @@ pub use laws::{lines_say_what_is_served, orders_have_one_reading, served_texts_a
 pub use monitor::{Monitor, StartError};
 pub use monitored::{script, session};
 pub use ordered::served_event;
+pub use restart::start_after_acts;
 pub use text::refusal;
 pub use volume::Volume;

@@ -40,7 +40,7 @@ is_run pack d t (Serving s) new (event ∷ events) (reply ∷ replies) (Serving 
 pub runs_start : (pack : Pack) (d : DiskState) (s : State) → ((c : Contents) → MayLeave d c → StandsForState pack s c) → RunsOn pack d d.clock (Serving s) [] [] (Serving s)
 runs_start pack d s stands = (refl, refl, stands)
 
-module _ (pack : Pack) (d d' : DiskState) (s : State) (event : Event) (reply : Reply) (leaves : LeavesOnly d d' (StandsForEither pack s event)) where
+module _ (pack : Pack) (d d' : DiskState) (s : State) (event : Event) (reply : Reply) (leaves : LeavesOnly d d' (StandsForEither pack s event reply)) where
   -- the event was answered, and what a crash leaves then stands for the files after it
   served_end : (after x : State) (t : ℕ) → Answers pack (Serving x) event reply (Serving after) → s ≡ x → t ≡ d.clock → ((c : Contents) → MayLeave d' c → StandsForState pack after c)
       → RunsOn pack d' t (Serving x) (event ∷ []) (reply ∷ []) (Serving after)
@@ -50,8 +50,8 @@ module _ (pack : Pack) (d d' : DiskState) (s : State) (event : Event) (reply : R
     (
       d'.clock,
       subst (λ k. k ≤ d'.clock) (sym now) leaves.time.later,
-      subst (λ k. (c : Contents) → d'.left_since k c → d'.left_since d'.clock c ⊎ StandsForEither pack x event c) (sym now)
-          (subst (λ y. (c : Contents) → d'.left_since d.clock c → d'.left_since d'.clock c ⊎ StandsForEither pack y event c) same (leaves_between d d' (StandsForEither pack s event) d'.clock leaves)),
+      subst (λ k. (c : Contents) → d'.left_since k c → d'.left_since d'.clock c ⊎ StandsForEither pack x event reply c) (sym now)
+          (subst (λ y. (c : Contents) → d'.left_since d.clock c → d'.left_since d'.clock c ⊎ StandsForEither pack y event reply c) same (leaves_between d d' (StandsForEither pack s event reply) d'.clock leaves)),
       (refl, refl, stands),
     ),
   )
@@ -73,7 +73,7 @@ module _ (pack : Pack) (d d' : DiskState) (s : State) (event : Event) (reply : R
         (
           r.0,
           r.1,
-          between_on d d' (StandsForEither pack x e) (StandsForEither pack s event) t r.0 (on_time t r.0 d.clock r.1 u) u leaves.time r.2,
+          between_on d d' (StandsForEither pack x e q) (StandsForEither pack s event reply) t r.0 (on_time t r.0 d.clock r.1 u) u leaves.time r.2,
           runs_served after r.0 (Serving mid) events replies r.3 a stands,
         ),
       )
@@ -85,8 +85,8 @@ module _ (pack : Pack) (d d' : DiskState) (s : State) (event : Event) (reply : R
     a,
     (
       refl,
-      subst (λ k. (c : Contents) → d'.left_since k c → StandsForEither pack x event c) (sym now)
-          (subst (λ y. (c : Contents) → d'.left_since d.clock c → StandsForEither pack y event c) same leaves.since),
+      subst (λ k. (c : Contents) → d'.left_since k c → StandsForEither pack x event reply c) (sym now)
+          (subst (λ y. (c : Contents) → d'.left_since d.clock c → StandsForEither pack y event reply c) same leaves.since),
     ),
   )
 
@@ -106,7 +106,7 @@ module _ (pack : Pack) (d d' : DiskState) (s : State) (event : Event) (reply : R
         (
           r.0,
           r.1,
-          between_on d d' (StandsForEither pack x e) (StandsForEither pack s event) t r.0 (on_time t r.0 d.clock r.1 u) u leaves.time r.2,
+          between_on d d' (StandsForEither pack x e q) (StandsForEither pack s event reply) t r.0 (on_time t r.0 d.clock r.1 u) u leaves.time r.2,
           runs_failed r.0 (Serving mid) events replies r.3 a,
         ),
       )

@@ -123,15 +123,15 @@ pub fn runs_tell_no_serials()
 {}
 
 /// The moments of a run go on by one event, from one state of a disk to another, with what a crash leaves
-/// between them: the files before the event or those after it.
+/// between them: the files before the event, or those after it where its answer is one that may change files.
 pub fn moments_go_on<D: Disk>(old: &D, new: &D)
     ensures start { (pack : Pack) (s : State) → ((c : Contents) → MayLeave (D.state old.now) c → StandsForState pack s c)
         → RunsOn pack (D.state old.now) (D.state old.now).clock (Serving s) [] [] (Serving s) }
-    ensures served { (pack : Pack) (s : State) (event : Event) (reply : Reply) → LeavesOnly (D.state old.now) (D.state new.now) (StandsForEither pack s event)
+    ensures served { (pack : Pack) (s : State) (event : Event) (reply : Reply) → LeavesOnly (D.state old.now) (D.state new.now) (StandsForEither pack s event reply)
         → (after : State) (t : ℕ) (first : Service) (events : List Event) (replies : List Reply) → RunsOn pack (D.state old.now) t first events replies (Serving s)
         → Answers pack (Serving s) event reply (Serving after) → ((c : Contents) → MayLeave (D.state new.now) c → StandsForState pack after c)
         → RunsOn pack (D.state new.now) t first (events ++ event ∷ []) (replies ++ reply ∷ []) (Serving after) }
-    ensures failed { (pack : Pack) (s : State) (event : Event) (reply : Reply) → LeavesOnly (D.state old.now) (D.state new.now) (StandsForEither pack s event)
+    ensures failed { (pack : Pack) (s : State) (event : Event) (reply : Reply) → LeavesOnly (D.state old.now) (D.state new.now) (StandsForEither pack s event reply)
         → (t : ℕ) (first : Service) (events : List Event) (replies : List Reply) → RunsOn pack (D.state old.now) t first events replies (Serving s)
         → Answers pack (Serving s) event reply Broken → RunsOn pack (D.state new.now) t first (events ++ event ∷ []) (replies ++ reply ∷ []) Broken }
     ensures stays { (pack : Pack) (t : ℕ) (first : Service) (events : List Event) (replies : List Reply) (event : Event)

@@ -1,8 +1,8 @@
 -- What a crash leaves of a disk that served a list of events.
-use Rattle.std.proofs.Common.{◌≡◌, ◌⊎◌, inl, inr, ⊎_elim, ℕ, List, [], ◌∷◌, Result, Ok, Err, IfOk, refl, sym, subst}
+use Rattle.std.proofs.Common.{◌≡◌, ◌⊎◌, inl, inr, ⊎_elim, ℕ, List, [], ◌∷◌, Result, Ok, Err, IfOk, refl, sym, subst, ◌∙◌}
 use Rattle.std.specs.Prelude.{IfErr}
-use Rattle.blockdisk.specs.Disk.{Contents, DiskState, MayLeave, Still}
-use Rattle.blockdisk.specs.Laws.{same_contents}
+use Rattle.blockdisk.specs.Disk.{Contents, DiskState, MayLeave, Still, LeavesOnly}
+use Rattle.blockdisk.specs.Laws.{same_contents, leaves_weaker}
 use Rattle.changeset.specs.Crashes.{IsRecovered}
 use Rattle.meaning.specs.Crashes.{StandsForState, StandsForEither, RunsOn}
 use Rattle.meaning.specs.Faults.{StartFault, HasFault}
@@ -21,15 +21,16 @@ use Rattle.volume.specs.Meets.{Refuses}
 use Rattle.volume.specs.declared.error.VolumeError.{VolumeError}
 use Rattle.volume.specs.declared.error.VolumeError.TheVariants.{NotVolume, BadHome, BadLog, BadDirectory, BadRetrieval, BlockTwice, TableWrong, Device, NoMemory, Failed, BadData}
 use Rattle.volume.proofs.Starting.{stands_ignores_gate}
-use Rattle.monitor.specs.Runs.{IsAlong}
+use Rattle.volume.specs.Rest.{StandsLikeBefore}
+use Rattle.monitor.specs.Runs.{IsAlong, HasStarted, AreStopped}
 
 module _ (pack : Pack) (d : DiskState) (only_now : (c : Contents) → d.left_since d.clock c → MayLeave d c) (c : Contents) where
   abbrev Found : State → List Event → List Reply → Type 0
   Found s events replies = (found : State) × IsAlong pack (Serving s) events replies found × StandsForState pack found c
 
   -- before the first event or after it
-  at_first : (s : State) (event : Event) (events : List Event) (reply : Reply) (replies : List Reply) → StandsForEither pack s event c → Found s (event ∷ events) (reply ∷ replies)
-  at_first s event events reply replies either = ⊎_elim (λ before. (s, inl refl, before)) (λ after. ((step pack 0 s event).1, inr (inl refl), after)) either
+  at_first : (s : State) (event : Event) (events : List Event) (reply : Reply) (replies : List Reply) → StandsForEither pack s event reply c → Found s (event ∷ events) (reply ∷ replies)
+  at_first s event events reply replies either = ⊎_elim (λ before. (s, inl refl, before)) (λ after. ((step pack 0 s event).1, inr (inl (after.0, refl)), after.1)) either
 
   pub along : (t : ℕ) (s : State) (events : List Event) (replies : List Reply) (new : Service) → RunsOn pack d t (Serving s) events replies new → d.left_since t c → Found s events replies
   along t s [] [] new r left = (s, refl, r.2 c (only_now c (subst (λ k. d.left_since k c) r.1 left)))
@@ -40,6 +41,25 @@ module _ (pack : Pack) (d : DiskState) (only_now : (c : Contents) → d.left_sin
       (λ later. let on = along r.0 mid events replies new r.3 later in (on.0, inr (inr (Serving mid, a, on.1)), on.2))
       (λ either. at_first s event events reply replies either)
       (r.2 c left)
+
+-- Starts that were stopped.
+
+-- what the last of them left stands for whatever something stood for that the disk d left since moment t
+pub stopped_like : {E : Type 0} (state : E → DiskState) (d : DiskState) (t : ℕ) (starts : List (E × E)) (left : Contents) → AreStopped state d t starts left
+    → (c : Contents) × d.left_since t c × ((files : Files File) → Stands d.size c files → Stands d.size left files)
+stopped_like state d t [] left r = (left, r, λ files stands. stands)
+stopped_like state d t ((begun, ended) ∷ starts) left r =
+    let on = stopped_like state (state ended) (state begun).clock starts left r.3 in
+    let first = r.1.since on.0 on.1 in (
+      first.0,
+      r.0.left first.0 first.1,
+      λ files stands.
+          subst (λ n. Stands n left files) (r.2 ∙ r.0.size) (on.2 files (subst (λ n. Stands n on.0 files) (sym r.2) (first.2 files (subst (λ n. Stands n first.0 files) (sym r.0.size) stands)))),
+    )
+
+-- a start over what stands for the same files whatever a crash may leave of it leaves the same at any moment
+pub stands_again : (s s' : DiskState) (files : Files File) → ((c : Contents) → MayLeave s c → Stands s.size c files) → HasStarted s s' → LeavesOnly s s' (λ c. Stands s.size c files)
+stands_again s s' files all started = leaves_weaker s s' (StandsLikeBefore s) (λ c. Stands s.size c files) started (λ c like. like.2 files (all like.0 like.1))
 
 -- Contents that stood for files have no fault after the recovery either.
 
@@ -85,3 +105,11 @@ err_both P Q R (Err e) both p q = both e p q
 pub ok_either : {A E : Type 0} (H P Q : A → Type 0) (r : Result A E) → IfOk r (λ a. H a → P a) ⊎ IfOk r (λ a. H a → Q a) → IfOk r (λ a. H a → P a ⊎ Q a)
 ok_either H P Q (Ok a) either = λ h. ⊎_elim (λ p. inl (p h)) (λ q. inr (q h)) either
 ok_either H P Q (Err e) either = tt
+
+pub ok_weaker : {A E : Type 0} (P Q : A → Type 0) (r : Result A E) → ((a : A) → P a → Q a) → IfOk r P → IfOk r Q
+ok_weaker P Q (Ok a) weaker p = weaker a p
+ok_weaker P Q (Err e) weaker p = tt
+
+pub err_weaker : {A E : Type 0} (P Q : E → Type 0) (r : Result A E) → ((e : E) → P e → Q e) → IfErr r P → IfErr r Q
+err_weaker P Q (Ok a) weaker p = tt
+err_weaker P Q (Err e) weaker p = weaker e p

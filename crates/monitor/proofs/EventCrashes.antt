@@ -1,20 +1,25 @@
 -- A crash at any moment of an event finds the files from before it, or those after it.
-use Rattle.std.proofs.Common.{◌≡◌, inl, inr, ⊎_elim, ℕ, List, Option, subst}
+use Rattle.std.proofs.Common.{◌≡◌, inl, inr, ⊎_elim, ℕ, List, Option, refl, sym, subst}
+use Rattle.std.specs.Prelude.{IsTrue}
 use Rattle.words36.specs.declared.moment.Moment.{Moment}
 use Rattle.blockdisk.specs.Disk.{Contents, DiskState, MayLeave, LeavesOnly}
 use Rattle.blockdisk.specs.Laws.{leaves_weaker}
 use Rattle.changeset.specs.Rest.{rest_settles}
-use Rattle.meaning.specs.Crashes.{StandsForState, StandsForEither}
+use Rattle.meaning.specs.Crashes.{may_change, StandsForState, StandsForEither}
 use Rattle.meaning.specs.Jobs.{State}
 use Rattle.meaning.specs.Published.{without_serials}
 use Rattle.meaning.specs.Stands.{Stands, SettledStands}
 use Rattle.meaning.specs.declared.call.Call.{Call}
 use Rattle.meaning.specs.declared.call.Event.{Event}
 use Rattle.meaning.specs.declared.call.Event.TheVariants.{Call as Calls}
+use Rattle.meaning.specs.declared.call.Reply.{Reply}
+use Rattle.meaning.specs.declared.call.Reply.TheVariants.{Done, Value, Refused, Stopped, NoChannel, AddressCheck, NoJob, NoMemory, Device, Failed, DateRange}
 use Rattle.meaning.proofs.SerialLaws as serials
 use Rattle.volume.specs.Live.{VolumeCore}
-use Rattle.monitor.specs.Events.{CallCrashes}
+use Rattle.monitor.specs.Events.{CallCrashes, IsIdle, OfCall}
 use Rattle.monitor.specs.Serving.{pack_of, IsState}
+use Rattle.monitor.specs.declared.call.Call as calls
+use Rattle.monitor.specs.declared.events.Event as asked
 use Rattle.monitor.specs.declared.job.Job.{Job}
 use Rattle.monitor.proofs.Untouched.{untouched_leaves}
 
@@ -24,14 +29,44 @@ state_stands d map jobs s is c left = rest_settles d (λ x. SettledStands d.size
 
 -- an event that leaves the disk alone
 pub untouched_event : {D : Type 0} (state : D → DiskState) → ((disk : D) (contents : Contents) → (state disk).honest → (state disk).left_since (state disk).clock contents → MayLeave (state disk) contents)
-    → (old new : D) → new ≡ old → (map : VolumeCore) (jobs : List (Option Job)) (event : Event) → (state new).honest → (s : State) → IsState (state old) map jobs s
-    → LeavesOnly (state old) (state new) (StandsForEither (pack_of (state old)) s event)
-untouched_event state only_now old new same map jobs event honest s is =
-    untouched_leaves state only_now old new same honest (StandsForEither (pack_of (state old)) s event) (λ c left. inl (state_stands (state old) map jobs s is c left))
+    → (old new : D) → new ≡ old → (map : VolumeCore) (jobs : List (Option Job)) (event : Event) (reply : Reply) → (state new).honest → (s : State) → IsState (state old) map jobs s
+    → LeavesOnly (state old) (state new) (StandsForEither (pack_of (state old)) s event reply)
+untouched_event state only_now old new same map jobs event reply honest s is =
+    untouched_leaves state only_now old new same honest (StandsForEither (pack_of (state old)) s event reply) (λ c left. inl (state_stands (state old) map jobs s is c left))
 
--- a call, whatever serial it chose
-pub call_event : (d d' : DiskState) (map : VolumeCore) (jobs : List (Option Job)) (n : ℕ) (call : Call) (moment : Moment) → CallCrashes d d' map jobs n call moment
-    → d'.honest → (s : State) → IsState d map jobs s → LeavesOnly d d' (StandsForEither (pack_of d) s (Calls n call moment))
-call_event d d' map jobs n call moment crash honest s is =
-    leaves_weaker d d' _ (StandsForEither (pack_of d) s (Calls n call moment)) (crash honest s is)
-    (λ c. ⊎_elim (λ was. inl was) (λ after. inr (subst (Stands d.size c) (serials.same_files (pack_of d) after.0 0 s (Calls n call moment)) after.1)))
+-- a call that may have changed the files, whatever serial it chose
+pub changing_event : (d d' : DiskState) (map : VolumeCore) (jobs : List (Option Job)) (n : ℕ) (call : Call) (moment : Moment) (reply : Reply) → IsTrue (may_change reply) → CallCrashes d d' map jobs n call moment
+    → d'.honest → (s : State) → IsState d map jobs s → LeavesOnly d d' (StandsForEither (pack_of d) s (Calls n call moment) reply)
+changing_event d d' map jobs n call moment reply may crash honest s is =
+    leaves_weaker d d' _ (StandsForEither (pack_of d) s (Calls n call moment) reply) (crash honest s is)
+    (λ c. ⊎_elim (λ was. inl was) (λ after. inr (may, subst (Stands d.size c) (serials.same_files (pack_of d) after.0 0 s (Calls n call moment)) after.1)))
+
+module _ {D : Type 0} (state : D → DiskState) (only_now : (disk : D) (contents : Contents) → (state disk).honest → (state disk).left_since (state disk).clock contents → MayLeave (state disk) contents)
+    (old new : D) (map : VolumeCore) (jobs : List (Option Job)) (n : ℕ) (call : Call) (moment : Moment) (crash : CallCrashes (state old) (state new) map jobs n call moment) (honest : (state new).honest) (s : State)
+    (is : IsState (state old) map jobs s) where
+  abbrev Leaves : Reply → Type 0
+  Leaves reply = LeavesOnly (state old) (state new) (StandsForEither (pack_of (state old)) s (Calls n call moment) reply)
+
+  still : (reply : Reply) → new ≡ old → Leaves reply
+  still reply same = untouched_event state only_now old new same map jobs (Calls n call moment) reply honest s is
+
+  changes : (reply : Reply) → IsTrue (may_change reply) → Leaves reply
+  changes reply may = changing_event (state old) (state new) map jobs n call moment reply may crash honest s is
+
+  -- A call, whatever its answer: with most of them it leaves the disk alone.
+  pub call_event : (reply : Reply) → (IsIdle reply → new ≡ old) → (reply ≡ Failed → ⊥) → Leaves reply
+  call_event Done idle serves = changes Done refl
+  call_event (Value word) idle serves = still (Value word) (idle tt)
+  call_event (Refused code) idle serves = still (Refused code) (idle tt)
+  call_event (Stopped status) idle serves = still (Stopped status) (idle tt)
+  call_event NoChannel idle serves = still NoChannel (idle tt)
+  call_event AddressCheck idle serves = still AddressCheck (idle tt)
+  call_event NoJob idle serves = still NoJob (idle tt)
+  call_event NoMemory idle serves = still NoMemory (idle tt)
+  call_event Device idle serves = changes Device refl
+  call_event Failed idle serves = absurd (serves refl)
+  call_event DateRange idle serves = still DateRange (idle tt)
+
+-- What is said of an event is said of one that is the same.
+pub of_other : (P : ℕ → calls.Call → Moment → Type 0) (event other : asked.Event) → event ≡ other → OfCall other P → OfCall event P
+of_other P event other is p = subst (λ e. OfCall e P) (sym is) p

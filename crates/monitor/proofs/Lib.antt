@@ -71,3 +71,4 @@ pub mod MomentRuns
 pub mod Stills
 pub mod Lookups
 pub mod LookupCalls
+pub mod Refusals

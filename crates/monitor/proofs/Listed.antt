@@ -9,13 +9,13 @@ use Rattle.meaning.specs.Runs.{Service, Serving, Broken, Answers, Run}
 use Rattle.meaning.specs.declared.call.Reply.{Reply}
 use Rattle.meaning.specs.declared.call.Reply.TheVariants.{Done, Value, Refused, Stopped, NoChannel, AddressCheck, NoJob, NoMemory, Device, Failed, DateRange}
 use Rattle.meaning.proofs.CrashLaws.{is_run, runs_start, runs_served, runs_failed, runs_stay}
-use Rattle.monitor.specs.Moments.{StandsNow, RunsBy, HoldsStill}
+use Rattle.monitor.specs.Moments.{StandsNow, RunsBy, HoldsStill, last_of}
 use Rattle.monitor.specs.Runs.{event_of, IsServedIn, AreServed, TellsFault, FailsOnce}
 use Rattle.monitor.specs.Serving.{pack_of, Serves}
 use Rattle.monitor.specs.States.{MonitorState}
 use Rattle.monitor.specs.declared.events.Event.{Event}
 use Rattle.monitor.proofs.EventCrashes.{state_stands}
-use Rattle.monitor.proofs.MomentRuns.{by_start, by_more, by_stay}
+use Rattle.monitor.proofs.MomentRuns.{last_more, by_through, by_start, by_more, by_stay}
 use Rattle.monitor.proofs.Stills.{holds_still}
 
 -- Lists that are one longer.
@@ -77,31 +77,43 @@ abbrev pack_with : ℕ → Pack
 pack_with n = record { layout = 1; blocks = n }
 
 module _ {D : Type 0} (state : D → DiskState) where
-  -- the run of these events from the value `first` on, which has led to the value `now`
-  abbrev pub RunsTo : MonitorState D → MonitorState D → State → List Event → List Reply → Service → Type 0
-  RunsTo first now s events replies new =
-      RunsOn (pack_of (state first.disk)) (state now.disk) (state first.disk).clock (Serving s) (map event_of events) replies new
-      × RunsBy state (pack_of (state first.disk)) first.disk (Serving s) (map event_of events) replies now.disk new
+  -- the run of these events from the value `first` on, by way of these services, which has led to the value `now`
+  abbrev pub RunsTo : MonitorState D → MonitorState D → State → List Event → List Reply → List Service → Type 0
+  RunsTo first now s events replies services =
+      RunsOn (pack_of (state first.disk)) (state now.disk) (state first.disk).clock (Serving s) (map event_of events) replies (last_of (Serving s) services)
+      × RunsBy state (pack_of (state first.disk)) first.disk (Serving s) (map event_of events) replies services now.disk
 
   -- what was served so far, since the value `first`
   abbrev pub Ran : MonitorState D → MonitorState D → List Event → List Reply → Type 0
   Ran first now events replies =
       (state now.disk).honest → (s : State) → Serves (state first.disk) first.map first.failed first.jobs (Serving s) → AreServed (pack_of (state first.disk)) (Serving s) events replies
-      → (new : Service) × Serves (state now.disk) now.map now.failed now.jobs new
-      × RunsOn (pack_of (state first.disk)) (state now.disk) (state first.disk).clock (Serving s) (map event_of events) replies new
-      × RunsBy state (pack_of (state first.disk)) first.disk (Serving s) (map event_of events) replies now.disk new
+      → (services : List Service) × Serves (state now.disk) now.map now.failed now.jobs (last_of (Serving s) services)
+      × RunsTo first now s events replies services
 
   pub ran_start : (first : MonitorState D) → Ran first first [] []
   ran_start first h s serves served =
       let stands = state_stands (state first.disk) first.map first.jobs s serves.1 in
-      (Serving s, serves, runs_start (pack_of (state first.disk)) (state first.disk) s stands, by_start state (pack_of (state first.disk)) first.disk s stands)
+      ([], serves, (runs_start (pack_of (state first.disk)) (state first.disk) s stands, by_start state (pack_of (state first.disk)) first.disk s stands))
 
   -- reading holds still along it
-  pub ran_still : (first now : MonitorState D) (events : List Event) (replies : List Reply) → Ran first now events replies → (state now.disk).honest → (s : State) → Serves (state first.disk) first.map first.failed first.jobs (Serving s)
-      → AreServed (pack_of (state first.disk)) (Serving s) events replies → HoldsStill (pack_of (state first.disk)) (Serving s) (map event_of events) replies
+  abbrev pub RanStill : MonitorState D → MonitorState D → List Event → List Reply → Type 0
+  RanStill first now events replies =
+      (state now.disk).honest → (s : State) → Serves (state first.disk) first.map first.failed first.jobs (Serving s) → AreServed (pack_of (state first.disk)) (Serving s) events replies
+      → (services : List Service) × Serves (state now.disk) now.map now.failed now.jobs (last_of (Serving s) services)
+      × RunsOn (pack_of (state first.disk)) (state now.disk) (state first.disk).clock (Serving s) (map event_of events) replies (last_of (Serving s) services)
+      × RunsBy state (pack_of (state first.disk)) first.disk (Serving s) (map event_of events) replies services now.disk
+      × HoldsStill (Serving s) (map event_of events) replies services
+
+  pub ran_still : (first now : MonitorState D) (events : List Event) (replies : List Reply) → Ran first now events replies → RanStill first now events replies
   ran_still first now events replies ran h s serves served =
-      let led = ran h s serves served in
-      holds_still (pack_of (state first.disk)) (Serving s) led.0 (map event_of events) replies (is_run (pack_of (state first.disk)) (state now.disk) (state first.disk).clock (Serving s) led.0 (map event_of events) replies led.2)
+      let led = ran h s serves served in (
+        led.0,
+        led.1,
+        led.2.0,
+        led.2.1,
+        holds_still (pack_of (state first.disk)) (Serving s) (map event_of events) replies led.0
+            (by_through state (pack_of (state first.disk)) first.disk now.disk (Serving s) (map event_of events) replies led.0 led.2.1),
+      )
 
   module _ (first old new : MonitorState D) (events : List Event) (replies : List Reply) (event : Event) (reply : Reply) where
     abbrev pack : Pack
@@ -120,66 +132,76 @@ module _ {D : Type 0} (state : D → DiskState) where
         → (t : Service) × Serves d' new.map new.failed new.jobs t × Answers (pack_of d) s (event_of event) reply t
 
     abbrev pub Crashes : Type 0
-    Crashes = d'.honest → (s : State) → Serves d old.map old.failed old.jobs (Serving s) → LeavesOnly d d' (StandsForEither (pack_of d) s (event_of event))
+    Crashes = d'.honest → (s : State) → Serves d old.map old.failed old.jobs (Serving s) → LeavesOnly d d' (StandsForEither (pack_of d) s (event_of event) reply)
 
     abbrev pub Stays : Type 0
     Stays = old.failed ≡ true → (reply ≡ Failed) × (new ≡ old)
 
-    -- the run with one event more, and one reply more
-    abbrev More : MonitorState D → State → Reply → Service → Type 0
-    More m s r t =
+    -- the run with one event more, one reply more, and one service more
+    abbrev More : MonitorState D → State → List Service → Reply → Service → Type 0
+    More m s services r t =
         RunsOn pack (state m.disk) (state first.disk).clock (Serving s) (map event_of events ++ event_of event ∷ []) (replies ++ r ∷ []) t
-        × RunsBy state pack first.disk (Serving s) (map event_of events ++ event_of event ∷ []) (replies ++ r ∷ []) m.disk t
+        × RunsBy state pack first.disk (Serving s) (map event_of events ++ event_of event ∷ []) (replies ++ r ∷ []) (services ++ t ∷ []) m.disk
 
     abbrev Goal : State → Type 0
     Goal s =
-        (t : Service) × Serves d' new.map new.failed new.jobs t
-        × RunsOn pack d' (state first.disk).clock (Serving s) (map event_of (events ++ event ∷ [])) (replies ++ reply ∷ []) t
-        × RunsBy state pack first.disk (Serving s) (map event_of (events ++ event ∷ [])) (replies ++ reply ∷ []) new.disk t
+        (services : List Service) × Serves d' new.map new.failed new.jobs (last_of (Serving s) services)
+        × RunsTo first new s (events ++ event ∷ []) (replies ++ reply ∷ []) services
 
-    led_on : (s : State) (t : Service) → Serves d' new.map new.failed new.jobs t → More new s reply t → Goal s
-    led_on s t serves more =
-        let spelled = sym (events_more events event) in (
-          t,
-          serves,
-          subst (λ es. RunsOn pack d' (state first.disk).clock (Serving s) es (replies ++ reply ∷ []) t) spelled more.0,
-          subst (λ es. RunsBy state pack first.disk (Serving s) es (replies ++ reply ∷ []) new.disk t) spelled more.1,
+    led_on : (s : State) (services : List Service) (t : Service) → Serves d' new.map new.failed new.jobs t → More new s services reply t → Goal s
+    led_on s services t serves more =
+        let spelled = sym (events_more events event) in
+        let last = sym (last_more (Serving s) services t) in (
+          services ++ t ∷ [],
+          subst (λ x. Serves d' new.map new.failed new.jobs x) last serves,
+          (
+            subst (λ x. RunsOn pack d' (state first.disk).clock (Serving s) (map event_of (events ++ event ∷ [])) (replies ++ reply ∷ []) x) last
+                (subst (λ es. RunsOn pack d' (state first.disk).clock (Serving s) es (replies ++ reply ∷ []) t) spelled more.0),
+            subst (λ es. RunsBy state pack first.disk (Serving s) es (replies ++ reply ∷ []) (services ++ t ∷ []) new.disk) spelled more.1,
+          ),
         )
 
-    stayed : (s : State) → old.failed ≡ true → RunsTo first old s events replies Broken → (reply ≡ Failed) × (new ≡ old) → Goal s
-    stayed s failed runs is = led_on s Broken (ap (λ m. m.failed) is.1 ∙ failed)
-        (subst (λ (m : MonitorState D). More m s reply Broken) (sym is.1) (subst (λ r. More old s r Broken) (sym is.0) (
-          runs_stay pack d (state first.disk).clock (Serving s) (map event_of events) replies (event_of event) runs.0,
-          by_stay state pack first.disk old.disk (Serving s) (map event_of events) replies (event_of event) runs.1,
+    stayed : (s : State) (services : List Service) → old.failed ≡ true → last_of (Serving s) services ≡ Broken → RunsTo first old s events replies services
+        → (reply ≡ Failed) × (new ≡ old) → Goal s
+    stayed s services failed last runs is = led_on s services Broken (ap (λ m. m.failed) is.1 ∙ failed)
+        (subst (λ (m : MonitorState D). More m s services reply Broken) (sym is.1) (subst (λ r. More old s services r Broken) (sym is.0) (
+          runs_stay pack d (state first.disk).clock (Serving s) (map event_of events) replies (event_of event)
+              (subst (λ x. RunsOn pack d (state first.disk).clock (Serving s) (map event_of events) replies x) last runs.0),
+          by_stay state pack first.disk old.disk (Serving s) (map event_of events) replies services (event_of event) runs.1 last,
         )))
 
-    went_on : (s u : State) → SameDisk (state first.disk) d' → RunsTo first old s events replies (Serving u) → LeavesOnly d d' (StandsForEither pack u (event_of event))
+    went_on : (s u : State) (services : List Service) → SameDisk (state first.disk) d' → last_of (Serving s) services ≡ Serving u
+        → RunsTo first old s events replies services → LeavesOnly d d' (StandsForEither pack u (event_of event) reply)
         → (t : Service) → Serves d' new.map new.failed new.jobs t → Answers pack (Serving u) (event_of event) reply t → Goal s
-    went_on s u same runs leaves Broken serves a = led_on s Broken serves (
-      runs_failed pack d d' u (event_of event) reply leaves (state first.disk).clock (Serving s) (map event_of events) replies runs.0 a,
-      by_more state pack old.disk new.disk u (event_of event) reply Broken a leaves (refl, refl) first.disk (Serving s) (map event_of events) replies runs.1,
+    went_on s u services same last runs leaves Broken serves a = led_on s services Broken serves (
+      runs_failed pack d d' u (event_of event) reply leaves (state first.disk).clock (Serving s) (map event_of events) replies
+          (subst (λ x. RunsOn pack d (state first.disk).clock (Serving s) (map event_of events) replies x) last runs.0) a,
+      by_more state pack old.disk new.disk u (event_of event) reply Broken a leaves (refl, tt) first.disk (Serving s) (map event_of events) replies services runs.1 last,
     )
-    went_on s u same runs leaves (Serving v) serves a =
+    went_on s u services same last runs leaves (Serving v) serves a =
         let stands : StandsNow pack d' v = λ c left. subst (λ p. StandsForState p v c) (ap pack_with same.size) (state_stands d' new.map new.jobs v serves.1 c left) in
-        led_on s (Serving v) serves (
-          runs_served pack d d' u (event_of event) reply leaves v (state first.disk).clock (Serving s) (map event_of events) replies runs.0 a stands,
-          by_more state pack old.disk new.disk u (event_of event) reply (Serving v) a leaves (refl, refl, stands) first.disk (Serving s) (map event_of events) replies runs.1,
+        led_on s services (Serving v) serves (
+          runs_served pack d d' u (event_of event) reply leaves v (state first.disk).clock (Serving s) (map event_of events) replies
+              (subst (λ x. RunsOn pack d (state first.disk).clock (Serving s) (map event_of events) replies x) last runs.0) a stands,
+          by_more state pack old.disk new.disk u (event_of event) reply (Serving v) a leaves (refl, stands) first.disk (Serving s) (map event_of events) replies services runs.1 last,
         )
 
     pub ran_more : length replies ≡ length events → SameDisk (state first.disk) d → SameDisk (state first.disk) d' → SameDisk d d' → IsAnswered → Crashes → Stays → Ran first old events replies → Ran first new (events ++ event ∷ []) (replies ++ reply ∷ [])
     ran_more even same same' once answered crash stays ran h s serves served =
         let parts = served_parts pack (Serving s) events replies event reply even served in
         let led = ran (once.was_honest h) s serves parts.0 in
-        on led.0 (parts.1 led.0 (is_run pack d (state first.disk).clock (Serving s) led.0 (map event_of events) replies led.2)) led.1 (led.2, led.3)
+        let last = last_of (Serving s) led.0 in
+        on led.0 last refl (parts.1 last (is_run pack d (state first.disk).clock (Serving s) last (map event_of events) replies led.2.0)) led.1 led.2
       where
         size : pack_of d ≡ pack
         size = ap pack_with same.size
 
-        on : (mid : Service) → IsServedIn mid event → Serves d old.map old.failed old.jobs mid → RunsTo first old s events replies mid → Goal s
-        on Broken is failed runs = stayed s failed runs (stays failed)
-        on (Serving u) is mid runs =
+        on : (services : List Service) (mid : Service) → last_of (Serving s) services ≡ mid → IsServedIn mid event → Serves d old.map old.failed old.jobs mid
+            → RunsTo first old s events replies services → Goal s
+        on services Broken last is failed runs = stayed s services failed last runs (stays failed)
+        on services (Serving u) last is mid runs =
             let after = answered h (Serving u) mid is in
-            went_on s u same' runs (subst (λ p. LeavesOnly d d' (StandsForEither p u (event_of event))) size (crash h u mid)) after.0 after.1
+            went_on s u services same' last runs (subst (λ p. LeavesOnly d d' (StandsForEither p u (event_of event) reply)) size (crash h u mid)) after.0 after.1
             (subst (λ p. Answers p (Serving u) (event_of event) reply after.0) size after.2)
 
     -- Faults of the device.

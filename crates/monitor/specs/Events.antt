@@ -2,7 +2,7 @@
 use Rattle.std.specs.Prelude.{◌⊎◌, ℕ, List, Option}
 use Rattle.words36.specs.declared.moment.Moment.{Moment}
 use Rattle.blockdisk.specs.Disk.{DiskState, LeavesOnly}
-use Rattle.meaning.specs.Jobs.{State}
+use Rattle.meaning.specs.Jobs.{State, slot}
 use Rattle.meaning.specs.Published.{without_serials}
 use Rattle.meaning.specs.Stands.{Stands}
 use Rattle.meaning.specs.Step.{step}
@@ -13,6 +13,10 @@ use Rattle.meaning.specs.declared.call.Reply.TheVariants.{Done, Value, Refused, 
 use Rattle.volume.specs.Live.{VolumeCore}
 use Rattle.monitor.specs.Serving.{pack_of, IsState}
 use Rattle.monitor.specs.declared.job.Job.{Job}
+use Rattle.monitor.specs.Calls.{IsLight}
+use Rattle.monitor.specs.declared.call.Call as calls
+use Rattle.monitor.specs.declared.events.Event.{Event}
+use Rattle.monitor.specs.declared.events.Event.TheVariants.{Login, Deposit, Examine, Call as Asks}
 
 -- At any moment of the call by the job of a number, whether it is logged in or not, a crash leaves the files from before, or those of the machine after it.
 abbrev pub CallCrashes : (d d' : DiskState) (c : VolumeCore) (jobs : List (Option Job)) (n : ℕ) → Call → Moment → Type 0
@@ -23,7 +27,7 @@ CallCrashes d d' c jobs n call moment =
 -- an answer with which the disk isn't touched
 abbrev pub IsIdle : Reply → Type 0
 IsIdle Done = ⊥
-IsIdle (Value word) = ⊥
+IsIdle (Value word) = Unit {0}
 IsIdle (Refused code) = Unit {0}
 IsIdle (Stopped status) = Unit {0}
 IsIdle NoChannel = Unit {0}
@@ -33,3 +37,24 @@ IsIdle NoMemory = Unit {0}
 IsIdle Device = ⊥
 IsIdle Failed = ⊥
 IsIdle DateRange = Unit {0}
+
+-- What is said of the call that an event is, by the job that makes it and the moment.
+abbrev pub OfCall : Event → (ℕ → calls.Call → Moment → Type 0) → Type 0
+OfCall (Login job ppn words) P = Unit {0}
+OfCall (Deposit job address word) P = Unit {0}
+OfCall (Examine job address) P = Unit {0}
+OfCall (Asks job call moment) P = P job call moment
+
+-- an event that is none
+abbrev pub IsNoCall : Event → Type 0
+IsNoCall (Login job ppn words) = Unit {0}
+IsNoCall (Deposit job address word) = Unit {0}
+IsNoCall (Examine job address) = Unit {0}
+IsNoCall (Asks job call moment) = ⊥
+
+-- an event that takes no memory and leaves the disk alone, by the jobs that there are
+abbrev pub IsLightEvent : Event → List (Option Job) → Type 0
+IsLightEvent (Login job ppn words) jobs = ⊥
+IsLightEvent (Deposit job address word) jobs = Unit {0}
+IsLightEvent (Examine job address) jobs = Unit {0}
+IsLightEvent (Asks job call moment) jobs = IsLight call (slot jobs job)

@@ -18,3 +18,4 @@ pub mod Moments
 pub mod Inputs
 pub mod LookingUp
 pub mod Reading
+pub mod Refusals

@@ -9,7 +9,7 @@ use Rattle.meaning.specs.Jobs as machine
 use Rattle.meaning.specs.Jobs.{State, channel_at}
 use Rattle.meaning.specs.Published.{Version}
 use Rattle.meaning.specs.Room.{Pack}
-use Rattle.meaning.specs.Runs.{Service, Serving, Broken, Answers, Run}
+use Rattle.meaning.specs.Runs.{Service, Serving, Broken, Answers}
 use Rattle.meaning.specs.declared.call.Call.TheVariants.{Lookup, In}
 use Rattle.meaning.specs.declared.call.Event.{Event}
 use Rattle.meaning.specs.declared.call.Event.TheVariants.{Call as Calls}
@@ -22,19 +22,37 @@ use Rattle.meaning.specs.declared.call.Reply.TheVariants.{Done, NoChannel}
 abbrev pub StandsNow : Pack → DiskState → State → Type 0
 StandsNow pack d s = (c : Contents) → MayLeave d c → StandsForState pack s c
 
--- From a disk d on the events were answered so, and `end` is the disk after them. At each moment, that before the first
--- event and that after each of them, all that a crash may leave stands for the files after the events so far; from one
--- moment to the next a crash left these, or those after one event more. From a fault of the disk on it is asked for
--- nothing.
-abbrev pub RunsBy : {D : Type 0} → (D → DiskState) → Pack → D → Service → List Event → List Reply → D → Service → Type 0
-RunsBy state pack d Broken events replies end new = (end ≡ d) × Run pack Broken events replies new
-RunsBy state pack d (Serving s) [] [] end new = (end ≡ d) × (new ≡ Serving s) × StandsNow pack (state d) s
-RunsBy {D} state pack d (Serving s) (event ∷ events) (reply ∷ replies) end new =
+-- The service after these ones, the first of which came after `old`.
+abbrev pub last_of : Service → List Service → Service
+last_of old [] = old
+last_of old (service ∷ services) = last_of service services
+
+-- The events were answered so by way of these services, one after each event.
+abbrev pub RunsThrough : Pack → Service → List Event → List Reply → List Service → Type 0
+RunsThrough pack old [] [] [] = Unit {0}
+RunsThrough pack old (event ∷ events) (reply ∷ replies) (after ∷ services) =
+    Answers pack old event reply after × RunsThrough pack after events replies services
+RunsThrough pack old [] [] (after ∷ services) = ⊥
+RunsThrough pack old [] (reply ∷ replies) services = ⊥
+RunsThrough pack old (event ∷ events) [] services = ⊥
+RunsThrough pack old (event ∷ events) (reply ∷ replies) [] = ⊥
+
+-- From a disk d on the events were answered so, by way of these services, and `end` is the disk after them. At each
+-- moment, that before the first event and that after each of them, all that a crash may leave stands for the files after
+-- the events so far; from one moment to the next a crash left these, or those after one event more where its answer is
+-- one that may change files. From a fault of the disk on it is asked for nothing.
+abbrev pub RunsBy : {D : Type 0} → (D → DiskState) → Pack → D → Service → List Event → List Reply → List Service → D → Type 0
+RunsBy state pack d Broken events replies services end = (end ≡ d) × RunsThrough pack Broken events replies services
+RunsBy state pack d (Serving s) [] [] [] end = (end ≡ d) × StandsNow pack (state d) s
+RunsBy {D} state pack d (Serving s) (event ∷ events) (reply ∷ replies) (after ∷ services) end =
     StandsNow pack (state d) s
-    × (mid : D) × (after : Service) × Answers pack (Serving s) event reply after × LeavesOnly (state d) (state mid) (StandsForEither pack s event)
-    × RunsBy state pack mid after events replies end new
-RunsBy state pack d (Serving s) [] (reply ∷ replies) end new = ⊥
-RunsBy state pack d (Serving s) (event ∷ events) [] end new = ⊥
+    × (mid : D) × Answers pack (Serving s) event reply after
+    × LeavesOnly (state d) (state mid) (StandsForEither pack s event reply)
+    × RunsBy state pack mid after events replies services end
+RunsBy state pack d (Serving s) [] [] (after ∷ services) end = ⊥
+RunsBy state pack d (Serving s) [] (reply ∷ replies) services end = ⊥
+RunsBy state pack d (Serving s) (event ∷ events) [] services end = ⊥
+RunsBy state pack d (Serving s) (event ∷ events) (reply ∷ replies) [] end = ⊥
 
 -- Reading holds still.
 
@@ -46,31 +64,36 @@ read_by job ch a (Some c) = reads job ch c a
 abbrev pub read_of : machine.Job → ℕ → ℕ → Reply × machine.Job
 read_of job ch a = read_by job ch a (channel_at job ch)
 
--- A LOOKUP among the events was done, and so was a later IN of that job on that channel, between which none of the
--- job's own events takes the side away.
-pub record LooksUpAndReads (events : List Event) (replies : List Reply) (before between behind : List Event) (first second third : List Reply) (n ch e a : ℕ) (early late : Moment) : Type 0 where
+-- A LOOKUP among the events was done, by way of the service `looked`, and so was a later IN of that job on that channel,
+-- by way of `left`, and none of the job's own events between them takes the side away.
+pub record LooksUpAndReads
+    (events before between behind : List Event) (replies first second third : List Reply)
+    (services one two three : List Service) (looked left : Service)
+    (n ch e a : ℕ) (early late : Moment) : Type 0 where
   pub events_are : events ≡ before ++ Calls n (Lookup ch e) early ∷ (between ++ Calls n (In ch a) late ∷ behind)
   pub replies_are : replies ≡ first ++ Done ∷ (second ++ Done ∷ third)
-  pub in_order : length first ≡ length before
-  pub in_step : length second ≡ length between
+  pub services_are : services ≡ one ++ looked ∷ (two ++ left ∷ three)
+  pub in_order : (length first ≡ length before) × (length one ≡ length before)
+  pub in_step : (length second ≡ length between) × (length two ≡ length between)
   pub spared : SpareAll n ch between
 
--- Then the words that the IN moved are those of the version that the LOOKUP found, whatever other jobs did.
-pub record ReadsWhatWasFound (pack : Pack) (old : Service) (before between : List Event) (first second : List Reply) (n ch e a : ℕ) (early late : Moment) : Type 0 where
+-- The words that the IN moved, from the service `read` to `left`, are those of the version that the LOOKUP found in the
+-- service `found`.
+pub record ReadsWhatWasFound (found read left : Service) (n ch e a : ℕ) : Type 0 where
   pub found_in : State
-  pub looked_up : State
   pub read_in : State
-  pub left : State
+  pub left_in : State
+  pub found_is : found ≡ Serving found_in
+  pub read_is : read ≡ Serving read_in
+  pub left_is : left ≡ Serving left_in
   pub version : Version
-  pub runs_to : Run pack old before first (Serving found_in)
-  pub looks_up : Answers pack (Serving found_in) (Calls n (Lookup ch e) early) Done (Serving looked_up)
-  pub runs_on : Run pack (Serving looked_up) between second (Serving read_in)
-  pub reads_it : Answers pack (Serving read_in) (Calls n (In ch a) late) Done (Serving left)
-  pub found : FoundBy found_in n e version
-  pub moved : MovesWordsOf read_in left n ch a version
+  pub names : FoundBy found_in n e version
+  pub moves : MovesWordsOf read_in left_in n ch a version
 
--- So it is with each LOOKUP and IN of a list.
-abbrev pub HoldsStill : Pack → Service → List Event → List Reply → Type 0
-HoldsStill pack old events replies =
-    (before between behind : List Event) (first second third : List Reply) (n ch e a : ℕ) (early late : Moment) → LooksUpAndReads events replies before between behind first second third n ch e a early late
-    → ReadsWhatWasFound pack old before between first second n ch e a early late
+-- So it is with each LOOKUP and IN of a run by way of these services, whatever other jobs did.
+abbrev pub HoldsStill : Service → List Event → List Reply → List Service → Type 0
+HoldsStill old events replies services =
+    (before between behind : List Event) (first second third : List Reply) (one two three : List Service)
+    (looked left : Service) (n ch e a : ℕ) (early late : Moment)
+    → LooksUpAndReads events before between behind replies first second third services one two three looked left n ch e a early late
+    → ReadsWhatWasFound (last_of old one) (last_of looked two) left n ch e a

@@ -1,7 +1,8 @@
 -- Lists of events, and what a crash among them leaves.
-use Rattle.std.specs.Prelude.{◌≡◌, ◌⊎◌, ℕ, Bool, false, List, [], ◌∷◌, Option, Some, None}
+use Rattle.std.specs.Prelude.{◌≡◌, ◌⊎◌, ℕ, Bool, false, IsTrue, List, [], ◌∷◌, Option, Some, None}
 use Rattle.std.specs.List.{AllByRecursion}
-use Rattle.blockdisk.specs.Disk.{DiskState}
+use Rattle.blockdisk.specs.Disk.{Contents, DiskState, MayLeave, LeavesOnly}
+use Rattle.meaning.specs.Crashes.{may_change}
 use Rattle.meaning.specs.Files.{File, Files}
 use Rattle.meaning.specs.Jobs as machine
 use Rattle.meaning.specs.Jobs.{State, channel_at, job_at}
@@ -15,6 +16,7 @@ use Rattle.meaning.specs.declared.call.Event.TheVariants as events
 use Rattle.meaning.specs.declared.call.Reply.{Reply}
 use Rattle.meaning.specs.declared.call.Reply.TheVariants.{Device, Failed}
 use Rattle.volume.specs.Live.{VolumeCore}
+use Rattle.volume.specs.Rest.{StandsLikeBefore}
 use Rattle.monitor.specs.Calls.{call_of}
 use Rattle.monitor.specs.Serving.{Serves}
 use Rattle.monitor.specs.declared.call.Call.{Call}
@@ -97,16 +99,37 @@ FailsOnce [] = Unit {0}
 FailsOnce (reply ∷ replies) = (reply ≡ Device → AllByRecursion (λ later. later ≡ Failed) replies) × FailsOnce replies
 
 -- The files of the state that a start finds: those after some of the calls that were answered, none left out, or
--- those after these and the next one, which was running; and no third. An event that the disk failed is the last.
+-- those after these and the next one, which was running, where its answer is one that may change files; and no third.
+-- An event that the disk failed is the last.
 abbrev pub IsAlong : Pack → Service → List played.Event → List Reply → State → Type 0
 IsAlong pack Broken events replies found = ⊥
 IsAlong pack (Serving s) [] [] found = found ≡ s
 IsAlong pack (Serving s) [] (reply ∷ replies) found = ⊥
 IsAlong pack (Serving s) (event ∷ events) [] found = ⊥
 IsAlong pack (Serving s) (event ∷ events) (reply ∷ replies) found =
-    (found ≡ s) ⊎ (found ≡ (step pack 0 s event).1)
+    (found ≡ s) ⊎ (IsTrue (may_change reply) × (found ≡ (step pack 0 s event).1))
     ⊎ ((mid : Service) × Answers pack (Serving s) event reply mid × IsAlong pack mid events replies found)
 
 -- The monitor serves these files, and nobody is logged in.
 abbrev pub ServesFiles : DiskState → VolumeCore → Bool → List (Option Job) → Files File → Type 0
 ServesFiles d map failed jobs files = (s : State) → IsStart files s → Serves d map failed jobs (Serving s)
+
+-- Starts that were stopped.
+
+-- All that a crash may leave of the disk e was left by d at some moment since t: e goes on where d was stopped.
+pub record Resumes (d : DiskState) (t : ℕ) (e : DiskState) : Type 0 where
+  pub size : e.size ≡ d.size
+  pub left : (c : Contents) → MayLeave e c → d.left_since t c
+
+-- What each start ensures of its disk, from its beginning to its end: a crash at any moment of it leaves what stands for
+-- whatever something stood for that a crash could leave at its beginning.
+abbrev pub HasStarted : DiskState → DiskState → Type 0
+HasStarted begun ended = LeavesOnly begun ended (StandsLikeBefore begun)
+
+-- Any number of starts, each over what a crash left since moment t of the disk d or of the start before it, each of
+-- which was stopped at some moment; and these contents are what the last of them left.
+abbrev pub AreStopped : {E : Type 0} → (E → DiskState) → DiskState → ℕ → List (E × E) → Contents → Type 0
+AreStopped state d t [] left = d.left_since t left
+AreStopped state d t ((begun, ended) ∷ starts) left =
+    Resumes d t (state begun) × HasStarted (state begun) (state ended)
+    × ((state ended).size ≡ (state begun).size) × AreStopped state (state ended) (state begun).clock starts left

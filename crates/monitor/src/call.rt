@@ -1,12 +1,13 @@
 ghost use Rattle.std.specs.Prelude.{◌≡◌, ◌⊎◌, ◌<◌, ◌≤◌, ◌↔◌, ℕ, true, false, Some, IsTrue, slice_set};
-ghost use Rattle.blockdisk.specs.Disk.{SameDisk, one_more};
+ghost use Rattle.blockdisk.specs.Disk.{SameDisk, LeavesOnly, one_more};
+ghost use Rattle.meaning.specs.Crashes.{StandsForEither};
 ghost use Rattle.meaning.specs.Jobs.{State, slot, job_at};
 ghost use Rattle.meaning.specs.Jobs.{Job as MachineJob};
 ghost use Rattle.meaning.specs.Opening.{mode_at};
 ghost use Rattle.meaning.specs.Rings.{is_buffered};
 ghost use Rattle.meaning.specs.Runs.{Service, Serving, Answers};
 ghost use Rattle.meaning.specs.declared.call.Event.TheVariants.{Call as Calls};
-ghost use Rattle.meaning.specs.declared.call.Reply.TheVariants.{NoMemory, Failed, Device, DateRange};
+ghost use Rattle.meaning.specs.declared.call.Reply.TheVariants.{NoMemory, Failed, Device, DateRange, Refused};
 ghost use Rattle.volume.specs.LiveCores.{core_of};
 ghost use Rattle.volume.specs.Rest.{IsSound};
 ghost use Rattle.monitor.specs.Calls.{IsServed, IsLight, call_of};
@@ -17,6 +18,7 @@ ghost use Rattle.monitor.specs.Serving.{pack_of, Serves, AreKeyed, ArePlaced, Ar
 ghost use Rattle.monitor.specs.Sides.{UnderKeys, job_of};
 ghost use Rattle.monitor.specs.declared.job.Job.{Job as JobRecord};
 ghost use Rattle.monitor.specs.declared.call.Call.TheVariants.{Open, Enter, In};
+ghost use Rattle.monitor.specs.Refusals.{IsRefused};
 
 use crate::event::LAST_DATE;
 use crate::getsts::serve_getsts;
@@ -96,6 +98,7 @@ fn serve<D: Disk>(
         → (jobs.new ≡ jobs.old) × ((under : UnderKeys) → result ≡ open_unserved (job_of under there) channel address) }
     ensures unread { (channel address : ℕ) → call.now ≡ Enter channel address → (there : JobRecord) → slot jobs.old number ≡ Some there → IsReading (slot there.channels channel)
         → (core_of volume.new.map ≡ core_of volume.old.map) × (result ≡ enter_unserved there address) × (jobs.new ≡ slice_set jobs.old number (Some (enter_refused there address))) }
+    ensures refused { (code : ℕ) → result ≡ Refused code → IsRefused call.now number code jobs.old jobs.new }
     ensures answered { (D.state volume.new.disk).honest → IsServed call.now (slot jobs.old number) → (old : Service) → Serves (D.state volume.old.disk) (core_of volume.old.map) volume.old.failed jobs.old old
         → (new : Service) × Serves (D.state volume.new.disk) (core_of volume.new.map) volume.new.failed jobs.new new
         × Answers (pack_of (D.state volume.old.disk)) old (Calls number (call_of call.now) moment) result new }
@@ -150,8 +153,12 @@ impl<D: Disk> Monitor<D> {
             × ((t : State) → after ≡ Serving t → (m : ℕ) → (m ≡ job → ⊥) → job_at t m ≡ job_at s m) }
         // No other job is changed.
         ensures others { (m : ℕ) → (m ≡ job → ⊥) → slot self.new.jobs m ≡ slot self.old.jobs m }
-        // At any moment of it a crash leaves the files from before, or those after it.
-        ensures crash { CallCrashes (D.state self.old.disk) (D.state self.new.disk) self.old.map self.old.jobs job (call_of call.now) moment }
+        // At any moment of it a crash leaves the files from before, or those after it where its answer is one that may change
+        // files: `Done`, and `Device`.
+        ensures crash { (D.state self.new.disk).honest → (s : State) → Serves (D.state self.old.disk) self.old.map self.old.failed self.old.jobs (Serving s)
+            → LeavesOnly (D.state self.old.disk) (D.state self.new.disk) (StandsForEither (pack_of (D.state self.old.disk)) s (Calls job (call_of call.now) moment) result) }
+        // On every disk a refusal leaves its code in the block that the call named, and nothing else.
+        ensures refused { (code : ℕ) → result ≡ Refused code → IsRefused call.now job code self.old.jobs self.new.jobs }
         // Which calls, and which answers, leave the disk alone; and which calls take no memory.
         ensures idle { IsIdle result → self.new.disk ≡ self.old.disk }
         ensures light { IsLight call.now (slot self.old.jobs job) → (result ≡ NoMemory → ⊥) × (self.new.disk ≡ self.old.disk) }

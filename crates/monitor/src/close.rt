@@ -2,7 +2,7 @@ ghost use Rattle.std.specs.Prelude.{◌≡◌, ◌≤◌, ℕ, Some, None, false
 ghost use Rattle.meaning.specs.Jobs.{slot};
 ghost use Rattle.meaning.specs.Maps.{times};
 ghost use Rattle.meaning.specs.declared.call.Call.TheVariants.{Close, Releas};
-ghost use Rattle.meaning.specs.declared.call.Reply.TheVariants.{NoMemory, Device, Failed};
+ghost use Rattle.meaning.specs.declared.call.Reply.TheVariants.{NoMemory, Device, Failed, Refused};
 ghost use Rattle.volume.specs.Live.{pending_at, slot as version_at};
 ghost use Rattle.volume.specs.LiveCores.{core_of};
 ghost use Rattle.volume.specs.Rest.{IsSound};
@@ -42,6 +42,7 @@ pub fn close<D: Disk>(volume: &mut Volume<D>, job: &mut Job, number: u32, bits: 
     ensures reads { KeepsReading (core_of volume.old.map).live (core_of volume.new.map).live job.old job.new }
     ensures leaves { Leaves (core_of volume.old.map) (core_of volume.new.map) }
     ensures only { (result ≡ Failed → ⊥) × (result ≡ Device → ⊥) × (result ≡ NoMemory → ⊥) }
+    ensures refused { (code : ℕ) → result ≡ Refused code → ⊥ }
 {
     let Some(channel) = job.channel(number) else {
         return Reply::NoChannel;
@@ -72,6 +73,7 @@ pub fn release<D: Disk>(volume: &mut Volume<D>, job: &mut Job, number: u32) -> R
     ensures reads { KeepsReading (core_of volume.old.map).live (core_of volume.new.map).live job.old job.new }
     ensures leaves { Leaves (core_of volume.old.map) (core_of volume.new.map) }
     ensures only { (result ≡ Failed → ⊥) × (result ≡ Device → ⊥) × (result ≡ NoMemory → ⊥) }
+    ensures refused { (code : ℕ) → result ≡ Refused code → ⊥ }
 {
     let Some(channel) = job.channel(number) else {
         return Reply::NoChannel;

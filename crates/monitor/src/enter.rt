@@ -9,7 +9,7 @@ ghost use Rattle.meaning.specs.Maps.{get};
 ghost use Rattle.meaning.specs.Published.{file_at, attributes};
 ghost use Rattle.meaning.specs.Rights.{directory_digit, file_digit, may_look, may_supersede};
 ghost use Rattle.meaning.specs.Stands.{place_of};
-ghost use Rattle.meaning.specs.declared.call.Reply.TheVariants.{Done, NoMemory, Failed, Device};
+ghost use Rattle.meaning.specs.declared.call.Reply.TheVariants.{Done, NoMemory, Failed, Device, Refused};
 ghost use Rattle.volume.specs.declared.error.CallError.TheVariants.{Failed as VolumeFailed, Device as VolumeDevice};
 ghost use Rattle.retrieval.specs.declared.mode.Mode.TheVariants.{Dump};
 ghost use Rattle.volume.specs.Beginning.{IsBegun};
@@ -23,6 +23,7 @@ ghost use Rattle.monitor.specs.Rows.{KeepsReading, IsReading, enter_unserved, en
 ghost use Rattle.monitor.specs.Serving.{pack_of, ArePlaced};
 ghost use Rattle.monitor.specs.declared.output.Kind.{Kind};
 ghost use Rattle.monitor.specs.Sides.{UnderKeys, kind_of, job_of, reader_of};
+ghost use Rattle.monitor.specs.Refusals.{with_code};
 
 use crate::channel::Channel;
 use crate::found::Found;
@@ -325,6 +326,7 @@ pub fn enter<D: Disk>(
     ensures unserved { IsReading (slot job.old.channels number) → (result ≡ enter_unserved job.old address) × (job.new ≡ enter_refused job.old address) }
     ensures row { (D.state volume.new.disk).honest → reader_of (slot job.old.channels number) ≡ None → (s : State) → IsKnown (D.state volume.old.disk) (core_of volume.old.map) s
         → (under : UnderKeys) → IsEnterAnswer (pack_of (D.state volume.old.disk)) s (job_of under job.old) (job_of under job.new) (channel_at (job_of under job.old) number) address result }
+    ensures refused { (code : ℕ) → result ≡ Refused code → job.new ≡ with_code job.old address code }
 {
     let Some(channel) = job.channel(number) else {
         return Reply::NoChannel;

@@ -1,14 +1,23 @@
-ghost use Rattle.std.specs.Prelude.{◌≡◌, ◌⊎◌, ◌↔◌, ℕ, List, length, map, true, false, IsTrue, IfOk, IsErr};
+ghost use Rattle.std.specs.Prelude.{◌≡◌, ◌⊎◌, ◌↔◌, ◌<◌, ◌≤◌, ℕ, List, Some, length, map, slice_set, true, false, IsTrue, IfOk, IsErr};
 ghost use Rattle.std.specs.List.{AllByRecursion};
 ghost use Rattle.blockdisk.specs.Disk.{SameDisk, LeavesOnly, one_more};
 ghost use Rattle.meaning.specs.Crashes.{StandsForEither, RunsOn};
-ghost use Rattle.meaning.specs.Jobs.{State, slot};
+ghost use Rattle.meaning.specs.Jobs.{State, slot, job_at};
 ghost use Rattle.meaning.specs.Runs.{Service, Serving, Answers};
-ghost use Rattle.meaning.specs.declared.call.Reply.TheVariants.{Device, Failed};
+ghost use Rattle.meaning.specs.declared.call.Reply.TheVariants.{Refused, Device, Failed, DateRange};
 ghost use Rattle.meaning.specs.declared.call.Reply.TheVariants as replies;
-ghost use Rattle.monitor.specs.Moments.{RunsBy, HoldsStill};
+ghost use Rattle.monitor.specs.Moments.{RunsBy, HoldsStill, last_of, read_of};
 ghost use Rattle.monitor.specs.Runs.{event_of, job_of, IsServedIn, AreServed, TellsFault, FailsOnce};
 ghost use Rattle.monitor.specs.Serving.{pack_of, Serves};
+ghost use Rattle.monitor.specs.Events.{IsIdle, OfCall, IsNoCall, IsLightEvent};
+ghost use Rattle.monitor.specs.Refusals.{IsRefused};
+ghost use Rattle.monitor.specs.Rows.{open_unserved, enter_unserved, enter_refused, IsReading};
+ghost use Rattle.monitor.specs.Sides.{UnderKeys, job_of as machine_job};
+ghost use Rattle.meaning.specs.Opening.{mode_at};
+ghost use Rattle.meaning.specs.Rings.{is_buffered};
+ghost use Rattle.meaning.specs.Jobs.{Job as MachineJob};
+ghost use Rattle.monitor.specs.declared.job.Job.{Job as JobRecord};
+ghost use Rattle.monitor.specs.declared.call.Call.TheVariants.{Open, Enter, In};
 
 use crate::call::Call;
 use crate::monitor::Monitor;
@@ -30,69 +39,70 @@ pub enum Event {
     Call(u32, Call, Moment),
 }
 
-/// One event, and its reply.
-fn serve_event<D: Disk>(alloc: Global, monitor: &mut Monitor<D>, event: &Event) -> Reply
-    ensures answered { (D.state monitor.new.disk).honest → (old : Service) → Serves (D.state monitor.old.disk) monitor.old.map monitor.old.failed monitor.old.jobs old → IsServedIn old event.now
-        → (new : Service) × Serves (D.state monitor.new.disk) monitor.new.map monitor.new.failed monitor.new.jobs new
-        × Answers (pack_of (D.state monitor.old.disk)) old (event_of event.now) result new }
-    ensures crash { (D.state monitor.new.disk).honest → (s : State) → Serves (D.state monitor.old.disk) monitor.old.map monitor.old.failed monitor.old.jobs (Serving s)
-        → LeavesOnly (D.state monitor.old.disk) (D.state monitor.new.disk) (StandsForEither (pack_of (D.state monitor.old.disk)) s (event_of event.now)) }
-    ensures others { (m : ℕ) → (m ≡ job_of event.now → ⊥) → slot monitor.new.jobs m ≡ slot monitor.old.jobs m }
-    ensures memory { result ≡ replies.NoMemory → monitor.new ≡ monitor.old }
-    ensures broken { monitor.old.failed ≡ true → (result ≡ Failed) × (monitor.new ≡ monitor.old) }
-    ensures failed { result ≡ Device → monitor.new.failed ≡ true }
-    ensures counted { result ≡ Device → (D.state monitor.new.disk).failures ≡ one_more (D.state monitor.old.disk).failures }
-    ensures served { (result ≡ Device → ⊥) → (D.state monitor.new.disk).failures ≡ (D.state monitor.old.disk).failures }
-    ensures same { SameDisk (D.state monitor.old.disk) (D.state monitor.new.disk) }
-{
-    match *event {
-        Event::Login(job, ppn, words) => monitor.login(alloc, job, ppn, words),
-        Event::Deposit(job, address, word) => monitor.deposit(job, address, word),
-        Event::Examine(job, address) => monitor.examine(job, address),
-        Event::Call(job, call, moment) => monitor.call(alloc, job, &call, moment),
-    }
-}
-
 impl<D: Disk> Monitor<D> {
     /// Serves one event, and gives its reply: that of `login`, `deposit`, `examine` or `call`.
     pub fn event(&mut self, alloc: Global, event: &Event) -> Reply
         ensures answered { (D.state self.new.disk).honest → (old : Service) → Serves (D.state self.old.disk) self.old.map self.old.failed self.old.jobs old → IsServedIn old event.now
             → (new : Service) × Serves (D.state self.new.disk) self.new.map self.new.failed self.new.jobs new
             × Answers (pack_of (D.state self.old.disk)) old (event_of event.now) result new }
-        // At any moment of it a crash leaves the files from before, or those after it.
+        // At any moment of it a crash leaves the files from before, or those after it where its answer is one that may change
+        // files: `Done`, and `Device`.
         ensures crash { (D.state self.new.disk).honest → (s : State) → Serves (D.state self.old.disk) self.old.map self.old.failed self.old.jobs (Serving s)
-            → LeavesOnly (D.state self.old.disk) (D.state self.new.disk) (StandsForEither (pack_of (D.state self.old.disk)) s (event_of event.now)) }
+            → LeavesOnly (D.state self.old.disk) (D.state self.new.disk) (StandsForEither (pack_of (D.state self.old.disk)) s (event_of event.now) result) }
         // On every disk: no event of another job changes a job, and one that finds no memory leaves all as it was.
         ensures others { (m : ℕ) → (m ≡ job_of event.now → ⊥) → slot self.new.jobs m ≡ slot self.old.jobs m }
         ensures memory { result ≡ replies.NoMemory → self.new ≡ self.old }
+        // Which events, and which answers, leave the disk alone; and which events take no memory.
+        ensures idle { IsIdle result → self.new.disk ≡ self.old.disk }
+        ensures light { IsLightEvent event.now self.old.jobs → (result ≡ replies.NoMemory → ⊥) × (self.new.disk ≡ self.old.disk) }
+        ensures apart_from_disk { IsNoCall event.now → self.new.disk ≡ self.old.disk }
+        // It fails with the device, and is Failed from then on; else only a broken promise of the disk makes it so.
+        ensures failed { IsTrue self.new.failed ↔ ((result ≡ Device) ⊎ (result ≡ Failed)) }
         ensures broken { self.old.failed ≡ true → (result ≡ Failed) × (self.new ≡ self.old) }
-        ensures failed { result ≡ Device → self.new.failed ≡ true }
+        ensures blamed { (D.state self.new.disk).honest → result ≡ Failed → self.old.failed ≡ true }
         ensures counted { result ≡ Device → (D.state self.new.disk).failures ≡ one_more (D.state self.old.disk).failures }
         ensures served { (result ≡ Device → ⊥) → (D.state self.new.disk).failures ≡ (D.state self.old.disk).failures }
         ensures same { SameDisk (D.state self.old.disk) (D.state self.new.disk) }
+        // And what `call` says of a call alone.
+        ensures still { OfCall event.now (λ job call moment. (D.state self.new.disk).honest → (channel address : ℕ) → call ≡ In channel address → moment.date ≤ 4095 → (s : State) → Serves (D.state self.old.disk) self.old.map self.old.failed self.old.jobs (Serving s)
+            → (own : MachineJob) → job_at s job ≡ Some own → (result ≡ replies.NoMemory → ⊥) → (result ≡ Device → ⊥)
+            → (after : State) × Serves (D.state self.new.disk) self.new.map self.new.failed self.new.jobs (Serving after)
+            × (result ≡ (read_of own channel address).0) × (job_at after job ≡ Some (read_of own channel address).1)) }
+        ensures refused { OfCall event.now (λ job call moment. (code : ℕ) → result ≡ Refused code → IsRefused call job code self.old.jobs self.new.jobs) }
+        ensures late { OfCall event.now (λ job call moment. self.old.failed ≡ false → 4095 < moment.date → (result ≡ DateRange) × (self.new ≡ self.old)) }
+        ensures kept { OfCall event.now (λ job call moment. (channel address : ℕ) → call ≡ Open channel address → self.new.map ≡ self.old.map) }
+        ensures unserved { OfCall event.now (λ job call moment. self.old.failed ≡ false → moment.date ≤ 4095 → (channel address : ℕ) → call ≡ Open channel address → (there : JobRecord) → slot self.old.jobs job ≡ Some there → is_buffered (mode_at there.core address) ≡ true
+            → (self.new.jobs ≡ self.old.jobs) × ((under : UnderKeys) → result ≡ open_unserved (machine_job under there) channel address)) }
+        ensures unread { OfCall event.now (λ job call moment. self.old.failed ≡ false → moment.date ≤ 4095 → (channel address : ℕ) → call ≡ Enter channel address → (there : JobRecord) → slot self.old.jobs job ≡ Some there → IsReading (slot there.channels channel)
+            → (self.new.map ≡ self.old.map) × (result ≡ enter_unserved there address) × (self.new.jobs ≡ slice_set self.old.jobs job (Some (enter_refused there address)))) }
     {
-        serve_event(alloc, self, event)
+        match *event {
+            Event::Login(job, ppn, words) => self.login(alloc, job, ppn, words),
+            Event::Deposit(job, address, word) => self.deposit(job, address, word),
+            Event::Examine(job, address) => self.examine(job, address),
+            Event::Call(job, call, moment) => self.call(alloc, job, &call, moment),
+        }
     }
 
     /// Serves a list of events, one after the other, and gives their replies in the same order.
     ///
     /// The replies, and what the monitor stands for after them, are a run of the file machine. At the moment after
     /// each event all that a crash may leave stands for the files after the events so far; between two such moments it
-    /// leaves these, or those after one event more. Who reads goes on in the file that its LOOKUP found.
+    /// leaves these, or those after one event more where its answer is one that may change files (`Done`, `Device`). Who reads goes on in the file that its LOOKUP found.
     /// An event that meets a fault of the disk is answered `Device`, and each event after it `Failed`.
     ///
     /// # Errors
     ///
     /// `NoMemory` where the replies find no room: then no event was served.
     pub fn serve(&mut self, alloc: Global, events: &[Event]) -> Result<Vec<Reply>, NoMemory>
+        // One run: by way of these services, one after each event, the replies are the machine's, moment by moment; and the
+        // words that an IN moves are those of the file that its LOOKUP found, whatever other jobs do.
         ensures runs { IfOk result (λ replies. (D.state self.new.disk).honest → (s : State) → Serves (D.state self.old.disk) self.old.map self.old.failed self.old.jobs (Serving s)
             → AreServed (pack_of (D.state self.old.disk)) (Serving s) events.now replies.items
-            → (new : Service) × Serves (D.state self.new.disk) self.new.map self.new.failed self.new.jobs new
-            × RunsOn (pack_of (D.state self.old.disk)) (D.state self.new.disk) (D.state self.old.disk).clock (Serving s) (map event_of events.now) replies.items new
-            × RunsBy D.state (pack_of (D.state self.old.disk)) self.old.disk (Serving s) (map event_of events.now) replies.items self.new.disk new) }
-        // The words that an IN moves are those of the file that its LOOKUP found, whatever other jobs do.
-        ensures still { IfOk result (λ replies. (D.state self.new.disk).honest → (s : State) → Serves (D.state self.old.disk) self.old.map self.old.failed self.old.jobs (Serving s)
-            → AreServed (pack_of (D.state self.old.disk)) (Serving s) events.now replies.items → HoldsStill (pack_of (D.state self.old.disk)) (Serving s) (map event_of events.now) replies.items) }
+            → (services : List Service) × Serves (D.state self.new.disk) self.new.map self.new.failed self.new.jobs (last_of (Serving s) services)
+            × RunsOn (pack_of (D.state self.old.disk)) (D.state self.new.disk) (D.state self.old.disk).clock (Serving s) (map event_of events.now) replies.items (last_of (Serving s) services)
+            × RunsBy D.state (pack_of (D.state self.old.disk)) self.old.disk (Serving s) (map event_of events.now) replies.items services self.new.disk
+            × HoldsStill (Serving s) (map event_of events.now) replies.items services) }
         ensures count { IfOk result (λ replies. length replies.items ≡ length events.now) }
         ensures none { IsErr result → self.new ≡ self.old }
         ensures broken { self.old.failed ≡ true → IfOk result (λ replies. AllByRecursion (λ reply. reply ≡ Failed) replies.items) × (self.new ≡ self.old) }
@@ -104,7 +114,7 @@ impl<D: Disk> Monitor<D> {
     {
         let mut replies = Vec::with_capacity(alloc, events.len())?;
         for event in events {
-            let reply = serve_event(alloc, self, event);
+            let reply = self.event(alloc, event);
             replies.push(reply).unwrap();
         }
         Ok(replies)

@@ -1,8 +1,8 @@
-ghost use Rattle.std.specs.Prelude.{◌≡◌, ◌≤◌, false};
+ghost use Rattle.std.specs.Prelude.{◌≡◌, ◌≤◌, false, ℕ};
 ghost use Rattle.meaning.specs.Runs.{Service, Answers};
 ghost use Rattle.meaning.specs.declared.call.Call.TheVariants.{Getsts};
 ghost use Rattle.meaning.specs.declared.call.Event.TheVariants.{Call as Calls};
-ghost use Rattle.meaning.specs.declared.call.Reply.TheVariants.{NoMemory, Failed, Device};
+ghost use Rattle.meaning.specs.declared.call.Reply.TheVariants.{NoMemory, Failed, Device, Refused};
 ghost use Rattle.volume.specs.LiveCores.{core_of};
 ghost use Rattle.monitor.specs.Rows.{IsRow};
 ghost use Rattle.monitor.specs.Serving.{pack_of, Serves, AreKeyed};
@@ -17,6 +17,7 @@ use words36::{Moment, Word};
 fn getsts(job: &Job, number: u32) -> Reply
     ensures row { IsRow job.now job.now (Getsts number) result }
     ensures only { (result ≡ Failed → ⊥) × (result ≡ Device → ⊥) × (result ≡ NoMemory → ⊥) }
+    ensures refused { (code : ℕ) → result ≡ Refused code → ⊥ }
 {
     let Some(channel) = job.channel(number) else {
         return Reply::NoChannel;
@@ -39,6 +40,7 @@ pub fn serve_getsts<D: Disk>(
         → (new : Service) × Serves (D.state volume.now.disk) (core_of volume.now.map) volume.now.failed jobs.now new
         × Answers (pack_of (D.state volume.now.disk)) old (Calls number (Getsts channel) moment) result new }
     ensures only { (result ≡ Failed → ⊥) × (result ≡ Device → ⊥) × (result ≡ NoMemory → ⊥) }
+    ensures refused { (code : ℕ) → result ≡ Refused code → ⊥ }
 {
     let Some(job) = jobs.job(number) else {
         return Reply::NoJob;

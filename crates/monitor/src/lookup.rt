@@ -8,7 +8,7 @@ ghost use Rattle.meaning.specs.Maps.{get, times};
 ghost use Rattle.meaning.specs.Published.{attributes};
 ghost use Rattle.meaning.specs.Rights.{file_digit, may_read};
 ghost use Rattle.meaning.specs.Stands.{place_of};
-ghost use Rattle.meaning.specs.declared.call.Reply.TheVariants.{Done, NoMemory, Failed, Device};
+ghost use Rattle.meaning.specs.declared.call.Reply.TheVariants.{Done, NoMemory, Failed, Device, Refused};
 ghost use Rattle.volume.specs.Live.{VolumeCore, slot};
 ghost use Rattle.volume.specs.LiveCores.{core_of};
 ghost use Rattle.volume.specs.Places.{prime_at};
@@ -23,6 +23,7 @@ ghost use Rattle.monitor.specs.Rows.{KeepsReading};
 ghost use Rattle.monitor.specs.Sides.{UnderKeys, job_of, readers_in, pins_of};
 ghost use Rattle.monitor.specs.declared.channel.Channel.{Channel};
 ghost use Rattle.monitor.specs.declared.input.Input.{Input};
+ghost use Rattle.monitor.specs.Refusals.{with_code};
 
 use crate::channel::Channel;
 use crate::dropping::let_go;
@@ -192,6 +193,7 @@ pub fn lookup<D: Disk>(volume: &mut Volume<D>, job: &mut Job, number: u32, addre
         → IsFound (D.state volume.old.disk).contents held.live s job.old job.new address input) }
     ensures row { (D.state volume.new.disk).honest → (s : State) → IsKnown (D.state volume.old.disk) (core_of volume.old.map) s
         → (under : UnderKeys) → IsLookupRow s (job_of under job.old) (job_of under job.new) (channel_at (job_of under job.old) number) address result }
+    ensures refused { (code : ℕ) → result ≡ Refused code → job.new ≡ with_code job.old address code }
 {
     let Some(channel) = job.channel(number) else {
         return Reply::NoChannel;

@@ -1,5 +1,5 @@
 ghost use Rattle.std.specs.Prelude.{◌≡◌, ◌⊎◌, ℕ, false, IfOk, IfErr};
-ghost use Rattle.blockdisk.specs.Disk.{NoneOpen, SameDisk, Still, LeavesOnly, one_more};
+ghost use Rattle.blockdisk.specs.Disk.{NoneOpen, SameDisk, Still, one_more};
 ghost use Rattle.changeset.specs.Crashes.{IsRecovered, LeavesFrom};
 ghost use Rattle.meaning.specs.Files.{File, Files};
 ghost use Rattle.meaning.specs.Jobs.{State};
@@ -7,9 +7,10 @@ ghost use Rattle.meaning.specs.Published.{without_serials};
 ghost use Rattle.meaning.specs.Room.{room};
 ghost use Rattle.meaning.specs.Runs.{Service, Serving, IsStart};
 ghost use Rattle.meaning.specs.Stands.{Stands};
+ghost use Rattle.monitor.specs.Runs.{HasStarted};
 ghost use Rattle.monitor.specs.Serving.{pack_of, Serves};
 ghost use Rattle.volume.specs.Meets.{Refuses};
-ghost use Rattle.volume.specs.Rest.{StandsLike, StandsLikeBefore};
+ghost use Rattle.volume.specs.Rest.{StandsLike};
 ghost use Rattle.volume.specs.declared.error.VolumeError.TheVariants.{Device};
 
 use crate::StartError;
@@ -56,13 +57,13 @@ impl<D: Disk> Monitor<D> {
         ensures stood { IfOk result (λ m. (D.state m.disk).honest → (files : Files File) × Stands (D.state disk).size (D.state disk).contents files
             × ((s : State) → IsStart files s → Serves (D.state m.disk) m.map m.failed m.jobs (Serving s))) }
         ensures settled { IfOk result (λ m. (D.state m.disk).honest → NoneOpen (D.state m.disk)) }
-        ensures crash { IfOk result (λ m. (D.state m.disk).honest → LeavesOnly (D.state disk) (D.state m.disk) (StandsLikeBefore (D.state disk))) }
+        ensures crash { IfOk result (λ m. (D.state m.disk).honest → HasStarted (D.state disk) (D.state m.disk)) }
         ensures synced { IfOk result (λ m. (D.state m.disk).honest → (t : ℕ) × LeavesFrom t (D.state disk) (D.state m.disk) (StandsLike (D.state disk))) }
 
         ensures refused { IfErr result (λ refused. (D.state refused.1).honest → Refuses (D.state disk).size (D.state refused.1).contents refused.0) }
         ensures kept { IfErr result (λ refused. (D.state refused.1).honest → (refused.0 ≡ Device → ⊥)
             → Still (D.state disk) (D.state refused.1) ⊎ IsRecovered (D.state disk).size (D.state disk).contents (D.state refused.1).contents) }
-        ensures crash_refused { IfErr result (λ refused. (D.state refused.1).honest → LeavesOnly (D.state disk) (D.state refused.1) (StandsLikeBefore (D.state disk))) }
+        ensures crash_refused { IfErr result (λ refused. (D.state refused.1).honest → HasStarted (D.state disk) (D.state refused.1)) }
         ensures synced_refused { IfErr result (λ refused. (D.state refused.1).honest → (refused.0 ≡ Device) ⊎ ((t : ℕ) × LeavesFrom t (D.state disk) (D.state refused.1) (StandsLike (D.state disk)))) }
 
         ensures same { IfOk result (λ m. SameDisk (D.state disk) (D.state m.disk)) }

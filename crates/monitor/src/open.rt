@@ -3,7 +3,7 @@ ghost use Rattle.meaning.specs.Cores.{lies_outside};
 ghost use Rattle.meaning.specs.Opening.{mode_at, output_header_at, input_header_at, misses_header, misses_headers};
 ghost use Rattle.meaning.specs.Rings.{is_buffered};
 ghost use Rattle.meaning.specs.declared.call.Call.TheVariants.{Open};
-ghost use Rattle.meaning.specs.declared.call.Reply.TheVariants.{NoMemory, Failed, Device};
+ghost use Rattle.meaning.specs.declared.call.Reply.TheVariants.{NoMemory, Failed, Device, Refused};
 ghost use Rattle.volume.specs.declared.live.LiveVersion.{LiveVersion};
 ghost use Rattle.volume.specs.declared.pending.PendingVersion.{PendingVersion};
 ghost use Rattle.monitor.specs.Rows.{IsRow, Keeps, KeepsReading, improper_at, opened_at, open_unserved};
@@ -115,6 +115,7 @@ pub fn open(job: &mut Job, number: u32, address: u32) -> Reply
     ensures keeps { (pending : List (Option PendingVersion)) → Keeps pending pending job.old job.new }
     ensures reads { (live : List (Option LiveVersion)) → KeepsReading live live job.old job.new }
     ensures only { (result ≡ Failed → ⊥) × (result ≡ Device → ⊥) × (result ≡ NoMemory → ⊥) }
+    ensures refused { (code : ℕ) → result ≡ Refused code → job.new ≡ job.old }
 {
     if number as usize >= CHANNELS {
         return Reply::NoChannel;

@@ -1,14 +1,18 @@
 ghost use Rattle.std.specs.Prelude.{◌≡◌, ◌⊎◌, ℕ, List, IfOk, IfErr};
-ghost use Rattle.blockdisk.specs.Disk.{Between};
+ghost use Rattle.blockdisk.specs.Disk.{Contents, MayLeave, LeavesOnly, Between, SameDisk, Still, one_more};
+ghost use Rattle.changeset.specs.Crashes.{IsRecovered};
 ghost use Rattle.meaning.specs.Crashes.{StandsForEither, RunsOn};
+ghost use Rattle.meaning.specs.Files.{File, Files};
 ghost use Rattle.meaning.specs.Jobs.{State};
 ghost use Rattle.meaning.specs.Published.{without_serials};
 ghost use Rattle.meaning.specs.Runs.{Service, Serving};
+ghost use Rattle.meaning.specs.Stands.{Stands};
 ghost use Rattle.meaning.specs.Step.{step};
 ghost use Rattle.meaning.specs.declared.call.Event.{Event};
 ghost use Rattle.meaning.specs.declared.call.Reply.{Reply};
-ghost use Rattle.monitor.specs.Runs.{IsAlong, ServesFiles};
+ghost use Rattle.monitor.specs.Runs.{IsAlong, ServesFiles, HasStarted, AreStopped};
 ghost use Rattle.monitor.specs.Serving.{pack_of};
+ghost use Rattle.volume.specs.Meets.{Refuses};
 ghost use Rattle.volume.specs.declared.error.VolumeError.TheVariants.{NoMemory, Device};
 
 use crate::StartError;
@@ -16,16 +20,17 @@ use crate::monitor::Monitor;
 use blockdisk::Disk;
 use std::alloc::Global;
 
-/// Starts a service over what a crash left of a disk that served a list of events.
+/// Starts a service over what a crash left of a disk that served a list of events, or of a start after it that was
+/// stopped itself, and so on: any number of starts may have been stopped before this one.
 ///
 /// At whichever moment of the list the crash came, the files are those after some of the events that were answered,
-/// none of them left out, or those after these and the next one, which was running; and no third. The start itself
-/// may crash too: where no block of the disk was open before it, whatever is left then stands for the same files, by
-/// what `Monitor::start` ensures.
+/// none of them left out, or those after these and the next one, which was running, where its answer is one that may
+/// change files; and no third. At whichever moments the starts before were stopped, they are the same.
 ///
 /// # Errors
 ///
-/// `NoMemory`, and `Device` where the device fails; the disk is handed back, and may be started again.
+/// `NoMemory`, and `Device` where the device fails; the disk is handed back, and may be started again. Over a disk that
+/// no such crash left, the refusals of `Monitor::start`.
 pub fn start_after_crash<D: Disk, E: Disk>(
     alloc: Global,
     stopped: &D,
@@ -33,19 +38,39 @@ pub fn start_after_crash<D: Disk, E: Disk>(
 ) -> Result<Monitor<E>, (StartError, E)>
     ensures found { (D.state stopped.now).honest → (E.state left).size ≡ (D.state stopped.now).size
         → (t : ℕ) (s : State) (events : List Event) (replies : List Reply) (new : Service) → RunsOn (pack_of (D.state stopped.now)) (D.state stopped.now) t (Serving s) events replies new
-        → (D.state stopped.now).left_since t (E.state left).contents
+        → (starts : List (E × E)) → AreStopped E.state (D.state stopped.now) t starts (E.state left).contents
         → (found : State) × IsAlong (pack_of (D.state stopped.now)) (Serving s) events replies found
         × IfOk result (λ m. (E.state m.disk).honest → ServesFiles (E.state m.disk) m.map m.failed m.jobs (without_serials found.files)) }
     ensures refused { (D.state stopped.now).honest → (E.state left).size ≡ (D.state stopped.now).size
         → (t : ℕ) (s : State) (events : List Event) (replies : List Reply) (new : Service) → RunsOn (pack_of (D.state stopped.now)) (D.state stopped.now) t (Serving s) events replies new
-        → (D.state stopped.now).left_since t (E.state left).contents
+        → (starts : List (E × E)) → AreStopped E.state (D.state stopped.now) t starts (E.state left).contents
         → IfErr result (λ refused. (E.state refused.1).honest → (refused.0 ≡ NoMemory) ⊎ (refused.0 ≡ Device)) }
     // What was left between the moment before an event and the moment after it: the files before it or after it.
     ensures between { (E.state left).size ≡ (D.state stopped.now).size
-        → (t u : ℕ) (s : State) (event : Event) → Between (D.state stopped.now) t u (StandsForEither (pack_of (D.state stopped.now)) s event)
+        → (t u : ℕ) (s : State) (event : Event) (reply : Reply) → Between (D.state stopped.now) t u (StandsForEither (pack_of (D.state stopped.now)) s event reply)
         → (D.state stopped.now).left_since t (E.state left).contents → ((D.state stopped.now).left_since u (E.state left).contents → ⊥)
         → IfOk result (λ m. (E.state m.disk).honest → ServesFiles (E.state m.disk) m.map m.failed m.jobs (without_serials s.files)
         ⊎ ServesFiles (E.state m.disk) m.map m.failed m.jobs (without_serials (step (pack_of (D.state stopped.now)) 0 s event).1.files)) }
+
+    // It may be stopped itself. Where all that a crash may leave at its beginning stands for the same files, whatever a
+    // crash leaves at any moment of it does.
+    ensures again { (files : Files File) → ((c : Contents) → MayLeave (E.state left) c → Stands (E.state left).size c files)
+        → IfOk result (λ m. (E.state m.disk).honest → LeavesOnly (E.state left) (E.state m.disk) (λ c. Stands (E.state left).size c files)) }
+    ensures again_refused { (files : Files File) → ((c : Contents) → MayLeave (E.state left) c → Stands (E.state left).size c files)
+        → IfErr result (λ refused. (E.state refused.1).honest → LeavesOnly (E.state left) (E.state refused.1) (λ c. Stands (E.state left).size c files)) }
+    ensures crash { IfOk result (λ m. (E.state m.disk).honest → HasStarted (E.state left) (E.state m.disk)) }
+    ensures crash_refused { IfErr result (λ refused. (E.state refused.1).honest → HasStarted (E.state left) (E.state refused.1)) }
+
+    // What is refused, and what becomes of the disk, as of `Monitor::start`.
+    ensures faults { IfErr result (λ refused. (E.state refused.1).honest → Refuses (E.state left).size (E.state refused.1).contents refused.0) }
+    ensures kept { IfErr result (λ refused. (E.state refused.1).honest → (refused.0 ≡ Device → ⊥)
+        → Still (E.state left) (E.state refused.1) ⊎ IsRecovered (E.state left).size (E.state left).contents (E.state refused.1).contents) }
+    ensures recovered { IfOk result (λ m. (E.state m.disk).honest → IsRecovered (E.state left).size (E.state left).contents (E.state m.disk).contents) }
+    ensures same { IfOk result (λ m. SameDisk (E.state left) (E.state m.disk)) }
+    ensures served { IfOk result (λ m. (E.state m.disk).failures ≡ (E.state left).failures) }
+    ensures same_refused { IfErr result (λ refused. SameDisk (E.state left) (E.state refused.1)) }
+    ensures failed { IfErr result (λ refused. refused.0 ≡ Device → (E.state refused.1).failures ≡ one_more (E.state left).failures) }
+    ensures served_refused { IfErr result (λ refused. (refused.0 ≡ Device → ⊥) → (E.state refused.1).failures ≡ (E.state left).failures) }
 {
     Monitor::start(alloc, left)
 }

@@ -5,7 +5,7 @@ ghost use Rattle.meaning.specs.Rings.{is_buffered};
 ghost use Rattle.meaning.specs.Runs.{Service, Answers};
 ghost use Rattle.meaning.specs.declared.call.Call.TheVariants.{Open, Enter, Useto, Reset};
 ghost use Rattle.meaning.specs.declared.call.Event.TheVariants.{Call as Calls};
-ghost use Rattle.meaning.specs.declared.call.Reply.TheVariants.{NoMemory, Failed, Device};
+ghost use Rattle.meaning.specs.declared.call.Reply.TheVariants.{NoMemory, Failed, Device, Refused};
 ghost use Rattle.volume.specs.LiveCores.{core_of};
 ghost use Rattle.volume.specs.Rest.{IsSound};
 ghost use Rattle.monitor.specs.Calls.{IsUnbuffered, IsUnread};
@@ -13,6 +13,8 @@ ghost use Rattle.monitor.specs.Rows.{open_unserved, enter_unserved, enter_refuse
 ghost use Rattle.monitor.specs.Serving.{pack_of, Serves, AreKeyed, ArePlaced, AreReading};
 ghost use Rattle.monitor.specs.Sides.{UnderKeys, job_of};
 ghost use Rattle.monitor.specs.declared.job.Job.{Job as JobRecord};
+ghost use Rattle.monitor.specs.Refusals.{IsRefused};
+ghost use Rattle.monitor.specs.declared.call.Call.TheVariants as calls;
 
 use crate::enter::enter;
 use crate::event::reset;
@@ -53,6 +55,7 @@ pub fn serve_open<D: Disk>(
     ensures answered { (D.state volume.new.disk).honest → IsUnbuffered address (slot jobs.old number) → (old : Service) → Serves (D.state volume.old.disk) (core_of volume.old.map) volume.old.failed jobs.old old
         → (new : Service) × Serves (D.state volume.new.disk) (core_of volume.new.map) volume.new.failed jobs.new new
         × Answers (pack_of (D.state volume.old.disk)) old (Calls number (Open channel address) moment) result new }
+    ensures refused { (code : ℕ) → result ≡ Refused code → IsRefused (calls.Open channel address) number code jobs.old jobs.new }
 {
     let Some(mut job) = jobs.take(number) else {
         return Reply::NoJob;
@@ -88,6 +91,7 @@ pub fn serve_useto<D: Disk>(
     ensures answered { (D.state volume.new.disk).honest → (old : Service) → Serves (D.state volume.old.disk) (core_of volume.old.map) volume.old.failed jobs.old old
         → (new : Service) × Serves (D.state volume.new.disk) (core_of volume.new.map) volume.new.failed jobs.new new
         × Answers (pack_of (D.state volume.old.disk)) old (Calls number (Useto channel block) moment) result new }
+    ensures refused { (code : ℕ) → result ≡ Refused code → IsRefused (calls.Useto channel block) number code jobs.old jobs.new }
 {
     let Some(mut job) = jobs.take(number) else {
         return Reply::NoJob;
@@ -126,6 +130,7 @@ pub fn serve_enter<D: Disk>(
     ensures answered { (D.state volume.new.disk).honest → IsUnread channel (slot jobs.old number) → (old : Service) → Serves (D.state volume.old.disk) (core_of volume.old.map) volume.old.failed jobs.old old
         → (new : Service) × Serves (D.state volume.new.disk) (core_of volume.new.map) volume.new.failed jobs.new new
         × Answers (pack_of (D.state volume.old.disk)) old (Calls number (Enter channel address) moment) result new }
+    ensures refused { (code : ℕ) → result ≡ Refused code → IsRefused (calls.Enter channel address) number code jobs.old jobs.new }
 {
     let Some(mut job) = jobs.take(number) else {
         return Reply::NoJob;
@@ -159,6 +164,7 @@ pub fn serve_reset<D: Disk>(
     ensures answered { (D.state volume.new.disk).honest → (old : Service) → Serves (D.state volume.old.disk) (core_of volume.old.map) volume.old.failed jobs.old old
         → (new : Service) × Serves (D.state volume.new.disk) (core_of volume.new.map) volume.new.failed jobs.new new
         × Answers (pack_of (D.state volume.old.disk)) old (Calls number (Reset) moment) result new }
+    ensures refused { (code : ℕ) → result ≡ Refused code → ⊥ }
 {
     if !reset(volume, jobs, number) {
         return Reply::NoJob;

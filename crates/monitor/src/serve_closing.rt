@@ -4,7 +4,7 @@ ghost use Rattle.meaning.specs.Jobs.{slot};
 ghost use Rattle.meaning.specs.Runs.{Service, Answers};
 ghost use Rattle.meaning.specs.declared.call.Call.TheVariants.{Close, Releas};
 ghost use Rattle.meaning.specs.declared.call.Event.TheVariants.{Call as Calls};
-ghost use Rattle.meaning.specs.declared.call.Reply.TheVariants.{NoMemory, Device, Failed};
+ghost use Rattle.meaning.specs.declared.call.Reply.TheVariants.{NoMemory, Device, Failed, Refused};
 ghost use Rattle.volume.specs.LiveCores.{core_of};
 ghost use Rattle.volume.specs.Rest.{IsSound};
 ghost use Rattle.monitor.specs.Events.{CallCrashes, IsIdle};
@@ -65,6 +65,7 @@ fn close_quietly<D: Disk>(
     ensures answered { (D.state volume.new.disk).honest → (old : Service) → Serves (D.state volume.old.disk) (core_of volume.old.map) volume.old.failed jobs.old old
         → (new : Service) × Serves (D.state volume.new.disk) (core_of volume.new.map) volume.new.failed jobs.new new
         × Answers (pack_of (D.state volume.old.disk)) old (Calls number (Close channel bits) moment) result new }
+    ensures refused { (code : ℕ) → result ≡ Refused code → ⊥ }
 {
     let Some(mut job) = jobs.take(number) else {
         return Reply::NoJob;
@@ -108,6 +109,7 @@ fn close_publishing<D: Disk>(
     ensures counted { result ≡ Device → (D.state volume.new.disk).failures ≡ one_more (D.state volume.old.disk).failures }
     ensures served { (result ≡ Device → ⊥) → (D.state volume.new.disk).failures ≡ (D.state volume.old.disk).failures }
     ensures same { SameDisk (D.state volume.old.disk) (D.state volume.new.disk) }
+    ensures refused { (code : ℕ) → result ≡ Refused code → ⊥ }
 {
     let Some(mut job) = jobs.take(number) else {
         return Reply::NoJob;
@@ -151,6 +153,7 @@ pub fn serve_close<D: Disk>(
     ensures served { (result ≡ Device → ⊥) → (D.state volume.new.disk).failures ≡ (D.state volume.old.disk).failures }
     ensures same { SameDisk (D.state volume.old.disk) (D.state volume.new.disk) }
     ensures light { publishes_by channel bits (slot jobs.old number) ≡ false → (result ≡ NoMemory → ⊥) × (volume.new.disk ≡ volume.old.disk) }
+    ensures refused { (code : ℕ) → result ≡ Refused code → ⊥ }
 {
     match closed_side(jobs, number, channel, bits) {
         Some(closed) => close_publishing(
@@ -185,6 +188,7 @@ fn release_quietly<D: Disk>(
     ensures answered { (D.state volume.new.disk).honest → (old : Service) → Serves (D.state volume.old.disk) (core_of volume.old.map) volume.old.failed jobs.old old
         → (new : Service) × Serves (D.state volume.new.disk) (core_of volume.new.map) volume.new.failed jobs.new new
         × Answers (pack_of (D.state volume.old.disk)) old (Calls number (Releas channel) moment) result new }
+    ensures refused { (code : ℕ) → result ≡ Refused code → ⊥ }
 {
     let Some(mut job) = jobs.take(number) else {
         return Reply::NoJob;
@@ -227,6 +231,7 @@ fn release_publishing<D: Disk>(
     ensures counted { result ≡ Device → (D.state volume.new.disk).failures ≡ one_more (D.state volume.old.disk).failures }
     ensures served { (result ≡ Device → ⊥) → (D.state volume.new.disk).failures ≡ (D.state volume.old.disk).failures }
     ensures same { SameDisk (D.state volume.old.disk) (D.state volume.new.disk) }
+    ensures refused { (code : ℕ) → result ≡ Refused code → ⊥ }
 {
     let Some(mut job) = jobs.take(number) else {
         return Reply::NoJob;
@@ -269,6 +274,7 @@ pub fn serve_release<D: Disk>(
     ensures served { (result ≡ Device → ⊥) → (D.state volume.new.disk).failures ≡ (D.state volume.old.disk).failures }
     ensures same { SameDisk (D.state volume.old.disk) (D.state volume.new.disk) }
     ensures light { publishes_by channel 0 (slot jobs.old number) ≡ false → (result ≡ NoMemory → ⊥) × (volume.new.disk ≡ volume.old.disk) }
+    ensures refused { (code : ℕ) → result ≡ Refused code → ⊥ }
 {
     match closed_side(jobs, number, channel, 0) {
         Some(closed) => release_publishing(alloc, volume, jobs, number, channel, closed, moment),

@@ -6,11 +6,13 @@ ghost use Rattle.meaning.specs.Runs.{Service, Answers};
 ghost use Rattle.meaning.specs.Stands.{Stands};
 ghost use Rattle.meaning.specs.declared.call.Call.TheVariants.{In, Lookup, Useti};
 ghost use Rattle.meaning.specs.declared.call.Event.TheVariants.{Call as Calls};
-ghost use Rattle.meaning.specs.declared.call.Reply.TheVariants.{NoMemory, Device, Failed};
+ghost use Rattle.meaning.specs.declared.call.Reply.TheVariants.{NoMemory, Device, Failed, Refused};
 ghost use Rattle.volume.specs.LiveCores.{core_of};
 ghost use Rattle.volume.specs.Rest.{IsSound, RestsAt};
 ghost use Rattle.monitor.specs.Events.{CallCrashes, IsIdle};
 ghost use Rattle.monitor.specs.Serving.{pack_of, Serves, AreKeyed, ArePlaced, AreReading};
+ghost use Rattle.monitor.specs.Refusals.{IsRefused};
+ghost use Rattle.monitor.specs.declared.call.Call.TheVariants as calls;
 
 use crate::job::Jobs;
 use crate::lookup::lookup;
@@ -48,6 +50,7 @@ pub fn serve_lookup<D: Disk>(
     ensures answered { (D.state volume.new.disk).honest → (old : Service) → Serves (D.state volume.old.disk) (core_of volume.old.map) volume.old.failed jobs.old old
         → (new : Service) × Serves (D.state volume.new.disk) (core_of volume.new.map) volume.new.failed jobs.new new
         × Answers (pack_of (D.state volume.old.disk)) old (Calls number (Lookup channel address) moment) result new }
+    ensures refused { (code : ℕ) → result ≡ Refused code → IsRefused (calls.Lookup channel address) number code jobs.old jobs.new }
 {
     let Some(mut job) = jobs.take(number) else {
         return Reply::NoJob;
@@ -93,6 +96,7 @@ pub fn serve_in<D: Disk>(
     ensures counted { result ≡ Device → (D.state volume.new.disk).failures ≡ one_more (D.state volume.old.disk).failures }
     ensures served { (result ≡ Device → ⊥) → (D.state volume.new.disk).failures ≡ (D.state volume.old.disk).failures }
     ensures same { SameDisk (D.state volume.old.disk) (D.state volume.new.disk) }
+    ensures refused { (code : ℕ) → result ≡ Refused code → IsRefused (calls.In channel address) number code jobs.old jobs.new }
 {
     let Some(mut job) = jobs.take(number) else {
         return Reply::NoJob;
@@ -128,6 +132,7 @@ pub fn serve_useti<D: Disk>(
     ensures answered { (D.state volume.new.disk).honest → (old : Service) → Serves (D.state volume.old.disk) (core_of volume.old.map) volume.old.failed jobs.old old
         → (new : Service) × Serves (D.state volume.new.disk) (core_of volume.new.map) volume.new.failed jobs.new new
         × Answers (pack_of (D.state volume.old.disk)) old (Calls number (Useti channel block) moment) result new }
+    ensures refused { (code : ℕ) → result ≡ Refused code → IsRefused (calls.Useti channel block) number code jobs.old jobs.new }
 {
     let Some(mut job) = jobs.take(number) else {
         return Reply::NoJob;

@@ -6,11 +6,13 @@ ghost use Rattle.meaning.specs.Runs.{Service, Answers};
 ghost use Rattle.meaning.specs.Stands.{Stands};
 ghost use Rattle.meaning.specs.declared.call.Call.TheVariants.{MakeDir, Out};
 ghost use Rattle.meaning.specs.declared.call.Event.TheVariants.{Call as Calls};
-ghost use Rattle.meaning.specs.declared.call.Reply.TheVariants.{NoMemory, Device, Failed};
+ghost use Rattle.meaning.specs.declared.call.Reply.TheVariants.{NoMemory, Device, Failed, Refused};
 ghost use Rattle.volume.specs.LiveCores.{core_of};
 ghost use Rattle.volume.specs.Rest.{IsSound, RestsAt};
 ghost use Rattle.monitor.specs.Events.{CallCrashes, IsIdle};
 ghost use Rattle.monitor.specs.Serving.{pack_of, Serves, AreKeyed, ArePlaced, AreReading};
+ghost use Rattle.monitor.specs.Refusals.{IsRefused};
+ghost use Rattle.monitor.specs.declared.call.Call.TheVariants as calls;
 
 use crate::job::Jobs;
 use crate::makedir::make_dir;
@@ -56,6 +58,7 @@ pub fn serve_out<D: Disk>(
     ensures counted { result ≡ Device → (D.state volume.new.disk).failures ≡ one_more (D.state volume.old.disk).failures }
     ensures served { (result ≡ Device → ⊥) → (D.state volume.new.disk).failures ≡ (D.state volume.old.disk).failures }
     ensures same { SameDisk (D.state volume.old.disk) (D.state volume.new.disk) }
+    ensures refused { (code : ℕ) → result ≡ Refused code → IsRefused (calls.Out channel address) number code jobs.old jobs.new }
 {
     let Some(mut job) = jobs.take(number) else {
         return Reply::NoJob;
@@ -96,6 +99,7 @@ pub fn serve_make_dir<D: Disk>(
     ensures same { SameDisk (D.state volume.old.disk) (D.state volume.new.disk) }
     ensures blamed { (D.state volume.new.disk).honest → result ≡ Failed → ⊥ }
     ensures idle { IsIdle result → volume.new.disk ≡ volume.old.disk }
+    ensures refused { (code : ℕ) → result ≡ Refused code → IsRefused (calls.MakeDir address) number code jobs.old jobs.new }
 {
     let Some(mut job) = jobs.take(number) else {
         return Reply::NoJob;

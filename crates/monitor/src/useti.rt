@@ -1,6 +1,6 @@
-ghost use Rattle.std.specs.Prelude.{◌≡◌, List, Option};
+ghost use Rattle.std.specs.Prelude.{◌≡◌, List, Option, ℕ};
 ghost use Rattle.meaning.specs.declared.call.Call.TheVariants.{Useti};
-ghost use Rattle.meaning.specs.declared.call.Reply.TheVariants.{NoMemory, Failed, Device};
+ghost use Rattle.meaning.specs.declared.call.Reply.TheVariants.{NoMemory, Failed, Device, Refused};
 ghost use Rattle.volume.specs.declared.live.LiveVersion.{LiveVersion};
 ghost use Rattle.volume.specs.declared.pending.PendingVersion.{PendingVersion};
 ghost use Rattle.monitor.specs.Rows.{IsRow, Keeps, KeepsReading};
@@ -24,6 +24,7 @@ pub fn useti(job: &mut Job, number: u32, block: u32) -> Reply
     ensures keeps { (pending : List (Option PendingVersion)) → Keeps pending pending job.old job.new }
     ensures reads { (live : List (Option LiveVersion)) → KeepsReading live live job.old job.new }
     ensures only { (result ≡ Failed → ⊥) × (result ≡ Device → ⊥) × (result ≡ NoMemory → ⊥) }
+    ensures refused { (code : ℕ) → result ≡ Refused code → job.new ≡ job.old }
 {
     let Some(channel) = job.channel(number) else {
         return Reply::NoChannel;

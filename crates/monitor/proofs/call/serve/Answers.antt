@@ -10,6 +10,7 @@ use Rattle.monitor.specs.Calls.{IsLight, call_of}
 use Rattle.monitor.specs.Events.{CallCrashes}
 use Rattle.monitor.proofs.Called.{IsCalled, quiet_failed, quiet_same}
 use Rattle.monitor.proofs.Untouched.{untouched_crashes}
+use Rattle.monitor.specs.Refusals.{IsRefused}
 use Rattle.monitor.proofs.call.serve.Goals as goal
 
 pub returns-in-Open-clause-answered : goal.returns-in-Open-clause-answered
@@ -166,3 +167,47 @@ returns-in-In-clause-answered g c h =
 pub returns-in-In-clause-crash : goal.returns-in-In-clause-crash
 returns-in-In-clause-crash g c =
     subst (λ call. CallCrashes (g.D.Disk.state c.args.volume.now.disk) (g.D.Disk.state c.serve_in.new.volume.disk) (core_of c.args.volume.now.map) c.args.jobs.now c.args.number (call_of call) c.args.moment) (sym c.in-In.is) c.serve_in.ensures.crash
+
+pub returns-in-Open-clause-refused : goal.returns-in-Open-clause-refused
+returns-in-Open-clause-refused g c code refused =
+    subst (λ call. IsRefused call c.args.number code c.args.jobs.now c.serve_open.new.jobs) (sym c.in-Open.is) (c.serve_open.ensures.refused code refused)
+
+pub returns-in-Lookup-clause-refused : goal.returns-in-Lookup-clause-refused
+returns-in-Lookup-clause-refused g c code refused =
+    subst (λ call. IsRefused call c.args.number code c.args.jobs.now c.serve_lookup.new.jobs) (sym c.in-Lookup.is) (c.serve_lookup.ensures.refused code refused)
+
+pub returns-in-Enter-clause-refused : goal.returns-in-Enter-clause-refused
+returns-in-Enter-clause-refused g c code refused =
+    subst (λ call. IsRefused call c.args.number code c.args.jobs.now c.serve_enter.new.jobs) (sym c.in-Enter.is) (c.serve_enter.ensures.refused code refused)
+
+pub returns-in-In-clause-refused : goal.returns-in-In-clause-refused
+returns-in-In-clause-refused g c code refused =
+    subst (λ call. IsRefused call c.args.number code c.args.jobs.now c.serve_in.new.jobs) (sym c.in-In.is) (c.serve_in.ensures.refused code refused)
+
+pub returns-in-Out-clause-refused : goal.returns-in-Out-clause-refused
+returns-in-Out-clause-refused g c code refused =
+    subst (λ call. IsRefused call c.args.number code c.args.jobs.now c.serve_out.new.jobs) (sym c.in-Out.is) (c.serve_out.ensures.refused code refused)
+
+pub returns-in-Useti-clause-refused : goal.returns-in-Useti-clause-refused
+returns-in-Useti-clause-refused g c code refused =
+    subst (λ call. IsRefused call c.args.number code c.args.jobs.now c.serve_useti.new.jobs) (sym c.in-Useti.is) (c.serve_useti.ensures.refused code refused)
+
+pub returns-in-Useto-clause-refused : goal.returns-in-Useto-clause-refused
+returns-in-Useto-clause-refused g c code refused =
+    subst (λ call. IsRefused call c.args.number code c.args.jobs.now c.serve_useto.new.jobs) (sym c.in-Useto.is) (c.serve_useto.ensures.refused code refused)
+
+pub returns-in-MakeDir-clause-refused : goal.returns-in-MakeDir-clause-refused
+returns-in-MakeDir-clause-refused g c code refused =
+    subst (λ call. IsRefused call c.args.number code c.args.jobs.now c.serve_make_dir.new.jobs) (sym c.in-MakeDir.is) (c.serve_make_dir.ensures.refused code refused)
+
+pub returns-in-Close-clause-refused : goal.returns-in-Close-clause-refused
+returns-in-Close-clause-refused g c code refused = absurd (c.serve_close.ensures.refused code refused)
+
+pub returns-in-Releas-clause-refused : goal.returns-in-Releas-clause-refused
+returns-in-Releas-clause-refused g c code refused = absurd (c.serve_release.ensures.refused code refused)
+
+pub returns-in-Getsts-clause-refused : goal.returns-in-Getsts-clause-refused
+returns-in-Getsts-clause-refused g c code refused = absurd (c.serve_getsts.ensures.refused code refused)
+
+pub returns-in-Reset-clause-refused : goal.returns-in-Reset-clause-refused
+returns-in-Reset-clause-refused g c code refused = absurd (c.serve_reset.ensures.refused code refused)

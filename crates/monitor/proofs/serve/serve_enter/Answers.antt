@@ -11,6 +11,8 @@ use Rattle.monitor.proofs.EnterAnswers.{enters_keyed, enters_reading, enter_answ
 use Rattle.monitor.proofs.EnterRefusals.{stays}
 use Rattle.monitor.proofs.Serving.{nobody}
 use Rattle.monitor.proofs.Slots.{put_back, unchanged}
+use Rattle.monitor.proofs.Refusals.{refused_here}
+use Rattle.monitor.specs.declared.call.Call.TheVariants as calls
 use Rattle.monitor.proofs.serve.serve_enter.Goals as goal
 
 pub returns-in_default-clause-answered : goal.returns-in_default-clause-answered
@@ -48,3 +50,8 @@ pub returns-clause-unserved : goal.returns-clause-unserved
 returns-clause-unserved g c there at reads =
     stays (core_of c.args.volume.now.map) (core_of c.enter-reply.new.volume.map) c.args.jobs.now c.put.new.self c.args.number c.in-Some.job c.enter-reply.new.job c.args.channel c.args.address c.enter-reply.result c.in-Some.ensures.found.0
     (put_back c.args.jobs.now c.take.new.self c.put.new.self c.args.number (Some c.enter-reply.new.job) c.in-Some.ensures.found.1 c.put.ensures) c.enter-reply.ensures.kept c.enter-reply.ensures.unserved there at reads
+
+pub returns-clause-refused : goal.returns-clause-refused
+returns-clause-refused g c code refused =
+    refused_here (calls.Enter c.args.channel c.args.address) c.args.number code c.args.jobs.now c.take.new.self c.put.new.self c.in-Some.job c.enter-reply.new.job c.in-Some.ensures.found.0 c.in-Some.ensures.found.1 c.put.ensures
+    (c.enter-reply.ensures.refused code refused)

@@ -11,6 +11,8 @@ use Rattle.volume.specs.LiveCores.{core_of}
 use Rattle.monitor.specs.Calls.{IsUnbuffered}
 use Rattle.monitor.proofs.Serving.{nobody, alone, alone_keyed, alone_reading}
 use Rattle.monitor.proofs.Slots.{put_back}
+use Rattle.monitor.proofs.Refusals.{refused_here}
+use Rattle.monitor.specs.declared.call.Call.TheVariants as calls
 use Rattle.monitor.proofs.serve.serve_open.Goals as goal
 
 pub returns-in_default-clause-answered : goal.returns-in_default-clause-answered
@@ -45,3 +47,8 @@ returns-clause-unserved g c job there buffered =
           ∙ ap (λ x. slice_set c.args.jobs.now c.args.number (Some x)) is.0 ∙ set-slot c.args.jobs.now c.args.number c.in-Some.job c.in-Some.ensures.found.0,
       λ w. is.1 w ∙ ap (λ x. open_unserved (job_of w x) c.args.channel c.args.address) same,
     )
+
+pub returns-clause-refused : goal.returns-clause-refused
+returns-clause-refused g c code refused =
+    refused_here (calls.Open c.args.channel c.args.address) c.args.number code c.args.jobs.now c.take.new.self c.put.new.self c.in-Some.job c.open-reply.new.job c.in-Some.ensures.found.0 c.in-Some.ensures.found.1 c.put.ensures
+    (c.open-reply.ensures.refused code refused)

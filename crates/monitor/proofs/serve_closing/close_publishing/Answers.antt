@@ -13,6 +13,7 @@ use Rattle.monitor.proofs.SideLists.{each-slot}
 use Rattle.monitor.proofs.Called.{still_serves}
 use Rattle.monitor.proofs.Slots.{put_back, unchanged}
 use Rattle.monitor.proofs.Untouched.{untouched_crashes}
+use Rattle.monitor.proofs.Refusals.{publishing_refused}
 use Rattle.monitor.proofs.serve_closing.close_publishing.Goals as goal
 
 pub returns-in_default-clause-answered : goal.returns-in_default-clause-answered
@@ -91,3 +92,6 @@ pub returns-clause-memory : goal.returns-clause-memory
 returns-clause-memory g c none =
     let same = c.close_output-reply.ensures.memory none in
     (same.0, same.1, still_serves c.args.volume.now.failed c.close_output-reply.new.volume.failed c.close_output-reply.result c.requires.alive (returns-clause-failed g c) none, unchanged c.args.jobs.now c.put.new.self c.args.number c.in-Some.job c.close_output-reply.new.job c.in-Some.ensures.found.0 (put_back c.args.jobs.now c.take.new.self c.put.new.self c.args.number (Some c.close_output-reply.new.job) c.in-Some.ensures.found.1 c.put.ensures) (c.close_output-reply.ensures.kept (λ e. let wrong = sym none ∙ e in cc)))
+
+pub returns-clause-refused : goal.returns-clause-refused
+returns-clause-refused g c code refused = publishing_refused (g.D.Disk.state c.args.volume.now.disk) (g.D.Disk.state c.close_output-reply.new.volume.disk) (core_of c.args.volume.now.map) (core_of c.close_output-reply.new.volume.map) c.args.volume.now.failed c.close_output-reply.new.volume.failed c.args.closed.1.pending.key code c.close_output-reply.result c.close_output-reply.ensures.answered refused

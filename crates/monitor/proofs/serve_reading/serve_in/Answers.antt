@@ -8,6 +8,8 @@ use Rattle.monitor.proofs.ReadingJobs.{job_held}
 use Rattle.monitor.proofs.Serving.{nobody}
 use Rattle.monitor.proofs.Slots.{put_back, unchanged}
 use Rattle.monitor.proofs.Untouched.{untouched_crashes, untouched_quiet, quiet_crashes}
+use Rattle.monitor.proofs.Refusals.{refused_here, in_refused}
+use Rattle.monitor.specs.declared.call.Call.TheVariants as calls
 use Rattle.monitor.proofs.serve_reading.serve_in.Goals as goal
 
 pub returns-in_default-clause-answered : goal.returns-in_default-clause-answered
@@ -57,3 +59,8 @@ pub returns-clause-memory : goal.returns-clause-memory
 returns-clause-memory g c none =
     let is = c.read-reply.ensures.memory none in
     (is.0, still_serves c.args.volume.now.failed c.read-reply.new.volume.failed c.read-reply.result c.requires.alive c.read-reply.ensures.failed none, unchanged c.args.jobs.now c.put.new.self c.args.number c.in-Some.job c.read-reply.new.job c.in-Some.ensures.found.0 (put_back c.args.jobs.now c.take.new.self c.put.new.self c.args.number (Some c.read-reply.new.job) c.in-Some.ensures.found.1 c.put.ensures) is.1)
+
+pub returns-clause-refused : goal.returns-clause-refused
+returns-clause-refused g c code refused =
+    refused_here (calls.In c.args.channel c.args.address) c.args.number code c.args.jobs.now c.take.new.self c.put.new.self c.in-Some.job c.read-reply.new.job c.in-Some.ensures.found.0 c.in-Some.ensures.found.1 c.put.ensures
+    (in_refused (g.D.Disk.state c.args.volume.now.disk) (g.D.Disk.state c.read-reply.new.volume.disk) (core_of c.args.volume.now.map) c.in-Some.job c.read-reply.new.job c.args.channel c.args.address code c.read-reply.result c.read-reply.ensures.outcome refused)

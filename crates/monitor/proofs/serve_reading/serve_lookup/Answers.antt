@@ -12,6 +12,8 @@ use Rattle.monitor.proofs.Lookups.{placed_still}
 use Rattle.monitor.proofs.ReadingJobs.{job_held, few_readers}
 use Rattle.monitor.proofs.Serving.{nobody}
 use Rattle.monitor.proofs.Slots.{put_back}
+use Rattle.monitor.proofs.Refusals.{refused_here}
+use Rattle.monitor.specs.declared.call.Call.TheVariants as calls
 use Rattle.monitor.proofs.serve_reading.serve_lookup.Goals as goal
 
 pub returns-in_default-clause-answered : goal.returns-in_default-clause-answered
@@ -51,3 +53,8 @@ returns-clause-answered g c h old state =
     (lookup_answered d (g.D.Disk.state c.lookup-reply.new.volume.disk) map (core_of c.lookup-reply.new.volume.map) c.args.jobs.now c.put.new.self c.args.number c.in-Some.job c.lookup-reply.new.job c.args.channel c.args.address c.args.moment
     c.lookup-reply.result c.in-Some.ensures.found.0 (put_back c.args.jobs.now c.take.new.self c.put.new.self c.args.number (Some c.lookup-reply.new.job) c.in-Some.ensures.found.1 c.put.ensures) c.requires.keyed c.requires.reading c.lookup-reply.ensures.pending c.lookup-reply.ensures.reads
     c.lookup-reply.ensures.looked c.lookup-reply.ensures.kept c.args.volume.now.failed c.requires.alive sound h c.requires.timely (λ s is. known d map c.args.jobs.now s is sound was) (c.lookup-reply.ensures.row h) old state)
+
+pub returns-clause-refused : goal.returns-clause-refused
+returns-clause-refused g c code refused =
+    refused_here (calls.Lookup c.args.channel c.args.address) c.args.number code c.args.jobs.now c.take.new.self c.put.new.self c.in-Some.job c.lookup-reply.new.job c.in-Some.ensures.found.0 c.in-Some.ensures.found.1 c.put.ensures
+    (c.lookup-reply.ensures.refused code refused)

@@ -3,6 +3,8 @@ use Rattle.meaning.specs.declared.call.Call.TheVariants.{Useti}
 use Rattle.volume.specs.LiveCores.{core_of}
 use Rattle.monitor.proofs.Serving.{nobody, alone, alone_keyed, alone_reading}
 use Rattle.monitor.proofs.Slots.{put_back}
+use Rattle.monitor.proofs.Refusals.{refused_here}
+use Rattle.monitor.specs.declared.call.Call.TheVariants as calls
 use Rattle.monitor.proofs.serve_reading.serve_useti.Goals as goal
 
 pub returns-in_default-clause-answered : goal.returns-in_default-clause-answered
@@ -25,3 +27,8 @@ returns-clause-answered g c h =
     alone (g.D.Disk.state c.args.volume.now.disk) (core_of c.args.volume.now.map) c.args.volume.now.failed c.args.jobs.now c.args.number (Useti c.args.channel c.args.block) c.args.moment c.requires.alive c.requires.timely c.put.new.self c.in-Some.job c.useti-reply.new.job
     c.useti-reply.result c.requires.keyed c.requires.reading c.in-Some.ensures.found.0 (put_back c.args.jobs.now c.take.new.self c.put.new.self c.args.number (Some c.useti-reply.new.job) c.in-Some.ensures.found.1 c.put.ensures) (c.useti-reply.ensures.keeps (core_of c.args.volume.now.map).pending) (c.useti-reply.ensures.reads (core_of c.args.volume.now.map).live)
     c.useti-reply.ensures.row
+
+pub returns-clause-refused : goal.returns-clause-refused
+returns-clause-refused g c code refused =
+    refused_here (calls.Useti c.args.channel c.args.block) c.args.number code c.args.jobs.now c.take.new.self c.put.new.self c.in-Some.job c.useti-reply.new.job c.in-Some.ensures.found.0 c.in-Some.ensures.found.1 c.put.ensures
+    (c.useti-reply.ensures.refused code refused)

@@ -8,6 +8,8 @@ use Rattle.monitor.proofs.Placing.{placed_made}
 use Rattle.monitor.proofs.Serving.{nobody}
 use Rattle.monitor.proofs.Called.{still_serves}
 use Rattle.monitor.proofs.Slots.{put_back, others_back, unchanged}
+use Rattle.monitor.proofs.Refusals.{refused_here, make_dir_refused}
+use Rattle.monitor.specs.declared.call.Call.TheVariants as calls
 use Rattle.monitor.proofs.serve_writing.serve_make_dir.Goals as goal
 
 pub returns-in_default-clause-answered : goal.returns-in_default-clause-answered
@@ -75,3 +77,8 @@ returns-clause-memory g c none =
 
 pub returns-clause-others : goal.returns-clause-others
 returns-clause-others g c = others_back c.args.jobs.now c.take.new.self c.put.new.self c.args.number (Some c.make_dir-reply.new.job) c.in-Some.ensures.found.1 c.put.ensures
+
+pub returns-clause-refused : goal.returns-clause-refused
+returns-clause-refused g c code refused =
+    refused_here (calls.MakeDir c.args.address) c.args.number code c.args.jobs.now c.take.new.self c.put.new.self c.in-Some.job c.make_dir-reply.new.job c.in-Some.ensures.found.0 c.in-Some.ensures.found.1 c.put.ensures
+    (make_dir_refused (g.D.Disk.state c.args.volume.now.disk).size (core_of c.args.volume.now.map) ((c.make_dir-reply.new.volume.disk ≡ c.args.volume.now.disk) × (core_of c.make_dir-reply.new.volume.map ≡ core_of c.args.volume.now.map)) c.in-Some.job c.make_dir-reply.new.job c.args.address code c.make_dir-reply.result c.make_dir-reply.ensures.outcome refused)

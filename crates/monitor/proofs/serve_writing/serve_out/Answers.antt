@@ -14,6 +14,8 @@ use Rattle.monitor.proofs.SideLists.{each-slot}
 use Rattle.monitor.proofs.Called.{still_serves}
 use Rattle.monitor.proofs.Slots.{put_back, unchanged}
 use Rattle.monitor.proofs.Untouched.{untouched_crashes, quiet_crashes}
+use Rattle.monitor.proofs.Refusals.{refused_here, out_refused}
+use Rattle.monitor.specs.declared.call.Call.TheVariants as calls
 use Rattle.monitor.proofs.serve_writing.serve_out.Goals as goal
 
 pub returns-in_default-clause-answered : goal.returns-in_default-clause-answered
@@ -73,3 +75,8 @@ pub returns-clause-memory : goal.returns-clause-memory
 returns-clause-memory g c none =
     let is = subst (IsOut (g.D.Disk.state c.args.volume.now.disk) (g.D.Disk.state c.out-reply.new.volume.disk) (core_of c.args.volume.now.map) (core_of c.out-reply.new.volume.map) ((c.out-reply.new.volume.disk ≡ c.args.volume.now.disk) × (core_of c.out-reply.new.volume.map ≡ core_of c.args.volume.now.map)) c.in-Some.job c.out-reply.new.job c.args.channel c.args.address) none c.out-reply.ensures.outcome in
     (is.1.0, is.1.1, still_serves c.args.volume.now.failed c.out-reply.new.volume.failed c.out-reply.result c.requires.alive c.out-reply.ensures.failed none, unchanged c.args.jobs.now c.put.new.self c.args.number c.in-Some.job c.out-reply.new.job c.in-Some.ensures.found.0 (put_back c.args.jobs.now c.take.new.self c.put.new.self c.args.number (Some c.out-reply.new.job) c.in-Some.ensures.found.1 c.put.ensures) is.0)
+
+pub returns-clause-refused : goal.returns-clause-refused
+returns-clause-refused g c code refused =
+    refused_here (calls.Out c.args.channel c.args.address) c.args.number code c.args.jobs.now c.take.new.self c.put.new.self c.in-Some.job c.out-reply.new.job c.in-Some.ensures.found.0 c.in-Some.ensures.found.1 c.put.ensures
+    (out_refused (g.D.Disk.state c.args.volume.now.disk) (g.D.Disk.state c.out-reply.new.volume.disk) (core_of c.args.volume.now.map) (core_of c.out-reply.new.volume.map) ((c.out-reply.new.volume.disk ≡ c.args.volume.now.disk) × (core_of c.out-reply.new.volume.map ≡ core_of c.args.volume.now.map)) c.in-Some.job c.out-reply.new.job c.args.channel c.args.address code c.out-reply.result c.out-reply.ensures.outcome refused)

@@ -9,14 +9,17 @@ use Rattle.monitor.specs.Rows.{open_unserved, enter_unserved, enter_refused, IsR
 use Rattle.monitor.specs.Sides.{UnderKeys, job_of}
 use Rattle.monitor.specs.declared.call.Call.TheVariants.{Open, Enter, In}
 use Rattle.monitor.specs.declared.job.Job.{Job}
-use Rattle.meaning.specs.declared.call.Reply.TheVariants.{NoMemory, Device, DateRange}
+use Rattle.meaning.specs.declared.call.Reply.TheVariants.{NoMemory, Device, Failed, DateRange, Refused}
 use Rattle.volume.specs.LiveCores.{core_of}
 use Rattle.monitor.specs.Calls.{IsServed, call_of}
-use Rattle.monitor.specs.Events.{CallCrashes}
+use Rattle.blockdisk.specs.Disk.{LeavesOnly}
+use Rattle.meaning.specs.Crashes.{StandsForEither}
+use Rattle.meaning.specs.declared.call.Event.TheVariants.{Call as Calls}
 use Rattle.monitor.specs.Serving.{pack_of, Serves}
 use Rattle.monitor.proofs.Apart.{IsApart, IsStill, in_still, apart}
-use Rattle.monitor.proofs.Untouched.{untouched_crashes}
+use Rattle.monitor.proofs.EventCrashes.{untouched_event, call_event}
 use Rattle.monitor.proofs.Called.{IsCalled, called_late}
+use Rattle.monitor.specs.Refusals.{IsRefused}
 use Rattle.monitor.proofs.monitor.Monitor.call.Goals as goal
 
 pub returns-then-moment-gt-LAST_DATE-clause-answered : goal.returns-then-moment-gt-LAST_DATE-clause-answered
@@ -37,14 +40,23 @@ returns-clause-unserved g c =
     (λ serves timely channel address asked there at buffered. c.serve.ensures.unserved channel address asked there at buffered)
 
 pub returns-then-self-clause-crash : goal.returns-then-self-clause-crash
-returns-then-self-clause-crash g c = untouched_crashes g.D.Disk.state g.met.D.Disk.only_now c.args.self.now.disk c.args.self.now.disk refl c.args.self.now.map c.args.self.now.jobs c.args.job (call_of c.args.call.now) c.args.moment
+returns-then-self-clause-crash g c h s serves =
+    let m = c.args.self.now in
+    untouched_event g.D.Disk.state g.met.D.Disk.only_now m.disk m.disk refl m.map m.jobs (Calls c.args.job (call_of c.args.call.now) c.args.moment) Failed h s serves.1
 
 pub returns-then-moment-gt-LAST_DATE-clause-crash : goal.returns-then-moment-gt-LAST_DATE-clause-crash
-returns-then-moment-gt-LAST_DATE-clause-crash g c = untouched_crashes g.D.Disk.state g.met.D.Disk.only_now c.args.self.now.disk c.args.self.now.disk refl c.args.self.now.map c.args.self.now.jobs c.args.job (call_of c.args.call.now) c.args.moment
+returns-then-moment-gt-LAST_DATE-clause-crash g c h s serves =
+    let m = c.args.self.now in
+    untouched_event g.D.Disk.state g.met.D.Disk.only_now m.disk m.disk refl m.map m.jobs (Calls c.args.job (call_of c.args.call.now) c.args.moment) DateRange h s serves.1
 
 pub returns-clause-crash : goal.returns-clause-crash
 returns-clause-crash g c =
-    subst (λ m. CallCrashes (g.D.Disk.state m.disk) (g.D.Disk.state c.serve.new.volume.disk) m.map m.jobs c.args.job (call_of c.args.call.now) c.args.moment) c.self.view_is c.serve.ensures.crash
+    let end = g.D.Disk.state c.serve.new.volume.disk in
+    subst (λ m. end.honest → (s : State) → Serves (g.D.Disk.state m.disk) m.map m.failed m.jobs (Serving s)
+    → LeavesOnly (g.D.Disk.state m.disk) end (StandsForEither (pack_of (g.D.Disk.state m.disk)) s (Calls c.args.job (call_of c.args.call.now) c.args.moment) c.serve.result)) c.self.view_is
+    (λ h s serves.
+    call_event g.D.Disk.state g.met.D.Disk.only_now c.self.inside.volume.disk c.serve.new.volume.disk (core_of c.self.inside.volume.map) c.self.inside.jobs c.args.job (call_of c.args.call.now) c.args.moment
+    c.serve.ensures.crash h s serves.1 c.serve.result c.serve.ensures.idle (c.serve.ensures.blamed h))
 
 pub returns-clause-memory : goal.returns-clause-memory
 returns-clause-memory g c none =
@@ -89,3 +101,7 @@ returns-then-moment-gt-LAST_DATE-clause-apart g c =
     let led = called_late d (core_of m.volume.map) m.volume.failed m.jobs c.args.job c.args.call.now c.args.moment c.if-self.false c.if-moment-gt-LAST_DATE.true
     (c.self.invariant.1 c.if-self.false).0 (c.self.invariant.1 c.if-self.false).2 served (Serving s) serves in
     apart (Serves d (core_of m.volume.map) m.volume.failed m.jobs) (pack_of d) s c.args.job c.args.moment DateRange (call_of c.args.call.now) led.0 led.1 led.2)
+
+pub returns-clause-refused : goal.returns-clause-refused
+returns-clause-refused g c =
+    subst (λ m. (code : ℕ) → c.serve.result ≡ Refused code → IsRefused c.args.call.now c.args.job code m.jobs c.serve.new.jobs) c.self.view_is c.serve.ensures.refused

@@ -1,4 +1,4 @@
-use Rattle.std.proofs.Common.{◌≡◌, [], ◌∷◌, ◌++◌, ◌+◌, length, take, refl, sym, ap, subst, ◌∙◌, arith, length-append}
+use Rattle.std.proofs.Common.{◌≡◌, [], ◌∷◌, ◌++◌, ◌+◌, length, take, refl, inl, sym, ap, subst, ◌∙◌, arith, length-append}
 use Rattle.std.specs.Prelude.{is_ok, if◌then◌else◌}
 use Rattle.std.specs.List.{AllByRecursion}
 use Rattle.std.proofs.lemmas.List.{take_more, take_all, length-take-le}
@@ -29,13 +29,13 @@ loop-event-preserved g c =
     let state = g.D.Disk.state in
     let first = c.args.self.now in
     let old = c.loop-event.self in
-    let new = c.serve_event-reply.new.monitor in
+    let new = c.event-reply.new.self in
     let event = c.event-item.result in
-    let reply = c.serve_event-reply.result in
+    let reply = c.event-reply.result in
     let replies = c.loop-event.replies.items in
     let so_far = take c.loop-event.event-index c.args.events.now in
     let is = c.loop-event.invariant in
-    let does = c.serve_event-reply.ensures in
+    let does = c.event-reply.ensures in
     let stays = does.broken in
     let grown : c.push.new.self.items ≡ replies ++ reply ∷ [] = c.push.ensures.items ∙ ap (λ r. if is_ok r then replies ++ reply ∷ [] else replies) c.unwrap.ensures in
     let took : take (c.loop-event.event-index + 1) c.args.events.now ≡ so_far ++ event ∷ [] = take_more c.args.events.now c.loop-event.event-index event c.loop-event-test.true ∙ ap (λ e. so_far ++ e ∷ []) (sym c.event-item.is) in
@@ -50,15 +50,11 @@ loop-event-preserved g c =
       broken = λ failed. let more = broken_more state first old new so_far replies event reply stays is.broken failed in (subst (AllByRecursion (λ x. x ≡ Failed)) (sym grown) more.0, more.1);
       served = λ all. served_more state first old new so_far replies event reply does.served is.served (subst (AllByRecursion (λ x. x ≡ Device → ⊥)) grown all);
       counted = λ tells. counted_more state first old new so_far replies event reply stays is.told does.counted does.served is.served is.counted (subst TellsFault grown tells);
-      told = λ tells. told_more state first old new so_far replies event reply stays does.failed is.told (subst TellsFault grown tells);
+      told = λ tells. told_more state first old new so_far replies event reply stays (λ e. does.failed.1 (inl e)) is.told (subst TellsFault grown tells);
       once = subst FailsOnce (sym grown) (failed_once state first old new so_far replies event reply stays is.told is.once);
     }
 
 pub returns-clause-runs : goal.returns-clause-runs
 returns-clause-runs g c =
-    subst (λ es. Ran g.D.Disk.state c.args.self.now c.loop-event.self es c.loop-event.replies.items) (take_all c.loop-event.event-index c.args.events.now c.loop-event-test.false) c.loop-event.invariant.runs
-
-pub returns-clause-still : goal.returns-clause-still
-returns-clause-still g c =
     ran_still g.D.Disk.state c.args.self.now c.loop-event.self c.args.events.now c.loop-event.replies.items
     (subst (λ es. Ran g.D.Disk.state c.args.self.now c.loop-event.self es c.loop-event.replies.items) (take_all c.loop-event.event-index c.args.events.now c.loop-event-test.false) c.loop-event.invariant.runs)

@@ -1,0 +1,51 @@
+ghost use Rattle.std.specs.Prelude.{◌≡◌, ◌⊎◌, List, IfOk, IfErr};
+ghost use Rattle.meaning.specs.Conducts.{Act};
+ghost use Rattle.meaning.specs.Jobs.{State};
+ghost use Rattle.meaning.specs.Published.{without_serials};
+ghost use Rattle.meaning.specs.Runs.{Serving};
+ghost use Rattle.monitor.specs.Runs.{ServesFiles, AreStopped};
+ghost use Rattle.monitor.specs.Serving.{pack_of, Serves};
+ghost use Rattle.monitor.specs.States.{MonitorState};
+ghost use Rattle.commands.specs.Machines.{GoesBy, GoesServed, AreServedActs, IsAlongActs};
+ghost use Rattle.commands.specs.Monitors.{machine_of};
+ghost use Rattle.volume.specs.declared.error.VolumeError.TheVariants.{NoMemory, Device};
+
+use blockdisk::Disk;
+use monitor::{Monitor, StartError};
+use std::alloc::Global;
+
+/// Starts a service over what a crash left of a disk while a session or a call script ran on it, or of a start after
+/// that which was stopped itself, and so on.
+///
+/// At whichever moment the crash came, the files are those after some of the acts of the session or the script, none of
+/// them left out, or those after these and the next one, which was running, where its answer is one that may change
+/// files; and no third. So it is of a script whose events are served. At whichever moments the starts before were
+/// stopped, the files are the same.
+///
+/// # Errors
+///
+/// `NoMemory`, and `Device` where the device fails; the disk is handed back, and may be started again. Over a disk that
+/// no such crash left, the refusals of `Monitor::start`, which this is.
+pub fn start_after_acts<D: Disk, E: Disk>(
+    alloc: Global,
+    stopped: &Monitor<D>,
+    left: E,
+) -> Result<Monitor<E>, (StartError, E)>
+    ensures session { (D.state stopped.now.disk).honest → (begun : MonitorState D) (acts : List Act)
+        → GoesBy (λ (m : MonitorState D). machine_of (D.state m.disk) m.map m.failed m.jobs) begun stopped.now acts
+        → (E.state left).size ≡ (D.state begun.disk).size → (s : State) → Serves (D.state begun.disk) begun.map begun.failed begun.jobs (Serving s)
+        → (starts : List (E × E)) → AreStopped E.state (D.state stopped.now.disk) (D.state begun.disk).clock starts (E.state left).contents
+        → (found : State) × IsAlongActs (pack_of (D.state begun.disk)) (Serving s) acts found
+        × IfOk result (λ m. (E.state m.disk).honest → ServesFiles (E.state m.disk) m.map m.failed m.jobs (without_serials found.files))
+        × IfErr result (λ refused. (E.state refused.1).honest → (refused.0 ≡ NoMemory) ⊎ (refused.0 ≡ Device)) }
+    ensures script { (D.state stopped.now.disk).honest → (begun : MonitorState D) (acts : List Act)
+        → GoesServed (λ (m : MonitorState D). machine_of (D.state m.disk) m.map m.failed m.jobs) begun stopped.now acts
+        → (E.state left).size ≡ (D.state begun.disk).size → (s : State) → Serves (D.state begun.disk) begun.map begun.failed begun.jobs (Serving s)
+        → AreServedActs (pack_of (D.state begun.disk)) (Serving s) acts
+        → (starts : List (E × E)) → AreStopped E.state (D.state stopped.now.disk) (D.state begun.disk).clock starts (E.state left).contents
+        → (found : State) × IsAlongActs (pack_of (D.state begun.disk)) (Serving s) acts found
+        × IfOk result (λ m. (E.state m.disk).honest → ServesFiles (E.state m.disk) m.map m.failed m.jobs (without_serials found.files))
+        × IfErr result (λ refused. (E.state refused.1).honest → (refused.0 ≡ NoMemory) ⊎ (refused.0 ≡ Device)) }
+{
+    Monitor::start(alloc, left)
+}

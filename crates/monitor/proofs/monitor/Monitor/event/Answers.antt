@@ -1,0 +1,133 @@
+use Rattle.std.proofs.Common.{refl, sym, ap, subst}
+use Rattle.blockdisk.specs.Disk.{LeavesOnly}
+use Rattle.meaning.specs.Crashes.{StandsForEither}
+use Rattle.meaning.specs.Runs.{Service, Answers}
+use Rattle.monitor.specs.Calls.{call_of}
+use Rattle.monitor.specs.Runs.{event_of, IsServedIn}
+use Rattle.monitor.specs.Serving.{pack_of, Serves}
+use Rattle.monitor.specs.Events.{IsNoCall, IsLightEvent}
+use Rattle.monitor.proofs.EventCrashes.{untouched_event, of_other}
+use Rattle.monitor.proofs.ServedEvents.{call_answered}
+use Rattle.monitor.proofs.monitor.Monitor.event.Goals as goal
+
+pub returns-in-Call-clause-answered : goal.returns-in-Call-clause-answered
+returns-in-Call-clause-answered g c h old serves served =
+    let is = c.in-Call.is in
+    subst (λ event. (new : Service) × Serves (g.D.Disk.state c.call.new.self.disk) c.call.new.self.map c.call.new.self.failed c.call.new.self.jobs new × Answers (pack_of (g.D.Disk.state c.args.self.now.disk)) old (event_of event) c.call.result new) (sym is)
+    (call_answered g.D.Disk.state c.args.self.now c.call.new.self c.in-Call.job c.in-Call.call c.in-Call.moment c.call.result c.call.ensures.answered c.call.ensures.broken h old (subst (IsServedIn old) is served) serves)
+
+pub returns-in-Examine-clause-answered : goal.returns-in-Examine-clause-answered
+returns-in-Examine-clause-answered g c h old serves served =
+    let m = c.args.self.now in
+    subst (λ event. (new : Service) × Serves (g.D.Disk.state m.disk) m.map m.failed m.jobs new × Answers (pack_of (g.D.Disk.state m.disk)) old (event_of event) c.examine.result new) (sym c.in-Examine.is) (c.examine.ensures.answered old serves)
+
+pub returns-in-Login-clause-crash : goal.returns-in-Login-clause-crash
+returns-in-Login-clause-crash g c h s serves =
+    untouched_event g.D.Disk.state g.met.D.Disk.only_now c.args.self.now.disk c.login.new.self.disk (ap (λ m. m.disk) c.login.ensures.kept) c.args.self.now.map c.args.self.now.jobs (event_of c.args.event.now) c.login.result h s serves.1
+
+pub returns-in-Deposit-clause-crash : goal.returns-in-Deposit-clause-crash
+returns-in-Deposit-clause-crash g c h s serves =
+    untouched_event g.D.Disk.state g.met.D.Disk.only_now c.args.self.now.disk c.deposit.new.self.disk (ap (λ m. m.disk) c.deposit.ensures.kept) c.args.self.now.map c.args.self.now.jobs (event_of c.args.event.now) c.deposit.result h s serves.1
+
+pub returns-in-Examine-clause-crash : goal.returns-in-Examine-clause-crash
+returns-in-Examine-clause-crash g c h s serves =
+    untouched_event g.D.Disk.state g.met.D.Disk.only_now c.args.self.now.disk c.args.self.now.disk refl c.args.self.now.map c.args.self.now.jobs (event_of c.args.event.now) c.examine.result h s serves.1
+
+pub returns-in-Call-clause-crash : goal.returns-in-Call-clause-crash
+returns-in-Call-clause-crash g c h s serves =
+    let m = c.args.self.now in
+    subst (λ event. LeavesOnly (g.D.Disk.state m.disk) (g.D.Disk.state c.call.new.self.disk) (StandsForEither (pack_of (g.D.Disk.state m.disk)) s (event_of event) c.call.result)) (sym c.in-Call.is)
+    (c.call.ensures.crash h s serves)
+
+pub returns-in-Login-clause-still : goal.returns-in-Login-clause-still
+returns-in-Login-clause-still g c = of_other _ c.args.event.now _ c.in-Login.is tt
+
+pub returns-in-Login-clause-refused : goal.returns-in-Login-clause-refused
+returns-in-Login-clause-refused g c = of_other _ c.args.event.now _ c.in-Login.is tt
+
+pub returns-in-Login-clause-late : goal.returns-in-Login-clause-late
+returns-in-Login-clause-late g c = of_other _ c.args.event.now _ c.in-Login.is tt
+
+pub returns-in-Login-clause-kept : goal.returns-in-Login-clause-kept
+returns-in-Login-clause-kept g c = of_other _ c.args.event.now _ c.in-Login.is tt
+
+pub returns-in-Login-clause-unserved : goal.returns-in-Login-clause-unserved
+returns-in-Login-clause-unserved g c = of_other _ c.args.event.now _ c.in-Login.is tt
+
+pub returns-in-Login-clause-unread : goal.returns-in-Login-clause-unread
+returns-in-Login-clause-unread g c = of_other _ c.args.event.now _ c.in-Login.is tt
+
+pub returns-in-Deposit-clause-still : goal.returns-in-Deposit-clause-still
+returns-in-Deposit-clause-still g c = of_other _ c.args.event.now _ c.in-Deposit.is tt
+
+pub returns-in-Deposit-clause-refused : goal.returns-in-Deposit-clause-refused
+returns-in-Deposit-clause-refused g c = of_other _ c.args.event.now _ c.in-Deposit.is tt
+
+pub returns-in-Deposit-clause-late : goal.returns-in-Deposit-clause-late
+returns-in-Deposit-clause-late g c = of_other _ c.args.event.now _ c.in-Deposit.is tt
+
+pub returns-in-Deposit-clause-kept : goal.returns-in-Deposit-clause-kept
+returns-in-Deposit-clause-kept g c = of_other _ c.args.event.now _ c.in-Deposit.is tt
+
+pub returns-in-Deposit-clause-unserved : goal.returns-in-Deposit-clause-unserved
+returns-in-Deposit-clause-unserved g c = of_other _ c.args.event.now _ c.in-Deposit.is tt
+
+pub returns-in-Deposit-clause-unread : goal.returns-in-Deposit-clause-unread
+returns-in-Deposit-clause-unread g c = of_other _ c.args.event.now _ c.in-Deposit.is tt
+
+pub returns-in-Examine-clause-still : goal.returns-in-Examine-clause-still
+returns-in-Examine-clause-still g c = of_other _ c.args.event.now _ c.in-Examine.is tt
+
+pub returns-in-Examine-clause-refused : goal.returns-in-Examine-clause-refused
+returns-in-Examine-clause-refused g c = of_other _ c.args.event.now _ c.in-Examine.is tt
+
+pub returns-in-Examine-clause-late : goal.returns-in-Examine-clause-late
+returns-in-Examine-clause-late g c = of_other _ c.args.event.now _ c.in-Examine.is tt
+
+pub returns-in-Examine-clause-kept : goal.returns-in-Examine-clause-kept
+returns-in-Examine-clause-kept g c = of_other _ c.args.event.now _ c.in-Examine.is tt
+
+pub returns-in-Examine-clause-unserved : goal.returns-in-Examine-clause-unserved
+returns-in-Examine-clause-unserved g c = of_other _ c.args.event.now _ c.in-Examine.is tt
+
+pub returns-in-Examine-clause-unread : goal.returns-in-Examine-clause-unread
+returns-in-Examine-clause-unread g c = of_other _ c.args.event.now _ c.in-Examine.is tt
+
+pub returns-in-Call-clause-still : goal.returns-in-Call-clause-still
+returns-in-Call-clause-still g c = of_other _ c.args.event.now _ c.in-Call.is c.call.ensures.still
+
+pub returns-in-Call-clause-refused : goal.returns-in-Call-clause-refused
+returns-in-Call-clause-refused g c = of_other _ c.args.event.now _ c.in-Call.is c.call.ensures.refused
+
+pub returns-in-Call-clause-late : goal.returns-in-Call-clause-late
+returns-in-Call-clause-late g c = of_other _ c.args.event.now _ c.in-Call.is c.call.ensures.late
+
+pub returns-in-Call-clause-kept : goal.returns-in-Call-clause-kept
+returns-in-Call-clause-kept g c = of_other _ c.args.event.now _ c.in-Call.is c.call.ensures.kept
+
+pub returns-in-Call-clause-unserved : goal.returns-in-Call-clause-unserved
+returns-in-Call-clause-unserved g c = of_other _ c.args.event.now _ c.in-Call.is c.call.ensures.unserved
+
+pub returns-in-Call-clause-unread : goal.returns-in-Call-clause-unread
+returns-in-Call-clause-unread g c = of_other _ c.args.event.now _ c.in-Call.is c.call.ensures.unread
+
+pub returns-in-Login-clause-idle : goal.returns-in-Login-clause-idle
+returns-in-Login-clause-idle g c idle = ap (λ m. m.disk) c.login.ensures.kept
+
+pub returns-in-Deposit-clause-idle : goal.returns-in-Deposit-clause-idle
+returns-in-Deposit-clause-idle g c idle = ap (λ m. m.disk) c.deposit.ensures.kept
+
+pub returns-in-Login-clause-light : goal.returns-in-Login-clause-light
+returns-in-Login-clause-light g c light = absurd (subst (λ e. IsLightEvent e c.args.self.now.jobs) c.in-Login.is light)
+
+pub returns-in-Call-clause-light : goal.returns-in-Call-clause-light
+returns-in-Call-clause-light g c light = c.call.ensures.light (subst (λ e. IsLightEvent e c.args.self.now.jobs) c.in-Call.is light)
+
+pub returns-in-Login-clause-apart_from_disk : goal.returns-in-Login-clause-apart_from_disk
+returns-in-Login-clause-apart_from_disk g c none = ap (λ m. m.disk) c.login.ensures.kept
+
+pub returns-in-Deposit-clause-apart_from_disk : goal.returns-in-Deposit-clause-apart_from_disk
+returns-in-Deposit-clause-apart_from_disk g c none = ap (λ m. m.disk) c.deposit.ensures.kept
+
+pub returns-in-Call-clause-apart_from_disk : goal.returns-in-Call-clause-apart_from_disk
+returns-in-Call-clause-apart_from_disk g c none = absurd (subst IsNoCall c.in-Call.is none)
