@@ -1,7 +1,7 @@
 -- Two copies written one after the other: while the first is written the second stays, and while the
 -- second is written the first is new.
 use Rattle.std.proofs.Common.{◌≡◌, inl, inr, ℕ, List, Some, sym, ◌∙◌}
-use Rattle.blockdisk.specs.Disk.{Contents, DiskState, MayLeave, NoneOpen, Near, Touches, LeavesOnly}
+use Rattle.blockdisk.specs.Disk.{Contents, DiskState, NoneOpen, Near, Touches, LeavesOnly}
 use Rattle.blockdisk.specs.Laws.{leaves_on, leaves_weaker}
 use Rattle.blockdisk.specs.Copies.{OneIsWhole}
 
