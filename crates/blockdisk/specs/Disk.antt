@@ -1,6 +1,6 @@
 -- What a disk is: its blocks now, the blocks that are open, a clock, and what a crash may leave or
 -- have left. A block is open from the beginning of a write to it until a sync succeeds. A crash leaves
--- the closed blocks as they are, and anything in the open ones.
+-- the closed blocks as they are, and anything in the open ones; a sync that fails may do the same.
 use Rattle.std.specs.Prelude.{◌≡◌, ◌⊎◌, ◌+◌, ◌-◌, ◌^◌, ◌≤◌, ℕ, Bool, true, false, List, Option, min}
 
 -- what each block holds: its words, or none where it is damaged
@@ -51,9 +51,15 @@ pub record SameDisk (s s' : DiskState) : Type 0 where
 abbrev pub one_more : ℕ → ℕ
 one_more n = min (n + 1) (2 ^ 64 - 1)
 
--- A read, and a sync that failed: nothing changed.
+-- A read: nothing changed.
 pub record Keeps (s s' : DiskState) : Type 0 where
   pub contents : (n : ℕ) → s'.contents n ≡ s.contents n
+  pub is_open : (n : ℕ) → s'.is_open n ≡ s.is_open n
+  pub time : Passes s s' (MayLeave s')
+
+-- A sync that failed: the closed blocks stay, and none is closed. An open one may hold anything then.
+pub record Fails (s s' : DiskState) : Type 0 where
+  pub contents : (n : ℕ) → s.is_open n ≡ false → s'.contents n ≡ s.contents n
   pub is_open : (n : ℕ) → s'.is_open n ≡ s.is_open n
   pub time : Passes s s' (MayLeave s')
 

@@ -5,7 +5,7 @@ use Rattle.std.specs.Prelude.{◌≡◌, ◌⊎◌, ◌≤◌, ℕ, false, if◌
 use Rattle.std.proofs.Common.{inl, inr, ⊎_elim, refl, sym, ◌∙◌, arith, subst}
 use Rattle.std.proofs.lemmas.Bool.{cases_eq}
 use Rattle.std.proofs.lemmas.Bool.Decides.{nat_tests}
-use Rattle.blockdisk.specs.Disk.{Contents, DiskState, MayLeave, NoneOpen, Passes, SameDisk, Keeps, Writes, Syncs, Near, Touches, Still, LeavesOnly, Between}
+use Rattle.blockdisk.specs.Disk.{Contents, DiskState, MayLeave, NoneOpen, Passes, SameDisk, Keeps, Writes, Syncs, Fails, Near, Touches, Still, LeavesOnly, Between}
 
 -- contents that agree at each block are equal
 pub same_contents : (c d : Contents) → ((n : ℕ) → d n ≡ c n) → d ≡ c
@@ -55,7 +55,7 @@ still_on s s' s'' first second = record {
   time = passes_on s s' s'' (MayLeave s) (MayLeave s') first.time second.time first.crash;
 }
 
--- a read, or a sync that failed
+-- a read
 pub keeps_still : (s s' : DiskState) → Keeps s s' → Still s s'
 keeps_still s s' keeps = record {
   contents = keeps.contents;
@@ -76,11 +76,6 @@ syncs_still s s' syncs = record {
   where
     crash : (c : Contents) → MayLeave s' c → MayLeave s c
     crash c left n closed = left n (syncs.closed n) ∙ syncs.contents n
-
--- a sync, whatever it answered
-pub sync_still : {E : Type 0} (answer : Result (Unit {0}) E) (s s' : DiskState) → OnOk answer (Syncs s s') → OnErr answer (Keeps s s') → Still s s'
-sync_still (Ok done) s s' syncs keeps = syncs_still s s' syncs
-sync_still (Err fault) s s' syncs keeps = keeps_still s s' keeps
 
 pub keeps_none_open : (s s' : DiskState) → NoneOpen s → Keeps s s' → NoneOpen s'
 keeps_none_open s s' none keeps n = keeps.is_open n ∙ none n
@@ -153,7 +148,7 @@ writes_touches In n s s' within writes = record {
 pub touches_write : (In : ℕ → Type 0) (n : ℕ) (s s' s'' : DiskState) → In n → Touches In s s' → Writes n s' s'' → Touches In s s''
 touches_write In n s s' s'' within first writes = touches_on In s s' s'' first (writes_touches In n s' s'' within writes)
 
--- a read, or a sync
+-- a read, or a sync that succeeded
 pub touches_still : (In : ℕ → Type 0) (s s' s'' : DiskState) → Touches In s s' → Still s' s'' → Touches In s s''
 touches_still In s s' s'' first still = touches_on In s s' s'' first (still_touches In s' s'' still)
 
@@ -179,6 +174,23 @@ leaves_still s s' P only_now still here = record {
   time = passes_weaker s s' (MayLeave s) P still.time here;
 }
 
+-- after a sync that failed a crash leaves only what it could leave before
+pub fails_leave : (s s' : DiskState) → Fails s s' → (c : Contents) → MayLeave s' c → MayLeave s c
+fails_leave s s' fails c left n closed = left n (fails.is_open n ∙ closed) ∙ fails.contents n closed
+
+pub fails_leaves : (s s' : DiskState) → ((c : Contents) → s.left_since s.clock c → MayLeave s c) → Fails s s' → LeavesOnly s s' (MayLeave s)
+fails_leaves s s' only_now fails = record {
+  now = fails_leave s s' fails;
+  since = λ c left. ⊎_elim (only_now c) (fails_leave s s' fails c) (fails.time.nothing_else s.clock c (omega arith) left);
+  time = passes_weaker s s' (MayLeave s') (MayLeave s) fails.time (fails_leave s s' fails);
+}
+
+-- a sync, whatever it answered
+pub sync_leaves : {E : Type 0} (answer : Result (Unit {0}) E) (s s' : DiskState) → ((c : Contents) → s.left_since s.clock c → MayLeave s c)
+    → OnOk answer (Syncs s s') → OnErr answer (Fails s s') → LeavesOnly s s' (MayLeave s)
+sync_leaves (Ok done) s s' only_now syncs fails = leaves_still s s' (MayLeave s) only_now (syncs_still s s' syncs) (λ c left. left)
+sync_leaves (Err fault) s s' only_now syncs fails = fails_leaves s s' only_now fails
+
 -- one stretch after another
 pub leaves_on : (s s' s'' : DiskState) (P Q : Contents → Type 0) → LeavesOnly s s' P → LeavesOnly s' s'' Q → ((c : Contents) → Q c → P c) → LeavesOnly s s'' P
 leaves_on s s' s'' P Q first second weaker = record {
@@ -193,6 +205,22 @@ leaves_weaker s s' P Q leaves weaker = record {
   since = λ c left. weaker c (leaves.since c left);
   time = passes_weaker s s' P Q leaves.time weaker;
 }
+
+-- what a stretch leaves that wrote only these blocks, and another one after it
+pub touches_near : (In : ℕ → Type 0) (s s' : DiskState) → ((c : Contents) → s.left_since s.clock c → MayLeave s c) → Touches In s s' → LeavesOnly s s' (Near In s)
+touches_near In s s' only_now t = touches_leaves In s s' (Near In s) only_now t (λ c near. near)
+
+pub near_then : (In : ℕ → Type 0) (s s' s'' : DiskState) → ((c : Contents) → s.left_since s.clock c → MayLeave s c) → Touches In s s' → LeavesOnly s' s'' (Near In s') → LeavesOnly s s'' (Near In s)
+near_then In s s' s'' only_now t leaves = leaves_on s s' s'' (Near In s) (Near In s') (touches_near In s s' only_now t) leaves (near_on In s s' t)
+
+-- the end of such a stretch is a sync, whatever it answered
+pub near_sync : {E : Type 0} (answer : Result (Unit {0}) E) (In : ℕ → Type 0) (s s' s'' : DiskState) → ((c : Contents) → s.left_since s.clock c → MayLeave s c)
+    → ((c : Contents) → s'.left_since s'.clock c → MayLeave s' c) → Touches In s s' → OnOk answer (Syncs s' s'') → OnErr answer (Fails s' s'') → LeavesOnly s s'' (Near In s)
+near_sync answer In s s' s'' only_now only_now' t syncs fails =
+    leaves_on s s' s'' (Near In s) (MayLeave s') (touches_near In s s' only_now t) (sync_leaves answer s' s'' only_now' syncs fails) t.crash
+
+pub leaves_wider : (In Out : ℕ → Type 0) (s s' : DiskState) → ((n : ℕ) → In n → Out n) → LeavesOnly s s' (Near In s) → LeavesOnly s s' (Near Out s)
+leaves_wider In Out s s' wider leaves = leaves_weaker s s' (Near In s) (Near Out s) leaves (near_wider In Out s wider)
 
 -- what a crash left between two moments goes on to be all that it left there
 pub between_on : (s s' : DiskState) (P Q : Contents → Type 0) (t u : ℕ) → t ≤ s.clock → u ≤ s.clock → Passes s s' Q → Between s t u P → Between s' t u P

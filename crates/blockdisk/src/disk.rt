@@ -1,6 +1,6 @@
 ghost use Rattle.std.specs.Prelude.{◌≡◌, ◌<◌, ◌≤◌, ℕ, Some, None, IfOk, OnOk, OnErr, IsErrOf};
 ghost use Rattle.blockdisk.specs.declared.fault.Fault.TheVariants.{Device, Damaged};
-ghost use Rattle.blockdisk.specs.Disk.{Contents, DiskState, MayLeave, SameDisk, Keeps, Writes, Syncs, one_more};
+ghost use Rattle.blockdisk.specs.Disk.{Contents, DiskState, MayLeave, SameDisk, Keeps, Writes, Syncs, Fails, one_more};
 
 use crate::Fault;
 use words36::Block;
@@ -8,7 +8,7 @@ use words36::Block;
 /// A disk of a fixed number of blocks of 128 words, counted from 0.
 ///
 /// Between two syncs a block that was written may after a crash hold anything, or be damaged; the
-/// other blocks stay. A disk is `honest` while it has kept to this so far: nobody else wrote it, and it
+/// other blocks stay. A sync that fails may do to the blocks what a crash may. A disk is `honest` while it has kept to this so far: nobody else wrote it, and it
 /// returned what was written. That is of what happened, so that nobody has to know answers to come: what
 /// a call ensures of contents it ensures where the disk is honest *after* it. The rest holds on every disk.
 pub trait Disk {
@@ -51,11 +51,12 @@ pub trait Disk {
     ///
     /// # Errors
     ///
-    /// `Device` where the device failed; the open blocks stay open.
+    /// `Device` where the device failed. The open blocks stay open, and each may hold anything then, or be
+    /// damaged; the closed ones stay as they are.
     fn sync(&mut self) -> Result<(), Fault>
         ensures syncs { (state self.new).honest → OnOk result (Syncs (state self.old) (state self.new)) }
         ensures moves { (state self.new).honest → OnOk result ((state self.old).clock < (state self.new).clock) }
-        ensures keeps { (state self.new).honest → OnErr result (Keeps (state self.old) (state self.new)) }
+        ensures fails { (state self.new).honest → OnErr result (Fails (state self.old) (state self.new)) }
         ensures same { SameDisk (state self.old) (state self.new) }
         ensures device { IsErrOf result Damaged → ⊥ }
         ensures failed { IsErrOf result Device → (state self.new).failures ≡ one_more (state self.old).failures }

@@ -4,8 +4,8 @@ use Rattle.std.specs.Cmp.Lexicographic.{pointwise}
 use Rattle.std.specs.Bool.{Decides}
 use Rattle.std.proofs.lemmas.Bool.Decides.{Decides-eqb}
 use Rattle.std.proofs.lemmas.Slice.Eq.{slice_eq-Decides}
-use Rattle.blockdisk.specs.Disk.{Contents, DiskState, MayLeave, NoneOpen, SameOutside, Near, Touches, Still, LeavesOnly}
-use Rattle.blockdisk.specs.Laws.{touches_on, touches_wider, touches_leaves, leaves_on, leaves_still}
+use Rattle.blockdisk.specs.Disk.{Contents, DiskState, MayLeave, NoneOpen, SameOutside, Near, Touches, LeavesOnly}
+use Rattle.blockdisk.specs.Laws.{touches_on, touches_wider, leaves_on, leaves_weaker}
 use Rattle.meaning.specs.declared.put.Put.{Put}
 use Rattle.meaning.specs.Maps.{times}
 use Rattle.meaning.specs.Regions.{IsVolumeSize, log_start, table_start}
@@ -76,13 +76,13 @@ near_only : (In : ℕ → Type 0) (s : DiskState) (c : Contents) → NoneOpen s 
 near_only In s c none near n out = near.2 n out ∙ near.1 n (none n)
 
 -- A redo: an open gate and a good log on the disk.
-module _ (size : ℕ) (puts : List Put) (s placed : DiskState) (only_now : (c : Contents) → s.left_since s.clock c → MayLeave s c) (none : NoneOpen s)
-    (pending : ArePending size s.contents puts) (places : Touches (IsPutIn puts) s placed) where
+module _ (size : ℕ) (puts : List Put) (s placed : DiskState) (none : NoneOpen s) (pending : ArePending size s.contents puts)
+    (places : LeavesOnly s placed (Near (IsPutIn puts) s)) where
   abbrev Redone : Contents → Type 0
   Redone = SettlesAs size (with_puts puts s.contents)
 
   pub placing_leaves : LeavesOnly s placed Redone
-  placing_leaves = touches_leaves (IsPutIn puts) s placed Redone only_now places near
+  placing_leaves = leaves_weaker s placed (Near (IsPutIn puts) s) Redone places near
     where
       near : (c : Contents) → Near (IsPutIn puts) s c → Redone c
       near c is =
@@ -91,10 +91,9 @@ module _ (size : ℕ) (puts : List Put) (s placed : DiskState) (only_now : (c : 
           ⊎_elim (λ settles. settles) (λ shut. absurd (shut (record { volume = pending.gate.volume; gate = gate_stays ∙ pending.gate.gate })))
           (by_gate size puts s.contents pending.gate.volume pending.log c (λ n out. same n (λ there. out (inr there))))
 
-  pub redo_leaves : (end : DiskState) → ((c : Contents) → placed.left_since placed.clock c → MayLeave placed c) → NoneOpen placed
-      → ((n : ℕ) → placed.contents n ≡ with_puts puts s.contents n) → Touches IsGate placed end → LeavesOnly s end Redone
-  redo_leaves end only_placed none_placed all closes =
-      leaves_on s placed end Redone Redone placing_leaves (touches_leaves IsGate placed end Redone only_placed closes near) (λ c settles. settles)
+  pub redo_leaves : (end : DiskState) → NoneOpen placed → ((n : ℕ) → placed.contents n ≡ with_puts puts s.contents n)
+      → LeavesOnly placed end (Near IsGate placed) → LeavesOnly s end Redone
+  redo_leaves end none_placed all closes = leaves_on s placed end Redone (Near IsGate placed) placing_leaves closes near
     where
       near : (c : Contents) → Near IsGate placed c → Redone c
       near c is =
@@ -121,10 +120,9 @@ opening_touches puts s logged opened logs opens = touches_on Written s logged op
     Written n = IsGateOrLog s.size n ⊎ IsPutIn puts n
 
 -- A commit: the log is written, then the gate is opened, then it is redone.
-module _ (puts : List Put) (s logged : DiskState) (volume : IsVolumeSize s.size) (only_now : (c : Contents) → s.left_since s.clock c → MayLeave s c)
-    (shut : IsShut s) (logs : Touches (IsInLog s.size) s logged) where
+module _ (puts : List Put) (s logged : DiskState) (volume : IsVolumeSize s.size) (shut : IsShut s) (near_log : LeavesOnly s logged (Near (IsInLog s.size) s)) where
   pub logging_leaves : LeavesOnly s logged (AllOrNone puts s)
-  logging_leaves = touches_leaves (IsInLog s.size) s logged (AllOrNone puts s) only_now logs near
+  logging_leaves = leaves_weaker s logged (Near (IsInLog s.size) s) (AllOrNone puts s) near_log near
     where
       near : (c : Contents) → Near (IsInLog s.size) s c → AllOrNone puts s c
       near c is = inl (
@@ -134,11 +132,10 @@ module _ (puts : List Put) (s logged : DiskState) (volume : IsVolumeSize s.size)
             (λ n out. is.2 n (λ behind. out (omega arith, behind.1))),
       )
 
-  module _ (only_logged : (c : Contents) → logged.left_since logged.clock c → MayLeave logged c) (none : NoneOpen logged) (log : IsLog s.size logged.contents puts)
-      (opened : DiskState) (opens : Touches IsGate logged opened) where
+  module _ (logs : Touches (IsInLog s.size) s logged) (none : NoneOpen logged) (log : IsLog s.size logged.contents puts)
+      (opened : DiskState) (near_gate : LeavesOnly logged opened (Near IsGate logged)) where
     pub opening_leaves : LeavesOnly s opened (AllOrNone puts s)
-    opening_leaves = leaves_on s logged opened (AllOrNone puts s) (AllOrNone puts s) logging_leaves
-        (touches_leaves IsGate logged opened (AllOrNone puts s) only_logged opens near) (λ c is. is)
+    opening_leaves = leaves_on s logged opened (AllOrNone puts s) (Near IsGate logged) logging_leaves near_gate near
       where
         near : (c : Contents) → Near IsGate logged c → AllOrNone puts s c
         near c is =
@@ -148,10 +145,10 @@ module _ (puts : List Put) (s logged : DiskState) (volume : IsVolumeSize s.size)
             (λ closed. inl (s.contents, (λ n is_closed. refl), settles_itself s.size s.contents c closed (λ n out. same n (λ here. out (omega arith, omega arith)) ∙ outside_log s logged logs n out)))
             (by_gate s.size puts logged.contents volume log c (λ n out. same n (λ here. out (inl here))))
 
-    pub commit_leaves : (end : DiskState) → LeavesOnly opened end (SettlesAs s.size (with_puts puts opened.contents)) → LeavesOnly s end (AllOrNone puts s)
-    commit_leaves end redone = leaves_on s opened end (AllOrNone puts s) (SettlesAs s.size (with_puts puts opened.contents)) opening_leaves redone
+    pub commit_leaves : Touches IsGate logged opened → (end : DiskState) → LeavesOnly opened end (SettlesAs s.size (with_puts puts opened.contents)) → LeavesOnly s end (AllOrNone puts s)
+    commit_leaves opens end redone = leaves_on s opened end (AllOrNone puts s) (SettlesAs s.size (with_puts puts opened.contents)) opening_leaves redone
         (λ c settles. inr (settles_from s.size (with_puts puts s.contents) (with_puts puts opened.contents) c (all_outside puts s logged opened logs opens) settles))
 
 -- nothing written
-pub still_leaves : (puts : List Put) (s s' : DiskState) → ((c : Contents) → s.left_since s.clock c → MayLeave s c) → IsShut s → Still s s' → LeavesOnly s s' (AllOrNone puts s)
-still_leaves puts s s' only_now shut still = leaves_still s s' (AllOrNone puts s) only_now still (λ c left. inl (c, left, settles_itself s.size c c (shut c left) (λ n out. refl)))
+pub still_leaves : (puts : List Put) (s s' : DiskState) → IsShut s → LeavesOnly s s' (MayLeave s) → LeavesOnly s s' (AllOrNone puts s)
+still_leaves puts s s' shut still = leaves_weaker s s' (MayLeave s) (AllOrNone puts s) still (λ c left. inl (c, left, settles_itself s.size c c (shut c left) (λ n out. refl)))

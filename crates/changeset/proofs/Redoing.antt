@@ -1,7 +1,7 @@
 -- What a crash leaves during recovery.
 use Rattle.std.proofs.Common.{◌≡◌, inl, inr, ℕ, List, Option, Some, None, [], ◌∷◌, replicate, refl, sym, ◌∙◌, ap, subst, arith}
 use Rattle.blockdisk.specs.Disk.{Contents, DiskState, MayLeave, NoneOpen, SameOutside, Still, LeavesOnly}
-use Rattle.blockdisk.specs.Laws.{leaves_on, leaves_still, none_open_leaves, same_contents}
+use Rattle.blockdisk.specs.Laws.{leaves_on, leaves_still, leaves_weaker, none_open_leaves, same_contents}
 use Rattle.meaning.specs.declared.put.Put.{Put}
 use Rattle.meaning.specs.Log.{open_gate, IsGateOpen, with_puts, IsSettled}
 use Rattle.meaning.proofs.Settled.{settled_same}
@@ -55,6 +55,8 @@ module _ (s read end : DiskState) (reads : OnlyReads s read) (puts : List Put) (
     is_settled = settled_by_puts;
     others = λ n out. all n out ∙ with_puts_read n;
     gate = zeros_shut s.size end.contents zeros;
+    emptied = λ is_open. zeros;
+    kept = λ shut. absurd (shut pending.gate);
   }
 
 -- The gate is closed.
@@ -64,16 +66,22 @@ closed_recovered s read reads shut = record {
   is_settled = inl (shut, λ n. refl);
   others = λ n out. reads.still.contents n;
   gate = λ is_open. shut (subst (IsGateOpen s.size) (same_contents s.contents read.contents reads.still.contents) is_open);
+  emptied = λ is_open. absurd (shut is_open);
+  kept = λ closed. reads.still.contents 3;
 }
 
 pub like_before : (s synced : DiskState) → Still s synced → synced.size ≡ s.size → (c : Contents) → SettlesLike synced.size synced.contents c → SettlesLike s.size s.contents c
 like_before s synced still size c = along (λ n d. SettlesLike n d c) s synced size still.contents
 
 -- The first sync.
-module _ (s synced : DiskState) (only_now : (c : Contents) → s.left_since s.clock c → MayLeave s c) (still : Still s synced) where
+module _ (s synced : DiskState) (syncing : LeavesOnly s synced (MayLeave s)) where
   pub syncing_leaves : LeavesOnly s synced (SettlesLikeBefore s)
-  syncing_leaves = leaves_still s synced (SettlesLikeBefore s) only_now still (λ c left. (c, left, settles_like s.size c c refl))
+  syncing_leaves = leaves_weaker s synced (MayLeave s) (SettlesLikeBefore s) syncing (λ c left. (c, left, settles_like s.size c c refl))
 
-  pub recovering_leaves : (end : DiskState) → synced.size ≡ s.size → LeavesOnly synced end (SettlesLike synced.size synced.contents) → LeavesOnly s end (SettlesLikeBefore s)
-  recovering_leaves end size recovered = leaves_on s synced end (SettlesLikeBefore s) (SettlesLike synced.size synced.contents) syncing_leaves recovered
+  pub recovering_leaves : (end : DiskState) → Still s synced → synced.size ≡ s.size → LeavesOnly synced end (SettlesLike synced.size synced.contents) → LeavesOnly s end (SettlesLikeBefore s)
+  recovering_leaves end still size recovered = leaves_on s synced end (SettlesLikeBefore s) (SettlesLike synced.size synced.contents) syncing_leaves recovered
       (λ c like. (s.contents, (λ n closed. refl), like_before s synced still size c like))
+
+-- and from its end on
+pub synced_leaves : (s synced end : DiskState) → Still s synced → synced.size ≡ s.size → LeavesOnly synced end (SettlesLike synced.size synced.contents) → LeavesOnly synced end (SettlesLike s.size s.contents)
+synced_leaves s synced end still size recovered = leaves_weaker synced end (SettlesLike synced.size synced.contents) (SettlesLike s.size s.contents) recovered (like_before s synced still size)

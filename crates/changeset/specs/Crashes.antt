@@ -1,8 +1,8 @@
 -- What a crash may leave of a change of several blocks, and of recovery after it. Contents are
 -- compared by what they settle to: with a closed gate themselves, with an open one what the log makes
 -- of them. Gate and log are no part of what is compared.
-use Rattle.std.specs.Prelude.{◌≡◌, ◌⊎◌, ◌<◌, ◌≤◌, ℕ, List}
-use Rattle.blockdisk.specs.Disk.{Contents, DiskState, MayLeave, SameOutside}
+use Rattle.std.specs.Prelude.{◌≡◌, ◌⊎◌, ◌<◌, ◌≤◌, ℕ, List, Some, replicate}
+use Rattle.blockdisk.specs.Disk.{Contents, DiskState, MayLeave, SameOutside, Syncs, Fails, LeavesOnly}
 use Rattle.meaning.specs.declared.put.Put.{Put}
 use Rattle.meaning.specs.Regions.{table_start}
 use Rattle.meaning.specs.Log.{IsGateOpen, IsLog, IsSettled, with_puts}
@@ -50,15 +50,18 @@ pub record ArePending (size : ℕ) (c : Contents) (puts : List Put) : Type 0 whe
 abbrev pub IsLost : ℕ → Contents → Type 0
 IsLost size c = (settled : Contents) → IsSettled size c settled → ⊥
 
--- The contents are now those that settled before, with the gate closed.
+-- The contents are now those that settled before, with the gate closed: it was given zeros where it was
+-- open, and is as it was where it wasn't.
 pub record IsRecovered (size : ℕ) (before now : Contents) : Type 0 where
   pub settled : Contents
   pub is_settled : IsSettled size before settled
   pub others : SameOutside IsGate settled now
   pub gate : IsGateOpen size now → ⊥
+  pub emptied : IsGateOpen size before → now 3 ≡ Some (replicate 128 0)
+  pub kept : (IsGateOpen size before → ⊥) → now 3 ≡ before 3
 
--- From moment t of the stretch from s to s' on, a crash left only what has P.
-pub record LeavesFrom (t : ℕ) (s s' : DiskState) (P : Contents → Type 0) : Type 0 where
-  pub late : s.clock ≤ t
-  pub early : t ≤ s'.clock
-  pub since : (c : Contents) → s'.left_since t c → P c
+-- The first thing done was a sync. Where it failed nothing else was done. Else `mid` is the disk at its end, and
+-- from then on a crash left only what has P.
+abbrev pub SyncsFirst : {D : Type 0} → (D → DiskState) → D → D → Type 0 → (Contents → Type 0) → Type 0
+SyncsFirst {D} state old new fault P =
+    (fault × Fails (state old) (state new)) ⊎ ((mid : D) × Syncs (state old) (state mid) × LeavesOnly (state mid) (state new) P)

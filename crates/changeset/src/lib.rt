@@ -7,13 +7,15 @@
 //! 2. Where a commit answers `Ok` they are the latter, the gate is closed and no block is open.
 //!    (`all`, `settled`, `gate`, `shut`)
 //! 3. At each moment a commit has written no other block than gate, log and targets; a commit of no
-//!    puts has only synced. (`touched`, `nothing`)
+//!    puts has only synced. Where a sync failed, blocks that were open before may be anything, too.
+//!    (`touched`, `near`, `nothing`, `unwritten`)
 //! 4. A crash at any moment of a recovery leaves what settles like something that a crash could leave before
 //!    it, and from the end of its first sync on like what was read before it. (`recover`, `crash`, `synced`)
-//! 5. Where a recovery answers `Ok` the contents are those that settled before it, the gate is closed and
-//!    no block is open. (`recovered`, `settled`)
-//! 6. A recovery writes only where the gate is open and the log good; it answers `BadLog` only where nothing
-//!    settles, and there never `Ok`. (`untouched`, `bad`, `recovered`)
+//! 5. Where a recovery answers `Ok` the contents are those that settled before it, the gate is closed (with
+//!    zeros where it was open, and else as it was) and no block is open. (`recovered`, `settled`)
+//! 6. A recovery writes only where the gate is open and the log good, and then behind its first sync alone; it
+//!    answers `BadLog` only where nothing settles, and there never `Ok`. (`untouched`, `unwritten`, `synced`,
+//!    `bad`, `recovered`)
 //!
 //! And on every disk, honest or not:
 //!

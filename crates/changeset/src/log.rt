@@ -1,6 +1,6 @@
 ghost use Rattle.std.specs.Prelude.{ℕ, List, ◌≡◌, ◌⊎◌, ◌+◌, ◌<◌, ◌≤◌, ◌^◌, ◌↔◌, IsTrue, IfOk, OnOk, IsErrOf, Some, length};
 ghost use Rattle.std.specs.List.{AllByRecursion};
-ghost use Rattle.blockdisk.specs.Disk.{Touches, NoneOpen, SameDisk, one_more};
+ghost use Rattle.blockdisk.specs.Disk.{Near, Touches, LeavesOnly, NoneOpen, SameDisk, one_more};
 ghost use Rattle.blockdisk.specs.declared.fault.Fault.TheVariants.{Device, Damaged};
 ghost use Rattle.changeset.specs.Crashes.{IsInLog};
 ghost use Rattle.changeset.specs.Reads.{IsNextTarget, OnlyReads};
@@ -69,7 +69,7 @@ fn header_of(puts: &[Put]) -> Block
 ///
 /// # Errors
 ///
-/// `Device` where the device failed; the log may then hold anything.
+/// `Device` where the device failed; the log may then hold anything, and so may the blocks that were open.
 pub fn write_log<D: Disk>(disk: &mut D, puts: &[Put]) -> Result<(), Fault>
     requires volume { IsVolumeSize (D.state disk.old).size }
     requires some { 0 < length puts.now }
@@ -78,7 +78,8 @@ pub fn write_log<D: Disk>(disk: &mut D, puts: &[Put]) -> Result<(), Fault>
     requires in_range { AllByRecursion (IsTarget (D.state disk.old).size) (targets puts.now) }
     ensures logged { (D.state disk.new).honest → OnOk result (IsLog (D.state disk.old).size (D.state disk.new).contents puts.now) }
     ensures settled { (D.state disk.new).honest → OnOk result (NoneOpen (D.state disk.new)) }
-    ensures touched { (D.state disk.new).honest → Touches (IsInLog (D.state disk.old).size) (D.state disk.old) (D.state disk.new) }
+    ensures touched { (D.state disk.new).honest → OnOk result (Touches (IsInLog (D.state disk.old).size) (D.state disk.old) (D.state disk.new)) }
+    ensures near { (D.state disk.new).honest → LeavesOnly (D.state disk.old) (D.state disk.new) (Near (IsInLog (D.state disk.old).size) (D.state disk.old)) }
     ensures same { SameDisk (D.state disk.old) (D.state disk.new) }
     ensures device { IsErrOf result Damaged → ⊥ }
     ensures failed { IsErrOf result Device → (D.state disk.new).failures ≡ one_more (D.state disk.old).failures }

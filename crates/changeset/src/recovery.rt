@@ -1,7 +1,7 @@
 ghost use Rattle.std.specs.Prelude.{ℕ, List, ◌≡◌, ◌⊎◌, ◌<◌, ◌≤◌, IfOk, OnOk, IsErrOf, Some, None, IfSome, IfNone};
 ghost use Rattle.std.specs.List.{AllByRecursion};
-ghost use Rattle.blockdisk.specs.Disk.{Keeps, Still, NoneOpen, SameDisk, LeavesOnly, one_more};
-ghost use Rattle.changeset.specs.Crashes.{SettlesLike, SettlesLikeBefore, IsLost, ArePending, IsRecovered, LeavesFrom};
+ghost use Rattle.blockdisk.specs.Disk.{MayLeave, Still, NoneOpen, SameDisk, LeavesOnly, one_more};
+ghost use Rattle.changeset.specs.Crashes.{SettlesLike, SettlesLikeBefore, IsLost, ArePending, IsRecovered, SyncsFirst};
 ghost use Rattle.changeset.specs.Reads.{OnlyReads};
 ghost use Rattle.changeset.specs.Puts.{AreDistinct};
 ghost use Rattle.changeset.specs.declared.error.LogError.TheVariants.{Device, TooMany, BadLog};
@@ -36,17 +36,20 @@ pub fn recover<D: Disk>(disk: &mut D) -> Result<(), LogError>
 
     // Where the first sync failed nothing else was done; from its end on a crash leaves what settles like
     // the contents read before.
-    ensures synced { (D.state disk.new).honest → (IsErrOf result Device × Keeps (D.state disk.old) (D.state disk.new))
-        ⊎ ((t : ℕ) × LeavesFrom t (D.state disk.old) (D.state disk.new) (SettlesLike (D.state disk.old).size (D.state disk.old).contents)) }
+    ensures synced { (D.state disk.new).honest
+        → SyncsFirst D.state disk.old disk.new (IsErrOf result Device) (SettlesLike (D.state disk.old).size (D.state disk.old).contents) }
 
     // At Ok the contents are the settled ones, with the gate closed.
     ensures recovered { (D.state disk.new).honest → OnOk result (IsRecovered (D.state disk.old).size (D.state disk.old).contents (D.state disk.new).contents) }
     ensures settled { (D.state disk.new).honest → OnOk result (NoneOpen (D.state disk.new)) }
 
     // The log is bad only where nothing settles. Nothing is written but where the gate is open and the
-    // log good.
+    // log good: a first sync that failed may have changed open blocks, and nothing else did.
     ensures bad { (D.state disk.new).honest → IsErrOf result BadLog → IsLost (D.state disk.old).size (D.state disk.old).contents }
-    ensures untouched { (D.state disk.new).honest → ((puts : List Put) → ArePending (D.state disk.old).size (D.state disk.old).contents puts → ⊥) → Still (D.state disk.old) (D.state disk.new) }
+    ensures untouched { (D.state disk.new).honest → ((puts : List Put) → ArePending (D.state disk.old).size (D.state disk.old).contents puts → ⊥)
+        → (IsErrOf result Device → ⊥) → Still (D.state disk.old) (D.state disk.new) }
+    ensures unwritten { (D.state disk.new).honest → ((puts : List Put) → ArePending (D.state disk.old).size (D.state disk.old).contents puts → ⊥)
+        → LeavesOnly (D.state disk.old) (D.state disk.new) (MayLeave (D.state disk.old)) }
 
     // On every disk.
     ensures many { IsErrOf result TooMany → ⊥ }

@@ -1,8 +1,8 @@
 -- What one more call makes of a record, and a call at a place.
-use Rattle.std.proofs.Common.{◌≡◌, inl, inr, ⊎_elim, ℕ, zero, suc, ◌+◌, ◌-◌, ◌<◌, ◌≤◌, ◌||◌, true, false, List, ◌∷◌, length, get_or, take, Option, Some, None, Result, Ok, Err, IfOk, refl, sym, ◌∙◌, ap, subst, arith, length-take, unwrap_or}
+use Rattle.std.proofs.Common.{◌≡◌, inl, inr, ⊎_elim, ℕ, zero, suc, ◌+◌, ◌-◌, ◌<◌, ◌≤◌, ◌||◌, true, false, List, ◌∷◌, length, get_or, take, Option, Some, None, Result, Ok, Err, IfOk, OnErr, is_ok, refl, sym, ◌∙◌, ap, subst, arith, length-take, unwrap_or}
 use Rattle.std.proofs.lemmas.Bool.{leb-true, le-leb, and_parts, and_from, or_left, cond-true, cond-false, false_from_ne_true}
 use Rattle.std.proofs.lemmas.List.{get_or-take}
-use Rattle.imagefile.specs.File.{Bytes, MayRemain, Inside, window, FilePasses, FileKeeps, FileWrites, FileSyncs}
+use Rattle.imagefile.specs.File.{Bytes, MayRemain, Inside, window, FilePasses, FileKeeps, FileWrites, FileSyncs, FileFails}
 use Rattle.imagefile.specs.Calls.{Call, SeekStart, SeekEnd, Read, Write, Sync, answer, came}
 use Rattle.imagefile.specs.Unseen.{Unseen, left_by}
 use Rattle.imagefile.specs.Recorded.{is_inside, bytes_after, after_calls, IsHonestRecord, recorded}
@@ -67,8 +67,12 @@ module _ (u : Unseen) (earlier : List Call) where
   keeps_read : (asked : ℕ) (bytes : Option (List ℕ)) → FileKeeps (recorded u earlier) (recorded u (Read asked bytes ∷ earlier))
   keeps_read asked bytes = record { bytes = λ p. refl; is_open = λ p. refl; time = passes_call (Read asked bytes) }
 
-  pub keeps_failed_sync : FileKeeps (recorded u earlier) (recorded u (Sync false ∷ earlier))
-  keeps_failed_sync = record { bytes = λ p. refl; is_open = λ p. refl; time = passes_call (Sync false) }
+  pub fails_sync : FileFails (recorded u earlier) (recorded u (Sync false ∷ earlier))
+  fails_sync = record {
+    bytes = λ p closed. cond-false ((after_calls u earlier).is_open p) (left_by u (length earlier) p) ((after_calls u earlier).bytes p) closed;
+    is_open = λ p. refl;
+    time = passes_call (Sync false);
+  }
 
   pub syncs_sync : FileSyncs (recorded u earlier) (recorded u (Sync true ∷ earlier))
   syncs_sync = record { bytes = λ p. refl; closed = λ p. refl; time = passes_call (Sync true) }
@@ -84,6 +88,11 @@ module _ (u : Unseen) (earlier : List Call) where
         is_open = λ p out. ap (λ o. o || b.is_open p) (not_inside to (length given) p (λ inside. out (subst (λ k. Inside k (length given) p) here inside)));
         time = passes_call (Write given count);
       }
+
+-- a sync, as it answered
+pub failed_said : {E : Type 0} (u : Unseen) (earlier : List Call) (result : Result (Unit {0}) E) → OnErr result (FileFails (recorded u earlier) (recorded u (Sync (is_ok result) ∷ earlier)))
+failed_said u earlier (Ok done) = tt
+failed_said u earlier (Err error) = fails_sync u earlier
 
 -- A call at a place that was reached
 

@@ -3,7 +3,7 @@ use Rattle.std.proofs.Common.{◌≡◌, ◌⊎◌, inl, inr, ⊎_elim, ℕ, suc
 use Rattle.std.proofs.lemmas.Bool.{cases_lt, false≢true}
 use Rattle.std.proofs.lemmas.List.{take_all}
 use Rattle.std.proofs.Math.Seq.{take-add}
-use Rattle.imagefile.specs.File.{Bytes, Remains, FileState, MayRemain, Inside, window, FilePasses, SameFile, FileKeeps, FileWrites}
+use Rattle.imagefile.specs.File.{Bytes, Remains, FileState, MayRemain, Inside, window, FilePasses, SameFile, FileKeeps, FileWrites, FileFails}
 use Rattle.imagefile.specs.ImageLaws.{window-same}
 
 inside_or_not : (at n p : ℕ) → Inside at n p ⊎ (Inside at n p → ⊥)
@@ -69,6 +69,19 @@ writes_after at n s s' s'' first second = record {
   time = passes_on s s' s'' (MayRemain s') (MayRemain s'') first.time second.time (λ r may p closed.
       ⊎_elim (λ part. absurd (false≢true (sym closed ∙ second.opened p part))) (λ other. may p (sym (second.is_open p other) ∙ closed) ∙ ap Some (sym (second.bytes p other))) (inside_or_not at n p));
 }
+
+-- A sync that failed behind a call that changed nothing, and that call alone
+
+pub fails_after : (s s' s'' : FileState) → FileKeeps s s' → FileFails s' s'' → FileFails s s''
+fails_after s s' s'' first second = record {
+  bytes = λ p closed. second.bytes p (first.is_open p ∙ closed) ∙ first.bytes p;
+  is_open = λ p. second.is_open p ∙ first.is_open p;
+  time = passes_on s s' s'' (MayRemain s') (MayRemain s'') first.time second.time
+      (λ r may p closed. let before = sym (second.is_open p) ∙ closed in may p before ∙ ap Some (sym (second.bytes p before)));
+}
+
+pub keeps_fails : (s s' : FileState) → FileKeeps s s' → FileFails s s'
+keeps_fails s s' keeps = record { bytes = λ p closed. keeps.bytes p; is_open = keeps.is_open; time = keeps.time }
 
 -- Windows
 

@@ -1,6 +1,6 @@
 -- What a file is: its bytes now, the bytes that are open, a clock, and what a crash may leave or have
 -- left. A byte is open from the beginning of a write to it until a sync succeeds. A crash leaves the
--- closed bytes as they are, and anything at the open ones.
+-- closed bytes as they are, and anything at the open ones; a sync that fails may do the same.
 use Rattle.std.specs.Prelude.{◌≡◌, ◌⊎◌, ◌+◌, ◌<◌, ◌≤◌, ℕ, zero, suc, Bool, true, false, List, [], ◌∷◌, Option, Some}
 
 -- the byte at each place
@@ -57,9 +57,15 @@ pub record SameFile (s s' : FileState) : Type 0 where
   pub size : s'.size ≡ s.size
   pub was_honest : s'.honest → s.honest
 
--- A read, and a sync that failed: nothing changed.
+-- A read: nothing changed.
 pub record FileKeeps (s s' : FileState) : Type 0 where
   pub bytes : (p : ℕ) → s'.bytes p ≡ s.bytes p
+  pub is_open : (p : ℕ) → s'.is_open p ≡ s.is_open p
+  pub time : FilePasses s s' (MayRemain s')
+
+-- A sync that failed: the closed bytes stay, and none is closed. An open one may be anything then.
+pub record FileFails (s s' : FileState) : Type 0 where
+  pub bytes : (p : ℕ) → s.is_open p ≡ false → s'.bytes p ≡ s.bytes p
   pub is_open : (p : ℕ) → s'.is_open p ≡ s.is_open p
   pub time : FilePasses s s' (MayRemain s')
 

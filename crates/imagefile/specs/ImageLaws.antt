@@ -2,8 +2,8 @@
 use Rattle.std.specs.Prelude.{◌≡◌, ◌+◌, ◌*◌, ◌||◌, ℕ, zero, suc, Bool, true, false, ◌∷◌, Some, None, if◌then◌else◌}
 use Rattle.std.proofs.Common.{inl, inr, ⊎_elim, refl, sym, ◌∙◌, ap, arith}
 use Rattle.std.proofs.lemmas.Bool.{cases_eq, or_parts, or_from, or_left, cond-true, cond-false, false_from_ne_true}
-use Rattle.blockdisk.specs.Disk.{Contents, MayLeave, Passes, Keeps, Writes, Syncs}
-use Rattle.imagefile.specs.File.{Bytes, Remains, FileState, MayRemain, Inside, window, FilePasses, FileKeeps, FileWrites, FileSyncs}
+use Rattle.blockdisk.specs.Disk.{Contents, MayLeave, Passes, Keeps, Writes, Syncs, Fails}
+use Rattle.imagefile.specs.File.{Bytes, Remains, FileState, MayRemain, Inside, window, FilePasses, FileKeeps, FileWrites, FileSyncs, FileFails}
 use Rattle.imagefile.specs.Image.{block_content, image_contents, opened_in, ReadsAs, image_state}
 
 -- Windows
@@ -124,6 +124,13 @@ module _ (blocks : ℕ) where
       opened = some_open s'.is_open (1024 * n) 1024 1023 refl (writes.opened (1024 * n) (record { low = omega arith; high = omega arith }));
       is_open = λ m other. opened-same s.is_open s'.is_open (1024 * m) 1024 (λ p inside. writes.is_open p (apart n m p other inside));
       time = image_passes writes.time;
+    }
+
+    pub image_fails : FileFails s s' → Fails (image_state blocks s) (image_state blocks s')
+    image_fails fails = record {
+      contents = λ n closed. content-same s.bytes s'.bytes n (λ p inside. fails.bytes p (closed_each s.is_open (1024 * n) 1024 closed p inside));
+      is_open = λ n. opened-same s.is_open s'.is_open (1024 * n) 1024 (λ p inside. fails.is_open p);
+      time = image_passes fails.time;
     }
 
     pub image_syncs : FileSyncs s s' → Syncs (image_state blocks s) (image_state blocks s')

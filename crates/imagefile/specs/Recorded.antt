@@ -31,6 +31,10 @@ abbrev pub bytes_after : ℕ → List ℕ → ℕ → Bytes → Bytes → Bytes
 bytes_after at given count left b p =
     if is_inside at count p then get_or given (p - at) 0 else if is_inside at (length given) p then left p else b p
 
+-- the bytes after a sync that failed, and left these where a byte was open
+abbrev pub bytes_lost : Between → Bytes → Bytes
+bytes_lost b left p = if b.is_open p then left p else b.bytes p
+
 -- what a call makes of it that comes after n others
 abbrev pub after_call : Unseen → ℕ → Call → Between → Between
 after_call u n (SeekStart at place) b = record { bytes = b.bytes; is_open = b.is_open; position = place }
@@ -42,7 +46,7 @@ after_call u n (Write given count) b = record {
   position = moved b.position count;
 }
 after_call u n (Sync true) b = record { bytes = b.bytes; is_open = λ p. false; position = b.position }
-after_call u n (Sync false) b = b
+after_call u n (Sync false) b = record { bytes = bytes_lost b (left_by u n); is_open = b.is_open; position = b.position }
 
 -- after all calls of a record, of which the newest comes first
 abbrev pub after_calls : Unseen → List Call → Between

@@ -1,5 +1,5 @@
 ghost use Rattle.std.specs.Prelude.{◌≡◌, ◌+◌, ◌<◌, ◌≤◌, ℕ, length, take, is_ok, IfOk, OnOk, OnErr};
-ghost use Rattle.imagefile.specs.File.{Remains, FileState, MayRemain, SameFile, FileKeeps, FileWrites, FileSyncs, window};
+ghost use Rattle.imagefile.specs.File.{Remains, FileState, MayRemain, SameFile, FileKeeps, FileWrites, FileSyncs, FileFails, window};
 
 use std::io;
 
@@ -51,11 +51,12 @@ pub trait FileCalls {
     ///
     /// # Errors
     ///
-    /// The system's; the open bytes stay open.
+    /// The system's. The open bytes stay open, and each may be anything then; the closed ones stay as they
+    /// are.
     fn sync_all(&mut self) -> io::Result<()>
         ensures syncs { (state self.new).honest → OnOk result (FileSyncs (state self.old) (state self.new)) }
         ensures moves { (state self.new).honest → OnOk result ((state self.old).clock < (state self.new).clock) }
-        ensures keeps { (state self.new).honest → OnErr result (FileKeeps (state self.old) (state self.new)) }
+        ensures fails { (state self.new).honest → OnErr result (FileFails (state self.old) (state self.new)) }
         ensures same { SameFile (state self.old) (state self.new) };
 
     /// This moment is one of those since an earlier one.

@@ -1,14 +1,14 @@
 ghost use Rattle.std.specs.Prelude.{◌≡◌, ◌+◌, ◌<◌, ◌≤◌, ℕ, length, IfOk, OnOk, OnErr, IsErrOf};
 ghost use Rattle.blockdisk.specs.Disk.{one_more};
 ghost use Rattle.blockdisk.specs.declared.fault.Fault.TheVariants.{Device, Damaged};
-ghost use Rattle.imagefile.specs.File.{Remains, FileState, MayRemain, SameFile, FileKeeps, FileWrites, FileSyncs, window};
+ghost use Rattle.imagefile.specs.File.{Remains, FileState, MayRemain, SameFile, FileKeeps, FileWrites, FileSyncs, FileFails, window};
 
 use blockdisk::Fault;
 
 /// A file of a fixed number of bytes, counted from 0, that keeps to the disk's model byte by byte.
 ///
 /// Between two syncs a byte that was written may after a crash be anything; the other bytes stay.
-/// A file is `honest` while it has kept to this so far: nobody else wrote it, and it returned what was
+/// A sync that fails may do to the bytes what a crash may. A file is `honest` while it has kept to this so far: nobody else wrote it, and it returned what was
 /// written. An answer may end that, and none brings it back. So nobody has to know answers to come: what
 /// a call ensures of the bytes it ensures where the file is honest *after* it. The rest holds of every file.
 pub trait Durable {
@@ -61,11 +61,12 @@ pub trait Durable {
     ///
     /// # Errors
     ///
-    /// `Device` where the device failed; the open bytes stay open.
+    /// `Device` where the device failed. The open bytes stay open, and each may be anything then; the closed
+    /// ones stay as they are.
     fn sync(&mut self) -> Result<(), Fault>
         ensures syncs { (state self.new).honest → OnOk result (FileSyncs (state self.old) (state self.new)) }
         ensures moves { (state self.new).honest → OnOk result ((state self.old).clock < (state self.new).clock) }
-        ensures keeps { (state self.new).honest → OnErr result (FileKeeps (state self.old) (state self.new)) }
+        ensures fails { (state self.new).honest → OnErr result (FileFails (state self.old) (state self.new)) }
         ensures same { SameFile (state self.old) (state self.new) }
         ensures device { IsErrOf result Damaged → ⊥ }
         ensures failed { IsErrOf result Device → (state self.new).failures ≡ one_more (state self.old).failures }

@@ -1,7 +1,7 @@
 ghost use Rattle.std.specs.Prelude.{◌≡◌, ◌+◌, ◌<◌, ◌≤◌, ℕ, [], length, take, None, IsSome, IfOk, OnOk, OnErr, IsErrOf};
 ghost use Rattle.blockdisk.specs.Disk.{one_more};
 ghost use Rattle.blockdisk.specs.declared.fault.Fault.TheVariants.{Device, Damaged};
-ghost use Rattle.imagefile.specs.File.{SameFile, FileKeeps, FileWrites, FileSyncs, window};
+ghost use Rattle.imagefile.specs.File.{SameFile, FileKeeps, FileWrites, FileSyncs, FileFails, window};
 ghost use Rattle.imagefile.specs.Host.{with_failures, the_first_of};
 ghost use Rattle.imagefile.specs.Supposition.{unseen_in};
 ghost use Rattle.imagefile.specs.Recorded.{IsHonestRecord};
@@ -230,7 +230,7 @@ impl<C: FileCalls> Durable for HostFile<C> {
     fn sync(&mut self) -> Result<(), Fault>
         ensures syncs { (C.state (calls_of self.new)).honest → OnOk result (FileSyncs (C.state (calls_of self.old)) (C.state (calls_of self.new))) }
         ensures moves { (C.state (calls_of self.new)).honest → OnOk result ((C.state (calls_of self.old)).clock < (C.state (calls_of self.new)).clock) }
-        ensures keeps { (C.state (calls_of self.new)).honest → OnErr result (FileKeeps (C.state (calls_of self.old)) (C.state (calls_of self.new))) }
+        ensures fails { (C.state (calls_of self.new)).honest → OnErr result (FileFails (C.state (calls_of self.old)) (C.state (calls_of self.new))) }
         ensures same { SameFile (C.state (calls_of self.old)) (C.state (calls_of self.new)) }
         ensures device { IsErrOf result Damaged → ⊥ }
         ensures failed { IsErrOf result Device → failures_of self.new ≡ one_more (failures_of self.old) }

@@ -1,6 +1,6 @@
 ghost use Rattle.std.specs.Prelude.{◌≡◌, ◌+◌, ◌*◌, ◌<◌, ◌≤◌, ◌^◌, ◌↔◌, ℕ, Some, None, IfOk, IfErr, OnOk, OnErr, IsErrOf, IsOk, List, All, length};
 ghost use Rattle.words36.specs.Blocks.{IsBlock, block_bytes};
-ghost use Rattle.blockdisk.specs.Disk.{DiskState, MayLeave, Keeps, Writes, Syncs, SameDisk, one_more};
+ghost use Rattle.blockdisk.specs.Disk.{DiskState, MayLeave, Keeps, Writes, Syncs, Fails, SameDisk, one_more};
 ghost use Rattle.blockdisk.specs.declared.fault.Fault.TheVariants.{Device, Damaged};
 ghost use Rattle.imagefile.specs.File.{FileKeeps, SameFile};
 ghost use Rattle.imagefile.specs.Image.{image_state, block_content, IsImageSize};

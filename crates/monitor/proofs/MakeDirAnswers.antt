@@ -170,13 +170,15 @@ module _ {D : Type 0} (state_in : D → DiskState) (disk disk' : D) (c c' : Volu
         (same_files d c c failed jobs jobs' (subst (λ m. AreKeyed m.pending jobs') same.1 keyed') (subst (λ m. AreReading m.live jobs') same.1 reading') (leaves_none c) s state))
 
     module _ (live : c'.live ≡ c.live) (pending : c'.pending ≡ c.pending) (primes : (ppn : ℕ) (name : FileName) (m : ℕ) → prime_at c ppn name ≡ Some m → prime_at c' ppn name ≡ Some m)
-        (readers : KeepsRead d.contents d'.contents c) (writers : KeepsEachWritten d.contents d'.contents c) where
+        (readers : failed' ≡ false → KeepsRead d.contents d'.contents c) (writers : failed' ≡ false → KeepsEachWritten d.contents d'.contents c) where
       pub make_dir_answered : (reply : Reply) → IsMakeDir d.size c Same job job' e reply → IsTrue failed' ↔ (reply ≡ Device)
           → ((f : Files File) → RestsAt d f → reply ≡ Done → RestsAt d' (files_made f (asked_owner job.core e) (asked_protection job.core e))) → Leads reply
       make_dir_answered Done (job_is, early, absent, fits) fails done =
           in_state d c failed jobs (λ old. (new : Service) × Serves d' c' failed' jobs' new × Answers (pack_of d) old (Calls n (MakeDir e) moment) Done new) serves
-          (λ s state. goes_on d' c' failed' jobs' (pack_of d) (Calls n (MakeDir e) moment) Done s (after_made honest s state) (not_failed failed' Done fails (λ is. cc is)) state.sound (step_done honest s state job_is early absent fits)
-          (made_state d c jobs job e sound honest s state d' c' jobs' keyed' reading' live pending primes readers writers (done (without_serials s.files) state.files refl) absent))
+          (λ s state.
+          let alive = not_failed failed' Done fails (λ is. cc is) in
+          goes_on d' c' failed' jobs' (pack_of d) (Calls n (MakeDir e) moment) Done s (after_made honest s state) alive state.sound (step_done honest s state job_is early absent fits)
+          (made_state d c jobs job e sound honest s state d' c' jobs' keyed' reading' live pending primes (readers alive) (writers alive) (done (without_serials s.files) state.files refl) absent))
       make_dir_answered (Refused code) (job_is, same, why) fails done =
           kept (Refused code) same (not_failed failed' (Refused code) fails (λ is. cc is)) (λ s state. step_refused honest s state code (job_is, same, why))
       make_dir_answered AddressCheck (job_is, same, early) fails done =

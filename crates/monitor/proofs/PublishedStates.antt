@@ -106,12 +106,12 @@ module _ (d d' : DiskState) (c c' : VolumeCore) (jobs : List (Option Job)) (n : 
           versions = λ k q at.
               let was = still_there k q at in
               let is = state.versions k q was.1 in
-              record { place = is.place; protection = is.protection; mode = is.mode; time = is.time; date = is.date; words = is.words; body = body_kept d.contents d'.contents q.version.blocks (w.written k).file.body is.body (λ m held. whatever.writers honest k q was.0 was.1 m held) };
+              record { place = is.place; protection = is.protection; mode = is.mode; time = is.time; date = is.date; words = is.words; body = body_kept d.contents d'.contents q.version.blocks (w.written k).file.body is.body (λ m held. has.writers honest k q was.0 was.1 m held) };
           absent = λ k q at new.
               let was = still_there k q at in
               put_elsewhere s.files (w.written key).place (version_with (w.written key) serial) (w.written k).place (elsewhere p.0 p.1 k q was.0 was.1) ∙ state.absent k q was.1 new;
           keyed = keyed_published state.keyed;
-          read = reads_published d d' c c' s.files w.read key p.0 p.0.version.words (w.written key).place (version_with (w.written key) serial) state.read whole (has.core p.0 p.1) state.serials (state.versions key p.0 p.1).place unlike (whatever.readers honest);
+          read = reads_published d d' c c' s.files w.read key p.0 p.0.version.words (w.written key).place (version_with (w.written key) serial) state.read whole (has.core p.0 p.1) state.serials (state.versions key p.0 p.1).place unlike (has.readers honest);
           reading = keeps_reading c.live c'.live jobs n job job' state.reading there reads;
           jobs_are = refl;
           sound = sound;

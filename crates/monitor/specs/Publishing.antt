@@ -27,17 +27,18 @@ pub record MayPublish (d d' : DiskState) (c c' : VolumeCore) (key : ℕ) : Type 
   -- a crash leaves the files from before, or those with the version whole
   pub crash : d'.honest → (f : Files File) → RestsAt d f → (p : PendingVersion) → pending_at c.pending key ≡ Some p → (body : List ℕ) → length body ≡ p.version.words → HasBody d.contents p.version.blocks body
       → LeavesOnly d d' (StandsForEither d.size f (files_published f p.prime.ppn p.prime.file (file_of p.prime body)))
-  -- all other versions stay, and their blocks do
+  -- all other versions stay
   pub others : (k : ℕ) → (k ≡ key → ⊥) → pending_at c'.pending k ≡ pending_at c.pending k
   pub held : (k : ℕ) (v : LiveVersion) → slot c.live k ≡ Some v → 0 < v.readers → (b : Bool) × (slot c'.live k ≡ Some (record v { is_current = b }))
-  pub readers : d'.honest → KeepsRead d.contents d'.contents c
-  pub writers : d'.honest → KeepsWritten d.contents d'.contents c key
   pub same : SameDisk d d'
 
 -- It is done.
 pub record HasPublished (d d' : DiskState) (c c' : VolumeCore) (key : ℕ) : Type 0 where
   pub files : d'.honest → (f : Files File) → RestsAt d f → (p : PendingVersion) → pending_at c.pending key ≡ Some p → (body : List ℕ) → length body ≡ p.version.words → HasBody d.contents p.version.blocks body
       → RestsAt d' (files_published f p.prime.ppn p.prime.file (file_of p.prime body))
+  -- the blocks of all other versions stay
+  pub readers : d'.honest → KeepsRead d.contents d'.contents c
+  pub writers : d'.honest → KeepsWritten d.contents d'.contents c key
   pub core : (p : PendingVersion) → pending_at c.pending key ≡ Some p → IsPublishedCore d.size c c' key p p.version.words
   pub gone : pending_at c'.pending key ≡ None
 

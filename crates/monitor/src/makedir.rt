@@ -58,8 +58,8 @@ pub fn make_dir<D: Disk>(
     ensures pending { (core_of volume.new.map).pending ≡ (core_of volume.old.map).pending }
     ensures directories { (owner : ℕ) (d : KnownDirectory) → IsDirectoryOf (core_of volume.old.map) owner d → IsDirectoryOf (core_of volume.new.map) owner d }
     ensures primes { (owner : ℕ) (name : FileName) (n : ℕ) → prime_at (core_of volume.old.map) owner name ≡ Some n → prime_at (core_of volume.new.map) owner name ≡ Some n }
-    ensures readers { (D.state volume.new.disk).honest → KeepsRead (D.state volume.old.disk).contents (D.state volume.new.disk).contents (core_of volume.old.map) }
-    ensures writers { (D.state volume.new.disk).honest → KeepsEachWritten (D.state volume.old.disk).contents (D.state volume.new.disk).contents (core_of volume.old.map) }
+    ensures readers { (D.state volume.new.disk).honest → volume.new.failed ≡ false → KeepsRead (D.state volume.old.disk).contents (D.state volume.new.disk).contents (core_of volume.old.map) }
+    ensures writers { (D.state volume.new.disk).honest → volume.new.failed ≡ false → KeepsEachWritten (D.state volume.old.disk).contents (D.state volume.new.disk).contents (core_of volume.old.map) }
     // It blames the device where that failed.
     ensures failed { IsTrue volume.new.failed ↔ (result ≡ Device) }
     ensures counted { result ≡ Device → (D.state volume.new.disk).failures ≡ one_more (D.state volume.old.disk).failures }

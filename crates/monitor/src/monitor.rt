@@ -1,6 +1,6 @@
 ghost use Rattle.std.specs.Prelude.{◌≡◌, ◌⊎◌, ℕ, false, IfOk, IfErr};
 ghost use Rattle.blockdisk.specs.Disk.{NoneOpen, SameDisk, Still, one_more};
-ghost use Rattle.changeset.specs.Crashes.{IsRecovered, LeavesFrom};
+ghost use Rattle.changeset.specs.Crashes.{IsRecovered, SyncsFirst};
 ghost use Rattle.meaning.specs.Files.{File, Files};
 ghost use Rattle.meaning.specs.Jobs.{State};
 ghost use Rattle.meaning.specs.Published.{without_serials};
@@ -58,13 +58,13 @@ impl<D: Disk> Monitor<D> {
             × ((s : State) → IsStart files s → Serves (D.state m.disk) m.map m.failed m.jobs (Serving s))) }
         ensures settled { IfOk result (λ m. (D.state m.disk).honest → NoneOpen (D.state m.disk)) }
         ensures crash { IfOk result (λ m. (D.state m.disk).honest → HasStarted (D.state disk) (D.state m.disk)) }
-        ensures synced { IfOk result (λ m. (D.state m.disk).honest → (t : ℕ) × LeavesFrom t (D.state disk) (D.state m.disk) (StandsLike (D.state disk))) }
+        ensures synced { IfOk result (λ m. (D.state m.disk).honest → SyncsFirst D.state disk m.disk ⊥ (StandsLike (D.state disk))) }
 
         ensures refused { IfErr result (λ refused. (D.state refused.1).honest → Refuses (D.state disk).size (D.state refused.1).contents refused.0) }
         ensures kept { IfErr result (λ refused. (D.state refused.1).honest → (refused.0 ≡ Device → ⊥)
             → Still (D.state disk) (D.state refused.1) ⊎ IsRecovered (D.state disk).size (D.state disk).contents (D.state refused.1).contents) }
         ensures crash_refused { IfErr result (λ refused. (D.state refused.1).honest → HasStarted (D.state disk) (D.state refused.1)) }
-        ensures synced_refused { IfErr result (λ refused. (D.state refused.1).honest → (refused.0 ≡ Device) ⊎ ((t : ℕ) × LeavesFrom t (D.state disk) (D.state refused.1) (StandsLike (D.state disk)))) }
+        ensures synced_refused { IfErr result (λ refused. (D.state refused.1).honest → SyncsFirst D.state disk refused.1 (refused.0 ≡ Device) (StandsLike (D.state disk))) }
 
         ensures same { IfOk result (λ m. SameDisk (D.state disk) (D.state m.disk)) }
         ensures served { IfOk result (λ m. (D.state m.disk).failures ≡ (D.state disk).failures) }

@@ -1,7 +1,7 @@
 -- A free block is written, and then a set of puts is committed: what a crash leaves, and the end.
-use Rattle.std.proofs.Common.{◌≡◌, ◌⊎◌, inl, inr, ⊎_elim, ℕ, List, Some, Result, Ok, Err, OnOk, refl, sym, subst, arith}
-use Rattle.blockdisk.specs.Disk.{Contents, DiskState, MayLeave, NoneOpen, SameOutside, Touches, LeavesOnly}
-use Rattle.blockdisk.specs.Laws.{leaves_weaker, touches_wider, touches_on}
+use Rattle.std.proofs.Common.{◌≡◌, ◌⊎◌, inl, inr, ⊎_elim, ℕ, false, List, Some, Result, Ok, Err, OnOk, refl, sym, subst, ◌∙◌, arith}
+use Rattle.blockdisk.specs.Disk.{Contents, DiskState, MayLeave, NoneOpen, SameOutside, Near, Touches, LeavesOnly}
+use Rattle.blockdisk.specs.Laws.{leaves_weaker, leaves_wider, near_then, touches_wider, touches_on}
 use Rattle.changeset.specs.Crashes.{IsGateOrLog, IsShut, AllOrNone}
 use Rattle.changeset.specs.Puts.{IsPutIn}
 use Rattle.changeset.specs.Rest.{Ignores, SettlesTo, AtRest, quiet_rest, quiet_leaves, quiet_stands, event_leaves, commit_rest}
@@ -28,6 +28,20 @@ wrote fresh puts s mid s' size first second =
   where
     Out : ℕ → Type 0
     Out n = (n ≡ fresh) ⊎ (IsGateOrLog s.size n ⊎ IsPutIn puts n)
+
+-- and what a crash leaves of it, whatever the second one answered
+pub wrote_near : (fresh : ℕ) (puts : List Put) (s mid s' : DiskState) → mid.size ≡ s.size → ((c : Contents) → s.left_since s.clock c → MayLeave s c) → Touches (λ n. n ≡ fresh) s mid
+    → LeavesOnly mid s' (Near (λ n. IsGateOrLog mid.size n ⊎ IsPutIn puts n) mid) → LeavesOnly s s' (Near (λ n. (n ≡ fresh) ⊎ (IsGateOrLog s.size n ⊎ IsPutIn puts n)) s)
+wrote_near fresh puts s mid s' size only_now first second =
+    near_then Out s mid s' only_now (touches_wider (λ n. n ≡ fresh) Out s mid (λ n is. inl is) first)
+    (leaves_wider (λ n. IsGateOrLog mid.size n ⊎ IsPutIn puts n) Out mid s' (λ n. ⊎_elim (λ is. inr (inl (subst (λ (b : ℕ). IsGateOrLog b n) size is))) (λ is. inr (inr is))) second)
+  where
+    Out : ℕ → Type 0
+    Out n = (n ≡ fresh) ⊎ (IsGateOrLog s.size n ⊎ IsPutIn puts n)
+
+-- a closed block that wasn't written is as it was
+pub near_closed : (In : ℕ → Type 0) (s s' : DiskState) → LeavesOnly s s' (Near In s) → (n : ℕ) → (In n → ⊥) → s.is_open n ≡ false → s'.contents n ≡ s.contents n
+near_closed In s s' leaves n out closed = let near = leaves.now s'.contents (λ m is. refl) in near.2 n out ∙ near.1 n closed
 
 module _ (fresh : ℕ) (words : List ℕ) (puts : List Put) (s mid s' : DiskState) (k k' : Known) (m m' : DiskMap)
     (aligned : IsAligned k) (aligned' : IsAligned k') (rest : AtRest s (IsHeld s.size k m)) (clear : bit k.table fresh ≡ 0) (inside : InSpace s.size fresh)

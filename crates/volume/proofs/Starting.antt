@@ -2,8 +2,8 @@
 use Rattle.std.proofs.Common.{◌≡◌, ◌⊎◌, inl, inr, ⊎_elim, ℕ, ◌<◌, ◌≤◌, List, [], ◌∷◌, Option, Some, None, Result, Ok, Err, IfOk, refl, sym, ap, subst, ◌∙◌, arith}
 use Rattle.std.proofs.lemmas.Bool.{cases_eq}
 use Rattle.blockdisk.specs.Disk.{Contents, DiskState, MayLeave, NoneOpen, LeavesOnly}
-use Rattle.blockdisk.specs.Laws.{none_open_leaves, leaves_still, leaves_on}
-use Rattle.changeset.specs.Crashes.{IsGate, IsGateOrLog, IsLost, IsRecovered, LeavesFrom, SettlesLike, SettlesLikeBefore}
+use Rattle.blockdisk.specs.Laws.{none_open_leaves, leaves_still, leaves_weaker, leaves_on}
+use Rattle.changeset.specs.Crashes.{IsGate, IsGateOrLog, IsLost, IsRecovered, SyncsFirst, SettlesLike, SettlesLikeBefore}
 use Rattle.changeset.specs.Reads.{OnlyReads}
 use Rattle.changeset.specs.Rest.{AtRest, Ignores, recover_leaves, recover_rest, like_settles}
 use Rattle.meaning.specs.Files.{File, Files}
@@ -47,24 +47,34 @@ stands_ignores_gate size files c d same stands = stands_ignores_log size files c
 pub crash_recovered : (s s' : DiskState) → LeavesOnly s s' (SettlesLikeBefore s) → LeavesOnly s s' (StandsLikeBefore s)
 crash_recovered s s' leaves = recover_leaves s s' (λ (files : Files File) c. SettledStands s.size c files) (stands_ignores_log s.size) leaves
 
-pub from_recovered : (t : ℕ) (s s' : DiskState) → LeavesFrom t s s' (SettlesLike s.size s.contents) → LeavesFrom t s s' (StandsLike s)
-from_recovered t s s' leaves = record {
-  late = leaves.late;
-  early = leaves.early;
-  since = λ c left files stands. like_settles s.size (λ d. SettledStands s.size d files) s.contents c (stands_ignores_log s.size files) (leaves.since c left) stands;
-}
+settles_stands : (s : DiskState) (c : Contents) → SettlesLike s.size s.contents c → StandsLike s c
+settles_stands s c like files stands = like_settles s.size (λ d. SettledStands s.size d files) s.contents c (stands_ignores_log s.size files) like stands
+
+-- what recovery answered, and what is answered for it
+pub synced_recovered : {D : Type 0} (state : D → DiskState) (old new : D) (fault fault' : Type 0) → (fault → fault')
+    → SyncsFirst state old new fault (SettlesLike (state old).size (state old).contents) → SyncsFirst state old new fault' (StandsLike (state old))
+synced_recovered {D} state old new fault fault' on first = ⊎_elim
+    (λ failed. inl (on failed.0, failed.1))
+    (λ from. inr (
+      from.0,
+      from.1,
+      leaves_weaker (state from.0) (state new) (SettlesLike (state old).size (state old).contents) (StandsLike (state old)) from.2 (settles_stands (state old)),
+    )) first
 
 -- Reading behind it.
 
 pub crash_read : (s s' s'' : DiskState) (P : Contents → Type 0) → LeavesOnly s s' P → ((c : Contents) → s'.left_since s'.clock c → MayLeave s' c) → OnlyReads s' s'' → LeavesOnly s s'' P
 crash_read s s' s'' P first only_now reads = leaves_on s s' s'' P (MayLeave s') first (leaves_still s' s'' (MayLeave s') only_now reads.still (λ c left. left)) (λ c left. first.now c left)
 
-pub from_read : (t : ℕ) (s s' s'' : DiskState) (P : Contents → Type 0) → LeavesFrom t s s' P → ((u : ℕ) (c : Contents) → u ≤ s'.clock → MayLeave s' c → s'.left_since u c) → OnlyReads s' s'' → LeavesFrom t s s'' P
-from_read t s s' s'' P first counts reads = record {
-  late = first.late;
-  early = let a = first.early in let b = reads.still.time.later in omega arith;
-  since = λ c left. ⊎_elim (λ old. first.since c old) (λ may. first.since c (counts t c first.early may)) (reads.still.time.nothing_else t c first.early left);
-}
+pub synced_read : {D : Type 0} (state : D → DiskState) (old mid new : D) (fault fault' : Type 0) (P : Contents → Type 0) → (fault → ⊥)
+    → ((c : Contents) → (state mid).left_since (state mid).clock c → MayLeave (state mid) c) → OnlyReads (state mid) (state new) → SyncsFirst state old mid fault P → SyncsFirst state old new fault' P
+synced_read {D} state old mid new fault fault' P none only_now reads first = ⊎_elim
+    (λ failed. absurd (none failed.0))
+    (λ from. inr (from.0, from.1, crash_read (state from.0) (state mid) (state new) P from.2 only_now reads)) first
+
+-- The same of what is answered in another form.
+pub synced_as : {D : Type 0} (state : D → DiskState) (old new : D) (fault fault' : Type 0) (P : Contents → Type 0) → (fault → fault') → SyncsFirst state old new fault P → SyncsFirst state old new fault' P
+synced_as {D} state old new fault fault' P on first = ⊎_elim (λ failed. inl (on failed.0, failed.1)) (λ from. inr from) first
 
 pub rest_read : (s s' : DiskState) (Q : Contents → Type 0) → s'.size ≡ s.size → OnlyReads s s' → AtRest s Q → AtRest s' Q
 rest_read s s' Q size reads rest = record {

@@ -1,6 +1,6 @@
 ghost use Rattle.std.specs.Prelude.{◌≡◌, ◌⊎◌, ◌≤◌, OnOk, IsErrOf, length};
 ghost use Rattle.std.specs.List.{AllByRecursion};
-ghost use Rattle.blockdisk.specs.Disk.{LeavesOnly, Touches, NoneOpen, SameDisk, SameOutside, one_more};
+ghost use Rattle.blockdisk.specs.Disk.{LeavesOnly, Near, Touches, NoneOpen, SameDisk, SameOutside, one_more};
 ghost use Rattle.blockdisk.specs.declared.fault.Fault.TheVariants.{Device, Damaged};
 ghost use Rattle.changeset.specs.Crashes.{IsGateOrLog, IsShut, AllOrNone};
 ghost use Rattle.changeset.specs.Puts.{IsPutIn};
@@ -41,7 +41,8 @@ pub fn write_and_commit<D: Disk>(
     ensures done { (D.state disk.new).honest → (k k' : Known) (m m' : DiskMap) → IsAligned k → IsAligned k' → AtRest (D.state disk.old) (IsHeld (D.state disk.old).size k m)
         → bit k.table fresh ≡ 0 → LeadsTo (D.state disk.old).size (D.state disk.old).contents fresh words.now set.now k m k' m'
         → OnOk result (AtRest (D.state disk.new) (IsHeld (D.state disk.old).size k' m')) }
-    ensures touched { (D.state disk.new).honest → Touches (λ n. (n ≡ fresh) ⊎ (IsGateOrLog (D.state disk.old).size n ⊎ IsPutIn set.now n)) (D.state disk.old) (D.state disk.new) }
+    ensures touched { (D.state disk.new).honest → OnOk result (Touches (λ n. (n ≡ fresh) ⊎ (IsGateOrLog (D.state disk.old).size n ⊎ IsPutIn set.now n)) (D.state disk.old) (D.state disk.new)) }
+    ensures near { (D.state disk.new).honest → LeavesOnly (D.state disk.old) (D.state disk.new) (Near (λ n. (n ≡ fresh) ⊎ (IsGateOrLog (D.state disk.old).size n ⊎ IsPutIn set.now n)) (D.state disk.old)) }
     ensures same { SameDisk (D.state disk.old) (D.state disk.new) }
     ensures device { IsErrOf result Damaged → ⊥ }
     ensures failed { IsErrOf result Device → (D.state disk.new).failures ≡ one_more (D.state disk.old).failures }
@@ -64,7 +65,8 @@ pub fn commit_puts<D: Disk>(disk: &mut D, set: &ChangeSet) -> Result<(), Fault>
     ensures all { (D.state disk.new).honest → OnOk result (SameOutside (IsGateOrLog (D.state disk.old).size) (with_puts set.now (D.state disk.old).contents) (D.state disk.new).contents) }
     ensures settled { (D.state disk.new).honest → OnOk result (NoneOpen (D.state disk.new)) }
     ensures shut { (D.state disk.new).honest → IsShut (D.state disk.old) → OnOk result (IsShut (D.state disk.new)) }
-    ensures touched { (D.state disk.new).honest → Touches (λ n. IsGateOrLog (D.state disk.old).size n ⊎ IsPutIn set.now n) (D.state disk.old) (D.state disk.new) }
+    ensures touched { (D.state disk.new).honest → OnOk result (Touches (λ n. IsGateOrLog (D.state disk.old).size n ⊎ IsPutIn set.now n) (D.state disk.old) (D.state disk.new)) }
+    ensures near { (D.state disk.new).honest → LeavesOnly (D.state disk.old) (D.state disk.new) (Near (λ n. IsGateOrLog (D.state disk.old).size n ⊎ IsPutIn set.now n) (D.state disk.old)) }
     ensures same { SameDisk (D.state disk.old) (D.state disk.new) }
     ensures device { IsErrOf result Damaged → ⊥ }
     ensures failed { IsErrOf result Device → (D.state disk.new).failures ≡ one_more (D.state disk.old).failures }

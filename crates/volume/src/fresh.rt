@@ -1,5 +1,5 @@
 ghost use Rattle.std.specs.Prelude.{◌≡◌, ◌⊎◌, ◌<◌, ◌≤◌, ◌+◌, ◌↔◌, ◌^◌, ℕ, Some, OnOk, IsErrOf};
-ghost use Rattle.blockdisk.specs.Disk.{SameDisk, Touches, NoneOpen, one_more};
+ghost use Rattle.blockdisk.specs.Disk.{LeavesOnly, Near, SameDisk, Touches, NoneOpen, one_more};
 ghost use Rattle.blockdisk.specs.declared.fault.Fault.TheVariants.{Device as Failed, Damaged};
 ghost use Rattle.alloctab.specs.TableBlocks.{number_of, table_words};
 ghost use Rattle.changeset.specs.Rest.{AtRest};
@@ -37,7 +37,8 @@ pub fn init<D: Disk>(disk: &mut D) -> Result<(), VolumeError>
 
     // What is written, and where.
     ensures bare { (D.state disk.new).honest → OnOk result (IsBare (D.state disk.old).size (D.state disk.new).contents) }
-    ensures touched { (D.state disk.new).honest → Touches (IsInitBlock (D.state disk.old).size) (D.state disk.old) (D.state disk.new) }
+    ensures touched { (D.state disk.new).honest → OnOk result (Touches (IsInitBlock (D.state disk.old).size) (D.state disk.old) (D.state disk.new)) }
+    ensures near { (D.state disk.new).honest → LeavesOnly (D.state disk.old) (D.state disk.new) (Near (IsInitBlock (D.state disk.old).size) (D.state disk.old)) }
 
     // On every disk.
     ensures range { IsErrOf result NotVolume ↔ (IsVolumeSize (D.state disk.old).size → ⊥) }
@@ -61,7 +62,8 @@ fn write_volume<D: Disk>(disk: &mut D) -> Result<(), Fault>
     requires { IsVolumeSize (D.state disk.old).size }
     ensures bare { (D.state disk.new).honest → OnOk result (IsBare (D.state disk.old).size (D.state disk.new).contents) }
     ensures settled { (D.state disk.new).honest → OnOk result (NoneOpen (D.state disk.new)) }
-    ensures touched { (D.state disk.new).honest → Touches (IsInitBlock (D.state disk.old).size) (D.state disk.old) (D.state disk.new) }
+    ensures touched { (D.state disk.new).honest → OnOk result (Touches (IsInitBlock (D.state disk.old).size) (D.state disk.old) (D.state disk.new)) }
+    ensures near { (D.state disk.new).honest → LeavesOnly (D.state disk.old) (D.state disk.new) (Near (IsInitBlock (D.state disk.old).size) (D.state disk.old)) }
     ensures same { SameDisk (D.state disk.old) (D.state disk.new) }
     ensures device { IsErrOf result Damaged → ⊥ }
     ensures failed { IsErrOf result Failed → (D.state disk.new).failures ≡ one_more (D.state disk.old).failures }

@@ -3,7 +3,7 @@
 //! 1. `Volume::init` makes a volume with no directory on every disk of 64 to 131072 blocks: at Ok no block
 //!    is open, and whatever a crash leaves from then on stands for no files. It writes the fixed regions but
 //!    for the log's images, and the first block of the master directory. (`stands`, `settled`, `bare`,
-//!    `touched`)
+//!    `touched`, `near`)
 //! 2. `Volume::open` recovers the disk first and then reads every block that it reaches, each once. Where it
 //!    answers Ok on an honest disk, the disk stood for some files, nothing but the recovery was done to it, the
 //!    contents have the map that is kept in core, the files are those that the disk stood for before, the gate
@@ -11,15 +11,15 @@
 //! 3. Each refusal of `open` names a fault that stands in the disk as it is handed back; but for a fault of
 //!    the device that disk was recovered, or nothing was written. (`refused`, `kept`)
 //! 4. A crash at any moment of `open` leaves what stands for whatever something stood for that a crash could
-//!    leave before it, and from the end of its first sync on for what the contents stood for. (`crash`,
-//!    `synced`)
+//!    leave before it, and from the end of its first sync on for what the contents stood for; that sync is the
+//!    first thing that is done. (`crash`, `synced`)
 //! 5. `blocks`, `room`, `directory`, `look` and `list` answer from core, exactly as the files have it, and
 //!    touch no disk. (`value`, `listed`, `refused`)
 //! 6. A crash at any moment of `make_dir` leaves what stands for the files before it or for those with the
 //!    new directory, and where it answers Ok for the latter alone; each other answer but `Device` leaves disk
 //!    and map as they were. After `Device` the volume has failed, and no other answer changes whether it has.
-//!    No block changes of a version that is read or being written. (`crash`, `done`, `refused`, `device`,
-//!    `still`, `readers`, `writers`)
+//!    But for `Device` no block changes of a version that is read or being written. (`crash`, `done`, `refused`,
+//!    `device`, `still`, `kept`, `readers`, `writers`)
 //! 7. `pin` holds the version that a file has, and `unpin` lets it go; `begin` books what a version costs
 //!    without words, and `discard` gives back what is booked and held for it. None of them touches the disk.
 //!    `get_words` gives the words of a version that is pinned or being written, and writes nothing. (`value`,
@@ -29,7 +29,8 @@
 //!    and after `NoMemory` all is as before. (`quiet`, `rests`, `put`, `others`, `kept`, `readers`, `writers`)
 //! 9. `publish` makes a version the file of its name, its last words put, by one change: whatever a crash leaves at any
 //!    moment of it stands for the files from before, or for these with the version. At Ok it is the latter. All
-//!    versions that readers hold stay, and their blocks do. (`crash`, `done`, `published`, `held`, `readers`, `writers`)
+//!    versions that readers hold stay, and but for `Device` their blocks do. (`crash`, `done`, `published`, `held`,
+//!    `readers`, `writers`)
 //! 10. `Device` comes exactly with one more failure of the disk, on every disk. (`failed`, `served`)
 //!
 //! Between two calls the volume knows the map of its disk: the chains of its directories with their entries

@@ -239,13 +239,14 @@ impl<D: Disk> Volume<D> {
             → LeavesOnly (D.state self.old.disk) (D.state self.new.disk) (StandsForEither (D.state self.old.disk).size f (files_made f ppn protection)) }
         // At Ok all that a crash may leave stands for f with the directory.
         ensures done { (D.state self.new.disk).honest → (f : Files File) → RestsAt (D.state self.old.disk) f → OnOk result (RestsAt (D.state self.new.disk) (files_made f ppn protection)) }
-        // The versions in use stay, and no block in use changes, but those of the master directory.
+        // The versions in use stay, and no block in use changes, but those of the master directory; where the device
+        // failed, no closed one does.
         ensures live { (core_of self.new.map).live ≡ (core_of self.old.map).live }
         ensures pending { (core_of self.new.map).pending ≡ (core_of self.old.map).pending }
         ensures kept { (D.state self.new.disk).honest → (n : ℕ) → space_start (D.state self.old.disk).size ≤ n → times n (core_of self.old.map).known.master.blocks ≡ 0 → (IsFree (core_of self.old.map).known.table n → ⊥)
-            → (D.state self.new.disk).contents n ≡ (D.state self.old.disk).contents n }
-        ensures readers { (D.state self.new.disk).honest → KeepsRead (D.state self.old.disk).contents (D.state self.new.disk).contents (core_of self.old.map) }
-        ensures writers { (D.state self.new.disk).honest → KeepsEachWritten (D.state self.old.disk).contents (D.state self.new.disk).contents (core_of self.old.map) }
+            → (IsErrOf result Device → (D.state self.old.disk).is_open n ≡ false) → (D.state self.new.disk).contents n ≡ (D.state self.old.disk).contents n }
+        ensures readers { (D.state self.new.disk).honest → (IsErrOf result Device → ⊥) → KeepsRead (D.state self.old.disk).contents (D.state self.new.disk).contents (core_of self.old.map) }
+        ensures writers { (D.state self.new.disk).honest → (IsErrOf result Device → ⊥) → KeepsEachWritten (D.state self.old.disk).contents (D.state self.new.disk).contents (core_of self.old.map) }
         // So does each directory in its place.
         ensures directories { (owner : ℕ) (d : KnownDirectory) → IsDirectoryOf (core_of self.old.map) owner d → IsDirectoryOf (core_of self.new.map) owner d }
         // And each of its files has its prime block.

@@ -94,10 +94,10 @@ impl<D: Disk> Volume<D> {
         ensures done { (D.state self.new.disk).honest → (f : Files File) → RestsAt (D.state self.old.disk) f → (p : PendingVersion) → pending_at (core_of self.old.map).pending key ≡ Some p
             → (body : List ℕ) → length body ≡ p.version.words → HasBody (D.state self.old.disk).contents p.version.blocks body
             → OnOk result (RestsAt (D.state self.new.disk) (files_published f p.prime.ppn p.prime.file (file_of p.prime body))) }
-        // The blocks of other versions stay.
-        ensures readers { (D.state self.new.disk).honest → (k : ℕ) (v : LiveVersion) → slot (core_of self.old.map).live k ≡ Some v → 0 < v.readers
+        // The blocks of other versions stay. Where the device failed, they may have been open and be anything.
+        ensures readers { (D.state self.new.disk).honest → (IsErrOf result Device → ⊥) → (k : ℕ) (v : LiveVersion) → slot (core_of self.old.map).live k ≡ Some v → 0 < v.readers
             → (n : ℕ) → 0 < times n v.version.blocks → (D.state self.new.disk).contents n ≡ (D.state self.old.disk).contents n }
-        ensures writers { (D.state self.new.disk).honest → (k : ℕ) (q : PendingVersion) → (k ≡ key → ⊥) → pending_at (core_of self.old.map).pending k ≡ Some q
+        ensures writers { (D.state self.new.disk).honest → (IsErrOf result Device → ⊥) → (k : ℕ) (q : PendingVersion) → (k ≡ key → ⊥) → pending_at (core_of self.old.map).pending k ≡ Some q
             → (n : ℕ) → 0 < times n q.version.blocks → (D.state self.new.disk).contents n ≡ (D.state self.old.disk).contents n }
 
         ensures only { IfErr result (λ error. error ≡ Device) }
@@ -169,11 +169,12 @@ impl<D: Disk> Volume<D> {
         // What it does to core, once the last words are put.
         ensures published { OnOk result ((p : PendingVersion) → pending_at (core_of self.old.map).pending pending.key ≡ Some p → IsPublishedCore (D.state self.old.disk).size (core_of self.old.map) (core_of self.new.map) pending.key p (length_after p.version.words block (length words.now))) }
         ensures gone { OnOk result (pending_at (core_of self.new.map).pending pending.key ≡ None) }
-        // All other versions stay, and their blocks do, whatever the answer.
+        // All other versions stay, whatever the answer; and their blocks do, but where the device failed, since they may
+        // have been open then.
         ensures others { (k : ℕ) → (k ≡ pending.key → ⊥) → pending_at (core_of self.new.map).pending k ≡ pending_at (core_of self.old.map).pending k }
         ensures held { (k : ℕ) (v : LiveVersion) → slot (core_of self.old.map).live k ≡ Some v → 0 < v.readers → (b : Bool) × (slot (core_of self.new.map).live k ≡ Some (record v { is_current = b })) }
-        ensures readers { (D.state self.new.disk).honest → KeepsRead (D.state self.old.disk).contents (D.state self.new.disk).contents (core_of self.old.map) }
-        ensures writers { (D.state self.new.disk).honest → KeepsWritten (D.state self.old.disk).contents (D.state self.new.disk).contents (core_of self.old.map) pending.key }
+        ensures readers { (D.state self.new.disk).honest → (IsErrOf result Device → ⊥) → KeepsRead (D.state self.old.disk).contents (D.state self.new.disk).contents (core_of self.old.map) }
+        ensures writers { (D.state self.new.disk).honest → (IsErrOf result Device → ⊥) → KeepsWritten (D.state self.old.disk).contents (D.state self.new.disk).contents (core_of self.old.map) pending.key }
 
         // Which error comes when, and what it leaves.
         ensures failed { self.old.failed ≡ true → IsErrOf result Failed }

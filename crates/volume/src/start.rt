@@ -1,7 +1,7 @@
 ghost use Rattle.std.specs.Prelude.{◌≡◌, ◌⊎◌, ◌↔◌, ℕ, [], false, OnOk, IfOk, IfErr, IfSome, IsErrOf};
 ghost use Rattle.std.specs.List.{AllByRecursion};
-ghost use Rattle.blockdisk.specs.Disk.{NoneOpen, SameDisk, Still, Touches, LeavesOnly, one_more};
-ghost use Rattle.changeset.specs.Crashes.{IsRecovered, LeavesFrom};
+ghost use Rattle.blockdisk.specs.Disk.{Near, NoneOpen, SameDisk, Still, Touches, LeavesOnly, one_more};
+ghost use Rattle.changeset.specs.Crashes.{IsRecovered, SyncsFirst};
 ghost use Rattle.changeset.specs.Rest.{AtRest};
 ghost use Rattle.meaning.specs.Files.{File, Files};
 ghost use Rattle.meaning.specs.Log.{IsGateOpen};
@@ -35,9 +35,10 @@ use std::alloc::Global;
 /// that is refused has at most been recovered.
 pub fn read_volume<D: Disk>(alloc: Global, disk: &mut D) -> Result<DiskMap, VolumeError>
     // A crash at any moment leaves what stands for whatever something stood for that a crash could leave
-    // before; from the end of the first sync on, for whatever the contents stood for.
+    // before; from the end of the first sync on, for whatever the contents stood for. Where that sync failed
+    // nothing else was done.
     ensures crash { (D.state disk.new).honest → LeavesOnly (D.state disk.old) (D.state disk.new) (StandsLikeBefore (D.state disk.old)) }
-    ensures synced { (D.state disk.new).honest → IsErrOf result Device ⊎ ((t : ℕ) × LeavesFrom t (D.state disk.old) (D.state disk.new) (StandsLike (D.state disk.old))) }
+    ensures synced { (D.state disk.new).honest → SyncsFirst D.state disk.old disk.new (IsErrOf result Device) (StandsLike (D.state disk.old)) }
 
     // At Ok the disk was recovered and nothing else, it stood for some files, and these it stands for; and the map
     // is the disk's.
@@ -79,7 +80,8 @@ impl<D: Disk> Volume<D> {
         ensures settled { (D.state disk.new).honest → OnOk result (NoneOpen (D.state disk.new)) }
         ensures shut { (D.state disk.new).honest → OnOk result (IsGateOpen (D.state disk.old).size (D.state disk.new).contents → ⊥) }
         ensures bare { (D.state disk.new).honest → OnOk result (IsBare (D.state disk.old).size (D.state disk.new).contents) }
-        ensures touched { (D.state disk.new).honest → Touches (IsInitBlock (D.state disk.old).size) (D.state disk.old) (D.state disk.new) }
+        ensures touched { (D.state disk.new).honest → OnOk result (Touches (IsInitBlock (D.state disk.old).size) (D.state disk.old) (D.state disk.new)) }
+        ensures near { (D.state disk.new).honest → LeavesOnly (D.state disk.old) (D.state disk.new) (Near (IsInitBlock (D.state disk.old).size) (D.state disk.old)) }
         ensures range { IsErrOf result NotVolume ↔ (IsVolumeSize (D.state disk.old).size → ⊥) }
         ensures untouched { IsErrOf result NotVolume → disk.new ≡ disk.old }
         ensures only { IfErr result (λ error. (error ≡ NotVolume) ⊎ (error ≡ Device)) }
@@ -109,13 +111,13 @@ impl<D: Disk> Volume<D> {
         ensures files { (files : Files File) → Stands (D.state disk).size (D.state disk).contents files → IfOk result (λ volume. (D.state volume.disk).honest → RestsAt (D.state volume.disk) files) }
         ensures settled { IfOk result (λ volume. (D.state volume.disk).honest → NoneOpen (D.state volume.disk)) }
         ensures crash { IfOk result (λ volume. (D.state volume.disk).honest → LeavesOnly (D.state disk) (D.state volume.disk) (StandsLikeBefore (D.state disk))) }
-        ensures synced { IfOk result (λ volume. (D.state volume.disk).honest → (t : ℕ) × LeavesFrom t (D.state disk) (D.state volume.disk) (StandsLike (D.state disk))) }
+        ensures synced { IfOk result (λ volume. (D.state volume.disk).honest → SyncsFirst D.state disk volume.disk ⊥ (StandsLike (D.state disk))) }
 
         ensures refused { IfErr result (λ refused. (D.state refused.1).honest → Refuses (D.state disk).size (D.state refused.1).contents refused.0) }
         ensures kept { IfErr result (λ refused. (D.state refused.1).honest → (refused.0 ≡ Device → ⊥)
             → Still (D.state disk) (D.state refused.1) ⊎ IsRecovered (D.state disk).size (D.state disk).contents (D.state refused.1).contents) }
         ensures crash_refused { IfErr result (λ refused. (D.state refused.1).honest → LeavesOnly (D.state disk) (D.state refused.1) (StandsLikeBefore (D.state disk))) }
-        ensures synced_refused { IfErr result (λ refused. (D.state refused.1).honest → (refused.0 ≡ Device) ⊎ ((t : ℕ) × LeavesFrom t (D.state disk) (D.state refused.1) (StandsLike (D.state disk)))) }
+        ensures synced_refused { IfErr result (λ refused. (D.state refused.1).honest → SyncsFirst D.state disk refused.1 (refused.0 ≡ Device) (StandsLike (D.state disk))) }
 
         ensures same { IfOk result (λ volume. SameDisk (D.state disk) (D.state volume.disk)) }
         ensures served { IfOk result (λ volume. (D.state volume.disk).failures ≡ (D.state disk).failures) }

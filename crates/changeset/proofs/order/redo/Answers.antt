@@ -1,5 +1,7 @@
 use Rattle.std.proofs.Common.{◌⊎◌, inl, inr, ℕ}
-use Rattle.blockdisk.specs.Laws.{touches_on, touches_wider}
+use Rattle.std.proofs.lemmas.Result.{on_ok_weaker}
+use Rattle.blockdisk.specs.Disk.{Touches}
+use Rattle.blockdisk.specs.Laws.{touches_on, touches_wider, near_then, leaves_wider}
 use Rattle.changeset.specs.Crashes.{IsGate}
 use Rattle.changeset.specs.Puts.{IsPutIn}
 use Rattle.changeset.proofs.Moments.{placing_leaves, redo_leaves}
@@ -7,12 +9,29 @@ use Rattle.changeset.proofs.order.redo.Goals as goal
 
 pub returns-in_err-write_places-clause-crash : goal.returns-in_err-write_places-clause-crash
 returns-in_err-write_places-clause-crash g c h none size pending =
-    placing_leaves size c.args.puts.now (g.D.Disk.state c.args.disk.now) (g.D.Disk.state c.write_places.new.disk) (λ d left. g.met.D.Disk.only_now c.args.disk.now d (c.write_places.ensures.same.was_honest h) left) none pending (c.write_places.ensures.touched h)
+    placing_leaves size c.args.puts.now (g.D.Disk.state c.args.disk.now) (g.D.Disk.state c.write_places.new.disk) none pending (c.write_places.ensures.near h)
 
 pub returns-clause-crash : goal.returns-clause-crash
 returns-clause-crash g c h none size pending =
-    redo_leaves size c.args.puts.now (g.D.Disk.state c.args.disk.now) (g.D.Disk.state c.write_places.new.disk) (λ d left. g.met.D.Disk.only_now c.args.disk.now d (c.write_places.ensures.same.was_honest (c.close_gate.ensures.same.was_honest h)) left) none pending (c.write_places.ensures.touched (c.close_gate.ensures.same.was_honest h))
-    (g.D.Disk.state c.close_gate.new.disk) (λ d left. g.met.D.Disk.only_now c.write_places.new.disk d (c.close_gate.ensures.same.was_honest h) left) (c.in_ok-write_places.ensures.settled (c.close_gate.ensures.same.was_honest h)) (c.in_ok-write_places.ensures.placed (c.close_gate.ensures.same.was_honest h)) (c.close_gate.ensures.touched h)
+    let honest = c.close_gate.ensures.same.was_honest h in
+    redo_leaves size c.args.puts.now (g.D.Disk.state c.args.disk.now) (g.D.Disk.state c.write_places.new.disk) none pending (c.write_places.ensures.near honest)
+    (g.D.Disk.state c.close_gate.new.disk) (c.in_ok-write_places.ensures.settled honest) (c.in_ok-write_places.ensures.placed honest) (c.close_gate.ensures.near h)
+
+pub returns-in_err-write_places-clause-near : goal.returns-in_err-write_places-clause-near
+returns-in_err-write_places-clause-near g c h =
+    leaves_wider (IsPutIn c.args.puts.now) (λ n. IsGate n ⊎ IsPutIn c.args.puts.now n) (g.D.Disk.state c.args.disk.now) (g.D.Disk.state c.write_places.new.disk)
+    (λ n there. inr there) (c.write_places.ensures.near h)
+
+pub returns-clause-near : goal.returns-clause-near
+returns-clause-near g c h =
+    let Written : ℕ → Type 0 = λ n. IsGate n ⊎ IsPutIn c.args.puts.now n in
+    let s = g.D.Disk.state c.args.disk.now in
+    let placed = g.D.Disk.state c.write_places.new.disk in
+    let end = g.D.Disk.state c.close_gate.new.disk in
+    let honest = c.close_gate.ensures.same.was_honest h in
+    near_then Written s placed end (λ d left. g.met.D.Disk.only_now c.args.disk.now d (c.write_places.ensures.same.was_honest honest) left)
+    (touches_wider (IsPutIn c.args.puts.now) Written s placed (λ n there. inr there) (c.in_ok-write_places.ensures.touched honest))
+    (leaves_wider IsGate Written placed end (λ n here. inl here) (c.close_gate.ensures.near h))
 
 pub returns-clause-touched : goal.returns-clause-touched
 returns-clause-touched g c h =
@@ -20,6 +39,6 @@ returns-clause-touched g c h =
     let s = g.D.Disk.state c.args.disk.now in
     let placed = g.D.Disk.state c.write_places.new.disk in
     let end = g.D.Disk.state c.close_gate.new.disk in
-    touches_on Written s placed end
-    (touches_wider (IsPutIn c.args.puts.now) Written s placed (λ n there. inr there) (c.write_places.ensures.touched (c.close_gate.ensures.same.was_honest h)))
-    (touches_wider IsGate Written placed end (λ n here. inl here) (c.close_gate.ensures.touched h))
+    on_ok_weaker c.close_gate.result (λ (closes : Touches IsGate placed end). touches_on Written s placed end
+    (touches_wider (IsPutIn c.args.puts.now) Written s placed (λ n there. inr there) (c.in_ok-write_places.ensures.touched (c.close_gate.ensures.same.was_honest h)))
+    (touches_wider IsGate Written placed end (λ n here. inl here) closes)) (c.close_gate.ensures.touched h)

@@ -9,7 +9,13 @@ pub returns-in-Ok-clause-answered : goal.returns-in-Ok-clause-answered
 returns-in-Ok-clause-answered g c =
     answered_done (g.D.Disk.state c.args.volume.now.disk) (g.D.Disk.state c.publish.new.self.disk) (core_of c.args.volume.now.map) (core_of c.publish.new.self.map) c.args.volume.now.failed c.publish.new.self.failed c.args.output.pending.key
     c.publish.result c.publish.ensures.failed c.publish.ensures.still c.publish.ensures.served _ c.in-Ok.is
-    (record { files = c.in-Ok.ensures.done; core = c.in-Ok.ensures.published; gone = c.in-Ok.ensures.gone })
+    (record {
+      files = c.in-Ok.ensures.done;
+      readers = λ h. c.publish.ensures.readers h (λ e. let ok = c.in-Ok.is in cc);
+      writers = λ h. c.publish.ensures.writers h (λ e. let ok = c.in-Ok.is in cc);
+      core = c.in-Ok.ensures.published;
+      gone = c.in-Ok.ensures.gone;
+    })
 
 pub returns-in-Err-clause-answered : goal.returns-in-Err-clause-answered
 returns-in-Err-clause-answered g c =

@@ -1,9 +1,10 @@
-use Rattle.std.proofs.Common.{◌≡◌, ◌⊎◌, inl, refl}
+use Rattle.std.proofs.Common.{◌≡◌, ◌⊎◌, inl, ℕ, refl}
+use Rattle.std.proofs.lemmas.Result.{on_ok_weaker}
 use Rattle.blockdisk.specs.Disk.{Touches}
-use Rattle.blockdisk.specs.Laws.{writes_touches, touches_wider}
+use Rattle.blockdisk.specs.Laws.{writes_touches, touches_wider, touches_near}
 use Rattle.changeset.specs.Crashes.{IsGateOrLog}
 use Rattle.changeset.specs.Puts.{IsPutIn}
-use Rattle.volume.proofs.MakingEvents.{on_ok_three, wrote, mid_rest, written_leaves, committed_leaves, committed_rest}
+use Rattle.volume.proofs.MakingEvents.{on_ok_three, wrote, wrote_near, mid_rest, written_leaves, committed_leaves, committed_rest}
 use Rattle.volume.proofs.event.write_and_commit.Goals as goal
 
 pub returns-in_err-write-clause-crash : goal.returns-in_err-write-clause-crash
@@ -13,12 +14,13 @@ returns-in_err-write-clause-crash g c h k k' m m' a a' rest clear leads =
     let quiet : Touches (λ n. n ≡ c.args.fresh) s mid = writes_touches (λ n. n ≡ c.args.fresh) c.args.fresh s mid refl (c.write.ensures.writes h) in
     written_leaves c.args.fresh c.args.words.now c.args.set.now s mid mid k k' m m' a a' rest clear c.requires.fresh c.write.ensures.same.size quiet (λ d left. g.met.D.Disk.only_now c.args.disk.now d (c.write.ensures.same.was_honest h) left)
 
-pub returns-in_err-write-clause-touched : goal.returns-in_err-write-clause-touched
-returns-in_err-write-clause-touched g c h =
+pub returns-in_err-write-clause-near : goal.returns-in_err-write-clause-near
+returns-in_err-write-clause-near g c h =
     let s = g.D.Disk.state c.args.disk.now in
     let mid = g.D.Disk.state c.write.new.self in
-    touches_wider (λ n. n ≡ c.args.fresh) (λ n. (n ≡ c.args.fresh) ⊎ (IsGateOrLog s.size n ⊎ IsPutIn c.args.set.now n)) s mid (λ n is. inl is)
-    (writes_touches (λ n. n ≡ c.args.fresh) c.args.fresh s mid refl (c.write.ensures.writes h))
+    let Written : ℕ → Type 0 = λ n. (n ≡ c.args.fresh) ⊎ (IsGateOrLog s.size n ⊎ IsPutIn c.args.set.now n) in
+    touches_near Written s mid (λ d left. g.met.D.Disk.only_now c.args.disk.now d (c.write.ensures.same.was_honest h) left)
+    (touches_wider (λ n. n ≡ c.args.fresh) Written s mid (λ n is. inl is) (writes_touches (λ n. n ≡ c.args.fresh) c.args.fresh s mid refl (c.write.ensures.writes h)))
 
 pub returns-clause-crash : goal.returns-clause-crash
 returns-clause-crash g c h k k' m m' a a' rest clear leads =
@@ -39,9 +41,19 @@ returns-clause-done g c h k k' m m' a a' rest clear leads =
     (committed_rest c.args.fresh c.args.words.now c.args.set.now s mid (g.D.Disk.state c.commit_puts.new.disk) k k' m m' a a' rest clear c.requires.fresh c.write.ensures.same.size quiet leads (c.in_ok-write.ensures.put (c.commit_puts.ensures.same.was_honest h)))
     (c.commit_puts.ensures.all h) (c.commit_puts.ensures.settled h) (c.commit_puts.ensures.shut h still.shut)
 
+pub returns-clause-near : goal.returns-clause-near
+returns-clause-near g c h =
+    let s = g.D.Disk.state c.args.disk.now in
+    let mid = g.D.Disk.state c.write.new.self in
+    let honest = c.commit_puts.ensures.same.was_honest h in
+    wrote_near c.args.fresh c.args.set.now s mid (g.D.Disk.state c.commit_puts.new.disk) c.write.ensures.same.size
+    (λ d left. g.met.D.Disk.only_now c.args.disk.now d (c.write.ensures.same.was_honest honest) left)
+    (writes_touches (λ n. n ≡ c.args.fresh) c.args.fresh s mid refl (c.write.ensures.writes honest)) (c.commit_puts.ensures.near h)
+
 pub returns-clause-touched : goal.returns-clause-touched
 returns-clause-touched g c h =
     let s = g.D.Disk.state c.args.disk.now in
     let mid = g.D.Disk.state c.write.new.self in
-    wrote c.args.fresh c.args.set.now s mid (g.D.Disk.state c.commit_puts.new.disk) c.write.ensures.same.size
-    (writes_touches (λ n. n ≡ c.args.fresh) c.args.fresh s mid refl (c.write.ensures.writes (c.commit_puts.ensures.same.was_honest h))) (c.commit_puts.ensures.touched h)
+    on_ok_weaker c.commit_puts.result
+    (wrote c.args.fresh c.args.set.now s mid (g.D.Disk.state c.commit_puts.new.disk) c.write.ensures.same.size
+    (writes_touches (λ n. n ≡ c.args.fresh) c.args.fresh s mid refl (c.write.ensures.writes (c.commit_puts.ensures.same.was_honest h)))) (c.commit_puts.ensures.touched h)

@@ -1,13 +1,16 @@
 use Rattle.std.proofs.Common.{subst}
-use Rattle.blockdisk.specs.Laws.{touches_start}
+use Rattle.blockdisk.specs.Disk.{Near}
+use Rattle.blockdisk.specs.Laws.{leaves_start, near_self}
 use Rattle.meaning.specs.Regions.{IsVolumeSize}
 use Rattle.volume.specs.Homes.{IsInitBlock}
 use Rattle.volume.proofs.FreshVolume.{fresh_has_map, fresh_rest}
 use Rattle.volume.proofs.fresh.init.Given
 use Rattle.volume.proofs.fresh.init.Goals as goal
 
-pub returns-then-not-is_volume_size-clause-touched : goal.returns-then-not-is_volume_size-clause-touched
-returns-then-not-is_volume_size-clause-touched g c h = touches_start (IsInitBlock (g.D.Disk.state c.args.disk.now).size) (g.D.Disk.state c.args.disk.now)
+pub returns-then-not-is_volume_size-clause-near : goal.returns-then-not-is_volume_size-clause-near
+returns-then-not-is_volume_size-clause-near g c h =
+    let s = g.D.Disk.state c.args.disk.now in
+    leaves_start s (Near (IsInitBlock s.size) s) (λ d left. g.met.D.Disk.only_now c.args.disk.now d h left) (near_self (IsInitBlock s.size) s)
 
 is_volume : (g : Given.Over) (c : goal.In-Ok g) → IsVolumeSize (g.D.Disk.state c.args.disk.now).size
 is_volume g c = subst IsVolumeSize c.blocks-2.ensures (c.is_volume_size.ensures.0 (let e = c.if-not-is_volume_size.false in cc))

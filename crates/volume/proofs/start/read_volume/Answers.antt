@@ -1,4 +1,4 @@
-use Rattle.std.proofs.Common.{◌≡◌, inl, inr, ⊎_elim, ℕ, Err, refl, sym, subst, ◌∙◌}
+use Rattle.std.proofs.Common.{◌≡◌, inl, inr, ℕ, Err, IsErrOf, refl, sym, subst, ◌∙◌}
 use Rattle.blockdisk.specs.Disk.{NoneOpen}
 use Rattle.blockdisk.specs.Laws.{same_contents}
 use Rattle.changeset.specs.Crashes.{IsRecovered}
@@ -6,13 +6,14 @@ use Rattle.changeset.specs.declared.error.LogError.TheVariants.{Device as LogDev
 use Rattle.meaning.specs.Log.{with_puts}
 use Rattle.meaning.specs.Files.{File, Files}
 use Rattle.meaning.specs.Stands.{DiskMap, Stands}
-use Rattle.volume.specs.declared.error.VolumeError.TheVariants.{BadLog}
+use Rattle.volume.specs.declared.error.VolumeError.TheVariants.{BadLog, Device}
+use Rattle.volume.specs.declared.map.DiskMap.{DiskMap as CoreMap}
 use Rattle.volume.specs.Cores.{known_of}
 use Rattle.volume.specs.Known.{IsHeld}
 use Rattle.volume.specs.Meets.{SettledRefuses, Refuses}
 use Rattle.volume.specs.Rest.{IsAtRest, RestsAt, StandsLike, StandsLikeBefore}
 use Rattle.volume.proofs.Handing.{met_on}
-use Rattle.volume.proofs.Starting.{ok_on, ok_always, crash_recovered, from_recovered, crash_read, from_read, rest_known, rest_files, stood_before, closed_refuses, lost_refuses}
+use Rattle.volume.proofs.Starting.{ok_on, ok_always, crash_recovered, synced_recovered, crash_read, synced_read, rest_known, rest_files, stood_before, closed_refuses, lost_refuses}
 use Rattle.volume.proofs.start.read_volume.Goals as goal
 
 pub returns-in-Ok-clause-crash : goal.returns-in-Ok-clause-crash
@@ -24,14 +25,10 @@ returns-in-Ok-clause-crash g c h =
 pub returns-in-Ok-clause-synced : goal.returns-in-Ok-clause-synced
 returns-in-Ok-clause-synced g c h =
     let s = g.D.Disk.state c.args.disk.now in
-    let s1 = g.D.Disk.state c.recover.new.disk in
-    let s2 = g.D.Disk.state c.read_map.new.disk in
-    let reads = c.read_map.ensures.reads h in
-    let recovered : IsRecovered s.size s.contents s1.contents = c.in-Ok.ensures.recovered (c.read_map.ensures.same.was_honest h) in
-    let none : NoneOpen s1 = c.in-Ok.ensures.settled (c.read_map.ensures.same.was_honest h) in
-    ⊎_elim
-    (λ device. absurd (let is : c.recover.result ≡ Err LogDevice = device.0 in let ok = c.in-Ok.is in cc))
-    (λ from. inr (from.0, from_read from.0 s s1 s2 (StandsLike s) (from_recovered from.0 s s1 from.1) (λ u d early left. g.met.D.Disk.counts_now c.recover.new.disk u d (c.read_map.ensures.same.was_honest h) early left) reads)) (c.recover.ensures.synced (c.read_map.ensures.same.was_honest h))
+    let honest = c.read_map.ensures.same.was_honest h in
+    synced_read g.D.Disk.state c.args.disk.now c.recover.new.disk c.read_map.new.disk (IsErrOf c.recover.result LogDevice) (IsErrOf c.read_map.result Device) (StandsLike s)
+    (λ (is : c.recover.result ≡ Err LogDevice). let ok = c.in-Ok.is in cc) (λ d left. g.met.D.Disk.only_now c.recover.new.disk d honest left) (c.read_map.ensures.reads h)
+    (synced_recovered g.D.Disk.state c.args.disk.now c.recover.new.disk (IsErrOf c.recover.result LogDevice) (IsErrOf c.recover.result LogDevice) (λ is. is) (c.recover.ensures.synced honest))
 
 pub returns-in-Ok-clause-rest : goal.returns-in-Ok-clause-rest
 returns-in-Ok-clause-rest g c h =
@@ -117,18 +114,21 @@ returns-in-Err-Device-clause-crash g c h = crash_recovered (g.D.Disk.state c.arg
 
 pub returns-in-Err-BadLog-clause-synced : goal.returns-in-Err-BadLog-clause-synced
 returns-in-Err-BadLog-clause-synced g c h =
-    let s = g.D.Disk.state c.args.disk.now in
-    let s1 = g.D.Disk.state c.recover.new.disk in
-    ⊎_elim
-    (λ device. absurd (let is : c.recover.result ≡ Err LogDevice = device.0 in let bad = c.in-Err-BadLog.is in let which = c.in-Err-BadLog.field-0-is in cc))
-    (λ from. inr (from.0, from_recovered from.0 s s1 from.1)) (c.recover.ensures.synced h)
+    synced_recovered g.D.Disk.state c.args.disk.now c.recover.new.disk (IsErrOf c.recover.result LogDevice) (IsErrOf {T = CoreMap} (Err BadLog) Device)
+    (λ (is : c.recover.result ≡ Err LogDevice). absurd (let bad = c.in-Err-BadLog.is in let which = c.in-Err-BadLog.field-0-is in cc)) (c.recover.ensures.synced h)
+
+pub returns-in-Err-Device-clause-synced : goal.returns-in-Err-Device-clause-synced
+returns-in-Err-Device-clause-synced g c h =
+    synced_recovered g.D.Disk.state c.args.disk.now c.recover.new.disk (IsErrOf c.recover.result LogDevice) (IsErrOf {T = CoreMap} (Err Device) Device) (λ is. refl)
+    (c.recover.ensures.synced h)
 
 pub returns-in-Err-BadLog-clause-refused : goal.returns-in-Err-BadLog-clause-refused
 returns-in-Err-BadLog-clause-refused g c h =
     let s = g.D.Disk.state c.args.disk.now in
     let s1 = g.D.Disk.state c.recover.new.disk in
     let lost = c.recover.ensures.bad h (cc) in
-    let still = c.recover.ensures.untouched h (λ puts pending. lost (with_puts puts s.contents) (inr (pending.gate, puts, pending.log, λ n. refl))) in
+    let still = c.recover.ensures.untouched h (λ puts pending. lost (with_puts puts s.contents) (inr (pending.gate, puts, pending.log, λ n. refl)))
+    (λ (is : c.recover.result ≡ Err LogDevice). let bad = c.in-Err-BadLog.is in let which = c.in-Err-BadLog.field-0-is in cc) in
     subst (λ contents. Refuses s.size contents BadLog) (sym (same_contents s.contents s1.contents still.contents)) (lost_refuses s.size s.contents lost)
 
 pub returns-in-Err-BadLog-clause-kept : goal.returns-in-Err-BadLog-clause-kept
@@ -136,5 +136,6 @@ returns-in-Err-BadLog-clause-kept g c h other =
     let s = g.D.Disk.state c.args.disk.now in
     let s1 = g.D.Disk.state c.recover.new.disk in
     let lost = c.recover.ensures.bad h (cc) in
-    let still = c.recover.ensures.untouched h (λ puts pending. lost (with_puts puts s.contents) (inr (pending.gate, puts, pending.log, λ n. refl))) in
+    let still = c.recover.ensures.untouched h (λ puts pending. lost (with_puts puts s.contents) (inr (pending.gate, puts, pending.log, λ n. refl)))
+    (λ (is : c.recover.result ≡ Err LogDevice). let bad = c.in-Err-BadLog.is in let which = c.in-Err-BadLog.field-0-is in cc) in
     inl still

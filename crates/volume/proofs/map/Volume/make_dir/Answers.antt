@@ -1,10 +1,13 @@
-use Rattle.std.proofs.Common.{ℕ, refl, sym, subst, true}
+use Rattle.std.proofs.Common.{◌≡◌, ◌⊎◌, ℕ, refl, sym, subst, true}
+use Rattle.changeset.specs.Crashes.{IsGateOrLog}
+use Rattle.changeset.specs.Puts.{IsPutIn}
 use Rattle.volume.specs.Live.{VolumeCore}
 use Rattle.volume.specs.LiveCores.{core_of}
 use Rattle.volume.specs.Making.{IsMade}
 use Rattle.volume.specs.Rest.{IsSound}
 use Rattle.volume.proofs.LiveBodies.{bodies_stay, bodies_of, used_read, used_written}
 use Rattle.volume.proofs.MakingDirectories.{sound_for, sound_failed, made_core, puts_in_range, not_written, made_crash, made_rest, made_at, made_done}
+use Rattle.volume.proofs.MakingEvents.{near_closed}
 use Rattle.volume.proofs.MakingPlaces.{directory_stays, primes_stay}
 use Rattle.volume.proofs.map.Volume.make_dir.Goals as goal
 
@@ -36,7 +39,7 @@ returns-in-Ok-write_and_commit-clause-sound g c =
     let h : s.honest = c.write_and_commit.ensures.same.was_honest h' in
     bodies_of s'.contents (core_of c.args.self.now.map) (core_of c.make_in_core.new.core) c.make_in_core.ensures.live c.make_in_core.ensures.pending
     (bodies_stay s (core_of c.args.self.now.map) c.args.self.now.failed s'.contents c.requires.sound h ok
-    (λ n is. (c.write_and_commit.ensures.touched h').contents n (not_written s.size k k' c.args.ppn c.args.protection c.in-Ok.first c.make_in_core.new.set whole made n is.from is.apart is.used))))
+    (λ n is. (c.in-Ok-write_and_commit.ensures.touched h').contents n (not_written s.size k k' c.args.ppn c.args.protection c.in-Ok.first c.make_in_core.new.set whole made n is.from is.apart is.used))))
     (λ h' ok.
     let h : s.honest = c.write_and_commit.ensures.same.was_honest h' in
     let at = c.requires.sound.rest h ok in
@@ -54,7 +57,7 @@ returns-in-Ok-write_and_commit-clause-crash g c h f rests =
     made_crash s s' k k' c.args.ppn c.args.protection c.in-Ok.first c.make_in_core.new.set c.requires.protection whole made (c.requires.sound.rest (c.write_and_commit.ensures.same.was_honest h) c.if-self.false) f rests (c.write_and_commit.ensures.crash h k k')
 
 pub returns-in-Ok-write_and_commit-clause-kept : goal.returns-in-Ok-write_and_commit-clause-kept
-returns-in-Ok-write_and_commit-clause-kept g c h n from none used =
+returns-in-Ok-write_and_commit-clause-kept g c h n from none used closed =
     let s = g.D.Disk.state c.args.self.now.disk in
     let s' = g.D.Disk.state c.write_and_commit.new.disk in
     let k = (core_of c.args.self.now.map).known in
@@ -62,7 +65,7 @@ returns-in-Ok-write_and_commit-clause-kept g c h n from none used =
     let whole = c.requires.sound.whole.map in
     let made : IsMade s.size k k' c.args.ppn c.args.protection c.in-Ok.first c.make_in_core.new.set =
     subst (λ (b : ℕ). IsMade b k k' c.args.ppn c.args.protection c.in-Ok.first c.make_in_core.new.set) c.requires.sound.whole.map.size_is c.in-Ok.ensures.made in
-    (c.write_and_commit.ensures.touched h).contents n (not_written s.size k k' c.args.ppn c.args.protection c.in-Ok.first c.make_in_core.new.set whole made n from none used)
+    (c.in-Ok-write_and_commit.ensures.touched h).contents n (not_written s.size k k' c.args.ppn c.args.protection c.in-Ok.first c.make_in_core.new.set whole made n from none used)
 
 pub returns-in-Err-write_and_commit-clause-crash : goal.returns-in-Err-write_and_commit-clause-crash
 returns-in-Err-write_and_commit-clause-crash g c h f rests =
@@ -76,7 +79,7 @@ returns-in-Err-write_and_commit-clause-crash g c h f rests =
     made_crash s s' k k' c.args.ppn c.args.protection c.in-Ok.first c.make_in_core.new.set c.requires.protection whole made (c.requires.sound.rest (c.write_and_commit.ensures.same.was_honest h) c.if-self.false) f rests (c.write_and_commit.ensures.crash h k k')
 
 pub returns-in-Err-write_and_commit-clause-kept : goal.returns-in-Err-write_and_commit-clause-kept
-returns-in-Err-write_and_commit-clause-kept g c h n from none used =
+returns-in-Err-write_and_commit-clause-kept g c h n from none used closed =
     let s = g.D.Disk.state c.args.self.now.disk in
     let s' = g.D.Disk.state c.write_and_commit.new.disk in
     let k = (core_of c.args.self.now.map).known in
@@ -84,7 +87,7 @@ returns-in-Err-write_and_commit-clause-kept g c h n from none used =
     let whole = c.requires.sound.whole.map in
     let made : IsMade s.size k k' c.args.ppn c.args.protection c.in-Ok.first c.make_in_core.new.set =
     subst (λ (b : ℕ). IsMade b k k' c.args.ppn c.args.protection c.in-Ok.first c.make_in_core.new.set) c.requires.sound.whole.map.size_is c.in-Ok.ensures.made in
-    (c.write_and_commit.ensures.touched h).contents n (not_written s.size k k' c.args.ppn c.args.protection c.in-Ok.first c.make_in_core.new.set whole made n from none used)
+    near_closed (λ m. (m ≡ c.in-Ok.first) ⊎ (IsGateOrLog s.size m ⊎ IsPutIn c.make_in_core.new.set m)) s s' (c.write_and_commit.ensures.near h) n (not_written s.size k k' c.args.ppn c.args.protection c.in-Ok.first c.make_in_core.new.set whole made n from none used) (closed refl)
 
 pub returns-in-Ok-write_and_commit-clause-done : goal.returns-in-Ok-write_and_commit-clause-done
 returns-in-Ok-write_and_commit-clause-done g c h f rests =
@@ -111,7 +114,7 @@ returns-in-Err-write_and_commit-clause-sound g c =
     sound_failed s s' (core_of c.make_in_core.new.core) true c.write_and_commit.ensures.same.size (made_core s.size k k' c.args.ppn c.args.protection c.in-Ok.first c.make_in_core.new.set whole made (core_of c.args.self.now.map) (core_of c.make_in_core.new.core) c.requires.sound.whole refl refl c.make_in_core.ensures.live c.make_in_core.ensures.pending c.in-Ok.ensures.keys) refl
 
 pub returns-in-Ok-write_and_commit-clause-readers : goal.returns-in-Ok-write_and_commit-clause-readers
-returns-in-Ok-write_and_commit-clause-readers g c h =
+returns-in-Ok-write_and_commit-clause-readers g c h served =
     let s = g.D.Disk.state c.args.self.now.disk in
     let s' = g.D.Disk.state c.write_and_commit.new.disk in
     let k = (core_of c.args.self.now.map).known in
@@ -120,10 +123,10 @@ returns-in-Ok-write_and_commit-clause-readers g c h =
     let made : IsMade s.size k k' c.args.ppn c.args.protection c.in-Ok.first c.make_in_core.new.set =
     subst (λ (b : ℕ). IsMade b k k' c.args.ppn c.args.protection c.in-Ok.first c.make_in_core.new.set) c.requires.sound.whole.map.size_is c.in-Ok.ensures.made in
     used_read s.size (core_of c.args.self.now.map) c.requires.sound.whole s.contents s'.contents
-    (λ n is. (c.write_and_commit.ensures.touched h).contents n (not_written s.size k k' c.args.ppn c.args.protection c.in-Ok.first c.make_in_core.new.set whole made n is.from is.apart is.used))
+    (λ n is. (c.in-Ok-write_and_commit.ensures.touched h).contents n (not_written s.size k k' c.args.ppn c.args.protection c.in-Ok.first c.make_in_core.new.set whole made n is.from is.apart is.used))
 
 pub returns-in-Ok-write_and_commit-clause-writers : goal.returns-in-Ok-write_and_commit-clause-writers
-returns-in-Ok-write_and_commit-clause-writers g c h =
+returns-in-Ok-write_and_commit-clause-writers g c h served =
     let s = g.D.Disk.state c.args.self.now.disk in
     let s' = g.D.Disk.state c.write_and_commit.new.disk in
     let k = (core_of c.args.self.now.map).known in
@@ -132,31 +135,13 @@ returns-in-Ok-write_and_commit-clause-writers g c h =
     let made : IsMade s.size k k' c.args.ppn c.args.protection c.in-Ok.first c.make_in_core.new.set =
     subst (λ (b : ℕ). IsMade b k k' c.args.ppn c.args.protection c.in-Ok.first c.make_in_core.new.set) c.requires.sound.whole.map.size_is c.in-Ok.ensures.made in
     used_written s.size (core_of c.args.self.now.map) c.requires.sound.whole s.contents s'.contents
-    (λ n is. (c.write_and_commit.ensures.touched h).contents n (not_written s.size k k' c.args.ppn c.args.protection c.in-Ok.first c.make_in_core.new.set whole made n is.from is.apart is.used))
+    (λ n is. (c.in-Ok-write_and_commit.ensures.touched h).contents n (not_written s.size k k' c.args.ppn c.args.protection c.in-Ok.first c.make_in_core.new.set whole made n is.from is.apart is.used))
 
 pub returns-in-Err-write_and_commit-clause-readers : goal.returns-in-Err-write_and_commit-clause-readers
-returns-in-Err-write_and_commit-clause-readers g c h =
-    let s = g.D.Disk.state c.args.self.now.disk in
-    let s' = g.D.Disk.state c.write_and_commit.new.disk in
-    let k = (core_of c.args.self.now.map).known in
-    let k' = (core_of c.make_in_core.new.core).known in
-    let whole = c.requires.sound.whole.map in
-    let made : IsMade s.size k k' c.args.ppn c.args.protection c.in-Ok.first c.make_in_core.new.set =
-    subst (λ (b : ℕ). IsMade b k k' c.args.ppn c.args.protection c.in-Ok.first c.make_in_core.new.set) c.requires.sound.whole.map.size_is c.in-Ok.ensures.made in
-    used_read s.size (core_of c.args.self.now.map) c.requires.sound.whole s.contents s'.contents
-    (λ n is. (c.write_and_commit.ensures.touched h).contents n (not_written s.size k k' c.args.ppn c.args.protection c.in-Ok.first c.make_in_core.new.set whole made n is.from is.apart is.used))
+returns-in-Err-write_and_commit-clause-readers g c h served = absurd (served refl)
 
 pub returns-in-Err-write_and_commit-clause-writers : goal.returns-in-Err-write_and_commit-clause-writers
-returns-in-Err-write_and_commit-clause-writers g c h =
-    let s = g.D.Disk.state c.args.self.now.disk in
-    let s' = g.D.Disk.state c.write_and_commit.new.disk in
-    let k = (core_of c.args.self.now.map).known in
-    let k' = (core_of c.make_in_core.new.core).known in
-    let whole = c.requires.sound.whole.map in
-    let made : IsMade s.size k k' c.args.ppn c.args.protection c.in-Ok.first c.make_in_core.new.set =
-    subst (λ (b : ℕ). IsMade b k k' c.args.ppn c.args.protection c.in-Ok.first c.make_in_core.new.set) c.requires.sound.whole.map.size_is c.in-Ok.ensures.made in
-    used_written s.size (core_of c.args.self.now.map) c.requires.sound.whole s.contents s'.contents
-    (λ n is. (c.write_and_commit.ensures.touched h).contents n (not_written s.size k k' c.args.ppn c.args.protection c.in-Ok.first c.make_in_core.new.set whole made n is.from is.apart is.used))
+returns-in-Err-write_and_commit-clause-writers g c h served = absurd (served refl)
 
 pub returns-in-Ok-write_and_commit-clause-directories : goal.returns-in-Ok-write_and_commit-clause-directories
 returns-in-Ok-write_and_commit-clause-directories g c =

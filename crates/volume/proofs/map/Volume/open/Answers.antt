@@ -1,12 +1,13 @@
-use Rattle.std.proofs.Common.{◌≡◌, ⊎_elim, Err, sym, ap, subst, ◌∙◌, arith}
+use Rattle.std.proofs.Common.{◌≡◌, Err, IsErrOf, sym, ap, subst, ◌∙◌, arith}
 use Rattle.volume.specs.Cores.{known_of}
 use Rattle.volume.specs.Known.{IsWholeMap, IsBooked}
 use Rattle.volume.specs.LiveCores.{core_of}
-use Rattle.volume.specs.Rest.{IsAtRest}
+use Rattle.volume.specs.Rest.{IsAtRest, StandsLike}
 use Rattle.volume.specs.declared.error.VolumeError.TheVariants.{Device}
 use Rattle.volume.specs.Live.{pending_at, IsFirstRead}
 use Rattle.volume.proofs.LiveLookups.{standing_at}
 use Rattle.volume.proofs.LiveOpening.{kept_whole}
+use Rattle.volume.proofs.Starting.{synced_as}
 use Rattle.volume.proofs.map.Volume.open.Goals as goal
 
 pub returns-in-Ok-keep-clause-sound : goal.returns-in-Ok-keep-clause-sound
@@ -24,7 +25,11 @@ returns-in-Ok-keep-clause-sound g c =
 
 pub returns-in-Ok-keep-clause-synced : goal.returns-in-Ok-keep-clause-synced
 returns-in-Ok-keep-clause-synced g c h =
-    ⊎_elim (λ device. absurd (let is : c.read_volume.result ≡ Err Device = device in let ok = c.in-Ok.is in cc)) (λ from. from) (c.read_volume.ensures.synced h)
+    synced_as g.D.Disk.state c.args.disk c.read_volume.new.disk (IsErrOf c.read_volume.result Device) ⊥ (StandsLike (g.D.Disk.state c.args.disk))
+    (λ (is : c.read_volume.result ≡ Err Device). let ok = c.in-Ok.is in cc) (c.read_volume.ensures.synced h)
 
 pub returns-in-Ok-keep-clause-files : goal.returns-in-Ok-keep-clause-files
 returns-in-Ok-keep-clause-files g c files stands h = c.in-Ok.ensures.files h files stands
+
+pub returns-in-Err-clause-kept : goal.returns-in-Err-clause-kept
+returns-in-Err-clause-kept g c h other = c.read_volume.ensures.kept h (λ (is : c.read_volume.result ≡ Err Device). other (let error = c.in-Err.is in cc))

@@ -1,4 +1,4 @@
-use Rattle.std.proofs.Common.{ℕ, Bool, sym, subst, ◌∙◌}
+use Rattle.std.proofs.Common.{ℕ, Bool, sym, subst, ◌∙◌, refl}
 use Rattle.std.specs.List.{AllByRecursion}
 use Rattle.meaning.specs.Log.{IsTarget, targets}
 use Rattle.volume.specs.Live.{pending_at}
@@ -6,7 +6,7 @@ use Rattle.volume.specs.LiveCores.{core_of}
 use Rattle.volume.specs.Rest.{IsSound}
 use Rattle.volume.proofs.PuttingCore.{some_of}
 use Rattle.volume.proofs.PublishingBlocks.{turned_of, retrieval_inside, retrieval_apart, retrieval_nonzero, version_words, version_enough, version_fits, puts_in_range}
-use Rattle.volume.proofs.PublishingEvents.{ok_is, mid_shut, written_failed, written_crash, written_readers, written_writers, committed_crash, committed_done, committed_readers, committed_writers, committed_failed, committed_sound}
+use Rattle.volume.proofs.PublishingEvents.{ok_is, mid_shut, written_failed, written_crash, committed_crash, committed_done, committed_readers, committed_writers, committed_failed, committed_sound}
 use Rattle.volume.proofs.map.Volume.publish_written.Goals as goal
 
 pub write_retrieval_blocks-written-requires-clause-inside :
@@ -105,28 +105,10 @@ returns-then-is_err-clause-crash g c h f rests p is body long has =
     written_crash s mid core new c.args.key p v puts c.requires.sound turned c.write_retrieval_blocks-written.ensures.same (c.write_retrieval_blocks-written.ensures.same.was_honest h) (c.write_retrieval_blocks-written.ensures.touched h) f _ rests (λ d left. g.met.D.Disk.only_now c.args.self.now.disk d (c.write_retrieval_blocks-written.ensures.same.was_honest h) left)
 
 pub returns-then-is_err-clause-readers : goal.returns-then-is_err-clause-readers
-returns-then-is_err-clause-readers g c h =
-    let s = g.D.Disk.state c.args.self.now.disk in
-    let mid = g.D.Disk.state c.write_retrieval_blocks-written.new.disk in
-    let core = core_of c.args.self.now.map in
-    let new = core_of c.make_current-current.new.core in
-    let puts = c.make_current-current.new.set in
-    let v = c.in-Some.version.now in
-    let there = some_of (pending_at core.pending c.args.key) c.requires.there in
-    let turned = turned_of s.size core.known.table.size core new c.args.key there.0 v puts c.make_current-current.result c.requires.sound.whole.map.size_is (c.make_current-current.ensures there.0 there.1) c.in-Some.ensures in
-    written_readers s mid core new c.args.key there.0 v puts c.requires.sound turned c.write_retrieval_blocks-written.ensures.same (c.write_retrieval_blocks-written.ensures.same.was_honest h) (c.write_retrieval_blocks-written.ensures.touched h)
+returns-then-is_err-clause-readers g c h served = absurd (served refl)
 
 pub returns-then-is_err-clause-writers : goal.returns-then-is_err-clause-writers
-returns-then-is_err-clause-writers g c h k q other =
-    let s = g.D.Disk.state c.args.self.now.disk in
-    let mid = g.D.Disk.state c.write_retrieval_blocks-written.new.disk in
-    let core = core_of c.args.self.now.map in
-    let new = core_of c.make_current-current.new.core in
-    let puts = c.make_current-current.new.set in
-    let v = c.in-Some.version.now in
-    let there = some_of (pending_at core.pending c.args.key) c.requires.there in
-    let turned = turned_of s.size core.known.table.size core new c.args.key there.0 v puts c.make_current-current.result c.requires.sound.whole.map.size_is (c.make_current-current.ensures there.0 there.1) c.in-Some.ensures in
-    written_writers s mid core new c.args.key there.0 v puts c.requires.sound turned c.write_retrieval_blocks-written.ensures.same (c.write_retrieval_blocks-written.ensures.same.was_honest h) (c.write_retrieval_blocks-written.ensures.touched h) k q
+returns-then-is_err-clause-writers g c h served = absurd (served refl)
 
 pub commit_puts-requires-clause-in_range : goal.commit_puts-requires-clause-in_range
 commit_puts-requires-clause-in_range g c =
@@ -154,7 +136,7 @@ returns-in-Ok-clause-sound g c =
     subst (λ (b : Bool). IsSound s' new b) (sym c.requires.alive)
     (committed_sound s mid s' core new c.args.key there.0 v puts c.requires.sound turned c.write_retrieval_blocks-written.ensures.same c.commit_puts.ensures.same c.write_retrieval_blocks-written.ensures.touched
     (λ h. ok_is c.write_retrieval_blocks-written.result _ (sym c.is_err.ensures.value ∙ c.if-is_err.false) (c.write_retrieval_blocks-written.ensures.written h))
-    c.commit_puts.ensures.touched c.in-Ok.ensures.all c.in-Ok.ensures.settled c.in-Ok.ensures.shut)
+    c.in-Ok.ensures.touched c.in-Ok.ensures.all c.in-Ok.ensures.settled c.in-Ok.ensures.shut)
 
 pub returns-in-Ok-clause-crash : goal.returns-in-Ok-clause-crash
 returns-in-Ok-clause-crash g c h f rests p is body long has =
@@ -199,7 +181,7 @@ returns-in-Ok-clause-done g c h f rests p is body long has =
     committed_done s mid core new c.args.key p v puts c.requires.sound turned c.write_retrieval_blocks-written.ensures.same (c.write_retrieval_blocks-written.ensures.same.was_honest (c.in-Ok.ensures.same.was_honest h)) (c.write_retrieval_blocks-written.ensures.touched (c.in-Ok.ensures.same.was_honest h)) retrieved body long has s' c.commit_puts.ensures.same (c.in-Ok.ensures.all h) (c.in-Ok.ensures.settled h) (c.in-Ok.ensures.shut h shut) f rests
 
 pub returns-in-Ok-clause-readers : goal.returns-in-Ok-clause-readers
-returns-in-Ok-clause-readers g c h =
+returns-in-Ok-clause-readers g c h served =
     let s = g.D.Disk.state c.args.self.now.disk in
     let mid = g.D.Disk.state c.write_retrieval_blocks-written.new.disk in
     let s' = g.D.Disk.state c.commit_puts.new.disk in
@@ -209,10 +191,10 @@ returns-in-Ok-clause-readers g c h =
     let v = c.in-Some.version.now in
     let there = some_of (pending_at core.pending c.args.key) c.requires.there in
     let turned = turned_of s.size core.known.table.size core new c.args.key there.0 v puts c.make_current-current.result c.requires.sound.whole.map.size_is (c.make_current-current.ensures there.0 there.1) c.in-Some.ensures in
-    committed_readers s mid core new c.args.key there.0 v puts c.requires.sound turned c.write_retrieval_blocks-written.ensures.same (c.write_retrieval_blocks-written.ensures.same.was_honest (c.commit_puts.ensures.same.was_honest h)) (c.write_retrieval_blocks-written.ensures.touched (c.commit_puts.ensures.same.was_honest h)) s' (c.commit_puts.ensures.touched h)
+    committed_readers s mid core new c.args.key there.0 v puts c.requires.sound turned c.write_retrieval_blocks-written.ensures.same (c.write_retrieval_blocks-written.ensures.same.was_honest (c.commit_puts.ensures.same.was_honest h)) (c.write_retrieval_blocks-written.ensures.touched (c.commit_puts.ensures.same.was_honest h)) s' (c.in-Ok.ensures.touched h)
 
 pub returns-in-Ok-clause-writers : goal.returns-in-Ok-clause-writers
-returns-in-Ok-clause-writers g c h k q other =
+returns-in-Ok-clause-writers g c h served k q other =
     let s = g.D.Disk.state c.args.self.now.disk in
     let mid = g.D.Disk.state c.write_retrieval_blocks-written.new.disk in
     let s' = g.D.Disk.state c.commit_puts.new.disk in
@@ -222,33 +204,13 @@ returns-in-Ok-clause-writers g c h k q other =
     let v = c.in-Some.version.now in
     let there = some_of (pending_at core.pending c.args.key) c.requires.there in
     let turned = turned_of s.size core.known.table.size core new c.args.key there.0 v puts c.make_current-current.result c.requires.sound.whole.map.size_is (c.make_current-current.ensures there.0 there.1) c.in-Some.ensures in
-    committed_writers s mid core new c.args.key there.0 v puts c.requires.sound turned c.write_retrieval_blocks-written.ensures.same (c.write_retrieval_blocks-written.ensures.same.was_honest (c.commit_puts.ensures.same.was_honest h)) (c.write_retrieval_blocks-written.ensures.touched (c.commit_puts.ensures.same.was_honest h)) s' (c.commit_puts.ensures.touched h) k q
+    committed_writers s mid core new c.args.key there.0 v puts c.requires.sound turned c.write_retrieval_blocks-written.ensures.same (c.write_retrieval_blocks-written.ensures.same.was_honest (c.commit_puts.ensures.same.was_honest h)) (c.write_retrieval_blocks-written.ensures.touched (c.commit_puts.ensures.same.was_honest h)) s' (c.in-Ok.ensures.touched h) k q
 
 pub returns-in-Err-clause-readers : goal.returns-in-Err-clause-readers
-returns-in-Err-clause-readers g c h =
-    let s = g.D.Disk.state c.args.self.now.disk in
-    let mid = g.D.Disk.state c.write_retrieval_blocks-written.new.disk in
-    let s' = g.D.Disk.state c.commit_puts.new.disk in
-    let core = core_of c.args.self.now.map in
-    let new = core_of c.make_current-current.new.core in
-    let puts = c.make_current-current.new.set in
-    let v = c.in-Some.version.now in
-    let there = some_of (pending_at core.pending c.args.key) c.requires.there in
-    let turned = turned_of s.size core.known.table.size core new c.args.key there.0 v puts c.make_current-current.result c.requires.sound.whole.map.size_is (c.make_current-current.ensures there.0 there.1) c.in-Some.ensures in
-    committed_readers s mid core new c.args.key there.0 v puts c.requires.sound turned c.write_retrieval_blocks-written.ensures.same (c.write_retrieval_blocks-written.ensures.same.was_honest (c.commit_puts.ensures.same.was_honest h)) (c.write_retrieval_blocks-written.ensures.touched (c.commit_puts.ensures.same.was_honest h)) s' (c.commit_puts.ensures.touched h)
+returns-in-Err-clause-readers g c h served = absurd (served refl)
 
 pub returns-in-Err-clause-writers : goal.returns-in-Err-clause-writers
-returns-in-Err-clause-writers g c h k q other =
-    let s = g.D.Disk.state c.args.self.now.disk in
-    let mid = g.D.Disk.state c.write_retrieval_blocks-written.new.disk in
-    let s' = g.D.Disk.state c.commit_puts.new.disk in
-    let core = core_of c.args.self.now.map in
-    let new = core_of c.make_current-current.new.core in
-    let puts = c.make_current-current.new.set in
-    let v = c.in-Some.version.now in
-    let there = some_of (pending_at core.pending c.args.key) c.requires.there in
-    let turned = turned_of s.size core.known.table.size core new c.args.key there.0 v puts c.make_current-current.result c.requires.sound.whole.map.size_is (c.make_current-current.ensures there.0 there.1) c.in-Some.ensures in
-    committed_writers s mid core new c.args.key there.0 v puts c.requires.sound turned c.write_retrieval_blocks-written.ensures.same (c.write_retrieval_blocks-written.ensures.same.was_honest (c.commit_puts.ensures.same.was_honest h)) (c.write_retrieval_blocks-written.ensures.touched (c.commit_puts.ensures.same.was_honest h)) s' (c.commit_puts.ensures.touched h) k q
+returns-in-Err-clause-writers g c h served = absurd (served refl)
 
 pub returns-in-Err-clause-sound : goal.returns-in-Err-clause-sound
 returns-in-Err-clause-sound g c =
