@@ -77,6 +77,7 @@ impl<D: Disk> Volume<D> {
         // Where there are no words the disk isn't asked.
         ensures none { IfOk result (λ words. length words.items ≡ 0 → self.new.disk ≡ self.old.disk) }
         ensures failed { self.old.failed ≡ true → IsErrOf result Failed }
+        ensures broken { self.old.failed ≡ true → (self.new.disk ≡ self.old.disk) × (core_of self.new.map ≡ core_of self.old.map) }
         ensures given_up { IsErrOf result Failed → (self.old.failed ≡ true) ⊎ ((D.state self.new.disk).honest → ⊥) }
         ensures gone { IsErrOf result Failed → self.new.failed ≡ true }
         ensures device { IsErrOf result Device → self.new.failed ≡ true }
