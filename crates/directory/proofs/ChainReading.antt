@@ -218,7 +218,7 @@ module _ {K V : Type 0} (R : K → K → Ordering) (words : K × V → List ℕ)
 
     -- a stop at a bad block
     pub bad_chain : honest → IsBadAt R words IsEntry target size contents n entries → IsBadChain R words IsEntry target size contents first n
-    bad_chain h bad = record { before = nodes; walk = l.walk h; somewhere = some; bad = ⊎_elim damaged wrong bad }
+    bad_chain h bad = record { before = nodes; walk = l.walk h; inside = l.next_inside some; bad = ⊎_elim damaged wrong bad }
       where
         nodes : List (Node (K × V))
         nodes = nodes_of blocks entries
@@ -314,7 +314,7 @@ module _ {K V : Type 0} (R : K → K → Ordering) (words : K × V → List ℕ)
   pub whole_not_bad : (n : ℕ) → IsBadChain R words IsEntry target size contents first n → ⊥
   whole_not_bad n b =
       no_bad_block words apart IsEntry IsEntry target size contents (numbers nodes) (from_entries (items nodes)) directory nonzero w.blocks_inside w.read.are_entries w.targets_inside
-      first b.before n begin b.walk b.somewhere b.bad
+      first b.before n begin b.walk (in_space_some size n b.inside) b.bad
 
   pub whole_not_twice : (n : ℕ) → IsMetTwice words contents old first n → ⊥
   whole_not_twice n t =

@@ -50,7 +50,7 @@ pub record Adds {K V : Type 0} (R : K → K → Ordering) (words : K × V → Li
 pub record IsBadChain {K V : Type 0} (R : K → K → Ordering) (words : K × V → List ℕ) (IsEntry : K × V → Type 0) (target : K × V → ℕ) (size : ℕ) (contents : Contents) (first n : ℕ) : Type 0 where
   pub before : List (Node (K × V))
   pub walk : Leads words contents first before n
-  pub somewhere : 0 < n
+  pub inside : InSpace size n
   pub bad : IsBadBlock R words IsEntry target size contents before n
 
 -- Where a walk from `first` comes to block n, which is marked or was walked already.

@@ -10,8 +10,9 @@
 //!    stays as long as its blocks do. (`chain_stands`)
 //! 5. On an honest disk `Chain::load` answers a chain that stands there, all in the free space, as is what
 //!    its entries name; or it names a block that has a fault or is reached twice, and that never where a
-//!    chain stands whole. It marks the blocks, writes nothing and ends on every disk, and answers `Device`
-//!    exactly with one more failure of the disk. (`on`, `walk`, `bad`, `twice`, `whole`, `once`, `failed`)
+//!    chain stands whole. It marks the blocks, writes nothing and ends on every disk, names no block outside
+//!    the free space, and answers `Device` exactly with one more failure of the disk. (`on`, `walk`, `bad`,
+//!    `twice`, `named`, `whole`, `once`, `failed`)
 //! 6. `find` gives the place of a key, or none exactly where there is none. (`found`, `none`)
 //! 7. `insert`, `rename` and `remove` make that edit of the map, and no other. (`map`) With their puts a
 //!    disk that spelled the chain before spells the one after, and all other blocks are as they were;

@@ -1,4 +1,4 @@
-ghost use Rattle.std.specs.Prelude.{◌≡◌, ◌<◌, ◌≤◌, ◌↔◌, ◌++◌, ◌∷◌, [], ℕ, List, IsTrue, true, false, Some, None, IfOk, OnOk, IsErrOf, length, map, slice_set};
+ghost use Rattle.std.specs.Prelude.{◌≡◌, ◌<◌, ◌≤◌, ◌↔◌, ◌⊎◌, ◌++◌, ◌∷◌, [], ℕ, List, IsTrue, true, false, Some, None, IfOk, OnOk, IsErrOf, length, map, slice_set};
 ghost use Rattle.std.specs.List.{AllByRecursion};
 ghost use Rattle.std.specs.FinMap.Entries.{find};
 ghost use Rattle.blockdisk.specs.Disk.{SameDisk, one_more};
@@ -127,6 +127,7 @@ fn read_block<D: Disk>(disk: &mut D, n: u32) -> Result<Block, DirectoryError>
     requires { n < (D.state disk.old).size }
     ensures words { (D.state disk.new).honest → IfOk result (λ block. (D.state disk.old).contents n ≡ Some block) }
     ensures bad { (D.state disk.new).honest → (k : ℕ) → IsErrOf result (BadDirectory k) → (k ≡ n) × ((D.state disk.old).contents n ≡ None) }
+    ensures named { (k : ℕ) → IsErrOf result (BadDirectory k) → k ≡ n }
     ensures twice { (k : ℕ) → IsErrOf result (BlockTwice k) → ⊥ }
     ensures memory { IsErrOf result NoMemory → ⊥ }
     ensures reads { (D.state disk.new).honest → OnlyReads (D.state disk.old) (D.state disk.new) }
@@ -161,6 +162,7 @@ fn read_on<E: Entry, D: Disk>(
     ensures fresh { IfOk result (λ next. flag_at reached.old n ≡ false) }
     ensures marked { reached.new ≡ slice_set reached.old n true }
     ensures bad { (D.state disk.new).honest → (k : ℕ) → IsErrOf result (BadDirectory k) → (k ≡ n) × IsBadAt E.order E.words_of E.IsEntry E.target size (D.state disk.old).contents n (map E.view entries.old.items) }
+    ensures named { (k : ℕ) → IsErrOf result (BadDirectory k) → k ≡ n }
     ensures twice { (k : ℕ) → IsErrOf result (BlockTwice k) → (k ≡ n) × (flag_at reached.old n ≡ true) }
     ensures reads { (D.state disk.new).honest → OnlyReads (D.state disk.old) (D.state disk.new) }
     ensures same { SameDisk (D.state disk.old) (D.state disk.new) }
@@ -194,7 +196,8 @@ impl<E: Entry> Chain<E> {
     /// # Errors
     ///
     /// `BadDirectory` with a block that is damaged or not as it should be, `BlockTwice` with a block that
-    /// was marked already; `Device` where the device failed; `NoMemory` where the lists of blocks and
+    /// was marked already: a block of the free space, since a number outside is never read, and the block that
+    /// names it is refused; `Device` where the device failed; `NoMemory` where the lists of blocks and
     /// entries find no room. The blocks that were come to stay marked.
     pub fn load<D: Disk>(
         alloc: Global,
@@ -219,6 +222,9 @@ impl<E: Entry> Chain<E> {
             → (k : ℕ) → IsErrOf result (BadDirectory k) → ⊥ }
         ensures once { (D.state disk.new).honest → (nodes : List (Node (E.Key × E.Held))) → IsWholeChain E.order E.words_of E.IsEntry E.target (D.state disk.old).size (D.state disk.old).contents reached.old first nodes
             → (k : ℕ) → IsErrOf result (BlockTwice k) → ⊥ }
+
+        // Whatever the disk answers, a block that is named lies in the free space.
+        ensures named { (k : ℕ) → IsErrOf result (BadDirectory k) ⊎ IsErrOf result (BlockTwice k) → InSpace (D.state disk.old).size k }
         ensures reads { (D.state disk.new).honest → OnlyReads (D.state disk.old) (D.state disk.new) }
         ensures same { SameDisk (D.state disk.old) (D.state disk.new) }
         ensures failed { IsErrOf result Device → (D.state disk.new).failures ≡ one_more (D.state disk.old).failures }

@@ -183,7 +183,7 @@ module _ (size : ℕ) (contents : Contents) (m : DiskMap) (s : HasMap size conte
       let good : AllByRecursion (λ (e : MasterEntry). IsMasterEntryOf m.layout e × InSpace size e.1.1) (items d.nodes) = zip (items d.nodes) (each_entry nat_cmp_total (λ ppn e. get (map_values entry_of m.directories) ppn ≡ Some e) (items d.nodes) d.each_once entry_is) d.are_entries in
       no_bad_block master_words master_apart IsMasterEntry (IsMasterEntryOf bad.layout) (λ e. e.1.1) size contents m.chain _ d chain_free (λ k h. reached_inside k (omega arith))
       (subst (λ l. AllByRecursion (IsMasterEntryOf l) (items d.nodes)) (sym home.0) (firsts (items d.nodes) good)) (seconds (items d.nodes) good)
-      bad.walk.master bad.before n home.1 bad.walk.walk bad.somewhere bad.bad
+      bad.walk.master bad.before n home.1 bad.walk.walk (let f = bad.inside.from in omega arith) bad.bad
     where
       entry_is : (ppn : ℕ) (e : ℕ × ℕ) → find nat_cmp ppn (items s.mapped.master.nodes) ≡ Some e → get (map_values entry_of m.directories) ppn ≡ Some e
       entry_is ppn e h = ap (λ z. get z ppn) (sym s.mapped.master.map_is) ∙ get-from_entries nat_cmp_total (items s.mapped.master.nodes) ppn ∙ h
@@ -210,7 +210,7 @@ module _ (size : ℕ) (contents : Contents) (m : DiskMap) (s : HasMap size conte
       no_bad_block file_words file_apart IsFileEntry IsFileEntry (λ e. e.1) size contents named.0.chain _ d free (λ k h. reached_inside k (omega (arith, directory_part m bad.ppn named.0 named.1 k)))
       d.are_entries (each_entry name_total (λ name prime. InSpace size prime) (items d.nodes) d.each_once (λ name prime h. prime_inside bad.ppn named.0 named.1 name prime
       (ap (λ z. get z name) (sym d.map_is) ∙ get-from_entries name_total (items d.nodes) name ∙ h)))
-      bad.walk.first bad.before n (sym (ap (λ e. e.1) named.2)) bad.walk.walk bad.somewhere bad.bad
+      bad.walk.first bad.before n (sym (ap (λ e. e.1) named.2)) bad.walk.walk (let f = bad.inside.from in omega arith) bad.bad
     where
       prime_inside : (ppn : ℕ) (d : StoredDirectory) → get m.directories ppn ≡ Some d → (name : FileName) (prime : ℕ) → get (map_values (λ (f : StoredFile). f.prime) d.files) name ≡ Some prime → InSpace size prime
       prime_inside ppn d at name prime is =

@@ -156,7 +156,8 @@ module _ (layout size : ℕ) (contents : Contents) (own : Prime) (prime : ℕ) (
       let few = walk_few next last es runs same.2 same.1 l in
       let words = ap (λ q. blocks_of q.words) same.0 in
       absurd (omega arith)
-  no_bad_version ppn_fits ext_fits n (malformed_extension p runs next es k read l q none) = extension_good next k es (prime_read p runs next read ext_fits).2 l q none
+  no_bad_version ppn_fits ext_fits n (malformed_extension p runs next es k read l inside none) =
+      extension_good next k es (prime_read p runs next read ext_fits).2 l (let f = inside.from in omega arith) none
   no_bad_version ppn_fits ext_fits n (extension_run_outside p runs next es k others after read l out) = out (extension_last next after k es others (prime_read p runs next read ext_fits).2 l).0
   no_bad_version ppn_fits ext_fits n (extension_next_outside p runs next es k others after read l q out) = out ((extension_last next after k es others (prime_read p runs next read ext_fits).2 l).1 q)
   no_bad_version ppn_fits ext_fits n (extension_short p runs next es k others after read l q some) = some ((extension_last next after k es others (prime_read p runs next read ext_fits).2 l).2 q)
@@ -258,12 +259,12 @@ module _ (size : ℕ) (contents : Contents) (m : DiskMap) (s : HasMap size conte
   no_fault NotVolume (inr unnamed) = ⊎_elim (λ copy. unnamed.0 (_, copy.words)) (λ copy. unnamed.1 (_, (copy.1).words)) s.mapped.home
   no_fault BadHome bad = ⊎_elim (λ copy. bad.first _ copy) (λ copy. bad.second _ copy.1) s.mapped.home
   no_fault BadLog bad = bad
-  no_fault (BadDirectory n) (inl bad) = no_bad_master size contents m s n bad
-  no_fault (BadDirectory n) (inr bad) = no_bad_file_block size contents m s n bad
-  no_fault (BadRetrieval n) bad = no_bad_retrieval n bad
-  no_fault (BlockTwice n) bad = not_twice n bad
+  no_fault (BadDirectory n) (inside, inl bad) = no_bad_master size contents m s n bad
+  no_fault (BadDirectory n) (inside, inr bad) = no_bad_file_block size contents m s n bad
+  no_fault (BadRetrieval n) bad = no_bad_retrieval n bad.1
+  no_fault (BlockTwice n) bad = not_twice n bad.1
   no_fault (TableWrong n) bad = no_wrong_table n bad
-  no_fault (BadData n) bad = no_bad_data n bad
+  no_fault (BadData n) bad = no_bad_data n bad.1
 
 -- Contents with a fault stand for no files.
 pub fault_excludes : (size : ℕ) (contents : Contents) (files : Files File) (fault : StartFault) → HasFault size contents fault → Stands size contents files → ⊥

@@ -22,6 +22,10 @@ use Rattle.meaning.proofs.Excluded.{reached_inside}
 use Rattle.meaning.proofs.ExcludedFiles.{fault_excludes}
 use Rattle.meaning.proofs.Vectors.{v1_has_map}
 
+-- the free space of these disks
+free : (n : ℕ) → 15 ≤ n → n < 64 → InSpace 64 n
+free n from below = record { from = from; below = below }
+
 -- The gate.
 
 abbrev pub zero_block : List ℕ
@@ -146,21 +150,21 @@ crowded next es is few =
     absurd (omega arith)
 
 pub too_many_entries : HasFault 64 v1_too_many_entries (BadDirectory 15)
-too_many_entries = settled_fault v1_too_many_entries (BadDirectory 15) refl (inl (record {
+too_many_entries = settled_fault v1_too_many_entries (BadDirectory 15) refl (free 15 (lit≤ tt) (lit< tt), inl (record {
   layout = 1;
   before = [];
   walk = at_master v1_too_many_entries refl;
-  somewhere = lit< tt;
+  inside = free 15 (lit≤ tt) (lit< tt);
   bad = malformed (λ next es is few are. crowded next es is few);
 }))
 
 pub looping_directory : HasFault 64 v1_looping_directory (BadDirectory 16)
-looping_directory = settled_fault v1_looping_directory (BadDirectory 16) refl (inr (record {
+looping_directory = settled_fault v1_looping_directory (BadDirectory 16) refl (free 16 (lit≤ tt) (lit< tt), inr (record {
   layout = 1;
   ppn = owner;
   before = [];
   walk = at_directory v1_looping_directory refl refl;
-  somewhere = lit< tt;
+  inside = free 16 (lit≤ tt) (lit< tt);
   bad = short 16 ((foo_txt, 17) ∷ []) refl (lit< tt) (λ full. absurd (omega arith));
 }))
 
@@ -177,7 +181,7 @@ no_late p runs next is fits =
 
 pub late_minute : HasFault 64 v1_late_minute (BadRetrieval 17)
 late_minute = settled_fault v1_late_minute (BadRetrieval 17) refl
-    (of_version 1 foo_place 17 (file_named v1_late_minute refl refl refl) (malformed_prime (λ p runs next read few. no_late p runs next read.words read.fits)))
+    (free 17 (lit≤ tt) (lit< tt), of_version 1 foo_place 17 (file_named v1_late_minute refl refl refl) (malformed_prime (λ p runs next read few. no_late p runs next read.words read.fits)))
 
 abbrev long_prime : Prime
 long_prime = record { place = foo_place; protection = 0o057; mode = 0; time = 0; date = 4095; words = 129 }
@@ -192,10 +196,11 @@ long_read = record {
 }
 
 pub too_long : HasFault 64 v1_too_long (BadRetrieval 17)
-too_long = settled_fault v1_too_long (BadRetrieval 17) refl (of_version 1 foo_place 17 (file_named v1_too_long refl refl refl) (miscounted long_prime ((1, 18) ∷ []) 0 [] long_read refl (λ same. absurd (omega arith))))
+too_long = settled_fault v1_too_long (BadRetrieval 17) refl
+    (free 17 (lit≤ tt) (lit< tt), of_version 1 foo_place 17 (file_named v1_too_long refl refl refl) (miscounted long_prime ((1, 18) ∷ []) 0 [] long_read refl (λ same. absurd (omega arith))))
 
 pub damaged_data : HasFault 64 v1_damaged_data (BadData 18)
-damaged_data = settled_fault v1_damaged_data (BadData 18) refl (record {
+damaged_data = settled_fault v1_damaged_data (BadData 18) refl (free 18 (lit≤ tt) (lit< tt), record {
   layout = 1;
   place = foo_place;
   p = hello_prime;
@@ -232,7 +237,7 @@ shared_directory_read = record {
 }
 
 pub shared_block : HasFault 64 v1_shared_block (BlockTwice 16)
-shared_block = settled_fault v1_shared_block (BlockTwice 16) refl (record {
+shared_block = settled_fault v1_shared_block (BlockTwice 16) refl (free 16 (lit≤ tt) (lit< tt), record {
   m = shared_map;
   read = record { layout = 1; walk = past_master v1_shared_block refl refl; once = (refl, tt); directories = (shared_directory_read, tt) };
   twice = lit≤ tt;

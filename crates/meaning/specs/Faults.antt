@@ -85,7 +85,7 @@ pub record IsBadMasterBlock (size : ℕ) (settled : Contents) (n : ℕ) : Type 0
   pub layout : ℕ
   pub before : List (Node MasterEntry)
   pub walk : IsMasterWalk size settled layout before n
-  pub somewhere : 0 < n
+  pub inside : InSpace size n
   pub bad : IsBadBlock nat_cmp master_words (IsMasterEntryOf layout) (λ e. e.1.1) size settled before n
 
 pub record IsBadFileBlock (size : ℕ) (settled : Contents) (n : ℕ) : Type 0 where
@@ -93,7 +93,7 @@ pub record IsBadFileBlock (size : ℕ) (settled : Contents) (n : ℕ) : Type 0 w
   pub ppn : ℕ
   pub before : List (Node FileEntry)
   pub walk : IsDirectoryWalk size settled layout ppn before n
-  pub somewhere : 0 < n
+  pub inside : InSpace size n
   pub bad : IsBadBlock name_cmp file_words IsFileEntry (λ e. e.1) size settled before n
 
 abbrev pub IsBadDirectory : ℕ → Contents → ℕ → Type 0
@@ -129,7 +129,7 @@ pub data IsBadVersion (size : ℕ) (contents : Contents) (layout prime : ℕ) : 
       → IsBadVersion size contents layout prime prime
   -- an extension is damaged, or its words are no extension's
   malformed_extension : (p : Prime) (runs : List Run) (next : ℕ) (extensions : List Extension) (n : ℕ) → IsPrimeRead contents layout prime p runs next
-      → LeadsOn contents next extensions n → 0 < n
+      → LeadsOn contents next extensions n → InSpace size n
       → ((others : List Run) (after : ℕ) → contents n ≡ Some (extension_block others after) → 0 < length others → length others ≤ 126 → AllByRecursion IsRun others → ⊥)
       → IsBadVersion size contents layout prime n
   -- the same faults of an extension that was walked last
@@ -251,16 +251,17 @@ pub data StartFault : Type 0 where
   TableWrong : ℕ → StartFault
   BadData : ℕ → StartFault
 
--- the fault stands in settled contents
+-- The fault stands in settled contents. A block that it names lies in the free space, or is one of the table: a
+-- number outside is never read, and the block that names such a number is the one that is not as it should be.
 abbrev pub IsSettledFault : ℕ → Contents → StartFault → Type 0
 IsSettledFault size settled NotVolume = IsNotVolume size settled
 IsSettledFault size settled BadHome = IsBadHome size settled
 IsSettledFault size settled BadLog = ⊥
-IsSettledFault size settled (BadDirectory n) = IsBadDirectory size settled n
-IsSettledFault size settled (BadRetrieval n) = IsBadRetrieval size settled n
-IsSettledFault size settled (BlockTwice n) = IsTwice size settled n
+IsSettledFault size settled (BadDirectory n) = InSpace size n × IsBadDirectory size settled n
+IsSettledFault size settled (BadRetrieval n) = InSpace size n × IsBadRetrieval size settled n
+IsSettledFault size settled (BlockTwice n) = InSpace size n × IsTwice size settled n
 IsSettledFault size settled (TableWrong n) = IsWrongTable size settled n
-IsSettledFault size settled (BadData n) = IsBadData size settled n
+IsSettledFault size settled (BadData n) = InSpace size n × IsBadData size settled n
 
 -- The fault stands in the contents of a disk, whatever its gate.
 abbrev pub HasFault : ℕ → Contents → StartFault → Type 0

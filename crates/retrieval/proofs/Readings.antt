@@ -145,12 +145,12 @@ module _ (size : ℕ) (c : Contents) (at : ℕ) (prime : PrimeValue) (v : Versio
 
   -- an extension that is damaged
   pub damaged_extension : 0 < n → c n ≡ None → IsBadVersion size c 1 at n
-  damaged_extension some none = IsBadVersion.malformed_extension (with_length prime v.words) r.runs r.first r.extensions n r.read walked some (λ others after is some' few are. some_none (sym is ∙ none))
+  damaged_extension some none = IsBadVersion.malformed_extension (with_length prime v.words) r.runs r.first r.extensions n r.read walked (r.next_inside some) (λ others after is some' few are. some_none (sym is ∙ none))
 
   -- or isn't as it should be
   pub bad_extension : (words : List ℕ) → 0 < n → c n ≡ Some words → IsBadExtension size words → IsBadVersion size c 1 at n
   bad_extension words some is (IsBadExtension.malformed wrong) =
-      IsBadVersion.malformed_extension (with_length prime v.words) r.runs r.first r.extensions n r.read walked some
+      IsBadVersion.malformed_extension (with_length prime v.words) r.runs r.first r.extensions n r.read walked (r.next_inside some)
       (λ others after has some' few are. wrong others after (record { words_are = some_same (sym is ∙ has); some = some'; few = few; are_runs = are }))
   bad_extension words some is (IsBadExtension.run_outside runs next s outside) =
       IsBadVersion.extension_run_outside (with_length prime v.words) r.runs r.first r.extensions n runs next r.read (walked_on words runs next some is s) outside

@@ -1,4 +1,4 @@
-ghost use Rattle.std.specs.Prelude.{◌≡◌, ◌-◌, ◌*◌, ◌<◌, ◌≤◌, ◌^◌, ℕ, List, Some, None, IfOk, IsErrOf, length, min, take};
+ghost use Rattle.std.specs.Prelude.{◌≡◌, ◌+◌, ◌-◌, ◌*◌, ◌<◌, ◌≤◌, ◌^◌, ℕ, List, Some, None, IfOk, IsErrOf, length, min, slice_index, take};
 ghost use Rattle.std.specs.List.{AllByRecursion};
 ghost use Rattle.blockdisk.specs.Disk.{Keeps, SameDisk, one_more};
 ghost use Rattle.meaning.specs.Costs.{blocks_of};
@@ -60,6 +60,8 @@ pub fn get_words<D: Disk>(
     requires first { 0 < block }
 
     ensures words { (D.state disk.new).honest → (body : List ℕ) → length body ≡ version.now.words → HasBody (D.state disk.old).contents version.now.blocks body → IfOk result (λ words. words.items ≡ take count (words_from body block)) }
+    // A damaged block is never answered as words.
+    ensures whole { (D.state disk.new).honest → IfOk result (λ words. (i : ℕ) → i * 128 < length words.items → (D.state disk.old).contents (slice_index version.now.blocks (block - 1 + i)) ≡ None → ⊥) }
     ensures few { IfOk result (λ words. length words.items ≡ min count (version.now.words - block_start block)) }
     ensures damaged { (D.state disk.new).honest → (k : ℕ) → IsErrOf result (BadData k) → (0 < times k version.now.blocks) × ((D.state disk.old).contents k ≡ None) }
     ensures memory { IsErrOf result NoMemory → disk.new ≡ disk.old }

@@ -6,7 +6,8 @@
 //!    that never where a version stands there as it should. What it answers is what the contents have
 //!    there. (`ok`, `bad`, `whole`, `reads`)
 //! 2. On every disk, honest or not, it returns, and the blocks that it answers lie in the free space, as
-//!    many as the length asks for. (`blocks_inside`, `ribs_inside`, `counted`, `few`)
+//!    many as the length asks for; a block that it names is the prime block or lies there too.
+//!    (`blocks_inside`, `ribs_inside`, `counted`, `few`, `named`)
 //! 3. It writes nothing, and answers `Device` exactly with one more failure of the disk. (`keeps`,
 //!    `failed`, `served`)
 //! 4. `prime_block` spells the prime block of a version, a pointer of its own to each data block.
@@ -17,7 +18,8 @@
 //!    where its data blocks lie in the free space. (`written`, `read_back`, `taken`, `own`, `apart`,
 //!    `touched`)
 //! 7. `get_words` answers the words of a body that stand there from a block on, as many as are asked for
-//!    and are there, or names a data block that is damaged. (`words`, `few`, `damaged`)
+//!    and are there, or names a data block that is damaged; such a block is never answered as words.
+//!    (`words`, `whole`, `few`, `damaged`)
 //! 8. After `put_words` the blocks hold the body with the words put, zeros before them where it ended
 //!    before; none is written that another version reaches, and the table holds one for the other.
 //!    (`body`, `length`, `counted`, `touched`, `held`)

@@ -23,6 +23,7 @@ fn read_block<D: Disk>(disk: &mut D, n: u32) -> Result<Block, RetrievalError>
     requires { n < (D.state disk.old).size }
     ensures words { (D.state disk.new).honest → IfOk result (λ block. (D.state disk.old).contents n ≡ Some block) }
     ensures bad { (D.state disk.new).honest → (k : ℕ) → IsErrOf result (BadRetrieval k) → (k ≡ n) × ((D.state disk.old).contents n ≡ None) }
+    ensures named { (k : ℕ) → IsErrOf result (BadRetrieval k) → k ≡ n }
     ensures memory { IsErrOf result NoMemory → ⊥ }
     ensures keeps { (D.state disk.new).honest → Keeps (D.state disk.old) (D.state disk.new) }
     ensures same { SameDisk (D.state disk.old) (D.state disk.new) }
@@ -133,8 +134,9 @@ fn extend_version(
 ///
 /// # Errors
 ///
-/// `BadRetrieval` with the prime block or an extension that is damaged or not as it should be; `Device`
-/// where the device failed; `NoMemory` where the lists of blocks find no room.
+/// `BadRetrieval` with the prime block or an extension that is damaged or not as it should be: a number
+/// outside the free space is never read, and the block that names it is refused; `Device` where the device
+/// failed; `NoMemory` where the lists of blocks find no room.
 pub fn read_version<D: Disk>(
     alloc: Global,
     disk: &mut D,
@@ -144,6 +146,9 @@ pub fn read_version<D: Disk>(
     requires inside { at < (D.state disk.old).size }
     ensures ok { (D.state disk.new).honest → IfOk result (λ read. IsVersionAt (D.state disk.old).size (D.state disk.old).contents at read.0 read.1) }
     ensures bad { (D.state disk.new).honest → (k : ℕ) → IsErrOf result (BadRetrieval k) → IsBadVersion (D.state disk.old).size (D.state disk.old).contents 1 at k }
+
+    // Whatever the disk answers, a block that is named is the prime block or lies in the free space.
+    ensures named { (k : ℕ) → IsErrOf result (BadRetrieval k) → (k ≡ at) ⊎ InSpace (D.state disk.old).size k }
     ensures whole { (D.state disk.new).honest → (p : PrimeRecord) (ribs blocks : List ℕ) → IsWholeVersion (D.state disk.old).size (D.state disk.old).contents at p ribs blocks → (k : ℕ) → IsErrOf result (BadRetrieval k) → ⊥ }
     ensures reads { (D.state disk.new).honest → (p : PrimeRecord) (ribs blocks : List ℕ) → IsRetrieved 1 (D.state disk.old).contents p at ribs blocks → p.place.name.ext < 2 ^ 18 → IfOk result (λ read. IsReadAs p ribs blocks read.0 read.1) }
     ensures blocks_inside { IfOk result (λ read. AllByRecursion (InSpace (D.state disk.old).size) read.1.blocks) }

@@ -328,8 +328,10 @@ fn bad_pointers(rt: HostRuntime) {
 fn bad_extensions_of_prime_blocks(rt: HostRuntime) {
     let none = [Word::ZERO; BLOCK_WORDS];
     let bad: Result<usize, RetrievalError> = Err(RetrievalError::BadRetrieval(20));
-    expect_full(&rt, rt.alloc(), 113 * 128, 14, &none, bad);
-    expect_full(&rt, rt.alloc(), 113 * 128, 1024, &none, bad);
+    // A number outside the free space: the prime block that has it is refused.
+    for outside in [2, 14, 1024, 0o40000000025] {
+        expect_full(&rt, rt.alloc(), 113 * 128, outside, &none, bad);
+    }
     let short = xrb(0, &[(1, 30)]);
     expect_full(&rt, rt.alloc(), 114 * 128, 21, &short, bad);
     expect_full(&rt, rt.alloc(), 112 * 128, 21, &short, bad);
@@ -366,7 +368,10 @@ fn bad_extensions(rt: HostRuntime) -> Result<(), Fail> {
     for (next, runs) in cases {
         expect_bad_extension(&rt, rt.alloc(), 113 * 128, &xrb(next, runs));
     }
-    expect_bad_extension(&rt, rt.alloc(), 300 * 128, &xrb(1024, &[(1, 30); 126]));
+    for outside in [2, 1024] {
+        let full = xrb(outside, &[(1, 30); 126]);
+        expect_bad_extension(&rt, rt.alloc(), 300 * 128, &full);
+    }
     let mut slack = xrb(0, &[(1, 30)]);
     slack[127] = word(1);
     expect_bad_extension(&rt, rt.alloc(), 113 * 128, &slack);

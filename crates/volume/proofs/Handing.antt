@@ -1,12 +1,12 @@
 -- Errors that are handed on.
-use Rattle.std.proofs.Common.{◌≡◌, ℕ, ◌⊎◌, Result, Ok, Err, IfErr, refl, sym, subst}
+use Rattle.std.proofs.Common.{◌≡◌, ℕ, ◌⊎◌, ⊎_elim, Result, Ok, Err, IfErr, refl, sym, subst}
 use Rattle.blockdisk.specs.Disk.{Contents}
 use Rattle.meaning.specs.Files.{Place}
-use Rattle.meaning.specs.Faults.{IsBadVersion}
+use Rattle.meaning.specs.Faults.{InSpace, IsBadVersion}
 use Rattle.volume.specs.declared.error.VolumeError.{VolumeError}
 use Rattle.volume.specs.declared.error.VolumeError.TheVariants.{NotVolume, BadHome, BadLog, BadDirectory, BadRetrieval, BlockTwice, TableWrong, Device, NoMemory, Failed, BadData}
-use Rattle.volume.specs.FileReading.{IsFileRefusal, IsOtherPlace, IsReachedTwice, IsDamagedData}
-use Rattle.volume.specs.Meets.{FileMeets}
+use Rattle.volume.specs.FileReading.{IsVersionRefusal, IsDataRefusal, IsFileRefusal, IsOtherPlace, IsReachedTwice, IsDamagedData}
+use Rattle.volume.specs.Meets.{NamesInSpace, FileMeets, IsTableRefusal}
 use Rattle.std.proofs.Common.{Bool, List}
 
 -- what an error has that is handed on
@@ -46,3 +46,62 @@ met_on P Q (Err e) on met = on e met
 
 pub handed_back : {T U E : Type 0} (outer : Result T E) (inner : Result U E) (x y e : E) → outer ≡ Err x → x ≡ y → inner ≡ Err y → inner ≡ Err e → outer ≡ Err e
 handed_back outer inner x y e is same was inner_is = cc
+
+-- The block that is named lies in the free space.
+
+pub version_named : {T : Type 0} (size prime : ℕ) (result : Result T VolumeError) → InSpace size prime → IfErr result IsVersionRefusal → ((k : ℕ) → result ≡ Err (BadRetrieval k) → (k ≡ prime) ⊎ InSpace size k)
+    → IfErr result (NamesInSpace size)
+version_named size prime result here only named = each_error (NamesInSpace size) result by_error
+  where
+    by_error : (e : VolumeError) → result ≡ Err e → NamesInSpace size e
+    by_error NotVolume is = tt
+    by_error BadHome is = tt
+    by_error BadLog is = tt
+    by_error (BadDirectory n) is = absurd (error_has IsVersionRefusal result (BadDirectory n) is only)
+    by_error (BadRetrieval n) is = ⊎_elim (λ e. subst (InSpace size) (sym e) here) (λ there. there) (named n is)
+    by_error (BlockTwice n) is = absurd (error_has IsVersionRefusal result (BlockTwice n) is only)
+    by_error (TableWrong n) is = tt
+    by_error Device is = tt
+    by_error NoMemory is = tt
+    by_error Failed is = tt
+    by_error (BadData n) is = absurd (error_has IsVersionRefusal result (BadData n) is only)
+
+pub data_named : {T : Type 0} (size : ℕ) (result : Result T VolumeError) → IfErr result IsDataRefusal → ((k : ℕ) → result ≡ Err (BadData k) → InSpace size k) → IfErr result (NamesInSpace size)
+data_named size result only named = each_error (NamesInSpace size) result by_error
+  where
+    by_error : (e : VolumeError) → result ≡ Err e → NamesInSpace size e
+    by_error NotVolume is = tt
+    by_error BadHome is = tt
+    by_error BadLog is = tt
+    by_error (BadDirectory n) is = absurd (error_has IsDataRefusal result (BadDirectory n) is only)
+    by_error (BadRetrieval n) is = absurd (error_has IsDataRefusal result (BadRetrieval n) is only)
+    by_error (BlockTwice n) is = absurd (error_has IsDataRefusal result (BlockTwice n) is only)
+    by_error (TableWrong n) is = tt
+    by_error Device is = tt
+    by_error NoMemory is = tt
+    by_error Failed is = tt
+    by_error (BadData n) is = named n is
+
+pub home_named : {T : Type 0} (size : ℕ) (result : Result T VolumeError) → ((e : VolumeError) → result ≡ Err e → (e ≡ NotVolume) ⊎ (e ≡ BadHome) ⊎ (e ≡ Device)) → IfErr result (NamesInSpace size)
+home_named size result only = each_error (NamesInSpace size) result (λ e is.
+    ⊎_elim (λ same. subst (NamesInSpace size) (sym same) tt) (⊎_elim (λ same. subst (NamesInSpace size) (sym same) tt) (λ same. subst (NamesInSpace size) (sym same) tt)) (only e is))
+
+pub table_named : (size : ℕ) (error : VolumeError) → IsTableRefusal error → NamesInSpace size error
+table_named size NotVolume only = tt
+table_named size BadHome only = tt
+table_named size BadLog only = tt
+table_named size (BadDirectory n) only = absurd only
+table_named size (BadRetrieval n) only = absurd only
+table_named size (BlockTwice n) only = absurd only
+table_named size (TableWrong n) only = tt
+table_named size Device only = tt
+table_named size NoMemory only = tt
+table_named size Failed only = tt
+table_named size (BadData n) only = absurd only
+
+pub named_on : {T : Type 0} (size size' : ℕ) (result : Result T VolumeError) → size ≡ size' → IfErr result (NamesInSpace size) → IfErr result (NamesInSpace size')
+named_on size size' result same named = subst (λ (n : ℕ). IfErr result (NamesInSpace n)) same named
+
+pub met_named : {T E : Type 0} (P N Q : E → Type 0) (result : Result T E) → ((e : E) → P e → N e → Q e) → IfErr result P → IfErr result N → IfErr result Q
+met_named P N Q (Ok x) on met named = tt
+met_named P N Q (Err e) on met named = on e met named

@@ -8,33 +8,34 @@ use Rattle.meaning.specs.Home.{IsHome}
 use Rattle.meaning.specs.Directories.{Node, MasterEntry, master_words, numbers, items}
 use Rattle.meaning.specs.Stands.{place_of}
 use Rattle.meaning.specs.Walks.{Leads, IsMasterWalk, IsDirectoryNamed, IsFileNamed}
-use Rattle.meaning.specs.Faults.{IsMasterEntryOf, IsBadRetrieval, IsDirectoryRead}
+use Rattle.meaning.specs.Faults.{InSpace, IsMasterEntryOf, IsBadRetrieval, IsDirectoryRead}
 use Rattle.alloctab.specs.Lists.{digit_at}
 use Rattle.directory.specs.Loading.{IsBadChain, IsMetTwice}
 use Rattle.volume.specs.declared.error.VolumeError.{VolumeError}
 use Rattle.volume.specs.declared.error.VolumeError.TheVariants.{NotVolume, BadHome, BadLog, BadDirectory, BadRetrieval, BlockTwice, TableWrong, Device, NoMemory, Failed, BadData}
 use Rattle.volume.specs.Homes.{home_of_master}
 use Rattle.volume.specs.FileReading.{IsOtherPlace}
-use Rattle.volume.specs.Meets.{DirectoriesMeet, SettledRefuses, IsBadFileOf, IsInChain}
+use Rattle.volume.specs.Meets.{NamesInSpace, DirectoriesMeet, SettledRefuses, IsBadFileOf, IsInChain}
 
 -- A block of the master directory's chain is not as it should be.
 pub master_met : (size : ℕ) (contents : Contents) (first n : ℕ) → IsHome size contents (home_of_master first) → IsBadChain nat_cmp master_words (IsMasterEntryOf 1) (λ e. e.1.1) size contents first n
     → SettledRefuses size contents (BadDirectory n)
 master_met size contents first n home met =
-    inl (record { layout = 1; before = met.before; walk = record { master = first; home = home; walk = met.walk }; somewhere = met.somewhere; bad = met.bad })
+    (met.inside, inl (record { layout = 1; before = met.before; walk = record { master = first; home = home; walk = met.walk }; inside = met.inside; bad = met.bad }))
 
 -- A block of it was reached before.
-pub master_twice : (size : ℕ) (contents : Contents) (reached : List Bool) (first n : ℕ) → IsHome size contents (home_of_master first) → ((k : ℕ) → digit_at reached k ≡ 0) → IsMetTwice master_words contents reached first n
+pub master_twice : (size : ℕ) (contents : Contents) (reached : List Bool) (first n : ℕ) → IsHome size contents (home_of_master first) → ((k : ℕ) → digit_at reached k ≡ 0) → InSpace size n → IsMetTwice master_words contents reached first n
     → SettledRefuses size contents (BlockTwice n)
-master_twice size contents reached first n home fresh met = record {
+master_twice size contents reached first n home fresh inside met = (inside, record {
   m = record { nodes = met.before; last = n; directories = [] };
   read = record { layout = 1; walk = record { master = first; home = home; walk = met.walk }; once = tt; directories = tt };
   twice = let t = met.twice in let z = fresh n in omega arith;
-}
+})
 
 -- The master directory was read, and one that it names is at fault.
 pub directories_met : (size : ℕ) (contents : Contents) (first : ℕ) (nodes : List (Node MasterEntry)) (entries : List MasterEntry) (marks : ℕ → ℕ) (error : VolumeError) → IsHome size contents (home_of_master first)
-    → Leads master_words contents first nodes 0 → items nodes ≡ entries → ((n : ℕ) → marks n ≡ times n (numbers nodes)) → DirectoriesMeet size contents marks entries error → SettledRefuses size contents error
+    → Leads master_words contents first nodes 0 → items nodes ≡ entries → ((n : ℕ) → marks n ≡ times n (numbers nodes)) → NamesInSpace size error → DirectoriesMeet size contents marks entries error
+    → SettledRefuses size contents error
 directories_met size contents first nodes entries marks error home walk all marked = by_error error
   where
     master_walk : IsMasterWalk size contents 1 nodes 0
@@ -53,28 +54,28 @@ directories_met size contents first nodes entries marks error home walk all mark
         (λ v. IsBadRetrieval.of_version 1 place bad.prime there v)
         (λ other. IsBadRetrieval.of_another_place 1 place (subst (λ (p : ℕ). IsFileNamed size contents 1 place p) (sym other.0) there) (subst (λ (p : ℕ). IsOtherPlace contents place p) (sym other.0) other.1)) bad.bad
 
-    by_error : (er : VolumeError) → DirectoriesMeet size contents marks entries er → SettledRefuses size contents er
-    by_error NotVolume met = absurd met
-    by_error BadHome met = absurd met
-    by_error BadLog met = met
-    by_error (BadDirectory n) met =
+    by_error : (er : VolumeError) → NamesInSpace size er → DirectoriesMeet size contents marks entries er → SettledRefuses size contents er
+    by_error NotVolume inside met = absurd met
+    by_error BadHome inside met = absurd met
+    by_error BadLog inside met = met
+    by_error (BadDirectory n) inside met =
         let bad = met.fault in
-        inr (record { layout = 1; ppn = met.ppn; before = bad.before; walk = record { word = met.word; first = met.first; named = named met.ppn met.word met.first met.entry; walk = bad.walk }; somewhere = bad.somewhere; bad = bad.bad })
-    by_error (BadRetrieval n) met = retrieval met.ppn met.word met.first n met.entry met.fault
-    by_error (BlockTwice n) met = record {
+        (inside, inr (record { layout = 1; ppn = met.ppn; before = bad.before; walk = record { word = met.word; first = met.first; named = named met.ppn met.word met.first met.entry; walk = bad.walk }; inside = bad.inside; bad = bad.bad }))
+    by_error (BadRetrieval n) inside met = (inside, retrieval met.ppn met.word met.first n met.entry met.fault)
+    by_error (BlockTwice n) inside met = (inside, record {
       m = record { nodes = nodes; last = 0; directories = met.directories };
       read = record { layout = 1; walk = master_walk; once = met.once; directories = subst (λ (es : List MasterEntry). AllByRecursion (IsDirectoryRead 1 contents es) met.directories) (sym all) met.read };
       twice = let t = met.twice in let m = marked n in omega arith;
-    }
-    by_error (TableWrong n) met = absurd met
-    by_error Device met = tt
-    by_error NoMemory met = tt
-    by_error Failed met = met
-    by_error (BadData n) met =
+    })
+    by_error (TableWrong n) inside met = absurd met
+    by_error Device inside met = tt
+    by_error NoMemory inside met = tt
+    by_error Failed inside met = met
+    by_error (BadData n) inside met =
         let in_chain = met.fault in
         let data_of = in_chain.fault in
         let bad = data_of.bad in
-        record {
+        (inside, record {
           layout = 1;
           place = place_of met.ppn data_of.name;
           p = bad.p;
@@ -86,4 +87,4 @@ directories_met size contents first nodes entries marks error home walk all mark
           retrieved = bad.retrieved;
           inside = bad.inside;
           damaged = bad.damaged;
-        }
+        })

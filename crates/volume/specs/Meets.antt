@@ -11,12 +11,21 @@ use Rattle.meaning.specs.Files.{Place, name_cmp}
 use Rattle.meaning.specs.Directories.{Node, items, MasterEntry, FileEntry, file_words, IsFileEntry}
 use Rattle.meaning.specs.Stands.{place_of}
 use Rattle.meaning.specs.Walks.{Leads}
-use Rattle.meaning.specs.Faults.{IsBadVersion, ReadFile, ReadDirectory, times_in_file, times_in_directory, IsFileRead, IsDirectoryRead, IsSettledFault, HasFault}
+use Rattle.meaning.specs.Faults.{InSpace, IsBadVersion, ReadFile, ReadDirectory, times_in_file, times_in_directory, IsFileRead, IsDirectoryRead, IsSettledFault, HasFault}
 use Rattle.meaning.specs.Faults as faults
 use Rattle.directory.specs.Loading.{IsBadChain}
 use Rattle.volume.specs.FileReading.{IsOtherPlace, IsReachedTwice, IsDamagedData}
 use Rattle.volume.specs.declared.error.VolumeError.{VolumeError}
 use Rattle.volume.specs.declared.error.VolumeError.TheVariants.{NotVolume, BadHome, BadLog, BadDirectory, BadRetrieval, BlockTwice, TableWrong, Device, NoMemory, Failed, BadData}
+
+-- A block that a refusal names lies in the free space; that of TableWrong is one of the table. It holds on every
+-- disk, since numbers are checked before a block is read.
+abbrev pub NamesInSpace : ℕ → VolumeError → Type 0
+NamesInSpace size (BadDirectory n) = InSpace size n
+NamesInSpace size (BadRetrieval n) = InSpace size n
+NamesInSpace size (BlockTwice n) = InSpace size n
+NamesInSpace size (BadData n) = InSpace size n
+NamesInSpace size error = Unit {0}
 
 -- One file, given by its place and its prime block.
 

@@ -11,6 +11,7 @@ ghost use Rattle.alloctab.specs.Lists.{digit_at};
 ghost use Rattle.retrieval.specs.Reading.{IsVersionAt};
 ghost use Rattle.retrieval.specs.Writing.{rib_count};
 ghost use Rattle.volume.specs.FileReading.{IsWholeBlock, IsFileFound, IsOtherPlace, IsReachedTwice, IsDamagedData, IsVersionRefusal, IsDataRefusal, IsFileRefusal};
+ghost use Rattle.volume.specs.Meets.{NamesInSpace};
 ghost use Rattle.volume.specs.declared.error.VolumeError.TheVariants.{BadRetrieval, BlockTwice, Device, NoMemory, BadData};
 
 use crate::VolumeError;
@@ -50,6 +51,7 @@ fn read_named<D: Disk>(
     ensures few_ribs { IfOk result (λ v. length v.version.ribs ≤ rib_count (length v.version.blocks)) }
     ensures bad_version { (D.state disk.new).honest → (k : ℕ) → IsErrOf result (BadRetrieval k) → IsBadVersion (D.state disk.old).size (D.state disk.old).contents 1 prime k ⊎ ((k ≡ prime) × IsOtherPlace (D.state disk.old).contents (place_of ppn name) prime) }
     ensures only { IfErr result IsVersionRefusal }
+    ensures named { (k : ℕ) → IsErrOf result (BadRetrieval k) → (k ≡ prime) ⊎ InSpace (D.state disk.old).size k }
     ensures keeps { (D.state disk.new).honest → Keeps (D.state disk.old) (D.state disk.new) }
     ensures same { SameDisk (D.state disk.old) (D.state disk.new) }
     ensures failed { IsErrOf result Device → (D.state disk.new).failures ≡ one_more (D.state disk.old).failures }
@@ -76,6 +78,7 @@ fn read_data<D: Disk>(disk: &mut D, blocks: &[u32]) -> Result<(), VolumeError>
     ensures ok { (D.state disk.new).honest → OnOk result (AllByRecursion (IsWholeBlock (D.state disk.old).contents) blocks.now) }
     ensures damaged { (D.state disk.new).honest → (k : ℕ) → IsErrOf result (BadData k) → (0 < times k blocks.now) × ((D.state disk.old).contents k ≡ None) }
     ensures only { IfErr result IsDataRefusal }
+    ensures named { (k : ℕ) → IsErrOf result (BadData k) → InSpace (D.state disk.old).size k }
     ensures keeps { (D.state disk.new).honest → Keeps (D.state disk.old) (D.state disk.new) }
     ensures same { SameDisk (D.state disk.old) (D.state disk.new) }
     ensures failed { IsErrOf result Device → (D.state disk.new).failures ≡ one_more (D.state disk.old).failures }
@@ -126,6 +129,7 @@ pub fn read_file<D: Disk>(
     ensures twice { (D.state disk.new).honest → (k : ℕ) → IsErrOf result (BlockTwice k) → IsReachedTwice (D.state disk.old).contents (place_of ppn name) prime reached.old k }
     ensures bad_data { (D.state disk.new).honest → (k : ℕ) → IsErrOf result (BadData k) → IsDamagedData (D.state disk.old).contents (place_of ppn name) prime k }
     ensures only { IfErr result IsFileRefusal }
+    ensures named { IfErr result (NamesInSpace (D.state disk.old).size) }
     ensures keeps { (D.state disk.new).honest → Keeps (D.state disk.old) (D.state disk.new) }
     ensures same { SameDisk (D.state disk.old) (D.state disk.new) }
     ensures failed { IsErrOf result Device → (D.state disk.new).failures ≡ one_more (D.state disk.old).failures }

@@ -9,7 +9,8 @@
 //!    contents have the map that is kept in core, the files are those that the disk stood for before, the gate
 //!    is closed and no block is open. (`sound`, `recovered`, `stood`, `files`, `settled`)
 //! 3. Each refusal of `open` names a fault that stands in the disk as it is handed back; but for a fault of
-//!    the device that disk was recovered, or nothing was written. (`refused`, `kept`)
+//!    the device that disk was recovered, or nothing was written. Whatever the disk answers, a block that is
+//!    named lies in the free space or is one of the table. (`refused`, `kept`, `named`)
 //! 4. A crash at any moment of `open` leaves what stands for whatever something stood for that a crash could
 //!    leave before it, and from the end of its first sync on for what the contents stood for; that sync is the
 //!    first thing that is done. (`crash`, `synced`)
@@ -31,7 +32,9 @@
 //!    moment of it stands for the files from before, or for these with the version. At Ok it is the latter. All
 //!    versions that readers hold stay, and but for `Device` their blocks do. (`crash`, `done`, `published`, `held`,
 //!    `readers`, `writers`)
-//! 10. `Device` comes exactly with one more failure of the disk, on every disk. (`failed`, `served`)
+//! 10. On a volume that failed before, `put_words`, `get_words` and `publish` answer `Failed`, and neither disk nor
+//!    core changes. `get_words` never answers a damaged block as words. (`failed`, `broken`, `whole`)
+//! 11. `Device` comes exactly with one more failure of the disk, on every disk. (`failed`, `served`)
 //!
 //! Between two calls the volume knows the map of its disk: the chains of its directories with their entries
 //! in the order of the disk, for each entry where its version lies, and the allocation table with what is

@@ -15,6 +15,7 @@ pub fn mark_all(reached: &mut Reached, blocks: &[u32]) -> Result<(), u32>
     requires { AllByRecursion (λ n. n < length reached.old) blocks.now }
     ensures ok { OnOk result ((n : ℕ) → digit_at reached.new n ≡ digit_at reached.old n + times n blocks.now) }
     ensures twice { (n : ℕ) → IsErrOf result n → 2 ≤ digit_at reached.old n + times n blocks.now }
+    ensures among { (n : ℕ) → IsErrOf result n → 0 < times n blocks.now }
     ensures length { length reached.new ≡ length reached.old }
 {
     for &block in blocks {
@@ -36,6 +37,7 @@ pub fn mark_version(reached: &mut Reached, prime: u32, version: &Version) -> Res
     requires blocks { AllByRecursion (λ n. n < length reached.old) version.now.blocks }
     ensures ok { OnOk result ((n : ℕ) → digit_at reached.new n ≡ digit_at reached.old n + times n (prime ∷ (version.now.ribs ++ version.now.blocks))) }
     ensures twice { (n : ℕ) → IsErrOf result n → 2 ≤ digit_at reached.old n + times n (prime ∷ (version.now.ribs ++ version.now.blocks)) }
+    ensures among { (n : ℕ) → IsErrOf result n → 0 < times n (prime ∷ (version.now.ribs ++ version.now.blocks)) }
     ensures length { length reached.new ≡ length reached.old }
 {
     if !reached.mark(prime) {

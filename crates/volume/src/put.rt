@@ -230,6 +230,7 @@ impl<D: Disk> Volume<D> {
 
         // Which error comes when, and what it leaves.
         ensures failed { self.old.failed ≡ true → IsErrOf result Failed }
+        ensures broken { self.old.failed ≡ true → (self.new.disk ≡ self.old.disk) × (core_of self.new.map ≡ core_of self.old.map) }
         ensures given_up { IsErrOf result Failed → (self.old.failed ≡ true) ⊎ ((D.state self.new.disk).honest → ⊥) }
         ensures room { self.old.failed ≡ false → (p : PendingVersion) → pending_at (core_of self.old.map).pending pending.key ≡ Some p
             → (IsErrOf result (Refused NoRoom) ↔ ((0 < length words.now) × ((most_blocks * 128 < length_after p.version.words block (length words.now))

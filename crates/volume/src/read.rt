@@ -15,7 +15,7 @@ ghost use Rattle.directory.specs.Chains.{nodes_of, IsChain, IsOn, viewed};
 ghost use Rattle.volume.specs.Cores.{file_view, master_view, known_version, known_directory};
 ghost use Rattle.volume.specs.Known.{blocks_reached, reaches_in_entries, reaches_in_known, IsWholeVersion, IsWholeDirectory};
 ghost use Rattle.volume.specs.Found.{IsOnlySpace, IsAdded, IsMarkedFile, AreFilesRead, IsDirectoryFound, AreDirectoriesRead};
-ghost use Rattle.volume.specs.Meets.{FileMeets, FilesMeet, DirectoryMeets, DirectoriesMeet};
+ghost use Rattle.volume.specs.Meets.{NamesInSpace, FileMeets, FilesMeet, DirectoryMeets, DirectoriesMeet};
 ghost use Rattle.volume.specs.declared.error.VolumeError.TheVariants.{Device};
 
 use crate::VolumeError;
@@ -45,6 +45,7 @@ fn load_files<D: Disk>(
     ensures targets { IfOk result (λ chain. AllByRecursion (λ e. InSpace (D.state disk.old).size e.1) (map file_view chain.entries)) }
     ensures marked { IfOk result (λ chain. (n : ℕ) → digit_at reached.new n ≡ digit_at reached.old n + times n chain.blocks) }
     ensures met { (D.state disk.new).honest → (ppn : ℕ) → IfErr result (DirectoryMeets (D.state disk.old).size (D.state disk.old).contents (digit_at reached.old) ppn first) }
+    ensures named { IfErr result (NamesInSpace (D.state disk.old).size) }
     ensures length { length reached.new ≡ length reached.old }
     ensures keeps { (D.state disk.new).honest → Keeps (D.state disk.old) (D.state disk.new) }
     ensures same { SameDisk (D.state disk.old) (D.state disk.new) }
@@ -75,6 +76,7 @@ fn add_file<D: Disk>(
     ensures read { (D.state disk.new).honest → OnOk result (IsAdded known_version versions.old.items versions.new.items (IsMarkedFile (D.state disk.old).contents ppn (file_view entry.now) (digit_at reached.old) (digit_at reached.new))) }
     ensures marked { OnOk result (IsAdded known_version versions.old.items versions.new.items (λ v. (n : ℕ) → digit_at reached.new n ≡ digit_at reached.old n + times n (blocks_reached entry.now.prime v.version))) }
     ensures met { (D.state disk.new).honest → IfErr result (FileMeets (D.state disk.old).size (D.state disk.old).contents reached.old (place_of ppn entry.now.name) entry.now.prime) }
+    ensures named { IfErr result (NamesInSpace (D.state disk.old).size) }
     ensures whole { OnOk result (IsAdded known_version versions.old.items versions.new.items IsWholeVersion) }
     ensures aligned { OnOk result (length versions.new.items ≡ length versions.old.items + 1) }
     ensures space { IsOnlySpace (D.state disk.old).size reached.old → OnOk result (IsOnlySpace (D.state disk.old).size reached.new) }
@@ -106,6 +108,7 @@ fn read_files<D: Disk>(
     ensures read { (D.state disk.new).honest → IfOk result (λ versions. AreFilesRead (D.state disk.old).contents ppn (map file_view entries.now) (map known_version versions.items) (digit_at reached.old) (digit_at reached.new)) }
     ensures marked { IfOk result (λ versions. (n : ℕ) → digit_at reached.new n ≡ digit_at reached.old n + reaches_in_entries n (map file_view entries.now) (map known_version versions.items)) }
     ensures met { (D.state disk.new).honest → IfErr result (FilesMeet (D.state disk.old).size (D.state disk.old).contents (digit_at reached.old) ppn (map file_view entries.now)) }
+    ensures named { IfErr result (NamesInSpace (D.state disk.old).size) }
     ensures whole { IfOk result (λ versions. AllByRecursion IsWholeVersion (map known_version versions.items)) }
     ensures aligned { IfOk result (λ versions. length versions.items ≡ length entries.now) }
     ensures space { IsOnlySpace (D.state disk.old).size reached.old → IfOk result (λ versions. IsOnlySpace (D.state disk.old).size reached.new) }
@@ -135,6 +138,7 @@ fn read_directory<D: Disk>(
     ensures read { (D.state disk.new).honest → IfOk result (λ directory. IsDirectoryFound (D.state disk.old).contents (master_view entry.now) (known_directory directory) (digit_at reached.old) (digit_at reached.new)) }
     ensures marked { IfOk result (λ directory. (n : ℕ) → digit_at reached.new n ≡ digit_at reached.old n + reaches_in_known n (known_directory directory)) }
     ensures met { (D.state disk.new).honest → IfErr result (DirectoryMeets (D.state disk.old).size (D.state disk.old).contents (digit_at reached.old) entry.now.ppn entry.now.first) }
+    ensures named { IfErr result (NamesInSpace (D.state disk.old).size) }
     ensures whole { IfOk result (λ directory. IsWholeDirectory (D.state disk.old).size (known_directory directory)) }
     ensures space { IsOnlySpace (D.state disk.old).size reached.old → IfOk result (λ directory. IsOnlySpace (D.state disk.old).size reached.new) }
     ensures length { length reached.new ≡ length reached.old }
@@ -162,6 +166,7 @@ fn add_directory<D: Disk>(
     ensures read { (D.state disk.new).honest → OnOk result (IsAdded known_directory directories.old.items directories.new.items (λ d. IsDirectoryFound (D.state disk.old).contents (master_view entry.now) d (digit_at reached.old) (digit_at reached.new))) }
     ensures marked { OnOk result (IsAdded known_directory directories.old.items directories.new.items (λ d. (n : ℕ) → digit_at reached.new n ≡ digit_at reached.old n + reaches_in_known n d)) }
     ensures met { (D.state disk.new).honest → IfErr result (DirectoryMeets (D.state disk.old).size (D.state disk.old).contents (digit_at reached.old) entry.now.ppn entry.now.first) }
+    ensures named { IfErr result (NamesInSpace (D.state disk.old).size) }
     ensures whole { OnOk result (IsAdded known_directory directories.old.items directories.new.items (IsWholeDirectory (D.state disk.old).size)) }
     ensures aligned { OnOk result (length directories.new.items ≡ length directories.old.items + 1) }
     ensures space { IsOnlySpace (D.state disk.old).size reached.old → OnOk result (IsOnlySpace (D.state disk.old).size reached.new) }
@@ -192,6 +197,7 @@ pub fn read_directories<D: Disk>(
     ensures read { (D.state disk.new).honest → IfOk result (λ directories. AreDirectoriesRead (D.state disk.old).contents (map master_view entries.now) (map known_directory directories.items) (digit_at reached.old) (digit_at reached.new)) }
     ensures marked { IfOk result (λ directories. (n : ℕ) → digit_at reached.new n ≡ digit_at reached.old n + total (reaches_in_known n) (map known_directory directories.items)) }
     ensures met { (D.state disk.new).honest → IfErr result (DirectoriesMeet (D.state disk.old).size (D.state disk.old).contents (digit_at reached.old) (map master_view entries.now)) }
+    ensures named { IfErr result (NamesInSpace (D.state disk.old).size) }
     ensures whole { IfOk result (λ directories. AllByRecursion (IsWholeDirectory (D.state disk.old).size) (map known_directory directories.items)) }
     ensures aligned { IfOk result (λ directories. length directories.items ≡ length entries.now) }
     ensures space { IsOnlySpace (D.state disk.old).size reached.old → IfOk result (λ directories. IsOnlySpace (D.state disk.old).size reached.new) }

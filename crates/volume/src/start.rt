@@ -13,7 +13,7 @@ ghost use Rattle.volume.specs.Homes.{IsBare, IsInitBlock};
 ghost use Rattle.volume.specs.Known.{IsWholeMap, IsBooked};
 ghost use Rattle.volume.specs.Live.{IsFirstRead};
 ghost use Rattle.volume.specs.LiveCores.{core_of};
-ghost use Rattle.volume.specs.Meets.{Refuses};
+ghost use Rattle.volume.specs.Meets.{NamesInSpace, Refuses};
 ghost use Rattle.volume.specs.Rest.{IsAtRest, IsSound, RestsAt, StandsLike, StandsLikeBefore};
 ghost use Rattle.volume.specs.declared.error.VolumeError.TheVariants.{NotVolume, Device};
 
@@ -56,6 +56,7 @@ pub fn read_volume<D: Disk>(alloc: Global, disk: &mut D) -> Result<DiskMap, Volu
         → Still (D.state disk.old) (D.state disk.new) ⊎ IsRecovered (D.state disk.old).size (D.state disk.old).contents (D.state disk.new).contents }
 
     // On every disk.
+    ensures named { IfErr result (NamesInSpace (D.state disk.old).size) }
     ensures same { SameDisk (D.state disk.old) (D.state disk.new) }
     ensures failed { IsErrOf result Device → (D.state disk.new).failures ≡ one_more (D.state disk.old).failures }
     ensures served { (IsErrOf result Device → ⊥) → (D.state disk.new).failures ≡ (D.state disk.old).failures }
@@ -114,6 +115,8 @@ impl<D: Disk> Volume<D> {
         ensures synced { IfOk result (λ volume. (D.state volume.disk).honest → SyncsFirst D.state disk volume.disk ⊥ (StandsLike (D.state disk))) }
 
         ensures refused { IfErr result (λ refused. (D.state refused.1).honest → Refuses (D.state disk).size (D.state refused.1).contents refused.0) }
+        // On every disk a block that it names lies in the free space, or is one of the table.
+        ensures named { IfErr result (λ refused. NamesInSpace (D.state disk).size refused.0) }
         ensures kept { IfErr result (λ refused. (D.state refused.1).honest → (refused.0 ≡ Device → ⊥)
             → Still (D.state disk) (D.state refused.1) ⊎ IsRecovered (D.state disk).size (D.state disk).contents (D.state refused.1).contents) }
         ensures crash_refused { IfErr result (λ refused. (D.state refused.1).honest → LeavesOnly (D.state disk) (D.state refused.1) (StandsLikeBefore (D.state disk))) }

@@ -1,4 +1,4 @@
-ghost use Rattle.std.specs.Prelude.{◌≡◌, ◌↔◌, ◌⊎◌, ◌-◌, ◌<◌, ℕ, List, true, false, Some, IfOk, IsErrOf, length, min, take};
+ghost use Rattle.std.specs.Prelude.{◌≡◌, ◌↔◌, ◌⊎◌, ◌+◌, ◌-◌, ◌*◌, ◌<◌, ℕ, List, true, false, Some, None, IfOk, IsErrOf, length, min, slice_index, take};
 ghost use Rattle.std.specs.List.{AllByRecursion};
 ghost use Rattle.blockdisk.specs.Disk.{Keeps, SameDisk, one_more};
 ghost use Rattle.changeset.specs.Reads.{OnlyReads};
@@ -64,6 +64,9 @@ impl<D: Disk> Volume<D> {
         ensures sound { IsSound (D.state self.new.disk) (core_of self.new.map) self.new.failed }
         ensures words { (D.state self.new.disk).honest → (v : VersionState) → version_under (core_of self.old.map) handle ≡ Some v → (body : List ℕ) → length body ≡ v.words
             → HasBody (D.state self.old.disk).contents v.blocks body → IfOk result (λ words. words.items ≡ take count (words_from body block)) }
+        // A damaged block is never answered as words.
+        ensures whole { (D.state self.new.disk).honest → (v : VersionState) → version_under (core_of self.old.map) handle ≡ Some v
+            → IfOk result (λ words. (i : ℕ) → i * 128 < length words.items → (D.state self.old.disk).contents (slice_index v.blocks (block - 1 + i)) ≡ None → ⊥) }
         ensures few { (v : VersionState) → version_under (core_of self.old.map) handle ≡ Some v → IfOk result (λ words. length words.items ≡ min count (v.words - block_start block)) }
 
         // Nothing is written, and core stays.
@@ -77,6 +80,7 @@ impl<D: Disk> Volume<D> {
         // Where there are no words the disk isn't asked.
         ensures none { IfOk result (λ words. length words.items ≡ 0 → self.new.disk ≡ self.old.disk) }
         ensures failed { self.old.failed ≡ true → IsErrOf result Failed }
+        ensures broken { self.old.failed ≡ true → (self.new.disk ≡ self.old.disk) × (core_of self.new.map ≡ core_of self.old.map) }
         ensures given_up { IsErrOf result Failed → (self.old.failed ≡ true) ⊎ ((D.state self.new.disk).honest → ⊥) }
         ensures gone { IsErrOf result Failed → self.new.failed ≡ true }
         ensures device { IsErrOf result Device → self.new.failed ≡ true }

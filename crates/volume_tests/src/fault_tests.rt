@@ -115,6 +115,25 @@ fn a_log_of_zeros(rt: HostRuntime) -> Result<(), Fail> {
     Ok(())
 }
 
+/// A number outside the free space is never read: the block that has it is the one that is refused, be it a fixed
+/// block, past the end, or as large as no number of a block is.
+#[test]
+fn numbers_outside_the_free_space(rt: HostRuntime) -> Result<(), Fail> {
+    for outside in [1, 2, 3, 14, 64, 0o40000000022, 0o777777777777] {
+        for (n, place) in [(15, 0), (15, 4), (16, 0), (16, 4)] {
+            let disk = with_word(&rt, rt.alloc(), n, place, outside)?;
+            expect_booked(&rt, rt.alloc(), disk, Err(VolumeError::BadDirectory(n)));
+        }
+        let disk = with_word(&rt, rt.alloc(), 17, 7, outside)?;
+        expect_booked(&rt, rt.alloc(), disk, Err(VolumeError::BadRetrieval(17)));
+    }
+    for run in [0o000001000002, 0o000001000016, 0o000001000100, 0o000001777777] {
+        let disk = with_word(&rt, rt.alloc(), 17, 16, run)?;
+        expect_booked(&rt, rt.alloc(), disk, Err(VolumeError::BadRetrieval(17)));
+    }
+    Ok(())
+}
+
 #[test]
 fn bad_directories(rt: HostRuntime) -> Result<(), Fail> {
     for (n, place, number) in [

@@ -1,4 +1,4 @@
-use Rattle.std.proofs.Common.{◌≡◌, ⊎_elim, ℕ, ◌<◌, ◌≤◌, length, Some, sym, ap, subst, ◌∙◌, arith}
+use Rattle.std.proofs.Common.{◌≡◌, inl, inr, ⊎_elim, ℕ, ◌<◌, ◌≤◌, length, Some, sym, ap, subst, ◌∙◌, arith}
 use Rattle.std.proofs.lemmas.Result.{err_from_is_err_and}
 use Rattle.std.specs.List.{AllByRecursion}
 use Rattle.meaning.specs.Faults.{InSpace}
@@ -145,6 +145,41 @@ returns-clause-ribs_inside g c = subst (λ (n : ℕ). AllByRecursion (InSpace n)
 
 pub returns-clause-counted : goal.returns-clause-counted
 returns-clause-counted g c = sym (ap length c.blocks-2.ensures) ∙ c.if-blocks-blocks_of.false ∙ c.blocks_of.ensures.value ∙ ap blocks_of c.length.ensures
+
+-- The block that is named.
+
+pub returns-in_err-block-clause-named : goal.returns-in_err-block-clause-named
+returns-in_err-block-clause-named g c k is =
+    let p = err_from_is_err_and c.from_residual.result c.from_residual.ensures.1 in
+    inl (c.read_block.ensures.named k (handed_on c.from_residual.result c.read_block.result p.0 c.in_err-block.field-0.0 (BadRetrieval k) is p.1 p.2 c.in_err-block.was))
+
+pub returns-in_err-prime-clause-named : goal.returns-in_err-prime-clause-named
+returns-in_err-prime-clause-named g c k is =
+    let p = err_from_is_err_and c.from_residual-in_err-prime.result c.from_residual-in_err-prime.ensures.1 in
+    inl (c.start_version.ensures.bad k (handed_on c.from_residual-in_err-prime.result c.start_version.result p.0 c.in_err-prime.field-0.0 (BadRetrieval k) is p.1 p.2 c.in_err-prime.was)).0
+
+pub returns-in_err-block-2-clause-named : goal.returns-in_err-block-2-clause-named
+returns-in_err-block-2-clause-named g c k is =
+    let size = (g.D.Disk.state c.args.disk.now).size in
+    let next = c.loop-next.next in
+    let some : 0 < next = let e = c.loop-next-test.true in omega arith in
+    let here : InSpace size next = subst (λ (n : ℕ). InSpace n next) c.blocks-size.ensures (c.loop-next.invariant.next_inside some) in
+    let p = err_from_is_err_and c.from_residual-in_err-block-2.result c.from_residual-in_err-block-2.ensures.1 in
+    inr (subst (InSpace size)
+    (sym (c.read_block-in-loop-next.ensures.named k (handed_on c.from_residual-in_err-block-2.result c.read_block-in-loop-next.result p.0 c.in_err-block-2.field-0.0 (BadRetrieval k) is p.1 p.2 c.in_err-block-2.was))) here)
+
+pub returns-in_err-next-clause-named : goal.returns-in_err-next-clause-named
+returns-in_err-next-clause-named g c k is =
+    let size = (g.D.Disk.state c.args.disk.now).size in
+    let next = c.loop-next.next in
+    let some : 0 < next = let e = c.loop-next-test.true in omega arith in
+    let here : InSpace size next = subst (λ (n : ℕ). InSpace n next) c.blocks-size.ensures (c.loop-next.invariant.next_inside some) in
+    let p = err_from_is_err_and c.from_residual-in_err-next.result c.from_residual-in_err-next.ensures.1 in
+    ⊎_elim (λ x. inr (subst (InSpace size) (sym x.0) here)) (λ x. inl x.0)
+    (c.extend_version.ensures.bad k (handed_on c.from_residual-in_err-next.result c.extend_version.result p.0 c.in_err-next.field-0.0 (BadRetrieval k) is p.1 p.2 c.in_err-next.was))
+
+pub returns-then-blocks-blocks_of-clause-named : goal.returns-then-blocks-blocks_of-clause-named
+returns-then-blocks-blocks_of-clause-named g c k is = inl (cc)
 
 pub returns-in_err-block-clause-whole : goal.returns-in_err-block-clause-whole
 returns-in_err-block-clause-whole g c h p ribs blocks w k is =

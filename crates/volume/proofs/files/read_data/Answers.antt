@@ -1,9 +1,10 @@
 use Rattle.std.proofs.Common.{◌≡◌, ◌<◌, ℕ, None, slice_index_or, subst, sym, ◌∙◌}
 use Rattle.blockdisk.specs.Laws.{same_disk_on}
 use Rattle.meaning.specs.Maps.{times}
+use Rattle.meaning.specs.Faults.{InSpace}
 use Rattle.retrieval.proofs.Readings.{keeps_on}
 use Rattle.volume.specs.FileReading.{IsWholeBlock}
-use Rattle.volume.proofs.Marking.{all_more, times_at}
+use Rattle.volume.proofs.Marking.{all_at, all_more, times_at}
 use Rattle.volume.proofs.files.read_data.Goals as goal
 
 pub returns-in-Err-Damaged-clause-damaged : goal.returns-in-Err-Damaged-clause-damaged
@@ -34,3 +35,12 @@ loop-block-preserved g c =
         all = let inv = rw c.in-Ok.is at c.read.type_inv in assumption inv;
       });
     }
+
+pub returns-in-Err-Damaged-clause-named : goal.returns-in-Err-Damaged-clause-named
+returns-in-Err-Damaged-clause-named g c k is =
+    let size = (g.D.Disk.state c.args.disk.now).size in
+    let blocks = c.args.blocks.now in
+    let i = c.loop-block.block-index in
+    let block = slice_index_or blocks i 0 in
+    let same : block ≡ k = cc in
+    subst (InSpace size) same (all_at (InSpace size) blocks i c.requires c.loop-block-test.true)

@@ -1,4 +1,4 @@
-use Rattle.std.proofs.Common.{◌<◌, ℕ, sym, subst, ◌∙◌}
+use Rattle.std.proofs.Common.{◌<◌, ◌∷◌, ◌++◌, ℕ, sym, subst, ◌∙◌}
 use Rattle.std.specs.List.{AllByRecursion}
 use Rattle.std.proofs.lemmas.Result.{err_from_is_err_and}
 use Rattle.blockdisk.specs.Laws.{same_contents}
@@ -9,6 +9,9 @@ use Rattle.retrieval.proofs.RunLists.{handed_on}
 use Rattle.retrieval.proofs.Readings.{keeps_on}
 use Rattle.volume.specs.FileReading.{IsWholeBlock, IsVersionRefusal, IsDataRefusal, IsFileRefusal}
 use Rattle.volume.specs.declared.error.VolumeError.TheVariants.{BadRetrieval, BlockTwice, NoMemory, BadData}
+use Rattle.volume.specs.Meets.{NamesInSpace}
+use Rattle.volume.proofs.FoundDirectories.{all_behind_all, all_times_at}
+use Rattle.volume.proofs.Handing.{handed, version_named, data_named, named_on}
 use Rattle.volume.proofs.Marking.{all_weaker}
 use Rattle.volume.proofs.Finding.{refusal, refused_on, version_wider, data_wider, file_found, reached_twice, damaged_data}
 use Rattle.volume.proofs.files.read_file.Goals as goal
@@ -93,3 +96,27 @@ returns-clause-ok g c h =
 pub returns-clause-keeps : goal.returns-clause-keeps
 returns-clause-keeps g c h =
     keeps_on (g.D.Disk.state c.args.disk.now) (g.D.Disk.state c.read_named.new.disk) (g.D.Disk.state c.read_data.new.disk) (c.read_named.ensures.keeps (c.read_data.ensures.same.was_honest h)) (c.read_data.ensures.keeps h)
+
+-- The block that is named.
+
+pub returns-in_err-stored-clause-named : goal.returns-in_err-stored-clause-named
+returns-in_err-stored-clause-named g c =
+    let size = (g.D.Disk.state c.args.disk.now).size in
+    let p = err_from_is_err_and c.from_residual.result c.from_residual.ensures.1 in
+    handed (NamesInSpace size) c.from_residual.result c.read_named.result p.0 c.in_err-stored.field-0.0 p.1 p.2 c.in_err-stored.was
+    (version_named size c.args.prime c.read_named.result c.requires.inside c.read_named.ensures.only c.read_named.ensures.named)
+
+pub returns-in-Err-clause-named : goal.returns-in-Err-clause-named
+returns-in-Err-clause-named g c =
+    let size = (g.D.Disk.state c.args.disk.now).size in
+    let v = c.in_ok-stored.stored.version in
+    all_times_at (InSpace size) (c.args.prime ∷ (v.ribs ++ v.blocks)) c.in-Err.block (c.requires.inside, all_behind_all (InSpace size) v.ribs v.blocks c.in_ok-stored.ensures.ribs_inside c.in_ok-stored.ensures.blocks_inside)
+    (c.mark_version.ensures.among c.in-Err.block (cc))
+
+pub returns-in_err-read_data-clause-named : goal.returns-in_err-read_data-clause-named
+returns-in_err-read_data-clause-named g c =
+    let size = (g.D.Disk.state c.args.disk.now).size in
+    let now = (g.D.Disk.state c.read_named.new.disk).size in
+    let p = err_from_is_err_and c.from_residual-in_err-read_data.result c.from_residual-in_err-read_data.ensures.1 in
+    handed (NamesInSpace size) c.from_residual-in_err-read_data.result c.read_data.result p.0 c.in_err-read_data.field-0.0 p.1 p.2 c.in_err-read_data.was
+    (named_on now size c.read_data.result c.read_named.ensures.same.size (data_named now c.read_data.result c.read_data.ensures.only c.read_data.ensures.named))

@@ -2,7 +2,7 @@ use Rattle.std.proofs.Common.{◌<◌, ◌+◌, ◌≤◌, ℕ, slice_index_or, 
 use Rattle.std.proofs.Math.ListN.{length-set}
 use Rattle.meaning.specs.Maps.{times}
 use Rattle.alloctab.specs.Lists.{digit_at}
-use Rattle.volume.proofs.Marking.{all_at, marked_more, marked_twice}
+use Rattle.volume.proofs.Marking.{all_at, times_at, marked_more, marked_twice}
 use Rattle.volume.proofs.marks.mark_all.Goals as goal
 
 pub returns-then-not-mark-clause-twice : goal.returns-then-not-mark-clause-twice
@@ -19,3 +19,6 @@ loop-block-preserved c =
       marked = λ n. ap (λ flags. digit_at flags n) c.mark.ensures.marked
           ∙ marked_more c.args.reached.now c.loop-block.reached c.args.blocks.now c.loop-block.block-index block c.loop-block-test.true refl c.loop-block.invariant.marked (subst (λ (n : ℕ). block < n) (sym c.loop-block.invariant.long) (all_at (λ n. n < length c.args.reached.now) c.args.blocks.now c.loop-block.block-index c.requires c.loop-block-test.true)) (c.if-not-mark.ensures.first.0 refl) n;
     }
+
+pub returns-then-not-mark-clause-among : goal.returns-then-not-mark-clause-among
+returns-then-not-mark-clause-among c n is = subst (λ (m : ℕ). 0 < times m c.args.blocks.now) (cc) (times_at c.args.blocks.now c.loop-block.block-index c.loop-block-test.true)

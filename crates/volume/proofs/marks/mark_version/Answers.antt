@@ -3,6 +3,7 @@ use Rattle.std.proofs.lemmas.Result.{err_from_is_err_and}
 use Rattle.std.specs.List.{AllByRecursion}
 use Rattle.std.proofs.Math.ListN.{length-set}
 use Rattle.meaning.specs.Maps.{times}
+use Rattle.meaning.proofs.Lists.{times_here}
 use Rattle.alloctab.specs.Lists.{digit_at}
 use Rattle.retrieval.proofs.RunLists.{handed_on}
 use Rattle.volume.proofs.Marking.{digit-marked, times_parts, on_ok}
@@ -49,3 +50,23 @@ returns-clause-twice c n is =
     let second = c.in_ok-mark_all.ensures.ok n in
     let first : digit_at c.mark.new.self n ≡ digit_at old n + times n (prime ∷ []) = ap (λ flags. digit_at flags n) c.mark.ensures.marked ∙ digit-marked old prime c.requires.prime (c.if-not-mark.ensures.first.0 refl) n in
     omega (arith, times_parts n prime v.ribs v.blocks)
+
+pub returns-then-not-mark-clause-among : goal.returns-then-not-mark-clause-among
+returns-then-not-mark-clause-among c n is =
+    let v = c.args.version.now in
+    subst (λ (m : ℕ). 0 < times m (c.args.prime ∷ (v.ribs ++ v.blocks))) (cc) (times_here c.args.prime (v.ribs ++ v.blocks))
+
+pub returns-in_err-mark_all-clause-among : goal.returns-in_err-mark_all-clause-among
+returns-in_err-mark_all-clause-among c n is =
+    let v = c.args.version.now in
+    let p = err_from_is_err_and c.from_residual.result c.from_residual.ensures.1 in
+    let among = c.mark_all.ensures.among n (handed_on c.from_residual.result c.mark_all.result p.0 c.in_err-mark_all.field-0.0 n is p.1 p.2 c.in_err-mark_all.was) in
+    let ribs : times n c.ribs.result.now ≡ times n v.ribs = ap (times n) c.ribs.ensures in
+    omega (arith, times_parts n c.args.prime v.ribs v.blocks)
+
+pub returns-clause-among : goal.returns-clause-among
+returns-clause-among c n is =
+    let v = c.args.version.now in
+    let among = c.mark_all-2.ensures.among n is in
+    let blocks : times n c.blocks-2.result.now ≡ times n v.blocks = ap (times n) c.blocks-2.ensures in
+    omega (arith, times_parts n c.args.prime v.ribs v.blocks)

@@ -1,3 +1,4 @@
+use Rattle.std.proofs.Common.{inl, inr}
 use Rattle.volume.proofs.MetMaps.{master_met, master_twice}
 use Rattle.volume.proofs.open.load_master.Goals as goal
 
@@ -9,4 +10,10 @@ returns-in-Err-BadDirectory-clause-met g c h home =
 pub returns-in-Err-BlockTwice-clause-met : goal.returns-in-Err-BlockTwice-clause-met
 returns-in-Err-BlockTwice-clause-met g c h home =
     let s = g.D.Disk.state c.args.disk.now in
-    master_twice s.size s.contents c.args.reached.now c.args.first c.in-Err-BlockTwice.n home c.requires.fresh (c.load.ensures.twice h c.in-Err-BlockTwice.n (cc))
+    master_twice s.size s.contents c.args.reached.now c.args.first c.in-Err-BlockTwice.n home c.requires.fresh (c.load.ensures.named c.in-Err-BlockTwice.n (inr (cc))) (c.load.ensures.twice h c.in-Err-BlockTwice.n (cc))
+
+pub returns-in-Err-BadDirectory-clause-named : goal.returns-in-Err-BadDirectory-clause-named
+returns-in-Err-BadDirectory-clause-named g c = c.load.ensures.named c.in-Err-BadDirectory.n (inl (cc))
+
+pub returns-in-Err-BlockTwice-clause-named : goal.returns-in-Err-BlockTwice-clause-named
+returns-in-Err-BlockTwice-clause-named g c = c.load.ensures.named c.in-Err-BlockTwice.n (inr (cc))

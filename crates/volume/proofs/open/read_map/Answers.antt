@@ -11,8 +11,8 @@ use Rattle.volume.specs.Cores.{master_view, known_directory}
 use Rattle.volume.specs.Known.{cost_of_known}
 use Rattle.volume.specs.Homes.{home_of_master}
 use Rattle.volume.specs.Found.{IsOnlySpace, IsMapRead, IsRightFor, IsWrongFor}
-use Rattle.volume.specs.Meets.{SettledRefuses}
-use Rattle.volume.proofs.Handing.{handed, met_on}
+use Rattle.volume.specs.Meets.{NamesInSpace, SettledRefuses, IsTableRefusal}
+use Rattle.volume.proofs.Handing.{handed, met_on, home_named, table_named, named_on}
 use Rattle.volume.proofs.FoundMaps.{map_found, map_held, table_met}
 use Rattle.volume.proofs.Opening.{reads_on, table_refused, right_bits, read_whole, read_booked}
 use Rattle.volume.proofs.open.read_map.Goals as goal
@@ -124,3 +124,25 @@ returns-clause-whole g c =
     read_whole s.size now.size then.size (record { master = viewed master_view master; directories = map known_directory directories.items; table = c.book_map.new.table }) c.in_ok-table.table c.read_tree.new.reached size sizes
     c.in_ok-first.ensures.volume c.in_ok-master.ensures.chain c.in_ok-master.ensures.inside aligned c.in_ok-master.ensures.whole booked
     c.in_ok-table.ensures.size c.in_ok-table.ensures.unchanged c.in_ok-table.ensures.wanted c.in_ok-master.ensures.marked
+
+-- The block that is named.
+
+pub returns-in_err-first-clause-named : goal.returns-in_err-first-clause-named
+returns-in_err-first-clause-named g c =
+    let size = (g.D.Disk.state c.args.disk.now).size in
+    let p = err_from_is_err_and c.from_residual.result c.from_residual.ensures.1 in
+    handed (NamesInSpace size) c.from_residual.result c.read_home.result p.0 c.in_err-first.field-0.0 p.1 p.2 c.in_err-first.was (home_named size c.read_home.result c.read_home.ensures.only)
+
+pub returns-in_err-master-clause-named : goal.returns-in_err-master-clause-named
+returns-in_err-master-clause-named g c =
+    let size = (g.D.Disk.state c.args.disk.now).size in
+    let p = err_from_is_err_and c.from_residual-in_err-master.result c.from_residual-in_err-master.ensures.1 in
+    handed (NamesInSpace size) c.from_residual-in_err-master.result c.read_tree.result p.0 c.in_err-master.field-0.0 p.1 p.2 c.in_err-master.was
+    (named_on (g.D.Disk.state c.read_home.new.disk).size size c.read_tree.result c.read_home.ensures.same.size c.read_tree.ensures.named)
+
+pub returns-in_err-table-clause-named : goal.returns-in_err-table-clause-named
+returns-in_err-table-clause-named g c =
+    let size = (g.D.Disk.state c.args.disk.now).size in
+    let p = err_from_is_err_and c.from_residual-in_err-table.result c.from_residual-in_err-table.ensures.1 in
+    handed (NamesInSpace size) c.from_residual-in_err-table.result c.load_table.result p.0 c.in_err-table.field-0.0 p.1 p.2 c.in_err-table.was
+    (met_on IsTableRefusal (NamesInSpace size) c.load_table.result (table_named size) c.load_table.ensures.only)

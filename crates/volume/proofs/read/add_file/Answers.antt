@@ -1,7 +1,7 @@
 use Rattle.std.proofs.Common.{rules, ◌∷◌, ◌++◌}
 use Rattle.std.proofs.lemmas.Result.{err_from_is_err_and}
 use Rattle.meaning.specs.Stands.{place_of}
-use Rattle.volume.specs.Meets.{FileMeets}
+use Rattle.volume.specs.Meets.{NamesInSpace, FileMeets}
 use Rattle.meaning.specs.Faults.{InSpace}
 use Rattle.volume.proofs.FoundDirectories.{space_more, all_behind_all}
 use Rattle.volume.proofs.Handing.{handed, file_met_by}
@@ -30,3 +30,8 @@ returns-clause-space g c only =
 
 pub returns-clause-marked : goal.returns-clause-marked
 returns-clause-marked g c = record { added = c.in_ok-version.version; pushed = search rules; is = c.in_ok-version.ensures.marks }
+
+pub returns-in_err-version-clause-named : goal.returns-in_err-version-clause-named
+returns-in_err-version-clause-named g c =
+    let p = err_from_is_err_and c.from_residual.result c.from_residual.ensures.1 in
+    handed (NamesInSpace (g.D.Disk.state c.args.disk.now).size) c.from_residual.result c.read_file.result p.0 c.in_err-version.field-0.0 p.1 p.2 c.in_err-version.was c.read_file.ensures.named

@@ -1,3 +1,4 @@
+use Rattle.std.proofs.Common.{inl, inr}
 use Rattle.volume.proofs.MetDirectories.{chain_twice}
 use Rattle.volume.proofs.read.load_files.Goals as goal
 
@@ -8,3 +9,9 @@ pub returns-in-Err-BlockTwice-clause-met : goal.returns-in-Err-BlockTwice-clause
 returns-in-Err-BlockTwice-clause-met g c h ppn =
     let s = g.D.Disk.state c.args.disk.now in
     chain_twice s.size s.contents c.args.reached.now ppn c.args.first c.in-Err-BlockTwice.n (c.load.ensures.twice h c.in-Err-BlockTwice.n (cc))
+
+pub returns-in-Err-BadDirectory-clause-named : goal.returns-in-Err-BadDirectory-clause-named
+returns-in-Err-BadDirectory-clause-named g c = c.load.ensures.named c.in-Err-BadDirectory.n (inl (cc))
+
+pub returns-in-Err-BlockTwice-clause-named : goal.returns-in-Err-BlockTwice-clause-named
+returns-in-Err-BlockTwice-clause-named g c = c.load.ensures.named c.in-Err-BlockTwice.n (inr (cc))

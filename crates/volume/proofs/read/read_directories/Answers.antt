@@ -12,8 +12,8 @@ use Rattle.volume.specs.declared.error.VolumeError.TheVariants.{Device}
 use Rattle.volume.specs.Cores.{master_view, known_directory}
 use Rattle.volume.specs.Known.{KnownDirectory, reaches_in_known, IsWholeDirectory}
 use Rattle.volume.specs.Found.{IsOnlySpace, IsAdded, AreDirectoriesRead}
-use Rattle.volume.specs.Meets.{DirectoryMeets, DirectoriesMeet}
-use Rattle.volume.proofs.Handing.{handed, handed_back, met_on}
+use Rattle.volume.specs.Meets.{NamesInSpace, DirectoryMeets, DirectoriesMeet}
+use Rattle.volume.proofs.Handing.{handed, handed_back, met_on, named_on}
 use Rattle.volume.proofs.Lookups.{viewed_at, viewed_split}
 use Rattle.volume.proofs.Reaching.{total_marked}
 use Rattle.volume.proofs.FoundDirectories.{no_directories, directories_go_on, all_added}
@@ -88,3 +88,10 @@ loop-entry-init g c =
       marked = λ n. let e = ap (total (reaches_in_known n)) none in omega arith;
       read = λ h. subst (λ (ds : List KnownDirectory). AreDirectoriesRead s.contents [] ds (digit_at c.args.reached.now) (digit_at c.args.reached.now)) (sym none) (no_directories s.contents (digit_at c.args.reached.now));
     }
+
+pub returns-in_err-add_directory-clause-named : goal.returns-in_err-add_directory-clause-named
+returns-in_err-add_directory-clause-named g c =
+    let size = (g.D.Disk.state c.args.disk.now).size in
+    let p = err_from_is_err_and c.from_residual.result c.from_residual.ensures.1 in
+    handed (NamesInSpace size) c.from_residual.result c.add_directory.result p.0 c.in_err-add_directory.field-0.0 p.1 p.2 c.in_err-add_directory.was
+    (named_on (g.D.Disk.state c.loop-entry.disk).size size c.add_directory.result c.loop-entry.invariant.same.size c.add_directory.ensures.named)

@@ -11,8 +11,8 @@ use Rattle.directory.specs.Chains.{viewed}
 use Rattle.retrieval.proofs.Readings.{keeps_on}
 use Rattle.volume.specs.Cores.{file_view, known_version}
 use Rattle.volume.specs.Found.{IsOnlySpace, AreFilesRead}
-use Rattle.volume.specs.Meets.{FilesMeet, DirectoryMeets}
-use Rattle.volume.proofs.Handing.{handed, met_on}
+use Rattle.volume.specs.Meets.{NamesInSpace, FilesMeet, DirectoryMeets}
+use Rattle.volume.proofs.Handing.{handed, met_on, named_on}
 use Rattle.volume.proofs.FoundDirectories.{directory_found, space_more}
 use Rattle.volume.proofs.MetDirectories.{files_met}
 use Rattle.volume.proofs.read.read_directory.Goals as goal
@@ -83,3 +83,15 @@ returns-clause-space g c only =
     subst (λ (n : ℕ). IsOnlySpace n c.read_files.new.reached) size
     (c.in_ok-versions.ensures.space (subst (λ (n : ℕ). IsOnlySpace n c.load_files.new.reached) (sym size)
     (space_more s.size c.args.reached.now c.load_files.new.reached c.in_ok-chain.chain.blocks only c.in_ok-chain.ensures.inside c.in_ok-chain.ensures.marked)))
+
+pub returns-in_err-chain-clause-named : goal.returns-in_err-chain-clause-named
+returns-in_err-chain-clause-named g c =
+    let p = err_from_is_err_and c.from_residual.result c.from_residual.ensures.1 in
+    handed (NamesInSpace (g.D.Disk.state c.args.disk.now).size) c.from_residual.result c.load_files.result p.0 c.in_err-chain.field-0.0 p.1 p.2 c.in_err-chain.was c.load_files.ensures.named
+
+pub returns-in_err-versions-clause-named : goal.returns-in_err-versions-clause-named
+returns-in_err-versions-clause-named g c =
+    let size = (g.D.Disk.state c.args.disk.now).size in
+    let p = err_from_is_err_and c.from_residual-in_err-versions.result c.from_residual-in_err-versions.ensures.1 in
+    handed (NamesInSpace size) c.from_residual-in_err-versions.result c.read_files.result p.0 c.in_err-versions.field-0.0 p.1 p.2 c.in_err-versions.was
+    (named_on (g.D.Disk.state c.load_files.new.disk).size size c.read_files.result c.load_files.ensures.same.size c.read_files.ensures.named)

@@ -7,9 +7,9 @@ use Rattle.meaning.specs.Directories.{FileEntry}
 use Rattle.alloctab.specs.Lists.{digit_at}
 use Rattle.retrieval.proofs.Readings.{keeps_on}
 use Rattle.volume.specs.Cores.{file_view, known_version}
-use Rattle.volume.specs.Meets.{FileMeets, FilesMeet}
+use Rattle.volume.specs.Meets.{NamesInSpace, FileMeets, FilesMeet}
 use Rattle.volume.specs.declared.error.VolumeError.TheVariants.{Device}
-use Rattle.volume.proofs.Handing.{handed, handed_back, met_on}
+use Rattle.volume.proofs.Handing.{handed, handed_back, met_on, named_on}
 use Rattle.volume.proofs.Lookups.{viewed_at, viewed_split}
 use Rattle.volume.specs.Known.{IsWholeVersion}
 use Rattle.volume.specs.Found.{IsOnlySpace}
@@ -68,3 +68,10 @@ loop-entry-preserved g c =
           (digit_at c.args.reached.now) (digit_at c.loop-entry.reached) (digit_at c.add_file.new.reached) c.loop-entry-test.true c.entry-item.is (same_contents s.contents now.contents (c.loop-entry.invariant.keeps (c.add_file.ensures.same.was_honest h)).contents)
           (c.loop-entry.invariant.read (c.add_file.ensures.same.was_honest h)) (c.in_ok-add_file.ensures.read h);
     }
+
+pub returns-in_err-add_file-clause-named : goal.returns-in_err-add_file-clause-named
+returns-in_err-add_file-clause-named g c =
+    let size = (g.D.Disk.state c.args.disk.now).size in
+    let p = err_from_is_err_and c.from_residual.result c.from_residual.ensures.1 in
+    handed (NamesInSpace size) c.from_residual.result c.add_file.result p.0 c.in_err-add_file.field-0.0 p.1 p.2 c.in_err-add_file.was
+    (named_on (g.D.Disk.state c.loop-entry.disk).size size c.add_file.result c.loop-entry.invariant.same.size c.add_file.ensures.named)

@@ -12,7 +12,7 @@ use Rattle.volume.specs.Cores.{known_of}
 use Rattle.volume.specs.Known.{IsHeld}
 use Rattle.volume.specs.Meets.{SettledRefuses, Refuses}
 use Rattle.volume.specs.Rest.{IsAtRest, RestsAt, StandsLike, StandsLikeBefore}
-use Rattle.volume.proofs.Handing.{met_on}
+use Rattle.volume.proofs.Handing.{met_on, named_on}
 use Rattle.volume.proofs.Starting.{ok_on, ok_always, crash_recovered, synced_recovered, crash_read, synced_read, rest_known, rest_files, stood_before, closed_refuses, lost_refuses}
 use Rattle.volume.proofs.start.read_volume.Goals as goal
 
@@ -139,3 +139,6 @@ returns-in-Err-BadLog-clause-kept g c h other =
     let still = c.recover.ensures.untouched h (λ puts pending. lost (with_puts puts s.contents) (inr (pending.gate, puts, pending.log, λ n. refl)))
     (λ (is : c.recover.result ≡ Err LogDevice). let bad = c.in-Err-BadLog.is in let which = c.in-Err-BadLog.field-0-is in cc) in
     inl still
+
+pub returns-in-Ok-clause-named : goal.returns-in-Ok-clause-named
+returns-in-Ok-clause-named g c = named_on (g.D.Disk.state c.recover.new.disk).size (g.D.Disk.state c.args.disk.now).size c.read_map.result c.recover.ensures.same.size c.read_map.ensures.named

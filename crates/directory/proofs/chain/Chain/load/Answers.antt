@@ -1,4 +1,4 @@
-use Rattle.std.proofs.Common.{◌<◌, refl, ap, map, sym, subst, ◌∙◌, arith}
+use Rattle.std.proofs.Common.{◌<◌, ⊎_elim, refl, ap, map, sym, subst, ◌∙◌, arith}
 use Rattle.std.proofs.lemmas.Result.{err_from_is_err_and}
 use Rattle.std.specs.List.{AllByRecursion}
 use Rattle.blockdisk.specs.Laws.{same_disk_start, same_disk_on}
@@ -45,6 +45,17 @@ returns-in_err-next-clause-twice g c h k is =
     subst (IsMetTwice g.E.Entry.words_of s.contents c.args.reached.now c.args.first) (sym e.0)
     (met_twice g.E.Entry.order g.E.Entry.words_of g.E.Entry.IsEntry g.E.Entry.target c.blocks-size.result (g.D.Disk.state c.loop-next.disk).honest s.contents c.args.reached.now c.args.first c.loop-next.reached c.loop-next.blocks.items entries next
     c.loop-next.invariant.loading some (c.read_on.ensures.same.was_honest h) e.1)
+
+pub returns-in_err-next-clause-named : goal.returns-in_err-next-clause-named
+returns-in_err-next-clause-named g c k is =
+    let size = (g.D.Disk.state c.args.disk.now).size in
+    let next = c.loop-next.next in
+    let some : 0 < next = let e = c.loop-next-test.true in omega arith in
+    let p = err_from_is_err_and c.from_residual.result c.from_residual.ensures.1 in
+    let here : InSpace size next = subst (λ n. InSpace n next) c.blocks-size.ensures (c.loop-next.invariant.loading.next_inside some) in
+    subst (InSpace size)
+    (⊎_elim (λ bad. sym (c.read_on.ensures.named k (handed_on c.from_residual.result c.read_on.result p.0 c.in_err-next.field-0.0 (BadDirectory k) bad p.1 p.2 c.in_err-next.was)))
+    (λ twice. sym (c.read_on.ensures.twice k (handed_on c.from_residual.result c.read_on.result p.0 c.in_err-next.field-0.0 (BlockTwice k) twice p.1 p.2 c.in_err-next.was)).0) is) here
 
 pub returns-in_err-next-clause-whole : goal.returns-in_err-next-clause-whole
 returns-in_err-next-clause-whole g c h nodes w k is =

@@ -1,4 +1,6 @@
-use Rattle.std.proofs.Common.{inr}
+use Rattle.std.proofs.Common.{◌≡◌, ◌+◌, ◌-◌, ◌∙◌, None, inr, slice_index, sym, subst}
+use Rattle.meaning.proofs.MapLaws.{some_same}
+use Rattle.retrieval.specs.Versions.{VersionState}
 use Rattle.volume.specs.LiveCores.{core_of}
 use Rattle.volume.proofs.Opening.{reads_of}
 use Rattle.volume.proofs.ReadWords.{rests_read, sound_read, readable_inside, readable_body, undamaged}
@@ -11,6 +13,11 @@ get_words-requires-clause-inside g c =
 
 pub returns-in-Ok-clause-reads : goal.returns-in-Ok-clause-reads
 returns-in-Ok-clause-reads g c h = reads_of (g.D.Disk.state c.args.self.now.disk) (g.D.Disk.state c.get_words.new.disk) (c.get_words.ensures.keeps h)
+
+pub returns-in-Ok-clause-whole : goal.returns-in-Ok-clause-whole
+returns-in-Ok-clause-whole g c h v is i some none =
+    let s = g.D.Disk.state c.args.self.now.disk in
+    c.in-Ok.ensures.whole h i some (subst (λ (w : VersionState). s.contents (slice_index w.blocks (c.args.block - 1 + i)) ≡ None) (some_same (sym is ∙ c.version_under-version.ensures)) none)
 
 pub returns-in-Ok-clause-sound : goal.returns-in-Ok-clause-sound
 returns-in-Ok-clause-sound g c =
