@@ -150,23 +150,29 @@ crowded next es is few =
     absurd (omega arith)
 
 pub too_many_entries : HasFault 64 v1_too_many_entries (BadDirectory 15)
-too_many_entries = settled_fault v1_too_many_entries (BadDirectory 15) refl (free 15 (lit≤ tt) (lit< tt), inl (record {
-  layout = 1;
-  before = [];
-  walk = at_master v1_too_many_entries refl;
-  inside = free 15 (lit≤ tt) (lit< tt);
-  bad = malformed (λ next es is few are. crowded next es is few);
-}))
+too_many_entries = settled_fault v1_too_many_entries (BadDirectory 15) refl (
+  free 15 (lit≤ tt) (lit< tt),
+  inl (record {
+    layout = 1;
+    before = [];
+    walk = at_master v1_too_many_entries refl;
+    inside = free 15 (lit≤ tt) (lit< tt);
+    bad = malformed (λ next es is few are. crowded next es is few);
+  }),
+)
 
 pub looping_directory : HasFault 64 v1_looping_directory (BadDirectory 16)
-looping_directory = settled_fault v1_looping_directory (BadDirectory 16) refl (free 16 (lit≤ tt) (lit< tt), inr (record {
-  layout = 1;
-  ppn = owner;
-  before = [];
-  walk = at_directory v1_looping_directory refl refl;
-  inside = free 16 (lit≤ tt) (lit< tt);
-  bad = short 16 ((foo_txt, 17) ∷ []) refl (lit< tt) (λ full. absurd (omega arith));
-}))
+looping_directory = settled_fault v1_looping_directory (BadDirectory 16) refl (
+  free 16 (lit≤ tt) (lit< tt),
+  inr (record {
+    layout = 1;
+    ppn = owner;
+    before = [];
+    walk = at_directory v1_looping_directory refl refl;
+    inside = free 16 (lit≤ tt) (lit< tt);
+    bad = short 16 ((foo_txt, 17) ∷ []) refl (lit< tt) (λ full. absurd (omega arith));
+  }),
+)
 
 -- The file.
 
@@ -200,19 +206,22 @@ too_long = settled_fault v1_too_long (BadRetrieval 17) refl
     (free 17 (lit≤ tt) (lit< tt), of_version 1 foo_place 17 (file_named v1_too_long refl refl refl) (miscounted long_prime ((1, 18) ∷ []) 0 [] long_read refl (λ same. absurd (omega arith))))
 
 pub damaged_data : HasFault 64 v1_damaged_data (BadData 18)
-damaged_data = settled_fault v1_damaged_data (BadData 18) refl (free 18 (lit≤ tt) (lit< tt), record {
-  layout = 1;
-  place = foo_place;
-  p = hello_prime;
-  prime = 17;
-  extensions = [];
-  blocks = 18 ∷ [];
-  named = file_named v1_damaged_data refl refl refl;
-  place_is = refl;
-  retrieved = retrieved v1_damaged_data hello_prime 18 refl hello_fits refl (lit< tt);
-  inside = lit< tt;
-  damaged = refl;
-})
+damaged_data = settled_fault v1_damaged_data (BadData 18) refl (
+  free 18 (lit≤ tt) (lit< tt),
+  record {
+    layout = 1;
+    place = foo_place;
+    p = hello_prime;
+    prime = 17;
+    extensions = [];
+    blocks = 18 ∷ [];
+    named = file_named v1_damaged_data refl refl refl;
+    place_is = refl;
+    retrieved = retrieved v1_damaged_data hello_prime 18 refl hello_fits refl (lit< tt);
+    inside = lit< tt;
+    damaged = refl;
+  },
+)
 
 abbrev shared_file : ReadFile
 shared_file = record { p = hello_prime; prime = 17; extensions = []; blocks = 16 ∷ [] }
@@ -237,11 +246,14 @@ shared_directory_read = record {
 }
 
 pub shared_block : HasFault 64 v1_shared_block (BlockTwice 16)
-shared_block = settled_fault v1_shared_block (BlockTwice 16) refl (free 16 (lit≤ tt) (lit< tt), record {
-  m = shared_map;
-  read = record { layout = 1; walk = past_master v1_shared_block refl refl; once = (refl, tt); directories = (shared_directory_read, tt) };
-  twice = lit≤ tt;
-})
+shared_block = settled_fault v1_shared_block (BlockTwice 16) refl (
+  free 16 (lit≤ tt) (lit< tt),
+  record {
+    m = shared_map;
+    read = record { layout = 1; walk = past_master v1_shared_block refl refl; once = (refl, tt); directories = (shared_directory_read, tt) };
+    twice = lit≤ tt;
+  },
+)
 
 -- The table.
 

@@ -26,11 +26,14 @@ master_met size contents first n home met =
 -- A block of it was reached before.
 pub master_twice : (size : ℕ) (contents : Contents) (reached : List Bool) (first n : ℕ) → IsHome size contents (home_of_master first) → ((k : ℕ) → digit_at reached k ≡ 0) → InSpace size n → IsMetTwice master_words contents reached first n
     → SettledRefuses size contents (BlockTwice n)
-master_twice size contents reached first n home fresh inside met = (inside, record {
-  m = record { nodes = met.before; last = n; directories = [] };
-  read = record { layout = 1; walk = record { master = first; home = home; walk = met.walk }; once = tt; directories = tt };
-  twice = let t = met.twice in let z = fresh n in omega arith;
-})
+master_twice size contents reached first n home fresh inside met = (
+  inside,
+  record {
+    m = record { nodes = met.before; last = n; directories = [] };
+    read = record { layout = 1; walk = record { master = first; home = home; walk = met.walk }; once = tt; directories = tt };
+    twice = let t = met.twice in let z = fresh n in omega arith;
+  },
+)
 
 -- The master directory was read, and one that it names is at fault.
 pub directories_met : (size : ℕ) (contents : Contents) (first : ℕ) (nodes : List (Node MasterEntry)) (entries : List MasterEntry) (marks : ℕ → ℕ) (error : VolumeError) → IsHome size contents (home_of_master first)
@@ -62,11 +65,14 @@ directories_met size contents first nodes entries marks error home walk all mark
         let bad = met.fault in
         (inside, inr (record { layout = 1; ppn = met.ppn; before = bad.before; walk = record { word = met.word; first = met.first; named = named met.ppn met.word met.first met.entry; walk = bad.walk }; inside = bad.inside; bad = bad.bad }))
     by_error (BadRetrieval n) inside met = (inside, retrieval met.ppn met.word met.first n met.entry met.fault)
-    by_error (BlockTwice n) inside met = (inside, record {
-      m = record { nodes = nodes; last = 0; directories = met.directories };
-      read = record { layout = 1; walk = master_walk; once = met.once; directories = subst (λ (es : List MasterEntry). AllByRecursion (IsDirectoryRead 1 contents es) met.directories) (sym all) met.read };
-      twice = let t = met.twice in let m = marked n in omega arith;
-    })
+    by_error (BlockTwice n) inside met = (
+      inside,
+      record {
+        m = record { nodes = nodes; last = 0; directories = met.directories };
+        read = record { layout = 1; walk = master_walk; once = met.once; directories = subst (λ (es : List MasterEntry). AllByRecursion (IsDirectoryRead 1 contents es) met.directories) (sym all) met.read };
+        twice = let t = met.twice in let m = marked n in omega arith;
+      },
+    )
     by_error (TableWrong n) inside met = absurd met
     by_error Device inside met = tt
     by_error NoMemory inside met = tt
@@ -74,17 +80,19 @@ directories_met size contents first nodes entries marks error home walk all mark
     by_error (BadData n) inside met =
         let in_chain = met.fault in
         let data_of = in_chain.fault in
-        let bad = data_of.bad in
-        (inside, record {
-          layout = 1;
-          place = place_of met.ppn data_of.name;
-          p = bad.p;
-          prime = data_of.prime;
-          extensions = bad.extensions;
-          blocks = bad.blocks;
-          named = record { nodes = in_chain.nodes; last = in_chain.last; walk = record { word = met.word; first = met.first; named = named met.ppn met.word met.first met.entry; walk = in_chain.walk }; entry = data_of.entry };
-          place_is = bad.place_is;
-          retrieved = bad.retrieved;
-          inside = bad.inside;
-          damaged = bad.damaged;
-        })
+        let bad = data_of.bad in (
+          inside,
+          record {
+            layout = 1;
+            place = place_of met.ppn data_of.name;
+            p = bad.p;
+            prime = data_of.prime;
+            extensions = bad.extensions;
+            blocks = bad.blocks;
+            named = record { nodes = in_chain.nodes; last = in_chain.last; walk = record { word = met.word; first = met.first; named = named met.ppn met.word met.first met.entry; walk = in_chain.walk }; entry = data_of.entry };
+            place_is = bad.place_is;
+            retrieved = bad.retrieved;
+            inside = bad.inside;
+            damaged = bad.damaged;
+          },
+        )

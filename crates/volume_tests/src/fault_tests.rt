@@ -127,7 +127,12 @@ fn numbers_outside_the_free_space(rt: HostRuntime) -> Result<(), Fail> {
         let disk = with_word(&rt, rt.alloc(), 17, 7, outside)?;
         expect_booked(&rt, rt.alloc(), disk, Err(VolumeError::BadRetrieval(17)));
     }
-    for run in [0o000001000002, 0o000001000016, 0o000001000100, 0o000001777777] {
+    for run in [
+        0o000001000002,
+        0o000001000016,
+        0o000001000100,
+        0o000001777777,
+    ] {
         let disk = with_word(&rt, rt.alloc(), 17, 16, run)?;
         expect_booked(&rt, rt.alloc(), disk, Err(VolumeError::BadRetrieval(17)));
     }
