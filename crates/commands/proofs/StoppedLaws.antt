@@ -69,28 +69,28 @@ module _ {S : Type 0} (machine : S → Machine) (pack : Pack) where
       (record { now = λ c left. found_first pack s [] c (r.2 c left); time = passes_start (machine old).disk (Found pack s []) })
   acts_leave old s (Asks event reply ∷ acts) end new (stands, mid, Serving u, answers, leaves, rest) =
       leaves_then (machine old).disk (machine mid).disk (machine end).disk (Found pack s (Asks event reply ∷ acts)) (Found pack u acts)
-          (λ c left. found_first pack s (Asks event reply ∷ acts) c (stands c left))
-          (passes_weaker (machine old).disk (machine mid).disk (StandsForEither pack s event reply) (Found pack s (Asks event reply ∷ acts)) leaves.time (during pack s event reply acts))
-          (acts_leave mid u acts end new rest)
-          (later pack s event reply acts u answers)
+      (λ c left. found_first pack s (Asks event reply ∷ acts) c (stands c left))
+      (passes_weaker (machine old).disk (machine mid).disk (StandsForEither pack s event reply) (Found pack s (Asks event reply ∷ acts)) leaves.time (during pack s event reply acts))
+      (acts_leave mid u acts end new rest)
+      (later pack s event reply acts u answers)
   acts_leave old s (Asks event reply ∷ acts) end new (stands, mid, Broken, answers, leaves, rest) =
       leaves_quiet (machine old).disk (machine mid).disk (machine end).disk (Found pack s (Asks event reply ∷ acts)) (Found pack s (Asks event reply ∷ acts))
-          (λ c left. during pack s event reply acts c (leaves.now c left))
-          (passes_weaker (machine old).disk (machine mid).disk (StandsForEither pack s event reply) (Found pack s (Asks event reply ∷ acts)) leaves.time (during pack s event reply acts))
-          rest.0
+      (λ c left. during pack s event reply acts c (leaves.now c left))
+      (passes_weaker (machine old).disk (machine mid).disk (StandsForEither pack s event reply) (Found pack s (Asks event reply ∷ acts)) leaves.time (during pack s event reply acts))
+      rest.0
   acts_leave old s (Looks owner answer ∷ acts) end new (stands, mid, Serving u, lists, still, rest) =
       leaves_then (machine old).disk (machine mid).disk (machine end).disk (Found pack s (Looks owner answer ∷ acts)) (Found pack u acts)
-          (λ c left. found_first pack s (Looks owner answer ∷ acts) c (stands c left))
-          (passes_weaker (machine old).disk (machine mid).disk (MayLeave (machine old).disk) (Found pack s (Looks owner answer ∷ acts)) still.time
-              (λ c left. found_first pack s (Looks owner answer ∷ acts) c (stands c left)))
-          (acts_leave mid u acts end new rest)
-          (later_listed pack s u owner answer acts lists)
+      (λ c left. found_first pack s (Looks owner answer ∷ acts) c (stands c left))
+      (passes_weaker (machine old).disk (machine mid).disk (MayLeave (machine old).disk) (Found pack s (Looks owner answer ∷ acts)) still.time
+      (λ c left. found_first pack s (Looks owner answer ∷ acts) c (stands c left)))
+      (acts_leave mid u acts end new rest)
+      (later_listed pack s u owner answer acts lists)
   acts_leave old s (Looks owner answer ∷ acts) end new (stands, mid, Broken, lists, still, rest) =
       leaves_quiet (machine old).disk (machine mid).disk (machine end).disk (Found pack s (Looks owner answer ∷ acts)) (Found pack s (Looks owner answer ∷ acts))
-          (λ c left. found_first pack s (Looks owner answer ∷ acts) c (stands c (still.crash c left)))
-          (passes_weaker (machine old).disk (machine mid).disk (MayLeave (machine old).disk) (Found pack s (Looks owner answer ∷ acts)) still.time
-              (λ c left. found_first pack s (Looks owner answer ∷ acts) c (stands c left)))
-          rest.0
+      (λ c left. found_first pack s (Looks owner answer ∷ acts) c (stands c (still.crash c left)))
+      (passes_weaker (machine old).disk (machine mid).disk (MayLeave (machine old).disk) (Found pack s (Looks owner answer ∷ acts)) still.time
+      (λ c left. found_first pack s (Looks owner answer ∷ acts) c (stands c left)))
+      rest.0
 
   -- at the first moment too
   begins_with : (old : S) (s : State) (acts : List Act) (end : S) (new : Service) → ActsBy machine pack old (Serving s) acts end new → StandsNow pack (machine old).disk s

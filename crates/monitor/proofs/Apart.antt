@@ -19,8 +19,11 @@ use Rattle.meaning.proofs.SlotLaws.{slot-set_same}
 use Rattle.meaning.proofs.StepLaws.{spares_step}
 use Rattle.monitor.specs.Calls.{call_of}
 use Rattle.monitor.specs.Moments.{read_by, read_of}
+use Rattle.monitor.specs.Runs.{event_of, job_of}
 use Rattle.monitor.specs.declared.call.Call.{Call}
 use Rattle.monitor.specs.declared.call.Call.TheVariants as calls
+use Rattle.monitor.specs.declared.events.Event.{Event}
+use Rattle.monitor.specs.declared.events.Event.TheVariants.{Login, Deposit, Examine, Call as Asks}
 
 -- An IN.
 
@@ -75,3 +78,27 @@ module _ (S : Service → Type 0) (pack : Pack) (s : State) (n : ℕ) (moment : 
   pub apart : (call : machine_calls.Call) (new : Service) → S new → Answers pack (Serving s) (Calls n call moment) reply new → IsApart call
   apart call Broken is answers = (Broken, is, answers, λ t e. absurd (not_broken (sym e)))
   apart call (Serving after) is answers = (Serving after, is, answers, λ t e m other. ap (λ x. job_at x m) (sym (serving_same e)) ∙ others_stay call after answers m other)
+
+-- An event leaves every job but its own as it was.
+module _ (S : Service → Type 0) (pack : Pack) (s : State) (event : Event) (reply : Reply) where
+  abbrev pub LeavesOthers : Type 0
+  LeavesOthers = (after : Service) × S after × Answers pack (Serving s) (event_of event) reply after × ((t : State) → after ≡ Serving t → (m : ℕ) → (m ≡ job_of event → ⊥) → job_at t m ≡ job_at s m)
+
+  same_job : machine.job_of (event_of event) ≡ job_of event
+  same_job = by_event event
+    where
+      by_event : (e : Event) → machine.job_of (event_of e) ≡ job_of e
+      by_event (Login job ppn words) = refl
+      by_event (Deposit job address word) = refl
+      by_event (Examine job address) = refl
+      by_event (Asks job call moment) = refl
+
+  stay : (after : State) → Answers pack (Serving s) (event_of event) reply (Serving after) → (m : ℕ) → (m ≡ job_of event → ⊥) → job_at after m ≡ job_at s m
+  stay after answers m other = ⊎_elim
+      (λ steps. subst (λ (r : Reply × State). job_at r.1 m ≡ job_at s m) steps.2 (spares_step pack steps.0 s m (event_of event) (λ is. other (is ∙ same_job))))
+      (λ none. ap (λ t. job_at t m) none.1)
+      answers
+
+  pub leaves_others : (new : Service) × S new × Answers pack (Serving s) (event_of event) reply new → LeavesOthers
+  leaves_others (Broken, is, answers) = (Broken, is, answers, λ t e. absurd (not_broken (sym e)))
+  leaves_others (Serving after, is, answers) = (Serving after, is, answers, λ t e m other. ap (λ x. job_at x m) (sym (serving_same e)) ∙ stay after answers m other)

@@ -61,12 +61,12 @@ pub holds_still : (pack : Pack) (old : Service) (events : List Event) (replies :
     → RunsThrough pack old events replies services → HoldsStill old events replies services
 holds_still pack old events replies services run before between behind first second third one two three looked left n ch e a early late is =
     let ran =
-        subst (λ ss. RunsThrough pack old (before ++ Calls n (Lookup ch e) early ∷ (between ++ Calls n (In ch a) late ∷ behind)) (first ++ Done ∷ (second ++ Done ∷ third)) ss)
-            is.services_are
-            (subst (λ es. RunsThrough pack old es (first ++ Done ∷ (second ++ Done ∷ third)) services) is.events_are
-                (subst (λ rs. RunsThrough pack old events rs services) is.replies_are run)) in
+    subst (λ ss. RunsThrough pack old (before ++ Calls n (Lookup ch e) early ∷ (between ++ Calls n (In ch a) late ∷ behind)) (first ++ Done ∷ (second ++ Done ∷ third)) ss)
+    is.services_are
+    (subst (λ es. RunsThrough pack old es (first ++ Done ∷ (second ++ Done ∷ third)) services) is.events_are
+    (subst (λ rs. RunsThrough pack old events rs services) is.replies_are run)) in
     let to = through_parts pack old before (Calls n (Lookup ch e) early ∷ (between ++ Calls n (In ch a) late ∷ behind)) first (Done ∷ (second ++ Done ∷ third))
-        one (looked ∷ (two ++ left ∷ three)) is.in_order.0 is.in_order.1 ran in
+    one (looked ∷ (two ++ left ∷ three)) is.in_order.0 is.in_order.1 ran in
     let on = through_parts pack looked between (Calls n (In ch a) late ∷ behind) second (Done ∷ third) two (left ∷ three) is.in_step.0 is.in_step.1 to.1.1 in
     by_services pack between second n ch e a early late is.spared (last_of old one) looked (last_of looked two) left
-        to.1.0 (through_run pack looked between second two on.0) on.1.0
+    to.1.0 (through_run pack looked between second two on.0) on.1.0

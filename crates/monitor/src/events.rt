@@ -49,6 +49,10 @@ impl<D: Disk> Monitor<D> {
         // files: `Done`, and `Device`.
         ensures crash { (D.state self.new.disk).honest → (s : State) → Serves (D.state self.old.disk) self.old.map self.old.failed self.old.jobs (Serving s)
             → LeavesOnly (D.state self.old.disk) (D.state self.new.disk) (StandsForEither (pack_of (D.state self.old.disk)) s (event_of event.now) result) }
+        // The machine's record of another job stays, where it is served as the machine serves it.
+        ensures apart { (D.state self.new.disk).honest → (s : State) → Serves (D.state self.old.disk) self.old.map self.old.failed self.old.jobs (Serving s) → IsServedIn (Serving s) event.now
+            → (after : Service) × Serves (D.state self.new.disk) self.new.map self.new.failed self.new.jobs after × Answers (pack_of (D.state self.old.disk)) (Serving s) (event_of event.now) result after
+            × ((t : State) → after ≡ Serving t → (m : ℕ) → (m ≡ job_of event.now → ⊥) → job_at t m ≡ job_at s m) }
         // On every disk: no event of another job changes a job, and one that finds no memory leaves all as it was.
         ensures others { (m : ℕ) → (m ≡ job_of event.now → ⊥) → slot self.new.jobs m ≡ slot self.old.jobs m }
         ensures memory { result ≡ replies.NoMemory → self.new ≡ self.old }

@@ -9,7 +9,7 @@ ghost use Rattle.meaning.specs.Runs.{Service, Serving, IsStart};
 ghost use Rattle.meaning.specs.Stands.{Stands};
 ghost use Rattle.monitor.specs.Runs.{HasStarted};
 ghost use Rattle.monitor.specs.Serving.{pack_of, Serves};
-ghost use Rattle.volume.specs.Meets.{Refuses};
+ghost use Rattle.volume.specs.Meets.{NamesInSpace, Refuses};
 ghost use Rattle.volume.specs.Rest.{StandsLike};
 ghost use Rattle.volume.specs.declared.error.VolumeError.TheVariants.{Device};
 
@@ -66,6 +66,8 @@ impl<D: Disk> Monitor<D> {
         ensures crash_refused { IfErr result (λ refused. (D.state refused.1).honest → HasStarted (D.state disk) (D.state refused.1)) }
         ensures synced_refused { IfErr result (λ refused. (D.state refused.1).honest → SyncsFirst D.state disk refused.1 (refused.0 ≡ Device) (StandsLike (D.state disk))) }
 
+        // On every disk a block that a refusal names lies in the free space, or is one of the table.
+        ensures named { IfErr result (λ refused. NamesInSpace (D.state disk).size refused.0) }
         ensures same { IfOk result (λ m. SameDisk (D.state disk) (D.state m.disk)) }
         ensures served { IfOk result (λ m. (D.state m.disk).failures ≡ (D.state disk).failures) }
         ensures same_refused { IfErr result (λ refused. SameDisk (D.state disk) (D.state refused.1)) }

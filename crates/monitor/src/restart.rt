@@ -12,7 +12,7 @@ ghost use Rattle.meaning.specs.declared.call.Event.{Event};
 ghost use Rattle.meaning.specs.declared.call.Reply.{Reply};
 ghost use Rattle.monitor.specs.Runs.{IsAlong, ServesFiles, HasStarted, AreStopped};
 ghost use Rattle.monitor.specs.Serving.{pack_of};
-ghost use Rattle.volume.specs.Meets.{Refuses};
+ghost use Rattle.volume.specs.Meets.{NamesInSpace, Refuses};
 ghost use Rattle.volume.specs.declared.error.VolumeError.TheVariants.{NoMemory, Device};
 
 use crate::StartError;
@@ -66,6 +66,7 @@ pub fn start_after_crash<D: Disk, E: Disk>(
     ensures kept { IfErr result (λ refused. (E.state refused.1).honest → (refused.0 ≡ Device → ⊥)
         → Still (E.state left) (E.state refused.1) ⊎ IsRecovered (E.state left).size (E.state left).contents (E.state refused.1).contents) }
     ensures recovered { IfOk result (λ m. (E.state m.disk).honest → IsRecovered (E.state left).size (E.state left).contents (E.state m.disk).contents) }
+    ensures named { IfErr result (λ refused. NamesInSpace (E.state left).size refused.0) }
     ensures same { IfOk result (λ m. SameDisk (E.state left) (E.state m.disk)) }
     ensures served { IfOk result (λ m. (E.state m.disk).failures ≡ (E.state left).failures) }
     ensures same_refused { IfErr result (λ refused. SameDisk (E.state left) (E.state refused.1)) }

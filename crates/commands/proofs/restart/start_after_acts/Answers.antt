@@ -12,7 +12,7 @@ returns-clause-session g c h begun acts goes size s serves starts stopped =
     let e = g.E.Disk.state c.args.left in
     let went = goes.went h (Serving s) serves in
     let found = found_left g.D.Disk.state g.E.Disk.state begun c.args.stopped.now s acts went.0 (λ x is. g.met.D.Disk.only_now begun.disk x (goes.was_honest h) is) (ap (λ (p : Pack). p.blocks) goes.pack) went.2
-        starts e.contents e.size size stopped in
+    starts e.contents e.size size stopped in
     let files = without_serials found.0.files in (
       found.0,
       found.1,
@@ -25,7 +25,7 @@ returns-clause-script g c h begun acts goes size s serves served starts stopped 
     let e = g.E.Disk.state c.args.left in
     let went = goes.went h (Serving s) serves served in
     let found = found_left g.D.Disk.state g.E.Disk.state begun c.args.stopped.now s acts went.0 (λ x is. g.met.D.Disk.only_now begun.disk x (goes.was_honest h) is) (ap (λ (p : Pack). p.blocks) goes.pack) went.2
-        starts e.contents e.size size stopped in
+    starts e.contents e.size size stopped in
     let files = without_serials found.0.files in (
       found.0,
       found.1,

@@ -1,11 +1,12 @@
 use Rattle.std.proofs.Common.{refl, sym, ap, subst}
 use Rattle.blockdisk.specs.Disk.{LeavesOnly}
 use Rattle.meaning.specs.Crashes.{StandsForEither}
-use Rattle.meaning.specs.Runs.{Service, Answers}
+use Rattle.meaning.specs.Runs.{Service, Serving, Answers}
 use Rattle.monitor.specs.Calls.{call_of}
 use Rattle.monitor.specs.Runs.{event_of, IsServedIn}
 use Rattle.monitor.specs.Serving.{pack_of, Serves}
 use Rattle.monitor.specs.Events.{IsNoCall, IsLightEvent}
+use Rattle.monitor.proofs.Apart.{leaves_others}
 use Rattle.monitor.proofs.EventCrashes.{untouched_event, of_other}
 use Rattle.monitor.proofs.ServedEvents.{call_answered}
 use Rattle.monitor.proofs.monitor.Monitor.event.Goals as goal
@@ -131,3 +132,37 @@ returns-in-Deposit-clause-apart_from_disk g c none = ap (λ m. m.disk) c.deposit
 
 pub returns-in-Call-clause-apart_from_disk : goal.returns-in-Call-clause-apart_from_disk
 returns-in-Call-clause-apart_from_disk g c none = absurd (subst IsNoCall c.in-Call.is none)
+
+pub returns-in-Login-clause-answered : goal.returns-in-Login-clause-answered
+returns-in-Login-clause-answered g c h old serves served =
+    let m = c.login.new.self in
+    subst (λ event. (new : Service) × Serves (g.D.Disk.state m.disk) m.map m.failed m.jobs new × Answers (pack_of (g.D.Disk.state c.args.self.now.disk)) old (event_of event) c.login.result new) (sym c.in-Login.is) (c.login.ensures.answered old serves)
+
+pub returns-in-Deposit-clause-answered : goal.returns-in-Deposit-clause-answered
+returns-in-Deposit-clause-answered g c h old serves served =
+    let m = c.deposit.new.self in
+    subst (λ event. (new : Service) × Serves (g.D.Disk.state m.disk) m.map m.failed m.jobs new × Answers (pack_of (g.D.Disk.state c.args.self.now.disk)) old (event_of event) c.deposit.result new) (sym c.in-Deposit.is) (c.deposit.ensures.answered old serves)
+
+pub returns-in-Login-clause-apart : goal.returns-in-Login-clause-apart
+returns-in-Login-clause-apart g c h s serves served =
+    let m = c.login.new.self in
+    leaves_others (λ (new : Service). Serves (g.D.Disk.state m.disk) m.map m.failed m.jobs new) (pack_of (g.D.Disk.state c.args.self.now.disk)) s c.args.event.now c.login.result
+    (returns-in-Login-clause-answered g c h (Serving s) serves served)
+
+pub returns-in-Deposit-clause-apart : goal.returns-in-Deposit-clause-apart
+returns-in-Deposit-clause-apart g c h s serves served =
+    let m = c.deposit.new.self in
+    leaves_others (λ (new : Service). Serves (g.D.Disk.state m.disk) m.map m.failed m.jobs new) (pack_of (g.D.Disk.state c.args.self.now.disk)) s c.args.event.now c.deposit.result
+    (returns-in-Deposit-clause-answered g c h (Serving s) serves served)
+
+pub returns-in-Examine-clause-apart : goal.returns-in-Examine-clause-apart
+returns-in-Examine-clause-apart g c h s serves served =
+    let m = c.args.self.now in
+    leaves_others (λ (new : Service). Serves (g.D.Disk.state m.disk) m.map m.failed m.jobs new) (pack_of (g.D.Disk.state c.args.self.now.disk)) s c.args.event.now c.examine.result
+    (returns-in-Examine-clause-answered g c h (Serving s) serves served)
+
+pub returns-in-Call-clause-apart : goal.returns-in-Call-clause-apart
+returns-in-Call-clause-apart g c h s serves served =
+    let m = c.call.new.self in
+    leaves_others (λ (new : Service). Serves (g.D.Disk.state m.disk) m.map m.failed m.jobs new) (pack_of (g.D.Disk.state c.args.self.now.disk)) s c.args.event.now c.call.result
+    (returns-in-Call-clause-answered g c h (Serving s) serves served)
