@@ -1,6 +1,6 @@
 -- What a crash leaves in the course of acts.
-use Rattle.std.proofs.Common.{◌≡◌, ◌⊎◌, inl, inr, ⊎_elim, ℕ, List, [], ◌∷◌, refl, sym, subst, arith, Result, ◌∙◌}
-use Rattle.blockdisk.specs.Disk.{Contents, DiskState, MayLeave, Still, LeavesOnly, Passes}
+use Rattle.std.proofs.Common.{◌≡◌, inl, inr, ⊎_elim, ℕ, List, [], ◌∷◌, refl, sym, subst, arith, Result, ◌∙◌}
+use Rattle.blockdisk.specs.Disk.{Contents, DiskState, MayLeave, Still, Passes}
 use Rattle.blockdisk.specs.Laws.{passes_start, passes_on, passes_weaker}
 use Rattle.meaning.specs.Conducts.{Act, Asks, Looks}
 use Rattle.meaning.specs.Crashes.{StandsForState, StandsForEither}

@@ -1,5 +1,5 @@
 -- What a refusal leaves of a job.
-use Rattle.std.proofs.Common.{◌≡◌, ℕ, Bool, List, Option, None, Some, refl, ap, subst, sym, ◌∙◌}
+use Rattle.std.proofs.Common.{◌≡◌, ℕ, Bool, List, Option, None, Some, ap, subst, ◌∙◌}
 use Rattle.std.specs.Prelude.{slice_set}
 use Rattle.blockdisk.specs.Disk.{DiskState}
 use Rattle.meaning.specs.Jobs.{slot}

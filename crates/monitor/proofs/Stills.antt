@@ -10,7 +10,7 @@ use Rattle.meaning.specs.declared.call.Event.TheVariants.{Call as Calls}
 use Rattle.meaning.specs.declared.call.Reply.{Reply}
 use Rattle.meaning.specs.declared.call.Reply.TheVariants.{Done, Device, Failed}
 use Rattle.meaning.proofs.LookupLaws.{reading_holds}
-use Rattle.monitor.specs.Moments.{RunsThrough, LooksUpAndReads, ReadsWhatWasFound, HoldsStill, last_of}
+use Rattle.monitor.specs.Moments.{RunsThrough, ReadsWhatWasFound, HoldsStill, last_of}
 use Rattle.monitor.proofs.MomentRuns.{through_run}
 
 -- A run of two lists is a run of the first one and a run of the second.

@@ -1,4 +1,4 @@
-use Rattle.std.proofs.Common.{⊎_elim, inl, inr, sym, subst, ◌∙◌}
+use Rattle.std.proofs.Common.{⊎_elim, inl, inr, sym, subst}
 use Rattle.meaning.specs.Jobs.{State}
 use Rattle.meaning.specs.Published.{without_serials}
 use Rattle.meaning.specs.Runs.{Serving, IsStart}

@@ -2,7 +2,6 @@ use Rattle.std.proofs.Common.{refl, sym, ap, subst}
 use Rattle.blockdisk.specs.Disk.{LeavesOnly}
 use Rattle.meaning.specs.Crashes.{StandsForEither}
 use Rattle.meaning.specs.Runs.{Service, Serving, Answers}
-use Rattle.monitor.specs.Calls.{call_of}
 use Rattle.monitor.specs.Runs.{event_of, IsServedIn}
 use Rattle.monitor.specs.Serving.{pack_of, Serves}
 use Rattle.monitor.specs.Events.{IsNoCall, IsLightEvent}
