@@ -105,11 +105,3 @@ err_both P Q R (Err e) both p q = both e p q
 pub ok_either : {A E : Type 0} (H P Q : A → Type 0) (r : Result A E) → IfOk r (λ a. H a → P a) ⊎ IfOk r (λ a. H a → Q a) → IfOk r (λ a. H a → P a ⊎ Q a)
 ok_either H P Q (Ok a) either = λ h. ⊎_elim (λ p. inl (p h)) (λ q. inr (q h)) either
 ok_either H P Q (Err e) either = tt
-
-pub ok_weaker : {A E : Type 0} (P Q : A → Type 0) (r : Result A E) → ((a : A) → P a → Q a) → IfOk r P → IfOk r Q
-ok_weaker P Q (Ok a) weaker p = weaker a p
-ok_weaker P Q (Err e) weaker p = tt
-
-pub err_weaker : {A E : Type 0} (P Q : E → Type 0) (r : Result A E) → ((e : E) → P e → Q e) → IfErr r P → IfErr r Q
-err_weaker P Q (Ok a) weaker p = tt
-err_weaker P Q (Err e) weaker p = weaker e p

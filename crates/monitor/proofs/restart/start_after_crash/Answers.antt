@@ -1,11 +1,12 @@
 use Rattle.std.proofs.Common.{⊎_elim, inl, inr, sym, subst}
+use Rattle.std.proofs.lemmas.Result.{IfOk-weaker, IfErr-weaker}
 use Rattle.meaning.specs.Jobs.{State}
 use Rattle.meaning.specs.Published.{without_serials}
 use Rattle.meaning.specs.Runs.{Serving, IsStart}
 use Rattle.meaning.specs.Stands.{Stands}
 use Rattle.meaning.specs.Step.{step}
 use Rattle.monitor.specs.Serving.{pack_of, Serves}
-use Rattle.monitor.proofs.Along.{along, no_fault, stopped_like, stands_again, ok_each, err_both, ok_either, ok_weaker, err_weaker}
+use Rattle.monitor.proofs.Along.{along, no_fault, stopped_like, stands_again, ok_each, err_both, ok_either}
 use Rattle.monitor.proofs.restart.start_after_crash.Goals as goal
 
 pub returns-clause-found : goal.returns-clause-found
@@ -41,8 +42,8 @@ returns-clause-between g c size t u s event reply between left not_later =
 
 pub returns-clause-again : goal.returns-clause-again
 returns-clause-again g c files all =
-    ok_weaker _ _ c.start.result (λ m started h. stands_again (g.E.Disk.state c.args.left) (g.E.Disk.state m.disk) files all (started h)) c.start.ensures.crash
+    IfOk-weaker c.start.result _ _ (λ m started h. stands_again (g.E.Disk.state c.args.left) (g.E.Disk.state m.disk) files all (started h)) c.start.ensures.crash
 
 pub returns-clause-again_refused : goal.returns-clause-again_refused
 returns-clause-again_refused g c files all =
-    err_weaker _ _ c.start.result (λ refused started h. stands_again (g.E.Disk.state c.args.left) (g.E.Disk.state refused.1) files all (started h)) c.start.ensures.crash_refused
+    IfErr-weaker c.start.result _ _ (λ refused started h. stands_again (g.E.Disk.state c.args.left) (g.E.Disk.state refused.1) files all (started h)) c.start.ensures.crash_refused
