@@ -8,9 +8,10 @@ use words36::Block;
 /// A disk of a fixed number of blocks of 128 words, counted from 0.
 ///
 /// Between two syncs a block that was written may after a crash hold anything, or be damaged; the
-/// other blocks stay. A sync that fails may do to the blocks what a crash may. A disk is `honest` while it has kept to this so far: nobody else wrote it, and it
-/// returned what was written. That is of what happened, so that nobody has to know answers to come: what
-/// a call ensures of contents it ensures where the disk is honest *after* it. The rest holds on every disk.
+/// other blocks stay. A sync that fails may do to the blocks what a crash may. A disk is `honest`
+/// while it has kept to this so far: nobody else wrote it, and it returned what was written. That is
+/// of what happened, so that nobody has to know answers to come: what a call ensures of contents it
+/// ensures where the disk is honest *after* it. The rest holds on every disk.
 pub trait Disk {
     ghost state: { Self → DiskState };
 
