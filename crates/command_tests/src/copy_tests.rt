@@ -1,8 +1,7 @@
 use crate::session_tests::{expect_text, image, image_with, play, room, start, started, talk};
 use blockdisk::MemDisk;
 use commands::{Monitor, SessionError};
-use meaning::Reply;
-use monitor::Call;
+use meaning::{Call, Reply};
 use std::alloc::Global;
 use std::process::Abort;
 use std::test::Fail;

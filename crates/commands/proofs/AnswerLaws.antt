@@ -8,10 +8,9 @@ use Rattle.meaning.specs.Talks.{Speaks, core_words}
 use Rattle.meaning.specs.declared.entry.Entry.{Entry}
 use Rattle.meaning.specs.declared.command.Command.{Command}
 use Rattle.meaning.specs.declared.command.Command.TheVariants.{Login as LoginLine, Directory as DirectoryLine}
-use Rattle.meaning.specs.declared.call.Event.TheVariants.{Login}
+use Rattle.meaning.specs.declared.call.Event.TheVariants.{Login, Login as LogsIn}
 use Rattle.meaning.specs.declared.call.Reply.{Reply}
 use Rattle.meaning.specs.declared.call.Reply.TheVariants.{Done, Value, Refused, Stopped, NoChannel, AddressCheck, NoJob, NoMemory, Device, Failed, DateRange}
-use Rattle.monitor.specs.declared.events.Event.TheVariants.{Login as LogsIn}
 use Rattle.commands.specs.Machines.{Machine, AlwaysStands, IsAnswered, IsListed, GoesBy}
 use Rattle.commands.specs.Asking.{Led, Concludes}
 use Rattle.commands.specs.Sessions.{Spoke}

@@ -4,10 +4,8 @@ use Rattle.words36.specs.declared.moment.Moment.{Moment}
 use Rattle.meaning.specs.Conducts.{Plan, each, examines, fails, finds, writes, lists, takes, puts, calls, copies_blocks, copies_last, copies_body, until_end, blocks_said, file_words}
 use Rattle.meaning.specs.declared.command.Spec.{Spec}
 use Rattle.meaning.specs.declared.call.Call.TheVariants.{Close}
-use Rattle.meaning.specs.declared.call.Event as played
 use Rattle.meaning.specs.declared.call.Reply.{Reply}
-use Rattle.monitor.specs.Runs.{event_of}
-use Rattle.monitor.specs.declared.events.Event.{Event}
+use Rattle.meaning.specs.declared.call.Event.{Event}
 use Rattle.commands.specs.Asking.{Led}
 use Rattle.commands.specs.Machines.{Machine, AlwaysStands}
 use Rattle.commands.proofs.LedLaws.{led_on, led_still, each_append}
@@ -22,8 +20,8 @@ all_less : (m i : ℕ) → m ≤ i → m - i ≡ 0
 all_less m i h = omega arith
 
 -- what is asked of events and of those behind them
-pub each_both : (moment : Moment) (asked : List Event) (events more : List played.Event) (next : Plan) → map event_of asked ≡ events → each moment (events ++ more) next ≡ each moment (map event_of asked) (each moment more next)
-each_both moment asked events more next e = each_append moment events more next ∙ ap (λ (l : List played.Event). each moment l (each moment more next)) (sym e)
+pub each_both : (moment : Moment) (asked : List Event) (events more : List Event) (next : Plan) → asked ≡ events → each moment (events ++ more) next ≡ each moment asked (each moment more next)
+each_both moment asked events more next e = each_append moment events more next ∙ ap (λ (l : List Event). each moment l (each moment more next)) (sym e)
 
 block_copied : (moment : Moment) (more : ℕ) (next : Plan) → copies_blocks moment (suc more) next ≡ each moment (takes moment ∷ puts moment ∷ []) (copies_blocks moment more next)
 unfolding copies_blocks
@@ -45,28 +43,28 @@ none_in_body moment blocks size next e = ap (λ (k : ℕ). copies_body moment k 
 
 module _ {S : Type 0} (machine : S → Machine) where
   -- events that were asked for a plan that begins with these
-  pub led_each : (a b : S) (moment : Moment) (asked : List Event) (events : List played.Event) (next rest : Plan) → map event_of asked ≡ events → Led machine a b (each moment (map event_of asked) next) rest → Led machine a b (each moment events next) rest
-  led_each a b moment asked events next rest e p = subst (λ (l : List played.Event). Led machine a b (each moment l next) rest) e p
+  pub led_each : (a b : S) (moment : Moment) (asked : List Event) (events : List Event) (next rest : Plan) → asked ≡ events → Led machine a b (each moment asked next) rest → Led machine a b (each moment events next) rest
+  led_each a b moment asked events next rest e p = subst (λ (l : List Event). Led machine a b (each moment l next) rest) e p
 
   -- the same where others come behind them
-  pub led_first : (a b : S) (moment : Moment) (asked : List Event) (events more : List played.Event) (next rest : Plan) → map event_of asked ≡ events → Led machine a b (each moment (map event_of asked) (each moment more next)) rest
+  pub led_first : (a b : S) (moment : Moment) (asked : List Event) (events more : List Event) (next rest : Plan) → asked ≡ events → Led machine a b (each moment asked (each moment more next)) rest
       → Led machine a b (each moment (events ++ more) next) rest
   led_first a b moment asked events more next rest e p = subst (λ (l : Plan). Led machine a b l rest) (sym (each_both moment asked events more next e)) p
 
   -- Blocks.
 
-  module _ (a b c : S) (moment : Moment) (count i : ℕ) (asked : List Event) (is_asked : map event_of asked ≡ takes moment ∷ puts moment ∷ []) (h : i < count)
+  module _ (a b c : S) (moment : Moment) (count i : ℕ) (asked : List Event) (is_asked : asked ≡ takes moment ∷ puts moment ∷ []) (h : i < count)
       (before : (next : Plan) → Led machine a b (copies_blocks moment count next) (copies_blocks moment (count - i) next)) where
-    block_led : (next rest : Plan) → Led machine b c (each moment (map event_of asked) (copies_blocks moment (count - (i + 1)) next)) rest → Led machine a c (copies_blocks moment count next) rest
+    block_led : (next rest : Plan) → Led machine b c (each moment asked (copies_blocks moment (count - (i + 1)) next)) rest → Led machine a c (copies_blocks moment count next) rest
     block_led next rest p =
         led_on machine a b c (copies_blocks moment count next) (copies_blocks moment (count - i) next) rest (before next)
         (subst (λ (l : Plan). Led machine b c l rest) (sym (ap (λ (k : ℕ). copies_blocks moment k next) (one_less count i h) ∙ block_copied moment (count - (i + 1)) next))
         (led_each b c moment asked (takes moment ∷ puts moment ∷ []) (copies_blocks moment (count - (i + 1)) next) rest is_asked p))
 
-    pub blocks_more : ((next : Plan) → Led machine b c (each moment (map event_of asked) next) next) → (next : Plan) → Led machine a c (copies_blocks moment count next) (copies_blocks moment (count - (i + 1)) next)
+    pub blocks_more : ((next : Plan) → Led machine b c (each moment asked next) next) → (next : Plan) → Led machine a c (copies_blocks moment count next) (copies_blocks moment (count - (i + 1)) next)
     blocks_more p next = block_led next (copies_blocks moment (count - (i + 1)) next) (p (copies_blocks moment (count - (i + 1)) next))
 
-    pub blocks_fail : (reply : Reply) → ((next : Plan) → Led machine b c (each moment (map event_of asked) next) (fails moment reply)) → (next : Plan) → Led machine a c (copies_blocks moment count next) (fails moment reply)
+    pub blocks_fail : (reply : Reply) → ((next : Plan) → Led machine b c (each moment asked next) (fails moment reply)) → (next : Plan) → Led machine a c (copies_blocks moment count next) (fails moment reply)
     blocks_fail reply p next = block_led next (fails moment reply) (p (copies_blocks moment (count - (i + 1)) next))
 
   pub blocks_all : (a b : S) (moment : Moment) (count i : ℕ) → count ≤ i → ((next : Plan) → Led machine a b (copies_blocks moment count next) (copies_blocks moment (count - i) next))
@@ -87,14 +85,14 @@ module _ {S : Type 0} (machine : S → Machine) where
 
 -- Lists of events that follow one another.
 module _ {S : Type 0} (machine : S → Machine) (moment : Moment) where
-  pub second_led : (a b c : S) (first second : List Event) (f s t : List played.Event) (next rest : Plan) → map event_of first ≡ f → map event_of second ≡ s → ((then : Plan) → Led machine a b (each moment (map event_of first) then) then)
-      → Led machine b c (each moment (map event_of second) (each moment t next)) rest → Led machine a c (each moment (f ++ (s ++ t)) next) rest
+  pub second_led : (a b c : S) (first second : List Event) (f s t : List Event) (next rest : Plan) → first ≡ f → second ≡ s → ((then : Plan) → Led machine a b (each moment first then) then)
+      → Led machine b c (each moment second (each moment t next)) rest → Led machine a c (each moment (f ++ (s ++ t)) next) rest
   second_led a b c first second f s t next rest is_first is_second p q =
       led_on machine a b c (each moment (f ++ (s ++ t)) next) (each moment (s ++ t) next) rest
       (led_first machine a b moment first f (s ++ t) next (each moment (s ++ t) next) is_first (p (each moment (s ++ t) next))) (led_first machine b c moment second s t next rest is_second q)
 
-  pub third_led : (a b c d : S) (first second third : List Event) (f s t : List played.Event) (next rest : Plan) → map event_of first ≡ f → map event_of second ≡ s → map event_of third ≡ t
-      → ((then : Plan) → Led machine a b (each moment (map event_of first) then) then) → ((then : Plan) → Led machine b c (each moment (map event_of second) then) then) → Led machine c d (each moment (map event_of third) next) rest
+  pub third_led : (a b c d : S) (first second third : List Event) (f s t : List Event) (next rest : Plan) → first ≡ f → second ≡ s → third ≡ t
+      → ((then : Plan) → Led machine a b (each moment first then) then) → ((then : Plan) → Led machine b c (each moment second then) then) → Led machine c d (each moment third next) rest
       → Led machine a d (each moment (f ++ (s ++ t)) next) rest
   third_led a b c d first second third f s t next rest is_first is_second is_third p q r =
       led_on machine a b d (each moment (f ++ (s ++ t)) next) (each moment (s ++ t) next) rest

@@ -8,8 +8,8 @@ use Rattle.meaning.specs.Conducts.{Act, Asks, Looks}
 use Rattle.meaning.specs.Talks.{Went}
 use Rattle.meaning.specs.declared.entry.Entry.{Entry}
 use Rattle.meaning.specs.declared.call.Reply.{Reply}
-use Rattle.monitor.specs.Runs.{event_of, IsServedIn, IsServedAt}
-use Rattle.monitor.specs.declared.events.Event.{Event}
+use Rattle.monitor.specs.Runs.{IsServedIn, IsServedAt}
+use Rattle.meaning.specs.declared.call.Event.{Event}
 use Rattle.commands.specs.Languages.{Goes}
 use Rattle.commands.specs.Machines.{Machine, IsAnswered, IsListed, AlwaysStands, ActsBy, GoesBy, AreServedActs, GoesServed}
 use Rattle.commands.specs.declared.language.Language.{Language}
@@ -101,13 +101,13 @@ module _ {S : Type 0} (machine : S → Machine) where
     acts_end a b last same h serves = subst (λ (k : Pack). ActsBy machine k b last [] b last) same (acts_none b last h serves)
 
     module _ (a b : S) (event : Event) (reply : Reply) (p : IsAnswered (machine a) (machine b) event reply) (h : (machine b).honest) where
-      answered_acts : (first last : Service) → (machine a).serves first → (machine b).serves last → Answers (machine a).pack first (event_of event) reply last
-          → ActsBy machine (machine a).pack a first (Asks (event_of event) reply ∷ []) b last
+      answered_acts : (first last : Service) → (machine a).serves first → (machine b).serves last → Answers (machine a).pack first event reply last
+          → ActsBy machine (machine a).pack a first (Asks event reply ∷ []) b last
       answered_acts Broken last serves then answers = (p.broken h serves, (last, answers, refl))
       answered_acts (Serving s) last serves then answers = (stands a (p.was_honest h) s serves, b, last, answers, p.crash h s serves, acts_end a b last p.pack h then)
 
     -- an event that every service serves
-    pub goes_answered : (a b : S) (event : Event) (reply : Reply) → ((first : Service) → IsServedIn first event) → IsAnswered (machine a) (machine b) event reply → GoesBy machine a b (Asks (event_of event) reply ∷ [])
+    pub goes_answered : (a b : S) (event : Event) (reply : Reply) → ((first : Service) → IsServedIn first event) → IsAnswered (machine a) (machine b) event reply → GoesBy machine a b (Asks event reply ∷ [])
     goes_answered a b event reply served p = record {
       pack = p.pack;
       was_honest = p.was_honest;
@@ -118,7 +118,7 @@ module _ {S : Type 0} (machine : S → Machine) where
 
     -- an event that is served where the acts before it lead
     pub goes_then : (a b c : S) (acts : List Act) (event : Event) (reply : Reply) → GoesBy machine a b acts → ((pack : Pack) (first last : Service) → Went pack first acts last → IsServedIn last event)
-        → IsAnswered (machine b) (machine c) event reply → GoesBy machine a c (acts ++ Asks (event_of event) reply ∷ [])
+        → IsAnswered (machine b) (machine c) event reply → GoesBy machine a c (acts ++ Asks event reply ∷ [])
     goes_then a b c acts event reply before served p = record {
       pack = p.pack ∙ before.pack;
       was_honest = λ h. before.was_honest (p.was_honest h);
@@ -126,11 +126,11 @@ module _ {S : Type 0} (machine : S → Machine) where
           let one = before.went (p.was_honest h) first serves in
           let then = p.answers h one.0 one.1 (served (machine a).pack first one.0 (acts_went (machine a).pack a first acts b one.0 one.2)) in
           let act = answered_acts b c event reply p h one.0 then.0 one.1 then.1 then.2 in
-          (then.0, then.1, acts_on (machine a).pack a b c first one.0 then.0 acts (Asks (event_of event) reply ∷ []) one.2 (subst (λ (k : Pack). ActsBy machine k b one.0 (Asks (event_of event) reply ∷ []) c then.0) before.pack act));
+          (then.0, then.1, acts_on (machine a).pack a b c first one.0 then.0 acts (Asks event reply ∷ []) one.2 (subst (λ (k : Pack). ActsBy machine k b one.0 (Asks event reply ∷ []) c then.0) before.pack act));
     }
 
     -- any event
-    pub goes_ordered : (a b : S) (event : Event) (reply : Reply) → IsAnswered (machine a) (machine b) event reply → GoesServed machine a b (Asks (event_of event) reply ∷ [])
+    pub goes_ordered : (a b : S) (event : Event) (reply : Reply) → IsAnswered (machine a) (machine b) event reply → GoesServed machine a b (Asks event reply ∷ [])
     goes_ordered a b event reply p = record {
       pack = p.pack;
       was_honest = p.was_honest;

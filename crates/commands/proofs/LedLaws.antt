@@ -7,13 +7,11 @@ use Rattle.meaning.specs.Conducts.{Act, Asks, Looks, Plan, Ask, Show, Say, Leads
 use Rattle.meaning.specs.Room.{Pack}
 use Rattle.meaning.specs.Runs.{Service, Answers}
 use Rattle.meaning.specs.Texts.{Spoken, list_said}
-use Rattle.meaning.specs.declared.call.Event as played
 use Rattle.meaning.specs.declared.call.Reply.{Reply}
 use Rattle.meaning.specs.declared.call.Reply.TheVariants.{Done, Value, Refused, Stopped, NoChannel, AddressCheck, NoJob, NoMemory, Device, Failed, DateRange}
-use Rattle.monitor.specs.Runs.{event_of}
-use Rattle.monitor.specs.declared.call.Call.TheVariants.{Reset}
-use Rattle.monitor.specs.declared.events.Event.{Event}
-use Rattle.monitor.specs.declared.events.Event.TheVariants.{Examine, Call as Calls}
+use Rattle.meaning.specs.declared.call.Call.TheVariants.{Reset}
+use Rattle.meaning.specs.declared.call.Event.{Event}
+use Rattle.meaning.specs.declared.call.Event.TheVariants.{Examine, Call as Calls}
 use Rattle.commands.specs.Asking.{IsAlwaysServed, ServedAlong, AreServedFrom, Led, HasDone}
 use Rattle.commands.specs.Machines.{Machine, AlwaysStands, IsAnswered, GoesBy}
 use Rattle.commands.proofs.GoingLaws.{goes_nowhere, goes_on, goes_answered, goes_then, served_always, went_apart}
@@ -26,7 +24,7 @@ leads_on (Show owner) mid rest (Asks asked reply ∷ acts) more p q = absurd p
 leads_on (Show owner) mid rest (Looks shown answer ∷ acts) more p q = (p.0, leads_on (Say (list_said owner answer)) mid rest acts more p.1 q)
 leads_on (Say said) mid rest (act ∷ acts) more p q = absurd p
 
-pub each_append : (moment : Moment) (events more : List played.Event) (next : Plan) → each moment (events ++ more) next ≡ each moment events (each moment more next)
+pub each_append : (moment : Moment) (events more : List Event) (next : Plan) → each moment (events ++ more) next ≡ each moment events (each moment more next)
 unfolding each
 each_append moment [] more next = refl
 each_append moment (event ∷ events) more next = ap (λ (p : Plan). Ask event (if_done moment p)) (each_append moment events more next)
@@ -71,15 +69,15 @@ events_split events i event h is =
     sym (append_assoc (take i events) (event ∷ []) (drop (i + 1) events)) ∙ ap (λ l. l ++ drop (i + 1) events) (sym (events_more events i event h is)) ∙ take-append-drop (i + 1) events
 
 -- one event of a list, done, and not done
-one_done : (moment : Moment) (event : played.Event) (rest : List played.Event) (next : Plan) (reply : Reply) → reply ≡ Done → Leads (each moment (event ∷ rest) next) (Asks event reply ∷ []) (each moment rest next)
+one_done : (moment : Moment) (event : Event) (rest : List Event) (next : Plan) (reply : Reply) → reply ≡ Done → Leads (each moment (event ∷ rest) next) (Asks event reply ∷ []) (each moment rest next)
 unfolding each
 one_done moment event rest next reply is = (refl, sym (ap (if_done moment (each moment rest next)) is))
 
-one_other : (moment : Moment) (event : played.Event) (rest : List played.Event) (next : Plan) (reply : Reply) → reply ≢ Done → Leads (each moment (event ∷ rest) next) (Asks event reply ∷ []) (fails moment reply)
+one_other : (moment : Moment) (event : Event) (rest : List Event) (next : Plan) (reply : Reply) → reply ≢ Done → Leads (each moment (event ∷ rest) next) (Asks event reply ∷ []) (fails moment reply)
 unfolding each
 one_other moment event rest next reply h = (refl, sym (if_other moment (each moment rest next) reply h))
 
-none_left : (moment : Moment) (events : List played.Event) (acts : List Act) (next : Plan) → Leads (each moment events next) acts (each moment [] next) → Leads (each moment events next) acts next
+none_left : (moment : Moment) (events : List Event) (acts : List Act) (next : Plan) → Leads (each moment events next) acts (each moment [] next) → Leads (each moment events next) acts next
 unfolding each
 none_left moment events acts next p = p
 
@@ -92,9 +90,9 @@ module _ {S : Type 0} (machine : S → Machine) where
     led_still a plan = record { acts = []; goes = goes_nowhere machine stands a; leads = refl }
 
     -- an event that is served in each state
-    pub led_asked : (a b : S) (event : Event) (reply : Reply) (next : Reply → Plan) → IsAlwaysServed event → IsAnswered (machine a) (machine b) event reply → Led machine a b (Ask (event_of event) next) (next reply)
+    pub led_asked : (a b : S) (event : Event) (reply : Reply) (next : Reply → Plan) → IsAlwaysServed event → IsAnswered (machine a) (machine b) event reply → Led machine a b (Ask event next) (next reply)
     led_asked a b event reply next served answered =
-        record { acts = Asks (event_of event) reply ∷ []; goes = goes_answered machine stands a b event reply (served_always event served) answered; leads = (refl, refl) }
+        record { acts = Asks event reply ∷ []; goes = goes_answered machine stands a b event reply (served_always event served) answered; leads = (refl, refl) }
 
     pub done_none : (a : S) → HasDone machine a a []
     done_none a = record {
@@ -112,44 +110,43 @@ module _ {S : Type 0} (machine : S → Machine) where
       from_all : (pack : Pack) (first : Service) → ServedAlong pack first (take i events ++ item ∷ behind)
       from_all pack first = subst (λ (l : List Event). ServedAlong pack first l) (sym (events_split events i item h is_item)) (all pack first)
 
-      goes : GoesBy machine a c (p.acts ++ Asks (event_of item) reply ∷ [])
+      goes : GoesBy machine a c (p.acts ++ Asks item reply ∷ [])
       goes = goes_then machine stands a b c p.acts item reply p.goes (λ pack first last went. (p.along pack first last (item ∷ behind) went (from_all pack first)).0) answered
 
       pub done_more : reply ≡ Done → HasDone machine a c (take (i + 1) events)
       done_more is = record {
-        acts = p.acts ++ Asks (event_of item) reply ∷ [];
+        acts = p.acts ++ Asks item reply ∷ [];
         goes = goes;
         along = λ pack first last rest went served.
-            let apart = went_apart pack first p.acts (Asks (event_of item) reply ∷ []) last went in
+            let apart = went_apart pack first p.acts (Asks item reply ∷ []) last went in
             let before = p.along pack first apart.0 (item ∷ rest) apart.1 (subst (λ (l : List Event). ServedAlong pack first l) (ap (λ (l : List Event). l ++ rest) (events_more events i item h is_item) ∙ append_assoc (take i events) (item ∷ []) rest) served) in
-            let answers = subst (λ (r : Reply). Answers pack apart.0 (event_of item) r apart.2.0) is apart.2.1 in
+            let answers = subst (λ (r : Reply). Answers pack apart.0 item r apart.2.0) is apart.2.1 in
             subst (λ (s : Service). ServedAlong pack s rest) (sym apart.2.2) (before.1 apart.2.0 answers);
         leads = λ moment rest next.
-            let spelled : map event_of (take (i + 1) events) ++ rest ≡ map event_of (take i events) ++ event_of item ∷ rest
-            = ap (λ (l : List played.Event). l ++ rest) (ap (map event_of) (events_more events i item h is_item) ∙ map-append event_of (take i events) (item ∷ [])) ∙ append_assoc (map event_of (take i events)) (event_of item ∷ []) rest in
-            let first = p.leads moment (event_of item ∷ rest) next in
-            let whole = leads_on (each moment (map event_of (take i events) ++ event_of item ∷ rest) next) (each moment (event_of item ∷ rest) next) (each moment rest next) p.acts (Asks (event_of item) reply ∷ []) first
-            (one_done moment (event_of item) rest next reply is) in
-            subst (λ (l : List played.Event). Leads (each moment l next) (p.acts ++ Asks (event_of item) reply ∷ []) (each moment rest next)) (sym spelled) whole;
+            let spelled : take (i + 1) events ++ rest ≡ take i events ++ item ∷ rest
+            = ap (λ (l : List Event). l ++ rest) (events_more events i item h is_item) ∙ append_assoc (take i events) (item ∷ []) rest in
+            let first = p.leads moment (item ∷ rest) next in
+            let whole = leads_on (each moment (take i events ++ item ∷ rest) next) (each moment (item ∷ rest) next) (each moment rest next) p.acts (Asks item reply ∷ []) first
+            (one_done moment item rest next reply is) in
+            subst (λ (l : List Event). Leads (each moment l next) (p.acts ++ Asks item reply ∷ []) (each moment rest next)) (sym spelled) whole;
       }
 
-      pub asked_until : reply ≢ Done → (moment : Moment) (next : Plan) → Led machine a c (each moment (map event_of events) next) (fails moment reply)
+      pub asked_until : reply ≢ Done → (moment : Moment) (next : Plan) → Led machine a c (each moment events next) (fails moment reply)
       asked_until other moment next = record {
-        acts = p.acts ++ Asks (event_of item) reply ∷ [];
+        acts = p.acts ++ Asks item reply ∷ [];
         goes = goes;
         leads =
-            let spelled : map event_of (take i events) ++ event_of item ∷ map event_of behind ≡ map event_of events
-            = sym (map-append event_of (take i events) (item ∷ behind)) ∙ ap (map event_of) (events_split events i item h is_item) in
-            let first = p.leads moment (event_of item ∷ map event_of behind) next in
-            subst (λ (l : List played.Event). Leads (each moment l next) (p.acts ++ Asks (event_of item) reply ∷ []) (fails moment reply)) spelled
-            (leads_on (each moment (map event_of (take i events) ++ event_of item ∷ map event_of behind) next) (each moment (event_of item ∷ map event_of behind) next) (fails moment reply) p.acts (Asks (event_of item) reply ∷ []) first
-            (one_other moment (event_of item) (map event_of behind) next reply other));
+            let spelled : take i events ++ item ∷ behind ≡ events = events_split events i item h is_item in
+            let first = p.leads moment (item ∷ behind) next in
+            subst (λ (l : List Event). Leads (each moment l next) (p.acts ++ Asks item reply ∷ []) (fails moment reply)) spelled
+            (leads_on (each moment (take i events ++ item ∷ behind) next) (each moment (item ∷ behind) next) (fails moment reply) p.acts (Asks item reply ∷ []) first
+            (one_other moment item behind next reply other));
       }
 
-    pub asked_all : (a b : S) (events : List Event) (i : ℕ) → length events ≤ i → HasDone machine a b (take i events) → (moment : Moment) (next : Plan) → Led machine a b (each moment (map event_of events) next) next
+    pub asked_all : (a b : S) (events : List Event) (i : ℕ) → length events ≤ i → HasDone machine a b (take i events) → (moment : Moment) (next : Plan) → Led machine a b (each moment events next) next
     asked_all a b events i h p moment next =
         let q = subst (λ l. HasDone machine a b l) (take_all i events h) p in
-        record { acts = q.acts; goes = q.goes; leads = subst (λ (l : List played.Event). Leads (each moment l next) q.acts next) (append-nil (map event_of events)) (none_left moment (map event_of events ++ []) q.acts next (q.leads moment [] next)) }
+        record { acts = q.acts; goes = q.goes; leads = subst (λ (l : List Event). Leads (each moment l next) q.acts next) (append-nil events) (none_left moment (events ++ []) q.acts next (q.leads moment [] next)) }
 
     -- a word that is told, and another reply
     pub led_told : (a b : S) (address : ℕ) (reply : Reply) (word : ℕ) (moment : Moment) (next : ℕ → Plan) → reply ≡ Value word → IsAnswered (machine a) (machine b) (Examine 1 address) reply → Led machine a b (examines moment address next) (next word)

@@ -6,8 +6,7 @@ use Rattle.meaning.specs.Talks.{is_good, refused_unless, reports}
 use Rattle.meaning.specs.Texts.{complains, is_broken, line}
 use Rattle.meaning.specs.Conducts.{Asks}
 use Rattle.meaning.specs.declared.call.Reply.{Reply}
-use Rattle.monitor.specs.Runs.{event_of}
-use Rattle.monitor.specs.declared.events.Event.{Event}
+use Rattle.meaning.specs.declared.call.Event.{Event}
 use Rattle.commands.specs.Languages.{Goes}
 use Rattle.commands.specs.Machines.{Machine, AlwaysStands, IsAnswered}
 use Rattle.commands.specs.Sessions.{Replied}
@@ -38,10 +37,10 @@ module _ {V E S : Type 0} (machine : S → Machine) (stands : AlwaysStands machi
   pub replied_to : (a b : S) (event : Event) (reply : Reply) → order ≡ Some event → IsAnswered (machine a) (machine b) event reply → counted.refused ≡ tally.refused || refused_unless (is_good reply) → counted.broke ≡ tally.broke || is_broken reply
       → IfOk result (λ v. bytes v ≡ line (written reply)) → Replied bytes result machine a b moment who who tally counted (Ordered order)
   replied_to a b event reply e answered refused broke text = subst (λ (o : Option Event). Replied bytes result machine a b moment who who tally counted (Ordered o)) (sym e) (record {
-    acts = Asks (event_of event) reply ∷ [];
+    acts = Asks event reply ∷ [];
     said = reports reply;
     hears = ((reply, refl, refl), refl);
-    goes = λ language in_it. subst (λ (l : Language). Goes l machine a b (Asks (event_of event) reply ∷ [])) (sym in_it) (goes_ordered machine stands a b event reply answered);
+    goes = λ language in_it. subst (λ (l : Language). Goes l machine a b (Asks event reply ∷ [])) (sym in_it) (goes_ordered machine stands a b event reply answered);
     refused = refused;
     broke = broke;
     text = text;

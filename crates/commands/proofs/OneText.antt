@@ -1,23 +1,17 @@
 -- The text of lines of which only some are served is one too: those that say nothing that is served stand like
 -- lines that are too long.
-use Rattle.std.proofs.Common.{◌≡◌, ◌⊎◌, inl, inr, ℕ, List, [], ◌∷◌, Option, Some, None, refl, sym, ap, subst, ◌∙◌}
+use Rattle.std.proofs.Common.{◌≡◌, ◌⊎◌, ℕ, List, [], ◌∷◌, Option, Some, None, refl, sym, ap, subst, ◌∙◌}
 use Rattle.words36.specs.declared.moment.Moment.{Moment}
 use Rattle.meaning.specs.Lines.{Line, Bytes, TooLong}
 use Rattle.meaning.specs.Commands.{Means}
 use Rattle.meaning.specs.Texts.{Spoken}
 use Rattle.meaning.specs.Conducts.{Act}
-use Rattle.meaning.specs.Scripts.{MeansEvent}
 use Rattle.meaning.specs.Talks.{Talks, Scripts, Served}
 use Rattle.meaning.specs.Room.{Pack}
 use Rattle.meaning.specs.Jobs.{State}
 use Rattle.meaning.specs.declared.command.Command.{Command}
-use Rattle.meaning.specs.declared.call.Event.{Event}
-use Rattle.meaning.specs.declared.call.Event.TheVariants.{Login, Deposit, Examine, Call as Calls}
-use Rattle.meaning.specs.declared.call.Call.TheVariants.{Open, Inbuf, Outbuf, Lookup, Enter, Rename, In, Out, Useti, Useto, Close, Releas, Getsts, Reset, MakeDir, DeleteDir}
 use Rattle.meaning.proofs.CommandLaws.{same_command}
-use Rattle.meaning.proofs.ScriptLaws.{same_event}
 use Rattle.meaning.proofs.TalkLaws.{one_text, one_script}
-use Rattle.commands.specs.Orders.{served_order}
 use Rattle.commands.specs.Served.{SaysServed, MeansServed}
 use Rattle.commands.specs.Streams.{TalksServed}
 use Rattle.commands.specs.declared.language.Language.TheVariants.{Commands, Events}
@@ -69,74 +63,13 @@ one_served_text pack moment lines who s t u acts others one other x y a p b q =
 
 -- The same of call scripts.
 
--- an order is served as it is, or not at all
-served_or_not : (meant : Option Event) → (served_order meant ≡ None) ⊎ (served_order meant ≡ meant)
-served_or_not None = inl refl
-served_or_not (Some (Login job owner words)) = inr refl
-served_or_not (Some (Deposit job address word)) = inr refl
-served_or_not (Some (Examine job address)) = inr refl
-served_or_not (Some (Calls job (Open channel address) at)) = inr refl
-served_or_not (Some (Calls job (Inbuf channel count) at)) = inl refl
-served_or_not (Some (Calls job (Outbuf channel count) at)) = inl refl
-served_or_not (Some (Calls job (Lookup channel address) at)) = inr refl
-served_or_not (Some (Calls job (Enter channel address) at)) = inr refl
-served_or_not (Some (Calls job (Rename channel address) at)) = inl refl
-served_or_not (Some (Calls job (In channel address) at)) = inr refl
-served_or_not (Some (Calls job (Out channel address) at)) = inr refl
-served_or_not (Some (Calls job (Useti channel block) at)) = inr refl
-served_or_not (Some (Calls job (Useto channel block) at)) = inr refl
-served_or_not (Some (Calls job (Close channel bits) at)) = inr refl
-served_or_not (Some (Calls job (Releas channel) at)) = inr refl
-served_or_not (Some (Calls job (Getsts channel) at)) = inr refl
-served_or_not (Some (Calls job Reset at)) = inr refl
-served_or_not (Some (Calls job (MakeDir address) at)) = inr refl
-served_or_not (Some (Calls job (DeleteDir address) at)) = inl refl
-
--- a line, or one that is too long in the place of one that orders nothing that is served
-abbrev event_form : Option Event → Line → Line
-event_form None line = TooLong
-event_form (Some event) line = line
-
-module _ (moment : Moment) where
-  means_itself : (line : Line) (meant : Option Event) → MeansEvent line moment meant → MeansEvent (event_form meant line) moment meant
-  means_itself line None m = refl
-  means_itself line (Some event) m = m
-
-  means_served : (line : Line) (meant : Option Event) → MeansEvent line moment meant → (served_order meant ≡ None) ⊎ (served_order meant ≡ meant) → MeansEvent (event_form (served_order meant) line) moment (served_order meant)
-  means_served line meant m (inl e) = subst (λ (o : Option Event). MeansEvent (event_form o line) moment o) (sym e) refl
-  means_served line meant m (inr e) = subst (λ (o : Option Event). MeansEvent (event_form o line) moment o) (sym e) (means_itself line meant m)
-
-  same_said : (text : List ℕ) (x y : Option Event) → MeansEvent (Bytes text) moment x → MeansEvent (Bytes text) moment y → x ≡ y
-  same_said text None None a b = refl
-  same_said text None (Some c) a b = absurd (a c b)
-  same_said text (Some c) None a b = absurd (b c a)
-  same_said text (Some c) (Some d) a b = ap Some (same_event text moment c d a b)
-
-  same_order : (line : Line) (x y : Option Event) → MeansEvent line moment x → MeansEvent line moment y → x ≡ y
-  same_order (Bytes text) x y a b = same_said text x y a b
-  same_order TooLong x y a b = a ∙ sym b
-
-  abbrev EventForms : List Line → List Line → Type 0
-  EventForms [] forms = forms ≡ []
-  EventForms (line ∷ lines) forms = (meant : Option Event) × MeansEvent line moment meant × (rest : List Line) × EventForms lines rest × (forms ≡ event_form (served_order meant) line ∷ rest)
-
-  same_event_forms : (lines x y : List Line) → EventForms lines x → EventForms lines y → x ≡ y
-  same_event_forms [] x y a b = a ∙ sym b
-  same_event_forms (line ∷ lines) x y a b =
-      let m = same_order line a.0 b.0 a.1 b.1 in
-      let r = same_event_forms lines a.2 b.2 a.3 b.3 in
-      a.4 ∙ (λ i. event_form (served_order (m i)) line ∷ r i) ∙ sym b.4
-
-  script_forms : (who : Option ℕ) (lines : List Line) (acts : List Act) (said : Spoken) (after : Option ℕ) → TalksServed Events moment who lines acts said after
-      → (forms : List Line) × EventForms lines forms × Scripts moment forms acts said
-  script_forms who [] acts said after p = ([], refl, (p.0, p.1))
-  script_forms who (line ∷ lines) acts said after (first, more, here, there, mid, (meant, m, orders, same), rest, split, text) =
-      let r = script_forms mid lines more there after rest in
-      (event_form (served_order meant) line ∷ r.0, (meant, m, r.0, r.1, refl), (served_order meant, means_served line meant m (served_or_not meant), first, more, here, there, orders, r.2, split, text))
+-- a script by its lines alone, since it does not matter who is logged in
+script_of : (moment : Moment) (who : Option ℕ) (lines : List Line) (acts : List Act) (said : Spoken) (after : Option ℕ) → TalksServed Events moment who lines acts said after → Scripts moment lines acts said
+script_of moment who [] acts said after p = (p.0, p.1)
+script_of moment who (line ∷ lines) acts said after (first, more, here, there, mid, (meant, m, orders, same), rest, split, text) =
+    (meant, m, first, more, here, there, orders, script_of moment mid lines more there after rest, split, text)
 
 pub one_served_script : (pack : Pack) (moment : Moment) (lines : List Line) (who : Option ℕ) (s t u : State) (acts others : List Act) (one other : Spoken) (x y : Option ℕ)
     → TalksServed Events moment who lines acts one x → Served pack s acts t → TalksServed Events moment who lines others other y → Served pack s others u → one ≡ other
 one_served_script pack moment lines who s t u acts others one other x y a p b q =
-    let f = script_forms moment who lines acts one x a in
-    let g = script_forms moment who lines others other y b in
-    one_script pack moment f.0 s t u acts others one other f.2 p (subst (λ (l : List Line). Scripts moment l others other) (same_event_forms moment lines g.0 f.0 g.1 f.1) g.2) q
+    one_script pack moment lines s t u acts others one other (script_of moment who lines acts one x a) p (script_of moment who lines others other y b) q

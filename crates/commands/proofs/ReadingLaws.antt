@@ -5,12 +5,10 @@ use Rattle.std.proofs.lemmas.Nat.Bits.{and_pow}
 use Rattle.words36.specs.Words.{left}
 use Rattle.words36.specs.declared.moment.Moment.{Moment}
 use Rattle.meaning.specs.Conducts.{Asks, Plan, Ask, each, fails, deposits, fetches, examines, same_words, takes, takes_over, counts, sizes, last_said, says_words, is_end, if_end, until_end}
-use Rattle.meaning.specs.declared.call.Event as played
 use Rattle.meaning.specs.declared.call.Event.TheVariants.{Deposit}
 use Rattle.meaning.specs.declared.call.Reply.{Reply}
 use Rattle.meaning.specs.declared.call.Reply.TheVariants.{Done, Value, Refused, Stopped, NoChannel, AddressCheck, NoJob, NoMemory, Device, Failed, DateRange}
-use Rattle.monitor.specs.Runs.{event_of}
-use Rattle.monitor.specs.declared.events.Event.{Event}
+use Rattle.meaning.specs.declared.call.Event.{Event}
 use Rattle.commands.specs.Asking.{IsAlwaysServed, Led, followed}
 use Rattle.commands.specs.Machines.{Machine, AlwaysStands, IsAnswered}
 use Rattle.commands.proofs.GoingLaws.{goes_answered, served_always}
@@ -18,9 +16,9 @@ use Rattle.commands.proofs.LedLaws.{led_on, led_still, each_append}
 
 module _ {S : Type 0} (machine : S → Machine) where
   -- one event, which every service serves
-  led_event : AlwaysStands machine → (a b : S) (event : Event) (asked : played.Event) (reply : Reply) (next : Reply → Plan) → event_of event ≡ asked → IsAlwaysServed event → IsAnswered (machine a) (machine b) event reply → Led machine a b (Ask asked next) (next reply)
+  led_event : AlwaysStands machine → (a b : S) (event : Event) (asked : Event) (reply : Reply) (next : Reply → Plan) → event ≡ asked → IsAlwaysServed event → IsAnswered (machine a) (machine b) event reply → Led machine a b (Ask asked next) (next reply)
   led_event stands a b event asked reply next is served answered = record {
-    acts = Asks (event_of event) reply ∷ [];
+    acts = Asks event reply ∷ [];
     goes = goes_answered machine stands a b event reply (served_always event served) answered;
     leads = (is, refl);
   }
@@ -32,7 +30,7 @@ fills_next : (moment : Moment) (address more word : ℕ) (next : Plan) → each 
 unfolding each
 fills_next moment address more word next = refl
 
-fills_at : (moment : Moment) (first size i word : ℕ) (event : played.Event) (next : Plan) → i < size → event ≡ Deposit 1 (first + i) word
+fills_at : (moment : Moment) (first size i word : ℕ) (event : Event) (next : Plan) → i < size → event ≡ Deposit 1 (first + i) word
     → each moment (deposits (first + i) (replicate (size - i) word)) next ≡ each moment (event ∷ []) (each moment (deposits (first + (i + 1)) (replicate (size - (i + 1)) word)) next)
 fills_at moment first size i word event next h is =
     let left : size - i ≡ suc (size - (i + 1)) = omega arith in
@@ -52,12 +50,12 @@ module _ {S : Type 0} (machine : S → Machine) (first size word : ℕ) where
       let whole : size ≡ size - 0 = omega arith in
       subst (λ (p : Plan). Led machine a a (each moment (deposits first (replicate size word)) next) p) (λ j. each moment (deposits (place j) (replicate (whole j) word)) next) (led_still machine stands a _)
 
-  module _ (a b c : S) (i : ℕ) (h : i < size) (filled : Fills a b i) (event : Event) (is : event_of event ≡ Deposit 1 (first + i) word) (result : Result (Unit {0}) Reply)
-      (asked : (moment : Moment) (next : Plan) → Led machine b c (each moment (map event_of (event ∷ [])) next) (followed moment result (λ unit. next))) where
+  module _ (a b c : S) (i : ℕ) (h : i < size) (filled : Fills a b i) (event : Event) (is : event ≡ Deposit 1 (first + i) word) (result : Result (Unit {0}) Reply)
+      (asked : (moment : Moment) (next : Plan) → Led machine b c (each moment (event ∷ []) next) (followed moment result (λ unit. next))) where
     fills_then : (moment : Moment) (next : Plan) → Led machine a c (each moment (deposits first (replicate size word)) next) (followed moment result (λ unit. each moment (deposits (first + (i + 1)) (replicate (size - (i + 1)) word)) next))
     fills_then moment next =
         let rest = each moment (deposits (first + (i + 1)) (replicate (size - (i + 1)) word)) next in
-        led_on machine a b c _ _ _ (subst (λ (p : Plan). Led machine a b (each moment (deposits first (replicate size word)) next) p) (fills_at moment first size i word (event_of event) next h is) (filled moment next)) (asked moment rest)
+        led_on machine a b c _ _ _ (subst (λ (p : Plan). Led machine a b (each moment (deposits first (replicate size word)) next) p) (fills_at moment first size i word event next h is) (filled moment next)) (asked moment rest)
 
     pub fills_more : (unit : Unit {0}) → result ≡ Ok unit → Fills a c (i + 1)
     fills_more unit ok moment next =
@@ -151,9 +149,9 @@ same_all xs ys i count h k is = is ∙ (λ j. same_words (take_all i xs h j) (ta
 
 -- A block is taken over words that are all one.
 
-module _ {S : Type 0} (machine : S → Machine) (moment : Moment) (first size n word : ℕ) (goes takes : played.Event) where
+module _ {S : Type 0} (machine : S → Machine) (moment : Moment) (first size n word : ℕ) (goes takes : Event) where
   -- what is asked behind the words
-  abbrev then_taken : List played.Event
+  abbrev then_taken : List Event
   then_taken = goes ∷ takes ∷ []
 
   abbrev pub Over : (List ℕ → Plan) → Plan
@@ -168,13 +166,13 @@ module _ {S : Type 0} (machine : S → Machine) (moment : Moment) (first size n 
     pub over_unfilled : (reply : Reply) → filled ≡ Err reply → (next : List ℕ → Plan) → Led machine a b (Over next) (fails moment reply)
     over_unfilled reply err next = subst (λ (r : Result (Unit {0}) Reply). Led machine a b (Over next) (followed moment r (λ unit. each moment then_taken (fetches moment size first next)))) err (over_filled next)
 
-    module _ (unit : Unit {0}) (ok : filled ≡ Ok unit) (c : S) (events : List played.Event) (is : events ≡ then_taken) (asked : Result (Unit {0}) Reply)
+    module _ (unit : Unit {0}) (ok : filled ≡ Ok unit) (c : S) (events : List Event) (is : events ≡ then_taken) (asked : Result (Unit {0}) Reply)
         (asks : (at : Moment) (next : Plan) → Led machine b c (each at events next) (followed at asked (λ unit. next))) where
       over_asked : (next : List ℕ → Plan) → Led machine a c (Over next) (followed moment asked (λ unit. fetches moment size first next))
       over_asked next =
           led_on machine a b c _ _ _
           (subst (λ (r : Result (Unit {0}) Reply). Led machine a b (Over next) (followed moment r (λ unit. each moment then_taken (fetches moment size first next)))) ok (over_filled next))
-          (subst (λ (l : List played.Event). Led machine b c (each moment l (fetches moment size first next)) (followed moment asked (λ unit. fetches moment size first next))) is (asks moment (fetches moment size first next)))
+          (subst (λ (l : List Event). Led machine b c (each moment l (fetches moment size first next)) (followed moment asked (λ unit. fetches moment size first next))) is (asks moment (fetches moment size first next)))
 
       pub over_unasked : (reply : Reply) → asked ≡ Err reply → (next : List ℕ → Plan) → Led machine a c (Over next) (fails moment reply)
       over_unasked reply err next = subst (λ (r : Result (Unit {0}) Reply). Led machine a c (Over next) (followed moment r (λ unit. fetches moment size first next))) err (over_asked next)
@@ -270,7 +268,7 @@ if_other moment next Device h = refl
 if_other moment next Failed h = refl
 if_other moment next DateRange h = refl
 
-module _ {S : Type 0} (machine : S → Machine) (stands : AlwaysStands machine) (a b : S) (moment : Moment) (event : Event) (made : event_of event ≡ takes moment) (served : IsAlwaysServed event) (reply : Reply)
+module _ {S : Type 0} (machine : S → Machine) (stands : AlwaysStands machine) (a b : S) (moment : Moment) (event : Event) (made : event ≡ takes moment) (served : IsAlwaysServed event) (reply : Reply)
     (answered : IsAnswered (machine a) (machine b) event reply) where
   end_told : (next rest : Plan) → if_end moment next reply ≡ rest → Led machine a b (until_end moment next) rest
   end_told next rest is = subst (λ (p : Plan). Led machine a b (until_end moment next) p) is (led_event machine stands a b event (takes moment) reply (if_end moment next) made served answered)

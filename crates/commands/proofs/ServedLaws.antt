@@ -19,10 +19,10 @@ use Rattle.meaning.specs.declared.call.Reply.TheVariants.{Done, AddressCheck, No
 use Rattle.meaning.proofs.OutcomeLaws.{settled_by}
 use Rattle.meaning.proofs.SlotLaws.{OfItem, slot-set_same}
 use Rattle.meaning.proofs.SpellingLaws.{differs}
-use Rattle.monitor.specs.Runs.{event_of, IsServedIn, IsUnbufferedBy, IsUnreadOn, IsUnreadBy}
-use Rattle.monitor.specs.declared.call.Call.TheVariants.{Open, Lookup, Enter}
-use Rattle.monitor.specs.declared.events.Event.{Event}
-use Rattle.monitor.specs.declared.events.Event.TheVariants.{Deposit, Call as Calls}
+use Rattle.monitor.specs.Runs.{IsServedIn, IsUnbufferedBy, IsUnreadOn, IsUnreadBy}
+use Rattle.meaning.specs.declared.call.Call.TheVariants.{Open, Lookup, Enter}
+use Rattle.meaning.specs.declared.call.Event.{Event}
+use Rattle.meaning.specs.declared.call.Event.TheVariants.{Deposit, Call as Calls}
 use Rattle.commands.specs.Asking.{ServedAlong, AreServedFrom}
 use Rattle.commands.proofs.GoingLaws.{served_always}
 
@@ -57,7 +57,7 @@ done_leaves P Q pack event leaves (Serving s) (Serving t) p answers =
 
 -- an event is served, and so is the rest where it was done: `ServedAlong`, of a rest that need not be spelled
 abbrev Follows : Pack → Service → Event → (Service → Type 0) → Type 0
-Follows pack service event Rest = IsServedIn service event × ((mid : Service) → Answers pack service (event_of event) Done mid → Rest mid)
+Follows pack service event Rest = IsServedIn service event × ((mid : Service) → Answers pack service event Done mid → Rest mid)
 
 -- A word is deposited.
 
@@ -77,7 +77,7 @@ module _ (P Q : Job → Type 0) (address word : ℕ) (goes : (job : Job) → add
   along_deposit : {Rest : Service → Type 0} (pack : Pack) (service : Service) → OfOne P service → ((mid : Service) → OfOne Q mid → Rest mid) → Follows pack service (Deposit 1 address word) Rest
   along_deposit pack service p rest = (
     served_always (Deposit 1 address word) (λ s. tt) service,
-    λ mid answers. rest mid (done_leaves P Q pack (event_of (Deposit 1 address word)) (λ serial s h. deposit_leaves s (job_at s 1) refl h) service mid p answers),
+    λ mid answers. rest mid (done_leaves P Q pack (Deposit 1 address word) (λ serial s h. deposit_leaves s (job_at s 1) refl h) service mid p answers),
   )
 
 -- A channel is opened.
@@ -100,7 +100,7 @@ module _ (P Q : Job → Type 0) (channel address : ℕ) (goes : (job : Job) → 
   along_open pack service moment served p rest = (
     served,
     λ mid answers. rest mid
-        (done_leaves P Q pack (event_of (Calls 1 (Open channel address) moment)) (λ serial s h. open_leaves s (nat_lt (last_date pack.layout) moment.date) (job_at s 1) refl h) service mid p answers),
+        (done_leaves P Q pack (Calls 1 (Open channel address) moment) (λ serial s h. open_leaves s (nat_lt (last_date pack.layout) moment.date) (job_at s 1) refl h) service mid p answers),
   )
 
 -- The mode.

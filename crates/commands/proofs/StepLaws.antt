@@ -13,9 +13,9 @@ use Rattle.meaning.specs.declared.call.Call.TheVariants as played
 use Rattle.meaning.specs.declared.call.Reply.{Reply}
 use Rattle.commands.specs.Held.{IsHeld}
 use Rattle.commands.specs.Characters.{is_other_than}
-use Rattle.monitor.specs.declared.call.Call.TheVariants.{Reset}
-use Rattle.monitor.specs.declared.events.Event.{Event}
-use Rattle.monitor.specs.declared.events.Event.TheVariants.{Call as Calls}
+use Rattle.meaning.specs.declared.call.Call.TheVariants.{Reset}
+use Rattle.meaning.specs.declared.call.Event.{Event}
+use Rattle.meaning.specs.declared.call.Event.TheVariants.{Call as Calls}
 use Rattle.commands.specs.Languages.{Goes}
 use Rattle.commands.specs.Machines.{Machine, AlwaysStands, IsAnswered}
 use Rattle.commands.specs.Streams.{TalksServed, spoken, AreWholeLines, Unfinished, IsCut}

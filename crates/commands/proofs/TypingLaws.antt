@@ -7,7 +7,7 @@ use Rattle.words36.specs.Ascii.{unpacked, five_characters}
 use Rattle.words36.specs.declared.moment.Moment.{Moment}
 use Rattle.meaning.specs.Conducts.{Plan, Say, each, examines, fetches, sizes, finds, lists, takes, goes_to, ends, fails, file_words, block_words, blocks_said, types_blocks, types_last, types_body, until_end}
 use Rattle.meaning.specs.Texts.{Spoken, typed, not_null, prints, refuses, refusal, is_broken, line}
-use Rattle.meaning.specs.declared.call.Event as played
+use Rattle.meaning.specs.declared.call.Event.{Event}
 use Rattle.meaning.specs.declared.call.Reply.{Reply}
 use Rattle.meaning.specs.declared.command.Command.TheVariants.{TypeOut as TypeLine}
 use Rattle.meaning.specs.declared.command.Spec.{Spec}
@@ -36,10 +36,10 @@ pushed_all before after seen words characters i h same put was =
 pub handed_on : {X : Type 0} {result : Result X Reply} {y reply : Reply} → result ≡ Err y → y ≡ reply → result ≡ Err reply
 handed_on {result = result} p q = subst (λ (r : Reply). result ≡ Err r) q p
 
-pub one_made : {a b : played.Event} → a ≡ b → a ∷ [] ≡ b ∷ []
+pub one_made : {a b : Event} → a ≡ b → a ∷ [] ≡ b ∷ []
 one_made p = λ i. p i ∷ []
 
-pub two_made : {a b c d : played.Event} → a ≡ b → c ≡ d → a ∷ c ∷ [] ≡ b ∷ d ∷ []
+pub two_made : {a b c d : Event} → a ≡ b → c ≡ d → a ∷ c ∷ [] ≡ b ∷ d ∷ []
 two_made p q = λ i. p i ∷ q i ∷ []
 
 module _ {S : Type 0} (machine : S → Machine) where
@@ -48,11 +48,11 @@ module _ {S : Type 0} (machine : S → Machine) where
 
   -- What was asked, by what was made of it.
 
-  pub asked_done : {a b : S} (moment : Moment) {events made : List played.Event} → events ≡ made → ((m : Moment) (next : Plan) → Led machine a b (each m events next) next) → (next : Plan) → Led machine a b (each moment made next) next
-  asked_done {a = a} {b = b} moment e done next = subst (λ (l : List played.Event). Led machine a b (each moment l next) next) e (done moment next)
+  pub asked_done : {a b : S} (moment : Moment) {events made : List Event} → events ≡ made → ((m : Moment) (next : Plan) → Led machine a b (each m events next) next) → (next : Plan) → Led machine a b (each moment made next) next
+  asked_done {a = a} {b = b} moment e done next = subst (λ (l : List Event). Led machine a b (each moment l next) next) e (done moment next)
 
-  pub asked_failed : {a b : S} (moment : Moment) {events made : List played.Event} (reply : Reply) → events ≡ made → ((m : Moment) (next : Plan) → Led machine a b (each m events next) (fails m reply)) → (next : Plan) → Led machine a b (each moment made next) (fails moment reply)
-  asked_failed {a = a} {b = b} moment reply e failed next = subst (λ (l : List played.Event). Led machine a b (each moment l next) (fails moment reply)) e (failed moment next)
+  pub asked_failed : {a b : S} (moment : Moment) {events made : List Event} (reply : Reply) → events ≡ made → ((m : Moment) (next : Plan) → Led machine a b (each m events next) (fails m reply)) → (next : Plan) → Led machine a b (each moment made next) (fails moment reply)
+  asked_failed {a = a} {b = b} moment reply e failed next = subst (λ (l : List Event). Led machine a b (each moment l next) (fails moment reply)) e (failed moment next)
 
   -- Words that were read so far: what is left of a plan, whatever is to be done with all words.
 

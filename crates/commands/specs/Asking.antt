@@ -7,11 +7,10 @@ use Rattle.meaning.specs.Room.{Pack}
 use Rattle.meaning.specs.Runs.{Service, Answers}
 use Rattle.meaning.specs.Talks.{Went}
 use Rattle.meaning.specs.Texts.{Spoken, typed}
-use Rattle.meaning.specs.declared.call.Event as played
 use Rattle.meaning.specs.declared.call.Reply.{Reply}
 use Rattle.meaning.specs.declared.call.Reply.TheVariants.{Done}
-use Rattle.monitor.specs.Runs.{event_of, IsServedAt, IsServedIn}
-use Rattle.monitor.specs.declared.events.Event.{Event}
+use Rattle.monitor.specs.Runs.{IsServedAt, IsServedIn}
+use Rattle.meaning.specs.declared.call.Event.{Event}
 use Rattle.commands.specs.Machines.{Machine, GoesBy}
 use Rattle.commands.specs.declared.answer.Tally.{Tally}
 use Rattle.commands.specs.declared.typing.Typed.{Typed}
@@ -24,7 +23,7 @@ IsAlwaysServed event = (s : State) → IsServedAt s event
 
 abbrev pub ServedAlong : Pack → Service → List Event → Type 0
 ServedAlong pack service [] = Unit {0}
-ServedAlong pack service (event ∷ events) = IsServedIn service event × ((mid : Service) → Answers pack service (event_of event) Done mid → ServedAlong pack mid events)
+ServedAlong pack service (event ∷ events) = IsServedIn service event × ((mid : Service) → Answers pack service event Done mid → ServedAlong pack mid events)
 
 abbrev pub AreServedFrom : List Event → Type 0
 AreServedFrom events = (pack : Pack) (service : Service) → ServedAlong pack service events
@@ -45,7 +44,7 @@ pub record HasDone {S : Type 0} (machine : S → Machine) (old new : S) (events 
   pub acts : List Act
   pub goes : GoesBy machine old new acts
   pub along : (pack : Pack) (first last : Service) (rest : List Event) → Went pack first acts last → ServedAlong pack first (events ++ rest) → ServedAlong pack last rest
-  pub leads : (moment : Moment) (rest : List played.Event) (next : Plan) → Leads (each moment (map event_of events ++ rest) next) acts (each moment rest next)
+  pub leads : (moment : Moment) (rest : List Event) (next : Plan) → Leads (each moment (events ++ rest) next) acts (each moment rest next)
 
 -- What is left of a plan was done, to its end: what is said is counted, and its text is what is answered.
 pub record Concludes {V E S : Type 0} (bytes : V → List ℕ) (result : Result V E) (machine : S → Machine) (old new : S) (plan : Plan) (tally counted : Tally) : Type 0 where

@@ -11,7 +11,6 @@ use Rattle.meaning.specs.declared.call.Call.TheVariants.{Reset}
 use Rattle.meaning.specs.declared.call.Event.{Event}
 use Rattle.meaning.specs.declared.call.Reply.{Reply}
 use Rattle.commands.specs.Machines.{Machine, GoesBy, GoesServed}
-use Rattle.commands.specs.Orders.{served_order}
 use Rattle.commands.specs.Served.{MeansServed}
 use Rattle.commands.specs.declared.language.Language.{Language}
 use Rattle.commands.specs.declared.language.Language.TheVariants.{Commands, Events}
@@ -20,7 +19,7 @@ use Rattle.commands.specs.declared.language.Language.TheVariants.{Commands, Even
 -- matter who is logged in.
 abbrev pub Says : Language → Moment → Option ℕ → Line → List Act → Spoken → Option ℕ → Type 0
 Says Commands moment who line acts said then_who = (meant : Option Command) × MeansServed line meant × Speaks moment who meant acts said then_who
-Says Events moment who line acts said then_who = (meant : Option Event) × MeansEvent line moment meant × Orders (served_order meant) acts said × (then_who ≡ who)
+Says Events moment who line acts said then_who = (meant : Option Event) × MeansEvent line moment meant × Orders meant acts said × (then_who ≡ who)
 
 -- At the end of commands job 1 is reset.
 abbrev pub Closes : Language → Moment → List Act → Type 0

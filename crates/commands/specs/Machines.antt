@@ -10,11 +10,10 @@ use Rattle.meaning.specs.Conducts.{Act, Asks, Looks}
 use Rattle.meaning.specs.Step.{step}
 use Rattle.meaning.specs.Talks.{Went}
 use Rattle.meaning.specs.declared.entry.Entry.{Entry}
-use Rattle.meaning.specs.declared.call.Event as played
 use Rattle.meaning.specs.declared.call.Reply.{Reply}
 use Rattle.monitor.specs.Moments.{StandsNow}
-use Rattle.monitor.specs.Runs.{event_of, IsServedIn}
-use Rattle.monitor.specs.declared.events.Event.{Event}
+use Rattle.monitor.specs.Runs.{IsServedIn}
+use Rattle.meaning.specs.declared.call.Event.{Event}
 
 pub record Machine : Type 1 where
   pub pack : Pack
@@ -27,9 +26,9 @@ pub record Machine : Type 1 where
 pub record IsAnswered (old new : Machine) (event : Event) (reply : Reply) : Type 0 where
   pub pack : new.pack ≡ old.pack
   pub was_honest : new.honest → old.honest
-  pub crash : new.honest → (s : State) → old.serves (Serving s) → LeavesOnly old.disk new.disk (StandsForEither old.pack s (event_of event) reply)
+  pub crash : new.honest → (s : State) → old.serves (Serving s) → LeavesOnly old.disk new.disk (StandsForEither old.pack s event reply)
   pub broken : new.honest → old.serves Broken → Still old.disk new.disk
-  pub answers : new.honest → (first : Service) → old.serves first → IsServedIn first event → (last : Service) × new.serves last × Answers old.pack first (event_of event) reply last
+  pub answers : new.honest → (first : Service) → old.serves first → IsServedIn first event → (last : Service) × new.serves last × Answers old.pack first event reply last
 
 -- It listed a directory for a job, for which it asks the disk for nothing.
 pub record IsListed (old new : Machine) (job owner : ℕ) (answer : Result (List Entry) Reply) : Type 0 where
@@ -79,15 +78,11 @@ pub record GoesBy {S : Type 0} (machine : S → Machine) (old new : S) (acts : L
   pub went : (machine new).honest → (first : Service) → (machine old).serves first
       → (last : Service) × (machine new).serves last × ActsBy machine (machine old).pack old first acts new last
 
--- Acts of events that are served, in whichever state the machine may have been at each: an OPEN in a mode with buffers
--- and an ENTER on a channel that reads are not.
-
-abbrev pub IsServedAct : Service → played.Event → Type 0
-IsServedAct service event = (served : Event) → event_of served ≡ event → IsServedIn service served
+-- Acts of events that are served, in whichever state the machine may have been at each.
 
 abbrev pub AreServedActs : Pack → Service → List Act → Type 0
 AreServedActs pack service [] = Unit {0}
-AreServedActs pack service (Asks event reply ∷ acts) = IsServedAct service event × ((mid : Service) → Answers pack service event reply mid → AreServedActs pack mid acts)
+AreServedActs pack service (Asks event reply ∷ acts) = IsServedIn service event × ((mid : Service) → Answers pack service event reply mid → AreServedActs pack mid acts)
 AreServedActs pack service (Looks owner answer ∷ acts) = (mid : Service) → Lists service 1 owner answer mid → AreServedActs pack mid acts
 
 -- It went by these acts, moment by moment, where they are of events that are served.

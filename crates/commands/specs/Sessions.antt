@@ -10,10 +10,9 @@ use Rattle.meaning.specs.Runs.{Service}
 use Rattle.meaning.specs.declared.command.Command.{Command}
 use Rattle.commands.specs.Held.{IsHeld}
 use Rattle.commands.specs.Served.{MeansServed, served, Fits}
-use Rattle.monitor.specs.Runs.{event_of}
 use Rattle.commands.specs.Languages.{Closes, Goes}
 use Rattle.commands.specs.Machines.{Machine, GoesBy, GoesServed, AreServedActs}
-use Rattle.commands.specs.Orders.{IsOrdered}
+use Rattle.meaning.specs.Scripts.{MeansEvent}
 use Rattle.commands.specs.Streams.{TalksServed, IsServedSession, IsServedScript, spoken, HasNoFeed, AreWholeLines, Finished, CutShort, IsCut, Unfinished}
 use Rattle.commands.specs.declared.error.SessionError.{SessionError}
 use Rattle.commands.specs.declared.error.SessionError.TheVariants.{Read, Write, NoMemory}
@@ -41,7 +40,7 @@ abbrev pub HeardIn : Language → Moment → List Line → Heard → Type 0
 HeardIn language moment [] heard = heard ≡ Nothing
 HeardIn language moment (line ∷ lines) Nothing = ⊥
 HeardIn language moment (line ∷ lines) (Said meant) = (language ≡ Commands) × MeansServed line meant × (lines ≡ [])
-HeardIn language moment (line ∷ lines) (Ordered order) = (language ≡ Events) × IsOrdered line moment order × (lines ≡ [])
+HeardIn language moment (line ∷ lines) (Ordered order) = (language ≡ Events) × MeansEvent line moment order × (lines ≡ [])
 
 abbrev pub IsHeardIn : Language → Heard → Type 0
 IsHeardIn language Nothing = Unit {0}
@@ -57,7 +56,7 @@ FitsIn (Ordered order) = Unit {0}
 abbrev pub Hears : Moment → Option ℕ → Heard → List Act → Spoken → Option ℕ → Type 0
 Hears moment who Nothing acts said after = (acts ≡ []) × (said ≡ silent) × (after ≡ who)
 Hears moment who (Said meant) acts said after = Speaks moment who (served meant) acts said after
-Hears moment who (Ordered order) acts said after = Orders (option_map event_of order) acts said × (after ≡ who)
+Hears moment who (Ordered order) acts said after = Orders order acts said × (after ≡ who)
 
 -- The calls of what was heard were made, and its text is what was said.
 pub record Replied {V E S : Type 0} (bytes : V → List ℕ) (result : Result V E) (machine : S → Machine) (old new : S) (moment : Moment) (who after : Option ℕ) (tally counted : Tally) (heard : Heard) : Type 0 where

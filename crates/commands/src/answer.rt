@@ -9,8 +9,7 @@ use crate::makdir::make_dir;
 use crate::service::FileService;
 use crate::text;
 use crate::typing::type_out;
-use meaning::{Command, Reply, Spec};
-use monitor::Event;
+use meaning::{Command, Event, Reply, Spec};
 use std::alloc::{AllocError, Global};
 use words36::{Moment, Ppn};
 

@@ -2,13 +2,11 @@ ghost use Rattle.std.specs.Prelude.{◌≡◌, ℕ, map};
 ghost use Rattle.words36.specs.declared.moment.Moment as moments;
 ghost use Rattle.meaning.specs.Conducts.{Plan, Say, each, examines, ends, until_end};
 ghost use Rattle.meaning.specs.Texts.{Spoken};
-ghost use Rattle.monitor.specs.Runs.{event_of};
 ghost use Rattle.commands.specs.Asking.{AreServedFrom, Led, followed};
 
 use crate::answer::SESSION_JOB;
 use crate::service::FileService;
-use meaning::Reply;
-use monitor::{Call, Event};
+use meaning::{Call, Event, Reply};
 use std::alloc::Global;
 use words36::{Moment, Word};
 
@@ -20,7 +18,7 @@ pub fn ask_all<S: FileService>(
 ) -> Result<(), Reply>
     requires { AreServedFrom events.now }
     ensures { (moment : moments.Moment) (next : Plan) → Led S.machine service.old service.new
-        (each moment (map event_of events.now) next) (followed moment result (λ unit. next)) }
+        (each moment events.now next) (followed moment result (λ unit. next)) }
 {
     for event in events {
         let reply = service.event(alloc, event);

@@ -1,8 +1,7 @@
 ghost use Rattle.commands.specs.Machines.{unknown_machine};
 
 use crate::service::FileService;
-use meaning::{Entry, Reply};
-use monitor::{Call, Event};
+use meaning::{Call, Entry, Event, Reply};
 use std::alloc::Global;
 use std::test::Fail;
 use words36::{FileName, Ppn, Word, sixbit_of};

@@ -23,9 +23,8 @@
 //! 8. `order_of` answers an event exactly where a text is a line of a call script, and none exactly where it
 //!    is none; a line has one reading. `reply_line` writes the line of a reply. (`orders_have_one_reading`)
 //! 9. `script` reads to the end of the input, serves the event of each line, and writes the line of its reply:
-//!    what is said of a session is said of it, where its events are served in the states that they meet. A line
-//!    with a call that is not served is answered as one that is none of the grammar. No job is reset.
-//!    (`Script`, `served_event`)
+//!    what is said of a session is said of it, where its events are served in the states that they meet. No job is
+//!    reset. (`Script`)
 //! 10. A start over what a crash left in the course of a session or a script, or of starts after it that were stopped
 //!    themselves, finds the files after some of its acts, or after these and the one that was running. (`start_after_acts`)
 #![tactic(auto)]
@@ -49,7 +48,6 @@ mod monitored;
 mod obeying;
 #[cfg(test)]
 mod order_tests;
-mod ordered;
 mod orders;
 mod reading;
 mod requests;
@@ -70,7 +68,6 @@ pub use error::SessionError;
 pub use laws::{lines_say_what_is_served, orders_have_one_reading, served_texts_are_functions};
 pub use monitor::{Monitor, StartError};
 pub use monitored::{script, session};
-pub use ordered::served_event;
 pub use restart::start_after_acts;
 pub use text::refusal;
 pub use volume::Volume;

@@ -8,8 +8,8 @@ use crate::answer::Tally;
 use crate::run::{converse, play};
 use crate::service::FileService;
 use blockdisk::Disk;
-use meaning::{Entry, Reply};
-use monitor::{Event, Monitor};
+use meaning::{Entry, Event, Reply};
+use monitor::Monitor;
 use std::alloc::Global;
 use std::io::{Read, Write};
 use words36::{Moment, Ppn};
@@ -54,8 +54,7 @@ pub fn session<R: Read, W: Write, D: Disk>(
 }
 
 /// Serves a call script: each line of the reader is one event, at a moment, and one line is written for its
-/// reply. A line that is none of the grammar, and so far one with RENAME, REMDIR, INBUF or OUTBUF, is answered
-/// with `SYNTAX`, and nothing is asked for it. No job is reset at the end. The tally tells whether a line was
+/// reply. A line that is none of the grammar is answered with `SYNTAX`, and nothing is asked for it. No job is reset at the end. The tally tells whether a line was
 /// answered with other than `DONE` and `VALUE`, and whether one was `DEVICE` or `FAILED`.
 ///
 /// # Errors

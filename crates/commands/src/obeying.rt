@@ -8,8 +8,7 @@ ghost use Rattle.commands.specs.declared.run.Heard.TheVariants.{Ordered};
 use crate::answer::Tally;
 use crate::service::FileService;
 use crate::text::{line, reply_line};
-use meaning::Reply;
-use monitor::Event;
+use meaning::{Event, Reply};
 use std::alloc::{AllocError, Global};
 
 /// Counts a reply.

@@ -5,12 +5,10 @@ ghost use Rattle.meaning.specs.Conducts as plans;
 ghost use Rattle.meaning.specs.Conducts.{block_words};
 ghost use Rattle.meaning.specs.declared.call.Call.TheVariants.{Close};
 ghost use Rattle.meaning.specs.declared.call.Event.TheVariants.{Deposit};
-ghost use Rattle.monitor.specs.Runs.{event_of};
 ghost use Rattle.commands.specs.Asking.{AreServedFrom, IsAlwaysServed};
 
 use crate::answer::SESSION_JOB;
-use meaning::Spec;
-use monitor::{Call, Event};
+use meaning::{Call, Event, Spec};
 use words36::{FileName, Half, Moment, Ppn, Word};
 
 // Where a session has what it hands over, in its core.
@@ -71,7 +69,7 @@ fn extension_word(name: &FileName) -> Word
 
 /// What looks a file up, on channel 1.
 pub fn finds(moment: Moment, spec: Spec) -> [Event; 9]
-    ensures made { map event_of result ≡ plans.finds moment spec }
+    ensures made { result ≡ plans.finds moment spec }
     ensures served { AreServedFrom result }
 {
     let Spec { name, owner } = spec;
@@ -92,7 +90,7 @@ pub fn finds(moment: Moment, spec: Spec) -> [Event; 9]
 
 /// What enters a file, on channel 2.
 pub fn writes(moment: Moment, spec: Spec) -> [Event; 9]
-    ensures made { map event_of result ≡ plans.writes moment spec }
+    ensures made { result ≡ plans.writes moment spec }
     ensures served { AreServedFrom result }
 {
     let Spec { name, owner } = spec;
@@ -125,7 +123,7 @@ fn block_command(count: u32) -> Word
 /// What makes the command list name so many words of the block.
 pub fn lists(count: u32) -> [Event; 2]
     requires { count ≤ 128 }
-    ensures made { map event_of result ≡ plans.lists count }
+    ensures made { result ≡ plans.lists count }
     ensures served { AllByRecursion IsAlwaysServed result }
 {
     [
@@ -136,7 +134,7 @@ pub fn lists(count: u32) -> [Event; 2]
 
 /// An IN of what the command list names.
 pub fn takes(moment: Moment) -> Event
-    ensures made { event_of result ≡ plans.takes moment }
+    ensures made { result ≡ plans.takes moment }
     ensures served { IsAlwaysServed result }
 {
     Event::Call(SESSION_JOB, Call::In(READER, LIST_WORDS), moment)
@@ -144,7 +142,7 @@ pub fn takes(moment: Moment) -> Event
 
 /// An OUT of what the command list names.
 pub fn puts(moment: Moment) -> Event
-    ensures made { event_of result ≡ plans.puts moment }
+    ensures made { result ≡ plans.puts moment }
     ensures served { IsAlwaysServed result }
 {
     Event::Call(SESSION_JOB, Call::Out(WRITER, LIST_WORDS), moment)
@@ -152,7 +150,7 @@ pub fn puts(moment: Moment) -> Event
 
 /// What makes block n the next that is taken.
 pub fn goes_to(moment: Moment, n: u32) -> Event
-    ensures made { event_of result ≡ plans.goes_to moment n }
+    ensures made { result ≡ plans.goes_to moment n }
     ensures served { IsAlwaysServed result }
 {
     Event::Call(SESSION_JOB, Call::Useti(READER, n), moment)
@@ -160,7 +158,7 @@ pub fn goes_to(moment: Moment, n: u32) -> Event
 
 /// What makes the file that was entered the file of its name.
 pub fn closes(moment: Moment) -> Event
-    ensures made { event_of result ≡ plans.calls moment (Close 2 0) }
+    ensures made { result ≡ plans.calls moment (Close 2 0) }
     ensures served { IsAlwaysServed result }
 {
     Event::Call(SESSION_JOB, Call::Close(WRITER, 0), moment)
@@ -169,7 +167,7 @@ pub fn closes(moment: Moment) -> Event
 /// A word of the block becomes this one.
 pub fn fills(place: u32, word: Word) -> Event
     requires { place < 128 }
-    ensures made { event_of result ≡ Deposit 1 (block_words + place) word }
+    ensures made { result ≡ Deposit 1 (block_words + place) word }
     ensures served { IsAlwaysServed result }
 {
     Event::Deposit(SESSION_JOB, BLOCK_AREA + place, word)
@@ -178,7 +176,7 @@ pub fn fills(place: u32, word: Word) -> Event
 /// What makes a directory.
 pub fn makes(moment: Moment, owner: Ppn, protection: u32) -> [Event; 3]
     requires { protection < 512 }
-    ensures made { map event_of result ≡ plans.makes moment owner protection }
+    ensures made { result ≡ plans.makes moment owner protection }
     ensures served { AllByRecursion IsAlwaysServed result }
 {
     [

@@ -8,11 +8,10 @@ use crate::grammar::meant_by;
 use crate::input::{Held, InputLine};
 use crate::language::Language;
 use crate::obeying::obey;
-use crate::ordered::served_by;
+use crate::orders::ordered_by;
 use crate::service::FileService;
 use crate::stream::write_text;
-use meaning::Command;
-use monitor::{Call, Event};
+use meaning::{Call, Command, Event};
 use std::alloc::{AllocError, Global};
 use std::io::{Read, Write};
 use words36::{Moment, Ppn};
@@ -49,7 +48,7 @@ fn heard_of(language: Language, moment: Moment, line: Option<InputLine<'_>>) -> 
     };
     match language {
         Language::Commands => Heard::Said(meant_by(line)),
-        Language::Events => Heard::Ordered(served_by(line, moment)),
+        Language::Events => Heard::Ordered(ordered_by(line, moment)),
     }
 }
 

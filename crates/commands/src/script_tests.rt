@@ -7,11 +7,11 @@ use std::io::ErrorKind;
 use std::test::Fail;
 use words36::{Moment, Word};
 
-/// Calls that are not served are asked for as little as lines that are no calls, and no job is reset.
+/// Nothing is asked for lines that are none of the grammar, and no job is reset.
 #[test]
 fn lines_that_ask_nothing(rt: HostRuntime) -> Result<(), Fail> {
     let mut fake = service(Vec::new(rt.alloc()));
-    let mut reader: &[u8] = b"1 RENAME 1 300\n1 REMDIR 300\n1 INBUF 1 2\n1 OUTBUF 1 2\nDIRECTORY\n";
+    let mut reader: &[u8] = b"1 RENAME 1\n1 REMDIR 1 300\n1 FOO\n1 OUTBUF 1 2 3\nDIRECTORY\n";
     let mut writer = Vec::new(rt.alloc());
     let moment = Moment::new(0, 0)?;
     let tally = play(rt.alloc(), &mut reader, &mut writer, &mut fake, moment)?;

@@ -4,8 +4,7 @@ ghost use Rattle.meaning.specs.Runs.{Serving};
 ghost use Rattle.monitor.specs.Moments.{StandsNow};
 ghost use Rattle.commands.specs.Machines.{Machine, IsAnswered, IsListed};
 
-use meaning::{Entry, Reply};
-use monitor::Event;
+use meaning::{Entry, Event, Reply};
 use std::alloc::Global;
 use words36::Ppn;
 

@@ -7,9 +7,8 @@ use Rattle.meaning.specs.Inputs.{reads}
 use Rattle.meaning.specs.Jobs.{Channel, Job, State, channel_at, job_at}
 use Rattle.meaning.specs.Room.{Pack}
 use Rattle.meaning.specs.Runs.{Service, Serving, Broken, Answers}
-use Rattle.meaning.specs.Step.{step, last_date, on_job, on_channel, of_job}
+use Rattle.meaning.specs.Step.{step, last_date, on_job, on_channel, of_job, job_of}
 use Rattle.meaning.specs.Step as machine
-use Rattle.meaning.specs.declared.call.Call as machine_calls
 use Rattle.meaning.specs.declared.call.Call.TheVariants.{In}
 use Rattle.meaning.specs.declared.call.Event.TheVariants.{Call as Calls}
 use Rattle.meaning.specs.declared.call.Reply.{Reply}
@@ -17,13 +16,9 @@ use Rattle.meaning.specs.declared.call.Reply.TheVariants.{NoMemory, Device, Date
 use Rattle.meaning.proofs.LookupLaws.{serving_same, not_broken}
 use Rattle.meaning.proofs.SlotLaws.{slot-set_same}
 use Rattle.meaning.proofs.StepLaws.{spares_step}
-use Rattle.monitor.specs.Calls.{call_of}
 use Rattle.monitor.specs.Moments.{read_by, read_of}
-use Rattle.monitor.specs.Runs.{event_of, job_of}
-use Rattle.monitor.specs.declared.call.Call.{Call}
-use Rattle.monitor.specs.declared.call.Call.TheVariants as calls
-use Rattle.monitor.specs.declared.events.Event.{Event}
-use Rattle.monitor.specs.declared.events.Event.TheVariants.{Login, Deposit, Examine, Call as Asks}
+use Rattle.meaning.specs.declared.call.Call.{Call}
+use Rattle.meaning.specs.declared.call.Event.{Event}
 
 -- An IN.
 
@@ -59,46 +54,37 @@ module _ (S : Service → Type 0) (pack : Pack) (s : State) (n : ℕ) (moment : 
       answers
 
   -- it was answered from a state, since neither memory nor the device failed it
-  pub in_still : (own : Job) (ch a : ℕ) (call : Call) → call ≡ calls.In ch a → job_at s n ≡ Some own → moment.date ≤ last_date pack.layout → (reply ≡ NoMemory → ⊥) → (reply ≡ Device → ⊥)
-      → (new : Service) → S new → Answers pack (Serving s) (Calls n (call_of call) moment) reply new → IsStill own ch a
+  pub in_still : (own : Job) (ch a : ℕ) (call : Call) → call ≡ In ch a → job_at s n ≡ Some own → moment.date ≤ last_date pack.layout → (reply ≡ NoMemory → ⊥) → (reply ≡ Device → ⊥)
+      → (new : Service) → S new → Answers pack (Serving s) (Calls n call moment) reply new → IsStill own ch a
   in_still own ch a call asked there timely room works new is answers =
-      by_service own ch a there timely room works new is (subst (λ x. Answers pack (Serving s) (Calls n (call_of x) moment) reply new) asked answers)
+      by_service own ch a there timely room works new is (subst (λ x. Answers pack (Serving s) (Calls n x moment) reply new) asked answers)
 
   -- Another job is left as it was.
 
-  abbrev pub IsApart : machine_calls.Call → Type 0
+  abbrev pub IsApart : Call → Type 0
   IsApart call = (after : Service) × S after × Answers pack (Serving s) (Calls n call moment) reply after × ((t : State) → after ≡ Serving t → (m : ℕ) → (m ≡ n → ⊥) → job_at t m ≡ job_at s m)
 
-  others_stay : (call : machine_calls.Call) (after : State) → Answers pack (Serving s) (Calls n call moment) reply (Serving after) → (m : ℕ) → (m ≡ n → ⊥) → job_at after m ≡ job_at s m
+  others_stay : (call : Call) (after : State) → Answers pack (Serving s) (Calls n call moment) reply (Serving after) → (m : ℕ) → (m ≡ n → ⊥) → job_at after m ≡ job_at s m
   others_stay call after answers m other = ⊎_elim
       (λ steps. subst (λ (r : Reply × State). job_at r.1 m ≡ job_at s m) steps.2 (spares_step pack steps.0 s m (Calls n call moment) other))
       (λ none. ap (λ t. job_at t m) none.1)
       answers
 
-  pub apart : (call : machine_calls.Call) (new : Service) → S new → Answers pack (Serving s) (Calls n call moment) reply new → IsApart call
+  pub apart : (call : Call) (new : Service) → S new → Answers pack (Serving s) (Calls n call moment) reply new → IsApart call
   apart call Broken is answers = (Broken, is, answers, λ t e. absurd (not_broken (sym e)))
   apart call (Serving after) is answers = (Serving after, is, answers, λ t e m other. ap (λ x. job_at x m) (sym (serving_same e)) ∙ others_stay call after answers m other)
 
 -- An event leaves every job but its own as it was.
 module _ (S : Service → Type 0) (pack : Pack) (s : State) (event : Event) (reply : Reply) where
   abbrev pub LeavesOthers : Type 0
-  LeavesOthers = (after : Service) × S after × Answers pack (Serving s) (event_of event) reply after × ((t : State) → after ≡ Serving t → (m : ℕ) → (m ≡ job_of event → ⊥) → job_at t m ≡ job_at s m)
+  LeavesOthers = (after : Service) × S after × Answers pack (Serving s) event reply after × ((t : State) → after ≡ Serving t → (m : ℕ) → (m ≡ job_of event → ⊥) → job_at t m ≡ job_at s m)
 
-  same_job : machine.job_of (event_of event) ≡ job_of event
-  same_job = by_event event
-    where
-      by_event : (e : Event) → machine.job_of (event_of e) ≡ job_of e
-      by_event (Login job ppn words) = refl
-      by_event (Deposit job address word) = refl
-      by_event (Examine job address) = refl
-      by_event (Asks job call moment) = refl
-
-  stay : (after : State) → Answers pack (Serving s) (event_of event) reply (Serving after) → (m : ℕ) → (m ≡ job_of event → ⊥) → job_at after m ≡ job_at s m
+  stay : (after : State) → Answers pack (Serving s) event reply (Serving after) → (m : ℕ) → (m ≡ job_of event → ⊥) → job_at after m ≡ job_at s m
   stay after answers m other = ⊎_elim
-      (λ steps. subst (λ (r : Reply × State). job_at r.1 m ≡ job_at s m) steps.2 (spares_step pack steps.0 s m (event_of event) (λ is. other (is ∙ same_job))))
+      (λ steps. subst (λ (r : Reply × State). job_at r.1 m ≡ job_at s m) steps.2 (spares_step pack steps.0 s m event other))
       (λ none. ap (λ t. job_at t m) none.1)
       answers
 
-  pub leaves_others : (new : Service) × S new × Answers pack (Serving s) (event_of event) reply new → LeavesOthers
+  pub leaves_others : (new : Service) × S new × Answers pack (Serving s) event reply new → LeavesOthers
   leaves_others (Broken, is, answers) = (Broken, is, answers, λ t e. absurd (not_broken (sym e)))
   leaves_others (Serving after, is, answers) = (Serving after, is, answers, λ t e m other. ap (λ x. job_at x m) (sym (serving_same e)) ∙ stay after answers m other)

@@ -21,7 +21,7 @@ use Rattle.volume.specs.Live.{VolumeCore}
 use Rattle.volume.specs.Rest.{IsSound}
 use Rattle.monitor.specs.Entering.{IsEnterAnswer}
 use Rattle.monitor.specs.Finding.{IsKnown}
-use Rattle.monitor.specs.Rows.{IsReading, enter_unserved, enter_refused}
+use Rattle.monitor.specs.Unserved.{IsReading, refusal_at, job_refused}
 use Rattle.monitor.specs.Serving.{pack_of, AreKeyed, AreReading, IsState, Serves}
 use Rattle.monitor.specs.Sides.{UnderKeys, sides_in, job_of, state_of}
 use Rattle.monitor.specs.declared.job.Job.{Job}
@@ -38,15 +38,13 @@ never_done : (b : Bool) → (if b then AddressCheck else Refused 5) ≡ Done →
 never_done true e = cc e
 never_done false e = cc e
 
-pub stays : (map map' : VolumeCore) (jobs jobs' : List (Option Job)) (n : ℕ) (job job' : Job) (ch e : ℕ) (reply : Reply) → slot jobs n ≡ Some job → jobs' ≡ slice_set jobs n (Some job')
-    → ((reply ≡ Done → ⊥) → (map' ≡ map) × (job' ≡ record job { core = job'.core })) → (IsReading (slot job.channels ch) → (reply ≡ enter_unserved job e) × (job' ≡ enter_refused job e))
-    → (x : Job) → slot jobs n ≡ Some x → IsReading (slot x.channels ch) → (map' ≡ map) × (reply ≡ enter_unserved x e) × (jobs' ≡ slice_set jobs n (Some (enter_refused x e)))
-stays map map' jobs jobs' n job job' ch e reply there set kept unserved x at reads =
-    let same = some_same (sym at ∙ there) in
-    let is = unserved (subst (λ (j : Job). IsReading (slot j.channels ch)) same reads) in
+pub stays : (map map' : VolumeCore) (job job' : Job) (ch e : ℕ) (reply : Reply) → ((reply ≡ Done → ⊥) → (map' ≡ map) × (job' ≡ record job { core = job'.core }))
+    → (IsReading (slot job.channels ch) → (reply ≡ refusal_at job e 4) × (job' ≡ job_refused job e 4)) → IsReading (slot job.channels ch)
+    → (map' ≡ map) × (reply ≡ refusal_at job e 4) × (job' ≡ job_refused job e 4)
+stays map map' job job' ch e reply kept unserved reads =
+    let is = unserved reads in
     let not = λ (done : reply ≡ Done). never_done (lies_outside job.core e 4) (sym is.0 ∙ done) in
-    subst (λ (j : Job). (map' ≡ map) × (reply ≡ enter_unserved j e) × (jobs' ≡ slice_set jobs n (Some (enter_refused j e)))) (sym same)
-    ((kept not).0, is.0, set ∙ ap (λ j. slice_set jobs n (Some j)) is.1)
+    ((kept not).0, is.0, is.1)
 
 -- What every other answer leaves.
 module _ (d : DiskState) (map : VolumeCore) (failed : Bool) (jobs jobs' : List (Option Job)) (n : ℕ) (job job' : Job) (ch e : ℕ) (moment : Moment) (reply : Reply)

@@ -18,8 +18,6 @@ use Rattle.meaning.proofs.SerialLaws as serials
 use Rattle.volume.specs.Live.{VolumeCore}
 use Rattle.monitor.specs.Events.{CallCrashes, IsIdle, OfCall}
 use Rattle.monitor.specs.Serving.{pack_of, IsState}
-use Rattle.monitor.specs.declared.call.Call as calls
-use Rattle.monitor.specs.declared.events.Event as asked
 use Rattle.monitor.specs.declared.job.Job.{Job}
 use Rattle.monitor.proofs.Untouched.{untouched_leaves}
 
@@ -68,5 +66,5 @@ module _ {D : Type 0} (state : D → DiskState) (only_now : (disk : D) (contents
   call_event DateRange idle serves = still DateRange (idle tt)
 
 -- What is said of an event is said of one that is the same.
-pub of_other : (P : ℕ → calls.Call → Moment → Type 0) (event other : asked.Event) → event ≡ other → OfCall other P → OfCall event P
+pub of_other : (P : ℕ → Call → Moment → Type 0) (event other : Event) → event ≡ other → OfCall other P → OfCall event P
 of_other P event other is p = subst (λ e. OfCall e P) (sym is) p

@@ -72,3 +72,5 @@ pub mod Stills
 pub mod Lookups
 pub mod LookupCalls
 pub mod Refusals
+pub mod Promised
+pub mod OutOfOrder

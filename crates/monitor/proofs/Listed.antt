@@ -10,28 +10,28 @@ use Rattle.meaning.specs.declared.call.Reply.{Reply}
 use Rattle.meaning.specs.declared.call.Reply.TheVariants.{Done, Value, Refused, Stopped, NoChannel, AddressCheck, NoJob, NoMemory, Device, Failed, DateRange}
 use Rattle.meaning.proofs.CrashLaws.{is_run, runs_start, runs_served, runs_failed, runs_stay}
 use Rattle.monitor.specs.Moments.{StandsNow, RunsBy, HoldsStill, last_of}
-use Rattle.monitor.specs.Runs.{event_of, IsServedIn, AreServed, TellsFault, FailsOnce}
+use Rattle.monitor.specs.Runs.{IsServedIn, AreServed, TellsFault, FailsOnce}
 use Rattle.monitor.specs.Serving.{pack_of, Serves}
 use Rattle.monitor.specs.States.{MonitorState}
-use Rattle.monitor.specs.declared.events.Event.{Event}
+use Rattle.meaning.specs.declared.call.Event.{Event}
 use Rattle.monitor.proofs.EventCrashes.{state_stands}
 use Rattle.monitor.proofs.MomentRuns.{last_more, by_through, by_start, by_more, by_stay}
 use Rattle.monitor.proofs.Stills.{holds_still}
 
 -- Lists that are one longer.
 
-events_more : (events : List Event) (event : Event) → map event_of (events ++ event ∷ []) ≡ map event_of events ++ event_of event ∷ []
+events_more : (events : List Event) (event : Event) → (events ++ event ∷ []) ≡ events ++ event ∷ []
 events_more [] event = refl
-events_more (e ∷ events) event = ap (λ es. event_of e ∷ es) (events_more events event)
+events_more (e ∷ events) event = ap (λ es. e ∷ es) (events_more events event)
 
 -- what was served of a list is served of its events but the last, and the last is served after them
 served_parts : (pack : Pack) (old : Service) (events : List Event) (replies : List Reply) (event : Event) (reply : Reply) → length replies ≡ length events → AreServed pack old (events ++ event ∷ []) (replies ++ reply ∷ [])
-    → AreServed pack old events replies × ((mid : Service) → Run pack old (map event_of events) replies mid → IsServedIn mid event)
+    → AreServed pack old events replies × ((mid : Service) → Run pack old events replies mid → IsServedIn mid event)
 served_parts pack old [] [] event reply even served = (tt, λ mid run. subst (λ x. IsServedIn x event) (sym run) served.0)
 served_parts pack old [] (r ∷ replies) event reply even served = absurd (omega (arith, even))
 served_parts pack old (e ∷ events) [] event reply even served = absurd (omega (arith, even))
 served_parts pack old (e ∷ events) (r ∷ replies) event reply even served =
-    let rest = λ (mid : Service) (answers : Answers pack old (event_of e) r mid). served_parts pack mid events replies event reply (omega (arith, even)) (served.1 mid answers) in
+    let rest = λ (mid : Service) (answers : Answers pack old e r mid). served_parts pack mid events replies event reply (omega (arith, even)) (served.1 mid answers) in
     ((served.0, λ mid answers. (rest mid answers).0), λ mid run. (rest run.0 run.1).1 mid run.2)
 
 module _ {X : Type 0} (P : X → Type 0) where
@@ -80,8 +80,8 @@ module _ {D : Type 0} (state : D → DiskState) where
   -- the run of these events from the value `first` on, by way of these services, which has led to the value `now`
   abbrev pub RunsTo : MonitorState D → MonitorState D → State → List Event → List Reply → List Service → Type 0
   RunsTo first now s events replies services =
-      RunsOn (pack_of (state first.disk)) (state now.disk) (state first.disk).clock (Serving s) (map event_of events) replies (last_of (Serving s) services)
-      × RunsBy state (pack_of (state first.disk)) first.disk (Serving s) (map event_of events) replies services now.disk
+      RunsOn (pack_of (state first.disk)) (state now.disk) (state first.disk).clock (Serving s) events replies (last_of (Serving s) services)
+      × RunsBy state (pack_of (state first.disk)) first.disk (Serving s) events replies services now.disk
 
   -- what was served so far, since the value `first`
   abbrev pub Ran : MonitorState D → MonitorState D → List Event → List Reply → Type 0
@@ -100,9 +100,9 @@ module _ {D : Type 0} (state : D → DiskState) where
   RanStill first now events replies =
       (state now.disk).honest → (s : State) → Serves (state first.disk) first.map first.failed first.jobs (Serving s) → AreServed (pack_of (state first.disk)) (Serving s) events replies
       → (services : List Service) × Serves (state now.disk) now.map now.failed now.jobs (last_of (Serving s) services)
-      × RunsOn (pack_of (state first.disk)) (state now.disk) (state first.disk).clock (Serving s) (map event_of events) replies (last_of (Serving s) services)
-      × RunsBy state (pack_of (state first.disk)) first.disk (Serving s) (map event_of events) replies services now.disk
-      × HoldsStill (Serving s) (map event_of events) replies services
+      × RunsOn (pack_of (state first.disk)) (state now.disk) (state first.disk).clock (Serving s) events replies (last_of (Serving s) services)
+      × RunsBy state (pack_of (state first.disk)) first.disk (Serving s) events replies services now.disk
+      × HoldsStill (Serving s) events replies services
 
   pub ran_still : (first now : MonitorState D) (events : List Event) (replies : List Reply) → Ran first now events replies → RanStill first now events replies
   ran_still first now events replies ran h s serves served =
@@ -111,8 +111,8 @@ module _ {D : Type 0} (state : D → DiskState) where
         led.1,
         led.2.0,
         led.2.1,
-        holds_still (pack_of (state first.disk)) (Serving s) (map event_of events) replies led.0
-            (by_through state (pack_of (state first.disk)) first.disk now.disk (Serving s) (map event_of events) replies led.0 led.2.1),
+        holds_still (pack_of (state first.disk)) (Serving s) events replies led.0
+            (by_through state (pack_of (state first.disk)) first.disk now.disk (Serving s) events replies led.0 led.2.1),
       )
 
   module _ (first old new : MonitorState D) (events : List Event) (replies : List Reply) (event : Event) (reply : Reply) where
@@ -129,10 +129,10 @@ module _ {D : Type 0} (state : D → DiskState) where
     abbrev pub IsAnswered : Type 0
     IsAnswered =
         d'.honest → (s : Service) → Serves d old.map old.failed old.jobs s → IsServedIn s event
-        → (t : Service) × Serves d' new.map new.failed new.jobs t × Answers (pack_of d) s (event_of event) reply t
+        → (t : Service) × Serves d' new.map new.failed new.jobs t × Answers (pack_of d) s event reply t
 
     abbrev pub Crashes : Type 0
-    Crashes = d'.honest → (s : State) → Serves d old.map old.failed old.jobs (Serving s) → LeavesOnly d d' (StandsForEither (pack_of d) s (event_of event) reply)
+    Crashes = d'.honest → (s : State) → Serves d old.map old.failed old.jobs (Serving s) → LeavesOnly d d' (StandsForEither (pack_of d) s event reply)
 
     abbrev pub Stays : Type 0
     Stays = old.failed ≡ true → (reply ≡ Failed) × (new ≡ old)
@@ -140,8 +140,8 @@ module _ {D : Type 0} (state : D → DiskState) where
     -- the run with one event more, one reply more, and one service more
     abbrev More : MonitorState D → State → List Service → Reply → Service → Type 0
     More m s services r t =
-        RunsOn pack (state m.disk) (state first.disk).clock (Serving s) (map event_of events ++ event_of event ∷ []) (replies ++ r ∷ []) t
-        × RunsBy state pack first.disk (Serving s) (map event_of events ++ event_of event ∷ []) (replies ++ r ∷ []) (services ++ t ∷ []) m.disk
+        RunsOn pack (state m.disk) (state first.disk).clock (Serving s) (events ++ event ∷ []) (replies ++ r ∷ []) t
+        × RunsBy state pack first.disk (Serving s) (events ++ event ∷ []) (replies ++ r ∷ []) (services ++ t ∷ []) m.disk
 
     abbrev Goal : State → Type 0
     Goal s =
@@ -155,7 +155,7 @@ module _ {D : Type 0} (state : D → DiskState) where
           services ++ t ∷ [],
           subst (λ x. Serves d' new.map new.failed new.jobs x) last serves,
           (
-            subst (λ x. RunsOn pack d' (state first.disk).clock (Serving s) (map event_of (events ++ event ∷ [])) (replies ++ reply ∷ []) x) last
+            subst (λ x. RunsOn pack d' (state first.disk).clock (Serving s) (events ++ event ∷ []) (replies ++ reply ∷ []) x) last
                 (subst (λ es. RunsOn pack d' (state first.disk).clock (Serving s) es (replies ++ reply ∷ []) t) spelled more.0),
             subst (λ es. RunsBy state pack first.disk (Serving s) es (replies ++ reply ∷ []) (services ++ t ∷ []) new.disk) spelled more.1,
           ),
@@ -165,25 +165,25 @@ module _ {D : Type 0} (state : D → DiskState) where
         → (reply ≡ Failed) × (new ≡ old) → Goal s
     stayed s services failed last runs is = led_on s services Broken (ap (λ m. m.failed) is.1 ∙ failed)
         (subst (λ (m : MonitorState D). More m s services reply Broken) (sym is.1) (subst (λ r. More old s services r Broken) (sym is.0) (
-          runs_stay pack d (state first.disk).clock (Serving s) (map event_of events) replies (event_of event)
-              (subst (λ x. RunsOn pack d (state first.disk).clock (Serving s) (map event_of events) replies x) last runs.0),
-          by_stay state pack first.disk old.disk (Serving s) (map event_of events) replies services (event_of event) runs.1 last,
+          runs_stay pack d (state first.disk).clock (Serving s) events replies event
+              (subst (λ x. RunsOn pack d (state first.disk).clock (Serving s) events replies x) last runs.0),
+          by_stay state pack first.disk old.disk (Serving s) events replies services event runs.1 last,
         )))
 
     went_on : (s u : State) (services : List Service) → SameDisk (state first.disk) d' → last_of (Serving s) services ≡ Serving u
-        → RunsTo first old s events replies services → LeavesOnly d d' (StandsForEither pack u (event_of event) reply)
-        → (t : Service) → Serves d' new.map new.failed new.jobs t → Answers pack (Serving u) (event_of event) reply t → Goal s
+        → RunsTo first old s events replies services → LeavesOnly d d' (StandsForEither pack u event reply)
+        → (t : Service) → Serves d' new.map new.failed new.jobs t → Answers pack (Serving u) event reply t → Goal s
     went_on s u services same last runs leaves Broken serves a = led_on s services Broken serves (
-      runs_failed pack d d' u (event_of event) reply leaves (state first.disk).clock (Serving s) (map event_of events) replies
-          (subst (λ x. RunsOn pack d (state first.disk).clock (Serving s) (map event_of events) replies x) last runs.0) a,
-      by_more state pack old.disk new.disk u (event_of event) reply Broken a leaves (refl, tt) first.disk (Serving s) (map event_of events) replies services runs.1 last,
+      runs_failed pack d d' u event reply leaves (state first.disk).clock (Serving s) events replies
+          (subst (λ x. RunsOn pack d (state first.disk).clock (Serving s) events replies x) last runs.0) a,
+      by_more state pack old.disk new.disk u event reply Broken a leaves (refl, tt) first.disk (Serving s) events replies services runs.1 last,
     )
     went_on s u services same last runs leaves (Serving v) serves a =
         let stands : StandsNow pack d' v = λ c left. subst (λ p. StandsForState p v c) (ap pack_with same.size) (state_stands d' new.map new.jobs v serves.1 c left) in
         led_on s services (Serving v) serves (
-          runs_served pack d d' u (event_of event) reply leaves v (state first.disk).clock (Serving s) (map event_of events) replies
-              (subst (λ x. RunsOn pack d (state first.disk).clock (Serving s) (map event_of events) replies x) last runs.0) a stands,
-          by_more state pack old.disk new.disk u (event_of event) reply (Serving v) a leaves (refl, stands) first.disk (Serving s) (map event_of events) replies services runs.1 last,
+          runs_served pack d d' u event reply leaves v (state first.disk).clock (Serving s) events replies
+              (subst (λ x. RunsOn pack d (state first.disk).clock (Serving s) events replies x) last runs.0) a stands,
+          by_more state pack old.disk new.disk u event reply (Serving v) a leaves (refl, stands) first.disk (Serving s) events replies services runs.1 last,
         )
 
     pub ran_more : length replies ≡ length events → SameDisk (state first.disk) d → SameDisk (state first.disk) d' → SameDisk d d' → IsAnswered → Crashes → Stays → Ran first old events replies → Ran first new (events ++ event ∷ []) (replies ++ reply ∷ [])
@@ -191,7 +191,7 @@ module _ {D : Type 0} (state : D → DiskState) where
         let parts = served_parts pack (Serving s) events replies event reply even served in
         let led = ran (once.was_honest h) s serves parts.0 in
         let last = last_of (Serving s) led.0 in
-        on led.0 last refl (parts.1 last (is_run pack d (state first.disk).clock (Serving s) last (map event_of events) replies led.2.0)) led.1 led.2
+        on led.0 last refl (parts.1 last (is_run pack d (state first.disk).clock (Serving s) last events replies led.2.0)) led.1 led.2
       where
         size : pack_of d ≡ pack
         size = ap pack_with same.size
@@ -201,8 +201,8 @@ module _ {D : Type 0} (state : D → DiskState) where
         on services Broken last is failed runs = stayed s services failed last runs (stays failed)
         on services (Serving u) last is mid runs =
             let after = answered h (Serving u) mid is in
-            went_on s u services same' last runs (subst (λ p. LeavesOnly d d' (StandsForEither p u (event_of event) reply)) size (crash h u mid)) after.0 after.1
-            (subst (λ p. Answers p (Serving u) (event_of event) reply after.0) size after.2)
+            went_on s u services same' last runs (subst (λ p. LeavesOnly d d' (StandsForEither p u event reply)) size (crash h u mid)) after.0 after.1
+            (subst (λ p. Answers p (Serving u) event reply after.0) size after.2)
 
     -- Faults of the device.
 

@@ -14,7 +14,8 @@ use Rattle.meaning.specs.declared.call.Call.TheVariants.{Open}
 use Rattle.meaning.specs.declared.call.Reply.{Reply}
 use Rattle.meaning.specs.declared.call.Reply.TheVariants.{Done, Refused, Stopped, NoChannel, AddressCheck}
 use Rattle.meaning.proofs.MapLaws.{some_none}
-use Rattle.monitor.specs.Rows.{IsRow, Keeps, KeepsReading, improper_at, opened_at, open_unserved, unserved}
+use Rattle.monitor.specs.Rows.{IsRow, Keeps, KeepsReading, improper_at, opened_at}
+use Rattle.monitor.specs.Unserved.{open_unserved, stopped_where_done}
 use Rattle.monitor.specs.Sides.{UnderKeys, side_of, reader_of, channel_of, job_of}
 use Rattle.monitor.specs.declared.channel.Channel.{Channel}
 use Rattle.monitor.specs.declared.job.Job.{Job}
@@ -85,8 +86,8 @@ module _ (job : Job) (number a : ℕ) where
       unbuffered : core_opened job.core a ≡ job.core
       unbuffered = ap (λ b. if b then opened_core else job.core) plain
 
-  pub unserved_is : number < 16 → (w : UnderKeys) (reply : Reply) → open_answer (job_of w job) number a ≡ reply → unserved (mode_at job.core a) reply ≡ open_unserved (job_of w job) number a
-  unserved_is few w reply answer = ap (unserved (mode_at job.core a)) (sym answer) ∙ ap (λ b. if b then unserved (mode_at job.core a) (open_answer (job_of w job) number a) else NoChannel) (sym (fits number few))
+  pub unserved_is : number < 16 → (w : UnderKeys) (reply : Reply) → open_answer (job_of w job) number a ≡ reply → stopped_where_done (mode_at job.core a) reply ≡ open_unserved (job_of w job) number a
+  unserved_is few w reply answer = ap (stopped_where_done (mode_at job.core a)) (sym answer) ∙ ap (λ b. if b then stopped_where_done (mode_at job.core a) (open_answer (job_of w job) number a) else NoChannel) (sym (fits number few))
 
 -- a channel that is opened writes nothing
 pub keeps_opened : (pending : List (Option PendingVersion)) (job : Job) (number : ℕ) (c : Channel) → is_some (slot job.channels number) ≡ false → c.output ≡ None → Keeps pending pending job (record job { channels = slice_set job.channels number (Some c) })

@@ -11,7 +11,7 @@ use Rattle.monitor.specs.Publishing.{IsPublishing}
 use Rattle.monitor.specs.Putting.{IsOut}
 use Rattle.monitor.specs.Reading.{IsIn}
 use Rattle.monitor.specs.Refusals.{with_code, refused_with, IsRefused}
-use Rattle.monitor.specs.declared.call.Call.{Call}
+use Rattle.meaning.specs.declared.call.Call.{Call}
 use Rattle.monitor.specs.declared.job.Job.{Job}
 use Rattle.monitor.proofs.Slots.{put_back}
 

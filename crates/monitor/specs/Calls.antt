@@ -1,12 +1,11 @@
--- The calls that are served.
-use Rattle.std.specs.Prelude.{◌≡◌, ℕ, false, Option, None, Some}
+-- Which calls are served as the machine serves them, and which take no memory and leave the disk alone.
+use Rattle.std.specs.Prelude.{◌≡◌, ℕ, true, false, Option, None, Some}
+use Rattle.meaning.specs.Cores.{lies_outside}
 use Rattle.meaning.specs.Jobs.{slot}
 use Rattle.meaning.specs.Opening.{mode_at}
 use Rattle.meaning.specs.Rings.{is_buffered}
-use Rattle.meaning.specs.declared.call.Call as machine
-use Rattle.meaning.specs.declared.call.Call.TheVariants as calls
-use Rattle.monitor.specs.declared.call.Call.{Call}
-use Rattle.monitor.specs.declared.call.Call.TheVariants.{Open, Lookup, Enter, In, Out, Close, Releas, Useti, Useto, Getsts, Reset, MakeDir}
+use Rattle.meaning.specs.declared.call.Call.{Call}
+use Rattle.meaning.specs.declared.call.Call.TheVariants.{Open, Inbuf, Outbuf, Lookup, Enter, Rename, In, Out, Useti, Useto, Close, Releas, Getsts, Reset, MakeDir, DeleteDir}
 use Rattle.monitor.specs.declared.job.Job.{Job}
 use Rattle.monitor.specs.Rows.{publishes_by}
 use Rattle.monitor.specs.Sides.{reader_of}
@@ -21,47 +20,65 @@ abbrev pub IsUnread : ℕ → Option Job → Type 0
 IsUnread number None = Unit {0}
 IsUnread number (Some job) = reader_of (slot job.channels number) ≡ None
 
--- as the machine has them
-abbrev pub call_of : Call → machine.Call
-call_of (Open channel address) = calls.Open channel address
-call_of (Lookup channel address) = calls.Lookup channel address
-call_of (Enter channel address) = calls.Enter channel address
-call_of (In channel address) = calls.In channel address
-call_of (Out channel address) = calls.Out channel address
-call_of (Close channel bits) = calls.Close channel bits
-call_of (Releas channel) = calls.Releas channel
-call_of (Useti channel block) = calls.Useti channel block
-call_of (Useto channel block) = calls.Useto channel block
-call_of (Getsts channel) = calls.Getsts channel
-call_of Reset = calls.Reset
-call_of (MakeDir address) = calls.MakeDir address
+-- so many words from the address on are not all there
+abbrev pub IsOutside : ℕ → ℕ → Option Job → Type 0
+IsOutside address count None = Unit {0}
+IsOutside address count (Some job) = lies_outside job.core address count ≡ true
 
--- a call that is answered as the machine does: so far no ring is opened, and no file is updated
+-- A call that is answered as the machine does: so far no ring is opened, no file is updated or renamed, and no directory
+-- is removed.
 abbrev pub IsServed : Call → Option Job → Type 0
 IsServed (Open channel address) job = IsUnbuffered address job
+IsServed (Inbuf channel count) job = Unit {0}
+IsServed (Outbuf channel count) job = Unit {0}
 IsServed (Lookup channel address) job = Unit {0}
 IsServed (Enter channel address) job = IsUnread channel job
+IsServed (Rename channel address) job = IsUnread channel job
 IsServed (In channel address) job = Unit {0}
 IsServed (Out channel address) job = Unit {0}
-IsServed (Close channel bits) job = Unit {0}
-IsServed (Releas channel) job = Unit {0}
 IsServed (Useti channel block) job = Unit {0}
 IsServed (Useto channel block) job = Unit {0}
+IsServed (Close channel bits) job = Unit {0}
+IsServed (Releas channel) job = Unit {0}
 IsServed (Getsts channel) job = Unit {0}
 IsServed Reset job = Unit {0}
 IsServed (MakeDir address) job = Unit {0}
+IsServed (DeleteDir address) job = IsOutside address 2 job
 
 -- a call that takes no memory and leaves the disk alone, by the job that makes it
 abbrev pub IsLight : Call → Option Job → Type 0
 IsLight (Open channel address) job = Unit {0}
+IsLight (Inbuf channel count) job = Unit {0}
+IsLight (Outbuf channel count) job = Unit {0}
 IsLight (Lookup channel address) job = Unit {0}
 IsLight (Enter channel address) job = ⊥
+IsLight (Rename channel address) job = ⊥
 IsLight (In channel address) job = ⊥
 IsLight (Out channel address) job = ⊥
-IsLight (Close channel bits) job = publishes_by channel bits job ≡ false
-IsLight (Releas channel) job = publishes_by channel 0 job ≡ false
 IsLight (Useti channel block) job = Unit {0}
 IsLight (Useto channel block) job = Unit {0}
+IsLight (Close channel bits) job = publishes_by channel bits job ≡ false
+IsLight (Releas channel) job = publishes_by channel 0 job ≡ false
 IsLight (Getsts channel) job = Unit {0}
 IsLight Reset job = Unit {0}
 IsLight (MakeDir address) job = ⊥
+IsLight (DeleteDir address) job = ⊥
+
+-- a call that leaves all that is known of the disk as it was, whatever its answer
+abbrev pub KeepsCore : Call → Type 0
+KeepsCore (Open channel address) = Unit {0}
+KeepsCore (Inbuf channel count) = Unit {0}
+KeepsCore (Outbuf channel count) = Unit {0}
+KeepsCore (Lookup channel address) = ⊥
+KeepsCore (Enter channel address) = ⊥
+KeepsCore (Rename channel address) = ⊥
+KeepsCore (In channel address) = Unit {0}
+KeepsCore (Out channel address) = ⊥
+KeepsCore (Useti channel block) = Unit {0}
+KeepsCore (Useto channel block) = Unit {0}
+KeepsCore (Close channel bits) = ⊥
+KeepsCore (Releas channel) = ⊥
+KeepsCore (Getsts channel) = Unit {0}
+KeepsCore Reset = ⊥
+KeepsCore (MakeDir address) = ⊥
+KeepsCore (DeleteDir address) = ⊥

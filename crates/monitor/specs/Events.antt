@@ -7,16 +7,14 @@ use Rattle.meaning.specs.Published.{without_serials}
 use Rattle.meaning.specs.Stands.{Stands}
 use Rattle.meaning.specs.Step.{step}
 use Rattle.meaning.specs.declared.call.Call.{Call}
-use Rattle.meaning.specs.declared.call.Event.TheVariants.{Call as Calls}
+use Rattle.meaning.specs.declared.call.Event.TheVariants.{Call as Calls, Login, Deposit, Examine}
 use Rattle.meaning.specs.declared.call.Reply.{Reply}
 use Rattle.meaning.specs.declared.call.Reply.TheVariants.{Done, Value, Refused, Stopped, NoChannel, AddressCheck, NoJob, NoMemory, Device, Failed, DateRange}
 use Rattle.volume.specs.Live.{VolumeCore}
 use Rattle.monitor.specs.Serving.{pack_of, IsState}
 use Rattle.monitor.specs.declared.job.Job.{Job}
 use Rattle.monitor.specs.Calls.{IsLight}
-use Rattle.monitor.specs.declared.call.Call as calls
-use Rattle.monitor.specs.declared.events.Event.{Event}
-use Rattle.monitor.specs.declared.events.Event.TheVariants.{Login, Deposit, Examine, Call as Asks}
+use Rattle.meaning.specs.declared.call.Event.{Event}
 
 -- At any moment of the call by the job of a number, whether it is logged in or not, a crash leaves the files from before, or those of the machine after it.
 abbrev pub CallCrashes : (d d' : DiskState) (c : VolumeCore) (jobs : List (Option Job)) (n : ℕ) → Call → Moment → Type 0
@@ -39,22 +37,22 @@ IsIdle Failed = ⊥
 IsIdle DateRange = Unit {0}
 
 -- What is said of the call that an event is, by the job that makes it and the moment.
-abbrev pub OfCall : Event → (ℕ → calls.Call → Moment → Type 0) → Type 0
+abbrev pub OfCall : Event → (ℕ → Call → Moment → Type 0) → Type 0
 OfCall (Login job ppn words) P = Unit {0}
 OfCall (Deposit job address word) P = Unit {0}
 OfCall (Examine job address) P = Unit {0}
-OfCall (Asks job call moment) P = P job call moment
+OfCall (Calls job call moment) P = P job call moment
 
 -- an event that is none
 abbrev pub IsNoCall : Event → Type 0
 IsNoCall (Login job ppn words) = Unit {0}
 IsNoCall (Deposit job address word) = Unit {0}
 IsNoCall (Examine job address) = Unit {0}
-IsNoCall (Asks job call moment) = ⊥
+IsNoCall (Calls job call moment) = ⊥
 
 -- an event that takes no memory and leaves the disk alone, by the jobs that there are
 abbrev pub IsLightEvent : Event → List (Option Job) → Type 0
 IsLightEvent (Login job ppn words) jobs = ⊥
 IsLightEvent (Deposit job address word) jobs = Unit {0}
 IsLightEvent (Examine job address) jobs = Unit {0}
-IsLightEvent (Asks job call moment) jobs = IsLight call (slot jobs job)
+IsLightEvent (Calls job call moment) jobs = IsLight call (slot jobs job)

@@ -19,3 +19,5 @@ pub mod Inputs
 pub mod LookingUp
 pub mod Reading
 pub mod Refusals
+pub mod Unserved
+pub mod Promises

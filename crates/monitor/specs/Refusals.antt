@@ -2,8 +2,8 @@
 use Rattle.std.specs.Prelude.{◌≡◌, ℕ, ◌+◌, List, Option, Some, slice_set}
 use Rattle.meaning.specs.Cores.{with_right}
 use Rattle.meaning.specs.Jobs.{slot}
-use Rattle.monitor.specs.declared.call.Call.{Call}
-use Rattle.monitor.specs.declared.call.Call.TheVariants.{Open, Lookup, Enter, In, Out, Close, Releas, Useti, Useto, Getsts, Reset, MakeDir}
+use Rattle.meaning.specs.declared.call.Call.{Call}
+use Rattle.meaning.specs.declared.call.Call.TheVariants.{Open, Inbuf, Outbuf, Lookup, Enter, Rename, In, Out, Useti, Useto, Close, Releas, Getsts, Reset, MakeDir, DeleteDir}
 use Rattle.monitor.specs.declared.job.Job.{Job}
 
 -- the job with the code in the right half of the second of the words at an address
@@ -14,8 +14,11 @@ with_code job address code = record job { core = with_right job.core (address + 
 -- leaves the job as it was
 abbrev pub refused_with : Call → Job → ℕ → Job
 refused_with (Open channel address) job code = job
+refused_with (Inbuf channel count) job code = job
+refused_with (Outbuf channel count) job code = job
 refused_with (Lookup channel address) job code = with_code job address code
 refused_with (Enter channel address) job code = with_code job address code
+refused_with (Rename channel address) job code = with_code job address code
 refused_with (In channel address) job code = job
 refused_with (Out channel address) job code = job
 refused_with (Close channel bits) job code = job
@@ -25,6 +28,7 @@ refused_with (Useto channel block) job code = job
 refused_with (Getsts channel) job code = job
 refused_with Reset job code = job
 refused_with (MakeDir address) job code = with_code job address code
+refused_with (DeleteDir address) job code = with_code job address code
 
 -- There is a job of this number, and it is as the refusal leaves it; all others are as they were.
 pub record IsRefused (call : Call) (number code : ℕ) (jobs jobs' : List (Option Job)) : Type 0 where

@@ -54,28 +54,6 @@ improper_at core a = not (device_at core a == disk) || not (is_mode (mode_at cor
 abbrev pub opened_at : List ℕ → ℕ → Channel
 opened_at core a = record { input_header = input_header_at core a; output_header = output_header_at core a; status = mode_at core a; input = None; output = None }
 
--- In a mode that has buffers it is stopped where the machine would go on.
-
-abbrev pub unserved : ℕ → Reply → Reply
-unserved mode Done = Stopped (improper_mode + mode)
-unserved mode reply = reply
-
-abbrev pub open_unserved : machine.Job → ℕ → ℕ → Reply
-open_unserved job number a = if nat_le number 15 then unserved (mode_at job.core a) (open_answer job number a) else NoChannel
-
--- ENTER on a channel that reads: it is refused where the machine would go on to update the file.
-
-abbrev pub IsReading : Option Channel → Type 0
-IsReading None = ⊥
-IsReading (Some c) = IsSome c.input
-
-abbrev pub enter_unserved : Job → ℕ → Reply
-enter_unserved job e = if lies_outside job.core e 4 then AddressCheck else Refused 5
-
--- its code is put into the right half of the second word
-abbrev pub enter_refused : Job → ℕ → Job
-enter_refused job e = if lies_outside job.core e 4 then job else record job { core = with_right job.core (e + 1) 5 }
-
 -- CLOSE.
 
 -- a channel has an output side, and closes it for good

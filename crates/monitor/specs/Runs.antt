@@ -1,9 +1,10 @@
 -- Lists of events, and what a crash among them leaves.
-use Rattle.std.specs.Prelude.{◌≡◌, ◌⊎◌, ℕ, Bool, false, IsTrue, List, [], ◌∷◌, Option, Some, None}
+use Rattle.std.specs.Prelude.{◌≡◌, ◌⊎◌, ℕ, Bool, true, false, IsTrue, List, [], ◌∷◌, Option, Some, None}
 use Rattle.std.specs.List.{AllByRecursion}
 use Rattle.blockdisk.specs.Disk.{Contents, DiskState, MayLeave, LeavesOnly}
 use Rattle.meaning.specs.Crashes.{may_change}
 use Rattle.meaning.specs.Files.{File, Files}
+use Rattle.meaning.specs.Cores.{lies_outside}
 use Rattle.meaning.specs.Jobs as machine
 use Rattle.meaning.specs.Jobs.{State, channel_at, job_at}
 use Rattle.meaning.specs.Opening.{mode_at}
@@ -11,35 +12,18 @@ use Rattle.meaning.specs.Rings.{is_buffered}
 use Rattle.meaning.specs.Room.{Pack}
 use Rattle.meaning.specs.Runs.{Service, Serving, Broken, Answers, IsStart}
 use Rattle.meaning.specs.Step.{step}
-use Rattle.meaning.specs.declared.call.Event as played
-use Rattle.meaning.specs.declared.call.Event.TheVariants as events
 use Rattle.meaning.specs.declared.call.Reply.{Reply}
 use Rattle.meaning.specs.declared.call.Reply.TheVariants.{Device, Failed}
 use Rattle.volume.specs.Live.{VolumeCore}
 use Rattle.volume.specs.Rest.{StandsLikeBefore}
-use Rattle.monitor.specs.Calls.{call_of}
 use Rattle.monitor.specs.Serving.{Serves}
-use Rattle.monitor.specs.declared.call.Call.{Call}
-use Rattle.monitor.specs.declared.call.Call.TheVariants.{Open, Lookup, Enter, In, Out, Close, Releas, Useti, Useto, Getsts, Reset, MakeDir}
+use Rattle.meaning.specs.declared.call.Call.{Call}
+use Rattle.meaning.specs.declared.call.Call.TheVariants.{Open, Inbuf, Outbuf, Lookup, Enter, Rename, In, Out, Useti, Useto, Close, Releas, Getsts, Reset, MakeDir, DeleteDir}
 use Rattle.monitor.specs.declared.job.Job.{Job}
-use Rattle.monitor.specs.declared.events.Event.{Event}
-use Rattle.monitor.specs.declared.events.Event.TheVariants.{Login, Deposit, Examine, Call as Calls}
+use Rattle.meaning.specs.declared.call.Event.{Event}
+use Rattle.meaning.specs.declared.call.Event.TheVariants.{Login, Deposit, Examine, Call as Calls}
 
--- as the machine has them
-abbrev pub event_of : Event → played.Event
-event_of (Login job ppn words) = events.Login job ppn words
-event_of (Deposit job address word) = events.Deposit job address word
-event_of (Examine job address) = events.Examine job address
-event_of (Calls job call moment) = events.Call job (call_of call) moment
-
--- whose event it is
-abbrev pub job_of : Event → ℕ
-job_of (Login job ppn words) = job
-job_of (Deposit job address word) = job
-job_of (Examine job address) = job
-job_of (Calls job call moment) = job
-
--- Events that are served: no OPEN in a mode with buffers, and no ENTER on a channel that reads.
+-- Events that are served: no OPEN in a mode with buffers, no ENTER and no RENAME on a channel that reads, and no DeleteDir.
 
 abbrev pub IsUnbufferedBy : ℕ → Option machine.Job → Type 0
 IsUnbufferedBy address None = Unit {0}
@@ -53,20 +37,28 @@ abbrev pub IsUnreadBy : ℕ → Option machine.Job → Type 0
 IsUnreadBy number None = Unit {0}
 IsUnreadBy number (Some job) = IsUnreadOn (channel_at job number)
 
+abbrev pub IsOutsideOf : ℕ → ℕ → Option machine.Job → Type 0
+IsOutsideOf address count None = Unit {0}
+IsOutsideOf address count (Some job) = lies_outside job.core address count ≡ true
+
 -- a call of a job that the machine has
 abbrev pub IsServedFor : Call → Option machine.Job → Type 0
 IsServedFor (Open channel address) job = IsUnbufferedBy address job
+IsServedFor (Inbuf channel count) job = Unit {0}
+IsServedFor (Outbuf channel count) job = Unit {0}
 IsServedFor (Lookup channel address) job = Unit {0}
 IsServedFor (Enter channel address) job = IsUnreadBy channel job
+IsServedFor (Rename channel address) job = IsUnreadBy channel job
 IsServedFor (In channel address) job = Unit {0}
 IsServedFor (Out channel address) job = Unit {0}
-IsServedFor (Close channel bits) job = Unit {0}
-IsServedFor (Releas channel) job = Unit {0}
 IsServedFor (Useti channel block) job = Unit {0}
 IsServedFor (Useto channel block) job = Unit {0}
+IsServedFor (Close channel bits) job = Unit {0}
+IsServedFor (Releas channel) job = Unit {0}
 IsServedFor (Getsts channel) job = Unit {0}
 IsServedFor Reset job = Unit {0}
 IsServedFor (MakeDir address) job = Unit {0}
+IsServedFor (DeleteDir address) job = IsOutsideOf address 2 job
 
 -- an event in a state of the machine; a service that has failed serves none
 abbrev pub IsServedAt : State → Event → Type 0
@@ -84,7 +76,7 @@ abbrev pub AreServed : Pack → Service → List Event → List Reply → Type 0
 AreServed pack service [] replies = Unit {0}
 AreServed pack service (event ∷ events) [] = Unit {0}
 AreServed pack service (event ∷ events) (reply ∷ replies) =
-    IsServedIn service event × ((mid : Service) → Answers pack service (event_of event) reply mid → AreServed pack mid events replies)
+    IsServedIn service event × ((mid : Service) → Answers pack service event reply mid → AreServed pack mid events replies)
 
 -- A fault of the disk among the replies.
 
@@ -101,7 +93,7 @@ FailsOnce (reply ∷ replies) = (reply ≡ Device → AllByRecursion (λ later. 
 -- The files of the state that a start finds: those after some of the calls that were answered, none left out, or
 -- those after these and the next one, which was running, where its answer is one that may change files; and no third.
 -- An event that the disk failed is the last.
-abbrev pub IsAlong : Pack → Service → List played.Event → List Reply → State → Type 0
+abbrev pub IsAlong : Pack → Service → List Event → List Reply → State → Type 0
 IsAlong pack Broken events replies found = ⊥
 IsAlong pack (Serving s) [] [] found = found ≡ s
 IsAlong pack (Serving s) [] (reply ∷ replies) found = ⊥

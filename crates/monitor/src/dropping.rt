@@ -77,7 +77,7 @@ fn close_sides<D: Disk>(volume: &mut Volume<D>, channel: &Option<Channel>)
 }
 
 /// Closes the sides of all channels.
-fn close_channels<D: Disk>(volume: &mut Volume<D>, channels: &[Option<Channel>])
+pub fn close_channels<D: Disk>(volume: &mut Volume<D>, channels: &[Option<Channel>])
     requires sound { IsSound (D.state volume.old.disk) (core_of volume.old.map) volume.old.failed }
     requires live { (key : ℕ) → times key (keys_of (filter_map side_of channels.now)) ≤ present (pending_at (core_of volume.old.map).pending key) }
     requires held { (key : ℕ) → times key (pins_of (filter_map reader_of channels.now)) ≤ readers_of (version_at (core_of volume.old.map).live key) }

@@ -19,11 +19,14 @@ ghost use Rattle.volume.specs.Rest.{IsSound, RestsAt};
 ghost use Rattle.volume.specs.declared.pending.PendingVersion.{PendingVersion};
 ghost use Rattle.monitor.specs.Finding.{claims_at, claims, found_in, begun_as, allowed, protection_for, file_begun, IsKnown, IsAnswer, IsPrimeAt, begin_answer_at};
 ghost use Rattle.monitor.specs.Entering.{IsEntering, IsEnterAnswer};
-ghost use Rattle.monitor.specs.Rows.{KeepsReading, IsReading, enter_unserved, enter_refused};
+ghost use Rattle.monitor.specs.Rows.{KeepsReading};
+ghost use Rattle.monitor.specs.Unserved.{IsReading, refusal_at, job_refused};
 ghost use Rattle.monitor.specs.Serving.{pack_of, ArePlaced};
 ghost use Rattle.monitor.specs.declared.output.Kind.{Kind};
 ghost use Rattle.monitor.specs.Sides.{UnderKeys, kind_of, job_of, reader_of};
 ghost use Rattle.monitor.specs.Refusals.{with_code};
+ghost use Rattle.meaning.specs.declared.call.Call.TheVariants.{Enter};
+ghost use Rattle.monitor.specs.Promises.{IsReady, ServesJob};
 
 use crate::channel::Channel;
 use crate::found::Found;
@@ -40,6 +43,22 @@ use std::alloc::Global;
 use usercore::Core;
 use volume::{CallError, Pending, PendingVersion as Version, Volume};
 use words36::{FileName, Half, Moment, Ppn, Word};
+
+/// ENTER: opens an output side for the file that the four words at an address name, at a moment. Its row is `enter`.
+pub fn serve_enter<D: Disk>(
+    alloc: Global,
+    volume: &mut Volume<D>,
+    job: &mut Job,
+    channel: u32,
+    address: u32,
+    moment: Moment,
+) -> Reply
+    requires ready { IsReady (D.state volume.old.disk) (core_of volume.old.map) volume.old.failed job.old }
+    requires timely { moment.date ≤ 4095 }
+    ensures serving { ServesJob D.state volume.old.disk volume.new.disk (core_of volume.old.map) (core_of volume.new.map) volume.new.failed job.old job.new (Enter channel address) moment result }
+{
+    enter(alloc, volume, job, channel, address, moment)
+}
 
 /// What stands at a place of a volume.
 fn find<D: Disk>(volume: &Volume<D>, ppn: Ppn, file: &FileName) -> Found
@@ -301,7 +320,7 @@ fn put_attributes(core: &mut Core, address: u32, prime: &Prime)
 /// ENTER: opens an output side for the file that the four words at an address name: a new one, or one that will
 /// take the place of the file of that name. Its attributes are put into the words. A file isn't updated: on a channel
 /// that reads one it is refused.
-pub fn enter<D: Disk>(
+fn enter<D: Disk>(
     alloc: Global,
     volume: &mut Volume<D>,
     job: &mut Job,
@@ -323,7 +342,7 @@ pub fn enter<D: Disk>(
     ensures memory { result ≡ NoMemory → job.new ≡ job.old }
     ensures reads { KeepsReading (core_of volume.old.map).live (core_of volume.new.map).live job.old job.new }
     // On a channel that reads no file is updated yet.
-    ensures unserved { IsReading (slot job.old.channels number) → (result ≡ enter_unserved job.old address) × (job.new ≡ enter_refused job.old address) }
+    ensures unserved { IsReading (slot job.old.channels number) → (result ≡ refusal_at job.old address 4) × (job.new ≡ job_refused job.old address 4) }
     ensures row { (D.state volume.new.disk).honest → reader_of (slot job.old.channels number) ≡ None → (s : State) → IsKnown (D.state volume.old.disk) (core_of volume.old.map) s
         → (under : UnderKeys) → IsEnterAnswer (pack_of (D.state volume.old.disk)) s (job_of under job.old) (job_of under job.new) (channel_at (job_of under job.old) number) address result }
     ensures refused { (code : ℕ) → result ≡ Refused code → job.new ≡ with_code job.old address code }

@@ -46,6 +46,14 @@ impl Job {
             self.channels[number as usize] = channel;
         }
     }
+
+    /// Closes all channels, and the next ring of buffers goes where the first one does.
+    pub fn reset(&mut self)
+        ensures { self.new ≡ reset_job self.old }
+    {
+        self.core.reset_rings();
+        self.channels = all_closed();
+    }
 }
 
 /// Channels, all closed.
@@ -134,8 +142,7 @@ impl Jobs {
         let Some(mut job) = self.take(number) else {
             return false;
         };
-        job.core.reset_rings();
-        job.channels = all_closed();
+        job.reset();
         self.put(number, job);
         true
     }

@@ -12,9 +12,10 @@
 //! 4. `list` gives the list of a directory that the machine gives, by name and then by extension.
 //!    (`listed`) On every disk it is refused by few replies, and never by the device. (`nobody`, `only`)
 //! 5. `deposit` and `examine` put and show a word of a job's core as the machine does. (`answered`, `value`)
-//! 6. `call` answers OPEN, LOOKUP, ENTER, IN, OUT, USETI, USETO, CLOSE, RELEAS, GETSTS, RESET and MakeDir, in dump
-//!    mode, as the machine's rows do, or wants memory where the machine may, or blames the device; and leaves the state
-//!    of that row. (`answered`) At any moment of it a crash leaves the files from before, or those of that row where it
+//! 6. `call` is the table of the calls, and each call is the file of its name. It answers OPEN, INBUF, OUTBUF, LOOKUP,
+//!    ENTER, IN, OUT, USETI, USETO, CLOSE, RELEAS, GETSTS, RESET and MakeDir, in dump mode, as the machine's rows do, or
+//!    wants memory where the machine may, or blames the device; and leaves the state of that row. (`answered`) What
+//!    every call promises is one record. (`IsServing`) At any moment of it a crash leaves the files from before, or those of that row where it
 //!    is Done or met a fault of the device. (`crash`) Which answers, and which calls, leave the disk alone is said
 //!    beside. (`idle`, `light`) A refusal leaves its code, and nothing else. (`refused`)
 //! 7. Each version that the volume writes belongs to one output side of a job, and may be published under its
@@ -29,7 +30,8 @@
 //!    leaves the files before that event or those after it. A Device counts as one failure of the disk, and all later
 //!    replies are Failed. (`runs`, `counted`, `once`; `none` where there was no memory) Along the same run the words that
 //!    an IN moves are those of the version that its LOOKUP found. (`runs`) A run is said of lists with no OPEN in a mode
-//!    with buffers and no ENTER on a channel that reads. `event` serves one event, and says of it what `call` says.
+//!    with buffers, no ENTER and no RENAME on a channel that reads, and no DeleteDir. `event` serves one event, and says
+//!    of it what `call` says.
 //! 11. `start_after_crash` finds the files of a moment along such a list, and never a third, also where any number of
 //!    starts before it were stopped; and it refuses the disk for want of memory or a fault of the device alone. (`found`,
 //!    `refused`, `between`, `again`)
@@ -38,40 +40,40 @@
 mod call;
 mod channel;
 mod close;
+mod deletedir;
 mod dropping;
 mod enter;
-mod event;
-mod events;
 mod found;
 mod getsts;
 mod holding_laws;
+mod inbuf;
 mod input;
 mod job;
 mod laws;
 mod list;
+mod login;
 mod lookup;
 mod makedir;
 mod monitor;
 mod open;
 mod out;
+mod outbuf;
 mod output;
 mod publishing;
+mod read;
 mod read_in;
-mod reading;
 mod reading_laws;
+mod releas;
+mod rename;
+mod reset;
 mod restart;
 mod serve;
-mod serve_closing;
-mod serve_reading;
-mod serve_writing;
 mod status;
 mod useti;
 mod useto;
 mod words;
 
-pub use call::Call;
 pub use channel::Channel;
-pub use events::Event;
 pub use holding_laws::{readers_come_and_go, readers_keep_what_is_superseded};
 pub use input::Input;
 pub use job::{Job, Jobs};

@@ -24,6 +24,8 @@ ghost use Rattle.monitor.specs.Sides.{UnderKeys, job_of, readers_in, pins_of};
 ghost use Rattle.monitor.specs.declared.channel.Channel.{Channel};
 ghost use Rattle.monitor.specs.declared.input.Input.{Input};
 ghost use Rattle.monitor.specs.Refusals.{with_code};
+ghost use Rattle.meaning.specs.declared.call.Call.TheVariants.{Lookup};
+ghost use Rattle.monitor.specs.Promises.{IsReady, ServesAlways};
 
 use crate::channel::Channel;
 use crate::dropping::let_go;
@@ -44,6 +46,19 @@ const MOST_WORDS: u32 = 131_072;
 
 /// One more than the largest number of half a word.
 const HALF_LIMIT: u32 = 0o1000000;
+
+/// LOOKUP: opens an input side for the file that the four words at an address name. Its row is `lookup`.
+pub fn serve_lookup<D: Disk>(
+    volume: &mut Volume<D>,
+    job: &mut Job,
+    channel: u32,
+    address: u32,
+) -> Reply
+    requires ready { IsReady (D.state volume.old.disk) (core_of volume.old.map) volume.old.failed job.old }
+    ensures serving { ServesAlways D.state volume.old.disk volume.new.disk (core_of volume.old.map) (core_of volume.new.map) volume.new.failed job.old job.new (Lookup channel address) result }
+{
+    lookup(volume, job, channel, address)
+}
 
 /// Whether a job may read a file of this protection.
 fn may_read(own: u16, who: Ppn, owner: Ppn) -> bool
@@ -176,7 +191,7 @@ pub fn put_found(core: &mut Core, address: u32, facts: &FileFacts)
 /// LOOKUP: opens an input side for the file that the four words at an address name. Its version is held until the
 /// side closes, whatever becomes of the name; an earlier input side of the channel is given up. Attributes and size
 /// of the file are put into the words.
-pub fn lookup<D: Disk>(volume: &mut Volume<D>, job: &mut Job, number: u32, address: u32) -> Reply
+fn lookup<D: Disk>(volume: &mut Volume<D>, job: &mut Job, number: u32, address: u32) -> Reply
     requires sound { IsSound (D.state volume.old.disk) (core_of volume.old.map) volume.old.failed }
     requires alive { volume.old.failed ≡ false }
     requires held { (key : ℕ) → times key (pins_of (readers_in (Some job.old))) ≤ readers_of (slot (core_of volume.old.map).live key) }

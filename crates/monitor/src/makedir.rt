@@ -12,6 +12,8 @@ ghost use Rattle.volume.specs.Places.{prime_at};
 ghost use Rattle.volume.specs.Rest.{IsSound, RestsAt, StandsForEither, KeepsRead, KeepsEachWritten};
 ghost use Rattle.monitor.specs.DirectoryRows.{IsMakeDir, asked_owner, asked_protection};
 ghost use Rattle.monitor.specs.Rows.{Keeps, KeepsReading};
+ghost use Rattle.meaning.specs.declared.call.Call.TheVariants.{MakeDir};
+ghost use Rattle.monitor.specs.Promises.{IsReady, ServesAlways};
 
 use crate::enter::protection_or;
 use crate::job::Job;
@@ -26,6 +28,19 @@ use words36::Ppn;
 /// The protection of a directory for which none is asked.
 const DIRECTORY_PROTECTION: u16 = 0o775;
 
+/// MakeDir: makes an empty directory, by the two words at an address. Its row is `make_dir`.
+pub fn serve_make_dir<D: Disk>(
+    alloc: Global,
+    volume: &mut Volume<D>,
+    job: &mut Job,
+    address: u32,
+) -> Reply
+    requires ready { IsReady (D.state volume.old.disk) (core_of volume.old.map) volume.old.failed job.old }
+    ensures serving { ServesAlways D.state volume.old.disk volume.new.disk (core_of volume.old.map) (core_of volume.new.map) volume.new.failed job.old job.new (MakeDir address) result }
+{
+    make_dir(alloc, volume, job, address)
+}
+
 /// Whose directories anybody's are: [1,2].
 fn is_system(ppn: Ppn) -> bool
     ensures { result ≡ (ppn == system) }
@@ -35,12 +50,7 @@ fn is_system(ppn: Ppn) -> bool
 
 /// MakeDir: makes an empty directory, by the two words at an address: whose it is, and its protection in the nine
 /// high bits, 775 (octal) where they are 0.
-pub fn make_dir<D: Disk>(
-    alloc: Global,
-    volume: &mut Volume<D>,
-    job: &mut Job,
-    address: u32,
-) -> Reply
+fn make_dir<D: Disk>(alloc: Global, volume: &mut Volume<D>, job: &mut Job, address: u32) -> Reply
     requires sound { IsSound (D.state volume.old.disk) (core_of volume.old.map) volume.old.failed }
     requires serves { volume.old.failed ≡ false }
 

@@ -6,8 +6,9 @@ ghost use Rattle.meaning.specs.declared.call.Call.TheVariants.{Open};
 ghost use Rattle.meaning.specs.declared.call.Reply.TheVariants.{NoMemory, Failed, Device, Refused};
 ghost use Rattle.volume.specs.declared.live.LiveVersion.{LiveVersion};
 ghost use Rattle.volume.specs.declared.pending.PendingVersion.{PendingVersion};
-ghost use Rattle.monitor.specs.Rows.{IsRow, Keeps, KeepsReading, improper_at, opened_at, open_unserved};
+ghost use Rattle.monitor.specs.Rows.{IsRow, Keeps, KeepsReading, improper_at, opened_at};
 ghost use Rattle.monitor.specs.Sides.{UnderKeys, job_of};
+ghost use Rattle.monitor.specs.Unserved.{open_unserved};
 
 use crate::channel::Channel;
 use crate::job::{CHANNELS, Job};

@@ -18,6 +18,8 @@ ghost use Rattle.monitor.specs.Putting.{words_at, moved, IsOther, IsOut};
 ghost use Rattle.monitor.specs.Rows.{Keeps, KeepsReading};
 ghost use Rattle.monitor.specs.Serving.{present, IsSide};
 ghost use Rattle.monitor.specs.Sides.{sides_in, keys_of};
+ghost use Rattle.meaning.specs.declared.call.Call.TheVariants.{Out};
+ghost use Rattle.monitor.specs.Promises.{IsReady, ServesAlways};
 
 use crate::channel::Channel;
 use crate::job::Job;
@@ -29,6 +31,21 @@ use std::alloc::Global;
 use usercore::{Area, Core, CoreError, word_count};
 use volume::{CallError, Volume};
 use words36::{BLOCK_WORDS, Word};
+
+/// OUT: puts the words that the command list at an address names at the block that a channel writes next, and moves on
+/// behind them. Its row is `out`.
+pub fn serve_out<D: Disk>(
+    alloc: Global,
+    volume: &mut Volume<D>,
+    job: &mut Job,
+    channel: u32,
+    address: u32,
+) -> Reply
+    requires ready { IsReady (D.state volume.old.disk) (core_of volume.old.map) volume.old.failed job.old }
+    ensures serving { ServesAlways D.state volume.old.disk volume.new.disk (core_of volume.old.map) (core_of volume.new.map) volume.new.failed job.old job.new (Out channel address) result }
+{
+    out(alloc, volume, job, channel, address)
+}
 
 /// The words of areas of a core, joined.
 ///
@@ -82,7 +99,7 @@ fn moved(channel: Channel, output: Output, count: usize) -> Channel
 
 /// OUT: puts the words that the command list at an address names at the block that a channel writes next, and
 /// moves on behind them.
-pub fn out<D: Disk>(
+fn out<D: Disk>(
     alloc: Global,
     volume: &mut Volume<D>,
     job: &mut Job,

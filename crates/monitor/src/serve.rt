@@ -1,173 +1,107 @@
-ghost use Rattle.std.specs.Prelude.{◌≡◌, ◌≤◌, ℕ, true, false, Some, slice_set};
-ghost use Rattle.meaning.specs.Jobs.{slot};
-ghost use Rattle.meaning.specs.Opening.{mode_at};
-ghost use Rattle.meaning.specs.Rings.{is_buffered};
-ghost use Rattle.meaning.specs.Runs.{Service, Answers};
-ghost use Rattle.meaning.specs.declared.call.Call.TheVariants.{Open, Enter, Useto, Reset};
-ghost use Rattle.meaning.specs.declared.call.Event.TheVariants.{Call as Calls};
-ghost use Rattle.meaning.specs.declared.call.Reply.TheVariants.{NoMemory, Failed, Device, Refused};
-ghost use Rattle.volume.specs.LiveCores.{core_of};
-ghost use Rattle.volume.specs.Rest.{IsSound};
-ghost use Rattle.monitor.specs.Calls.{IsUnbuffered, IsUnread};
-ghost use Rattle.monitor.specs.Rows.{open_unserved, enter_unserved, enter_refused, IsReading};
-ghost use Rattle.monitor.specs.Serving.{pack_of, Serves, AreKeyed, ArePlaced, AreReading};
-ghost use Rattle.monitor.specs.Sides.{UnderKeys, job_of};
-ghost use Rattle.monitor.specs.declared.job.Job.{Job as JobRecord};
+ghost use Rattle.std.specs.Prelude.{◌≡◌, ◌⊎◌, ◌↔◌, ◌<◌, ◌≤◌, ℕ, List, Some, length, map, slice_set, true, false, IsTrue, IfOk, IsErr};
+ghost use Rattle.std.specs.List.{AllByRecursion};
+ghost use Rattle.blockdisk.specs.Disk.{SameDisk, LeavesOnly, one_more};
+ghost use Rattle.meaning.specs.Crashes.{StandsForEither, RunsOn};
+ghost use Rattle.meaning.specs.Jobs.{State, slot, job_at, Job as MachineJob};
+ghost use Rattle.meaning.specs.Runs.{Service, Serving, Answers};
+ghost use Rattle.meaning.specs.declared.call.Reply.TheVariants.{Refused, Device, Failed, DateRange};
+ghost use Rattle.meaning.specs.declared.call.Reply.TheVariants as replies;
+ghost use Rattle.monitor.specs.Moments.{RunsBy, HoldsStill, last_of, read_of};
+ghost use Rattle.monitor.specs.Runs.{IsServedIn, AreServed, TellsFault, FailsOnce};
+ghost use Rattle.meaning.specs.Step.{job_of};
+ghost use Rattle.monitor.specs.Serving.{pack_of, Serves};
+ghost use Rattle.monitor.specs.Events.{IsIdle, OfCall, IsNoCall, IsLightEvent};
 ghost use Rattle.monitor.specs.Refusals.{IsRefused};
-ghost use Rattle.monitor.specs.declared.call.Call.TheVariants as calls;
+ghost use Rattle.monitor.specs.Calls.{KeepsCore};
+ghost use Rattle.monitor.specs.Unserved.{IsUnserved, UnservedRow};
+ghost use Rattle.monitor.specs.declared.job.Job.{Job as JobRecord};
+ghost use Rattle.meaning.specs.declared.call.Call.TheVariants.{In};
 
-use crate::enter::enter;
-use crate::event::reset;
-use crate::job::Jobs;
-use crate::open::open;
-use crate::useto::useto;
-use blockdisk::Disk;
-use meaning::Reply;
+use crate::monitor::Monitor;
+use blockdisk::{Disk, NoMemory};
+use meaning::{Event, Reply};
 use std::alloc::Global;
-use volume::Volume;
-use words36::Moment;
 
-/// OPEN by the job of a number.
-pub fn serve_open<D: Disk>(
-    volume: &mut Volume<D>,
-    jobs: &mut Jobs,
-    number: u32,
-    channel: u32,
-    address: u32,
-    moment: Moment,
-) -> Reply
-    requires sound { IsSound (D.state volume.old.disk) (core_of volume.old.map) volume.old.failed }
-    requires keyed { AreKeyed (core_of volume.old.map).pending jobs.old }
-    requires placed { ArePlaced (core_of volume.old.map) }
-    requires reading { AreReading (core_of volume.old.map).live jobs.old }
-    requires alive { volume.old.failed ≡ false }
-    requires timely { moment.date ≤ 4095 }
-    ensures sound { IsSound (D.state volume.new.disk) (core_of volume.new.map) volume.new.failed }
-    ensures keyed { AreKeyed (core_of volume.new.map).pending jobs.new }
-    ensures placed { ArePlaced (core_of volume.new.map) }
-    ensures reading { AreReading (core_of volume.new.map).live jobs.new }
-    ensures others { (m : ℕ) → (m ≡ number → ⊥) → slot jobs.new m ≡ slot jobs.old m }
-    ensures untouched { (volume.new.disk ≡ volume.old.disk) × (volume.new.failed ≡ volume.old.failed) }
-    ensures only { (result ≡ Failed → ⊥) × (result ≡ Device → ⊥) }
-    ensures light { result ≡ NoMemory → ⊥ }
-    ensures kept { core_of volume.new.map ≡ core_of volume.old.map }
-    ensures unserved { (there : JobRecord) → slot jobs.old number ≡ Some there → is_buffered (mode_at there.core address) ≡ true → (jobs.new ≡ jobs.old) × ((under : UnderKeys) → result ≡ open_unserved (job_of under there) channel address) }
-    ensures answered { (D.state volume.new.disk).honest → IsUnbuffered address (slot jobs.old number) → (old : Service) → Serves (D.state volume.old.disk) (core_of volume.old.map) volume.old.failed jobs.old old
-        → (new : Service) × Serves (D.state volume.new.disk) (core_of volume.new.map) volume.new.failed jobs.new new
-        × Answers (pack_of (D.state volume.old.disk)) old (Calls number (Open channel address) moment) result new }
-    ensures refused { (code : ℕ) → result ≡ Refused code → IsRefused (calls.Open channel address) number code jobs.old jobs.new }
-{
-    let Some(mut job) = jobs.take(number) else {
-        return Reply::NoJob;
-    };
-    let reply = open(&mut job, channel, address);
-    jobs.put(number, job);
-    reply
-}
-
-/// USETO by the job of a number.
-pub fn serve_useto<D: Disk>(
-    volume: &mut Volume<D>,
-    jobs: &mut Jobs,
-    number: u32,
-    channel: u32,
-    block: u32,
-    moment: Moment,
-) -> Reply
-    requires sound { IsSound (D.state volume.old.disk) (core_of volume.old.map) volume.old.failed }
-    requires keyed { AreKeyed (core_of volume.old.map).pending jobs.old }
-    requires placed { ArePlaced (core_of volume.old.map) }
-    requires reading { AreReading (core_of volume.old.map).live jobs.old }
-    requires alive { volume.old.failed ≡ false }
-    requires timely { moment.date ≤ 4095 }
-    ensures sound { IsSound (D.state volume.new.disk) (core_of volume.new.map) volume.new.failed }
-    ensures keyed { AreKeyed (core_of volume.new.map).pending jobs.new }
-    ensures placed { ArePlaced (core_of volume.new.map) }
-    ensures reading { AreReading (core_of volume.new.map).live jobs.new }
-    ensures others { (m : ℕ) → (m ≡ number → ⊥) → slot jobs.new m ≡ slot jobs.old m }
-    ensures untouched { (volume.new.disk ≡ volume.old.disk) × (volume.new.failed ≡ volume.old.failed) }
-    ensures only { (result ≡ Failed → ⊥) × (result ≡ Device → ⊥) }
-    ensures light { result ≡ NoMemory → ⊥ }
-    ensures answered { (D.state volume.new.disk).honest → (old : Service) → Serves (D.state volume.old.disk) (core_of volume.old.map) volume.old.failed jobs.old old
-        → (new : Service) × Serves (D.state volume.new.disk) (core_of volume.new.map) volume.new.failed jobs.new new
-        × Answers (pack_of (D.state volume.old.disk)) old (Calls number (Useto channel block) moment) result new }
-    ensures refused { (code : ℕ) → result ≡ Refused code → IsRefused (calls.Useto channel block) number code jobs.old jobs.new }
-{
-    let Some(mut job) = jobs.take(number) else {
-        return Reply::NoJob;
-    };
-    let reply = useto(&mut job, channel, block);
-    jobs.put(number, job);
-    reply
-}
-
-/// ENTER by the job of a number.
-pub fn serve_enter<D: Disk>(
-    alloc: Global,
-    volume: &mut Volume<D>,
-    jobs: &mut Jobs,
-    number: u32,
-    channel: u32,
-    address: u32,
-    moment: Moment,
-) -> Reply
-    requires sound { IsSound (D.state volume.old.disk) (core_of volume.old.map) volume.old.failed }
-    requires keyed { AreKeyed (core_of volume.old.map).pending jobs.old }
-    requires placed { ArePlaced (core_of volume.old.map) }
-    requires reading { AreReading (core_of volume.old.map).live jobs.old }
-    requires alive { volume.old.failed ≡ false }
-    requires timely { moment.date ≤ 4095 }
-    ensures sound { IsSound (D.state volume.new.disk) (core_of volume.new.map) volume.new.failed }
-    ensures keyed { AreKeyed (core_of volume.new.map).pending jobs.new }
-    ensures placed { ArePlaced (core_of volume.new.map) }
-    ensures reading { AreReading (core_of volume.new.map).live jobs.new }
-    ensures others { (m : ℕ) → (m ≡ number → ⊥) → slot jobs.new m ≡ slot jobs.old m }
-    ensures untouched { (volume.new.disk ≡ volume.old.disk) × (volume.new.failed ≡ volume.old.failed) }
-    ensures memory { result ≡ NoMemory → (volume.new.disk ≡ volume.old.disk) × (core_of volume.new.map ≡ core_of volume.old.map) × (volume.new.failed ≡ volume.old.failed) × (jobs.new ≡ jobs.old) }
-    ensures only { (result ≡ Failed → ⊥) × (result ≡ Device → ⊥) }
-    // On a channel that reads no file is updated yet.
-    ensures unserved { (there : JobRecord) → slot jobs.old number ≡ Some there → IsReading (slot there.channels channel) → (core_of volume.new.map ≡ core_of volume.old.map) × (result ≡ enter_unserved there address) × (jobs.new ≡ slice_set jobs.old number (Some (enter_refused there address))) }
-    ensures answered { (D.state volume.new.disk).honest → IsUnread channel (slot jobs.old number) → (old : Service) → Serves (D.state volume.old.disk) (core_of volume.old.map) volume.old.failed jobs.old old
-        → (new : Service) × Serves (D.state volume.new.disk) (core_of volume.new.map) volume.new.failed jobs.new new
-        × Answers (pack_of (D.state volume.old.disk)) old (Calls number (Enter channel address) moment) result new }
-    ensures refused { (code : ℕ) → result ≡ Refused code → IsRefused (calls.Enter channel address) number code jobs.old jobs.new }
-{
-    let Some(mut job) = jobs.take(number) else {
-        return Reply::NoJob;
-    };
-    let reply = enter(alloc, volume, &mut job, channel, address, moment);
-    jobs.put(number, job);
-    reply
-}
-
-/// RESET by the job of a number.
-pub fn serve_reset<D: Disk>(
-    volume: &mut Volume<D>,
-    jobs: &mut Jobs,
-    number: u32,
-    moment: Moment,
-) -> Reply
-    requires sound { IsSound (D.state volume.old.disk) (core_of volume.old.map) volume.old.failed }
-    requires keyed { AreKeyed (core_of volume.old.map).pending jobs.old }
-    requires placed { ArePlaced (core_of volume.old.map) }
-    requires reading { AreReading (core_of volume.old.map).live jobs.old }
-    requires alive { volume.old.failed ≡ false }
-    requires timely { moment.date ≤ 4095 }
-    ensures sound { IsSound (D.state volume.new.disk) (core_of volume.new.map) volume.new.failed }
-    ensures keyed { AreKeyed (core_of volume.new.map).pending jobs.new }
-    ensures placed { ArePlaced (core_of volume.new.map) }
-    ensures reading { AreReading (core_of volume.new.map).live jobs.new }
-    ensures others { (m : ℕ) → (m ≡ number → ⊥) → slot jobs.new m ≡ slot jobs.old m }
-    ensures untouched { (volume.new.disk ≡ volume.old.disk) × (volume.new.failed ≡ volume.old.failed) }
-    ensures only { (result ≡ Failed → ⊥) × (result ≡ Device → ⊥) }
-    ensures light { result ≡ NoMemory → ⊥ }
-    ensures answered { (D.state volume.new.disk).honest → (old : Service) → Serves (D.state volume.old.disk) (core_of volume.old.map) volume.old.failed jobs.old old
-        → (new : Service) × Serves (D.state volume.new.disk) (core_of volume.new.map) volume.new.failed jobs.new new
-        × Answers (pack_of (D.state volume.old.disk)) old (Calls number (Reset) moment) result new }
-    ensures refused { (code : ℕ) → result ≡ Refused code → ⊥ }
-{
-    if !reset(volume, jobs, number) {
-        return Reply::NoJob;
+impl<D: Disk> Monitor<D> {
+    /// Serves one event, and gives its reply: that of `login`, `deposit`, `examine` or `call`.
+    pub fn event(&mut self, alloc: Global, event: &Event) -> Reply
+        ensures answered { (D.state self.new.disk).honest → (old : Service) → Serves (D.state self.old.disk) self.old.map self.old.failed self.old.jobs old → IsServedIn old event.now
+            → (new : Service) × Serves (D.state self.new.disk) self.new.map self.new.failed self.new.jobs new
+            × Answers (pack_of (D.state self.old.disk)) old event.now result new }
+        // At any moment of it a crash leaves the files from before, or those after it where its answer is one that may change
+        // files: `Done`, and `Device`.
+        ensures crash { (D.state self.new.disk).honest → (s : State) → Serves (D.state self.old.disk) self.old.map self.old.failed self.old.jobs (Serving s)
+            → LeavesOnly (D.state self.old.disk) (D.state self.new.disk) (StandsForEither (pack_of (D.state self.old.disk)) s event.now result) }
+        // The machine's record of another job stays, where it is served as the machine serves it.
+        ensures apart { (D.state self.new.disk).honest → (s : State) → Serves (D.state self.old.disk) self.old.map self.old.failed self.old.jobs (Serving s) → IsServedIn (Serving s) event.now
+            → (after : Service) × Serves (D.state self.new.disk) self.new.map self.new.failed self.new.jobs after × Answers (pack_of (D.state self.old.disk)) (Serving s) event.now result after
+            × ((t : State) → after ≡ Serving t → (m : ℕ) → (m ≡ job_of event.now → ⊥) → job_at t m ≡ job_at s m) }
+        // On every disk: no event of another job changes a job, and one that finds no memory leaves all as it was.
+        ensures others { (m : ℕ) → (m ≡ job_of event.now → ⊥) → slot self.new.jobs m ≡ slot self.old.jobs m }
+        ensures memory { result ≡ replies.NoMemory → self.new ≡ self.old }
+        // Which events, and which answers, leave the disk alone; and which events take no memory.
+        ensures idle { IsIdle result → self.new.disk ≡ self.old.disk }
+        ensures light { IsLightEvent event.now self.old.jobs → (result ≡ replies.NoMemory → ⊥) × (self.new.disk ≡ self.old.disk) }
+        ensures apart_from_disk { IsNoCall event.now → self.new.disk ≡ self.old.disk }
+        // It fails with the device, and is Failed from then on; else only a broken promise of the disk makes it so.
+        ensures failed { IsTrue self.new.failed ↔ ((result ≡ Device) ⊎ (result ≡ Failed)) }
+        ensures broken { self.old.failed ≡ true → (result ≡ Failed) × (self.new ≡ self.old) }
+        ensures blamed { (D.state self.new.disk).honest → result ≡ Failed → self.old.failed ≡ true }
+        ensures counted { result ≡ Device → (D.state self.new.disk).failures ≡ one_more (D.state self.old.disk).failures }
+        ensures served { (result ≡ Device → ⊥) → (D.state self.new.disk).failures ≡ (D.state self.old.disk).failures }
+        ensures same { SameDisk (D.state self.old.disk) (D.state self.new.disk) }
+        // And what `call` says of a call alone.
+        ensures still { OfCall event.now (λ job call moment. (D.state self.new.disk).honest → (channel address : ℕ) → call ≡ In channel address → moment.date ≤ 4095 → (s : State) → Serves (D.state self.old.disk) self.old.map self.old.failed self.old.jobs (Serving s)
+            → (own : MachineJob) → job_at s job ≡ Some own → (result ≡ replies.NoMemory → ⊥) → (result ≡ Device → ⊥)
+            → (after : State) × Serves (D.state self.new.disk) self.new.map self.new.failed self.new.jobs (Serving after)
+            × (result ≡ (read_of own channel address).0) × (job_at after job ≡ Some (read_of own channel address).1)) }
+        ensures refused { OfCall event.now (λ job call moment. (code : ℕ) → result ≡ Refused code → IsRefused call job code self.old.jobs self.new.jobs) }
+        ensures late { OfCall event.now (λ job call moment. self.old.failed ≡ false → 4095 < moment.date → (result ≡ DateRange) × (self.new ≡ self.old)) }
+        ensures kept { OfCall event.now (λ job call moment. KeepsCore call → self.new.map ≡ self.old.map) }
+        ensures unserved { OfCall event.now (λ job call moment. self.old.failed ≡ false → moment.date ≤ 4095 → (there : JobRecord) → slot self.old.jobs job ≡ Some there → IsUnserved call there
+            → (self.new.map ≡ self.old.map) × (after : JobRecord) × UnservedRow call there after result × (self.new.jobs ≡ slice_set self.old.jobs job (Some after))) }
+    {
+        match *event {
+            Event::Login(job, ppn, words) => self.login(alloc, job, ppn, words),
+            Event::Deposit(job, address, word) => self.deposit(job, address, word),
+            Event::Examine(job, address) => self.examine(job, address),
+            Event::Call(job, call, moment) => self.call(alloc, job, &call, moment),
+        }
     }
-    Reply::Done
+
+    /// Serves a list of events, one after the other, and gives their replies in the same order.
+    ///
+    /// The replies, and what the monitor stands for after them, are a run of the file machine. At the moment after
+    /// each event all that a crash may leave stands for the files after the events so far; between two such moments it
+    /// leaves these, or those after one event more where its answer is one that may change files (`Done`, `Device`). Who reads goes on in the file that its LOOKUP found.
+    /// An event that meets a fault of the disk is answered `Device`, and each event after it `Failed`.
+    ///
+    /// # Errors
+    ///
+    /// `NoMemory` where the replies find no room: then no event was served.
+    pub fn serve(&mut self, alloc: Global, events: &[Event]) -> Result<Vec<Reply>, NoMemory>
+        // One run: by way of these services, one after each event, the replies are the machine's, moment by moment; and the
+        // words that an IN moves are those of the file that its LOOKUP found, whatever other jobs do.
+        ensures runs { IfOk result (λ replies. (D.state self.new.disk).honest → (s : State) → Serves (D.state self.old.disk) self.old.map self.old.failed self.old.jobs (Serving s)
+            → AreServed (pack_of (D.state self.old.disk)) (Serving s) events.now replies.items
+            → (services : List Service) × Serves (D.state self.new.disk) self.new.map self.new.failed self.new.jobs (last_of (Serving s) services)
+            × RunsOn (pack_of (D.state self.old.disk)) (D.state self.new.disk) (D.state self.old.disk).clock (Serving s) events.now replies.items (last_of (Serving s) services)
+            × RunsBy D.state (pack_of (D.state self.old.disk)) self.old.disk (Serving s) events.now replies.items services self.new.disk
+            × HoldsStill (Serving s) events.now replies.items services) }
+        ensures count { IfOk result (λ replies. length replies.items ≡ length events.now) }
+        ensures none { IsErr result → self.new ≡ self.old }
+        ensures broken { self.old.failed ≡ true → IfOk result (λ replies. AllByRecursion (λ reply. reply ≡ Failed) replies.items) × (self.new ≡ self.old) }
+        ensures same { SameDisk (D.state self.old.disk) (D.state self.new.disk) }
+        // On every disk: Device is among the replies only where the failure count rose, by one; after it all is Failed.
+        ensures served { IfOk result (λ replies. AllByRecursion (λ reply. reply ≡ Device → ⊥) replies.items → (D.state self.new.disk).failures ≡ (D.state self.old.disk).failures) }
+        ensures counted { IfOk result (λ replies. TellsFault replies.items → (D.state self.new.disk).failures ≡ one_more (D.state self.old.disk).failures) }
+        ensures once { IfOk result (λ replies. FailsOnce replies.items) }
+    {
+        let mut replies = Vec::with_capacity(alloc, events.len())?;
+        for event in events {
+            let reply = self.event(alloc, event);
+            replies.push(reply).unwrap();
+        }
+        Ok(replies)
+    }
 }

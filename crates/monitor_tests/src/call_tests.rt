@@ -1,7 +1,7 @@
 use crate::job_tests::{expect_room, let_go, log_in, start, word};
 use blockdisk::MemDisk;
-use meaning::Reply;
-use monitor::{Call, Monitor};
+use meaning::{Call, Reply};
+use monitor::Monitor;
 use std::alloc::Global;
 use std::process::Abort;
 use std::test::Fail;
@@ -324,6 +324,40 @@ fn an_enter_is_refused(rt: HostRuntime) -> Result<(), Fail> {
     name_bar_of_another(&rt, &mut monitor, rt.alloc());
     refuse_enters(&rt, &mut monitor, rt.alloc());
     expect_number(&rt, &monitor, (2, 0o301), 0o647064000001);
+    expect_room(&rt, &monitor, 45);
+    let_go(monitor);
+    Ok(())
+}
+
+/// On channels in dump mode a ring is out of order, and so is a RENAME without a LOOKUP; a closed one has neither.
+fn out_of_order(rt: &impl Abort, monitor: &mut Monitor<MemDisk>, alloc: Global) {
+    let calls = [
+        (Call::Inbuf(3, 2), Reply::NoChannel),
+        (Call::Inbuf(1, 2), Reply::Refused(5)),
+        (Call::Outbuf(3, 2), Reply::NoChannel),
+        (Call::Outbuf(1, 0), Reply::Refused(5)),
+        (Call::Rename(3, 0o300), Reply::NoChannel),
+        (Call::Rename(1, 0o775), Reply::AddressCheck),
+        (Call::Rename(1, 0o300), Reply::Refused(5)),
+    ];
+    expect_calls(rt, monitor, alloc, 1, &calls);
+    expect_number(rt, monitor, (1, 0o301), 0o647064000005);
+}
+
+/// What needs a ring, a name that was looked up, or words that aren't in core, is refused.
+#[test]
+fn calls_out_of_order(rt: HostRuntime) -> Result<(), Fail> {
+    let mut monitor = start(&rt, rt.alloc(), 0o775000000000)?;
+    name_bar(&rt, &mut monitor, rt.alloc());
+    out_of_order(&rt, &mut monitor, rt.alloc());
+    let deleted = (1, Call::DeleteDir(0o777));
+    expect_call(
+        &rt,
+        &mut monitor,
+        rt.alloc(),
+        deleted,
+        Reply::AddressCheck,
+    );
     expect_room(&rt, &monitor, 45);
     let_go(monitor);
     Ok(())

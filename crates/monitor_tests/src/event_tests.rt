@@ -1,7 +1,7 @@
 use crate::job_tests::{expect_room, image, let_go, room, start, started, word};
 use blockdisk::{MemDisk, NoMemory};
-use meaning::Reply;
-use monitor::{Call, Event, Monitor, start_after_crash};
+use meaning::{Call, Event, Reply};
+use monitor::{Monitor, start_after_crash};
 use std::alloc::Global;
 use std::process::Abort;
 use std::test::Fail;

@@ -1,7 +1,7 @@
 use crate::monitor_rows::{BLOCK, FOO, LIST, TXT, image};
 use blockdisk::{Disk, Fault, MemDisk, NoMemory};
-use meaning::Reply;
-use monitor::{Call, Monitor, StartError};
+use meaning::{Call, Reply};
+use monitor::{Monitor, StartError};
 use std::alloc::Global;
 use std::process::Abort;
 use std::test::Fail;

@@ -2,8 +2,8 @@ use crate::monitor_rows::{
     BLOCK, LIST, TXT, WORDS, expect_room, expect_word, fill, let_go, login, open, put_word, ready,
 };
 use blockdisk::{MemDisk, NoMemory};
-use meaning::Reply;
-use monitor::{Call, Event, Monitor};
+use meaning::{Call, Event, Reply};
+use monitor::Monitor;
 use std::alloc::{AllocError, Global};
 use std::process::Abort;
 use std::test::Fail;

@@ -7,8 +7,8 @@ ghost use Rattle.volume.specs.Rest.{IsSound};
 
 use crate::images::{DIRECTORY, HOME, MASTER, PRIME, WORDS as OLD};
 use blockdisk::{Disk, MemDisk, NoMemory};
-use meaning::{Entry, ErrorCode, Reply};
-use monitor::{Call, Monitor};
+use meaning::{Call, Entry, ErrorCode, Reply};
+use monitor::Monitor;
 use std::alloc::{AllocError, Global};
 use std::process::Abort;
 use std::test::Fail;

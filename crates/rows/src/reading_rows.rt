@@ -4,8 +4,8 @@ use crate::monitor_rows::{
     word_at, write, write_21_blocks, write_24_blocks,
 };
 use blockdisk::{MemDisk, NoMemory};
-use meaning::Reply;
-use monitor::{Call, Monitor};
+use meaning::{Call, Reply};
+use monitor::Monitor;
 use std::alloc::Global;
 use std::process::Abort;
 use std::test::Fail;

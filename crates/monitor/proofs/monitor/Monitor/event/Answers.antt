@@ -2,7 +2,7 @@ use Rattle.std.proofs.Common.{refl, sym, ap, subst}
 use Rattle.blockdisk.specs.Disk.{LeavesOnly}
 use Rattle.meaning.specs.Crashes.{StandsForEither}
 use Rattle.meaning.specs.Runs.{Service, Serving, Answers}
-use Rattle.monitor.specs.Runs.{event_of, IsServedIn}
+use Rattle.monitor.specs.Runs.{IsServedIn}
 use Rattle.monitor.specs.Serving.{pack_of, Serves}
 use Rattle.monitor.specs.Events.{IsNoCall, IsLightEvent}
 use Rattle.monitor.proofs.Apart.{leaves_others}
@@ -13,30 +13,30 @@ use Rattle.monitor.proofs.monitor.Monitor.event.Goals as goal
 pub returns-in-Call-clause-answered : goal.returns-in-Call-clause-answered
 returns-in-Call-clause-answered g c h old serves served =
     let is = c.in-Call.is in
-    subst (λ event. (new : Service) × Serves (g.D.Disk.state c.call.new.self.disk) c.call.new.self.map c.call.new.self.failed c.call.new.self.jobs new × Answers (pack_of (g.D.Disk.state c.args.self.now.disk)) old (event_of event) c.call.result new) (sym is)
+    subst (λ event. (new : Service) × Serves (g.D.Disk.state c.call.new.self.disk) c.call.new.self.map c.call.new.self.failed c.call.new.self.jobs new × Answers (pack_of (g.D.Disk.state c.args.self.now.disk)) old event c.call.result new) (sym is)
     (call_answered g.D.Disk.state c.args.self.now c.call.new.self c.in-Call.job c.in-Call.call c.in-Call.moment c.call.result c.call.ensures.answered c.call.ensures.broken h old (subst (IsServedIn old) is served) serves)
 
 pub returns-in-Examine-clause-answered : goal.returns-in-Examine-clause-answered
 returns-in-Examine-clause-answered g c h old serves served =
     let m = c.args.self.now in
-    subst (λ event. (new : Service) × Serves (g.D.Disk.state m.disk) m.map m.failed m.jobs new × Answers (pack_of (g.D.Disk.state m.disk)) old (event_of event) c.examine.result new) (sym c.in-Examine.is) (c.examine.ensures.answered old serves)
+    subst (λ event. (new : Service) × Serves (g.D.Disk.state m.disk) m.map m.failed m.jobs new × Answers (pack_of (g.D.Disk.state m.disk)) old event c.examine.result new) (sym c.in-Examine.is) (c.examine.ensures.answered old serves)
 
 pub returns-in-Login-clause-crash : goal.returns-in-Login-clause-crash
 returns-in-Login-clause-crash g c h s serves =
-    untouched_event g.D.Disk.state g.met.D.Disk.only_now c.args.self.now.disk c.login.new.self.disk (ap (λ m. m.disk) c.login.ensures.kept) c.args.self.now.map c.args.self.now.jobs (event_of c.args.event.now) c.login.result h s serves.1
+    untouched_event g.D.Disk.state g.met.D.Disk.only_now c.args.self.now.disk c.login.new.self.disk (ap (λ m. m.disk) c.login.ensures.kept) c.args.self.now.map c.args.self.now.jobs c.args.event.now c.login.result h s serves.1
 
 pub returns-in-Deposit-clause-crash : goal.returns-in-Deposit-clause-crash
 returns-in-Deposit-clause-crash g c h s serves =
-    untouched_event g.D.Disk.state g.met.D.Disk.only_now c.args.self.now.disk c.deposit.new.self.disk (ap (λ m. m.disk) c.deposit.ensures.kept) c.args.self.now.map c.args.self.now.jobs (event_of c.args.event.now) c.deposit.result h s serves.1
+    untouched_event g.D.Disk.state g.met.D.Disk.only_now c.args.self.now.disk c.deposit.new.self.disk (ap (λ m. m.disk) c.deposit.ensures.kept) c.args.self.now.map c.args.self.now.jobs c.args.event.now c.deposit.result h s serves.1
 
 pub returns-in-Examine-clause-crash : goal.returns-in-Examine-clause-crash
 returns-in-Examine-clause-crash g c h s serves =
-    untouched_event g.D.Disk.state g.met.D.Disk.only_now c.args.self.now.disk c.args.self.now.disk refl c.args.self.now.map c.args.self.now.jobs (event_of c.args.event.now) c.examine.result h s serves.1
+    untouched_event g.D.Disk.state g.met.D.Disk.only_now c.args.self.now.disk c.args.self.now.disk refl c.args.self.now.map c.args.self.now.jobs c.args.event.now c.examine.result h s serves.1
 
 pub returns-in-Call-clause-crash : goal.returns-in-Call-clause-crash
 returns-in-Call-clause-crash g c h s serves =
     let m = c.args.self.now in
-    subst (λ event. LeavesOnly (g.D.Disk.state m.disk) (g.D.Disk.state c.call.new.self.disk) (StandsForEither (pack_of (g.D.Disk.state m.disk)) s (event_of event) c.call.result)) (sym c.in-Call.is)
+    subst (λ event. LeavesOnly (g.D.Disk.state m.disk) (g.D.Disk.state c.call.new.self.disk) (StandsForEither (pack_of (g.D.Disk.state m.disk)) s event c.call.result)) (sym c.in-Call.is)
     (c.call.ensures.crash h s serves)
 
 pub returns-in-Login-clause-still : goal.returns-in-Login-clause-still
@@ -54,9 +54,6 @@ returns-in-Login-clause-kept g c = of_other _ c.args.event.now _ c.in-Login.is t
 pub returns-in-Login-clause-unserved : goal.returns-in-Login-clause-unserved
 returns-in-Login-clause-unserved g c = of_other _ c.args.event.now _ c.in-Login.is tt
 
-pub returns-in-Login-clause-unread : goal.returns-in-Login-clause-unread
-returns-in-Login-clause-unread g c = of_other _ c.args.event.now _ c.in-Login.is tt
-
 pub returns-in-Deposit-clause-still : goal.returns-in-Deposit-clause-still
 returns-in-Deposit-clause-still g c = of_other _ c.args.event.now _ c.in-Deposit.is tt
 
@@ -71,9 +68,6 @@ returns-in-Deposit-clause-kept g c = of_other _ c.args.event.now _ c.in-Deposit.
 
 pub returns-in-Deposit-clause-unserved : goal.returns-in-Deposit-clause-unserved
 returns-in-Deposit-clause-unserved g c = of_other _ c.args.event.now _ c.in-Deposit.is tt
-
-pub returns-in-Deposit-clause-unread : goal.returns-in-Deposit-clause-unread
-returns-in-Deposit-clause-unread g c = of_other _ c.args.event.now _ c.in-Deposit.is tt
 
 pub returns-in-Examine-clause-still : goal.returns-in-Examine-clause-still
 returns-in-Examine-clause-still g c = of_other _ c.args.event.now _ c.in-Examine.is tt
@@ -90,9 +84,6 @@ returns-in-Examine-clause-kept g c = of_other _ c.args.event.now _ c.in-Examine.
 pub returns-in-Examine-clause-unserved : goal.returns-in-Examine-clause-unserved
 returns-in-Examine-clause-unserved g c = of_other _ c.args.event.now _ c.in-Examine.is tt
 
-pub returns-in-Examine-clause-unread : goal.returns-in-Examine-clause-unread
-returns-in-Examine-clause-unread g c = of_other _ c.args.event.now _ c.in-Examine.is tt
-
 pub returns-in-Call-clause-still : goal.returns-in-Call-clause-still
 returns-in-Call-clause-still g c = of_other _ c.args.event.now _ c.in-Call.is c.call.ensures.still
 
@@ -107,9 +98,6 @@ returns-in-Call-clause-kept g c = of_other _ c.args.event.now _ c.in-Call.is c.c
 
 pub returns-in-Call-clause-unserved : goal.returns-in-Call-clause-unserved
 returns-in-Call-clause-unserved g c = of_other _ c.args.event.now _ c.in-Call.is c.call.ensures.unserved
-
-pub returns-in-Call-clause-unread : goal.returns-in-Call-clause-unread
-returns-in-Call-clause-unread g c = of_other _ c.args.event.now _ c.in-Call.is c.call.ensures.unread
 
 pub returns-in-Login-clause-idle : goal.returns-in-Login-clause-idle
 returns-in-Login-clause-idle g c idle = ap (λ m. m.disk) c.login.ensures.kept
@@ -135,12 +123,12 @@ returns-in-Call-clause-apart_from_disk g c none = absurd (subst IsNoCall c.in-Ca
 pub returns-in-Login-clause-answered : goal.returns-in-Login-clause-answered
 returns-in-Login-clause-answered g c h old serves served =
     let m = c.login.new.self in
-    subst (λ event. (new : Service) × Serves (g.D.Disk.state m.disk) m.map m.failed m.jobs new × Answers (pack_of (g.D.Disk.state c.args.self.now.disk)) old (event_of event) c.login.result new) (sym c.in-Login.is) (c.login.ensures.answered old serves)
+    subst (λ event. (new : Service) × Serves (g.D.Disk.state m.disk) m.map m.failed m.jobs new × Answers (pack_of (g.D.Disk.state c.args.self.now.disk)) old event c.login.result new) (sym c.in-Login.is) (c.login.ensures.answered old serves)
 
 pub returns-in-Deposit-clause-answered : goal.returns-in-Deposit-clause-answered
 returns-in-Deposit-clause-answered g c h old serves served =
     let m = c.deposit.new.self in
-    subst (λ event. (new : Service) × Serves (g.D.Disk.state m.disk) m.map m.failed m.jobs new × Answers (pack_of (g.D.Disk.state c.args.self.now.disk)) old (event_of event) c.deposit.result new) (sym c.in-Deposit.is) (c.deposit.ensures.answered old serves)
+    subst (λ event. (new : Service) × Serves (g.D.Disk.state m.disk) m.map m.failed m.jobs new × Answers (pack_of (g.D.Disk.state c.args.self.now.disk)) old event c.deposit.result new) (sym c.in-Deposit.is) (c.deposit.ensures.answered old serves)
 
 pub returns-in-Login-clause-apart : goal.returns-in-Login-clause-apart
 returns-in-Login-clause-apart g c h s serves served =

@@ -1,0 +1,84 @@
+-- Calls that are out of order wherever they are served: INBUF, OUTBUF, RENAME and DeleteDir answer as the machine does.
+use Rattle.std.proofs.Common.{◌≡◌, ℕ, Bool, true, false, List, Option, None, Some, refl, ap, ◌∙◌}
+use Rattle.std.specs.Prelude.{◌==◌, not, if◌then◌else◌, is_none, option_map}
+use Rattle.meaning.specs.Cores.{lies_outside}
+use Rattle.meaning.specs.Files.{Files}
+use Rattle.meaning.specs.Jobs as machine
+use Rattle.meaning.specs.Jobs.{State, slot, channel_at, job_at, with_job}
+use Rattle.meaning.specs.Making.{is_stranger, owner_at}
+use Rattle.meaning.specs.Maps.{get, remove}
+use Rattle.meaning.specs.Opening.{sets_up}
+use Rattle.meaning.specs.Outcomes.{settled, refused_at}
+use Rattle.meaning.specs.Published.{Version}
+use Rattle.meaning.specs.Renaming.{renames, rename_sides, rename_done, files_renamed}
+use Rattle.meaning.specs.Room.{Pack, entry_count}
+use Rattle.meaning.specs.Step.{on_channel, of_job, of_files}
+use Rattle.meaning.specs.declared.call.Call.TheVariants.{Inbuf, Outbuf, Rename, DeleteDir}
+use Rattle.meaning.specs.declared.call.Reply.{Reply}
+use Rattle.meaning.specs.declared.call.Reply.TheVariants.{Done, Refused, NoChannel, AddressCheck}
+use Rattle.monitor.specs.Refusals.{with_code}
+use Rattle.monitor.specs.Rows.{IsRow}
+use Rattle.monitor.specs.Sides.{UnderKeys, input_of, channel_of, job_of, reader_of}
+use Rattle.monitor.specs.declared.channel.Channel.{Channel}
+use Rattle.monitor.specs.declared.job.Job.{Job}
+use Rattle.monitor.proofs.Calling.{channel_is}
+use Rattle.monitor.proofs.Usetos.{on_row, on_none}
+
+module _ (job : Job) (number count : ℕ) where
+  pub inbuf_none : slot job.channels number ≡ None → IsRow job job (Inbuf number count) NoChannel
+  inbuf_none none pack serial s n w moment at = on_none s n w job number (λ c. of_job s n (sets_up (job_of w job) number c c.input_header count)) none at
+
+  -- each channel is in dump mode
+  pub inbuf_refused : (c : Channel) → slot job.channels number ≡ Some c → IsRow job job (Inbuf number count) (Refused 5)
+  inbuf_refused c there pack serial s n w moment at = on_row s n w job job number c (Refused 5) (λ x. sets_up (job_of w job) number x x.input_header count) there refl
+
+  pub outbuf_none : slot job.channels number ≡ None → IsRow job job (Outbuf number count) NoChannel
+  outbuf_none none pack serial s n w moment at = on_none s n w job number (λ c. of_job s n (sets_up (job_of w job) number c c.output_header count)) none at
+
+  pub outbuf_refused : (c : Channel) → slot job.channels number ≡ Some c → IsRow job job (Outbuf number count) (Refused 5)
+  outbuf_refused c there pack serial s n w moment at = on_row s n w job job number c (Refused 5) (λ x. sets_up (job_of w job) number x x.output_header count) there refl
+
+-- RENAME.
+
+module _ (job : Job) (number e : ℕ) where
+  pub rename_none : slot job.channels number ≡ None → IsRow job job (Rename number e) NoChannel
+  rename_none none pack serial s n w moment at = on_none s n w job number (λ c. of_files s n (renames pack s (job_of w job) number c e)) none at
+
+  module _ (c : Channel) (there : slot job.channels number ≡ Some c) where
+    -- by whether the words are not all there, and by the input side
+    abbrev renamed : Pack → State → UnderKeys → Bool → Option machine.Input → Reply × (machine.Job × Files Version)
+    renamed pack s w outside side =
+        settled (if outside then AddressCheck else rename_sides pack s (job_of w job) e side (channel_of w c).output)
+        (rename_done (job_of w job) number (channel_of w c), files_renamed s.files (job_of w job) e (channel_of w c).input) (λ reply. (refused_at (job_of w job) e reply, s.files))
+
+    asked : (s : State) (n : ℕ) (w : UnderKeys) (row : machine.Channel → Reply × State) → on_channel s (channel_at (job_of w job) number) row ≡ row (channel_of w c)
+    asked s n w row = ap (λ o. on_channel s o row) (channel_is w job number (Some c) there)
+
+    pub rename_outside : lies_outside job.core e 4 ≡ true → IsRow job job (Rename number e) AddressCheck
+    rename_outside outside pack serial s n w moment at =
+        asked s n w (λ x. of_files s n (renames pack s (job_of w job) number x e)) ∙ ap (λ b. of_files s n (renamed pack s w b (channel_of w c).input)) outside
+
+    pub rename_refused : c.input ≡ None → lies_outside job.core e 4 ≡ false → IsRow job (with_code job e 5) (Rename number e) (Refused 5)
+    rename_refused none inside pack serial s n w moment at =
+        asked s n w (λ x. of_files s n (renames pack s (job_of w job) number x e))
+        ∙ ap (λ b. of_files s n (renamed pack s w b (channel_of w c).input)) inside
+        ∙ ap (λ i. of_files s n (renamed pack s w false (option_map (input_of w) i))) none
+
+-- DeleteDir.
+module _ (job : Job) (e : ℕ) where
+  abbrev owner : UnderKeys → ℕ
+  owner w = owner_at (job_of w job) e
+
+  -- by whether the words are not all there
+  abbrev removed : State → UnderKeys → Bool → Reply × (machine.Job × Files Version)
+  removed s w outside =
+      settled
+      (if outside then AddressCheck
+      else if is_none (get s.files (owner w)) then Refused 1
+      else if is_stranger (job_of w job) (owner w) then Refused 2
+      else if not (entry_count s (owner w) == 0) then Refused 0o22
+      else Done)
+      (job_of w job, remove s.files (owner w)) (λ reply. (refused_at (job_of w job) e reply, s.files))
+
+  pub delete_outside : lies_outside job.core e 2 ≡ true → IsRow job job (DeleteDir e) AddressCheck
+  delete_outside outside pack serial s n w moment at = ap (λ b. of_files s n (removed s w b)) outside

@@ -1,0 +1,164 @@
+-- What every call promises, put together from what a call says of itself.
+use Rattle.std.proofs.Common.{◌≡◌, ◌≤◌, ℕ, Bool, false, List, Option, None, Some, refl, sym, ap, subst, ◌∙◌, slice_set}
+use Rattle.words36.specs.declared.moment.Moment.{Moment}
+use Rattle.blockdisk.specs.Disk.{Contents, DiskState, MayLeave}
+use Rattle.meaning.specs.Jobs.{slot}
+use Rattle.meaning.specs.Runs.{Service, Answers}
+use Rattle.meaning.specs.declared.call.Call.{Call}
+use Rattle.meaning.specs.declared.call.Event.TheVariants.{Call as Calls}
+use Rattle.meaning.specs.declared.call.Reply.{Reply}
+use Rattle.meaning.specs.declared.call.Reply.TheVariants.{Done, NoJob, NoMemory, Device, Failed, Refused}
+use Rattle.meaning.proofs.MapLaws.{some_same}
+use Rattle.meaning.proofs.SlotLaws.{none_some, slot-set_other}
+use Rattle.volume.specs.Live.{VolumeCore}
+use Rattle.volume.specs.Rest.{IsSound}
+use Rattle.volume.specs.declared.live.LiveVersion.{LiveVersion}
+use Rattle.volume.specs.declared.pending.PendingVersion.{PendingVersion}
+use Rattle.monitor.specs.Calls.{IsServed, IsLight, KeepsCore}
+use Rattle.monitor.specs.Dropping.{Leaves}
+use Rattle.monitor.specs.Publishing.{MayPublish, IsPublishing, IsPublishRow, CrashesAsRow, StillStands}
+use Rattle.monitor.specs.Promises.{IsAmong, IsServing, ServesJob}
+use Rattle.monitor.specs.Refusals.{refused_with}
+use Rattle.monitor.specs.Rows.{IsRow, Keeps, KeepsReading}
+use Rattle.monitor.specs.Serving.{pack_of, Serves, AreKeyed, ArePlaced, AreReading}
+use Rattle.monitor.specs.Unserved.{IsUnserved, UnservedRow}
+use Rattle.monitor.specs.declared.job.Job.{Job}
+use Rattle.monitor.proofs.Answering.{on_disk}
+use Rattle.monitor.proofs.Called.{quiet_failed, quiet_same, still_serves}
+use Rattle.monitor.proofs.Closings.{dropping_keyed, dropping_reading, dropping_answered, row_answered, row_crashes, publishing_failed, publishing_blamed, publishing_counted, publishing_served, publishing_idle}
+use Rattle.monitor.proofs.Placing.{placed_left}
+use Rattle.monitor.proofs.Refusals.{publishing_refused}
+use Rattle.monitor.proofs.Serving.{nobody, alone, alone_keyed, alone_reading}
+use Rattle.monitor.proofs.Slots.{unchanged}
+use Rattle.monitor.proofs.Untouched.{untouched_crashes}
+
+module _ {D : Type 0} (state : D → DiskState) (only_now : (disk : D) (contents : Contents) → (state disk).honest → (state disk).left_since (state disk).clock contents → MayLeave (state disk) contents) where
+  -- A call that asks the disk for nothing, by what it says of core, of the job and of its answer.
+  module _ (disk disk' : D) (core core' : VolumeCore) (failed failed' : Bool) (job job' : Job) (call : Call) (moment : Moment) (reply : Reply)
+      (alive : failed ≡ false) (untouched : (disk' ≡ disk) × (failed' ≡ failed)) (only : (reply ≡ Failed → ⊥) × (reply ≡ Device → ⊥)) (sound : IsSound (state disk') core' failed')
+      (placed : ArePlaced core') (room : IsLight call (Some job) → reply ≡ NoMemory → ⊥) (kept : KeepsCore call → core' ≡ core) (memory : reply ≡ NoMemory → (core' ≡ core) × (job' ≡ job))
+      (refused : (code : ℕ) → reply ≡ Refused code → job' ≡ refused_with call job code) (unserved : IsUnserved call job → (core' ≡ core) × UnservedRow call job job' reply)
+      (jobs : List (Option Job)) (n : ℕ) (among : IsAmong core jobs n job) where
+    abbrev pub jobs' : List (Option Job)
+    jobs' = slice_set jobs n (Some job')
+
+    pub quiet_serves : AreKeyed core'.pending jobs' → AreReading core'.live jobs'
+        → ((state disk').honest → IsServed call (Some job) → (old : Service) → Serves (state disk) core false jobs old → (new : Service) × Serves (state disk) core' false jobs' new × Answers (pack_of (state disk)) old (Calls n call moment) reply new)
+        → IsServing state disk disk' core core' failed' jobs jobs' n call moment reply
+    quiet_serves keyed reading answered = record {
+      sound = sound;
+      keyed = λ serves. keyed;
+      placed = λ serves. placed;
+      reading = λ serves. reading;
+      others = λ m other. slot-set_other jobs n m (Some job') other;
+      answered = λ honest served old serves.
+          on_disk state disk disk' false failed' core' jobs' (Answers (pack_of (state disk)) old (Calls n call moment) reply) (untouched.0, untouched.1 ∙ alive)
+          (answered honest (subst (IsServed call) among.there served) old serves);
+      crash = untouched_crashes state only_now disk disk' untouched.0 core jobs n call moment;
+      idle = λ idle. untouched.0;
+      light = λ light. (room (subst (IsLight call) among.there light), untouched.0);
+      kept = kept;
+      memory = λ none. (untouched.0, (memory none).0, untouched.1 ∙ alive, unchanged jobs jobs' n job job' among.there refl (memory none).1);
+      refused = λ code is. record { job = job; there = among.there; jobs_are = ap (λ j. slice_set jobs n (Some j)) (refused code is) };
+      unserved = λ x at is.
+          let same = some_same (sym among.there ∙ at) in
+          let row = unserved (subst (IsUnserved call) (sym same) is) in
+          (row.0, job', subst (λ j. UnservedRow call j job' reply) same row.1, refl);
+      failed = quiet_failed failed failed' reply alive untouched.1 only;
+      blamed = λ honest is. absurd (only.0 is);
+      counted = λ is. absurd (only.1 is);
+      served = λ serves. ap (λ d. (state d).failures) untouched.0;
+      same = quiet_same state disk disk' untouched.0;
+    }
+
+  -- A call that has to do with its job alone.
+  pub alone_serves : (disk : D) (core : VolumeCore) (failed : Bool) (job job' : Job) (call : Call) (moment : Moment) (reply : Reply) → failed ≡ false → IsSound (state disk) core failed → ArePlaced core → moment.date ≤ 4095
+      → (IsServed call (Some job) → IsRow job job' call reply) → (IsUnserved call job → UnservedRow call job job' reply) → ((pending : List (Option PendingVersion)) → Keeps pending pending job job')
+      → ((live : List (Option LiveVersion)) → KeepsReading live live job job') → (reply ≡ Failed → ⊥) × (reply ≡ Device → ⊥) × (reply ≡ NoMemory → ⊥)
+      → ((code : ℕ) → reply ≡ Refused code → job' ≡ refused_with call job code) → ServesJob state disk disk core core failed job job' call moment reply
+  alone_serves disk core failed job job' call moment reply alive sound placed timely row unserved keeps reads only refused jobs n among =
+      let set = slice_set jobs n (Some job') in
+      quiet_serves disk disk core core failed failed job job' call moment reply alive (refl, refl) (only.0, only.1) sound placed (λ light. only.2) (λ kept. refl) (λ none. absurd (only.2 none)) refused
+      (λ is. (refl, unserved is)) jobs n among
+      (alone_keyed (state disk) core false jobs n call moment refl timely set job job' among.keyed among.there refl (keeps core.pending))
+      (alone_reading (state disk) core false jobs n call moment refl timely set job job' among.reading among.there refl (reads core.live))
+      (λ honest served. alone (state disk) core false jobs n call moment refl timely set job job' reply among.keyed among.reading among.there refl (keeps core.pending) (reads core.live) (row served))
+
+  -- A call by which versions are dropped or let go, and which asks for nothing else.
+  pub dropping_serves : (disk disk' : D) (core core' : VolumeCore) (failed failed' : Bool) (job job' : Job) (call : Call) (moment : Moment) (reply : Reply) → failed ≡ false → (disk' ≡ disk) × (failed' ≡ failed)
+      → IsSound (state disk') core' failed' → ArePlaced core → moment.date ≤ 4095 → IsRow job job' call reply → Keeps core.pending core'.pending job job' → KeepsReading core.live core'.live job job'
+      → Leaves core core' → (reply ≡ Failed → ⊥) × (reply ≡ Device → ⊥) × (reply ≡ NoMemory → ⊥) → ((code : ℕ) → reply ≡ Refused code → ⊥) → (KeepsCore call → ⊥) → (IsUnserved call job → ⊥)
+      → ServesJob state disk disk' core core' failed' job job' call moment reply
+  dropping_serves disk disk' core core' failed failed' job job' call moment reply alive untouched sound placed timely row keeps reads leaves only refused changes served jobs n among =
+      let set = slice_set jobs n (Some job') in
+      quiet_serves disk disk' core core' failed failed' job job' call moment reply alive untouched (only.0, only.1) sound (placed_left core core' leaves placed) (λ light. only.2) (λ kept. absurd (changes kept))
+      (λ none. absurd (only.2 none)) (λ code is. absurd (refused code is)) (λ is. absurd (served is)) jobs n among
+      (dropping_keyed (state disk) core core' false jobs set n job job' call moment refl timely among.there refl keeps reads among.keyed)
+      (dropping_reading (state disk) core core' false jobs set n job job' call moment refl timely among.there refl keeps reads among.reading)
+      (λ honest served old serves. dropping_answered (state disk) core core' false jobs set n job job' call moment refl timely among.there refl keeps reads reply among.keyed among.reading leaves row old serves)
+
+  -- Nobody is logged in by that number.
+  pub nobody_serves : (disk : D) (core : VolumeCore) (failed : Bool) (jobs jobs' : List (Option Job)) (n : ℕ) (call : Call) (moment : Moment) → failed ≡ false → moment.date ≤ 4095 → IsSound (state disk) core failed
+      → AreKeyed core.pending jobs → ArePlaced core → AreReading core.live jobs → slot jobs n ≡ None → jobs' ≡ jobs → IsServing state disk disk core core failed jobs jobs' n call moment NoJob
+  nobody_serves disk core failed jobs jobs' n call moment alive timely sound keyed placed reading none same = record {
+    sound = sound;
+    keyed = λ serves. subst (AreKeyed core.pending) (sym same) keyed;
+    placed = λ serves. placed;
+    reading = λ serves. subst (AreReading core.live) (sym same) reading;
+    others = λ m other. ap (λ js. slot js m) same;
+    answered = λ honest served old serves.
+        on_disk state disk disk false failed core jobs' (Answers (pack_of (state disk)) old (Calls n call moment) NoJob) (refl, alive)
+        (nobody (state disk) core false jobs n call moment refl timely jobs' keyed reading none same old serves);
+    crash = untouched_crashes state only_now disk disk refl core jobs n call moment;
+    idle = λ idle. refl;
+    light = λ light. (λ e. cc e, refl);
+    kept = λ kept. refl;
+    memory = λ e. cc e;
+    refused = λ code e. cc e;
+    unserved = λ job at is. absurd (none_some (sym none ∙ at));
+    failed = quiet_failed failed failed NoJob alive refl (λ e. cc e, λ e. cc e);
+    blamed = λ honest e. cc e;
+    counted = λ e. cc e;
+    served = λ serves. refl;
+    same = quiet_same state disk disk refl;
+  }
+
+  -- The job was taken out of its slot, and put back.
+  pub set_serves : (disk disk' : D) (core core' : VolumeCore) (failed' : Bool) (jobs jobs' : List (Option Job)) (n : ℕ) (job job' : Job) (call : Call) (moment : Moment) (reply : Reply)
+      → jobs' ≡ slice_set jobs n (Some job') → IsServing state disk disk' core core' failed' jobs (slice_set jobs n (Some job')) n call moment reply → IsServing state disk disk' core core' failed' jobs jobs' n call moment reply
+  set_serves disk disk' core core' failed' jobs jobs' n job job' call moment reply set serving = subst (λ js. IsServing state disk disk' core core' failed' jobs js n call moment reply) (sym set) serving
+
+  -- A call that publishes what an output side has written.
+  pub publishing_serves : (disk disk' : D) (core core' : VolumeCore) (failed failed' : Bool) (key : ℕ) (job job' : Job) (call : Call) (moment : Moment) (reply : Reply) → failed ≡ false → ArePlaced core → moment.date ≤ 4095
+      → IsSound (state disk') core' failed' → MayPublish (state disk) (state disk') core core' key → IsPublishing (state disk) (state disk') core core' failed failed' key reply
+      → (reply ≡ NoMemory → (disk' ≡ disk) × (core' ≡ core)) → ((reply ≡ Done → ⊥) → job' ≡ job) → StillStands core core' failed' job job'
+      → IsPublishRow (state disk) (state disk') core core' failed' job job' call reply → CrashesAsRow (state disk) (state disk') core job call
+      → (IsLight call (Some job) → ⊥) → (KeepsCore call → ⊥) → (IsUnserved call job → ⊥) → ServesJob state disk disk' core core' failed' job job' call moment reply
+  publishing_serves disk disk' core core' failed failed' key job job' call moment reply alive placed timely sound may is memory kept stands row crash heavy changes served jobs n among =
+      let d = state disk in
+      let d' = state disk' in
+      let set = slice_set jobs n (Some job') in
+      let still = λ (works : failed' ≡ false). stands jobs n among.there among.keyed placed among.reading works in
+      let fails = publishing_failed d d' core core' failed failed' key reply is in
+      record {
+        sound = sound;
+        keyed = λ works. (still works).0;
+        placed = λ works. (still works).1;
+        reading = λ works. (still works).2;
+        others = λ m other. slot-set_other jobs n m (Some job') other;
+        answered = λ honest asked. row_answered d d' core core' jobs set n job job' moment among.there refl timely false failed' call reply refl placed honest row;
+        crash = row_crashes d d' core core' jobs set n job job' moment among.there refl timely call crash;
+        idle = λ idle. (memory (publishing_idle d d' core core' failed failed' key reply is idle)).0;
+        light = λ light. absurd (heavy (subst (IsLight call) among.there light));
+        kept = λ kept. absurd (changes kept);
+        memory = λ none.
+            let same = memory none in
+            (same.0, same.1, still_serves false failed' reply refl fails none, unchanged jobs set n job job' among.there refl (kept (λ e. let wrong = sym none ∙ e in cc)));
+        refused = λ code refused. absurd (publishing_refused d d' core core' failed failed' key code reply is refused);
+        unserved = λ x at asked. absurd (served (subst (IsUnserved call) (sym (some_same (sym among.there ∙ at))) asked));
+        failed = fails;
+        blamed = publishing_blamed d d' core core' failed failed' key reply alive is;
+        counted = publishing_counted d d' core core' failed failed' key reply is;
+        served = publishing_served d d' core core' failed failed' key reply is (λ none i. (state ((memory none).0 i)).failures);
+        same = may.same;
+      }

@@ -1,0 +1,24 @@
+use Rattle.std.proofs.Common.{refl, sym, ap, subst, ◌∙◌}
+use Rattle.meaning.specs.declared.call.Call.TheVariants.{Rename}
+use Rattle.monitor.specs.Rows.{IsRow, Keeps, KeepsReading}
+use Rattle.monitor.specs.Refusals.{with_code}
+use Rattle.monitor.specs.Sides.{reader_of}
+use Rattle.monitor.proofs.Calling.{keeps_same, reads_same}
+use Rattle.monitor.proofs.MakeDirs.{keeps_core}
+use Rattle.monitor.proofs.OutOfOrder.{rename_none, rename_outside, rename_refused}
+use Rattle.monitor.proofs.Outs.{reads_core}
+use Rattle.monitor.proofs.rename.rename.Goals as goal
+
+pub returns-in_default-clause-row : goal.returns-in_default-clause-row
+returns-in_default-clause-row c none = rename_none c.args.job.now c.args.number c.args.address (sym c.channel.ensures ∙ c.in_default.is)
+
+pub returns-then-lies_outside-clause-row : goal.returns-then-lies_outside-clause-row
+returns-then-lies_outside-clause-row c none =
+    rename_outside c.args.job.now c.args.number c.args.address c.in-Some.channel (sym c.channel.ensures ∙ c.in-Some.is) (sym c.lies_outside.ensures.value ∙ c.if-lies_outside.true)
+
+pub returns-clause-row : goal.returns-clause-row
+returns-clause-row c none =
+    let there = sym c.channel.ensures ∙ c.in-Some.is in
+    subst (λ reply. IsRow c.args.job.now (record c.args.job.now { core = c.refuse.new.core }) (Rename c.args.number c.args.address) reply) (sym c.refuse.ensures.answered)
+    (subst (λ core. IsRow c.args.job.now (record c.args.job.now { core = core }) (Rename c.args.number c.args.address) _) (sym c.refuse.ensures.kept)
+    (rename_refused c.args.job.now c.args.number c.args.address c.in-Some.channel there (sym (ap reader_of there) ∙ none) (sym c.lies_outside.ensures.value ∙ c.if-lies_outside.false)))

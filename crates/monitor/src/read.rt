@@ -1,0 +1,113 @@
+ghost use Rattle.std.specs.Prelude.{◌≡◌, ◌⊎◌, ◌↔◌, ◌<◌, ◌≤◌, ◌+◌, ◌^◌, ℕ, IsTrue, false};
+ghost use Rattle.blockdisk.specs.Disk.{SameDisk, one_more};
+ghost use Rattle.changeset.specs.Reads.{OnlyReads};
+ghost use Rattle.meaning.specs.Costs.{blocks_of};
+ghost use Rattle.meaning.specs.Files.{File, Files};
+ghost use Rattle.meaning.specs.Maps.{times};
+ghost use Rattle.meaning.specs.declared.call.Reply.TheVariants.{Device, Failed, NoMemory};
+ghost use Rattle.volume.specs.Live.{slot as version_at};
+ghost use Rattle.volume.specs.LiveCores.{core_of};
+ghost use Rattle.volume.specs.Rest.{IsSound, RestsAt};
+ghost use Rattle.monitor.specs.Events.{IsIdle};
+ghost use Rattle.monitor.specs.Readers.{readers_of};
+ghost use Rattle.monitor.specs.Reading.{read_on, IsIn};
+ghost use Rattle.monitor.specs.Rows.{KeepsReading};
+ghost use Rattle.monitor.specs.Serving.{HasReaders};
+ghost use Rattle.monitor.specs.Sides.{readers_in, pins_of};
+ghost use Rattle.meaning.specs.declared.call.Call.TheVariants.{In};
+ghost use Rattle.monitor.specs.Promises.{IsReady, ServesAlways};
+
+use crate::channel::Channel;
+use crate::input::Input;
+use crate::job::Job;
+use crate::read_in::{ReadIn, read_in};
+use crate::status::{cleared, stop};
+use blockdisk::Disk;
+use meaning::{ErrorCode, Reply};
+use std::alloc::Global;
+use volume::Volume;
+use words36::BLOCK_WORDS;
+
+/// What a channel reports of a body that has no more words.
+const END_OF_FILE: u32 = 0o20000;
+
+/// IN: moves words of the version that a channel reads into the areas of core that the command list at an address names.
+/// Its row is `read`.
+pub fn serve_in<D: Disk>(
+    alloc: Global,
+    volume: &mut Volume<D>,
+    job: &mut Job,
+    channel: u32,
+    address: u32,
+) -> Reply
+    requires ready { IsReady (D.state volume.old.disk) (core_of volume.old.map) volume.old.failed job.old }
+    ensures serving { ServesAlways D.state volume.old.disk volume.new.disk (core_of volume.old.map) (core_of volume.new.map) volume.new.failed job.old job.new (In channel address) result }
+{
+    read(alloc, volume, job, channel, address)
+}
+
+/// A channel once so many words are read from the next block of its input side on.
+fn read_on(channel: Channel, input: Input, count: usize) -> Channel
+    requires fits { input.next + blocks_of count < 2 ^ 32 }
+    requires few { count ≤ 0o400000 }
+    ensures { result ≡ read_on channel input count }
+{
+    let blocks = count.div_ceil(BLOCK_WORDS) as u32;
+    let input = Input {
+        next: input.next + blocks,
+        ..input
+    };
+    Channel {
+        status: cleared(channel.status),
+        input: Some(input),
+        ..channel
+    }
+}
+
+/// IN: moves the words of the version that a channel reads, from its next block on, into the areas of core that the
+/// command list at an address names, and moves on behind them. Where the body has no more words it is stopped.
+fn read<D: Disk>(
+    alloc: Global,
+    volume: &mut Volume<D>,
+    job: &mut Job,
+    number: u32,
+    address: u32,
+) -> Reply
+    requires sound { IsSound (D.state volume.old.disk) (core_of volume.old.map) volume.old.failed }
+    requires alive { volume.old.failed ≡ false }
+    requires held { (key : ℕ) → times key (pins_of (readers_in (Some job.old))) ≤ readers_of (version_at (core_of volume.old.map).live key) }
+    requires readers { HasReaders job.old }
+
+    ensures sound { IsSound (D.state volume.new.disk) (core_of volume.new.map) volume.new.failed }
+    ensures core { core_of volume.new.map ≡ core_of volume.old.map }
+    ensures outcome { IsIn (D.state volume.old.disk) (D.state volume.new.disk) (core_of volume.old.map) job.old job.new number address result }
+    ensures reads { KeepsReading (core_of volume.old.map).live (core_of volume.new.map).live job.old job.new }
+    ensures only_reads { (D.state volume.new.disk).honest → OnlyReads (D.state volume.old.disk) (D.state volume.new.disk) }
+    ensures rests { (D.state volume.new.disk).honest → (files : Files File) → RestsAt (D.state volume.old.disk) files → RestsAt (D.state volume.new.disk) files }
+    ensures failed { IsTrue volume.new.failed ↔ ((result ≡ Device) ⊎ (result ≡ Failed)) }
+    ensures blamed { (D.state volume.new.disk).honest → result ≡ Failed → ⊥ }
+    ensures counted { result ≡ Device → (D.state volume.new.disk).failures ≡ one_more (D.state volume.old.disk).failures }
+    ensures served { (result ≡ Device → ⊥) → (D.state volume.new.disk).failures ≡ (D.state volume.old.disk).failures }
+    ensures same { SameDisk (D.state volume.old.disk) (D.state volume.new.disk) }
+    ensures idle { IsIdle result → volume.new.disk ≡ volume.old.disk }
+    ensures memory { result ≡ NoMemory → (volume.new.disk ≡ volume.old.disk) × (job.new ≡ job.old) }
+{
+    let Some(channel) = job.channel(number) else {
+        return Reply::NoChannel;
+    };
+    let side = channel.input;
+    let Some(input) = side else {
+        return Reply::Refused(ErrorCode::Sequence.number());
+    };
+    match read_in(alloc, volume, &mut job.core, input.pin, input.next, address) {
+        ReadIn::Moved(count) => {
+            job.set_channel(number, Some(read_on(channel, input, count)));
+            Reply::Done
+        }
+        ReadIn::AtEnd => stop(job, number, channel, END_OF_FILE),
+        ReadIn::AddressCheck => Reply::AddressCheck,
+        ReadIn::NoMemory => Reply::NoMemory,
+        ReadIn::Device => Reply::Device,
+        ReadIn::Failed => Reply::Failed,
+    }
+}

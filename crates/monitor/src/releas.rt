@@ -1,0 +1,98 @@
+ghost use Rattle.std.specs.Prelude.{◌≡◌, ◌≤◌, ℕ, Some, None, false, ◌<◌, IsSome, slice_set};
+ghost use Rattle.meaning.specs.Jobs.{slot};
+ghost use Rattle.meaning.specs.Maps.{times};
+ghost use Rattle.meaning.specs.declared.call.Call.TheVariants.{Releas};
+ghost use Rattle.meaning.specs.declared.call.Reply.TheVariants.{NoMemory, Device, Failed, Refused, Done};
+ghost use Rattle.volume.specs.Live.{pending_at, slot as version_at};
+ghost use Rattle.volume.specs.LiveCores.{core_of};
+ghost use Rattle.volume.specs.Rest.{IsSound};
+ghost use Rattle.monitor.specs.Dropping.{Leaves};
+ghost use Rattle.monitor.specs.Readers.{readers_of};
+ghost use Rattle.monitor.specs.Rows.{IsRow, Keeps, KeepsReading, publishes_at};
+ghost use Rattle.monitor.specs.Sides.{readers_in, pins_of, side_of, reader_of};
+ghost use Rattle.volume.specs.Publishing.{IsPlaced};
+ghost use Rattle.volume.specs.declared.pending.PendingVersion.{PendingVersion};
+ghost use Rattle.monitor.specs.Publishing.{MayPublish, IsPublishing, IsPublishRow, CrashesAsRow, StillStands};
+ghost use Rattle.monitor.specs.Promises.{IsReady, ServesAlways};
+
+use crate::close::closed_side;
+use crate::dropping::let_go;
+use crate::job::Job;
+use crate::output::Output;
+use crate::publishing::publish_output;
+use blockdisk::Disk;
+use meaning::Reply;
+use std::alloc::Global;
+use volume::Volume;
+
+/// RELEAS: closes both sides of a channel, as CLOSE without bits does, and the channel. Its rows are `release_output`, where
+/// it publishes, and `release`.
+pub fn serve_release<D: Disk>(
+    alloc: Global,
+    volume: &mut Volume<D>,
+    job: &mut Job,
+    channel: u32,
+) -> Reply
+    requires ready { IsReady (D.state volume.old.disk) (core_of volume.old.map) volume.old.failed job.old }
+    ensures serving { ServesAlways D.state volume.old.disk volume.new.disk (core_of volume.old.map) (core_of volume.new.map) volume.new.failed job.old job.new (Releas channel) result }
+{
+    match closed_side(job, channel, 0) {
+        Some((_open, output)) => release_output(alloc, volume, job, channel, output),
+        None => release(volume, job, channel),
+    }
+}
+
+/// RELEAS of a channel without an output side: what it reads is let go, and the channel closes.
+fn release<D: Disk>(volume: &mut Volume<D>, job: &mut Job, number: u32) -> Reply
+    requires sound { IsSound (D.state volume.old.disk) (core_of volume.old.map) volume.old.failed }
+    requires held { (key : ℕ) → times key (pins_of (readers_in (Some job.old))) ≤ readers_of (version_at (core_of volume.old.map).live key) }
+    requires unpublished { publishes_at (slot job.old.channels number) 0 ≡ false }
+    ensures sound { IsSound (D.state volume.new.disk) (core_of volume.new.map) volume.new.failed }
+    ensures untouched { (volume.new.disk ≡ volume.old.disk) × (volume.new.failed ≡ volume.old.failed) }
+    ensures row { IsRow job.old job.new (Releas number) result }
+    ensures keeps { Keeps (core_of volume.old.map).pending (core_of volume.new.map).pending job.old job.new }
+    ensures reads { KeepsReading (core_of volume.old.map).live (core_of volume.new.map).live job.old job.new }
+    ensures leaves { Leaves (core_of volume.old.map) (core_of volume.new.map) }
+    ensures only { (result ≡ Failed → ⊥) × (result ≡ Device → ⊥) × (result ≡ NoMemory → ⊥) }
+    ensures refused { (code : ℕ) → result ≡ Refused code → ⊥ }
+{
+    let Some(channel) = job.channel(number) else {
+        return Reply::NoChannel;
+    };
+    let_go(volume, channel.input);
+    job.set_channel(number, None);
+    Reply::Done
+}
+
+/// RELEAS of a channel with an output side: publishes what it has written, and closes the channel. Where that
+/// isn't done the channel stays as it is.
+fn release_output<D: Disk>(
+    alloc: Global,
+    volume: &mut Volume<D>,
+    job: &mut Job,
+    number: u32,
+    output: Output,
+) -> Reply
+    requires sound { IsSound (D.state volume.old.disk) (core_of volume.old.map) volume.old.failed }
+    requires there { side_of (slot job.old.channels number) ≡ Some output }
+    requires single { reader_of (slot job.old.channels number) ≡ None }
+    requires live { IsSome (pending_at (core_of volume.old.map).pending output.pending.key) }
+    requires starts { 0 < output.next }
+    requires placed { (p : PendingVersion) → pending_at (core_of volume.old.map).pending output.pending.key ≡ Some p → IsPlaced (core_of volume.old.map) p }
+    ensures sound { IsSound (D.state volume.new.disk) (core_of volume.new.map) volume.new.failed }
+    ensures whatever { MayPublish (D.state volume.old.disk) (D.state volume.new.disk) (core_of volume.old.map) (core_of volume.new.map) output.pending.key }
+    ensures answered { IsPublishing (D.state volume.old.disk) (D.state volume.new.disk) (core_of volume.old.map) (core_of volume.new.map) volume.old.failed volume.new.failed output.pending.key result }
+    ensures memory { result ≡ NoMemory → (volume.new.disk ≡ volume.old.disk) × (core_of volume.new.map ≡ core_of volume.old.map) }
+    ensures closed { result ≡ Done → job.new ≡ record job.old { channels = slice_set job.old.channels number None } }
+    ensures kept { (result ≡ Done → ⊥) → job.new ≡ job.old }
+    ensures keeps { result ≡ Done → Keeps (core_of volume.old.map).pending (core_of volume.new.map).pending job.old job.new }
+    ensures stands { StillStands (core_of volume.old.map) (core_of volume.new.map) volume.new.failed job.old job.new }
+    ensures row { volume.old.failed ≡ false → IsPublishRow (D.state volume.old.disk) (D.state volume.new.disk) (core_of volume.old.map) (core_of volume.new.map) volume.new.failed job.old job.new (Releas number) result }
+    ensures crash { CrashesAsRow (D.state volume.old.disk) (D.state volume.new.disk) (core_of volume.old.map) job.old (Releas number) }
+{
+    let reply = publish_output(alloc, volume, output);
+    if reply == Reply::Done {
+        job.set_channel(number, None);
+    }
+    reply
+}

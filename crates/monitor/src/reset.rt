@@ -1,0 +1,86 @@
+ghost use Rattle.std.specs.Prelude.{◌≡◌, ◌↔◌, ℕ, false, Some, None, slice_set, IsTrue, IsFalse};
+ghost use Rattle.meaning.specs.Jobs.{slot};
+ghost use Rattle.meaning.specs.Runs.{Service, Answers};
+ghost use Rattle.meaning.specs.declared.call.Call.TheVariants.{Reset};
+ghost use Rattle.meaning.specs.declared.call.Event.TheVariants.{Call as Calls};
+ghost use Rattle.meaning.specs.declared.call.Reply.TheVariants.{Done, Failed};
+ghost use Rattle.volume.specs.LiveCores.{core_of};
+ghost use Rattle.volume.specs.Rest.{IsSound};
+ghost use Rattle.monitor.specs.Dropping.{Leaves};
+ghost use Rattle.monitor.specs.Replies.{reset_answer};
+ghost use Rattle.monitor.specs.Serving.{pack_of, Serves, AreKeyed, ArePlaced, AreReading};
+ghost use Rattle.monitor.specs.Sides.{reset_job};
+ghost use Rattle.monitor.specs.declared.job.Job.{Job as JobRecord};
+ghost use Rattle.monitor.specs.Promises.{IsReady, ServesAlways};
+
+use crate::call::LAST_DATE;
+use crate::dropping::{close_channels, close_job};
+use crate::job::{Job, Jobs};
+use crate::monitor::Monitor;
+use blockdisk::Disk;
+use meaning::Reply;
+use volume::Volume;
+use words36::Moment;
+
+/// RESET: closes all channels of a job, drops what it has written and lets go what it reads; and the next ring of buffers
+/// goes where the first one does.
+pub fn serve_reset<D: Disk>(volume: &mut Volume<D>, job: &mut Job) -> Reply
+    requires ready { IsReady (D.state volume.old.disk) (core_of volume.old.map) volume.old.failed job.old }
+    ensures serving { ServesAlways D.state volume.old.disk volume.new.disk (core_of volume.old.map) (core_of volume.new.map) volume.new.failed job.old job.new Reset result }
+{
+    close_channels(volume, &job.channels);
+    job.reset();
+    Reply::Done
+}
+
+/// Resets the job of a number. Answers whether there is one.
+pub fn reset<D: Disk>(volume: &mut Volume<D>, jobs: &mut Jobs, number: u32) -> bool
+    requires sound { IsSound (D.state volume.old.disk) (core_of volume.old.map) volume.old.failed }
+    requires keyed { AreKeyed (core_of volume.old.map).pending jobs.old }
+    requires placed { ArePlaced (core_of volume.old.map) }
+    requires reading { AreReading (core_of volume.old.map).live jobs.old }
+    ensures sound { IsSound (D.state volume.new.disk) (core_of volume.new.map) volume.new.failed }
+    ensures keyed { AreKeyed (core_of volume.new.map).pending jobs.new }
+    ensures placed { ArePlaced (core_of volume.new.map) }
+    ensures reading { AreReading (core_of volume.new.map).live jobs.new }
+    ensures leaves { Leaves (core_of volume.old.map) (core_of volume.new.map) }
+    ensures untouched { (volume.new.disk ≡ volume.old.disk) × (volume.new.failed ≡ volume.old.failed) }
+    ensures found { IsTrue result → (job : JobRecord) × (slot jobs.old number ≡ Some job) × (jobs.new ≡ slice_set jobs.old number (Some (reset_job job))) }
+    ensures none { IsFalse result → (slot jobs.old number ≡ None) × (jobs.new ≡ jobs.old) × (core_of volume.new.map ≡ core_of volume.old.map) }
+{
+    let Some(_there) = jobs.job(number) else {
+        return false;
+    };
+    close_job(volume, jobs, number);
+    jobs.reset(number)
+}
+
+impl<D: Disk> Monitor<D> {
+    /// Resets a job, as the call RESET does: all its channels are closed, and the right half of word 121 (octal)
+    /// of its core becomes 140 (octal).
+    ///
+    /// The answer is `Done`; `DateRange` where the moment's date is above 4095, which layout 1 can't hold;
+    /// `NoJob` where no job of that number is logged in; or `Failed`. It wants no memory and touches no disk.
+    pub fn reset(&mut self, job: u32, moment: Moment) -> Reply
+        ensures answered { (old : Service) → Serves (D.state self.old.disk) self.old.map self.old.failed self.old.jobs old
+            → (new : Service) × Serves (D.state self.new.disk) self.new.map self.new.failed self.new.jobs new
+            × Answers (pack_of (D.state self.old.disk)) old (Calls job Reset moment) result new }
+        ensures kept { self.new ≡ record self.old { map = self.new.map; jobs = self.new.jobs } }
+        ensures failed { result ≡ Failed ↔ IsTrue self.old.failed }
+        ensures value { self.old.failed ≡ false → result ≡ reset_answer moment.date (slot self.old.jobs job) }
+        ensures done { result ≡ Done → (there : JobRecord) × (slot self.old.jobs job ≡ Some there) × (self.new.jobs ≡ slice_set self.old.jobs job (Some (reset_job there))) }
+        ensures refused { (result ≡ Done → ⊥) → (self.new.jobs ≡ self.old.jobs) × (self.new.map ≡ self.old.map) }
+        ensures others { (m : ℕ) → (m ≡ job → ⊥) → slot self.new.jobs m ≡ slot self.old.jobs m }
+    {
+        if self.volume.failed {
+            return Reply::Failed;
+        }
+        if moment.date > LAST_DATE {
+            return Reply::DateRange;
+        }
+        if !reset(&mut self.volume, &mut self.jobs, job) {
+            return Reply::NoJob;
+        }
+        Reply::Done
+    }
+}
