@@ -140,7 +140,7 @@ module _ (c c' : VolumeCore) (job job' : Job) (number : ℕ) (open_as : Channel)
   pub reads_closed : ((key : ℕ) → held key (option_to_list (reader_of x)) + times key pins ≡ held key (option_to_list open_as.input)) → (IsReader open_as → (y : Channel) → x ≡ Some y → IsReader y) → KeepsReading c.live c'.live job job'
   reads_closed parts reader = subst (KeepsReading c.live c'.live job) (sym set) (record {
     once = λ key.
-        let gone = closed.let_go key in
+        let gone = closed.released key in
         let moved = held-channel key job.channels number x (λ e. absurd (none_some (sym e ∙ there))) in
         let was = ap (λ o. held key (option_to_list (reader_of o))) there in
         let part = parts key in
@@ -163,7 +163,7 @@ module _ (job : Job) (number : ℕ) (c : Channel) (there : slot job.channels num
       → (i : Option Input) → ((key : ℕ) → held key (option_to_list i) ≤ held key (option_to_list c.input)) → (key : ℕ) → times key (pins_of (option_to_list i)) ≤ readers_of (version_at b.live key)
   input_held a b keys dropped all i few key =
       let here = all key in
-      let stays = dropped.let_go key in
+      let stays = dropped.released key in
       let moved = held-channel key job.channels number None (λ e. refl) in
       let was = ap (λ p. held key (option_to_list (reader_of p))) there in
       let part = few key in

@@ -48,7 +48,7 @@ leaves_on a b c first second = record {
 }
 
 pub closes_none : (c : VolumeCore) → Closes c c [] []
-closes_none c = record { gone = λ key. omega arith; let_go = λ key. omega arith; leaves = leaves_none c }
+closes_none c = record { gone = λ key. omega arith; released = λ key. omega arith; leaves = leaves_none c }
 
 -- one version is dropped
 pub drops_one : (c c' : VolumeCore) (key : ℕ) → 1 ≤ present (pending_at c.pending key) → pending_at c'.pending key ≡ None → ((k : ℕ) → (k ≡ key → ⊥) → pending_at c'.pending k ≡ pending_at c.pending k) → c'.live ≡ c.live
@@ -57,7 +57,7 @@ drops_one c c' key there gone others live known = record {
   gone = λ k. same_or_not k key
       (λ is. subst (λ (n : ℕ). present (pending_at c'.pending n) + times n (key ∷ []) ≡ present (pending_at c.pending n)) (sym is) (here (pending_at c.pending key) there))
       (λ apart. let none = times_other k key [] apart in let same = ap present (others k apart) in omega arith);
-  let_go = λ k. let same = ap (λ vs. readers_of (version_at vs k)) live in omega arith;
+  released = λ k. let same = ap (λ vs. readers_of (version_at vs k)) live in omega arith;
   leaves = record {
     stay = λ k p at. same_or_not k key
         (λ is. absurd (some_none (sym at ∙ ap (pending_at c'.pending) is ∙ gone)))
@@ -77,7 +77,7 @@ pub closes_on : (a b c : VolumeCore) (xs ys zs ps qs rs : List ℕ) → Closes a
     → Closes a c zs rs
 closes_on a b c xs ys zs ps qs rs first second all each = record {
   gone = λ key. let f = first.gone key in let s = second.gone key in let z = all key in omega arith;
-  let_go = λ key. let f = first.let_go key in let s = second.let_go key in let z = each key in omega arith;
+  released = λ key. let f = first.released key in let s = second.released key in let z = each key in omega arith;
   leaves = leaves_on a b c first.leaves second.leaves;
 }
 
@@ -94,7 +94,7 @@ module _ (a b : VolumeCore) (cs : List (Option Channel)) (i : ℕ) (o : Option O
   next_live live key = let l = live key in let d = closed.gone key in let w = count-within key cs (i + 1) in let m = count-more key cs i o below is in omega arith
 
   pub next_held : ((key : ℕ) → times key (pins_of (filter_map reader_of cs)) ≤ readers_of (version_at a.live key)) → (key : ℕ) → times key (pins_of (option_to_list r)) ≤ readers_of (version_at b.live key)
-  next_held held key = let l = held key in let d = closed.let_go key in let w = held-within key cs (i + 1) in let m = held-more key cs i r below reads in omega arith
+  next_held held key = let l = held key in let d = closed.released key in let w = held-within key cs (i + 1) in let m = held-more key cs i r below reads in omega arith
 
   pub closed_more : (c : VolumeCore) → Closes b c (keys_of (option_to_list o)) (pins_of (option_to_list r)) → Closes a c (keys_of (filter_map side_of (take (i + 1) cs))) (pins_of (filter_map reader_of (take (i + 1) cs)))
   closed_more c next = closes_on a b c _ _ _ _ _ _ closed next (λ key. count-more key cs i o below is) (λ key. held-more key cs i r below reads)

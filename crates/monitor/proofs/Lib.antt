@@ -64,7 +64,7 @@ pub mod ReadsPublished
 pub mod ServedEvents
 pub mod EventCrashes
 pub mod Listed
-pub mod LettingGo
+pub mod Releases
 pub mod Along
 pub mod LookupAnswers
 pub mod MomentRuns

@@ -64,7 +64,7 @@ module _ (c between c' : VolumeCore) (job job' : Job) (number address : ℕ) (ch
   pub looks_reading : KeepsReading c.live c'.live job job'
   looks_reading = subst (KeepsReading c.live c'.live job) (sym looks.job_is) (record {
     once = λ k.
-        let gone = looks.closed.let_go k in
+        let gone = looks.closed.released k in
         let more = one_more c between input looks.holds k in
         let moved = held-channel k job.channels number (Some (looking channel input)) (λ none. absurd (some_none (sym looks.there ∙ none))) in
         let was = ap (λ o. held k (option_to_list (reader_of o))) looks.there in

@@ -1,5 +1,6 @@
 -- What every call promises, put together from what a call says of itself.
-use Rattle.std.proofs.Common.{◌≡◌, ◌≤◌, ℕ, Bool, false, List, Option, None, Some, refl, sym, ap, subst, ◌∙◌, slice_set}
+use Rattle.std.specs.Prelude.{◌&&◌, not, is_some}
+use Rattle.std.proofs.Common.{◌≡◌, ◌≤◌, ℕ, Bool, true, false, List, Option, None, Some, refl, sym, ap, subst, ◌∙◌, slice_set}
 use Rattle.words36.specs.declared.moment.Moment.{Moment}
 use Rattle.blockdisk.specs.Disk.{Contents, DiskState, MayLeave}
 use Rattle.meaning.specs.Jobs.{slot}
@@ -19,9 +20,11 @@ use Rattle.monitor.specs.Dropping.{Leaves}
 use Rattle.monitor.specs.Publishing.{MayPublish, IsPublishing, IsPublishRow, CrashesAsRow, StillStands}
 use Rattle.monitor.specs.Promises.{IsAmong, IsServing, ServesJob}
 use Rattle.monitor.specs.Refusals.{refused_with}
-use Rattle.monitor.specs.Rows.{IsRow, Keeps, KeepsReading}
+use Rattle.monitor.specs.Rows.{IsRow, Keeps, KeepsReading, ClosesSide, publishes_at}
 use Rattle.monitor.specs.Serving.{pack_of, Serves, AreKeyed, ArePlaced, AreReading}
 use Rattle.monitor.specs.Unserved.{IsUnserved, UnservedRow}
+use Rattle.monitor.specs.declared.channel.Channel.{Channel}
+use Rattle.monitor.specs.declared.output.Output.{Output}
 use Rattle.monitor.specs.declared.job.Job.{Job}
 use Rattle.monitor.proofs.Answering.{on_disk}
 use Rattle.monitor.proofs.Called.{quiet_failed, quiet_same, still_serves}
@@ -31,6 +34,12 @@ use Rattle.monitor.proofs.Refusals.{publishing_refused}
 use Rattle.monitor.proofs.Serving.{nobody, alone, alone_keyed, alone_reading}
 use Rattle.monitor.proofs.Slots.{unchanged}
 use Rattle.monitor.proofs.Untouched.{untouched_crashes}
+
+-- a channel whose output side closes for good publishes
+pub publishes_here : (job : Job) (number bits : ℕ) (c : Channel) (o : Output) → ClosesSide job number bits c o → publishes_at (slot job.channels number) bits ≡ false → ⊥
+publishes_here job number bits c o here quiet =
+    let is : publishes_at (slot job.channels number) bits ≡ true = ap (λ x. publishes_at x bits) here.there ∙ (λ i. is_some (here.side i) && not (here.closes i) && not (here.keeps i)) in
+    let wrong = sym is ∙ quiet in cc
 
 module _ {D : Type 0} (state : D → DiskState) (only_now : (disk : D) (contents : Contents) → (state disk).honest → (state disk).left_since (state disk).clock contents → MayLeave (state disk) contents) where
   -- A call that asks the disk for nothing, by what it says of core, of the job and of its answer.

@@ -64,7 +64,7 @@ closed_reading c c' keys jobs n x reading closed none here = record {
       let bare = ap (held key) none in
       let set = held-set key jobs n (Some x) (λ e. bare) in
       let was = reading.pinned key in
-      let gone = closed.let_go key in
+      let gone = closed.released key in
       omega arith;
   each = each_set jobs n x reading.each here;
   slots = length-slice_set jobs n (Some x) ∙ reading.slots;
@@ -166,7 +166,7 @@ reset_reading c c' keys jobs jobs' n true reading closed found none =
 reset_reading c c' keys jobs jobs' n false reading closed found none =
     let same = none refl in
     subst (AreReading c'.live) (sym same.1) (record {
-      pinned = λ key. let gone = closed.let_go key in let was = reading.pinned key in let here = ap (λ o. held key (readers_in o)) same.0 in omega arith;
+      pinned = λ key. let gone = closed.released key in let was = reading.pinned key in let here = ap (λ o. held key (readers_in o)) same.0 in omega arith;
       each = reading.each;
       slots = reading.slots;
     })

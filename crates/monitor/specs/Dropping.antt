@@ -22,5 +22,5 @@ pub record Leaves (c c' : VolumeCore) : Type 0 where
 -- The versions under these keys are dropped, and those under these pins are let go, once for each; all others stay.
 pub record Closes (c c' : VolumeCore) (keys pins : List ℕ) : Type 0 where
   pub gone : (key : ℕ) → present (pending_at c'.pending key) + times key keys ≡ present (pending_at c.pending key)
-  pub let_go : (key : ℕ) → readers_of (slot c'.live key) + times key pins ≡ readers_of (slot c.live key)
+  pub released : (key : ℕ) → readers_of (slot c'.live key) + times key pins ≡ readers_of (slot c.live key)
   pub leaves : Leaves c c'

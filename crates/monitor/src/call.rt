@@ -1,4 +1,4 @@
-ghost use Rattle.std.specs.Prelude.{◌≡◌, ◌⊎◌, ◌<◌, ◌≤◌, ◌↔◌, ℕ, false, Some, IsTrue, slice_set};
+ghost use Rattle.std.specs.Prelude.{◌≡◌, ◌⊎◌, ◌<◌, ◌≤◌, ◌↔◌, ℕ, true, false, Some, IsTrue, slice_set};
 ghost use Rattle.blockdisk.specs.Disk.{SameDisk, LeavesOnly, one_more};
 ghost use Rattle.meaning.specs.Crashes.{StandsForEither};
 ghost use Rattle.meaning.specs.Jobs.{State, slot, job_at};

@@ -1,4 +1,4 @@
-ghost use Rattle.std.specs.Prelude.{IfSome, ◌≡◌, ◌≤◌, ℕ, Some, None, false, ◌<◌, IsSome, slice_set};
+ghost use Rattle.std.specs.Prelude.{if◌then◌else◌, IfSome, ◌≡◌, ◌≤◌, ℕ, Some, None, false, ◌<◌, IsSome, slice_set};
 ghost use Rattle.meaning.specs.Jobs.{slot, cleared};
 ghost use Rattle.meaning.specs.Maps.{times};
 ghost use Rattle.meaning.specs.declared.call.Call.TheVariants.{Close};
@@ -18,7 +18,7 @@ ghost use Rattle.monitor.specs.Publishing.{MayPublish, IsPublishing, IsPublishRo
 ghost use Rattle.monitor.specs.Promises.{IsReady, ServesAlways};
 
 use crate::channel::Channel;
-use crate::dropping::{drop_output, let_go};
+use crate::dropping::{drop_output, release_input};
 use crate::job::Job;
 use crate::output::Output;
 use crate::publishing::publish_output;
@@ -91,7 +91,7 @@ fn close<D: Disk>(volume: &mut Volume<D>, job: &mut Job, number: u32, bits: u32)
     let (output, dropped) = parted(channel.output, bits % 2 == 1);
     let (input, released) = parted(channel.input, bits / 2 % 2 == 1);
     drop_output(volume, dropped);
-    let_go(volume, released);
+    release_input(volume, released);
     let closed = Channel {
         status: cleared(channel.status),
         input,
@@ -112,6 +112,7 @@ fn close_output<D: Disk>(
     channel: Channel,
     output: Output,
 ) -> Reply
+    // The channel has this side alone, of a version that may be published.
     requires sound { IsSound (D.state volume.old.disk) (core_of volume.old.map) volume.old.failed }
     requires there { slot job.old.channels number ≡ Some channel }
     requires side { channel.output ≡ Some output }
@@ -119,14 +120,17 @@ fn close_output<D: Disk>(
     requires live { IsSome (pending_at (core_of volume.old.map).pending output.pending.key) }
     requires starts { 0 < output.next }
     requires placed { (p : PendingVersion) → pending_at (core_of volume.old.map).pending output.pending.key ≡ Some p → IsPlaced (core_of volume.old.map) p }
+    // The volume, whatever is answered.
     ensures sound { IsSound (D.state volume.new.disk) (core_of volume.new.map) volume.new.failed }
     ensures whatever { MayPublish (D.state volume.old.disk) (D.state volume.new.disk) (core_of volume.old.map) (core_of volume.new.map) output.pending.key }
     ensures answered { IsPublishing (D.state volume.old.disk) (D.state volume.new.disk) (core_of volume.old.map) (core_of volume.new.map) volume.old.failed volume.new.failed output.pending.key result }
     ensures memory { result ≡ NoMemory → (volume.new.disk ≡ volume.old.disk) × (core_of volume.new.map ≡ core_of volume.old.map) }
+    // The job: the side closes where it is done.
     ensures closed { result ≡ Done → job.new ≡ record job.old { channels = slice_set job.old.channels number (Some (record channel { status = cleared channel.status; output = None })) } }
     ensures kept { (result ≡ Done → ⊥) → job.new ≡ job.old }
     ensures keeps { result ≡ Done → Keeps (core_of volume.old.map).pending (core_of volume.new.map).pending job.old job.new }
     ensures stands { StillStands (core_of volume.old.map) (core_of volume.new.map) volume.new.failed job.old job.new }
+    // The machine's row, for whichever bits publish.
     ensures row { volume.old.failed ≡ false → (bits : ℕ) → keeps_output bits ≡ false → discards bits ≡ false
         → IsPublishRow (D.state volume.old.disk) (D.state volume.new.disk) (core_of volume.old.map) (core_of volume.new.map) volume.new.failed job.old job.new (Close number bits) result }
     ensures crash { (bits : ℕ) → keeps_output bits ≡ false → discards bits ≡ false → CrashesAsRow (D.state volume.old.disk) (D.state volume.new.disk) (core_of volume.old.map) job.old (Close number bits) }

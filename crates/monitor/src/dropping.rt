@@ -50,7 +50,7 @@ pub fn drop_output<D: Disk>(volume: &mut Volume<D>, output: Option<Output>)
 }
 
 /// Lets the version go that an input side reads.
-pub fn let_go<D: Disk>(volume: &mut Volume<D>, input: Option<Input>)
+pub fn release_input<D: Disk>(volume: &mut Volume<D>, input: Option<Input>)
     requires sound { IsSound (D.state volume.old.disk) (core_of volume.old.map) volume.old.failed }
     requires held { (key : ℕ) → times key (pins_of (option_to_list input)) ≤ readers_of (version_at (core_of volume.old.map).live key) }
     ensures sound { IsSound (D.state volume.new.disk) (core_of volume.new.map) volume.new.failed }
@@ -73,7 +73,7 @@ fn close_sides<D: Disk>(volume: &mut Volume<D>, channel: &Option<Channel>)
     ensures untouched { (volume.new.disk ≡ volume.old.disk) × (volume.new.failed ≡ volume.old.failed) }
 {
     drop_output(volume, side_of(channel));
-    let_go(volume, reader_of(channel));
+    release_input(volume, reader_of(channel));
 }
 
 /// Closes the sides of all channels.

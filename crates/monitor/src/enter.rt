@@ -328,12 +328,15 @@ fn enter<D: Disk>(
     address: u32,
     moment: Moment,
 ) -> Reply
+    // The volume serves.
     requires sound { IsSound (D.state volume.old.disk) (core_of volume.old.map) volume.old.failed }
     requires timely { moment.date ≤ 4095 }
     requires alive { volume.old.failed ≡ false }
+    // The disk is left alone.
     ensures sound { IsSound (D.state volume.new.disk) (core_of volume.new.map) volume.new.failed }
     ensures untouched { (volume.new.disk ≡ volume.old.disk) × (volume.new.failed ≡ volume.old.failed) }
     ensures only { (result ≡ Failed → ⊥) × (result ≡ Device → ⊥) }
+    // What it leaves, by its answer.
     ensures begun { result ≡ Done → (channel : Channel) × (key : ℕ) × (prime : Prime) × IsEntering (core_of volume.old.map) (core_of volume.new.map) job.old job.new number address moment channel key prime
         × ((D.state volume.new.disk).honest → (files : Files File) → RestsAt (D.state volume.old.disk) files
         → prime.protection ≡ protection_for (found_in (get files prime.ppn) prime.file) (protection_or (slice_index job.old.core (address + 2)) 0o057)) }

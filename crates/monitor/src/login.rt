@@ -29,16 +29,19 @@ fn log_in<D: Disk>(
     ppn: Ppn,
     words: u32,
 ) -> Reply
+    // The volume knows what the jobs write and read,
     requires sound { IsSound (D.state volume.old.disk) (core_of volume.old.map) volume.old.failed }
     requires keyed { AreKeyed (core_of volume.old.map).pending jobs.old }
     requires placed { ArePlaced (core_of volume.old.map) }
     requires reading { AreReading (core_of volume.old.map).live jobs.old }
+    // and goes on knowing it; what the job had is dropped and let go.
     ensures sound { IsSound (D.state volume.new.disk) (core_of volume.new.map) volume.new.failed }
     ensures keyed { AreKeyed (core_of volume.new.map).pending jobs.new }
     ensures placed { ArePlaced (core_of volume.new.map) }
     ensures reading { AreReading (core_of volume.new.map).live jobs.new }
     ensures leaves { Leaves (core_of volume.old.map) (core_of volume.new.map) }
     ensures untouched { (volume.new.disk ≡ volume.old.disk) × (volume.new.failed ≡ volume.old.failed) }
+    // The answer, and the jobs by it.
     ensures answered { (result ≡ login_answer number words) ⊎ ((result ≡ NoMemory) × (login_answer number words ≡ Done)) }
     ensures done { result ≡ Done → jobs.new ≡ slice_set jobs.old number (Some (new_job ppn words)) }
     ensures kept { (result ≡ Done → ⊥) → (jobs.new ≡ jobs.old) × (core_of volume.new.map ≡ core_of volume.old.map) }

@@ -28,7 +28,7 @@ ghost use Rattle.meaning.specs.declared.call.Call.TheVariants.{Lookup};
 ghost use Rattle.monitor.specs.Promises.{IsReady, ServesAlways};
 
 use crate::channel::Channel;
-use crate::dropping::let_go;
+use crate::dropping::release_input;
 use crate::enter::{name_at, owner_at};
 use crate::input::Input;
 use crate::job::Job;
@@ -192,10 +192,12 @@ pub fn put_found(core: &mut Core, address: u32, facts: &FileFacts)
 /// side closes, whatever becomes of the name; an earlier input side of the channel is given up. Attributes and size
 /// of the file are put into the words.
 fn lookup<D: Disk>(volume: &mut Volume<D>, job: &mut Job, number: u32, address: u32) -> Reply
+    // The volume serves, and knows what the job reads.
     requires sound { IsSound (D.state volume.old.disk) (core_of volume.old.map) volume.old.failed }
     requires alive { volume.old.failed ≡ false }
     requires held { (key : ℕ) → times key (pins_of (readers_in (Some job.old))) ≤ readers_of (slot (core_of volume.old.map).live key) }
     requires few { (key : ℕ) (v : LiveVersion) → slot (core_of volume.old.map).live key ≡ Some v → v.readers + 1 < 2 ^ 32 }
+    // The volume, and what the job reads.
     ensures sound { IsSound (D.state volume.new.disk) (core_of volume.new.map) volume.new.failed }
     ensures untouched { (volume.new.disk ≡ volume.old.disk) × (volume.new.failed ≡ volume.old.failed) }
     ensures only { (result ≡ Failed → ⊥) × (result ≡ Device → ⊥) × (result ≡ NoMemory → ⊥) }
@@ -203,6 +205,7 @@ fn lookup<D: Disk>(volume: &mut Volume<D>, job: &mut Job, number: u32, address: 
     ensures known { (core_of volume.new.map).known ≡ record (core_of volume.old.map).known { table = (core_of volume.new.map).known.table } }
     ensures kept { (result ≡ Done → ⊥) → (core_of volume.new.map ≡ core_of volume.old.map) × (job.new ≡ record job.old { core = job.new.core }) }
     ensures reads { KeepsReading (core_of volume.old.map).live (core_of volume.new.map).live job.old job.new }
+    // What it answers and leaves, by its answer.
     ensures looked { result ≡ Done → (channel : Channel) × (input : Input) × (held : VolumeCore) × IsLookingUp (core_of volume.old.map) held (core_of volume.new.map) job.old job.new number address channel input
         × ((D.state volume.new.disk).honest → (s : State) → IsKnown (D.state volume.old.disk) (core_of volume.old.map) s
         → IsFound (D.state volume.old.disk).contents held.live s job.old job.new address input) }
@@ -221,7 +224,7 @@ fn lookup<D: Disk>(volume: &mut Volume<D>, job: &mut Job, number: u32, address: 
     }
     match find_input(volume, job, address) {
         Ok((input, facts)) => {
-            let_go(volume, channel.input);
+            release_input(volume, channel.input);
             put_found(&mut job.core, address, &facts);
             let reading = Channel {
                 status: cleared(channel.status),

@@ -106,11 +106,13 @@ fn out<D: Disk>(
     number: u32,
     address: u32,
 ) -> Reply
+    // The volume serves, and knows what the job writes.
     requires sound { IsSound (D.state volume.old.disk) (core_of volume.old.map) volume.old.failed }
     requires serves { volume.old.failed ≡ false }
     requires live { (key : ℕ) → times key (keys_of (sides_in (Some job.old))) ≤ present (pending_at (core_of volume.old.map).pending key) }
     requires sides { AllByRecursion (IsSide (core_of volume.old.map).pending) (sides_in (Some job.old)) }
 
+    // The words are put, or not, by the answer; and what the job writes and reads is known.
     ensures sound { IsSound (D.state volume.new.disk) (core_of volume.new.map) volume.new.failed }
     ensures outcome { IsOut (D.state volume.old.disk) (D.state volume.new.disk) (core_of volume.old.map) (core_of volume.new.map)
         ((volume.new.disk ≡ volume.old.disk) × (core_of volume.new.map ≡ core_of volume.old.map)) job.old job.new number address result }

@@ -73,15 +73,18 @@ fn read<D: Disk>(
     number: u32,
     address: u32,
 ) -> Reply
+    // The volume serves, and knows what the job reads.
     requires sound { IsSound (D.state volume.old.disk) (core_of volume.old.map) volume.old.failed }
     requires alive { volume.old.failed ≡ false }
     requires held { (key : ℕ) → times key (pins_of (readers_in (Some job.old))) ≤ readers_of (version_at (core_of volume.old.map).live key) }
     requires readers { HasReaders job.old }
 
+    // The volume, and what the job reads.
     ensures sound { IsSound (D.state volume.new.disk) (core_of volume.new.map) volume.new.failed }
     ensures core { core_of volume.new.map ≡ core_of volume.old.map }
     ensures outcome { IsIn (D.state volume.old.disk) (D.state volume.new.disk) (core_of volume.old.map) job.old job.new number address result }
     ensures reads { KeepsReading (core_of volume.old.map).live (core_of volume.new.map).live job.old job.new }
+    // The disk is only read, and the device is blamed where it failed.
     ensures only_reads { (D.state volume.new.disk).honest → OnlyReads (D.state volume.old.disk) (D.state volume.new.disk) }
     ensures rests { (D.state volume.new.disk).honest → (files : Files File) → RestsAt (D.state volume.old.disk) files → RestsAt (D.state volume.new.disk) files }
     ensures failed { IsTrue volume.new.failed ↔ ((result ≡ Device) ⊎ (result ≡ Failed)) }
@@ -89,6 +92,7 @@ fn read<D: Disk>(
     ensures counted { result ≡ Device → (D.state volume.new.disk).failures ≡ one_more (D.state volume.old.disk).failures }
     ensures served { (result ≡ Device → ⊥) → (D.state volume.new.disk).failures ≡ (D.state volume.old.disk).failures }
     ensures same { SameDisk (D.state volume.old.disk) (D.state volume.new.disk) }
+    // Which answers leave all alone.
     ensures idle { IsIdle result → volume.new.disk ≡ volume.old.disk }
     ensures memory { result ≡ NoMemory → (volume.new.disk ≡ volume.old.disk) × (job.new ≡ job.old) }
 {

@@ -16,7 +16,7 @@ ghost use Rattle.monitor.specs.Publishing.{MayPublish, IsPublishing, IsPublishRo
 ghost use Rattle.monitor.specs.Promises.{IsReady, ServesAlways};
 
 use crate::close::closed_side;
-use crate::dropping::let_go;
+use crate::dropping::release_input;
 use crate::job::Job;
 use crate::output::Output;
 use crate::publishing::publish_output;
@@ -59,7 +59,7 @@ fn release<D: Disk>(volume: &mut Volume<D>, job: &mut Job, number: u32) -> Reply
     let Some(channel) = job.channel(number) else {
         return Reply::NoChannel;
     };
-    let_go(volume, channel.input);
+    release_input(volume, channel.input);
     job.set_channel(number, None);
     Reply::Done
 }
@@ -73,20 +73,24 @@ fn release_output<D: Disk>(
     number: u32,
     output: Output,
 ) -> Reply
+    // The channel has this side alone, of a version that may be published.
     requires sound { IsSound (D.state volume.old.disk) (core_of volume.old.map) volume.old.failed }
     requires there { side_of (slot job.old.channels number) ≡ Some output }
     requires single { reader_of (slot job.old.channels number) ≡ None }
     requires live { IsSome (pending_at (core_of volume.old.map).pending output.pending.key) }
     requires starts { 0 < output.next }
     requires placed { (p : PendingVersion) → pending_at (core_of volume.old.map).pending output.pending.key ≡ Some p → IsPlaced (core_of volume.old.map) p }
+    // The volume, whatever is answered.
     ensures sound { IsSound (D.state volume.new.disk) (core_of volume.new.map) volume.new.failed }
     ensures whatever { MayPublish (D.state volume.old.disk) (D.state volume.new.disk) (core_of volume.old.map) (core_of volume.new.map) output.pending.key }
     ensures answered { IsPublishing (D.state volume.old.disk) (D.state volume.new.disk) (core_of volume.old.map) (core_of volume.new.map) volume.old.failed volume.new.failed output.pending.key result }
     ensures memory { result ≡ NoMemory → (volume.new.disk ≡ volume.old.disk) × (core_of volume.new.map ≡ core_of volume.old.map) }
+    // The job: the channel closes where it is done.
     ensures closed { result ≡ Done → job.new ≡ record job.old { channels = slice_set job.old.channels number None } }
     ensures kept { (result ≡ Done → ⊥) → job.new ≡ job.old }
     ensures keeps { result ≡ Done → Keeps (core_of volume.old.map).pending (core_of volume.new.map).pending job.old job.new }
     ensures stands { StillStands (core_of volume.old.map) (core_of volume.new.map) volume.new.failed job.old job.new }
+    // The machine's row.
     ensures row { volume.old.failed ≡ false → IsPublishRow (D.state volume.old.disk) (D.state volume.new.disk) (core_of volume.old.map) (core_of volume.new.map) volume.new.failed job.old job.new (Releas number) result }
     ensures crash { CrashesAsRow (D.state volume.old.disk) (D.state volume.new.disk) (core_of volume.old.map) job.old (Releas number) }
 {

@@ -21,8 +21,8 @@ pub drop_output-requires-clause-live : goal.drop_output-requires-clause-live
 drop_output-requires-clause-live g c =
     dropped_live c.args.job.now c.args.number c.in-Some.channel (sym c.channel.ensures ∙ c.in-Some.is) c.args.bits (core_of c.args.volume.now.map).pending c.parted-output.result.1 c.parted-output.ensures.closed c.requires.live
 
-pub let_go-requires-clause-held : goal.let_go-requires-clause-held
-let_go-requires-clause-held g c =
+pub release_input-requires-clause-held : goal.release_input-requires-clause-held
+release_input-requires-clause-held g c =
     released_held c.args.job.now c.args.number c.in-Some.channel (sym c.channel.ensures ∙ c.in-Some.is) c.args.bits (core_of c.args.volume.now.map) (core_of c.drop_output.new.volume.map) _ c.drop_output.ensures.closed c.requires.held c.parted-input.result.1 c.parted-input.ensures.closed
 
 pub returns-clause-row : goal.returns-clause-row
@@ -32,16 +32,16 @@ returns-clause-row g c =
 
 pub returns-clause-keeps : goal.returns-clause-keeps
 returns-clause-keeps g c =
-    close_keeps c.args.job.now c.args.number c.in-Some.channel (sym c.channel.ensures ∙ c.in-Some.is) c.args.bits (core_of c.args.volume.now.map) (core_of c.let_go.new.volume.map) c.set_channel.new.self c.parted-output.result.1 c.parted-input.result.1 c.parted-output.ensures.closed c.parted-input.ensures.closed
+    close_keeps c.args.job.now c.args.number c.in-Some.channel (sym c.channel.ensures ∙ c.in-Some.is) c.args.bits (core_of c.args.volume.now.map) (core_of c.release_input.new.volume.map) c.set_channel.new.self c.parted-output.result.1 c.parted-input.result.1 c.parted-output.ensures.closed c.parted-input.ensures.closed
     (closed_back c.args.job.now c.set_channel.new.self c.args.number c.args.bits c.in-Some.channel c.cleared.result c.parted-input.result.0 c.parted-output.result.0 c.cleared.ensures.value c.parted-input.ensures.kept c.parted-output.ensures.kept c.set_channel.ensures)
-    (closed_both (core_of c.args.volume.now.map) (core_of c.drop_output.new.volume.map) (core_of c.let_go.new.volume.map) _ _ c.drop_output.ensures.closed c.let_go.ensures.closed)
+    (closed_both (core_of c.args.volume.now.map) (core_of c.drop_output.new.volume.map) (core_of c.release_input.new.volume.map) _ _ c.drop_output.ensures.closed c.release_input.ensures.closed)
 
 pub returns-clause-reads : goal.returns-clause-reads
 returns-clause-reads g c =
-    close_reads c.args.job.now c.args.number c.in-Some.channel (sym c.channel.ensures ∙ c.in-Some.is) c.args.bits (core_of c.args.volume.now.map) (core_of c.let_go.new.volume.map) c.set_channel.new.self c.parted-output.result.1 c.parted-input.result.1 c.parted-output.ensures.closed c.parted-input.ensures.closed
+    close_reads c.args.job.now c.args.number c.in-Some.channel (sym c.channel.ensures ∙ c.in-Some.is) c.args.bits (core_of c.args.volume.now.map) (core_of c.release_input.new.volume.map) c.set_channel.new.self c.parted-output.result.1 c.parted-input.result.1 c.parted-output.ensures.closed c.parted-input.ensures.closed
     (closed_back c.args.job.now c.set_channel.new.self c.args.number c.args.bits c.in-Some.channel c.cleared.result c.parted-input.result.0 c.parted-output.result.0 c.cleared.ensures.value c.parted-input.ensures.kept c.parted-output.ensures.kept c.set_channel.ensures)
-    (closed_both (core_of c.args.volume.now.map) (core_of c.drop_output.new.volume.map) (core_of c.let_go.new.volume.map) _ _ c.drop_output.ensures.closed c.let_go.ensures.closed)
+    (closed_both (core_of c.args.volume.now.map) (core_of c.drop_output.new.volume.map) (core_of c.release_input.new.volume.map) _ _ c.drop_output.ensures.closed c.release_input.ensures.closed)
 
 pub returns-clause-leaves : goal.returns-clause-leaves
 returns-clause-leaves g c =
-    leaves_on (core_of c.args.volume.now.map) (core_of c.drop_output.new.volume.map) (core_of c.let_go.new.volume.map) c.drop_output.ensures.closed.leaves c.let_go.ensures.closed.leaves
+    leaves_on (core_of c.args.volume.now.map) (core_of c.drop_output.new.volume.map) (core_of c.release_input.new.volume.map) c.drop_output.ensures.closed.leaves c.release_input.ensures.closed.leaves

@@ -7,7 +7,7 @@ use Rattle.monitor.proofs.dropping.close_sides.Goals as goal
 
 pub returns-clause-closed : goal.returns-clause-closed
 returns-clause-closed g c =
-    closes_on (core_of c.args.volume.now.map) (core_of c.drop_output.new.volume.map) (core_of c.let_go.new.volume.map) _ _ _ _ _ _
+    closes_on (core_of c.args.volume.now.map) (core_of c.drop_output.new.volume.map) (core_of c.release_input.new.volume.map) _ _ _ _ _ _
     (subst (λ o. Closes (core_of c.args.volume.now.map) (core_of c.drop_output.new.volume.map) (keys_of (option_to_list o)) []) c.side_of.ensures c.drop_output.ensures.closed)
-    (subst (λ o. Closes (core_of c.drop_output.new.volume.map) (core_of c.let_go.new.volume.map) [] (pins_of (option_to_list o))) c.reader_of.ensures c.let_go.ensures.closed)
+    (subst (λ o. Closes (core_of c.drop_output.new.volume.map) (core_of c.release_input.new.volume.map) [] (pins_of (option_to_list o))) c.reader_of.ensures c.release_input.ensures.closed)
     (λ key. omega arith) (λ key. omega arith)

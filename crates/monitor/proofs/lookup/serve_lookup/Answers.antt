@@ -12,31 +12,30 @@ use Rattle.monitor.proofs.lookup.serve_lookup.Goals as goal
 pub lookup-requires-clause-held : goal.lookup-requires-clause-held
 lookup-requires-clause-held g c = job_held (core_of c.args.volume.now.map).live c.requires.ready.jobs c.requires.ready.number c.args.job.now c.requires.ready.among.reading c.requires.ready.among.there
 
-pub lookup-requires-clause-readers : goal.lookup-requires-clause-readers
-lookup-requires-clause-readers g c = c.requires.ready.among.reading.each c.requires.ready.number c.args.job.now c.requires.ready.among.there
-
 pub lookup-requires-clause-few : goal.lookup-requires-clause-few
 lookup-requires-clause-few g c = few_readers (core_of c.args.volume.now.map).live c.requires.ready.jobs c.requires.ready.among.reading
 
-pub returns-clause-serving : goal.returns-clause-serving
-returns-clause-serving g c moment timely jobs n among =
-    let state = g.D.Disk.state in
-    let old = c.args.volume.now in
-    let new = c.lookup.new.volume in
-    let map = core_of old.map in
-    let map' = core_of new.map in
-    let job = c.args.job.now in
-    let job' = c.lookup.new.job in
-    let jobs' = slice_set jobs n (Some job') in
-    let sound = subst (IsSound (state old.disk) map) c.requires.ready.alive c.requires.ready.sound in
-    quiet_serves state g.met.D.Disk.only_now old.disk new.disk map map' old.failed new.failed job job' (Lookup c.args.channel c.args.address) moment c.lookup.result c.requires.ready.alive c.lookup.ensures.untouched
-    c.lookup.ensures.only c.lookup.ensures.sound (placed_still map map' c.lookup.ensures.pending c.lookup.ensures.known c.requires.ready.placed) (λ light. c.lookup.ensures.light) (λ kept. absurd kept) (λ none. absurd (c.lookup.ensures.light none))
-    c.lookup.ensures.refused (λ is. absurd is) jobs n among
-    (lookup_keyed (state old.disk) (state new.disk) map map' jobs jobs' n job job' c.args.channel c.args.address moment c.lookup.result among.there refl among.keyed among.reading c.lookup.ensures.pending c.lookup.ensures.reads
-    c.lookup.ensures.looked c.lookup.ensures.kept)
-    (lookup_reading (state old.disk) (state new.disk) map map' jobs jobs' n job job' c.args.channel c.args.address moment c.lookup.result among.there refl among.keyed among.reading c.lookup.ensures.pending c.lookup.ensures.reads
-    c.lookup.ensures.looked c.lookup.ensures.kept)
-    (λ h served s serves.
-    let was : (state old.disk).honest = subst (λ disk. (state disk).honest) c.lookup.ensures.untouched.0 h in
-    lookup_answered (state old.disk) (state new.disk) map map' jobs jobs' n job job' c.args.channel c.args.address moment c.lookup.result among.there refl among.keyed among.reading c.lookup.ensures.pending c.lookup.ensures.reads
-    c.lookup.ensures.looked c.lookup.ensures.kept false refl sound h timely (λ t is. known (state old.disk) map jobs t is sound was) (c.lookup.ensures.row h) s serves)
+pub returns : goal.returns
+returns g c = record {
+  serving = λ moment timely jobs n among.
+      let state = g.D.Disk.state in
+      let old = c.args.volume.now in
+      let new = c.lookup.new.volume in
+      let map = core_of old.map in
+      let map' = core_of new.map in
+      let job = c.args.job.now in
+      let job' = c.lookup.new.job in
+      let jobs' = slice_set jobs n (Some job') in
+      let sound = subst (IsSound (state old.disk) map) c.requires.ready.alive c.requires.ready.sound in
+      quiet_serves state g.met.D.Disk.only_now old.disk new.disk map map' old.failed new.failed job job' (Lookup c.args.channel c.args.address) moment c.lookup.result c.requires.ready.alive c.lookup.ensures.untouched
+      (c.lookup.ensures.only.0, c.lookup.ensures.only.1) c.lookup.ensures.sound (placed_still map map' c.lookup.ensures.pending c.lookup.ensures.known c.requires.ready.placed) (λ light. c.lookup.ensures.only.2) (λ kept. absurd kept) (λ none. absurd (c.lookup.ensures.only.2 none))
+      c.lookup.ensures.refused (λ is. absurd is) jobs n among
+      (lookup_keyed (state old.disk) (state new.disk) map map' jobs jobs' n job job' c.args.channel c.args.address moment c.lookup.result among.there refl among.keyed among.reading c.lookup.ensures.pending c.lookup.ensures.reads
+      c.lookup.ensures.looked c.lookup.ensures.kept)
+      (lookup_reading (state old.disk) (state new.disk) map map' jobs jobs' n job job' c.args.channel c.args.address moment c.lookup.result among.there refl among.keyed among.reading c.lookup.ensures.pending c.lookup.ensures.reads
+      c.lookup.ensures.looked c.lookup.ensures.kept)
+      (λ h served s serves.
+      let was : (state old.disk).honest = subst (λ disk. (state disk).honest) c.lookup.ensures.untouched.0 h in
+      lookup_answered (state old.disk) (state new.disk) map map' jobs jobs' n job job' c.args.channel c.args.address moment c.lookup.result among.there refl among.keyed among.reading c.lookup.ensures.pending c.lookup.ensures.reads
+      c.lookup.ensures.looked c.lookup.ensures.kept false refl sound h timely (λ t is. known (state old.disk) map jobs t is sound was) (c.lookup.ensures.row h) s serves);
+}

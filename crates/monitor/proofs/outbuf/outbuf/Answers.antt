@@ -11,4 +11,4 @@ returns-in-None-clause-row c count = outbuf_none c.args.job.now c.args.number co
 pub returns-in-Some-clause-row : goal.returns-in-Some-clause-row
 returns-in-Some-clause-row c count =
     subst (λ code. IsRow c.args.job.now c.args.job.now (Outbuf c.args.number count) (Refused code)) (sym c.number.ensures)
-    (outbuf_refused c.args.job.now c.args.number count c.in-Some.field-0 (sym c.channel.ensures ∙ c.in-Some.is))
+    (outbuf_refused c.args.job.now c.args.number count c.in-Some._channel (sym c.channel.ensures ∙ c.in-Some.is))

@@ -17,8 +17,8 @@ returns-in_default-clause-reads g c = reads_same (core_of c.args.volume.now.map)
 pub returns-in_default-clause-leaves : goal.returns-in_default-clause-leaves
 returns-in_default-clause-leaves g c = leaves_none (core_of c.args.volume.now.map)
 
-pub let_go-requires-clause-held : goal.let_go-requires-clause-held
-let_go-requires-clause-held g c =
+pub release_input-requires-clause-held : goal.release_input-requires-clause-held
+release_input-requires-clause-held g c =
     input_held c.args.job.now c.args.number c.in-Some.channel (sym c.channel.ensures ∙ c.in-Some.is) (core_of c.args.volume.now.map) (core_of c.args.volume.now.map) _ (closes_none (core_of c.args.volume.now.map)) c.requires.held c.in-Some.channel.input (λ key. omega arith)
 
 pub returns-clause-row : goal.returns-clause-row
@@ -26,11 +26,11 @@ returns-clause-row g c = release_row c.args.job.now c.set_channel.new.self c.arg
 
 pub returns-clause-keeps : goal.returns-clause-keeps
 returns-clause-keeps g c =
-    release_keeps (core_of c.args.volume.now.map) (core_of c.let_go.new.volume.map) c.args.job.now c.set_channel.new.self c.args.number c.in-Some.channel (sym c.channel.ensures ∙ c.in-Some.is) c.requires.unpublished c.set_channel.ensures c.let_go.ensures.closed
+    release_keeps (core_of c.args.volume.now.map) (core_of c.release_input.new.volume.map) c.args.job.now c.set_channel.new.self c.args.number c.in-Some.channel (sym c.channel.ensures ∙ c.in-Some.is) c.requires.unpublished c.set_channel.ensures c.release_input.ensures.closed
 
 pub returns-clause-reads : goal.returns-clause-reads
 returns-clause-reads g c =
-    release_reads (core_of c.args.volume.now.map) (core_of c.let_go.new.volume.map) c.args.job.now c.set_channel.new.self c.args.number c.in-Some.channel (sym c.channel.ensures ∙ c.in-Some.is) c.requires.unpublished c.set_channel.ensures c.let_go.ensures.closed
+    release_reads (core_of c.args.volume.now.map) (core_of c.release_input.new.volume.map) c.args.job.now c.set_channel.new.self c.args.number c.in-Some.channel (sym c.channel.ensures ∙ c.in-Some.is) c.requires.unpublished c.set_channel.ensures c.release_input.ensures.closed
 
 pub returns-clause-leaves : goal.returns-clause-leaves
-returns-clause-leaves g c = c.let_go.ensures.closed.leaves
+returns-clause-leaves g c = c.release_input.ensures.closed.leaves

@@ -1,6 +1,7 @@
 use Rattle.std.proofs.Common.{refl, sym, ap, subst, ◌∙◌}
 use Rattle.meaning.specs.declared.call.Call.TheVariants.{Rename}
-use Rattle.monitor.specs.Rows.{IsRow, Keeps, KeepsReading}
+use Rattle.meaning.specs.declared.call.Reply.TheVariants.{Refused}
+use Rattle.monitor.specs.Rows.{IsRow}
 use Rattle.monitor.specs.Refusals.{with_code}
 use Rattle.monitor.specs.Sides.{reader_of}
 use Rattle.monitor.proofs.Calling.{keeps_same, reads_same}
@@ -14,11 +15,20 @@ returns-in_default-clause-row c none = rename_none c.args.job.now c.args.number 
 
 pub returns-then-lies_outside-clause-row : goal.returns-then-lies_outside-clause-row
 returns-then-lies_outside-clause-row c none =
-    rename_outside c.args.job.now c.args.number c.args.address c.in-Some.channel (sym c.channel.ensures ∙ c.in-Some.is) (sym c.lies_outside.ensures.value ∙ c.if-lies_outside.true)
+    rename_outside c.args.job.now c.args.number c.args.address c.in-Some._channel (sym c.channel.ensures ∙ c.in-Some.is) (sym c.lies_outside.ensures.value ∙ c.if-lies_outside.true)
 
 pub returns-clause-row : goal.returns-clause-row
 returns-clause-row c none =
     let there = sym c.channel.ensures ∙ c.in-Some.is in
-    subst (λ reply. IsRow c.args.job.now (record c.args.job.now { core = c.refuse.new.core }) (Rename c.args.number c.args.address) reply) (sym c.refuse.ensures.answered)
-    (subst (λ core. IsRow c.args.job.now (record c.args.job.now { core = core }) (Rename c.args.number c.args.address) _) (sym c.refuse.ensures.kept)
-    (rename_refused c.args.job.now c.args.number c.args.address c.in-Some.channel there (sym (ap reader_of there) ∙ none) (sym c.lies_outside.ensures.value ∙ c.if-lies_outside.false)))
+    subst (IsRow c.args.job.now (record c.args.job.now { core = c.refuse.new.core }) (Rename c.args.number c.args.address)) (sym c.refuse.ensures.answered)
+    (subst (λ core. IsRow c.args.job.now (record c.args.job.now { core = core }) (Rename c.args.number c.args.address) (Refused 5)) (sym c.refuse.ensures.kept)
+    (rename_refused c.args.job.now c.args.number c.args.address c.in-Some._channel there (sym (ap reader_of there) ∙ none) (sym c.lies_outside.ensures.value ∙ c.if-lies_outside.false)))
+
+pub returns-in_default-clause-keeps : goal.returns-in_default-clause-keeps
+returns-in_default-clause-keeps c pending = keeps_same pending c.args.job.now
+
+pub returns-then-lies_outside-clause-keeps : goal.returns-then-lies_outside-clause-keeps
+returns-then-lies_outside-clause-keeps c pending = keeps_same pending c.args.job.now
+
+pub returns-clause-keeps : goal.returns-clause-keeps
+returns-clause-keeps c pending = keeps_core pending pending c.args.job.now c.refuse.new.core refl

@@ -22,24 +22,26 @@ close_channels-requires-clause-live g c = job_live (core_of c.args.volume.now.ma
 pub close_channels-requires-clause-held : goal.close_channels-requires-clause-held
 close_channels-requires-clause-held g c = job_held (core_of c.args.volume.now.map).live c.requires.ready.jobs c.requires.ready.number c.args.job.now c.requires.ready.among.reading c.requires.ready.among.there
 
-pub returns-clause-serving : goal.returns-clause-serving
-returns-clause-serving g c moment timely jobs n among =
-    let state = g.D.Disk.state in
-    let old = c.args.volume.now in
-    let new = c.close_channels.new.volume in
-    let map = core_of old.map in
-    let map' = core_of new.map in
-    let job = c.args.job.now in
-    let job' = c.reset.new.self in
-    let jobs' = slice_set jobs n (Some job') in
-    let is : job' ≡ reset_job job = c.reset.ensures in
-    let closed : Closes map map' (keys_of (sides_in (slot jobs n))) (pins_of (readers_in (slot jobs n))) =
-        subst (λ o. Closes map map' (keys_of (sides_in o)) (pins_of (readers_in o))) (sym among.there) c.close_channels.ensures.closed in
-    let keyed = closed_keyed map map' _ jobs n (Some job') among.keyed closed (ap (λ j. sides_in (Some j)) is) in
-    let reading = closed_reading map map' _ jobs n job' among.reading closed (ap (λ j. readers_in (Some j)) is) (bare_readers job' (ap (λ (j : Job). j.channels) is)) in
-    quiet_serves state g.met.D.Disk.only_now old.disk new.disk map map' old.failed new.failed job job' Reset moment Done c.requires.ready.alive c.close_channels.ensures.untouched
-    (λ e. cc e, λ e. cc e) c.close_channels.ensures.sound (placed_left map map' c.close_channels.ensures.closed.leaves c.requires.ready.placed) (λ light e. cc e) (λ kept. absurd kept) (λ e. cc e)
-    (λ code e. cc e) (λ is. absurd is) jobs n among keyed reading
-    (λ h served s serves.
-    row (state old.disk) map map' false jobs jobs' keyed reading c.close_channels.ensures.closed.leaves (pack_of (state old.disk)) (Calls n Reset moment) Done
-    (reset_row (state old.disk) jobs jobs' n moment timely (job, among.there, ap (λ j. slice_set jobs n (Some j)) is)) refl s serves)
+pub returns : goal.returns
+returns g c = record {
+  serving = λ moment timely jobs n among.
+      let state = g.D.Disk.state in
+      let old = c.args.volume.now in
+      let new = c.close_channels.new.volume in
+      let map = core_of old.map in
+      let map' = core_of new.map in
+      let job = c.args.job.now in
+      let job' = c.reset.new.self in
+      let jobs' = slice_set jobs n (Some job') in
+      let is : job' ≡ reset_job job = c.reset.ensures in
+      let closed : Closes map map' (keys_of (sides_in (slot jobs n))) (pins_of (readers_in (slot jobs n))) =
+          subst (λ o. Closes map map' (keys_of (sides_in o)) (pins_of (readers_in o))) (sym among.there) c.close_channels.ensures.closed in
+      let keyed = closed_keyed map map' _ jobs n (Some job') among.keyed closed (ap (λ j. sides_in (Some j)) is) in
+      let reading = closed_reading map map' _ jobs n job' among.reading closed (ap (λ j. readers_in (Some j)) is) (bare_readers job' (ap (λ (j : Job). j.channels) is)) in
+      quiet_serves state g.met.D.Disk.only_now old.disk new.disk map map' old.failed new.failed job job' Reset moment Done c.requires.ready.alive c.close_channels.ensures.untouched
+      (λ e. cc e, λ e. cc e) c.close_channels.ensures.sound (placed_left map map' c.close_channels.ensures.closed.leaves c.requires.ready.placed) (λ light e. cc e) (λ kept. absurd kept) (λ e. cc e)
+      (λ code e. cc e) (λ is. absurd is) jobs n among keyed reading
+      (λ h served s serves.
+      row (state old.disk) map map' false jobs jobs' keyed reading c.close_channels.ensures.closed.leaves (pack_of (state old.disk)) (Calls n Reset moment) Done
+      (reset_row (state old.disk) jobs jobs' n moment timely (job, among.there, ap (λ j. slice_set jobs n (Some j)) is)) refl s serves);
+}

@@ -57,7 +57,7 @@ module _ (c c' : VolumeCore) (key : ℕ) (v : LiveVersion) (at : slot c.live key
   closes_one : Closes c c' [] (key ∷ [])
   closes_one = record {
     gone = λ k. let same = ap (λ ps. present (pending_at ps k)) pending in omega arith;
-    let_go = λ k. same_or_not k key
+    released = λ k. same_or_not k key
         (λ is. subst (λ (n : ℕ). readers_of (slot c'.live n) + times n (key ∷ []) ≡ readers_of (slot c.live n)) (sym is) one_less)
         (λ apart. let none = times_other k key [] apart in let same = ap readers_of (others k apart) in omega arith);
     leaves = record {

@@ -5,8 +5,8 @@ use Rattle.volume.specs.LiveCores.{core_of}
 use Rattle.monitor.specs.Dropping.{Closes}
 use Rattle.monitor.specs.Readers.{readers_of}
 use Rattle.monitor.specs.Sides.{pins_of}
-use Rattle.monitor.proofs.LettingGo.{held_there, lets_one_go}
-use Rattle.monitor.proofs.dropping.let_go.Goals as goal
+use Rattle.monitor.proofs.Releases.{held_there, lets_one_go}
+use Rattle.monitor.proofs.dropping.release_input.Goals as goal
 
 pub unpin-requires-clause-live : goal.unpin-requires-clause-live
 unpin-requires-clause-live g c =
