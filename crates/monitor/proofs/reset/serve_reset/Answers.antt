@@ -35,7 +35,7 @@ returns g c = record {
       let jobs' = slice_set jobs n (Some job') in
       let is : job' ≡ reset_job job = c.reset.ensures in
       let closed : Closes map map' (keys_of (sides_in (slot jobs n))) (pins_of (readers_in (slot jobs n))) =
-          subst (λ o. Closes map map' (keys_of (sides_in o)) (pins_of (readers_in o))) (sym among.there) c.close_channels.ensures.closed in
+      subst (λ o. Closes map map' (keys_of (sides_in o)) (pins_of (readers_in o))) (sym among.there) c.close_channels.ensures.closed in
       let keyed = closed_keyed map map' _ jobs n (Some job') among.keyed closed (ap (λ j. sides_in (Some j)) is) in
       let reading = closed_reading map map' _ jobs n job' among.reading closed (ap (λ j. readers_in (Some j)) is) (bare_readers job' (ap (λ (j : Job). j.channels) is)) in
       quiet_serves state g.met.D.Disk.only_now old.disk new.disk map map' old.failed new.failed job job' Reset moment Done c.requires.ready.alive c.close_channels.ensures.untouched
