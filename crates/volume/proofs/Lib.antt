@@ -60,3 +60,4 @@ pub mod CountedReaders
 pub mod PrimeBlocks
 pub mod OnePlace
 pub mod PublishedPlaces
+pub mod Claiming

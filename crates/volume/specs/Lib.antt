@@ -16,3 +16,5 @@ pub mod Pins
 pub mod Beginning
 pub mod Publishing
 pub mod Places
+pub mod States
+pub mod Claims

@@ -130,17 +130,15 @@ impl<D: Disk> Volume<D> {
     /// and with `NoRoom` where the prime block, and one block more where the directory has to grow, exceed the
     /// room; `NoMemory` where core can't grow. All is as before then.
     pub fn begin(&mut self, alloc: Global, prime: Prime) -> Result<Pending, CallError>
-        requires sound { IsSound (D.state self.old.disk) (core_of self.old.map) self.old.failed }
-        ensures sound { IsSound (D.state self.new.disk) (core_of self.new.map) self.new.failed }
-        ensures begun { IfOk result (λ pending. IsBegun (core_of self.old.map) (core_of self.new.map) pending.key prime) }
-        ensures same { OnErr result (core_of self.new.map ≡ core_of self.old.map) }
+        ensures begun { IfOk result (λ pending. IsBegun self.old.core self.new.core pending.key prime) }
+        ensures same { OnErr result (self.new.core ≡ self.old.core) }
         ensures untouched { (self.new.disk ≡ self.old.disk) × (self.new.failed ≡ self.old.failed) }
 
         // Which error comes when.
         ensures failed { IsErrOf result Failed ↔ IsTrue self.old.failed }
-        ensures absent { self.old.failed ≡ false → (IsErrOf result (Refused NoDirectory) ↔ (find nat_cmp prime.ppn (core_of self.old.map).known.master.entries ≡ None)) }
-        ensures room { self.old.failed ≡ false → (d : KnownDirectory) → IsDirectoryOf (core_of self.old.map) prime.ppn d
-            → (IsErrOf result (Refused NoRoom) ↔ (space (D.state self.old.disk).size < (core_of self.old.map).known.table.booked + begin_cost (is_absent prime.file d) (entries_with (core_of self.old.map) d prime.ppn))) }
+        ensures absent { self.old.failed ≡ false → (IsErrOf result (Refused NoDirectory) ↔ (find nat_cmp prime.ppn self.old.core.known.master.entries ≡ None)) }
+        ensures room { self.old.failed ≡ false → (d : KnownDirectory) → IsDirectoryOf self.old.core prime.ppn d
+            → (IsErrOf result (Refused NoRoom) ↔ (space (D.state self.old.disk).size < self.old.core.known.table.booked + begin_cost (is_absent prime.file d) (entries_with self.old.core d prime.ppn))) }
         ensures codes { (code : ErrorCode) → IsErrOf result (Refused code) → (code ≡ NoDirectory) ⊎ (code ≡ NoRoom) }
         ensures served { IsErrOf result Device → ⊥ }
     {

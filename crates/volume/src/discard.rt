@@ -64,16 +64,14 @@ impl<D: Disk> Volume<D> {
     /// Drops a version that is being written. Its blocks are free again, and what it cost is not booked any
     /// more. It takes no memory and leaves the disk alone.
     pub fn discard(&mut self, pending: Pending)
-        requires sound { IsSound (D.state self.old.disk) (core_of self.old.map) self.old.failed }
-        requires live { IsSome (pending_at (core_of self.old.map).pending pending.key) }
-        ensures sound { IsSound (D.state self.new.disk) (core_of self.new.map) self.new.failed }
-        ensures gone { pending_at (core_of self.new.map).pending pending.key ≡ None }
-        ensures others { (k : ℕ) → (k ≡ pending.key → ⊥) → pending_at (core_of self.new.map).pending k ≡ pending_at (core_of self.old.map).pending k }
-        ensures live { (core_of self.new.map).live ≡ (core_of self.old.map).live }
-        ensures keys { (core_of self.new.map).keys ≡ (core_of self.old.map).keys }
-        ensures table { (core_of self.new.map).known ≡ record (core_of self.old.map).known { table = record (core_of self.old.map).known.table { held = (core_of self.new.map).known.table.held; booked = (core_of self.new.map).known.table.booked } } }
-        ensures held { (p : PendingVersion) → pending_at (core_of self.old.map).pending pending.key ≡ Some p
-            → (n : ℕ) → holds (core_of self.new.map).known.table n + times n p.version.blocks ≡ holds (core_of self.old.map).known.table n }
+        requires live { IsSome (pending_at self.old.core.pending pending.key) }
+        ensures gone { pending_at self.new.core.pending pending.key ≡ None }
+        ensures others { (k : ℕ) → (k ≡ pending.key → ⊥) → pending_at self.new.core.pending k ≡ pending_at self.old.core.pending k }
+        ensures live { self.new.core.live ≡ self.old.core.live }
+        ensures keys { self.new.core.keys ≡ self.old.core.keys }
+        ensures table { self.new.core.known ≡ record self.old.core.known { table = record self.old.core.known.table { held = self.new.core.known.table.held; booked = self.new.core.known.table.booked } } }
+        ensures held { (p : PendingVersion) → pending_at self.old.core.pending pending.key ≡ Some p
+            → (n : ℕ) → holds self.new.core.known.table n + times n p.version.blocks ≡ holds self.old.core.known.table n }
         ensures untouched { (self.new.disk ≡ self.old.disk) × (self.new.failed ≡ self.old.failed) }
     {
         discard_in_core(&mut self.map, pending.key);

@@ -44,6 +44,7 @@
 
 mod begin;
 mod blocks;
+mod claims;
 mod cost;
 mod discard;
 mod error;
@@ -75,8 +76,6 @@ pub use error::{CallError, VolumeError};
 pub use file_facts::FileFacts;
 pub use files::StoredVersion;
 pub use handles::{Pending, Pin, VersionHandle};
-pub use live::{LiveDirectory, LiveMap, LiveVersion};
 pub use map::{DiskMap, StoredDirectory, Volume};
-pub use pending::PendingVersion;
 pub use regions::{LARGEST_VOLUME, SMALLEST_VOLUME};
 pub use start::read_volume;

@@ -87,7 +87,6 @@ impl<D: Disk> Volume<D> {
     /// `Refused(NoDirectory)` where there is no such directory, `NoMemory` where the list finds no room,
     /// `Failed` where the volume failed before.
     pub fn list(&self, alloc: Global, ppn: Ppn) -> Result<Vec<Entry>, CallError>
-        requires sound { IsSound (D.state self.now.disk) (core_of self.now.map) self.now.failed }
         ensures listed { (D.state self.now.disk).honest → self.now.failed ≡ false → (files : Files File) → RestsAt (D.state self.now.disk) files
             → IfOk result (λ lines. (d : Directory File) × (get files ppn ≡ Some d) × (lines.items ≡ map line (entries d.files))) }
         ensures refused { (D.state self.now.disk).honest → self.now.failed ≡ false → (files : Files File) → RestsAt (D.state self.now.disk) files

@@ -228,10 +228,7 @@ impl<D: Disk> Volume<D> {
     /// `NoMemory` where core can't grow. All is as before then. `Device` where the device failed, and the
     /// volume with it: a later start finds the directory, or all as before.
     pub fn make_dir(&mut self, alloc: Global, ppn: Ppn, protection: u16) -> Result<(), CallError>
-        requires sound { IsSound (D.state self.old.disk) (core_of self.old.map) self.old.failed }
         requires protection { protection < 512 }
-
-        ensures sound { IsSound (D.state self.new.disk) (core_of self.new.map) self.new.failed }
 
         // Let all that a crash may leave stand for f. Then a crash at any moment leaves what stands for f, or for
         // f with the directory.
@@ -241,24 +238,24 @@ impl<D: Disk> Volume<D> {
         ensures done { (D.state self.new.disk).honest → (f : Files File) → RestsAt (D.state self.old.disk) f → OnOk result (RestsAt (D.state self.new.disk) (files_made f ppn protection)) }
         // The versions in use stay, and no block in use changes, but those of the master directory; where the device
         // failed, no closed one does.
-        ensures live { (core_of self.new.map).live ≡ (core_of self.old.map).live }
-        ensures pending { (core_of self.new.map).pending ≡ (core_of self.old.map).pending }
-        ensures kept { (D.state self.new.disk).honest → (n : ℕ) → space_start (D.state self.old.disk).size ≤ n → times n (core_of self.old.map).known.master.blocks ≡ 0 → (IsFree (core_of self.old.map).known.table n → ⊥)
+        ensures live { self.new.core.live ≡ self.old.core.live }
+        ensures pending { self.new.core.pending ≡ self.old.core.pending }
+        ensures kept { (D.state self.new.disk).honest → (n : ℕ) → space_start (D.state self.old.disk).size ≤ n → times n self.old.core.known.master.blocks ≡ 0 → (IsFree self.old.core.known.table n → ⊥)
             → (IsErrOf result Device → (D.state self.old.disk).is_open n ≡ false) → (D.state self.new.disk).contents n ≡ (D.state self.old.disk).contents n }
-        ensures readers { (D.state self.new.disk).honest → (IsErrOf result Device → ⊥) → KeepsRead (D.state self.old.disk).contents (D.state self.new.disk).contents (core_of self.old.map) }
-        ensures writers { (D.state self.new.disk).honest → (IsErrOf result Device → ⊥) → KeepsEachWritten (D.state self.old.disk).contents (D.state self.new.disk).contents (core_of self.old.map) }
+        ensures readers { (D.state self.new.disk).honest → (IsErrOf result Device → ⊥) → KeepsRead (D.state self.old.disk).contents (D.state self.new.disk).contents self.old.core }
+        ensures writers { (D.state self.new.disk).honest → (IsErrOf result Device → ⊥) → KeepsEachWritten (D.state self.old.disk).contents (D.state self.new.disk).contents self.old.core }
         // So does each directory in its place.
-        ensures directories { (owner : ℕ) (d : KnownDirectory) → IsDirectoryOf (core_of self.old.map) owner d → IsDirectoryOf (core_of self.new.map) owner d }
+        ensures directories { (owner : ℕ) (d : KnownDirectory) → IsDirectoryOf self.old.core owner d → IsDirectoryOf self.new.core owner d }
         // And each of its files has its prime block.
-        ensures primes { (owner : ℕ) (name : FileName) (n : ℕ) → prime_at (core_of self.old.map) owner name ≡ Some n → prime_at (core_of self.new.map) owner name ≡ Some n }
+        ensures primes { (owner : ℕ) (name : FileName) (n : ℕ) → prime_at self.old.core owner name ≡ Some n → prime_at self.new.core owner name ≡ Some n }
 
         // Which error comes when, and what it leaves.
-        ensures refused { (IsErrOf result Device → ⊥) → OnErr result ((self.new.disk ≡ self.old.disk) × (core_of self.new.map ≡ core_of self.old.map)) }
+        ensures refused { (IsErrOf result Device → ⊥) → OnErr result ((self.new.disk ≡ self.old.disk) × (self.new.core ≡ self.old.core)) }
         ensures failed { self.old.failed ≡ true → IsErrOf result Failed }
         ensures given_up { IsErrOf result Failed → self.old.failed ≡ true }
-        ensures exists { self.old.failed ≡ false → (IsErrOf result (Refused NameExists) ↔ (find nat_cmp ppn (core_of self.old.map).known.master.entries ≡ None → ⊥)) }
-        ensures room { self.old.failed ≡ false → find nat_cmp ppn (core_of self.old.map).known.master.entries ≡ None
-            → (IsErrOf result (Refused NoRoom) ↔ (space (D.state self.old.disk).size < (core_of self.old.map).known.table.booked + 1 + growth (core_of self.old.map).known.master)) }
+        ensures exists { self.old.failed ≡ false → (IsErrOf result (Refused NameExists) ↔ (find nat_cmp ppn self.old.core.known.master.entries ≡ None → ⊥)) }
+        ensures room { self.old.failed ≡ false → find nat_cmp ppn self.old.core.known.master.entries ≡ None
+            → (IsErrOf result (Refused NoRoom) ↔ (space (D.state self.old.disk).size < self.old.core.known.table.booked + 1 + growth self.old.core.known.master)) }
         ensures codes { (code : ErrorCode) → IsErrOf result (Refused code) → (code ≡ NameExists) ⊎ (code ≡ NoRoom) }
         ensures device { IsErrOf result Device → self.new.failed ≡ true }
         ensures counted { IsErrOf result Device → (D.state self.new.disk).failures ≡ one_more (D.state self.old.disk).failures }

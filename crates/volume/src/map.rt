@@ -1,7 +1,11 @@
+ghost use Rattle.std.specs.Prelude.{◌≡◌};
+
 use crate::files::StoredVersion;
 use crate::live::LiveMap;
 use alloctab::Table;
+use blockdisk::Disk;
 use directory::{Chain, FileEntry, MasterEntry};
+use std::marker::Model;
 
 /// A directory that was read: its chain, and for each entry, in their order, the version of its file.
 #[derive(Drop)]
@@ -23,13 +27,47 @@ pub struct DiskMap {
     pub table: Table,
 }
 
-/// A disk with its map in core.
+/// A volume: a disk with its map in core. Contracts see it as one value (`VolumeState`): the disk, what is known
+/// of it, and whether the volume has failed.
 #[derive(Drop)]
-pub struct Volume<D> {
-    /// The disk.
-    pub disk: D,
-    /// What is known of it, and the versions in use.
-    pub map: LiveMap,
+pub struct Volume<D: Disk> {
+    pub(crate) disk: D,
+    pub(crate) map: LiveMap,
     /// Whether a call met a fault of the disk: then nothing is known of the disk any more.
-    pub failed: bool,
+    pub(crate) failed: bool,
+}
+
+impl<D: Disk> Model for Volume<D> {
+    ghost use Rattle.volume.specs.LiveCores.{core_of};
+    ghost use Rattle.volume.specs.Rest.{IsSound};
+    ghost use Rattle.volume.specs.States.{VolumeState};
+
+    ghost Value = { VolumeState D };
+
+    ghost view = { λ v. record { disk = v.disk; core = core_of v.map; failed = v.failed } };
+
+    ghost invariant = { λ v. IsSound (D.state v.disk) (core_of v.map) v.failed };
+}
+
+impl<D: Disk> Volume<D> {
+    /// Whether a call met a fault of the disk. No call but this one and `blocks` says anything of the disk then.
+    pub fn has_failed(&self) -> bool
+        ensures { result ≡ self.now.failed }
+    {
+        self.failed
+    }
+
+    /// The disk.
+    pub fn disk(&self) -> &D
+        ensures { result.now ≡ self.now.disk }
+    {
+        &self.disk
+    }
+
+    /// The disk as it stands. What isn't published is dropped.
+    pub fn into_disk(self) -> D
+        ensures { result ≡ self.disk }
+    {
+        self.disk
+    }
 }

@@ -16,11 +16,12 @@ ghost use Rattle.volume.specs.declared.live.LiveVersion.{LiveVersion};
 
 use crate::CallError;
 use crate::handles::Pin;
-use crate::live::{LiveMap, pin_version, unpin_version};
+use crate::live::{LiveMap, LiveVersion, pin_version, unpin_version};
 use crate::map::Volume;
 use crate::query::directory_place;
 use blockdisk::Disk;
 use meaning::ErrorCode;
+use slab::Slab;
 use words36::{FileName, Ppn};
 
 /// The key of the version that the file of a place has.
@@ -41,7 +42,29 @@ fn find_version(map: &LiveMap, ppn: Ppn, name: &FileName) -> Result<usize, CallE
     }
 }
 
+/// Whether each of these versions may have one reader more than it has.
+fn have_few_readers(versions: &Slab<LiveVersion>) -> bool
+    ensures few { IsTrue result → (key : ℕ) (v : LiveVersion) → slot versions.now.slots key ≡ Some v → v.readers + 1 < 2 ^ 32 }
+    ensures many { result ≡ false → ((key : ℕ) (v : LiveVersion) → slot versions.now.slots key ≡ Some v → v.readers + 1 < 2 ^ 32) → ⊥ }
+{
+    for (_, version) in versions.iter() {
+        if version.readers == u32::MAX {
+            return false;
+        }
+    }
+    true
+}
+
 impl<D: Disk> Volume<D> {
+    /// Whether a version may be pinned: each may have one reader more than it has. It is so until one version has
+    /// as many readers as a number of 32 bits counts.
+    pub fn can_pin(&self) -> bool
+        ensures few { IsTrue result → (key : ℕ) (v : LiveVersion) → slot self.now.core.live key ≡ Some v → v.readers + 1 < 2 ^ 32 }
+        ensures many { result ≡ false → ((key : ℕ) (v : LiveVersion) → slot self.now.core.live key ≡ Some v → v.readers + 1 < 2 ^ 32) → ⊥ }
+    {
+        have_few_readers(&self.map.versions)
+    }
+
     /// Holds the version that a file has now for one reader more. Its blocks and its words stay until `unpin`,
     /// whatever comes to stand under the name. It takes no memory and touches no disk.
     ///
@@ -50,19 +73,17 @@ impl<D: Disk> Volume<D> {
     /// `Refused(NoDirectory)` where there is no such directory, `Refused(NotFound)` where it has no such file,
     /// `Failed` where the volume failed before.
     pub fn pin(&mut self, ppn: Ppn, name: &FileName) -> Result<Pin, CallError>
-        requires sound { IsSound (D.state self.old.disk) (core_of self.old.map) self.old.failed }
-        requires few { (key : ℕ) (v : LiveVersion) → slot (core_of self.old.map).live key ≡ Some v → v.readers + 1 < 2 ^ 32 }
-        ensures sound { IsSound (D.state self.new.disk) (core_of self.new.map) self.new.failed }
+        requires few { (key : ℕ) (v : LiveVersion) → slot self.old.core.live key ≡ Some v → v.readers + 1 < 2 ^ 32 }
         ensures value { (D.state self.new.disk).honest → self.old.failed ≡ false → (files : Files File) → RestsAt (D.state self.old.disk) files
-            → IsPinAnswer (D.state self.old.disk).contents (core_of self.new.map).live name.now result (get files ppn) }
+            → IsPinAnswer (D.state self.old.disk).contents self.new.core.live name.now result (get files ppn) }
 
         // It is the version that core has for the place.
-        ensures at { IfOk result (λ pin. (v : LiveVersion) × (slot (core_of self.old.map).live pin.key ≡ Some v) × (v.is_current ≡ true) × (prime_at (core_of self.old.map) ppn name.now ≡ Some v.at)) }
+        ensures at { IfOk result (λ pin. (v : LiveVersion) × (slot self.old.core.live pin.key ≡ Some v) × (v.is_current ≡ true) × (prime_at self.old.core ppn name.now ≡ Some v.at)) }
         // One reader more of this version, and nothing else.
-        ensures pinned { IfOk result (λ pin. (v : LiveVersion) × (slot (core_of self.old.map).live pin.key ≡ Some v) × (slot (core_of self.new.map).live pin.key ≡ Some (record v { readers = v.readers + 1 }))) }
-        ensures others { IfOk result (λ pin. (k : ℕ) → (k ≡ pin.key → ⊥) → slot (core_of self.new.map).live k ≡ slot (core_of self.old.map).live k) }
-        ensures core { core_of self.new.map ≡ record (core_of self.old.map) { live = (core_of self.new.map).live } }
-        ensures same { IsErr result → self.new.map ≡ self.old.map }
+        ensures pinned { IfOk result (λ pin. (v : LiveVersion) × (slot self.old.core.live pin.key ≡ Some v) × (slot self.new.core.live pin.key ≡ Some (record v { readers = v.readers + 1 }))) }
+        ensures others { IfOk result (λ pin. (k : ℕ) → (k ≡ pin.key → ⊥) → slot self.new.core.live k ≡ slot self.old.core.live k) }
+        ensures core { self.new.core ≡ record self.old.core { live = self.new.core.live } }
+        ensures same { IsErr result → self.new.core ≡ self.old.core }
         ensures untouched { (self.new.disk ≡ self.old.disk) × (self.new.failed ≡ self.old.failed) }
         ensures failed { IsErrOf result Failed ↔ IsTrue self.old.failed }
         ensures only { IfErr result IsPlainRefusal }
@@ -78,19 +99,17 @@ impl<D: Disk> Volume<D> {
     /// Lets a version go for one reader. One that no file has any more goes with its last reader: its blocks are
     /// free then, and its booking is taken back. It takes no memory and touches no disk.
     pub fn unpin(&mut self, pin: Pin)
-        requires sound { IsSound (D.state self.old.disk) (core_of self.old.map) self.old.failed }
-        requires live { (v : LiveVersion) × (slot (core_of self.old.map).live pin.key ≡ Some v) × (0 < v.readers) }
-        ensures sound { IsSound (D.state self.new.disk) (core_of self.new.map) self.new.failed }
-        ensures stays { (v : LiveVersion) → slot (core_of self.old.map).live pin.key ≡ Some v → (v.is_current ≡ true) ⊎ (1 < v.readers)
-            → (slot (core_of self.new.map).live pin.key ≡ Some (record v { readers = v.readers - 1 })) × ((core_of self.new.map).known.table ≡ (core_of self.old.map).known.table) }
-        ensures gone { (v : LiveVersion) → slot (core_of self.old.map).live pin.key ≡ Some v → v.is_current ≡ false → v.readers ≡ 1
-            → (slot (core_of self.new.map).live pin.key ≡ None)
-            × ((n : ℕ) → holds (core_of self.new.map).known.table n + times n (blocks_reached v.at v.version) ≡ holds (core_of self.old.map).known.table n)
-            × ((core_of self.new.map).known.table.booked + cost_of_blocks (length v.version.blocks) ≡ (core_of self.old.map).known.table.booked) }
-        ensures others { (k : ℕ) → (k ≡ pin.key → ⊥) → slot (core_of self.new.map).live k ≡ slot (core_of self.old.map).live k }
-        ensures pending { (core_of self.new.map).pending ≡ (core_of self.old.map).pending }
-        ensures keys { (core_of self.new.map).keys ≡ (core_of self.old.map).keys }
-        ensures known { (core_of self.new.map).known ≡ record (core_of self.old.map).known { table = (core_of self.new.map).known.table } }
+        requires live { (v : LiveVersion) × (slot self.old.core.live pin.key ≡ Some v) × (0 < v.readers) }
+        ensures stays { (v : LiveVersion) → slot self.old.core.live pin.key ≡ Some v → (v.is_current ≡ true) ⊎ (1 < v.readers)
+            → (slot self.new.core.live pin.key ≡ Some (record v { readers = v.readers - 1 })) × (self.new.core.known.table ≡ self.old.core.known.table) }
+        ensures gone { (v : LiveVersion) → slot self.old.core.live pin.key ≡ Some v → v.is_current ≡ false → v.readers ≡ 1
+            → (slot self.new.core.live pin.key ≡ None)
+            × ((n : ℕ) → holds self.new.core.known.table n + times n (blocks_reached v.at v.version) ≡ holds self.old.core.known.table n)
+            × (self.new.core.known.table.booked + cost_of_blocks (length v.version.blocks) ≡ self.old.core.known.table.booked) }
+        ensures others { (k : ℕ) → (k ≡ pin.key → ⊥) → slot self.new.core.live k ≡ slot self.old.core.live k }
+        ensures pending { self.new.core.pending ≡ self.old.core.pending }
+        ensures keys { self.new.core.keys ≡ self.old.core.keys }
+        ensures known { self.new.core.known ≡ record self.old.core.known { table = self.new.core.known.table } }
         ensures untouched { (self.new.disk ≡ self.old.disk) × (self.new.failed ≡ self.old.failed) }
     {
         unpin_version(&mut self.map, pin.key);

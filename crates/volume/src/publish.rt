@@ -27,7 +27,7 @@ use crate::event::commit_puts;
 use crate::handles::Pending;
 use crate::live::LiveMap;
 use crate::map::Volume;
-use crate::put::{growth, length_with};
+use crate::put::{growth, length_with, put_in_core};
 use crate::supplies::{Supplies, find_supplies};
 use crate::turn::make_current;
 use blockdisk::Disk;
@@ -69,68 +69,69 @@ fn last_blocks(map: &LiveMap, key: usize, block: u32, count: usize) -> Result<us
     }
 }
 
-impl<D: Disk> Volume<D> {
-    /// Publishes the version under a key, all of whose words are put: a plan in core with the puts that it asks
-    /// for, then its retrieval blocks, then the puts in one change.
-    ///
-    /// # Errors
-    ///
-    /// `Device` where the device failed, and the volume with it.
-    fn publish_written(&mut self, key: usize, supplies: Supplies) -> Result<(), CallError>
-        requires sound { IsSound (D.state self.old.disk) (core_of self.old.map) false }
-        requires alive { self.old.failed ≡ false }
-        requires there { IsSome (pending_at (core_of self.old.map).pending key) }
-        requires placed { (p : PendingVersion) → pending_at (core_of self.old.map).pending key ≡ Some p → IsPlaced (core_of self.old.map) p }
-        requires ribs { (p : PendingVersion) → pending_at (core_of self.old.map).pending key ≡ Some p → length supplies.ribs.items ≡ rib_count (length p.version.blocks) }
-        requires supplied { (p : PendingVersion) → pending_at (core_of self.old.map).pending key ≡ Some p → IsSupplied (core_of self.old.map) p (viewed file_view supplies.room) supplies.keys.items }
-        requires slot { HasRoomFor self.old.map.versions 1 }
+/// Publishes the version under a key, all of whose words are put: a plan in core with the puts that it asks
+/// for, then its retrieval blocks, then the puts in one change.
+///
+/// # Errors
+///
+/// `Device` where the device failed, and the volume with it.
+fn publish_written<D: Disk>(
+    disk: &mut D,
+    map: &mut LiveMap,
+    failed: &mut bool,
+    key: usize,
+    supplies: Supplies,
+) -> Result<(), CallError>
+    requires sound { IsSound (D.state disk.old) (core_of map.old) false }
+    requires alive { failed.old ≡ false }
+    requires there { IsSome (pending_at (core_of map.old).pending key) }
+    requires placed { (p : PendingVersion) → pending_at (core_of map.old).pending key ≡ Some p → IsPlaced (core_of map.old) p }
+    requires ribs { (p : PendingVersion) → pending_at (core_of map.old).pending key ≡ Some p → length supplies.ribs.items ≡ rib_count (length p.version.blocks) }
+    requires supplied { (p : PendingVersion) → pending_at (core_of map.old).pending key ≡ Some p → IsSupplied (core_of map.old) p (viewed file_view supplies.room) supplies.keys.items }
+    requires slot { HasRoomFor map.old.versions 1 }
 
-        ensures sound { IsSound (D.state self.new.disk) (core_of self.new.map) self.new.failed }
-        ensures turned { (p : PendingVersion) → pending_at (core_of self.old.map).pending key ≡ Some p
-            → (at : ℕ) × (ribs : List ℕ) × (puts : List Put) × Turns (D.state self.old.disk).size (core_of self.old.map) (core_of self.new.map) key p at ribs puts }
-        ensures crash { (D.state self.new.disk).honest → (f : Files File) → RestsAt (D.state self.old.disk) f → (p : PendingVersion) → pending_at (core_of self.old.map).pending key ≡ Some p
-            → (body : List ℕ) → length body ≡ p.version.words → HasBody (D.state self.old.disk).contents p.version.blocks body
-            → LeavesOnly (D.state self.old.disk) (D.state self.new.disk) (StandsForEither (D.state self.old.disk).size f (files_published f p.prime.ppn p.prime.file (file_of p.prime body))) }
-        ensures done { (D.state self.new.disk).honest → (f : Files File) → RestsAt (D.state self.old.disk) f → (p : PendingVersion) → pending_at (core_of self.old.map).pending key ≡ Some p
-            → (body : List ℕ) → length body ≡ p.version.words → HasBody (D.state self.old.disk).contents p.version.blocks body
-            → OnOk result (RestsAt (D.state self.new.disk) (files_published f p.prime.ppn p.prime.file (file_of p.prime body))) }
-        // The blocks of other versions stay. Where the device failed, they may have been open and be anything.
-        ensures readers { (D.state self.new.disk).honest → (IsErrOf result Device → ⊥) → (k : ℕ) (v : LiveVersion) → slot (core_of self.old.map).live k ≡ Some v → 0 < v.readers
-            → (n : ℕ) → 0 < times n v.version.blocks → (D.state self.new.disk).contents n ≡ (D.state self.old.disk).contents n }
-        ensures writers { (D.state self.new.disk).honest → (IsErrOf result Device → ⊥) → (k : ℕ) (q : PendingVersion) → (k ≡ key → ⊥) → pending_at (core_of self.old.map).pending k ≡ Some q
-            → (n : ℕ) → 0 < times n q.version.blocks → (D.state self.new.disk).contents n ≡ (D.state self.old.disk).contents n }
+    ensures sound { IsSound (D.state disk.new) (core_of map.new) failed.new }
+    ensures turned { (p : PendingVersion) → pending_at (core_of map.old).pending key ≡ Some p
+        → (at : ℕ) × (ribs : List ℕ) × (puts : List Put) × Turns (D.state disk.old).size (core_of map.old) (core_of map.new) key p at ribs puts }
+    ensures crash { (D.state disk.new).honest → (f : Files File) → RestsAt (D.state disk.old) f → (p : PendingVersion) → pending_at (core_of map.old).pending key ≡ Some p
+        → (body : List ℕ) → length body ≡ p.version.words → HasBody (D.state disk.old).contents p.version.blocks body
+        → LeavesOnly (D.state disk.old) (D.state disk.new) (StandsForEither (D.state disk.old).size f (files_published f p.prime.ppn p.prime.file (file_of p.prime body))) }
+    ensures done { (D.state disk.new).honest → (f : Files File) → RestsAt (D.state disk.old) f → (p : PendingVersion) → pending_at (core_of map.old).pending key ≡ Some p
+        → (body : List ℕ) → length body ≡ p.version.words → HasBody (D.state disk.old).contents p.version.blocks body
+        → OnOk result (RestsAt (D.state disk.new) (files_published f p.prime.ppn p.prime.file (file_of p.prime body))) }
+    // The blocks of other versions stay. Where the device failed, they may have been open and be anything.
+    ensures readers { (D.state disk.new).honest → (IsErrOf result Device → ⊥) → (k : ℕ) (v : LiveVersion) → slot (core_of map.old).live k ≡ Some v → 0 < v.readers
+        → (n : ℕ) → 0 < times n v.version.blocks → (D.state disk.new).contents n ≡ (D.state disk.old).contents n }
+    ensures writers { (D.state disk.new).honest → (IsErrOf result Device → ⊥) → (k : ℕ) (q : PendingVersion) → (k ≡ key → ⊥) → pending_at (core_of map.old).pending k ≡ Some q
+        → (n : ℕ) → 0 < times n q.version.blocks → (D.state disk.new).contents n ≡ (D.state disk.old).contents n }
 
-        ensures only { IfErr result (λ error. error ≡ Device) }
-        ensures device { IsErrOf result Device → self.new.failed ≡ true }
-        ensures still { OnOk result (self.new.failed ≡ false) }
-        ensures counted { IsErrOf result Device → (D.state self.new.disk).failures ≡ one_more (D.state self.old.disk).failures }
-        ensures served { OnOk result ((D.state self.new.disk).failures ≡ (D.state self.old.disk).failures) }
-        ensures same { SameDisk (D.state self.old.disk) (D.state self.new.disk) }
-    {
-        let mut set = ChangeSet::new();
-        let current = make_current(&mut self.map, key, supplies, &mut set);
-        let Some(version) = self.map.versions.get(current) else {
-            unreachable!() // it was put there
-        };
-        let written = write_retrieval_blocks(
-            &mut self.disk,
-            version.at,
-            &version.prime,
-            &version.version,
-        );
-        if written.is_err() {
-            self.failed = true; // nothing of core is used any more
-            return Err(CallError::Device);
-        }
-        match commit_puts(&mut self.disk, &set) {
-            Ok(()) => Ok(()),
-            Err(_) => {
-                self.failed = true; // nothing of core is used any more
-                Err(CallError::Device)
-            }
+    ensures only { IfErr result (λ error. error ≡ Device) }
+    ensures device { IsErrOf result Device → failed.new ≡ true }
+    ensures still { OnOk result (failed.new ≡ false) }
+    ensures counted { IsErrOf result Device → (D.state disk.new).failures ≡ one_more (D.state disk.old).failures }
+    ensures served { OnOk result ((D.state disk.new).failures ≡ (D.state disk.old).failures) }
+    ensures same { SameDisk (D.state disk.old) (D.state disk.new) }
+{
+    let mut set = ChangeSet::new();
+    let current = make_current(map, key, supplies, &mut set);
+    let Some(version) = map.versions.get(current) else {
+        unreachable!() // it was put there
+    };
+    let written = write_retrieval_blocks(disk, version.at, &version.prime, &version.version);
+    if written.is_err() {
+        *failed = true; // nothing of core is used any more
+        return Err(CallError::Device);
+    }
+    match commit_puts(disk, &set) {
+        Ok(()) => Ok(()),
+        Err(_) => {
+            *failed = true; // nothing of core is used any more
+            Err(CallError::Device)
         }
     }
+}
 
+impl<D: Disk> Volume<D> {
     /// Publishes a version that is being written, once the words of a last buffer are put at block `block`, counted
     /// from 1: it becomes the file of its name, in the place of the one before or as a new one, by one change of the
     /// directory and the allocation table. A crash finds the files from before, or those with this one whole. The
@@ -149,43 +150,40 @@ impl<D: Disk> Volume<D> {
         block: u32,
         words: &[Word],
     ) -> Result<(), CallError>
-        requires sound { IsSound (D.state self.old.disk) (core_of self.old.map) self.old.failed }
-        requires live { IsSome (pending_at (core_of self.old.map).pending pending.key) }
+        requires live { IsSome (pending_at self.old.core.pending pending.key) }
         requires first { 0 < block }
         // Nobody has made its name meanwhile, or taken it away, as claims see to.
-        requires placed { (p : PendingVersion) → pending_at (core_of self.old.map).pending pending.key ≡ Some p → IsPlaced (core_of self.old.map) p }
-
-        ensures sound { IsSound (D.state self.new.disk) (core_of self.new.map) self.new.failed }
+        requires placed { (p : PendingVersion) → pending_at self.old.core.pending pending.key ≡ Some p → IsPlaced self.old.core p }
 
         // Let all that a crash may leave stand for f, and the version have this body. Then a crash at any moment leaves
         // what stands for f, or for f with the version, its last words put, as the file of its name.
-        ensures crash { (D.state self.new.disk).honest → (f : Files File) → RestsAt (D.state self.old.disk) f → (p : PendingVersion) → pending_at (core_of self.old.map).pending pending.key ≡ Some p
+        ensures crash { (D.state self.new.disk).honest → (f : Files File) → RestsAt (D.state self.old.disk) f → (p : PendingVersion) → pending_at self.old.core.pending pending.key ≡ Some p
             → (body : List ℕ) → length body ≡ p.version.words → HasBody (D.state self.old.disk).contents p.version.blocks body
             → LeavesOnly (D.state self.old.disk) (D.state self.new.disk) (StandsForEither (D.state self.old.disk).size f (files_published f p.prime.ppn p.prime.file (file_of p.prime (splice body block words.now)))) }
         // At Ok all that a crash may leave stands for the latter.
-        ensures done { (D.state self.new.disk).honest → (f : Files File) → RestsAt (D.state self.old.disk) f → (p : PendingVersion) → pending_at (core_of self.old.map).pending pending.key ≡ Some p
+        ensures done { (D.state self.new.disk).honest → (f : Files File) → RestsAt (D.state self.old.disk) f → (p : PendingVersion) → pending_at self.old.core.pending pending.key ≡ Some p
             → (body : List ℕ) → length body ≡ p.version.words → HasBody (D.state self.old.disk).contents p.version.blocks body
             → OnOk result (RestsAt (D.state self.new.disk) (files_published f p.prime.ppn p.prime.file (file_of p.prime (splice body block words.now)))) }
         // What it does to core, once the last words are put.
-        ensures published { OnOk result ((p : PendingVersion) → pending_at (core_of self.old.map).pending pending.key ≡ Some p → IsPublishedCore (D.state self.old.disk).size (core_of self.old.map) (core_of self.new.map) pending.key p (length_after p.version.words block (length words.now))) }
-        ensures gone { OnOk result (pending_at (core_of self.new.map).pending pending.key ≡ None) }
+        ensures published { OnOk result ((p : PendingVersion) → pending_at self.old.core.pending pending.key ≡ Some p → IsPublishedCore (D.state self.old.disk).size self.old.core self.new.core pending.key p (length_after p.version.words block (length words.now))) }
+        ensures gone { OnOk result (pending_at self.new.core.pending pending.key ≡ None) }
         // All other versions stay, whatever the answer; and their blocks do, but where the device failed, since they may
         // have been open then.
-        ensures others { (k : ℕ) → (k ≡ pending.key → ⊥) → pending_at (core_of self.new.map).pending k ≡ pending_at (core_of self.old.map).pending k }
-        ensures held { (k : ℕ) (v : LiveVersion) → slot (core_of self.old.map).live k ≡ Some v → 0 < v.readers → (b : Bool) × (slot (core_of self.new.map).live k ≡ Some (record v { is_current = b })) }
-        ensures readers { (D.state self.new.disk).honest → (IsErrOf result Device → ⊥) → KeepsRead (D.state self.old.disk).contents (D.state self.new.disk).contents (core_of self.old.map) }
-        ensures writers { (D.state self.new.disk).honest → (IsErrOf result Device → ⊥) → KeepsWritten (D.state self.old.disk).contents (D.state self.new.disk).contents (core_of self.old.map) pending.key }
+        ensures others { (k : ℕ) → (k ≡ pending.key → ⊥) → pending_at self.new.core.pending k ≡ pending_at self.old.core.pending k }
+        ensures held { (k : ℕ) (v : LiveVersion) → slot self.old.core.live k ≡ Some v → 0 < v.readers → (b : Bool) × (slot self.new.core.live k ≡ Some (record v { is_current = b })) }
+        ensures readers { (D.state self.new.disk).honest → (IsErrOf result Device → ⊥) → KeepsRead (D.state self.old.disk).contents (D.state self.new.disk).contents self.old.core }
+        ensures writers { (D.state self.new.disk).honest → (IsErrOf result Device → ⊥) → KeepsWritten (D.state self.old.disk).contents (D.state self.new.disk).contents self.old.core pending.key }
 
         // Which error comes when, and what it leaves.
         ensures failed { self.old.failed ≡ true → IsErrOf result Failed }
-        ensures broken { self.old.failed ≡ true → (self.new.disk ≡ self.old.disk) × (core_of self.new.map ≡ core_of self.old.map) }
+        ensures broken { self.old.failed ≡ true → (self.new.disk ≡ self.old.disk) × (self.new.core ≡ self.old.core) }
         ensures given_up { IsErrOf result Failed → (self.old.failed ≡ true) ⊎ ((D.state self.new.disk).honest → ⊥) }
-        ensures room { self.old.failed ≡ false → (p : PendingVersion) → pending_at (core_of self.old.map).pending pending.key ≡ Some p
+        ensures room { self.old.failed ≡ false → (p : PendingVersion) → pending_at self.old.core.pending pending.key ≡ Some p
             → (IsErrOf result (Refused NoRoom) ↔ ((0 < length words.now) × ((most_blocks * 128 < length_after p.version.words block (length words.now))
-            ⊎ (space (D.state self.old.disk).size < (core_of self.old.map).known.table.booked + (version_cost (length_after p.version.words block (length words.now)) - version_cost p.version.words))))) }
+            ⊎ (space (D.state self.old.disk).size < self.old.core.known.table.booked + (version_cost (length_after p.version.words block (length words.now)) - version_cost p.version.words))))) }
         ensures codes { (code : ErrorCode) → IsErrOf result (Refused code) → code ≡ NoRoom }
-        ensures refused { (code : ErrorCode) → IsErrOf result (Refused code) → (self.new.disk ≡ self.old.disk) × (core_of self.new.map ≡ core_of self.old.map) }
-        ensures memory { IsErrOf result NoMemory → (self.new.disk ≡ self.old.disk) × (core_of self.new.map ≡ core_of self.old.map) }
+        ensures refused { (code : ErrorCode) → IsErrOf result (Refused code) → (self.new.disk ≡ self.old.disk) × (self.new.core ≡ self.old.core) }
+        ensures memory { IsErrOf result NoMemory → (self.new.disk ≡ self.old.disk) × (self.new.core ≡ self.old.core) }
         ensures device { IsErrOf result Device → self.new.failed ≡ true }
         ensures ended { IsErrOf result Failed → self.new.failed ≡ true }
         ensures still { (IsErrOf result Device → ⊥) → (IsErrOf result Failed → ⊥) → self.new.failed ≡ self.old.failed }
@@ -200,8 +198,22 @@ impl<D: Disk> Volume<D> {
         let Ok(supplies) = find_supplies(&mut self.map, alloc, pending.key, blocks) else {
             return Err(CallError::NoMemory);
         };
-        match self.put_words(pending, block, words) {
-            Ok(()) => self.publish_written(pending.key, supplies),
+        let put = put_in_core(
+            &mut self.disk,
+            &mut self.map,
+            &mut self.failed,
+            pending.key,
+            block,
+            words,
+        );
+        match put {
+            Ok(()) => publish_written(
+                &mut self.disk,
+                &mut self.map,
+                &mut self.failed,
+                pending.key,
+                supplies,
+            ),
             Err(error) => Err(error),
         }
     }

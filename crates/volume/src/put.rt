@@ -183,6 +183,77 @@ fn put_pending<D: Disk>(
     }
 }
 
+/// Puts words at block `block` of the version under a key, counted from 1, as `Volume::put_words` says. Whether the
+/// volume has failed is set where the disk does.
+pub(crate) fn put_in_core<D: Disk>(
+    disk: &mut D,
+    map: &mut LiveMap,
+    failed: &mut bool,
+    key: usize,
+    block: u32,
+    words: &[Word],
+) -> Result<(), CallError>
+    requires sound { IsSound (D.state disk.old) (core_of map.old) failed.old }
+    requires live { IsSome (pending_at (core_of map.old).pending key) }
+    requires first { 0 < block }
+
+    ensures sound { IsSound (D.state disk.new) (core_of map.new) failed.new }
+
+    // Its writes are quiet: whatever a crash leaves at any moment stands for the files from before.
+    ensures quiet { (D.state disk.new).honest → (f : Files File) → RestsAt (D.state disk.old) f
+        → LeavesOnly (D.state disk.old) (D.state disk.new) (λ c. Stands (D.state disk.old).size c f) }
+    ensures rests { (D.state disk.new).honest → (f : Files File) → RestsAt (D.state disk.old) f → RestsAt (D.state disk.new) f }
+    // At Ok the version has the words put.
+    ensures put { OnOk result ((p : PendingVersion) → pending_at (core_of map.old).pending key ≡ Some p
+        → (v : VersionState) × (pending_at (core_of map.new).pending key ≡ Some (record p { version = v })) × (v.words ≡ length_after p.version.words block (length words.now))
+        × ((D.state disk.new).honest → (body : List ℕ) → length body ≡ p.version.words → HasBody (D.state disk.old).contents p.version.blocks body → HasBody (D.state disk.new).contents v.blocks (splice body block words.now))) }
+    // It is there still, whatever the answer.
+    ensures stays { IsSome (pending_at (core_of map.new).pending key) }
+    // All other versions stay, and their blocks do.
+    ensures others { (k : ℕ) → (k ≡ key → ⊥) → pending_at (core_of map.new).pending k ≡ pending_at (core_of map.old).pending k }
+    ensures live { (core_of map.new).live ≡ (core_of map.old).live }
+    ensures versions { map.new.versions ≡ map.old.versions }
+    ensures keys { (core_of map.new).keys ≡ (core_of map.old).keys }
+    ensures known { (core_of map.new).known ≡ record (core_of map.old).known { table = (core_of map.new).known.table } }
+    ensures kept { (D.state disk.new).honest → (p : PendingVersion) → pending_at (core_of map.old).pending key ≡ Some p → (n : ℕ) → (IsOwn (core_of map.old).known.table p.version.blocks n → ⊥)
+        → (D.state disk.new).contents n ≡ (D.state disk.old).contents n }
+    // So no reader and no other writer sees that a block of theirs changes.
+    ensures readers { (D.state disk.new).honest → KeepsRead (D.state disk.old).contents (D.state disk.new).contents (core_of map.old) }
+    ensures writers { (D.state disk.new).honest → KeepsWritten (D.state disk.old).contents (D.state disk.new).contents (core_of map.old) key }
+
+    // Which error comes when, and what it leaves.
+    ensures failed { failed.old ≡ true → IsErrOf result Failed }
+    ensures broken { failed.old ≡ true → (disk.new ≡ disk.old) × (core_of map.new ≡ core_of map.old) }
+    ensures given_up { IsErrOf result Failed → (failed.old ≡ true) ⊎ ((D.state disk.new).honest → ⊥) }
+    ensures room { failed.old ≡ false → (p : PendingVersion) → pending_at (core_of map.old).pending key ≡ Some p
+        → (IsErrOf result (Refused NoRoom) ↔ ((0 < length words.now) × ((most_blocks * 128 < length_after p.version.words block (length words.now))
+        ⊎ (space (D.state disk.old).size < (core_of map.old).known.table.booked + (version_cost (length_after p.version.words block (length words.now)) - version_cost p.version.words))))) }
+    ensures codes { (code : ErrorCode) → IsErrOf result (Refused code) → code ≡ NoRoom }
+    ensures refused { (code : ErrorCode) → IsErrOf result (Refused code) → (disk.new ≡ disk.old) × (core_of map.new ≡ core_of map.old) }
+    ensures memory { IsErrOf result NoMemory → (disk.new ≡ disk.old) × (core_of map.new ≡ core_of map.old) }
+    ensures device { IsErrOf result Device → failed.new ≡ true }
+    ensures gone { IsErrOf result Failed → failed.new ≡ true }
+    ensures still { (IsErrOf result Device → ⊥) → (IsErrOf result Failed → ⊥) → failed.new ≡ failed.old }
+    ensures counted { IsErrOf result Device → (D.state disk.new).failures ≡ one_more (D.state disk.old).failures }
+    ensures served { (IsErrOf result Device → ⊥) → (D.state disk.new).failures ≡ (D.state disk.old).failures }
+    ensures same { SameDisk (D.state disk.old) (D.state disk.new) }
+{
+    if *failed {
+        return Err(CallError::Failed);
+    }
+    if words.is_empty() {
+        return Ok(());
+    }
+    match put_pending(disk, &mut map.table, &mut map.pending, key, block, words) {
+        Ok(()) => Ok(()),
+        Err(error @ (CallError::Device | CallError::Failed)) => {
+            *failed = true; // nothing of core is used any more
+            Err(error)
+        }
+        Err(error) => Err(error),
+    }
+}
+
 impl<D: Disk> Volume<D> {
     /// Puts words at block `block` of a version that is being written, counted from 1: over what stands there,
     /// and behind zeros where the version ends before. No words change nothing. A crash finds the files as
@@ -200,44 +271,40 @@ impl<D: Disk> Volume<D> {
         block: u32,
         words: &[Word],
     ) -> Result<(), CallError>
-        requires sound { IsSound (D.state self.old.disk) (core_of self.old.map) self.old.failed }
-        requires live { IsSome (pending_at (core_of self.old.map).pending pending.key) }
+        requires live { IsSome (pending_at self.old.core.pending pending.key) }
         requires first { 0 < block }
-
-        ensures sound { IsSound (D.state self.new.disk) (core_of self.new.map) self.new.failed }
 
         // Its writes are quiet: whatever a crash leaves at any moment stands for the files from before.
         ensures quiet { (D.state self.new.disk).honest → (f : Files File) → RestsAt (D.state self.old.disk) f
             → LeavesOnly (D.state self.old.disk) (D.state self.new.disk) (λ c. Stands (D.state self.old.disk).size c f) }
         ensures rests { (D.state self.new.disk).honest → (f : Files File) → RestsAt (D.state self.old.disk) f → RestsAt (D.state self.new.disk) f }
         // At Ok the version has the words put.
-        ensures put { OnOk result ((p : PendingVersion) → pending_at (core_of self.old.map).pending pending.key ≡ Some p
-            → (v : VersionState) × (pending_at (core_of self.new.map).pending pending.key ≡ Some (record p { version = v })) × (v.words ≡ length_after p.version.words block (length words.now))
+        ensures put { OnOk result ((p : PendingVersion) → pending_at self.old.core.pending pending.key ≡ Some p
+            → (v : VersionState) × (pending_at self.new.core.pending pending.key ≡ Some (record p { version = v })) × (v.words ≡ length_after p.version.words block (length words.now))
             × ((D.state self.new.disk).honest → (body : List ℕ) → length body ≡ p.version.words → HasBody (D.state self.old.disk).contents p.version.blocks body → HasBody (D.state self.new.disk).contents v.blocks (splice body block words.now))) }
         // It is there still, whatever the answer.
-        ensures stays { IsSome (pending_at (core_of self.new.map).pending pending.key) }
+        ensures stays { IsSome (pending_at self.new.core.pending pending.key) }
         // All other versions stay, and their blocks do.
-        ensures others { (k : ℕ) → (k ≡ pending.key → ⊥) → pending_at (core_of self.new.map).pending k ≡ pending_at (core_of self.old.map).pending k }
-        ensures live { (core_of self.new.map).live ≡ (core_of self.old.map).live }
-        ensures versions { self.new.map.versions ≡ self.old.map.versions }
-        ensures keys { (core_of self.new.map).keys ≡ (core_of self.old.map).keys }
-        ensures known { (core_of self.new.map).known ≡ record (core_of self.old.map).known { table = (core_of self.new.map).known.table } }
-        ensures kept { (D.state self.new.disk).honest → (p : PendingVersion) → pending_at (core_of self.old.map).pending pending.key ≡ Some p → (n : ℕ) → (IsOwn (core_of self.old.map).known.table p.version.blocks n → ⊥)
+        ensures others { (k : ℕ) → (k ≡ pending.key → ⊥) → pending_at self.new.core.pending k ≡ pending_at self.old.core.pending k }
+        ensures live { self.new.core.live ≡ self.old.core.live }
+        ensures keys { self.new.core.keys ≡ self.old.core.keys }
+        ensures known { self.new.core.known ≡ record self.old.core.known { table = self.new.core.known.table } }
+        ensures kept { (D.state self.new.disk).honest → (p : PendingVersion) → pending_at self.old.core.pending pending.key ≡ Some p → (n : ℕ) → (IsOwn self.old.core.known.table p.version.blocks n → ⊥)
             → (D.state self.new.disk).contents n ≡ (D.state self.old.disk).contents n }
         // So no reader and no other writer sees that a block of theirs changes.
-        ensures readers { (D.state self.new.disk).honest → KeepsRead (D.state self.old.disk).contents (D.state self.new.disk).contents (core_of self.old.map) }
-        ensures writers { (D.state self.new.disk).honest → KeepsWritten (D.state self.old.disk).contents (D.state self.new.disk).contents (core_of self.old.map) pending.key }
+        ensures readers { (D.state self.new.disk).honest → KeepsRead (D.state self.old.disk).contents (D.state self.new.disk).contents self.old.core }
+        ensures writers { (D.state self.new.disk).honest → KeepsWritten (D.state self.old.disk).contents (D.state self.new.disk).contents self.old.core pending.key }
 
         // Which error comes when, and what it leaves.
         ensures failed { self.old.failed ≡ true → IsErrOf result Failed }
-        ensures broken { self.old.failed ≡ true → (self.new.disk ≡ self.old.disk) × (core_of self.new.map ≡ core_of self.old.map) }
+        ensures broken { self.old.failed ≡ true → (self.new.disk ≡ self.old.disk) × (self.new.core ≡ self.old.core) }
         ensures given_up { IsErrOf result Failed → (self.old.failed ≡ true) ⊎ ((D.state self.new.disk).honest → ⊥) }
-        ensures room { self.old.failed ≡ false → (p : PendingVersion) → pending_at (core_of self.old.map).pending pending.key ≡ Some p
+        ensures room { self.old.failed ≡ false → (p : PendingVersion) → pending_at self.old.core.pending pending.key ≡ Some p
             → (IsErrOf result (Refused NoRoom) ↔ ((0 < length words.now) × ((most_blocks * 128 < length_after p.version.words block (length words.now))
-            ⊎ (space (D.state self.old.disk).size < (core_of self.old.map).known.table.booked + (version_cost (length_after p.version.words block (length words.now)) - version_cost p.version.words))))) }
+            ⊎ (space (D.state self.old.disk).size < self.old.core.known.table.booked + (version_cost (length_after p.version.words block (length words.now)) - version_cost p.version.words))))) }
         ensures codes { (code : ErrorCode) → IsErrOf result (Refused code) → code ≡ NoRoom }
-        ensures refused { (code : ErrorCode) → IsErrOf result (Refused code) → (self.new.disk ≡ self.old.disk) × (core_of self.new.map ≡ core_of self.old.map) }
-        ensures memory { IsErrOf result NoMemory → (self.new.disk ≡ self.old.disk) × (core_of self.new.map ≡ core_of self.old.map) }
+        ensures refused { (code : ErrorCode) → IsErrOf result (Refused code) → (self.new.disk ≡ self.old.disk) × (self.new.core ≡ self.old.core) }
+        ensures memory { IsErrOf result NoMemory → (self.new.disk ≡ self.old.disk) × (self.new.core ≡ self.old.core) }
         ensures device { IsErrOf result Device → self.new.failed ≡ true }
         ensures gone { IsErrOf result Failed → self.new.failed ≡ true }
         ensures still { (IsErrOf result Device → ⊥) → (IsErrOf result Failed → ⊥) → self.new.failed ≡ self.old.failed }
@@ -245,27 +312,13 @@ impl<D: Disk> Volume<D> {
         ensures served { (IsErrOf result Device → ⊥) → (D.state self.new.disk).failures ≡ (D.state self.old.disk).failures }
         ensures same { SameDisk (D.state self.old.disk) (D.state self.new.disk) }
     {
-        if self.failed {
-            return Err(CallError::Failed);
-        }
-        if words.is_empty() {
-            return Ok(());
-        }
-        let map = &mut self.map;
-        match put_pending(
+        put_in_core(
             &mut self.disk,
-            &mut map.table,
-            &mut map.pending,
+            &mut self.map,
+            &mut self.failed,
             pending.key,
             block,
             words,
-        ) {
-            Ok(()) => Ok(()),
-            Err(error @ (CallError::Device | CallError::Failed)) => {
-                self.failed = true; // nothing of core is used any more
-                Err(error)
-            }
-            Err(error) => Err(error),
-        }
+        )
     }
 }

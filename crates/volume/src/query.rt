@@ -93,9 +93,8 @@ impl<D: Disk> Volume<D> {
     /// It may be negative, as on an image that another program made with long runs, which cost less there than
     /// they are counted here.
     pub fn room(&self) -> i64
-        requires sound { IsSound (D.state self.now.disk) (core_of self.now.map) self.now.failed }
         ensures { (D.state self.now.disk).honest → self.now.failed ≡ false → (files : Files File) → RestsAt (D.state self.now.disk) files
-            → result ≡ room_of (D.state self.now.disk).size files (cost_beyond (core_of self.now.map)) }
+            → result ≡ room_of (D.state self.now.disk).size files (cost_beyond self.now.core) }
     {
         let size = self.disk.blocks();
         difference(size - space_start(size), self.map.table.booked())
@@ -108,7 +107,6 @@ impl<D: Disk> Volume<D> {
     ///
     /// `Refused(NoDirectory)` where there is none, `Failed` where the volume failed before.
     pub fn directory(&self, ppn: Ppn) -> Result<u16, CallError>
-        requires sound { IsSound (D.state self.now.disk) (core_of self.now.map) self.now.failed }
         ensures value { (D.state self.now.disk).honest → self.now.failed ≡ false → (files : Files File) → RestsAt (D.state self.now.disk) files
             → result ≡ protection_answer (get files ppn) }
         ensures failed { IsErrOf result Failed ↔ IsTrue self.now.failed }
@@ -128,7 +126,6 @@ impl<D: Disk> Volume<D> {
     /// `Refused(NoDirectory)` where there is no such directory, `Refused(NotFound)` where it has no such file,
     /// `Failed` where the volume failed before.
     pub fn look(&self, ppn: Ppn, name: &FileName) -> Result<FileFacts, CallError>
-        requires sound { IsSound (D.state self.now.disk) (core_of self.now.map) self.now.failed }
         ensures value { (D.state self.now.disk).honest → self.now.failed ≡ false → (files : Files File) → RestsAt (D.state self.now.disk) files
             → IsLookAnswer name.now result (get files ppn) }
         ensures failed { IsErrOf result Failed ↔ IsTrue self.now.failed }

@@ -102,11 +102,10 @@ impl<D: Disk> Volume<D> {
     /// `BadRetrieval`, `BlockTwice`, `BadData` and `TableWrong` only where that fault stands, the last only
     /// where no other does; `Device` where the device failed, `NoMemory` where a growth was refused.
     pub fn open(alloc: Global, disk: D) -> Result<Volume<D>, (VolumeError, D)>
-        ensures sound { IfOk result (λ volume. IsSound (D.state volume.disk) (core_of volume.map) volume.failed) }
         ensures serves { IfOk result (λ volume. volume.failed ≡ false) }
         // Nobody reads or writes a version yet.
-        ensures unread { IfOk result (λ volume. AllByRecursion (λ o. IfSome o IsFirstRead) (core_of volume.map).live) }
-        ensures unwritten { IfOk result (λ volume. (core_of volume.map).pending ≡ []) }
+        ensures unread { IfOk result (λ volume. AllByRecursion (λ o. IfSome o IsFirstRead) volume.core.live) }
+        ensures unwritten { IfOk result (λ volume. volume.core.pending ≡ []) }
         ensures recovered { IfOk result (λ volume. (D.state volume.disk).honest → IsRecovered (D.state disk).size (D.state disk).contents (D.state volume.disk).contents) }
         ensures stood { IfOk result (λ volume. (D.state volume.disk).honest → (files : Files File) × Stands (D.state disk).size (D.state disk).contents files × RestsAt (D.state volume.disk) files) }
         ensures files { (files : Files File) → Stands (D.state disk).size (D.state disk).contents files → IfOk result (λ volume. (D.state volume.disk).honest → RestsAt (D.state volume.disk) files) }

@@ -58,21 +58,19 @@ impl<D: Disk> Volume<D> {
         block: u32,
         count: u32,
     ) -> Result<Vec<Word>, CallError>
-        requires sound { IsSound (D.state self.old.disk) (core_of self.old.map) self.old.failed }
-        requires live { IsReadable (core_of self.old.map) handle }
+        requires live { IsReadable self.old.core handle }
         requires first { 0 < block }
-        ensures sound { IsSound (D.state self.new.disk) (core_of self.new.map) self.new.failed }
-        ensures words { (D.state self.new.disk).honest → (v : VersionState) → version_under (core_of self.old.map) handle ≡ Some v → (body : List ℕ) → length body ≡ v.words
+        ensures words { (D.state self.new.disk).honest → (v : VersionState) → version_under self.old.core handle ≡ Some v → (body : List ℕ) → length body ≡ v.words
             → HasBody (D.state self.old.disk).contents v.blocks body → IfOk result (λ words. words.items ≡ take count (words_from body block)) }
         // A damaged block is never answered as words.
-        ensures whole { (D.state self.new.disk).honest → (v : VersionState) → version_under (core_of self.old.map) handle ≡ Some v
+        ensures whole { (D.state self.new.disk).honest → (v : VersionState) → version_under self.old.core handle ≡ Some v
             → IfOk result (λ words. (i : ℕ) → i * 128 < length words.items → (D.state self.old.disk).contents (slice_index v.blocks (block - 1 + i)) ≡ None → ⊥) }
-        ensures few { (v : VersionState) → version_under (core_of self.old.map) handle ≡ Some v → IfOk result (λ words. length words.items ≡ min count (v.words - block_start block)) }
+        ensures few { (v : VersionState) → version_under self.old.core handle ≡ Some v → IfOk result (λ words. length words.items ≡ min count (v.words - block_start block)) }
 
         // Nothing is written, and core stays.
         ensures reads { (D.state self.new.disk).honest → OnlyReads (D.state self.old.disk) (D.state self.new.disk) }
         ensures rests { (D.state self.new.disk).honest → (files : Files File) → RestsAt (D.state self.old.disk) files → RestsAt (D.state self.new.disk) files }
-        ensures core { self.new.map ≡ self.old.map }
+        ensures core { self.new.core ≡ self.old.core }
 
         // Which error comes when, and what it leaves.
         ensures plain { (code : ErrorCode) → IsErrOf result (Refused code) → ⊥ }
@@ -80,7 +78,7 @@ impl<D: Disk> Volume<D> {
         // Where there are no words the disk isn't asked.
         ensures none { IfOk result (λ words. length words.items ≡ 0 → self.new.disk ≡ self.old.disk) }
         ensures failed { self.old.failed ≡ true → IsErrOf result Failed }
-        ensures broken { self.old.failed ≡ true → (self.new.disk ≡ self.old.disk) × (core_of self.new.map ≡ core_of self.old.map) }
+        ensures broken { self.old.failed ≡ true → (self.new.disk ≡ self.old.disk) × (self.new.core ≡ self.old.core) }
         ensures given_up { IsErrOf result Failed → (self.old.failed ≡ true) ⊎ ((D.state self.new.disk).honest → ⊥) }
         ensures gone { IsErrOf result Failed → self.new.failed ≡ true }
         ensures device { IsErrOf result Device → self.new.failed ≡ true }

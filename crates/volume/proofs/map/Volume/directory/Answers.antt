@@ -7,24 +7,24 @@ use Rattle.volume.proofs.Answering.{rest_holds, directory_none, directory_protec
 use Rattle.volume.proofs.map.Volume.directory.Goals as goal
 
 pub returns-in_err-i-clause-value : goal.returns-in_err-i-clause-value
-returns-in_err-i-clause-value g c honest alive files rest =
-    let s = g.D.Disk.state c.args.self.now.disk in
-    let core = core_of c.args.self.now.map in
+returns-in_err-i-clause-value g c = rw (← c.self.view_is) (λ honest alive files rest.
+    let s = g.D.Disk.state c.self.inside.disk in
+    let core = core_of c.self.inside.map in
     let k = core.known in
-    let holds = rest_holds s core c.args.self.now.failed c.requires.sound honest alive files rest in
+    let holds = rest_holds s core c.self.inside.failed c.self.invariant honest alive files rest in
     let none = directory_none s k files holds c.args.ppn (c.in_err-i.ensures.none refl) in
     let p = err_from_is_err_and c.from_residual.result c.from_residual.ensures.1 in
-    p.1 ∙ ap Err (p.2 ∙ c.in_err-i.ensures.only) ∙ sym (ap protection_answer none)
+    p.1 ∙ ap Err (p.2 ∙ c.in_err-i.ensures.only) ∙ sym (ap protection_answer none))
 
 pub returns-clause-value : goal.returns-clause-value
-returns-clause-value g c honest alive files rest =
-    let s = g.D.Disk.state c.args.self.now.disk in
-    let core = core_of c.args.self.now.map in
+returns-clause-value g c = rw (← c.self.view_is) (λ honest alive files rest.
+    let s = g.D.Disk.state c.self.inside.disk in
+    let core = core_of c.self.inside.map in
     let k = core.known in
-    let holds = rest_holds s core c.args.self.now.failed c.requires.sound honest alive files rest in
+    let holds = rest_holds s core c.self.inside.failed c.self.invariant honest alive files rest in
     let at = c.in_ok-i.ensures.found in
     let i = c.in_ok-i.i in
-    let entry = get_or c.args.self.now.map.master.entries i c.index-entries-i.result in
-    let seen : master_view entry ≡ (c.args.ppn, at.0) = viewed_get master_view c.args.self.now.map.master.entries i (c.args.ppn, at.0) c.index-entries-i.result at.1.is in
+    let entry = get_or c.self.inside.map.master.entries i c.index-entries-i.result in
+    let seen : master_view entry ≡ (c.args.ppn, at.0) = viewed_get master_view c.self.inside.map.master.entries i (c.args.ppn, at.0) c.index-entries-i.result at.1.is in
     ap (λ es. Ok (get_or es i c.index-entries-i.result).protection) c.entries.ensures.value
-    ∙ sym (directory_protection s k files holds c.args.ppn entry.protection entry.first (at.1.found ∙ ap Some (sym (ap (λ e. e.1) seen))))
+    ∙ sym (directory_protection s k files holds c.args.ppn entry.protection entry.first (at.1.found ∙ ap Some (sym (ap (λ e. e.1) seen)))))

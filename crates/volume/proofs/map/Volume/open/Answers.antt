@@ -10,8 +10,8 @@ use Rattle.volume.proofs.LiveOpening.{kept_whole}
 use Rattle.volume.proofs.Starting.{synced_as}
 use Rattle.volume.proofs.map.Volume.open.Goals as goal
 
-pub returns-in-Ok-keep-clause-sound : goal.returns-in-Ok-keep-clause-sound
-returns-in-Ok-keep-clause-sound g c =
+pub invariant_of-result : goal.invariant_of-result
+invariant_of-result g c =
     let s = g.D.Disk.state c.read_volume.new.disk in
     let size = sym c.read_volume.ensures.same.size in
     let k = known_of c.in-Ok.map in

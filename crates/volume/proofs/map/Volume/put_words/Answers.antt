@@ -1,158 +1,81 @@
-use Rattle.std.proofs.Common.{inr, Bool, refl, sym, subst}
+use Rattle.std.proofs.Common.{IsSome, subst, sym}
 use Rattle.volume.specs.Live.{pending_at}
-use Rattle.volume.specs.LiveCores.{core_of}
-use Rattle.volume.specs.Rest.{IsSound}
-use Rattle.volume.specs.declared.pending.PendingVersion.{PendingVersion}
-use Rattle.volume.proofs.PuttingCore.{some_of, ready}
-use Rattle.volume.proofs.PuttingDisk.{keeps_read, keeps_written, none_damaged, put_failed, put_done, crash_finds, rest_finds}
 use Rattle.volume.proofs.map.Volume.put_words.Goals as goal
 
-pub put_pending-requires-clause-ready : goal.put_pending-requires-clause-ready
-put_pending-requires-clause-ready g c p was = ready (g.D.Disk.state c.args.self.now.disk).size (core_of c.args.self.now.map) c.requires.sound.whole c.args.pending.key p was
+pub put_in_core-requires-clause-live : goal.put_in_core-requires-clause-live
+put_in_core-requires-clause-live g c = subst (λ m. IsSome (pending_at m.core.pending c.args.pending.key)) (sym c.self.view_is) c.requires.live
 
-pub returns-in-Err-Device-clause-sound : goal.returns-in-Err-Device-clause-sound
-returns-in-Err-Device-clause-sound g c =
-    let s = g.D.Disk.state c.args.self.now.disk in
-    let s' = g.D.Disk.state c.put_pending.new.disk in
-    let core = core_of c.args.self.now.map in
-    let sound = subst (λ (b : Bool). IsSound s core b) c.if-self.false c.requires.sound in
-    let there = some_of (pending_at core.pending c.args.pending.key) c.requires.live in
-    let p : PendingVersion = there.0 in
-    let grown = c.put_pending.ensures.grown p there.1 in
-    put_failed s s' core sound c.put_pending.ensures.same c.args.pending.key p there.1 c.put_pending.new.table c.put_pending.new.pending.slots grown.0 grown.1 c.put_pending.ensures.others (λ h. c.put_pending.ensures.touched h p there.1)
+pub invariant_of-self : goal.invariant_of-self
+invariant_of-self g c = c.put_in_core.ensures.sound
 
-pub returns-in-Err-Device-clause-quiet : goal.returns-in-Err-Device-clause-quiet
-returns-in-Err-Device-clause-quiet g c h f rests =
-    let s = g.D.Disk.state c.args.self.now.disk in
-    let s' = g.D.Disk.state c.put_pending.new.disk in
-    let core = core_of c.args.self.now.map in
-    let sound = subst (λ (b : Bool). IsSound s core b) c.if-self.false c.requires.sound in
-    let there = some_of (pending_at core.pending c.args.pending.key) c.requires.live in
-    let p : PendingVersion = there.0 in
-    let grown = c.put_pending.ensures.grown p there.1 in
-    crash_finds s s' core sound c.put_pending.ensures.same c.args.pending.key p there.1 c.put_pending.new.table c.put_pending.new.pending.slots grown.0 grown.1 c.put_pending.ensures.others (λ h. c.put_pending.ensures.touched h p there.1) h f rests (λ d left. g.met.D.Disk.only_now c.args.self.now.disk d (c.put_pending.ensures.same.was_honest h) left)
+pub returns-clause-quiet : goal.returns-clause-quiet
+returns-clause-quiet g c = rw (← c.self.view_is) c.put_in_core.ensures.quiet
 
-pub returns-in-Err-clause-quiet : goal.returns-in-Err-clause-quiet
-returns-in-Err-clause-quiet g c h f rests =
-    let s = g.D.Disk.state c.args.self.now.disk in
-    let s' = g.D.Disk.state c.put_pending.new.disk in
-    let core = core_of c.args.self.now.map in
-    let sound = subst (λ (b : Bool). IsSound s core b) c.if-self.false c.requires.sound in
-    let there = some_of (pending_at core.pending c.args.pending.key) c.requires.live in
-    let p : PendingVersion = there.0 in
-    let grown = c.put_pending.ensures.grown p there.1 in
-    crash_finds s s' core sound c.put_pending.ensures.same c.args.pending.key p there.1 c.put_pending.new.table c.put_pending.new.pending.slots grown.0 grown.1 c.put_pending.ensures.others (λ h. c.put_pending.ensures.touched h p there.1) h f rests (λ d left. g.met.D.Disk.only_now c.args.self.now.disk d (c.put_pending.ensures.same.was_honest h) left)
+pub returns-clause-rests : goal.returns-clause-rests
+returns-clause-rests g c = rw (← c.self.view_is) c.put_in_core.ensures.rests
 
-pub returns-in-Ok-clause-quiet : goal.returns-in-Ok-clause-quiet
-returns-in-Ok-clause-quiet g c h f rests =
-    let s = g.D.Disk.state c.args.self.now.disk in
-    let s' = g.D.Disk.state c.put_pending.new.disk in
-    let core = core_of c.args.self.now.map in
-    let sound = subst (λ (b : Bool). IsSound s core b) c.if-self.false c.requires.sound in
-    let there = some_of (pending_at core.pending c.args.pending.key) c.requires.live in
-    let p : PendingVersion = there.0 in
-    let grown = c.put_pending.ensures.grown p there.1 in
-    crash_finds s s' core sound c.put_pending.ensures.same c.args.pending.key p there.1 c.put_pending.new.table c.put_pending.new.pending.slots grown.0 grown.1 c.put_pending.ensures.others (λ h. c.put_pending.ensures.touched h p there.1) h f rests (λ d left. g.met.D.Disk.only_now c.args.self.now.disk d (c.put_pending.ensures.same.was_honest h) left)
+pub returns-clause-put : goal.returns-clause-put
+returns-clause-put g c = rw (← c.self.view_is) c.put_in_core.ensures.put
 
-pub returns-in-Err-Device-clause-rests : goal.returns-in-Err-Device-clause-rests
-returns-in-Err-Device-clause-rests g c h f rests =
-    let s = g.D.Disk.state c.args.self.now.disk in
-    let s' = g.D.Disk.state c.put_pending.new.disk in
-    let core = core_of c.args.self.now.map in
-    let sound = subst (λ (b : Bool). IsSound s core b) c.if-self.false c.requires.sound in
-    let there = some_of (pending_at core.pending c.args.pending.key) c.requires.live in
-    let p : PendingVersion = there.0 in
-    let grown = c.put_pending.ensures.grown p there.1 in
-    rest_finds s s' core sound c.put_pending.ensures.same c.args.pending.key p there.1 c.put_pending.new.table c.put_pending.new.pending.slots grown.0 grown.1 c.put_pending.ensures.others (λ h. c.put_pending.ensures.touched h p there.1) h f rests
+pub returns-clause-stays : goal.returns-clause-stays
+returns-clause-stays g c = c.put_in_core.ensures.stays
 
-pub returns-in-Ok-clause-rests : goal.returns-in-Ok-clause-rests
-returns-in-Ok-clause-rests g c h f rests =
-    let s = g.D.Disk.state c.args.self.now.disk in
-    let s' = g.D.Disk.state c.put_pending.new.disk in
-    let core = core_of c.args.self.now.map in
-    let sound = subst (λ (b : Bool). IsSound s core b) c.if-self.false c.requires.sound in
-    let there = some_of (pending_at core.pending c.args.pending.key) c.requires.live in
-    let p : PendingVersion = there.0 in
-    let grown = c.put_pending.ensures.grown p there.1 in
-    rest_finds s s' core sound c.put_pending.ensures.same c.args.pending.key p there.1 c.put_pending.new.table c.put_pending.new.pending.slots grown.0 grown.1 c.put_pending.ensures.others (λ h. c.put_pending.ensures.touched h p there.1) h f rests
+pub returns-clause-others : goal.returns-clause-others
+returns-clause-others g c = rw (← c.self.view_is) c.put_in_core.ensures.others
 
-pub returns-in-Err-Device-clause-given_up : goal.returns-in-Err-Device-clause-given_up
-returns-in-Err-Device-clause-given_up g c gone =
-    let s = g.D.Disk.state c.args.self.now.disk in
-    let s' = g.D.Disk.state c.put_pending.new.disk in
-    let core = core_of c.args.self.now.map in
-    let sound = subst (λ (b : Bool). IsSound s core b) c.if-self.false c.requires.sound in
-    let there = some_of (pending_at core.pending c.args.pending.key) c.requires.live in
-    let p : PendingVersion = there.0 in
-    let grown = c.put_pending.ensures.grown p there.1 in
-    inr (λ h.
-    let bad = c.in-Err-Device.ensures.damaged h p there.1 gone in
-    none_damaged s.contents p.version (sound.written (c.put_pending.ensures.same.was_honest h) refl c.args.pending.key p there.1) bad.0 bad.1 bad.2)
+pub returns-clause-live : goal.returns-clause-live
+returns-clause-live g c = rw (← c.self.view_is) c.put_in_core.ensures.live
 
-pub returns-in-Ok-clause-sound : goal.returns-in-Ok-clause-sound
-returns-in-Ok-clause-sound g c =
-    let s = g.D.Disk.state c.args.self.now.disk in
-    let s' = g.D.Disk.state c.put_pending.new.disk in
-    let core = core_of c.args.self.now.map in
-    let sound = subst (λ (b : Bool). IsSound s core b) c.if-self.false c.requires.sound in
-    let there = some_of (pending_at core.pending c.args.pending.key) c.requires.live in
-    let p : PendingVersion = there.0 in
-    let grown = c.put_pending.ensures.grown p there.1 in
-    let new = core_of (record c.args.self.now.map { pending = c.put_pending.new.pending; table = c.put_pending.new.table }) in
-    let put = c.in-Ok.ensures.put p there.1 in
-    subst (λ (b : Bool). IsSound s' new b) (sym c.if-self.false)
-    (put_done s s' core sound c.put_pending.ensures.same c.args.pending.key p there.1 c.put_pending.new.table c.put_pending.new.pending.slots grown.0 grown.1 c.put_pending.ensures.others (λ h. c.put_pending.ensures.touched h p there.1) put.0 c.args.block c.args.words.now put.1 put.2 put.3)
+pub returns-clause-keys : goal.returns-clause-keys
+returns-clause-keys g c = rw (← c.self.view_is) c.put_in_core.ensures.keys
 
-pub returns-in-Err-Device-clause-readers : goal.returns-in-Err-Device-clause-readers
-returns-in-Err-Device-clause-readers g c h =
-    let s = g.D.Disk.state c.args.self.now.disk in
-    let s' = g.D.Disk.state c.put_pending.new.disk in
-    let core = core_of c.args.self.now.map in
-    let there = some_of (pending_at core.pending c.args.pending.key) c.requires.live in
-    let p : PendingVersion = there.0 in
-    keeps_read s.size core c.requires.sound.whole c.args.pending.key p there.1 s.contents s'.contents (c.put_pending.ensures.touched h p there.1).contents
+pub returns-clause-known : goal.returns-clause-known
+returns-clause-known g c = rw (← c.self.view_is) c.put_in_core.ensures.known
 
-pub returns-in-Err-Device-clause-writers : goal.returns-in-Err-Device-clause-writers
-returns-in-Err-Device-clause-writers g c h =
-    let s = g.D.Disk.state c.args.self.now.disk in
-    let s' = g.D.Disk.state c.put_pending.new.disk in
-    let core = core_of c.args.self.now.map in
-    let there = some_of (pending_at core.pending c.args.pending.key) c.requires.live in
-    let p : PendingVersion = there.0 in
-    keeps_written s.size core c.requires.sound.whole c.args.pending.key p there.1 s.contents s'.contents (c.put_pending.ensures.touched h p there.1).contents
+pub returns-clause-kept : goal.returns-clause-kept
+returns-clause-kept g c = rw (← c.self.view_is) c.put_in_core.ensures.kept
 
-pub returns-in-Err-clause-readers : goal.returns-in-Err-clause-readers
-returns-in-Err-clause-readers g c h =
-    let s = g.D.Disk.state c.args.self.now.disk in
-    let s' = g.D.Disk.state c.put_pending.new.disk in
-    let core = core_of c.args.self.now.map in
-    let there = some_of (pending_at core.pending c.args.pending.key) c.requires.live in
-    let p : PendingVersion = there.0 in
-    keeps_read s.size core c.requires.sound.whole c.args.pending.key p there.1 s.contents s'.contents (c.put_pending.ensures.touched h p there.1).contents
+pub returns-clause-readers : goal.returns-clause-readers
+returns-clause-readers g c = rw (← c.self.view_is) c.put_in_core.ensures.readers
 
-pub returns-in-Err-clause-writers : goal.returns-in-Err-clause-writers
-returns-in-Err-clause-writers g c h =
-    let s = g.D.Disk.state c.args.self.now.disk in
-    let s' = g.D.Disk.state c.put_pending.new.disk in
-    let core = core_of c.args.self.now.map in
-    let there = some_of (pending_at core.pending c.args.pending.key) c.requires.live in
-    let p : PendingVersion = there.0 in
-    keeps_written s.size core c.requires.sound.whole c.args.pending.key p there.1 s.contents s'.contents (c.put_pending.ensures.touched h p there.1).contents
+pub returns-clause-writers : goal.returns-clause-writers
+returns-clause-writers g c = rw (← c.self.view_is) c.put_in_core.ensures.writers
 
-pub returns-in-Ok-clause-readers : goal.returns-in-Ok-clause-readers
-returns-in-Ok-clause-readers g c h =
-    let s = g.D.Disk.state c.args.self.now.disk in
-    let s' = g.D.Disk.state c.put_pending.new.disk in
-    let core = core_of c.args.self.now.map in
-    let there = some_of (pending_at core.pending c.args.pending.key) c.requires.live in
-    let p : PendingVersion = there.0 in
-    keeps_read s.size core c.requires.sound.whole c.args.pending.key p there.1 s.contents s'.contents (c.put_pending.ensures.touched h p there.1).contents
+pub returns-clause-failed : goal.returns-clause-failed
+returns-clause-failed g c = rw (← c.self.view_is) c.put_in_core.ensures.failed
 
-pub returns-in-Ok-clause-writers : goal.returns-in-Ok-clause-writers
-returns-in-Ok-clause-writers g c h =
-    let s = g.D.Disk.state c.args.self.now.disk in
-    let s' = g.D.Disk.state c.put_pending.new.disk in
-    let core = core_of c.args.self.now.map in
-    let there = some_of (pending_at core.pending c.args.pending.key) c.requires.live in
-    let p : PendingVersion = there.0 in
-    keeps_written s.size core c.requires.sound.whole c.args.pending.key p there.1 s.contents s'.contents (c.put_pending.ensures.touched h p there.1).contents
+pub returns-clause-broken : goal.returns-clause-broken
+returns-clause-broken g c = rw (← c.self.view_is) c.put_in_core.ensures.broken
+
+pub returns-clause-given_up : goal.returns-clause-given_up
+returns-clause-given_up g c = rw (← c.self.view_is) c.put_in_core.ensures.given_up
+
+pub returns-clause-room : goal.returns-clause-room
+returns-clause-room g c = rw (← c.self.view_is) c.put_in_core.ensures.room
+
+pub returns-clause-codes : goal.returns-clause-codes
+returns-clause-codes g c = c.put_in_core.ensures.codes
+
+pub returns-clause-refused : goal.returns-clause-refused
+returns-clause-refused g c = rw (← c.self.view_is) c.put_in_core.ensures.refused
+
+pub returns-clause-memory : goal.returns-clause-memory
+returns-clause-memory g c = rw (← c.self.view_is) c.put_in_core.ensures.memory
+
+pub returns-clause-device : goal.returns-clause-device
+returns-clause-device g c = c.put_in_core.ensures.device
+
+pub returns-clause-gone : goal.returns-clause-gone
+returns-clause-gone g c = c.put_in_core.ensures.gone
+
+pub returns-clause-still : goal.returns-clause-still
+returns-clause-still g c = rw (← c.self.view_is) c.put_in_core.ensures.still
+
+pub returns-clause-counted : goal.returns-clause-counted
+returns-clause-counted g c = rw (← c.self.view_is) c.put_in_core.ensures.counted
+
+pub returns-clause-served : goal.returns-clause-served
+returns-clause-served g c = rw (← c.self.view_is) c.put_in_core.ensures.served
+
+pub returns-clause-same : goal.returns-clause-same
+returns-clause-same g c = rw (← c.self.view_is) c.put_in_core.ensures.same

@@ -7,13 +7,13 @@ use Rattle.volume.specs.Rest.{IsSound}
 use Rattle.volume.proofs.PuttingCore.{some_of}
 use Rattle.volume.proofs.PublishingBlocks.{turned_of, retrieval_inside, retrieval_apart, retrieval_nonzero, version_words, version_enough, version_fits, puts_in_range}
 use Rattle.volume.proofs.PublishingEvents.{ok_is, mid_shut, written_failed, written_crash, committed_crash, committed_done, committed_readers, committed_writers, committed_failed, committed_sound}
-use Rattle.volume.proofs.map.Volume.publish_written.Goals as goal
+use Rattle.volume.proofs.publish.publish_written.Goals as goal
 
 pub write_retrieval_blocks-written-requires-clause-inside :
     goal.write_retrieval_blocks-written-requires-clause-inside
 write_retrieval_blocks-written-requires-clause-inside g c =
-    let s = g.D.Disk.state c.args.self.now.disk in
-    let core = core_of c.args.self.now.map in
+    let s = g.D.Disk.state c.args.disk.now in
+    let core = core_of c.args.map.now in
     let new = core_of c.make_current-current.new.core in
     let puts = c.make_current-current.new.set in
     let v = c.in-Some.version.now in
@@ -24,8 +24,8 @@ write_retrieval_blocks-written-requires-clause-inside g c =
 pub write_retrieval_blocks-written-requires-clause-apart :
     goal.write_retrieval_blocks-written-requires-clause-apart
 write_retrieval_blocks-written-requires-clause-apart g c =
-    let s = g.D.Disk.state c.args.self.now.disk in
-    let core = core_of c.args.self.now.map in
+    let s = g.D.Disk.state c.args.disk.now in
+    let core = core_of c.args.map.now in
     let new = core_of c.make_current-current.new.core in
     let puts = c.make_current-current.new.set in
     let v = c.in-Some.version.now in
@@ -36,8 +36,8 @@ write_retrieval_blocks-written-requires-clause-apart g c =
 pub write_retrieval_blocks-written-requires-clause-nonzero :
     goal.write_retrieval_blocks-written-requires-clause-nonzero
 write_retrieval_blocks-written-requires-clause-nonzero g c =
-    let s = g.D.Disk.state c.args.self.now.disk in
-    let core = core_of c.args.self.now.map in
+    let s = g.D.Disk.state c.args.disk.now in
+    let core = core_of c.args.map.now in
     let new = core_of c.make_current-current.new.core in
     let puts = c.make_current-current.new.set in
     let v = c.in-Some.version.now in
@@ -48,8 +48,8 @@ write_retrieval_blocks-written-requires-clause-nonzero g c =
 pub write_retrieval_blocks-written-requires-clause-words :
     goal.write_retrieval_blocks-written-requires-clause-words
 write_retrieval_blocks-written-requires-clause-words g c =
-    let s = g.D.Disk.state c.args.self.now.disk in
-    let core = core_of c.args.self.now.map in
+    let s = g.D.Disk.state c.args.disk.now in
+    let core = core_of c.args.map.now in
     let new = core_of c.make_current-current.new.core in
     let puts = c.make_current-current.new.set in
     let v = c.in-Some.version.now in
@@ -60,8 +60,8 @@ write_retrieval_blocks-written-requires-clause-words g c =
 pub write_retrieval_blocks-written-requires-clause-enough :
     goal.write_retrieval_blocks-written-requires-clause-enough
 write_retrieval_blocks-written-requires-clause-enough g c =
-    let s = g.D.Disk.state c.args.self.now.disk in
-    let core = core_of c.args.self.now.map in
+    let s = g.D.Disk.state c.args.disk.now in
+    let core = core_of c.args.map.now in
     let new = core_of c.make_current-current.new.core in
     let puts = c.make_current-current.new.set in
     let v = c.in-Some.version.now in
@@ -72,8 +72,8 @@ write_retrieval_blocks-written-requires-clause-enough g c =
 pub write_retrieval_blocks-written-requires-clause-fit :
     goal.write_retrieval_blocks-written-requires-clause-fit
 write_retrieval_blocks-written-requires-clause-fit g c =
-    let s = g.D.Disk.state c.args.self.now.disk in
-    let core = core_of c.args.self.now.map in
+    let s = g.D.Disk.state c.args.disk.now in
+    let core = core_of c.args.map.now in
     let new = core_of c.make_current-current.new.core in
     let puts = c.make_current-current.new.set in
     let v = c.in-Some.version.now in
@@ -83,9 +83,9 @@ write_retrieval_blocks-written-requires-clause-fit g c =
 
 pub returns-then-is_err-clause-sound : goal.returns-then-is_err-clause-sound
 returns-then-is_err-clause-sound g c =
-    let s = g.D.Disk.state c.args.self.now.disk in
+    let s = g.D.Disk.state c.args.disk.now in
     let mid = g.D.Disk.state c.write_retrieval_blocks-written.new.disk in
-    let core = core_of c.args.self.now.map in
+    let core = core_of c.args.map.now in
     let new = core_of c.make_current-current.new.core in
     let puts = c.make_current-current.new.set in
     let v = c.in-Some.version.now in
@@ -95,14 +95,14 @@ returns-then-is_err-clause-sound g c =
 
 pub returns-then-is_err-clause-crash : goal.returns-then-is_err-clause-crash
 returns-then-is_err-clause-crash g c h f rests p is body long has =
-    let s = g.D.Disk.state c.args.self.now.disk in
+    let s = g.D.Disk.state c.args.disk.now in
     let mid = g.D.Disk.state c.write_retrieval_blocks-written.new.disk in
-    let core = core_of c.args.self.now.map in
+    let core = core_of c.args.map.now in
     let new = core_of c.make_current-current.new.core in
     let puts = c.make_current-current.new.set in
     let v = c.in-Some.version.now in
     let turned = turned_of s.size core.known.table.size core new c.args.key p v puts c.make_current-current.result c.requires.sound.whole.map.size_is (c.make_current-current.ensures p is) c.in-Some.ensures in
-    written_crash s mid core new c.args.key p v puts c.requires.sound turned c.write_retrieval_blocks-written.ensures.same (c.write_retrieval_blocks-written.ensures.same.was_honest h) (c.write_retrieval_blocks-written.ensures.touched h) f _ rests (λ d left. g.met.D.Disk.only_now c.args.self.now.disk d (c.write_retrieval_blocks-written.ensures.same.was_honest h) left)
+    written_crash s mid core new c.args.key p v puts c.requires.sound turned c.write_retrieval_blocks-written.ensures.same (c.write_retrieval_blocks-written.ensures.same.was_honest h) (c.write_retrieval_blocks-written.ensures.touched h) f _ rests (λ d left. g.met.D.Disk.only_now c.args.disk.now d (c.write_retrieval_blocks-written.ensures.same.was_honest h) left)
 
 pub returns-then-is_err-clause-readers : goal.returns-then-is_err-clause-readers
 returns-then-is_err-clause-readers g c h served = absurd (served refl)
@@ -112,9 +112,9 @@ returns-then-is_err-clause-writers g c h served = absurd (served refl)
 
 pub commit_puts-requires-clause-in_range : goal.commit_puts-requires-clause-in_range
 commit_puts-requires-clause-in_range g c =
-    let s = g.D.Disk.state c.args.self.now.disk in
+    let s = g.D.Disk.state c.args.disk.now in
     let mid = g.D.Disk.state c.write_retrieval_blocks-written.new.disk in
-    let core = core_of c.args.self.now.map in
+    let core = core_of c.args.map.now in
     let new = core_of c.make_current-current.new.core in
     let puts = c.make_current-current.new.set in
     let v = c.in-Some.version.now in
@@ -124,10 +124,10 @@ commit_puts-requires-clause-in_range g c =
 
 pub returns-in-Ok-clause-sound : goal.returns-in-Ok-clause-sound
 returns-in-Ok-clause-sound g c =
-    let s = g.D.Disk.state c.args.self.now.disk in
+    let s = g.D.Disk.state c.args.disk.now in
     let mid = g.D.Disk.state c.write_retrieval_blocks-written.new.disk in
     let s' = g.D.Disk.state c.commit_puts.new.disk in
-    let core = core_of c.args.self.now.map in
+    let core = core_of c.args.map.now in
     let new = core_of c.make_current-current.new.core in
     let puts = c.make_current-current.new.set in
     let v = c.in-Some.version.now in
@@ -140,38 +140,38 @@ returns-in-Ok-clause-sound g c =
 
 pub returns-in-Ok-clause-crash : goal.returns-in-Ok-clause-crash
 returns-in-Ok-clause-crash g c h f rests p is body long has =
-    let s = g.D.Disk.state c.args.self.now.disk in
+    let s = g.D.Disk.state c.args.disk.now in
     let mid = g.D.Disk.state c.write_retrieval_blocks-written.new.disk in
     let s' = g.D.Disk.state c.commit_puts.new.disk in
-    let core = core_of c.args.self.now.map in
+    let core = core_of c.args.map.now in
     let new = core_of c.make_current-current.new.core in
     let puts = c.make_current-current.new.set in
     let v = c.in-Some.version.now in
     let turned = turned_of s.size core.known.table.size core new c.args.key p v puts c.make_current-current.result c.requires.sound.whole.map.size_is (c.make_current-current.ensures p is) c.in-Some.ensures in
     let retrieved = ok_is c.write_retrieval_blocks-written.result _ (sym c.is_err.ensures.value ∙ c.if-is_err.false) (c.write_retrieval_blocks-written.ensures.written (c.commit_puts.ensures.same.was_honest h)) in
     let shut = mid_shut s mid core new c.args.key p v puts c.requires.sound turned c.write_retrieval_blocks-written.ensures.same (c.write_retrieval_blocks-written.ensures.same.was_honest (c.commit_puts.ensures.same.was_honest h)) (c.write_retrieval_blocks-written.ensures.touched (c.commit_puts.ensures.same.was_honest h)) in
-    committed_crash s mid core new c.args.key p v puts c.requires.sound turned c.write_retrieval_blocks-written.ensures.same (c.write_retrieval_blocks-written.ensures.same.was_honest (c.commit_puts.ensures.same.was_honest h)) (c.write_retrieval_blocks-written.ensures.touched (c.commit_puts.ensures.same.was_honest h)) retrieved body long has s' (c.commit_puts.ensures.crash h shut) f rests (λ d left. g.met.D.Disk.only_now c.args.self.now.disk d (c.write_retrieval_blocks-written.ensures.same.was_honest (c.commit_puts.ensures.same.was_honest h)) left)
+    committed_crash s mid core new c.args.key p v puts c.requires.sound turned c.write_retrieval_blocks-written.ensures.same (c.write_retrieval_blocks-written.ensures.same.was_honest (c.commit_puts.ensures.same.was_honest h)) (c.write_retrieval_blocks-written.ensures.touched (c.commit_puts.ensures.same.was_honest h)) retrieved body long has s' (c.commit_puts.ensures.crash h shut) f rests (λ d left. g.met.D.Disk.only_now c.args.disk.now d (c.write_retrieval_blocks-written.ensures.same.was_honest (c.commit_puts.ensures.same.was_honest h)) left)
 
 pub returns-in-Err-clause-crash : goal.returns-in-Err-clause-crash
 returns-in-Err-clause-crash g c h f rests p is body long has =
-    let s = g.D.Disk.state c.args.self.now.disk in
+    let s = g.D.Disk.state c.args.disk.now in
     let mid = g.D.Disk.state c.write_retrieval_blocks-written.new.disk in
     let s' = g.D.Disk.state c.commit_puts.new.disk in
-    let core = core_of c.args.self.now.map in
+    let core = core_of c.args.map.now in
     let new = core_of c.make_current-current.new.core in
     let puts = c.make_current-current.new.set in
     let v = c.in-Some.version.now in
     let turned = turned_of s.size core.known.table.size core new c.args.key p v puts c.make_current-current.result c.requires.sound.whole.map.size_is (c.make_current-current.ensures p is) c.in-Some.ensures in
     let retrieved = ok_is c.write_retrieval_blocks-written.result _ (sym c.is_err.ensures.value ∙ c.if-is_err.false) (c.write_retrieval_blocks-written.ensures.written (c.commit_puts.ensures.same.was_honest h)) in
     let shut = mid_shut s mid core new c.args.key p v puts c.requires.sound turned c.write_retrieval_blocks-written.ensures.same (c.write_retrieval_blocks-written.ensures.same.was_honest (c.commit_puts.ensures.same.was_honest h)) (c.write_retrieval_blocks-written.ensures.touched (c.commit_puts.ensures.same.was_honest h)) in
-    committed_crash s mid core new c.args.key p v puts c.requires.sound turned c.write_retrieval_blocks-written.ensures.same (c.write_retrieval_blocks-written.ensures.same.was_honest (c.commit_puts.ensures.same.was_honest h)) (c.write_retrieval_blocks-written.ensures.touched (c.commit_puts.ensures.same.was_honest h)) retrieved body long has s' (c.commit_puts.ensures.crash h shut) f rests (λ d left. g.met.D.Disk.only_now c.args.self.now.disk d (c.write_retrieval_blocks-written.ensures.same.was_honest (c.commit_puts.ensures.same.was_honest h)) left)
+    committed_crash s mid core new c.args.key p v puts c.requires.sound turned c.write_retrieval_blocks-written.ensures.same (c.write_retrieval_blocks-written.ensures.same.was_honest (c.commit_puts.ensures.same.was_honest h)) (c.write_retrieval_blocks-written.ensures.touched (c.commit_puts.ensures.same.was_honest h)) retrieved body long has s' (c.commit_puts.ensures.crash h shut) f rests (λ d left. g.met.D.Disk.only_now c.args.disk.now d (c.write_retrieval_blocks-written.ensures.same.was_honest (c.commit_puts.ensures.same.was_honest h)) left)
 
 pub returns-in-Ok-clause-done : goal.returns-in-Ok-clause-done
 returns-in-Ok-clause-done g c h f rests p is body long has =
-    let s = g.D.Disk.state c.args.self.now.disk in
+    let s = g.D.Disk.state c.args.disk.now in
     let mid = g.D.Disk.state c.write_retrieval_blocks-written.new.disk in
     let s' = g.D.Disk.state c.commit_puts.new.disk in
-    let core = core_of c.args.self.now.map in
+    let core = core_of c.args.map.now in
     let new = core_of c.make_current-current.new.core in
     let puts = c.make_current-current.new.set in
     let v = c.in-Some.version.now in
@@ -182,10 +182,10 @@ returns-in-Ok-clause-done g c h f rests p is body long has =
 
 pub returns-in-Ok-clause-readers : goal.returns-in-Ok-clause-readers
 returns-in-Ok-clause-readers g c h served =
-    let s = g.D.Disk.state c.args.self.now.disk in
+    let s = g.D.Disk.state c.args.disk.now in
     let mid = g.D.Disk.state c.write_retrieval_blocks-written.new.disk in
     let s' = g.D.Disk.state c.commit_puts.new.disk in
-    let core = core_of c.args.self.now.map in
+    let core = core_of c.args.map.now in
     let new = core_of c.make_current-current.new.core in
     let puts = c.make_current-current.new.set in
     let v = c.in-Some.version.now in
@@ -195,10 +195,10 @@ returns-in-Ok-clause-readers g c h served =
 
 pub returns-in-Ok-clause-writers : goal.returns-in-Ok-clause-writers
 returns-in-Ok-clause-writers g c h served k q other =
-    let s = g.D.Disk.state c.args.self.now.disk in
+    let s = g.D.Disk.state c.args.disk.now in
     let mid = g.D.Disk.state c.write_retrieval_blocks-written.new.disk in
     let s' = g.D.Disk.state c.commit_puts.new.disk in
-    let core = core_of c.args.self.now.map in
+    let core = core_of c.args.map.now in
     let new = core_of c.make_current-current.new.core in
     let puts = c.make_current-current.new.set in
     let v = c.in-Some.version.now in
@@ -214,10 +214,10 @@ returns-in-Err-clause-writers g c h served = absurd (served refl)
 
 pub returns-in-Err-clause-sound : goal.returns-in-Err-clause-sound
 returns-in-Err-clause-sound g c =
-    let s = g.D.Disk.state c.args.self.now.disk in
+    let s = g.D.Disk.state c.args.disk.now in
     let mid = g.D.Disk.state c.write_retrieval_blocks-written.new.disk in
     let s' = g.D.Disk.state c.commit_puts.new.disk in
-    let core = core_of c.args.self.now.map in
+    let core = core_of c.args.map.now in
     let new = core_of c.make_current-current.new.core in
     let puts = c.make_current-current.new.set in
     let v = c.in-Some.version.now in

@@ -1,8 +1,0 @@
-use Rattle.std.proofs.Common.{subst, ◌∙◌}
-use Rattle.volume.proofs.CountedReaders.{HaveFew, few_of_entries}
-use Rattle.trials.proofs.publish_tests.expect_few_readers.Goals as goal
-
-pub loop-version-init : goal.loop-version-init
-loop-version-init g c =
-    let all = c.into_iter-version-iterator.ensures.into_iter_gives ∙ c.iter-version-items.ensures.rest in
-    (tt, tt, λ few. few_of_entries 0 c.args.versions.now.slots (subst HaveFew all few))

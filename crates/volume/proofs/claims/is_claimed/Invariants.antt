@@ -1,0 +1,12 @@
+use Rattle.std.proofs.Common.{◌≡◌}
+use Rattle.meaning.specs.Stands.{place_of}
+use Rattle.volume.specs.Claims.{claims}
+use Rattle.volume.proofs.Claiming.{claimed_among}
+use Rattle.volume.proofs.claims.is_claimed.Given as goal
+
+-- what is left has a version of the place where there is one at all
+abbrev pub invariant-loop-version : goal.invariant-loop-version
+invariant-loop-version l =
+    (goal.iterator-loop-version).can_next l.version-iterator ×
+    (goal.iterator-loop-version).is_finite l.version-iterator ×
+    (claimed_among (place_of l.ppn l.file) l.version-iterator ≡ claims l.pending.slots (place_of l.ppn l.file))

@@ -1,0 +1,14 @@
+-- A place is claimed where a version is being written for it.
+use Rattle.std.specs.Prelude.{Bool, false, List, Option, None, Some}
+use Rattle.std.specs.List.{list_any}
+use Rattle.meaning.specs.Files.{Place}
+use Rattle.meaning.specs.Published.{same_place}
+use Rattle.meaning.specs.Stands.{place_of}
+use Rattle.volume.specs.declared.pending.PendingVersion.{PendingVersion}
+
+abbrev pub claims_at : Place → Option PendingVersion → Bool
+claims_at place None = false
+claims_at place (Some p) = same_place (place_of p.prime.ppn p.prime.file) place
+
+abbrev pub claims : List (Option PendingVersion) → Place → Bool
+claims pending place = list_any (claims_at place) pending

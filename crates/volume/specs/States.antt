@@ -1,0 +1,9 @@
+-- A volume as a value: its disk, what it knows of it, and whether it has failed.
+use Rattle.std.specs.Prelude.{Bool}
+use Rattle.volume.specs.Live.{VolumeCore}
+
+pub record VolumeState (D : Type 0) : Type 0 where
+  pub disk : D
+  pub core : VolumeCore
+  -- a call met a fault of the disk: then nothing is known of the disk any more
+  pub failed : Bool

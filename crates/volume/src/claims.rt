@@ -1,0 +1,66 @@
+ghost use Rattle.std.specs.Prelude.{◌≡◌, ◌↔◌, ◌==◌, ◌&&◌, Some, IsSome, IsTrue};
+ghost use Rattle.meaning.specs.Stands.{place_of};
+ghost use Rattle.volume.specs.Claims.{claims_at, claims};
+ghost use Rattle.volume.specs.Live.{pending_at};
+ghost use Rattle.volume.specs.declared.pending.PendingVersion.{PendingVersion};
+
+use crate::handles::Pending;
+use crate::map::Volume;
+use crate::pending::PendingVersion;
+use blockdisk::Disk;
+use slab::Slab;
+use words36::{FileName, Ppn};
+
+/// Whether a version is being written for this place.
+fn is_of(version: &PendingVersion, ppn: Ppn, file: &FileName) -> bool
+    ensures { result ≡ claims_at (place_of ppn file.now) (Some version.now) }
+{
+    let prime = &version.prime;
+    prime.ppn == ppn && prime.file.name == file.name && prime.file.ext == file.ext
+}
+
+/// Whether one of these versions is being written for a place.
+fn is_claimed(pending: &Slab<PendingVersion>, ppn: Ppn, file: &FileName) -> bool
+    ensures { result ≡ claims pending.now.slots (place_of ppn file.now) }
+{
+    for (_, version) in pending.iter() {
+        if is_of(version, ppn, file) {
+            return true;
+        }
+    }
+    false
+}
+
+/// Whether the version under a key is being written as a new file.
+fn is_new(pending: &Slab<PendingVersion>, key: usize) -> bool
+    ensures { (p : PendingVersion) → pending_at pending.now.slots key ≡ Some p → result ≡ p.is_new }
+{
+    match pending.get(key) {
+        Some(version) => version.is_new,
+        None => false,
+    }
+}
+
+impl<D: Disk> Volume<D> {
+    /// Whether a version is being written for a place, also where the volume has failed.
+    pub fn is_claimed(&self, ppn: Ppn, file: &FileName) -> bool
+        ensures { result ≡ claims self.now.core.pending (place_of ppn file.now) }
+    {
+        is_claimed(&self.map.pending, ppn, file)
+    }
+
+    /// Whether a version is being written that the caller knows by this.
+    pub fn is_pending(&self, pending: Pending) -> bool
+        ensures { IsTrue result ↔ IsSome (pending_at self.now.core.pending pending.key) }
+    {
+        self.map.pending.contains(pending.key)
+    }
+
+    /// Whether a version that is being written had no entry of its name when it was begun; `false` where there
+    /// is no version that the caller knows by this.
+    pub fn is_new(&self, pending: Pending) -> bool
+        ensures { (p : PendingVersion) → pending_at self.now.core.pending pending.key ≡ Some p → result ≡ p.is_new }
+    {
+        is_new(&self.map.pending, pending.key)
+    }
+}
