@@ -1,24 +1,9 @@
--- Whether a place is claimed, looked up among the versions that are being written.
+-- A test of the members of a list is a sum over them.
 use Rattle.std.proofs.Common.{◌≡◌, ℕ, ◌+◌, Bool, true, false, nat_lt, List, [], ◌∷◌, Option, None, Some, refl, sym, ap, ◌∙◌, arith}
 use Rattle.std.proofs.lemmas.Bool.Decides.{nat_tests}
 use Rattle.std.specs.List.{list_any}
 use Rattle.std.specs.Prelude.{◌||◌, if◌then◌else◌}
-use Rattle.meaning.specs.Files.{Place}
 use Rattle.meaning.specs.Maps.{total}
-use Rattle.slab.specs.Slab.{entries_from}
-use Rattle.volume.specs.declared.pending.PendingVersion.{PendingVersion}
-use Rattle.monitor.specs.Finding.{claims_at, claims}
-
--- one of these entries is of the place
-abbrev pub claimed_among : Place → List (ℕ × PendingVersion) → Bool
-claimed_among place es = list_any (λ e. claims_at place (Some e.1)) es
-
-pub claimed_from : (place : Place) (k : ℕ) (slots : List (Option PendingVersion)) → claimed_among place (entries_from k slots) ≡ claims slots place
-claimed_from place k [] = refl
-claimed_from place k (None ∷ rest) = claimed_from place (k + 1) rest
-claimed_from place k (Some p ∷ rest) = ap (λ b. claims_at place (Some p) || b) (claimed_from place (k + 1) rest)
-
--- A test by a sum.
 
 abbrev pub one_if : Bool → ℕ
 one_if b = if b then 1 else 0

@@ -32,7 +32,8 @@ use Rattle.volume.specs.Rest.{IsSound}
 use Rattle.volume.specs.declared.error.CallError.{CallError}
 use Rattle.volume.specs.declared.error.CallError.TheVariants as errors
 use Rattle.volume.proofs.Answering.{Holds, rest_holds, all_at_place}
-use Rattle.monitor.specs.Finding.{IsKnown, IsAnswer, claims, found_file, found_in, begun_as, allowed, begin_answer_at}
+use Rattle.volume.specs.Claims.{claims}
+use Rattle.monitor.specs.Finding.{IsKnown, IsAnswer, found_file, found_in, begun_as, allowed, begin_answer_at}
 use Rattle.monitor.specs.Serving.{pack_of}
 use Rattle.monitor.specs.Sides.{UnderKeys, job_of}
 use Rattle.monitor.specs.declared.found.Found.{Found}

@@ -8,7 +8,8 @@ use Rattle.meaning.specs.Room.{outputs, is_claimed}
 use Rattle.volume.specs.Live.{VolumeCore}
 use Rattle.volume.specs.Rest.{IsSound}
 use Rattle.volume.proofs.Answering as volume
-use Rattle.monitor.specs.Finding.{claims_at, claims, IsKnown}
+use Rattle.volume.specs.Claims.{claims_at, claims}
+use Rattle.monitor.specs.Finding.{IsKnown}
 use Rattle.monitor.specs.Serving.{IsState}
 use Rattle.monitor.specs.declared.job.Job.{Job}
 use Rattle.monitor.proofs.Claiming.{one_if, same_any}

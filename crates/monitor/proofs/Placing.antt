@@ -10,7 +10,8 @@ use Rattle.meaning.specs.Rights.{may_look, may_create, may_supersede, directory_
 use Rattle.meaning.specs.Stands.{place_of}
 use Rattle.retrieval.specs.Versions.{VersionState}
 use Rattle.retrieval.specs.declared.prime.Prime.{Prime}
-use Rattle.monitor.specs.Finding.{claims_at, claims, begun_as, allowed}
+use Rattle.volume.specs.Claims.{claims_at, claims}
+use Rattle.monitor.specs.Finding.{begun_as, allowed}
 use Rattle.monitor.specs.declared.found.Found.{Found}
 use Rattle.monitor.specs.declared.found.Found.TheVariants as found
 use Rattle.monitor.specs.declared.output.Kind.{Kind}

@@ -12,7 +12,6 @@ use Rattle.meaning.specs.declared.call.Reply.TheVariants.{Done, NoJob, NoMemory,
 use Rattle.meaning.proofs.MapLaws.{some_same}
 use Rattle.meaning.proofs.SlotLaws.{none_some, slot-set_other}
 use Rattle.volume.specs.Live.{VolumeCore}
-use Rattle.volume.specs.Rest.{IsSound}
 use Rattle.volume.specs.declared.live.LiveVersion.{LiveVersion}
 use Rattle.volume.specs.declared.pending.PendingVersion.{PendingVersion}
 use Rattle.monitor.specs.Calls.{IsServed, IsLight, KeepsCore}
@@ -44,7 +43,7 @@ publishes_here job number bits c o here quiet =
 module _ {D : Type 0} (state : D → DiskState) (only_now : (disk : D) (contents : Contents) → (state disk).honest → (state disk).left_since (state disk).clock contents → MayLeave (state disk) contents) where
   -- A call that asks the disk for nothing, by what it says of core, of the job and of its answer.
   module _ (disk disk' : D) (core core' : VolumeCore) (failed failed' : Bool) (job job' : Job) (call : Call) (moment : Moment) (reply : Reply)
-      (alive : failed ≡ false) (untouched : (disk' ≡ disk) × (failed' ≡ failed)) (only : (reply ≡ Failed → ⊥) × (reply ≡ Device → ⊥)) (sound : IsSound (state disk') core' failed')
+      (alive : failed ≡ false) (untouched : (disk' ≡ disk) × (failed' ≡ failed)) (only : (reply ≡ Failed → ⊥) × (reply ≡ Device → ⊥))
       (placed : ArePlaced core') (room : IsLight call (Some job) → reply ≡ NoMemory → ⊥) (kept : KeepsCore call → core' ≡ core) (memory : reply ≡ NoMemory → (core' ≡ core) × (job' ≡ job))
       (refused : (code : ℕ) → reply ≡ Refused code → job' ≡ refused_with call job code) (unserved : IsUnserved call job → (core' ≡ core) × UnservedRow call job job' reply)
       (jobs : List (Option Job)) (n : ℕ) (among : IsAmong core jobs n job) where
@@ -55,7 +54,6 @@ module _ {D : Type 0} (state : D → DiskState) (only_now : (disk : D) (contents
         → ((state disk').honest → IsServed call (Some job) → (old : Service) → Serves (state disk) core false jobs old → (new : Service) × Serves (state disk) core' false jobs' new × Answers (pack_of (state disk)) old (Calls n call moment) reply new)
         → IsServing state disk disk' core core' failed' jobs jobs' n call moment reply
     quiet_serves keyed reading answered = record {
-      sound = sound;
       keyed = λ serves. keyed;
       placed = λ serves. placed;
       reading = λ serves. reading;
@@ -81,13 +79,13 @@ module _ {D : Type 0} (state : D → DiskState) (only_now : (disk : D) (contents
     }
 
   -- A call that has to do with its job alone.
-  pub alone_serves : (disk : D) (core : VolumeCore) (failed : Bool) (job job' : Job) (call : Call) (moment : Moment) (reply : Reply) → failed ≡ false → IsSound (state disk) core failed → ArePlaced core → moment.date ≤ 4095
+  pub alone_serves : (disk : D) (core : VolumeCore) (failed : Bool) (job job' : Job) (call : Call) (moment : Moment) (reply : Reply) → failed ≡ false → ArePlaced core → moment.date ≤ 4095
       → (IsServed call (Some job) → IsRow job job' call reply) → (IsUnserved call job → UnservedRow call job job' reply) → ((pending : List (Option PendingVersion)) → Keeps pending pending job job')
       → ((live : List (Option LiveVersion)) → KeepsReading live live job job') → (reply ≡ Failed → ⊥) × (reply ≡ Device → ⊥) × (reply ≡ NoMemory → ⊥)
       → ((code : ℕ) → reply ≡ Refused code → job' ≡ refused_with call job code) → ServesJob state disk disk core core failed job job' call moment reply
-  alone_serves disk core failed job job' call moment reply alive sound placed timely row unserved keeps reads only refused jobs n among =
+  alone_serves disk core failed job job' call moment reply alive placed timely row unserved keeps reads only refused jobs n among =
       let set = slice_set jobs n (Some job') in
-      quiet_serves disk disk core core failed failed job job' call moment reply alive (refl, refl) (only.0, only.1) sound placed (λ light. only.2) (λ kept. refl) (λ none. absurd (only.2 none)) refused
+      quiet_serves disk disk core core failed failed job job' call moment reply alive (refl, refl) (only.0, only.1) placed (λ light. only.2) (λ kept. refl) (λ none. absurd (only.2 none)) refused
       (λ is. (refl, unserved is)) jobs n among
       (alone_keyed (state disk) core false jobs n call moment refl timely set job job' among.keyed among.there refl (keeps core.pending))
       (alone_reading (state disk) core false jobs n call moment refl timely set job job' among.reading among.there refl (reads core.live))
@@ -95,22 +93,21 @@ module _ {D : Type 0} (state : D → DiskState) (only_now : (disk : D) (contents
 
   -- A call by which versions are dropped or let go, and which asks for nothing else.
   pub dropping_serves : (disk disk' : D) (core core' : VolumeCore) (failed failed' : Bool) (job job' : Job) (call : Call) (moment : Moment) (reply : Reply) → failed ≡ false → (disk' ≡ disk) × (failed' ≡ failed)
-      → IsSound (state disk') core' failed' → ArePlaced core → moment.date ≤ 4095 → IsRow job job' call reply → Keeps core.pending core'.pending job job' → KeepsReading core.live core'.live job job'
+      → ArePlaced core → moment.date ≤ 4095 → IsRow job job' call reply → Keeps core.pending core'.pending job job' → KeepsReading core.live core'.live job job'
       → Leaves core core' → (reply ≡ Failed → ⊥) × (reply ≡ Device → ⊥) × (reply ≡ NoMemory → ⊥) → ((code : ℕ) → reply ≡ Refused code → ⊥) → (KeepsCore call → ⊥) → (IsUnserved call job → ⊥)
       → ServesJob state disk disk' core core' failed' job job' call moment reply
-  dropping_serves disk disk' core core' failed failed' job job' call moment reply alive untouched sound placed timely row keeps reads leaves only refused changes served jobs n among =
+  dropping_serves disk disk' core core' failed failed' job job' call moment reply alive untouched placed timely row keeps reads leaves only refused changes served jobs n among =
       let set = slice_set jobs n (Some job') in
-      quiet_serves disk disk' core core' failed failed' job job' call moment reply alive untouched (only.0, only.1) sound (placed_left core core' leaves placed) (λ light. only.2) (λ kept. absurd (changes kept))
+      quiet_serves disk disk' core core' failed failed' job job' call moment reply alive untouched (only.0, only.1) (placed_left core core' leaves placed) (λ light. only.2) (λ kept. absurd (changes kept))
       (λ none. absurd (only.2 none)) (λ code is. absurd (refused code is)) (λ is. absurd (served is)) jobs n among
       (dropping_keyed (state disk) core core' false jobs set n job job' call moment refl timely among.there refl keeps reads among.keyed)
       (dropping_reading (state disk) core core' false jobs set n job job' call moment refl timely among.there refl keeps reads among.reading)
       (λ honest served old serves. dropping_answered (state disk) core core' false jobs set n job job' call moment refl timely among.there refl keeps reads reply among.keyed among.reading leaves row old serves)
 
   -- Nobody is logged in by that number.
-  pub nobody_serves : (disk : D) (core : VolumeCore) (failed : Bool) (jobs jobs' : List (Option Job)) (n : ℕ) (call : Call) (moment : Moment) → failed ≡ false → moment.date ≤ 4095 → IsSound (state disk) core failed
+  pub nobody_serves : (disk : D) (core : VolumeCore) (failed : Bool) (jobs jobs' : List (Option Job)) (n : ℕ) (call : Call) (moment : Moment) → failed ≡ false → moment.date ≤ 4095
       → AreKeyed core.pending jobs → ArePlaced core → AreReading core.live jobs → slot jobs n ≡ None → jobs' ≡ jobs → IsServing state disk disk core core failed jobs jobs' n call moment NoJob
-  nobody_serves disk core failed jobs jobs' n call moment alive timely sound keyed placed reading none same = record {
-    sound = sound;
+  nobody_serves disk core failed jobs jobs' n call moment alive timely keyed placed reading none same = record {
     keyed = λ serves. subst (AreKeyed core.pending) (sym same) keyed;
     placed = λ serves. placed;
     reading = λ serves. subst (AreReading core.live) (sym same) reading;
@@ -139,18 +136,17 @@ module _ {D : Type 0} (state : D → DiskState) (only_now : (disk : D) (contents
 
   -- A call that publishes what an output side has written.
   pub publishing_serves : (disk disk' : D) (core core' : VolumeCore) (failed failed' : Bool) (key : ℕ) (job job' : Job) (call : Call) (moment : Moment) (reply : Reply) → failed ≡ false → ArePlaced core → moment.date ≤ 4095
-      → IsSound (state disk') core' failed' → MayPublish (state disk) (state disk') core core' key → IsPublishing (state disk) (state disk') core core' failed failed' key reply
+      → MayPublish (state disk) (state disk') core core' key → IsPublishing (state disk) (state disk') core core' failed failed' key reply
       → (reply ≡ NoMemory → (disk' ≡ disk) × (core' ≡ core)) → ((reply ≡ Done → ⊥) → job' ≡ job) → StillStands core core' failed' job job'
       → IsPublishRow (state disk) (state disk') core core' failed' job job' call reply → CrashesAsRow (state disk) (state disk') core job call
       → (IsLight call (Some job) → ⊥) → (KeepsCore call → ⊥) → (IsUnserved call job → ⊥) → ServesJob state disk disk' core core' failed' job job' call moment reply
-  publishing_serves disk disk' core core' failed failed' key job job' call moment reply alive placed timely sound may is memory kept stands row crash heavy changes served jobs n among =
+  publishing_serves disk disk' core core' failed failed' key job job' call moment reply alive placed timely may is memory kept stands row crash heavy changes served jobs n among =
       let d = state disk in
       let d' = state disk' in
       let set = slice_set jobs n (Some job') in
       let still = λ (works : failed' ≡ false). stands jobs n among.there among.keyed placed among.reading works in
       let fails = publishing_failed d d' core core' failed failed' key reply is in
       record {
-        sound = sound;
         keyed = λ works. (still works).0;
         placed = λ works. (still works).1;
         reading = λ works. (still works).2;

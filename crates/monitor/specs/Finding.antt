@@ -24,6 +24,7 @@ use Rattle.meaning.specs.declared.call.Reply.TheVariants as replies
 use Rattle.retrieval.specs.Modes.{mode_number}
 use Rattle.retrieval.specs.declared.mode.Mode.TheVariants.{Dump}
 use Rattle.retrieval.specs.declared.prime.Prime.{Prime}
+use Rattle.volume.specs.Claims.{claims}
 use Rattle.volume.specs.Live.{VolumeCore, creates}
 use Rattle.volume.specs.Rest.{RestsAt}
 use Rattle.volume.specs.declared.error.CallError.{CallError}
@@ -36,15 +37,6 @@ use Rattle.monitor.specs.declared.output.Kind.{Kind}
 use Rattle.monitor.specs.declared.output.Kind.TheVariants.{Create, Supersede}
 use Rattle.monitor.specs.declared.job.Job.{Job}
 use Rattle.monitor.specs.declared.output.Output.{Output}
-
--- a place is claimed where a version is being written for it
-
-abbrev pub claims_at : Place → Option PendingVersion → Bool
-claims_at place None = false
-claims_at place (Some p) = same_place (place_of p.prime.ppn p.prime.file) place
-
-abbrev pub claims : List (Option PendingVersion) → Place → Bool
-claims pending place = list_any (claims_at place) pending
 
 -- What a volume knows of a state: its files, and what is booked, being created and claimed.
 pub record IsKnown (d : DiskState) (map : VolumeCore) (s : State) : Type 0 where

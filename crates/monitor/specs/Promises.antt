@@ -35,8 +35,7 @@ pub record IsReady (d : DiskState) (core : VolumeCore) (failed : Bool) (job : Jo
 -- What a call by the job of number n promises of the volume, whose disk, core and failing are these before it and after
 -- it, and of the jobs.
 pub record IsServing {D : Type 0} (state : D → DiskState) (disk disk' : D) (core core' : VolumeCore) (failed' : Bool) (jobs jobs' : List (Option Job)) (n : ℕ) (call : Call) (moment : Moment) (reply : Reply) : Type 0 where
-  -- Core is whole, and where the volume hasn't failed it knows what the jobs write and read.
-  pub sound : IsSound (state disk') core' failed'
+  -- Where the volume hasn't failed it knows what the jobs write and read.
   pub keyed : failed' ≡ false → AreKeyed core'.pending jobs'
   pub placed : failed' ≡ false → ArePlaced core'
   pub reading : failed' ≡ false → AreReading core'.live jobs'

@@ -7,8 +7,6 @@ ghost use Rattle.meaning.specs.Runs.{Service, Serving, Answers};
 ghost use Rattle.meaning.specs.declared.call.Call.TheVariants.{In};
 ghost use Rattle.meaning.specs.declared.call.Event.TheVariants.{Call as Calls};
 ghost use Rattle.meaning.specs.declared.call.Reply.TheVariants.{NoMemory, Failed, Device, DateRange, Refused};
-ghost use Rattle.volume.specs.LiveCores.{core_of};
-ghost use Rattle.volume.specs.Rest.{IsSound};
 ghost use Rattle.monitor.specs.Calls.{IsServed, IsLight, KeepsCore};
 ghost use Rattle.monitor.specs.Events.{IsIdle};
 ghost use Rattle.monitor.specs.Moments.{read_of};
@@ -17,6 +15,7 @@ ghost use Rattle.monitor.specs.Refusals.{IsRefused};
 ghost use Rattle.monitor.specs.Serving.{pack_of, Serves, AreKeyed, ArePlaced, AreReading};
 ghost use Rattle.monitor.specs.Unserved.{IsUnserved, UnservedRow};
 ghost use Rattle.monitor.specs.declared.job.Job.{Job as JobRecord};
+ghost use Rattle.volume.specs.Rest.{IsSound};
 
 use crate::close::serve_close;
 use crate::deletedir::delete_dir;
@@ -53,9 +52,9 @@ fn answer<D: Disk>(
     call: &Call,
     moment: Moment,
 ) -> Reply
-    requires ready { IsReady (D.state volume.old.disk) (core_of volume.old.map) volume.old.failed job.old }
+    requires ready { IsReady (D.state volume.old.disk) volume.old.core volume.old.failed job.old }
     requires timely { moment.date ≤ 4095 }
-    ensures serving { ServesJob D.state volume.old.disk volume.new.disk (core_of volume.old.map) (core_of volume.new.map) volume.new.failed job.old job.new call.now moment result }
+    ensures serving { ServesJob D.state volume.old.disk volume.new.disk volume.old.core volume.new.core volume.new.failed job.old job.new call.now moment result }
 {
     match *call {
         Call::Open(channel, address) => open(job, channel, address),
@@ -86,13 +85,13 @@ fn serve<D: Disk>(
     call: &Call,
     moment: Moment,
 ) -> Reply
-    requires sound { IsSound (D.state volume.old.disk) (core_of volume.old.map) volume.old.failed }
-    requires keyed { AreKeyed (core_of volume.old.map).pending jobs.old }
-    requires placed { ArePlaced (core_of volume.old.map) }
-    requires reading { AreReading (core_of volume.old.map).live jobs.old }
+    requires sound { IsSound (D.state volume.old.disk) volume.old.core volume.old.failed }
+    requires keyed { AreKeyed volume.old.core.pending jobs.old }
+    requires placed { ArePlaced volume.old.core }
+    requires reading { AreReading volume.old.core.live jobs.old }
     requires alive { volume.old.failed ≡ false }
     requires timely { moment.date ≤ 4095 }
-    ensures serving { IsServing D.state volume.old.disk volume.new.disk (core_of volume.old.map) (core_of volume.new.map) volume.new.failed jobs.old jobs.new number call.now moment result }
+    ensures serving { IsServing D.state volume.old.disk volume.new.disk volume.old.core volume.new.core volume.new.failed jobs.old jobs.new number call.now moment result }
 {
     let Some(mut job) = jobs.take(number) else {
         return Reply::NoJob;
@@ -150,7 +149,7 @@ impl<D: Disk> Monitor<D> {
         ensures unserved { self.old.failed ≡ false → moment.date ≤ 4095 → (there : JobRecord) → slot self.old.jobs job ≡ Some there → IsUnserved call.now there
             → (self.new.map ≡ self.old.map) × (after : JobRecord) × UnservedRow call.now there after result × (self.new.jobs ≡ slice_set self.old.jobs job (Some after)) }
     {
-        if self.volume.failed {
+        if self.volume.has_failed() {
             return Reply::Failed;
         }
         if moment.date > LAST_DATE {

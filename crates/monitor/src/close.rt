@@ -4,8 +4,6 @@ ghost use Rattle.meaning.specs.Maps.{times};
 ghost use Rattle.meaning.specs.declared.call.Call.TheVariants.{Close};
 ghost use Rattle.meaning.specs.declared.call.Reply.TheVariants.{NoMemory, Device, Failed, Refused, Done};
 ghost use Rattle.volume.specs.Live.{pending_at, slot as version_at};
-ghost use Rattle.volume.specs.LiveCores.{core_of};
-ghost use Rattle.volume.specs.Rest.{IsSound};
 ghost use Rattle.monitor.specs.Dropping.{Leaves};
 ghost use Rattle.monitor.specs.Readers.{readers_of};
 ghost use Rattle.monitor.specs.Rows.{IsRow, Keeps, KeepsReading, publishes_at, ClosesSide};
@@ -16,6 +14,7 @@ ghost use Rattle.volume.specs.Publishing.{IsPlaced};
 ghost use Rattle.volume.specs.declared.pending.PendingVersion.{PendingVersion};
 ghost use Rattle.monitor.specs.Publishing.{MayPublish, IsPublishing, IsPublishRow, CrashesAsRow, StillStands};
 ghost use Rattle.monitor.specs.Promises.{IsReady, ServesAlways};
+ghost use Rattle.volume.specs.Rest.{IsSound};
 
 use crate::channel::Channel;
 use crate::dropping::{drop_output, release_input};
@@ -37,8 +36,8 @@ pub fn serve_close<D: Disk>(
     channel: u32,
     bits: u32,
 ) -> Reply
-    requires ready { IsReady (D.state volume.old.disk) (core_of volume.old.map) volume.old.failed job.old }
-    ensures serving { ServesAlways D.state volume.old.disk volume.new.disk (core_of volume.old.map) (core_of volume.new.map) volume.new.failed job.old job.new (Close channel bits) result }
+    requires ready { IsReady (D.state volume.old.disk) volume.old.core volume.old.failed job.old }
+    ensures serving { ServesAlways D.state volume.old.disk volume.new.disk volume.old.core volume.new.core volume.new.failed job.old job.new (Close channel bits) result }
 {
     match closed_side(job, channel, bits) {
         Some((open, output)) => close_output(alloc, volume, job, channel, open, output),
@@ -72,16 +71,14 @@ fn parted<T>(side: Option<T>, keeps: bool) -> (Option<T>, Option<T>)
 /// CLOSE, where it publishes nothing: without bit 1 the output side closes, and what it has written, if
 /// anything, is dropped; without bit 2 the input side closes, and what it reads is let go.
 fn close<D: Disk>(volume: &mut Volume<D>, job: &mut Job, number: u32, bits: u32) -> Reply
-    requires sound { IsSound (D.state volume.old.disk) (core_of volume.old.map) volume.old.failed }
-    requires live { (key : ℕ) → times key (keys_of (sides_in (Some job.old))) ≤ present (pending_at (core_of volume.old.map).pending key) }
-    requires held { (key : ℕ) → times key (pins_of (readers_in (Some job.old))) ≤ readers_of (version_at (core_of volume.old.map).live key) }
+    requires live { (key : ℕ) → times key (keys_of (sides_in (Some job.old))) ≤ present (pending_at volume.old.core.pending key) }
+    requires held { (key : ℕ) → times key (pins_of (readers_in (Some job.old))) ≤ readers_of (version_at volume.old.core.live key) }
     requires unpublished { publishes_at (slot job.old.channels number) bits ≡ false }
-    ensures sound { IsSound (D.state volume.new.disk) (core_of volume.new.map) volume.new.failed }
     ensures untouched { (volume.new.disk ≡ volume.old.disk) × (volume.new.failed ≡ volume.old.failed) }
     ensures row { IsRow job.old job.new (Close number bits) result }
-    ensures keeps { Keeps (core_of volume.old.map).pending (core_of volume.new.map).pending job.old job.new }
-    ensures reads { KeepsReading (core_of volume.old.map).live (core_of volume.new.map).live job.old job.new }
-    ensures leaves { Leaves (core_of volume.old.map) (core_of volume.new.map) }
+    ensures keeps { Keeps volume.old.core.pending volume.new.core.pending job.old job.new }
+    ensures reads { KeepsReading volume.old.core.live volume.new.core.live job.old job.new }
+    ensures leaves { Leaves volume.old.core volume.new.core }
     ensures only { (result ≡ Failed → ⊥) × (result ≡ Device → ⊥) × (result ≡ NoMemory → ⊥) }
     ensures refused { (code : ℕ) → result ≡ Refused code → ⊥ }
 {
@@ -112,28 +109,27 @@ fn close_output<D: Disk>(
     channel: Channel,
     output: Output,
 ) -> Reply
+    requires sound { IsSound (D.state volume.old.disk) volume.old.core volume.old.failed }
     // The channel has this side alone, of a version that may be published.
-    requires sound { IsSound (D.state volume.old.disk) (core_of volume.old.map) volume.old.failed }
     requires there { slot job.old.channels number ≡ Some channel }
     requires side { channel.output ≡ Some output }
     requires single { channel.input ≡ None }
-    requires live { IsSome (pending_at (core_of volume.old.map).pending output.pending.key) }
+    requires live { IsSome (pending_at volume.old.core.pending output.pending.key) }
     requires starts { 0 < output.next }
-    requires placed { (p : PendingVersion) → pending_at (core_of volume.old.map).pending output.pending.key ≡ Some p → IsPlaced (core_of volume.old.map) p }
+    requires placed { (p : PendingVersion) → pending_at volume.old.core.pending output.pending.key ≡ Some p → IsPlaced volume.old.core p }
     // The volume, whatever is answered.
-    ensures sound { IsSound (D.state volume.new.disk) (core_of volume.new.map) volume.new.failed }
-    ensures whatever { MayPublish (D.state volume.old.disk) (D.state volume.new.disk) (core_of volume.old.map) (core_of volume.new.map) output.pending.key }
-    ensures answered { IsPublishing (D.state volume.old.disk) (D.state volume.new.disk) (core_of volume.old.map) (core_of volume.new.map) volume.old.failed volume.new.failed output.pending.key result }
-    ensures memory { result ≡ NoMemory → (volume.new.disk ≡ volume.old.disk) × (core_of volume.new.map ≡ core_of volume.old.map) }
+    ensures whatever { MayPublish (D.state volume.old.disk) (D.state volume.new.disk) volume.old.core volume.new.core output.pending.key }
+    ensures answered { IsPublishing (D.state volume.old.disk) (D.state volume.new.disk) volume.old.core volume.new.core volume.old.failed volume.new.failed output.pending.key result }
+    ensures memory { result ≡ NoMemory → (volume.new.disk ≡ volume.old.disk) × (volume.new.core ≡ volume.old.core) }
     // The job: the side closes where it is done.
     ensures closed { result ≡ Done → job.new ≡ record job.old { channels = slice_set job.old.channels number (Some (record channel { status = cleared channel.status; output = None })) } }
     ensures kept { (result ≡ Done → ⊥) → job.new ≡ job.old }
-    ensures keeps { result ≡ Done → Keeps (core_of volume.old.map).pending (core_of volume.new.map).pending job.old job.new }
-    ensures stands { StillStands (core_of volume.old.map) (core_of volume.new.map) volume.new.failed job.old job.new }
+    ensures keeps { result ≡ Done → Keeps volume.old.core.pending volume.new.core.pending job.old job.new }
+    ensures stands { StillStands volume.old.core volume.new.core volume.new.failed job.old job.new }
     // The machine's row, for whichever bits publish.
     ensures row { volume.old.failed ≡ false → (bits : ℕ) → keeps_output bits ≡ false → discards bits ≡ false
-        → IsPublishRow (D.state volume.old.disk) (D.state volume.new.disk) (core_of volume.old.map) (core_of volume.new.map) volume.new.failed job.old job.new (Close number bits) result }
-    ensures crash { (bits : ℕ) → keeps_output bits ≡ false → discards bits ≡ false → CrashesAsRow (D.state volume.old.disk) (D.state volume.new.disk) (core_of volume.old.map) job.old (Close number bits) }
+        → IsPublishRow (D.state volume.old.disk) (D.state volume.new.disk) volume.old.core volume.new.core volume.new.failed job.old job.new (Close number bits) result }
+    ensures crash { (bits : ℕ) → keeps_output bits ≡ false → discards bits ≡ false → CrashesAsRow (D.state volume.old.disk) (D.state volume.new.disk) volume.old.core job.old (Close number bits) }
 {
     let reply = publish_output(alloc, volume, output);
     if reply == Reply::Done {

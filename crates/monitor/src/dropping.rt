@@ -2,8 +2,6 @@ ghost use Rattle.std.specs.Prelude.{◌≡◌, ◌≤◌, ℕ, [], filter_map, o
 ghost use Rattle.meaning.specs.Jobs.{slot};
 ghost use Rattle.meaning.specs.Maps.{times};
 ghost use Rattle.volume.specs.Live.{pending_at, slot as version_at};
-ghost use Rattle.volume.specs.LiveCores.{core_of};
-ghost use Rattle.volume.specs.Rest.{IsSound};
 ghost use Rattle.monitor.specs.Dropping.{Closes};
 ghost use Rattle.monitor.specs.Readers.{readers_of};
 ghost use Rattle.monitor.specs.Serving.{present, AreKeyed, AreReading};
@@ -38,10 +36,8 @@ fn reader_of(channel: &Option<Channel>) -> Option<Input>
 
 /// Drops what an output side has written.
 pub fn drop_output<D: Disk>(volume: &mut Volume<D>, output: Option<Output>)
-    requires sound { IsSound (D.state volume.old.disk) (core_of volume.old.map) volume.old.failed }
-    requires live { (key : ℕ) → times key (keys_of (option_to_list output)) ≤ present (pending_at (core_of volume.old.map).pending key) }
-    ensures sound { IsSound (D.state volume.new.disk) (core_of volume.new.map) volume.new.failed }
-    ensures closed { Closes (core_of volume.old.map) (core_of volume.new.map) (keys_of (option_to_list output)) [] }
+    requires live { (key : ℕ) → times key (keys_of (option_to_list output)) ≤ present (pending_at volume.old.core.pending key) }
+    ensures closed { Closes volume.old.core volume.new.core (keys_of (option_to_list output)) [] }
     ensures untouched { (volume.new.disk ≡ volume.old.disk) × (volume.new.failed ≡ volume.old.failed) }
 {
     if let Some(output) = output {
@@ -51,11 +47,9 @@ pub fn drop_output<D: Disk>(volume: &mut Volume<D>, output: Option<Output>)
 
 /// Lets the version go that an input side reads.
 pub fn release_input<D: Disk>(volume: &mut Volume<D>, input: Option<Input>)
-    requires sound { IsSound (D.state volume.old.disk) (core_of volume.old.map) volume.old.failed }
-    requires held { (key : ℕ) → times key (pins_of (option_to_list input)) ≤ readers_of (version_at (core_of volume.old.map).live key) }
-    ensures sound { IsSound (D.state volume.new.disk) (core_of volume.new.map) volume.new.failed }
-    ensures closed { Closes (core_of volume.old.map) (core_of volume.new.map) [] (pins_of (option_to_list input)) }
-    ensures pending { (core_of volume.new.map).pending ≡ (core_of volume.old.map).pending }
+    requires held { (key : ℕ) → times key (pins_of (option_to_list input)) ≤ readers_of (version_at volume.old.core.live key) }
+    ensures closed { Closes volume.old.core volume.new.core [] (pins_of (option_to_list input)) }
+    ensures pending { volume.new.core.pending ≡ volume.old.core.pending }
     ensures untouched { (volume.new.disk ≡ volume.old.disk) × (volume.new.failed ≡ volume.old.failed) }
 {
     if let Some(input) = input {
@@ -65,11 +59,9 @@ pub fn release_input<D: Disk>(volume: &mut Volume<D>, input: Option<Input>)
 
 /// Closes both sides of a channel: what it has written is dropped, and what it reads is let go.
 fn close_sides<D: Disk>(volume: &mut Volume<D>, channel: &Option<Channel>)
-    requires sound { IsSound (D.state volume.old.disk) (core_of volume.old.map) volume.old.failed }
-    requires live { (key : ℕ) → times key (keys_of (option_to_list (side_of channel.now))) ≤ present (pending_at (core_of volume.old.map).pending key) }
-    requires held { (key : ℕ) → times key (pins_of (option_to_list (reader_of channel.now))) ≤ readers_of (version_at (core_of volume.old.map).live key) }
-    ensures sound { IsSound (D.state volume.new.disk) (core_of volume.new.map) volume.new.failed }
-    ensures closed { Closes (core_of volume.old.map) (core_of volume.new.map) (keys_of (option_to_list (side_of channel.now))) (pins_of (option_to_list (reader_of channel.now))) }
+    requires live { (key : ℕ) → times key (keys_of (option_to_list (side_of channel.now))) ≤ present (pending_at volume.old.core.pending key) }
+    requires held { (key : ℕ) → times key (pins_of (option_to_list (reader_of channel.now))) ≤ readers_of (version_at volume.old.core.live key) }
+    ensures closed { Closes volume.old.core volume.new.core (keys_of (option_to_list (side_of channel.now))) (pins_of (option_to_list (reader_of channel.now))) }
     ensures untouched { (volume.new.disk ≡ volume.old.disk) × (volume.new.failed ≡ volume.old.failed) }
 {
     drop_output(volume, side_of(channel));
@@ -78,11 +70,9 @@ fn close_sides<D: Disk>(volume: &mut Volume<D>, channel: &Option<Channel>)
 
 /// Closes the sides of all channels.
 pub fn close_channels<D: Disk>(volume: &mut Volume<D>, channels: &[Option<Channel>])
-    requires sound { IsSound (D.state volume.old.disk) (core_of volume.old.map) volume.old.failed }
-    requires live { (key : ℕ) → times key (keys_of (filter_map side_of channels.now)) ≤ present (pending_at (core_of volume.old.map).pending key) }
-    requires held { (key : ℕ) → times key (pins_of (filter_map reader_of channels.now)) ≤ readers_of (version_at (core_of volume.old.map).live key) }
-    ensures sound { IsSound (D.state volume.new.disk) (core_of volume.new.map) volume.new.failed }
-    ensures closed { Closes (core_of volume.old.map) (core_of volume.new.map) (keys_of (filter_map side_of channels.now)) (pins_of (filter_map reader_of channels.now)) }
+    requires live { (key : ℕ) → times key (keys_of (filter_map side_of channels.now)) ≤ present (pending_at volume.old.core.pending key) }
+    requires held { (key : ℕ) → times key (pins_of (filter_map reader_of channels.now)) ≤ readers_of (version_at volume.old.core.live key) }
+    ensures closed { Closes volume.old.core volume.new.core (keys_of (filter_map side_of channels.now)) (pins_of (filter_map reader_of channels.now)) }
     ensures untouched { (volume.new.disk ≡ volume.old.disk) × (volume.new.failed ≡ volume.old.failed) }
 {
     for channel in channels {
@@ -92,11 +82,9 @@ pub fn close_channels<D: Disk>(volume: &mut Volume<D>, channels: &[Option<Channe
 
 /// Closes the sides of all channels of the job of a number, if there is one.
 pub fn close_job<D: Disk>(volume: &mut Volume<D>, jobs: &Jobs, number: u32)
-    requires sound { IsSound (D.state volume.old.disk) (core_of volume.old.map) volume.old.failed }
-    requires keyed { AreKeyed (core_of volume.old.map).pending jobs.now }
-    requires reading { AreReading (core_of volume.old.map).live jobs.now }
-    ensures sound { IsSound (D.state volume.new.disk) (core_of volume.new.map) volume.new.failed }
-    ensures closed { Closes (core_of volume.old.map) (core_of volume.new.map) (keys_of (sides_in (slot jobs.now number))) (pins_of (readers_in (slot jobs.now number))) }
+    requires keyed { AreKeyed volume.old.core.pending jobs.now }
+    requires reading { AreReading volume.old.core.live jobs.now }
+    ensures closed { Closes volume.old.core volume.new.core (keys_of (sides_in (slot jobs.now number))) (pins_of (readers_in (slot jobs.now number))) }
     ensures untouched { (volume.new.disk ≡ volume.old.disk) × (volume.new.failed ≡ volume.old.failed) }
 {
     if let Some(job) = jobs.job(number) {

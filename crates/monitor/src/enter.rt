@@ -14,10 +14,10 @@ ghost use Rattle.volume.specs.declared.error.CallError.TheVariants.{Failed as Vo
 ghost use Rattle.retrieval.specs.declared.mode.Mode.TheVariants.{Dump};
 ghost use Rattle.volume.specs.Beginning.{IsBegun};
 ghost use Rattle.volume.specs.Live.{pending_at};
-ghost use Rattle.volume.specs.LiveCores.{core_of};
 ghost use Rattle.volume.specs.Rest.{IsSound, RestsAt};
 ghost use Rattle.volume.specs.declared.pending.PendingVersion.{PendingVersion};
-ghost use Rattle.monitor.specs.Finding.{claims_at, claims, found_in, begun_as, allowed, protection_for, file_begun, IsKnown, IsAnswer, IsPrimeAt, begin_answer_at};
+ghost use Rattle.volume.specs.Claims.{claims};
+ghost use Rattle.monitor.specs.Finding.{found_in, begun_as, allowed, protection_for, file_begun, IsKnown, IsAnswer, IsPrimeAt, begin_answer_at};
 ghost use Rattle.monitor.specs.Entering.{IsEntering, IsEnterAnswer};
 ghost use Rattle.monitor.specs.Rows.{KeepsReading};
 ghost use Rattle.monitor.specs.Unserved.{IsReading, refusal_at, job_refused};
@@ -38,10 +38,9 @@ use blockdisk::Disk;
 use meaning::{Act, ErrorCode, Reply};
 use protect::{DirectoryAct, acts_are_nested, dir_right, right};
 use retrieval::{Mode, Prime};
-use slab::Slab;
 use std::alloc::Global;
 use usercore::Core;
-use volume::{CallError, Pending, PendingVersion as Version, Volume};
+use volume::{CallError, Pending, Volume};
 use words36::{FileName, Half, Moment, Ppn, Word};
 
 /// ENTER: opens an output side for the file that the four words at an address name, at a moment. Its row is `enter`.
@@ -53,16 +52,15 @@ pub fn serve_enter<D: Disk>(
     address: u32,
     moment: Moment,
 ) -> Reply
-    requires ready { IsReady (D.state volume.old.disk) (core_of volume.old.map) volume.old.failed job.old }
+    requires ready { IsReady (D.state volume.old.disk) volume.old.core volume.old.failed job.old }
     requires timely { moment.date ≤ 4095 }
-    ensures serving { ServesJob D.state volume.old.disk volume.new.disk (core_of volume.old.map) (core_of volume.new.map) volume.new.failed job.old job.new (Enter channel address) moment result }
+    ensures serving { ServesJob D.state volume.old.disk volume.new.disk volume.old.core volume.new.core volume.new.failed job.old job.new (Enter channel address) moment result }
 {
     enter(alloc, volume, job, channel, address, moment)
 }
 
 /// What stands at a place of a volume.
 fn find<D: Disk>(volume: &Volume<D>, ppn: Ppn, file: &FileName) -> Found
-    requires sound { IsSound (D.state volume.now.disk) (core_of volume.now.map) volume.now.failed }
     ensures { (D.state volume.now.disk).honest → volume.now.failed ≡ false → (files : Files File) → RestsAt (D.state volume.now.disk) files
         → result ≡ found_in (get files ppn) file.now }
 {
@@ -74,26 +72,6 @@ fn find<D: Disk>(volume: &Volume<D>, ppn: Ppn, file: &FileName) -> Found
         Ok(facts) => Found::Present(protection, facts.protection),
         Err(_) => Found::Absent(protection),
     }
-}
-
-/// Whether a version is being written for this place.
-fn is_of(version: &Version, ppn: Ppn, file: &FileName) -> bool
-    ensures { result ≡ claims_at (place_of ppn file.now) (Some version.now) }
-{
-    let prime = &version.prime;
-    prime.ppn == ppn && prime.file.name == file.name && prime.file.ext == file.ext
-}
-
-/// Whether a version is being written for a place.
-fn is_claimed(pending: &Slab<Version>, ppn: Ppn, file: &FileName) -> bool
-    ensures { result ≡ claims pending.now.slots (place_of ppn file.now) }
-{
-    for (_, version) in pending.iter() {
-        if is_of(version, ppn, file) {
-            return true;
-        }
-    }
-    false
 }
 
 /// Whether a job may take the place of a file, by the protections of its directory and its own.
@@ -191,11 +169,12 @@ pub fn name_at(core: &Core, address: u32) -> FileName
 
 /// How an output side began that writes a version.
 fn kind_of<D: Disk>(volume: &Volume<D>, pending: Pending) -> Kind
-    ensures { (p : PendingVersion) → pending_at (core_of volume.now.map).pending pending.key ≡ Some p → p.is_new ≡ is_create (kind_of result) }
+    ensures { (p : PendingVersion) → pending_at volume.now.core.pending pending.key ≡ Some p → p.is_new ≡ is_create (kind_of result) }
 {
-    match volume.map.pending.get(pending.key) {
-        Some(version) if version.is_new => Kind::Create,
-        _ => Kind::Supersede,
+    if volume.is_new(pending) {
+        Kind::Create
+    } else {
+        Kind::Supersede
     }
 }
 
@@ -248,15 +227,14 @@ fn may_begin<D: Disk>(
     owner: Ppn,
     file: &FileName,
 ) -> Result<Found, ErrorCode>
-    requires sound { IsSound (D.state volume.now.disk) (core_of volume.now.map) volume.now.failed }
-    ensures free { IfOk result (λ found. ((file.now.name == 0) ≡ false) × (claims (core_of volume.now.map).pending (place_of owner file.now) ≡ false)) }
+    ensures free { IfOk result (λ found. ((file.now.name == 0) ≡ false) × (claims volume.now.core.pending (place_of owner file.now) ≡ false)) }
     ensures found { (D.state volume.now.disk).honest → volume.now.failed ≡ false → (files : Files File) → RestsAt (D.state volume.now.disk) files
         → MatchResult result
-        (λ found. (found ≡ found_in (get files owner) file.now) × ((kind : Kind) × (allowed found who owner (file.now.name == 0) (claims (core_of volume.now.map).pending (place_of owner file.now)) ≡ Ok kind)))
-        (λ code. allowed (found_in (get files owner) file.now) who owner (file.now.name == 0) (claims (core_of volume.now.map).pending (place_of owner file.now)) ≡ Err code) }
+        (λ found. (found ≡ found_in (get files owner) file.now) × ((kind : Kind) × (allowed found who owner (file.now.name == 0) (claims volume.now.core.pending (place_of owner file.now)) ≡ Ok kind)))
+        (λ code. allowed (found_in (get files owner) file.now) who owner (file.now.name == 0) (claims volume.now.core.pending (place_of owner file.now)) ≡ Err code) }
 {
     let found = find(volume, owner, file);
-    let claimed = is_claimed(&volume.map.pending, owner, file);
+    let claimed = volume.is_claimed(owner, file);
     let is_zero = file.name.bits() == 0;
     match allow(found, who, owner, is_zero, claimed) {
         Ok(_kind) => Ok(found),
@@ -276,19 +254,18 @@ fn begin_at<D: Disk>(
     address: u32,
     moment: Moment,
 ) -> Result<(Pending, Prime), CallError>
-    requires sound { IsSound (D.state volume.old.disk) (core_of volume.old.map) volume.old.failed }
+    requires sound { IsSound (D.state volume.old.disk) volume.old.core volume.old.failed }
     requires there { address + 4 ≤ 0o400000 }
     requires timely { moment.date ≤ 4095 }
-    ensures sound { IsSound (D.state volume.new.disk) (core_of volume.new.map) volume.new.failed }
     ensures untouched { (volume.new.disk ≡ volume.old.disk) × (volume.new.failed ≡ volume.old.failed) }
-    ensures begun { IfOk result (λ begun. IsBegun (core_of volume.old.map) (core_of volume.new.map) begun.0.key begun.1) }
-    ensures free { IfOk result (λ begun. ((begun.1.file.name == 0) ≡ false) × (claims (core_of volume.old.map).pending (place_of begun.1.ppn begun.1.file) ≡ false)) }
-    ensures same { OnErr result (core_of volume.new.map ≡ core_of volume.old.map) }
+    ensures begun { IfOk result (λ begun. IsBegun volume.old.core volume.new.core begun.0.key begun.1) }
+    ensures free { IfOk result (λ begun. ((begun.1.file.name == 0) ≡ false) × (claims volume.old.core.pending (place_of begun.1.ppn begun.1.file) ≡ false)) }
+    ensures same { OnErr result (volume.new.core ≡ volume.old.core) }
     ensures only { (IsErrOf result VolumeFailed → IsTrue volume.old.failed) × (IsErrOf result VolumeDevice → ⊥) }
     ensures prime { IfOk result (λ begun. IsPrimeAt job.now address moment begun.1) }
     ensures protection { (D.state volume.new.disk).honest → volume.old.failed ≡ false → (files : Files File) → RestsAt (D.state volume.old.disk) files
         → IfOk result (λ begun. begun.1.protection ≡ protection_for (found_in (get files begun.1.ppn) begun.1.file) (protection_or (slice_index job.now.core (address + 2)) 0o057)) }
-    ensures answered { (D.state volume.new.disk).honest → volume.old.failed ≡ false → (s : State) → IsKnown (D.state volume.old.disk) (core_of volume.old.map) s
+    ensures answered { (D.state volume.new.disk).honest → volume.old.failed ≡ false → (s : State) → IsKnown (D.state volume.old.disk) volume.old.core s
         → (under : UnderKeys) → IsAnswer result (begin_answer_at (pack_of (D.state volume.old.disk)) s (job_of under job.now) (place_at (job_of under job.now) address)) }
 {
     let Some(ppn) = owner_at(job, address) else {
@@ -328,25 +305,24 @@ fn enter<D: Disk>(
     address: u32,
     moment: Moment,
 ) -> Reply
+    requires sound { IsSound (D.state volume.old.disk) volume.old.core volume.old.failed }
     // The volume serves.
-    requires sound { IsSound (D.state volume.old.disk) (core_of volume.old.map) volume.old.failed }
     requires timely { moment.date ≤ 4095 }
     requires alive { volume.old.failed ≡ false }
     // The disk is left alone.
-    ensures sound { IsSound (D.state volume.new.disk) (core_of volume.new.map) volume.new.failed }
     ensures untouched { (volume.new.disk ≡ volume.old.disk) × (volume.new.failed ≡ volume.old.failed) }
     ensures only { (result ≡ Failed → ⊥) × (result ≡ Device → ⊥) }
     // What it leaves, by its answer.
-    ensures begun { result ≡ Done → (channel : Channel) × (key : ℕ) × (prime : Prime) × IsEntering (core_of volume.old.map) (core_of volume.new.map) job.old job.new number address moment channel key prime
+    ensures begun { result ≡ Done → (channel : Channel) × (key : ℕ) × (prime : Prime) × IsEntering volume.old.core volume.new.core job.old job.new number address moment channel key prime
         × ((D.state volume.new.disk).honest → (files : Files File) → RestsAt (D.state volume.old.disk) files
         → prime.protection ≡ protection_for (found_in (get files prime.ppn) prime.file) (protection_or (slice_index job.old.core (address + 2)) 0o057)) }
-    ensures placed { ArePlaced (core_of volume.old.map) → ArePlaced (core_of volume.new.map) }
-    ensures kept { (result ≡ Done → ⊥) → (core_of volume.new.map ≡ core_of volume.old.map) × (job.new ≡ record job.old { core = job.new.core }) }
+    ensures placed { ArePlaced volume.old.core → ArePlaced volume.new.core }
+    ensures kept { (result ≡ Done → ⊥) → (volume.new.core ≡ volume.old.core) × (job.new ≡ record job.old { core = job.new.core }) }
     ensures memory { result ≡ NoMemory → job.new ≡ job.old }
-    ensures reads { KeepsReading (core_of volume.old.map).live (core_of volume.new.map).live job.old job.new }
+    ensures reads { KeepsReading volume.old.core.live volume.new.core.live job.old job.new }
     // On a channel that reads no file is updated yet.
     ensures unserved { IsReading (slot job.old.channels number) → (result ≡ refusal_at job.old address 4) × (job.new ≡ job_refused job.old address 4) }
-    ensures row { (D.state volume.new.disk).honest → reader_of (slot job.old.channels number) ≡ None → (s : State) → IsKnown (D.state volume.old.disk) (core_of volume.old.map) s
+    ensures row { (D.state volume.new.disk).honest → reader_of (slot job.old.channels number) ≡ None → (s : State) → IsKnown (D.state volume.old.disk) volume.old.core s
         → (under : UnderKeys) → IsEnterAnswer (pack_of (D.state volume.old.disk)) s (job_of under job.old) (job_of under job.new) (channel_at (job_of under job.old) number) address result }
     ensures refused { (code : ℕ) → result ≡ Refused code → job.new ≡ with_code job.old address code }
 {

@@ -43,7 +43,7 @@ impl<D: Disk> Monitor<D> {
         ensures nobody { IsErrOf result NoJob ↔ (self.now.failed ≡ false) × (slot self.now.jobs job ≡ None) }
         ensures only { IfErr result IsListRefusal }
     {
-        if self.volume.failed {
+        if self.volume.has_failed() {
             return Err(Reply::Failed);
         }
         let Some(asking) = self.jobs.job(job) else {

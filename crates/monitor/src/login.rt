@@ -4,8 +4,6 @@ ghost use Rattle.meaning.specs.Runs.{Service, Answers};
 ghost use Rattle.meaning.specs.Sessions.{login_answer};
 ghost use Rattle.meaning.specs.declared.call.Event.TheVariants.{Login};
 ghost use Rattle.meaning.specs.declared.call.Reply.TheVariants.{Done, Failed, NoMemory};
-ghost use Rattle.volume.specs.LiveCores.{core_of};
-ghost use Rattle.volume.specs.Rest.{IsSound};
 ghost use Rattle.monitor.specs.Dropping.{Leaves};
 ghost use Rattle.monitor.specs.Serving.{pack_of, Serves, AreKeyed, ArePlaced, AreReading};
 ghost use Rattle.monitor.specs.Sides.{new_job};
@@ -30,21 +28,19 @@ fn log_in<D: Disk>(
     words: u32,
 ) -> Reply
     // The volume knows what the jobs write and read,
-    requires sound { IsSound (D.state volume.old.disk) (core_of volume.old.map) volume.old.failed }
-    requires keyed { AreKeyed (core_of volume.old.map).pending jobs.old }
-    requires placed { ArePlaced (core_of volume.old.map) }
-    requires reading { AreReading (core_of volume.old.map).live jobs.old }
+    requires keyed { AreKeyed volume.old.core.pending jobs.old }
+    requires placed { ArePlaced volume.old.core }
+    requires reading { AreReading volume.old.core.live jobs.old }
     // and goes on knowing it; what the job had is dropped and let go.
-    ensures sound { IsSound (D.state volume.new.disk) (core_of volume.new.map) volume.new.failed }
-    ensures keyed { AreKeyed (core_of volume.new.map).pending jobs.new }
-    ensures placed { ArePlaced (core_of volume.new.map) }
-    ensures reading { AreReading (core_of volume.new.map).live jobs.new }
-    ensures leaves { Leaves (core_of volume.old.map) (core_of volume.new.map) }
+    ensures keyed { AreKeyed volume.new.core.pending jobs.new }
+    ensures placed { ArePlaced volume.new.core }
+    ensures reading { AreReading volume.new.core.live jobs.new }
+    ensures leaves { Leaves volume.old.core volume.new.core }
     ensures untouched { (volume.new.disk ≡ volume.old.disk) × (volume.new.failed ≡ volume.old.failed) }
     // The answer, and the jobs by it.
     ensures answered { (result ≡ login_answer number words) ⊎ ((result ≡ NoMemory) × (login_answer number words ≡ Done)) }
     ensures done { result ≡ Done → jobs.new ≡ slice_set jobs.old number (Some (new_job ppn words)) }
-    ensures kept { (result ≡ Done → ⊥) → (jobs.new ≡ jobs.old) × (core_of volume.new.map ≡ core_of volume.old.map) }
+    ensures kept { (result ≡ Done → ⊥) → (jobs.new ≡ jobs.old) × (volume.new.core ≡ volume.old.core) }
 {
     if number == 0 || number > LARGEST_JOB {
         return Reply::NoJob;
@@ -83,7 +79,7 @@ impl<D: Disk> Monitor<D> {
         ensures refused { (result ≡ Done → ⊥) → (self.new.jobs ≡ self.old.jobs) × (self.new.map ≡ self.old.map) }
         ensures others { (m : ℕ) → (m ≡ job → ⊥) → slot self.new.jobs m ≡ slot self.old.jobs m }
     {
-        if self.volume.failed {
+        if self.volume.has_failed() {
             return Reply::Failed;
         }
         log_in(alloc, &mut self.volume, &mut self.jobs, job, ppn, words)

@@ -10,7 +10,6 @@ ghost use Rattle.meaning.specs.Rights.{file_digit, may_read};
 ghost use Rattle.meaning.specs.Stands.{place_of};
 ghost use Rattle.meaning.specs.declared.call.Reply.TheVariants.{Done, NoMemory, Failed, Device, Refused};
 ghost use Rattle.volume.specs.Live.{VolumeCore, slot};
-ghost use Rattle.volume.specs.LiveCores.{core_of};
 ghost use Rattle.volume.specs.Places.{prime_at};
 ghost use Rattle.volume.specs.Queries.{IsShown};
 ghost use Rattle.volume.specs.Rest.{IsSound, RestsAt};
@@ -54,8 +53,8 @@ pub fn serve_lookup<D: Disk>(
     channel: u32,
     address: u32,
 ) -> Reply
-    requires ready { IsReady (D.state volume.old.disk) (core_of volume.old.map) volume.old.failed job.old }
-    ensures serving { ServesAlways D.state volume.old.disk volume.new.disk (core_of volume.old.map) (core_of volume.new.map) volume.new.failed job.old job.new (Lookup channel address) result }
+    requires ready { IsReady (D.state volume.old.disk) volume.old.core volume.old.failed job.old }
+    ensures serving { ServesAlways D.state volume.old.disk volume.new.disk volume.old.core volume.new.core volume.new.failed job.old job.new (Lookup channel address) result }
 {
     lookup(volume, job, channel, address)
 }
@@ -75,7 +74,6 @@ fn readable<D: Disk>(
     owner: Ppn,
     file: &FileName,
 ) -> Result<FileFacts, ErrorCode>
-    requires sound { IsSound (D.state volume.now.disk) (core_of volume.now.map) volume.now.failed }
     ensures found { (D.state volume.now.disk).honest → volume.now.failed ≡ false → (files : Files File) → RestsAt (D.state volume.now.disk) files
         → IsReadAnswer who owner file.now (get files owner) result }
     ensures only { IfErr result IsLookupRefusal }
@@ -110,27 +108,26 @@ pub fn find_input<D: Disk>(
     job: &Job,
     address: u32,
 ) -> Result<(Input, FileFacts), ErrorCode>
-    requires sound { IsSound (D.state volume.old.disk) (core_of volume.old.map) volume.old.failed }
+    requires sound { IsSound (D.state volume.old.disk) volume.old.core volume.old.failed }
     requires there { address + 4 ≤ 0o400000 }
     requires alive { volume.old.failed ≡ false }
-    requires few { (key : ℕ) (v : LiveVersion) → slot (core_of volume.old.map).live key ≡ Some v → v.readers + 1 < 2 ^ 32 }
-    ensures sound { IsSound (D.state volume.new.disk) (core_of volume.new.map) volume.new.failed }
+    requires few { (key : ℕ) (v : LiveVersion) → slot volume.old.core.live key ≡ Some v → v.readers + 1 < 2 ^ 32 }
     ensures untouched { (volume.new.disk ≡ volume.old.disk) × (volume.new.failed ≡ volume.old.failed) }
-    ensures same { OnErr result (core_of volume.new.map ≡ core_of volume.old.map) }
+    ensures same { OnErr result (volume.new.core ≡ volume.old.core) }
     ensures only { IfErr result IsLookupRefusal }
 
     // The version is the one that core has for the place, which has one reader more; and nothing else.
     ensures place { IfOk result (λ found. (under : UnderKeys) → place_of found.0.ppn found.0.file ≡ place_at (job_of under job.now) address) }
     ensures next { IfOk result (λ found. found.0.next ≡ 1) }
-    ensures at { IfOk result (λ found. (v : LiveVersion) × (slot (core_of volume.old.map).live found.0.pin.key ≡ Some v) × (v.is_current ≡ true) × (prime_at (core_of volume.old.map) found.0.ppn found.0.file ≡ Some v.at)) }
-    ensures pinned { IfOk result (λ found. (v : LiveVersion) × (slot (core_of volume.old.map).live found.0.pin.key ≡ Some v) × (slot (core_of volume.new.map).live found.0.pin.key ≡ Some (record v { readers = v.readers + 1 }))) }
-    ensures others { IfOk result (λ found. (k : ℕ) → (k ≡ found.0.pin.key → ⊥) → slot (core_of volume.new.map).live k ≡ slot (core_of volume.old.map).live k) }
-    ensures core { core_of volume.new.map ≡ record (core_of volume.old.map) { live = (core_of volume.new.map).live } }
+    ensures at { IfOk result (λ found. (v : LiveVersion) × (slot volume.old.core.live found.0.pin.key ≡ Some v) × (v.is_current ≡ true) × (prime_at volume.old.core found.0.ppn found.0.file ≡ Some v.at)) }
+    ensures pinned { IfOk result (λ found. (v : LiveVersion) × (slot volume.old.core.live found.0.pin.key ≡ Some v) × (slot volume.new.core.live found.0.pin.key ≡ Some (record v { readers = v.readers + 1 }))) }
+    ensures others { IfOk result (λ found. (k : ℕ) → (k ≡ found.0.pin.key → ⊥) → slot volume.new.core.live k ≡ slot volume.old.core.live k) }
+    ensures core { volume.new.core ≡ record volume.old.core { live = volume.new.core.live } }
 
     // It is answered as the machine answers on a channel without an output side, and the file is the machine's.
-    ensures answered { (D.state volume.new.disk).honest → (s : State) → IsKnown (D.state volume.old.disk) (core_of volume.old.map) s
+    ensures answered { (D.state volume.new.disk).honest → (s : State) → IsKnown (D.state volume.old.disk) volume.old.core s
         → (under : UnderKeys) (c : MachineChannel) → c.output ≡ None → lies_outside job.now.core address 4 ≡ false
-        → IsLookupAnswer (D.state volume.old.disk).contents (core_of volume.new.map).live s (job_of under job.now) c address result }
+        → IsLookupAnswer (D.state volume.old.disk).contents volume.new.core.live s (job_of under job.now) c address result }
 {
     let Some(ppn) = owner_at(job, address) else {
         return Err(ErrorCode::NoDirectory);
@@ -192,24 +189,23 @@ pub fn put_found(core: &mut Core, address: u32, facts: &FileFacts)
 /// side closes, whatever becomes of the name; an earlier input side of the channel is given up. Attributes and size
 /// of the file are put into the words.
 fn lookup<D: Disk>(volume: &mut Volume<D>, job: &mut Job, number: u32, address: u32) -> Reply
+    requires sound { IsSound (D.state volume.old.disk) volume.old.core volume.old.failed }
     // The volume serves, and knows what the job reads.
-    requires sound { IsSound (D.state volume.old.disk) (core_of volume.old.map) volume.old.failed }
     requires alive { volume.old.failed ≡ false }
-    requires held { (key : ℕ) → times key (pins_of (readers_in (Some job.old))) ≤ readers_of (slot (core_of volume.old.map).live key) }
-    requires few { (key : ℕ) (v : LiveVersion) → slot (core_of volume.old.map).live key ≡ Some v → v.readers + 1 < 2 ^ 32 }
+    requires held { (key : ℕ) → times key (pins_of (readers_in (Some job.old))) ≤ readers_of (slot volume.old.core.live key) }
+    requires few { (key : ℕ) (v : LiveVersion) → slot volume.old.core.live key ≡ Some v → v.readers + 1 < 2 ^ 32 }
     // The volume, and what the job reads.
-    ensures sound { IsSound (D.state volume.new.disk) (core_of volume.new.map) volume.new.failed }
     ensures untouched { (volume.new.disk ≡ volume.old.disk) × (volume.new.failed ≡ volume.old.failed) }
     ensures only { (result ≡ Failed → ⊥) × (result ≡ Device → ⊥) × (result ≡ NoMemory → ⊥) }
-    ensures pending { (core_of volume.new.map).pending ≡ (core_of volume.old.map).pending }
-    ensures known { (core_of volume.new.map).known ≡ record (core_of volume.old.map).known { table = (core_of volume.new.map).known.table } }
-    ensures kept { (result ≡ Done → ⊥) → (core_of volume.new.map ≡ core_of volume.old.map) × (job.new ≡ record job.old { core = job.new.core }) }
-    ensures reads { KeepsReading (core_of volume.old.map).live (core_of volume.new.map).live job.old job.new }
+    ensures pending { volume.new.core.pending ≡ volume.old.core.pending }
+    ensures known { volume.new.core.known ≡ record volume.old.core.known { table = volume.new.core.known.table } }
+    ensures kept { (result ≡ Done → ⊥) → (volume.new.core ≡ volume.old.core) × (job.new ≡ record job.old { core = job.new.core }) }
+    ensures reads { KeepsReading volume.old.core.live volume.new.core.live job.old job.new }
     // What it answers and leaves, by its answer.
-    ensures looked { result ≡ Done → (channel : Channel) × (input : Input) × (held : VolumeCore) × IsLookingUp (core_of volume.old.map) held (core_of volume.new.map) job.old job.new number address channel input
-        × ((D.state volume.new.disk).honest → (s : State) → IsKnown (D.state volume.old.disk) (core_of volume.old.map) s
+    ensures looked { result ≡ Done → (channel : Channel) × (input : Input) × (held : VolumeCore) × IsLookingUp volume.old.core held volume.new.core job.old job.new number address channel input
+        × ((D.state volume.new.disk).honest → (s : State) → IsKnown (D.state volume.old.disk) volume.old.core s
         → IsFound (D.state volume.old.disk).contents held.live s job.old job.new address input) }
-    ensures row { (D.state volume.new.disk).honest → (s : State) → IsKnown (D.state volume.old.disk) (core_of volume.old.map) s
+    ensures row { (D.state volume.new.disk).honest → (s : State) → IsKnown (D.state volume.old.disk) volume.old.core s
         → (under : UnderKeys) → IsLookupRow s (job_of under job.old) (job_of under job.new) (channel_at (job_of under job.old) number) address result }
     ensures refused { (code : ℕ) → result ≡ Refused code → job.new ≡ with_code job.old address code }
 {

@@ -6,10 +6,9 @@ ghost use Rattle.meaning.specs.Rights.{system};
 ghost use Rattle.meaning.specs.declared.call.Reply.TheVariants.{Done, Device};
 ghost use Rattle.volume.specs.Beginning.{IsDirectoryOf};
 ghost use Rattle.volume.specs.Known.{KnownDirectory};
-ghost use Rattle.volume.specs.LiveCores.{core_of};
 ghost use Rattle.volume.specs.Making.{files_made};
 ghost use Rattle.volume.specs.Places.{prime_at};
-ghost use Rattle.volume.specs.Rest.{IsSound, RestsAt, StandsForEither, KeepsRead, KeepsEachWritten};
+ghost use Rattle.volume.specs.Rest.{RestsAt, StandsForEither, KeepsRead, KeepsEachWritten};
 ghost use Rattle.monitor.specs.DirectoryRows.{IsMakeDir, asked_owner, asked_protection};
 ghost use Rattle.monitor.specs.Rows.{Keeps, KeepsReading};
 ghost use Rattle.meaning.specs.declared.call.Call.TheVariants.{MakeDir};
@@ -35,8 +34,8 @@ pub fn serve_make_dir<D: Disk>(
     job: &mut Job,
     address: u32,
 ) -> Reply
-    requires ready { IsReady (D.state volume.old.disk) (core_of volume.old.map) volume.old.failed job.old }
-    ensures serving { ServesAlways D.state volume.old.disk volume.new.disk (core_of volume.old.map) (core_of volume.new.map) volume.new.failed job.old job.new (MakeDir address) result }
+    requires ready { IsReady (D.state volume.old.disk) volume.old.core volume.old.failed job.old }
+    ensures serving { ServesAlways D.state volume.old.disk volume.new.disk volume.old.core volume.new.core volume.new.failed job.old job.new (MakeDir address) result }
 {
     make_dir(alloc, volume, job, address)
 }
@@ -51,25 +50,22 @@ fn is_system(ppn: Ppn) -> bool
 /// MakeDir: makes an empty directory, by the two words at an address: whose it is, and its protection in the nine
 /// high bits, 775 (octal) where they are 0.
 fn make_dir<D: Disk>(alloc: Global, volume: &mut Volume<D>, job: &mut Job, address: u32) -> Reply
-    requires sound { IsSound (D.state volume.old.disk) (core_of volume.old.map) volume.old.failed }
     requires serves { volume.old.failed ≡ false }
-
-    ensures sound { IsSound (D.state volume.new.disk) (core_of volume.new.map) volume.new.failed }
-    ensures outcome { IsMakeDir (D.state volume.old.disk).size (core_of volume.old.map) ((volume.new.disk ≡ volume.old.disk) × (core_of volume.new.map ≡ core_of volume.old.map)) job.old job.new address result }
-    ensures keeps { Keeps (core_of volume.old.map).pending (core_of volume.new.map).pending job.old job.new }
-    ensures reads { KeepsReading (core_of volume.old.map).live (core_of volume.new.map).live job.old job.new }
+    ensures outcome { IsMakeDir (D.state volume.old.disk).size volume.old.core ((volume.new.disk ≡ volume.old.disk) × (volume.new.core ≡ volume.old.core)) job.old job.new address result }
+    ensures keeps { Keeps volume.old.core.pending volume.new.core.pending job.old job.new }
+    ensures reads { KeepsReading volume.old.core.live volume.new.core.live job.old job.new }
     // A crash finds the files as they were, or with the directory.
     ensures crash { (D.state volume.new.disk).honest → (f : Files File) → RestsAt (D.state volume.old.disk) f
         → LeavesOnly (D.state volume.old.disk) (D.state volume.new.disk) (StandsForEither (D.state volume.old.disk).size f (files_made f (asked_owner job.old.core address) (asked_protection job.old.core address))) }
     ensures done { (D.state volume.new.disk).honest → (f : Files File) → RestsAt (D.state volume.old.disk) f
         → result ≡ Done → RestsAt (D.state volume.new.disk) (files_made f (asked_owner job.old.core address) (asked_protection job.old.core address)) }
     // The versions in use stay, and so does each directory in its place, with the prime blocks of its files.
-    ensures live { (core_of volume.new.map).live ≡ (core_of volume.old.map).live }
-    ensures pending { (core_of volume.new.map).pending ≡ (core_of volume.old.map).pending }
-    ensures directories { (owner : ℕ) (d : KnownDirectory) → IsDirectoryOf (core_of volume.old.map) owner d → IsDirectoryOf (core_of volume.new.map) owner d }
-    ensures primes { (owner : ℕ) (name : FileName) (n : ℕ) → prime_at (core_of volume.old.map) owner name ≡ Some n → prime_at (core_of volume.new.map) owner name ≡ Some n }
-    ensures readers { (D.state volume.new.disk).honest → volume.new.failed ≡ false → KeepsRead (D.state volume.old.disk).contents (D.state volume.new.disk).contents (core_of volume.old.map) }
-    ensures writers { (D.state volume.new.disk).honest → volume.new.failed ≡ false → KeepsEachWritten (D.state volume.old.disk).contents (D.state volume.new.disk).contents (core_of volume.old.map) }
+    ensures live { volume.new.core.live ≡ volume.old.core.live }
+    ensures pending { volume.new.core.pending ≡ volume.old.core.pending }
+    ensures directories { (owner : ℕ) (d : KnownDirectory) → IsDirectoryOf volume.old.core owner d → IsDirectoryOf volume.new.core owner d }
+    ensures primes { (owner : ℕ) (name : FileName) (n : ℕ) → prime_at volume.old.core owner name ≡ Some n → prime_at volume.new.core owner name ≡ Some n }
+    ensures readers { (D.state volume.new.disk).honest → volume.new.failed ≡ false → KeepsRead (D.state volume.old.disk).contents (D.state volume.new.disk).contents volume.old.core }
+    ensures writers { (D.state volume.new.disk).honest → volume.new.failed ≡ false → KeepsEachWritten (D.state volume.old.disk).contents (D.state volume.new.disk).contents volume.old.core }
     // It blames the device where that failed.
     ensures failed { IsTrue volume.new.failed ↔ (result ≡ Device) }
     ensures counted { result ≡ Device → (D.state volume.new.disk).failures ≡ one_more (D.state volume.old.disk).failures }

@@ -31,16 +31,13 @@ impl<D: Disk> Model for Monitor<D> {
     ghost use Rattle.std.specs.Prelude.{◌≡◌, false};
     ghost use Rattle.monitor.specs.States.{MonitorState};
     ghost use Rattle.monitor.specs.Serving.{AreKeyed, ArePlaced, AreReading};
-    ghost use Rattle.volume.specs.LiveCores.{core_of};
-    ghost use Rattle.volume.specs.Rest.{IsSound};
 
     ghost Value = { MonitorState D };
 
-    ghost view = { λ m. record { disk = m.volume.disk; map = core_of m.volume.map; failed = m.volume.failed; jobs = m.jobs } };
+    ghost view = { λ m. record { disk = m.volume.disk; map = m.volume.core; failed = m.volume.failed; jobs = m.jobs } };
 
     // A publication that the device fails leaves core between the two.
-    ghost invariant = { λ m. IsSound (D.state m.volume.disk) (core_of m.volume.map) m.volume.failed
-        × (m.volume.failed ≡ false → AreKeyed (core_of m.volume.map).pending m.jobs × ArePlaced (core_of m.volume.map) × AreReading (core_of m.volume.map).live m.jobs) };
+    ghost invariant = { λ m. m.volume.failed ≡ false → AreKeyed m.volume.core.pending m.jobs × ArePlaced m.volume.core × AreReading m.volume.core.live m.jobs };
 }
 
 impl<D: Disk> Monitor<D> {
@@ -77,7 +74,7 @@ impl<D: Disk> Monitor<D> {
         let volume = Volume::open(alloc, disk)?;
         match Jobs::new(alloc) {
             Ok(jobs) => Ok(Monitor { volume, jobs }),
-            Err(NoMemory) => Err((StartError::NoMemory, volume.disk)),
+            Err(NoMemory) => Err((StartError::NoMemory, volume.into_disk())),
         }
     }
 
@@ -94,6 +91,7 @@ impl<D: Disk> Monitor<D> {
         ensures { (D.state self.now.disk).honest → (s : State) → Serves (D.state self.now.disk) self.now.map self.now.failed self.now.jobs (Serving s)
             → result ≡ room (pack_of (D.state self.now.disk)) s }
     {
+        let _failed = self.volume.has_failed(); // which says what holds of a volume between two calls
         self.volume.room()
     }
 
@@ -101,6 +99,6 @@ impl<D: Disk> Monitor<D> {
     pub fn finish(self) -> D
         ensures { result ≡ self.disk }
     {
-        self.volume.disk
+        self.volume.into_disk()
     }
 }

@@ -11,8 +11,7 @@ ghost use Rattle.meaning.specs.Stands.{Stands};
 ghost use Rattle.usercore.specs.declared.error.CoreError.TheVariants.{AddressCheck, NoMemory};
 ghost use Rattle.meaning.specs.declared.call.Reply.TheVariants.{Device, Failed};
 ghost use Rattle.volume.specs.Live.{pending_at};
-ghost use Rattle.volume.specs.LiveCores.{core_of};
-ghost use Rattle.volume.specs.Rest.{IsSound, RestsAt, KeepsRead};
+ghost use Rattle.volume.specs.Rest.{RestsAt, KeepsRead};
 ghost use Rattle.volume.specs.declared.pending.PendingVersion.{PendingVersion};
 ghost use Rattle.monitor.specs.Putting.{words_at, moved, IsOther, IsOut};
 ghost use Rattle.monitor.specs.Rows.{Keeps, KeepsReading};
@@ -41,8 +40,8 @@ pub fn serve_out<D: Disk>(
     channel: u32,
     address: u32,
 ) -> Reply
-    requires ready { IsReady (D.state volume.old.disk) (core_of volume.old.map) volume.old.failed job.old }
-    ensures serving { ServesAlways D.state volume.old.disk volume.new.disk (core_of volume.old.map) (core_of volume.new.map) volume.new.failed job.old job.new (Out channel address) result }
+    requires ready { IsReady (D.state volume.old.disk) volume.old.core volume.old.failed job.old }
+    ensures serving { ServesAlways D.state volume.old.disk volume.new.disk volume.old.core volume.new.core volume.new.failed job.old job.new (Out channel address) result }
 {
     out(alloc, volume, job, channel, address)
 }
@@ -107,27 +106,25 @@ fn out<D: Disk>(
     address: u32,
 ) -> Reply
     // The volume serves, and knows what the job writes.
-    requires sound { IsSound (D.state volume.old.disk) (core_of volume.old.map) volume.old.failed }
     requires serves { volume.old.failed ≡ false }
-    requires live { (key : ℕ) → times key (keys_of (sides_in (Some job.old))) ≤ present (pending_at (core_of volume.old.map).pending key) }
-    requires sides { AllByRecursion (IsSide (core_of volume.old.map).pending) (sides_in (Some job.old)) }
+    requires live { (key : ℕ) → times key (keys_of (sides_in (Some job.old))) ≤ present (pending_at volume.old.core.pending key) }
+    requires sides { AllByRecursion (IsSide volume.old.core.pending) (sides_in (Some job.old)) }
 
     // The words are put, or not, by the answer; and what the job writes and reads is known.
-    ensures sound { IsSound (D.state volume.new.disk) (core_of volume.new.map) volume.new.failed }
-    ensures outcome { IsOut (D.state volume.old.disk) (D.state volume.new.disk) (core_of volume.old.map) (core_of volume.new.map)
-        ((volume.new.disk ≡ volume.old.disk) × (core_of volume.new.map ≡ core_of volume.old.map)) job.old job.new number address result }
-    ensures keeps { volume.new.failed ≡ false → Keeps (core_of volume.old.map).pending (core_of volume.new.map).pending job.old job.new }
-    ensures reads { volume.new.failed ≡ false → KeepsReading (core_of volume.old.map).live (core_of volume.new.map).live job.old job.new }
+    ensures outcome { IsOut (D.state volume.old.disk) (D.state volume.new.disk) volume.old.core volume.new.core
+        ((volume.new.disk ≡ volume.old.disk) × (volume.new.core ≡ volume.old.core)) job.old job.new number address result }
+    ensures keeps { volume.new.failed ≡ false → Keeps volume.old.core.pending volume.new.core.pending job.old job.new }
+    ensures reads { volume.new.failed ≡ false → KeepsReading volume.old.core.live volume.new.core.live job.old job.new }
     // A crash finds the files as they were.
     ensures quiet { (D.state volume.new.disk).honest → (f : Files File) → RestsAt (D.state volume.old.disk) f
         → LeavesOnly (D.state volume.old.disk) (D.state volume.new.disk) (λ c. Stands (D.state volume.old.disk).size c f) }
     ensures rests { (D.state volume.new.disk).honest → (f : Files File) → RestsAt (D.state volume.old.disk) f → RestsAt (D.state volume.new.disk) f }
     // No other version changes.
-    ensures others { (key : ℕ) → IsOther (slot job.old.channels number) key → pending_at (core_of volume.new.map).pending key ≡ pending_at (core_of volume.old.map).pending key }
-    ensures live { (core_of volume.new.map).live ≡ (core_of volume.old.map).live }
-    ensures known { (core_of volume.new.map).known ≡ record (core_of volume.old.map).known { table = (core_of volume.new.map).known.table } }
-    ensures readers { (D.state volume.new.disk).honest → KeepsRead (D.state volume.old.disk).contents (D.state volume.new.disk).contents (core_of volume.old.map) }
-    ensures writers { (D.state volume.new.disk).honest → (key : ℕ) (p : PendingVersion) → IsOther (slot job.old.channels number) key → pending_at (core_of volume.old.map).pending key ≡ Some p
+    ensures others { (key : ℕ) → IsOther (slot job.old.channels number) key → pending_at volume.new.core.pending key ≡ pending_at volume.old.core.pending key }
+    ensures live { volume.new.core.live ≡ volume.old.core.live }
+    ensures known { volume.new.core.known ≡ record volume.old.core.known { table = volume.new.core.known.table } }
+    ensures readers { (D.state volume.new.disk).honest → KeepsRead (D.state volume.old.disk).contents (D.state volume.new.disk).contents volume.old.core }
+    ensures writers { (D.state volume.new.disk).honest → (key : ℕ) (p : PendingVersion) → IsOther (slot job.old.channels number) key → pending_at volume.old.core.pending key ≡ Some p
         → (n : ℕ) → 0 < times n p.version.blocks → (D.state volume.new.disk).contents n ≡ (D.state volume.old.disk).contents n }
     // It fails with the volume, and blames the device where that failed.
     ensures failed { IsTrue volume.new.failed ↔ ((result ≡ Device) ⊎ (result ≡ Failed)) }

@@ -1,9 +1,7 @@
 ghost use Rattle.std.specs.Prelude.{◌≡◌, ◌<◌, Some, IsSome};
 ghost use Rattle.meaning.specs.declared.call.Reply.TheVariants.{Done, NoMemory};
 ghost use Rattle.volume.specs.Live.{pending_at};
-ghost use Rattle.volume.specs.LiveCores.{core_of};
 ghost use Rattle.volume.specs.Publishing.{IsPlaced};
-ghost use Rattle.volume.specs.Rest.{IsSound};
 ghost use Rattle.volume.specs.declared.pending.PendingVersion.{PendingVersion};
 ghost use Rattle.monitor.specs.Publishing.{MayPublish, IsPublishing};
 
@@ -16,14 +14,12 @@ use volume::Volume;
 
 /// Publishes what an output side has written. In dump mode no words are left in a last buffer.
 pub fn publish_output<D: Disk>(alloc: Global, volume: &mut Volume<D>, output: Output) -> Reply
-    requires sound { IsSound (D.state volume.old.disk) (core_of volume.old.map) volume.old.failed }
-    requires live { IsSome (pending_at (core_of volume.old.map).pending output.pending.key) }
+    requires live { IsSome (pending_at volume.old.core.pending output.pending.key) }
     requires starts { 0 < output.next }
-    requires placed { (p : PendingVersion) → pending_at (core_of volume.old.map).pending output.pending.key ≡ Some p → IsPlaced (core_of volume.old.map) p }
-    ensures sound { IsSound (D.state volume.new.disk) (core_of volume.new.map) volume.new.failed }
-    ensures whatever { MayPublish (D.state volume.old.disk) (D.state volume.new.disk) (core_of volume.old.map) (core_of volume.new.map) output.pending.key }
-    ensures answered { IsPublishing (D.state volume.old.disk) (D.state volume.new.disk) (core_of volume.old.map) (core_of volume.new.map) volume.old.failed volume.new.failed output.pending.key result }
-    ensures memory { result ≡ NoMemory → (volume.new.disk ≡ volume.old.disk) × (core_of volume.new.map ≡ core_of volume.old.map) }
+    requires placed { (p : PendingVersion) → pending_at volume.old.core.pending output.pending.key ≡ Some p → IsPlaced volume.old.core p }
+    ensures whatever { MayPublish (D.state volume.old.disk) (D.state volume.new.disk) volume.old.core volume.new.core output.pending.key }
+    ensures answered { IsPublishing (D.state volume.old.disk) (D.state volume.new.disk) volume.old.core volume.new.core volume.old.failed volume.new.failed output.pending.key result }
+    ensures memory { result ≡ NoMemory → (volume.new.disk ≡ volume.old.disk) × (volume.new.core ≡ volume.old.core) }
 {
     match volume.publish(alloc, output.pending, output.next, &[]) {
         Ok(()) => Reply::Done,

@@ -6,7 +6,6 @@ ghost use Rattle.meaning.specs.Files.{File, Files};
 ghost use Rattle.meaning.specs.Maps.{times};
 ghost use Rattle.meaning.specs.declared.call.Reply.TheVariants.{Device, Failed, NoMemory};
 ghost use Rattle.volume.specs.Live.{slot as version_at};
-ghost use Rattle.volume.specs.LiveCores.{core_of};
 ghost use Rattle.volume.specs.Rest.{IsSound, RestsAt};
 ghost use Rattle.monitor.specs.Events.{IsIdle};
 ghost use Rattle.monitor.specs.Readers.{readers_of};
@@ -40,8 +39,8 @@ pub fn serve_in<D: Disk>(
     channel: u32,
     address: u32,
 ) -> Reply
-    requires ready { IsReady (D.state volume.old.disk) (core_of volume.old.map) volume.old.failed job.old }
-    ensures serving { ServesAlways D.state volume.old.disk volume.new.disk (core_of volume.old.map) (core_of volume.new.map) volume.new.failed job.old job.new (In channel address) result }
+    requires ready { IsReady (D.state volume.old.disk) volume.old.core volume.old.failed job.old }
+    ensures serving { ServesAlways D.state volume.old.disk volume.new.disk volume.old.core volume.new.core volume.new.failed job.old job.new (In channel address) result }
 {
     read(alloc, volume, job, channel, address)
 }
@@ -73,17 +72,16 @@ fn read<D: Disk>(
     number: u32,
     address: u32,
 ) -> Reply
+    requires sound { IsSound (D.state volume.old.disk) volume.old.core volume.old.failed }
     // The volume serves, and knows what the job reads.
-    requires sound { IsSound (D.state volume.old.disk) (core_of volume.old.map) volume.old.failed }
     requires alive { volume.old.failed ≡ false }
-    requires held { (key : ℕ) → times key (pins_of (readers_in (Some job.old))) ≤ readers_of (version_at (core_of volume.old.map).live key) }
+    requires held { (key : ℕ) → times key (pins_of (readers_in (Some job.old))) ≤ readers_of (version_at volume.old.core.live key) }
     requires readers { HasReaders job.old }
 
     // The volume, and what the job reads.
-    ensures sound { IsSound (D.state volume.new.disk) (core_of volume.new.map) volume.new.failed }
-    ensures core { core_of volume.new.map ≡ core_of volume.old.map }
-    ensures outcome { IsIn (D.state volume.old.disk) (D.state volume.new.disk) (core_of volume.old.map) job.old job.new number address result }
-    ensures reads { KeepsReading (core_of volume.old.map).live (core_of volume.new.map).live job.old job.new }
+    ensures core { volume.new.core ≡ volume.old.core }
+    ensures outcome { IsIn (D.state volume.old.disk) (D.state volume.new.disk) volume.old.core job.old job.new number address result }
+    ensures reads { KeepsReading volume.old.core.live volume.new.core.live job.old job.new }
     // The disk is only read, and the device is blamed where it failed.
     ensures only_reads { (D.state volume.new.disk).honest → OnlyReads (D.state volume.old.disk) (D.state volume.new.disk) }
     ensures rests { (D.state volume.new.disk).honest → (files : Files File) → RestsAt (D.state volume.old.disk) files → RestsAt (D.state volume.new.disk) files }

@@ -8,9 +8,8 @@ ghost use Rattle.meaning.specs.Retrieval.{HasBody};
 ghost use Rattle.meaning.specs.Splices.{words_from};
 ghost use Rattle.meaning.specs.declared.area.Area.{Area as Words};
 ghost use Rattle.volume.specs.Live.{slot};
-ghost use Rattle.volume.specs.LiveCores.{core_of};
 ghost use Rattle.volume.specs.Pins.{IsReadable};
-ghost use Rattle.volume.specs.Rest.{IsSound, RestsAt};
+ghost use Rattle.volume.specs.Rest.{RestsAt};
 ghost use Rattle.volume.specs.declared.handles.VersionHandle.TheVariants.{Pinned};
 ghost use Rattle.volume.specs.declared.live.LiveVersion.{LiveVersion};
 ghost use Rattle.monitor.specs.declared.read_in.ReadIn.TheVariants.{Moved, AddressCheck, AtEnd, NoMemory, Device, Failed};
@@ -65,24 +64,21 @@ pub fn read_in<D: Disk>(
     block: u32,
     address: u32,
 ) -> ReadIn
-    requires sound { IsSound (D.state volume.old.disk) (core_of volume.old.map) volume.old.failed }
     requires alive { volume.old.failed ≡ false }
-    requires live { IsReadable (core_of volume.old.map) (Pinned pin) }
+    requires live { IsReadable volume.old.core (Pinned pin) }
     requires first { 0 < block }
-
-    ensures sound { IsSound (D.state volume.new.disk) (core_of volume.new.map) volume.new.failed }
     // The list decides on every disk.
     ensures checked { result ≡ AddressCheck ↔ (dump_list core.old address ≡ None) }
     ensures named { result ≡ Moved 0 ↔ (dump_list core.old address ≡ Some []) }
     // The words are those of the body that was pinned,
-    ensures moved { (D.state volume.new.disk).honest → (v : LiveVersion) → slot (core_of volume.old.map).live pin.key ≡ Some v → (body : List ℕ) → length body ≡ v.version.words
+    ensures moved { (D.state volume.new.disk).honest → (v : LiveVersion) → slot volume.old.core.live pin.key ≡ Some v → (body : List ℕ) → length body ≡ v.version.words
         → HasBody (D.state volume.old.disk).contents v.version.blocks body → (areas : List Words) → dump_list core.old address ≡ Some areas
         → (n : ℕ) → result ≡ Moved n → core.new ≡ after_writes core.old (dealt areas (words_from body block)) }
     // and, on every disk, as many as the list names and the body has.
-    ensures number { (v : LiveVersion) → slot (core_of volume.old.map).live pin.key ≡ Some v → (body : List ℕ) → length body ≡ v.version.words → (areas : List Words) → dump_list core.old address ≡ Some areas
+    ensures number { (v : LiveVersion) → slot volume.old.core.live pin.key ≡ Some v → (body : List ℕ) → length body ≡ v.version.words → (areas : List Words) → dump_list core.old address ≡ Some areas
         → (n : ℕ) → result ≡ Moved n → n ≡ min (word_count areas) (length (words_from body block)) }
     ensures few { (areas : List Words) → dump_list core.old address ≡ Some areas → (n : ℕ) → result ≡ Moved n → n ≤ word_count areas }
-    ensures at_end { (v : LiveVersion) → slot (core_of volume.old.map).live pin.key ≡ Some v → (body : List ℕ) → length body ≡ v.version.words → (areas : List Words) → dump_list core.old address ≡ Some areas
+    ensures at_end { (v : LiveVersion) → slot volume.old.core.live pin.key ≡ Some v → (body : List ℕ) → length body ≡ v.version.words → (areas : List Words) → dump_list core.old address ≡ Some areas
         → result ≡ AtEnd → (0 < word_count areas) × (words_from body block ≡ []) }
     ensures kept { ((n : ℕ) → 0 < n → result ≡ Moved n → ⊥) → core.new ≡ core.old }
     ensures length { length core.new ≡ length core.old }
@@ -90,7 +86,7 @@ pub fn read_in<D: Disk>(
     // Nothing is written, and the volume stays.
     ensures reads { (D.state volume.new.disk).honest → OnlyReads (D.state volume.old.disk) (D.state volume.new.disk) }
     ensures rests { (D.state volume.new.disk).honest → (files : Files File) → RestsAt (D.state volume.old.disk) files → RestsAt (D.state volume.new.disk) files }
-    ensures core { volume.new.map ≡ volume.old.map }
+    ensures core { volume.new.core ≡ volume.old.core }
     ensures idle { (result ≡ AddressCheck) ⊎ (result ≡ AtEnd) ⊎ (result ≡ Moved 0) ⊎ (result ≡ NoMemory) → volume.new.disk ≡ volume.old.disk }
     // It fails with the volume, and blames the device where that failed.
     ensures failed { IsTrue volume.new.failed ↔ ((result ≡ Device) ⊎ (result ≡ Failed)) }

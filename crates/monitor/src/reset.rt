@@ -4,8 +4,6 @@ ghost use Rattle.meaning.specs.Runs.{Service, Answers};
 ghost use Rattle.meaning.specs.declared.call.Call.TheVariants.{Reset};
 ghost use Rattle.meaning.specs.declared.call.Event.TheVariants.{Call as Calls};
 ghost use Rattle.meaning.specs.declared.call.Reply.TheVariants.{Done, Failed};
-ghost use Rattle.volume.specs.LiveCores.{core_of};
-ghost use Rattle.volume.specs.Rest.{IsSound};
 ghost use Rattle.monitor.specs.Dropping.{Leaves};
 ghost use Rattle.monitor.specs.Replies.{reset_answer};
 ghost use Rattle.monitor.specs.Serving.{pack_of, Serves, AreKeyed, ArePlaced, AreReading};
@@ -25,8 +23,8 @@ use words36::Moment;
 /// RESET: closes all channels of a job, drops what it has written and lets go what it reads; and the next ring of buffers
 /// goes where the first one does.
 pub fn serve_reset<D: Disk>(volume: &mut Volume<D>, job: &mut Job) -> Reply
-    requires ready { IsReady (D.state volume.old.disk) (core_of volume.old.map) volume.old.failed job.old }
-    ensures serving { ServesAlways D.state volume.old.disk volume.new.disk (core_of volume.old.map) (core_of volume.new.map) volume.new.failed job.old job.new Reset result }
+    requires ready { IsReady (D.state volume.old.disk) volume.old.core volume.old.failed job.old }
+    ensures serving { ServesAlways D.state volume.old.disk volume.new.disk volume.old.core volume.new.core volume.new.failed job.old job.new Reset result }
 {
     close_channels(volume, &job.channels);
     job.reset();
@@ -35,18 +33,16 @@ pub fn serve_reset<D: Disk>(volume: &mut Volume<D>, job: &mut Job) -> Reply
 
 /// Resets the job of a number. Answers whether there is one.
 pub fn reset<D: Disk>(volume: &mut Volume<D>, jobs: &mut Jobs, number: u32) -> bool
-    requires sound { IsSound (D.state volume.old.disk) (core_of volume.old.map) volume.old.failed }
-    requires keyed { AreKeyed (core_of volume.old.map).pending jobs.old }
-    requires placed { ArePlaced (core_of volume.old.map) }
-    requires reading { AreReading (core_of volume.old.map).live jobs.old }
-    ensures sound { IsSound (D.state volume.new.disk) (core_of volume.new.map) volume.new.failed }
-    ensures keyed { AreKeyed (core_of volume.new.map).pending jobs.new }
-    ensures placed { ArePlaced (core_of volume.new.map) }
-    ensures reading { AreReading (core_of volume.new.map).live jobs.new }
-    ensures leaves { Leaves (core_of volume.old.map) (core_of volume.new.map) }
+    requires keyed { AreKeyed volume.old.core.pending jobs.old }
+    requires placed { ArePlaced volume.old.core }
+    requires reading { AreReading volume.old.core.live jobs.old }
+    ensures keyed { AreKeyed volume.new.core.pending jobs.new }
+    ensures placed { ArePlaced volume.new.core }
+    ensures reading { AreReading volume.new.core.live jobs.new }
+    ensures leaves { Leaves volume.old.core volume.new.core }
     ensures untouched { (volume.new.disk ≡ volume.old.disk) × (volume.new.failed ≡ volume.old.failed) }
     ensures found { IsTrue result → (job : JobRecord) × (slot jobs.old number ≡ Some job) × (jobs.new ≡ slice_set jobs.old number (Some (reset_job job))) }
-    ensures none { IsFalse result → (slot jobs.old number ≡ None) × (jobs.new ≡ jobs.old) × (core_of volume.new.map ≡ core_of volume.old.map) }
+    ensures none { IsFalse result → (slot jobs.old number ≡ None) × (jobs.new ≡ jobs.old) × (volume.new.core ≡ volume.old.core) }
 {
     let Some(_there) = jobs.job(number) else {
         return false;
@@ -72,7 +68,7 @@ impl<D: Disk> Monitor<D> {
         ensures refused { (result ≡ Done → ⊥) → (self.new.jobs ≡ self.old.jobs) × (self.new.map ≡ self.old.map) }
         ensures others { (m : ℕ) → (m ≡ job → ⊥) → slot self.new.jobs m ≡ slot self.old.jobs m }
     {
-        if self.volume.failed {
+        if self.volume.has_failed() {
             return Reply::Failed;
         }
         if moment.date > LAST_DATE {

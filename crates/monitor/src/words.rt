@@ -59,7 +59,7 @@ impl<D: Disk> Monitor<D> {
         ensures refused { (result ≡ Done → ⊥) → self.new.jobs ≡ self.old.jobs }
         ensures others { (m : ℕ) → (m ≡ job → ⊥) → slot self.new.jobs m ≡ slot self.old.jobs m }
     {
-        if self.volume.failed {
+        if self.volume.has_failed() {
             return Reply::Failed;
         }
         deposit(&mut self.jobs, job, address, word)
@@ -76,7 +76,7 @@ impl<D: Disk> Monitor<D> {
         ensures failed { result ≡ Failed ↔ IsTrue self.now.failed }
         ensures value { self.now.failed ≡ false → result ≡ examine_of address (slot self.now.jobs job) }
     {
-        if self.volume.failed {
+        if self.volume.has_failed() {
             return Reply::Failed;
         }
         examine(&self.jobs, job, address)

@@ -1,4 +1,5 @@
 ghost use Rattle.std.specs.Prelude.{◌≡◌};
+ghost use Rattle.volume.specs.Rest.{IsSound};
 
 use crate::files::StoredVersion;
 use crate::live::LiveMap;
@@ -50,9 +51,11 @@ impl<D: Disk> Model for Volume<D> {
 }
 
 impl<D: Disk> Volume<D> {
-    /// Whether a call met a fault of the disk. No call but this one and `blocks` says anything of the disk then.
+    /// Whether a call met a fault of the disk. No call but this one and `blocks` says anything of the disk then. Who asks
+    /// learns as well what holds of a volume between two calls.
     pub fn has_failed(&self) -> bool
-        ensures { result ≡ self.now.failed }
+        ensures value { result ≡ self.now.failed }
+        ensures sound { IsSound (D.state self.now.disk) self.now.core self.now.failed }
     {
         self.failed
     }

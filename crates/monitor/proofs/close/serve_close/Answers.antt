@@ -1,7 +1,6 @@
 use Rattle.std.proofs.Common.{◌≡◌, Some, ap, sym, subst, ◌∙◌}
 use Rattle.std.specs.List.{AllByRecursion}
 use Rattle.meaning.specs.declared.call.Call.TheVariants.{Close}
-use Rattle.volume.specs.LiveCores.{core_of}
 use Rattle.monitor.specs.Serving.{IsSide}
 use Rattle.monitor.specs.Sides.{sides_in}
 use Rattle.monitor.proofs.Dropped.{job_live}
@@ -15,14 +14,14 @@ pub close_output-requires-clause-live : goal.close_output-requires-clause-live
 close_output-requires-clause-live g c =
     let here = c.in-Some.ensures.some in
     let ready = c.requires.ready in
-    version_live (core_of c.args.volume.now.map).pending c.args.job.now c.args.channel c.in-Some.open here.there c.in-Some.output here.side
-    (job_live (core_of c.args.volume.now.map) ready.jobs ready.number c.args.job.now ready.among.keyed ready.among.there)
+    version_live c.args.volume.now.core.pending c.args.job.now c.args.channel c.in-Some.open here.there c.in-Some.output here.side
+    (job_live c.args.volume.now.core ready.jobs ready.number c.args.job.now ready.among.keyed ready.among.there)
 
 pub close_output-requires-clause-starts : goal.close_output-requires-clause-starts
 close_output-requires-clause-starts g c =
     let here = c.in-Some.ensures.some in
     let ready = c.requires.ready in
-    let pending = (core_of c.args.volume.now.map).pending in
+    let pending = c.args.volume.now.core.pending in
     (its_side pending c.args.job.now c.args.channel c.in-Some.open here.there c.in-Some.output here.side
     (subst (λ o. AllByRecursion (IsSide pending) (sides_in o)) ready.among.there (each-slot (IsSide pending) ready.jobs ready.number ready.among.keyed.each))).starts
 
@@ -32,12 +31,12 @@ close_output-requires-clause-placed g c p at = c.requires.ready.placed.each c.in
 pub close-requires-clause-live : goal.close-requires-clause-live
 close-requires-clause-live g c =
     let ready = c.requires.ready in
-    job_live (core_of c.args.volume.now.map) ready.jobs ready.number c.args.job.now ready.among.keyed ready.among.there
+    job_live c.args.volume.now.core ready.jobs ready.number c.args.job.now ready.among.keyed ready.among.there
 
 pub close-requires-clause-held : goal.close-requires-clause-held
 close-requires-clause-held g c =
     let ready = c.requires.ready in
-    job_held (core_of c.args.volume.now.map).live ready.jobs ready.number c.args.job.now ready.among.reading ready.among.there
+    job_held c.args.volume.now.core.live ready.jobs ready.number c.args.job.now ready.among.reading ready.among.there
 
 pub returns-in-Some : goal.returns-in-Some
 returns-in-Some g c = record {
@@ -46,8 +45,8 @@ returns-in-Some g c = record {
       let new = c.close_output.new.volume in
       let ready = c.requires.ready in
       let here = c.in-Some.ensures.some in
-      publishing_serves g.D.Disk.state g.met.D.Disk.only_now old.disk new.disk (core_of old.map) (core_of new.map) old.failed new.failed c.in-Some.output.pending.key c.args.job.now c.close_output.new.job (Close c.args.channel c.args.bits) moment c.close_output.result
-      ready.alive ready.placed timely c.close_output.ensures.sound c.close_output.ensures.whatever c.close_output.ensures.answered c.close_output.ensures.memory c.close_output.ensures.kept c.close_output.ensures.stands (c.close_output.ensures.row ready.alive c.args.bits here.closes here.keeps) (c.close_output.ensures.crash c.args.bits here.closes here.keeps)
+      publishing_serves g.D.Disk.state g.met.D.Disk.only_now old.disk new.disk old.core new.core old.failed new.failed c.in-Some.output.pending.key c.args.job.now c.close_output.new.job (Close c.args.channel c.args.bits) moment c.close_output.result
+      ready.alive ready.placed timely c.close_output.ensures.whatever c.close_output.ensures.answered c.close_output.ensures.memory c.close_output.ensures.kept c.close_output.ensures.stands (c.close_output.ensures.row ready.alive c.args.bits here.closes here.keeps) (c.close_output.ensures.crash c.args.bits here.closes here.keeps)
       (λ quiet. publishes_here c.args.job.now c.args.channel c.args.bits c.in-Some.open c.in-Some.output here quiet) (λ kept. kept) (λ asked. asked);
 }
 
@@ -57,7 +56,7 @@ returns-in-None g c = record {
       let old = c.args.volume.now in
       let new = c.close.new.volume in
       let ready = c.requires.ready in
-      dropping_serves g.D.Disk.state g.met.D.Disk.only_now old.disk new.disk (core_of old.map) (core_of new.map) old.failed new.failed c.args.job.now c.close.new.job (Close c.args.channel c.args.bits) moment c.close.result
-      ready.alive c.close.ensures.untouched c.close.ensures.sound ready.placed timely c.close.ensures.row c.close.ensures.keeps c.close.ensures.reads c.close.ensures.leaves c.close.ensures.only
+      dropping_serves g.D.Disk.state g.met.D.Disk.only_now old.disk new.disk old.core new.core old.failed new.failed c.args.job.now c.close.new.job (Close c.args.channel c.args.bits) moment c.close.result
+      ready.alive c.close.ensures.untouched ready.placed timely c.close.ensures.row c.close.ensures.keeps c.close.ensures.reads c.close.ensures.leaves c.close.ensures.only
       c.close.ensures.refused (λ kept. kept) (λ asked. asked);
 }

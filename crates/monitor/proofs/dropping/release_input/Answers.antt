@@ -1,24 +1,23 @@
 use Rattle.std.proofs.Common.{◌≤◌, [], sym, subst, option_to_list}
 use Rattle.meaning.specs.Maps.{times}
 use Rattle.volume.specs.Live.{slot as version_at}
-use Rattle.volume.specs.LiveCores.{core_of}
 use Rattle.monitor.specs.Dropping.{Closes}
 use Rattle.monitor.specs.Readers.{readers_of}
 use Rattle.monitor.specs.Sides.{pins_of}
 use Rattle.monitor.proofs.Releases.{held_there, lets_one_go}
 use Rattle.monitor.proofs.dropping.release_input.Goals as goal
 
-pub unpin-requires-clause-live : goal.unpin-requires-clause-live
-unpin-requires-clause-live g c =
+pub unpin-requires : goal.unpin-requires
+unpin-requires g c =
     let key = c.in-Some.input.pin.key in
-    let live = (core_of c.args.volume.now.map).live in
-    held_there (version_at live key) key (subst (λ o. times key (pins_of (option_to_list o)) ≤ readers_of (version_at live key)) c.in-Some.is (c.requires.held key))
+    let live = c.args.volume.now.core.live in
+    record { live = held_there (version_at live key) key (subst (λ o. times key (pins_of (option_to_list o)) ≤ readers_of (version_at live key)) c.in-Some.is (c.requires.held key)) }
 
 pub returns-in-Some-clause-closed : goal.returns-in-Some-clause-closed
 returns-in-Some-clause-closed g c =
     let key = c.in-Some.input.pin.key in
-    let live = (core_of c.args.volume.now.map).live in
+    let live = c.args.volume.now.core.live in
     let there = held_there (version_at live key) key (subst (λ o. times key (pins_of (option_to_list o)) ≤ readers_of (version_at live key)) c.in-Some.is (c.requires.held key)) in
-    subst (λ o. Closes (core_of c.args.volume.now.map) (core_of c.unpin.new.self.map) [] (pins_of (option_to_list o))) (sym c.in-Some.is)
-    (lets_one_go (core_of c.args.volume.now.map) (core_of c.unpin.new.self.map) key there
+    subst (λ o. Closes c.args.volume.now.core c.unpin.new.self.core [] (pins_of (option_to_list o))) (sym c.in-Some.is)
+    (lets_one_go c.args.volume.now.core c.unpin.new.self.core key there
     (λ v at why. (c.unpin.ensures.stays v at why).0) (λ v at past one. (c.unpin.ensures.gone v at past one).0) c.unpin.ensures.others c.unpin.ensures.pending c.unpin.ensures.known)

@@ -7,7 +7,6 @@ use Rattle.meaning.specs.Looking.{place_at}
 use Rattle.monitor.specs.Finding.{IsAnswer, begin_answer_at}
 use Rattle.monitor.specs.Sides.{job_of}
 use Rattle.monitor.specs.Serving.{pack_of}
-use Rattle.volume.specs.LiveCores.{core_of}
 use Rattle.monitor.proofs.EnterReads.{reading_entered}
 use Rattle.monitor.proofs.Enters.{no_side, done, refused, wanting}
 use Rattle.monitor.proofs.Placing.{placed_begun}
@@ -52,9 +51,9 @@ returns-in-Err-NoMemory-clause-row g c h unread s known w =
 
 pub returns-in-Ok-clause-placed : goal.returns-in-Ok-clause-placed
 returns-in-Ok-clause-placed g c placed =
-    placed_begun (core_of c.args.volume.now.map) (core_of c.begin_at.new.volume.map) c.in-Ok.pending.key c.in-Ok.prime c.in-Ok.ensures.begun c.in-Ok.ensures.free.0 c.in-Ok.ensures.free.1 placed
+    placed_begun c.args.volume.now.core c.begin_at.new.volume.core c.in-Ok.pending.key c.in-Ok.prime c.in-Ok.ensures.begun c.in-Ok.ensures.free.0 c.in-Ok.ensures.free.1 placed
 
 pub returns-in-Ok-clause-reads : goal.returns-in-Ok-clause-reads
 returns-in-Ok-clause-reads g c =
     let begun = returns-in-Ok-clause-begun g c refl in
-    reading_entered (core_of c.args.volume.now.map) (core_of c.begin_at.new.volume.map) c.args.job.now c.set_channel.new.self c.args.number c.args.address c.args.moment begun.0 begun.1 begun.2 begun.3
+    reading_entered c.args.volume.now.core c.begin_at.new.volume.core c.args.job.now c.set_channel.new.self c.args.number c.args.address c.args.moment begun.0 begun.1 begun.2 begun.3

@@ -1,6 +1,5 @@
 use Rattle.std.proofs.Common.{◌≡◌, false, Some, refl, sym, subst, ◌∙◌, slice_set}
 use Rattle.meaning.specs.declared.call.Call.TheVariants.{Enter}
-use Rattle.volume.specs.LiveCores.{core_of}
 use Rattle.volume.specs.Rest.{IsSound}
 use Rattle.monitor.proofs.EnterAnswers.{enters_keyed, enters_reading, enter_answered}
 use Rattle.monitor.proofs.EnterRefusals.{stays}
@@ -14,14 +13,14 @@ returns g c = record {
       let state = g.D.Disk.state in
       let old = c.args.volume.now in
       let new = c.enter.new.volume in
-      let map = core_of old.map in
-      let map' = core_of new.map in
+      let map = old.core in
+      let map' = new.core in
       let job = c.args.job.now in
       let job' = c.enter.new.job in
       let jobs' = slice_set jobs n (Some job') in
       let sound = subst (IsSound (state old.disk) map) c.requires.ready.alive c.requires.ready.sound in
       quiet_serves state g.met.D.Disk.only_now old.disk new.disk map map' old.failed new.failed job job' (Enter c.args.channel c.args.address) moment c.enter.result c.requires.ready.alive c.enter.ensures.untouched
-      c.enter.ensures.only c.enter.ensures.sound (c.enter.ensures.placed c.requires.ready.placed) (λ light. absurd light) (λ kept. absurd kept)
+      c.enter.ensures.only (c.enter.ensures.placed c.requires.ready.placed) (λ light. absurd light) (λ kept. absurd kept)
       (λ none. ((c.enter.ensures.kept (λ e. let wrong = sym none ∙ e in cc)).0, c.enter.ensures.memory none)) c.enter.ensures.refused
       (λ reads.
       let is = stays map map' job job' c.args.channel c.args.address c.enter.result c.enter.ensures.kept c.enter.ensures.unserved reads in

@@ -1,5 +1,4 @@
 use Rattle.std.proofs.Common.{filter_map, sym, ap, subst}
-use Rattle.volume.specs.LiveCores.{core_of}
 use Rattle.monitor.specs.Serving.{AreKeyed, AreReading}
 use Rattle.monitor.specs.Sides.{side_of, reader_of}
 use Rattle.monitor.proofs.Dropped.{closed_keyed}
@@ -9,14 +8,14 @@ use Rattle.monitor.proofs.login.log_in.Goals as goal
 
 pub returns-in-Ok-clause-keyed : goal.returns-in-Ok-clause-keyed
 returns-in-Ok-clause-keyed g c =
-    subst (AreKeyed (core_of c.close_job.new.volume.map).pending) (sym c.put.ensures)
-    (closed_keyed (core_of c.args.volume.now.map) (core_of c.close_job.new.volume.map) _ c.args.jobs.now c.args.number _ c.requires.keyed c.close_job.ensures.closed (ap (filter_map side_of) c.all_closed.ensures))
+    subst (AreKeyed c.close_job.new.volume.core.pending) (sym c.put.ensures)
+    (closed_keyed c.args.volume.now.core c.close_job.new.volume.core _ c.args.jobs.now c.args.number _ c.requires.keyed c.close_job.ensures.closed (ap (filter_map side_of) c.all_closed.ensures))
 
 pub returns-in-Ok-clause-reading : goal.returns-in-Ok-clause-reading
 returns-in-Ok-clause-reading g c =
-    subst (AreReading (core_of c.close_job.new.volume.map).live) (sym c.put.ensures)
-    (closed_reading (core_of c.args.volume.now.map) (core_of c.close_job.new.volume.map) _ c.args.jobs.now c.args.number _ c.requires.reading c.close_job.ensures.closed (ap (filter_map reader_of) c.all_closed.ensures)
+    subst (AreReading c.close_job.new.volume.core.live) (sym c.put.ensures)
+    (closed_reading c.args.volume.now.core c.close_job.new.volume.core _ c.args.jobs.now c.args.number _ c.requires.reading c.close_job.ensures.closed (ap (filter_map reader_of) c.all_closed.ensures)
     (bare_readers _ c.all_closed.ensures))
 
 pub returns-in-Ok-clause-placed : goal.returns-in-Ok-clause-placed
-returns-in-Ok-clause-placed g c = placed_left (core_of c.args.volume.now.map) (core_of c.close_job.new.volume.map) c.close_job.ensures.closed.leaves c.requires.placed
+returns-in-Ok-clause-placed g c = placed_left c.args.volume.now.core c.close_job.new.volume.core c.close_job.ensures.closed.leaves c.requires.placed

@@ -1,6 +1,5 @@
 use Rattle.std.proofs.Common.{◌≡◌, false, Some, refl, subst, slice_set}
 use Rattle.meaning.specs.declared.call.Call.TheVariants.{Lookup}
-use Rattle.volume.specs.LiveCores.{core_of}
 use Rattle.volume.specs.Rest.{IsSound}
 use Rattle.monitor.proofs.Knowing.{known}
 use Rattle.monitor.proofs.LookupCalls.{lookup_keyed, lookup_reading, lookup_answered}
@@ -10,10 +9,10 @@ use Rattle.monitor.proofs.ReadingJobs.{job_held, few_readers}
 use Rattle.monitor.proofs.lookup.serve_lookup.Goals as goal
 
 pub lookup-requires-clause-held : goal.lookup-requires-clause-held
-lookup-requires-clause-held g c = job_held (core_of c.args.volume.now.map).live c.requires.ready.jobs c.requires.ready.number c.args.job.now c.requires.ready.among.reading c.requires.ready.among.there
+lookup-requires-clause-held g c = job_held c.args.volume.now.core.live c.requires.ready.jobs c.requires.ready.number c.args.job.now c.requires.ready.among.reading c.requires.ready.among.there
 
 pub lookup-requires-clause-few : goal.lookup-requires-clause-few
-lookup-requires-clause-few g c = few_readers (core_of c.args.volume.now.map).live c.requires.ready.jobs c.requires.ready.among.reading
+lookup-requires-clause-few g c = few_readers c.args.volume.now.core.live c.requires.ready.jobs c.requires.ready.among.reading
 
 pub returns : goal.returns
 returns g c = record {
@@ -21,14 +20,14 @@ returns g c = record {
       let state = g.D.Disk.state in
       let old = c.args.volume.now in
       let new = c.lookup.new.volume in
-      let map = core_of old.map in
-      let map' = core_of new.map in
+      let map = old.core in
+      let map' = new.core in
       let job = c.args.job.now in
       let job' = c.lookup.new.job in
       let jobs' = slice_set jobs n (Some job') in
       let sound = subst (IsSound (state old.disk) map) c.requires.ready.alive c.requires.ready.sound in
       quiet_serves state g.met.D.Disk.only_now old.disk new.disk map map' old.failed new.failed job job' (Lookup c.args.channel c.args.address) moment c.lookup.result c.requires.ready.alive c.lookup.ensures.untouched
-      (c.lookup.ensures.only.0, c.lookup.ensures.only.1) c.lookup.ensures.sound (placed_still map map' c.lookup.ensures.pending c.lookup.ensures.known c.requires.ready.placed) (λ light. c.lookup.ensures.only.2) (λ kept. absurd kept) (λ none. absurd (c.lookup.ensures.only.2 none))
+      (c.lookup.ensures.only.0, c.lookup.ensures.only.1) (placed_still map map' c.lookup.ensures.pending c.lookup.ensures.known c.requires.ready.placed) (λ light. c.lookup.ensures.only.2) (λ kept. absurd kept) (λ none. absurd (c.lookup.ensures.only.2 none))
       c.lookup.ensures.refused (λ is. absurd is) jobs n among
       (lookup_keyed (state old.disk) (state new.disk) map map' jobs jobs' n job job' c.args.channel c.args.address moment c.lookup.result among.there refl among.keyed among.reading c.lookup.ensures.pending c.lookup.ensures.reads
       c.lookup.ensures.looked c.lookup.ensures.kept)

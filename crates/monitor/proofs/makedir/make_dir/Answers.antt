@@ -1,20 +1,19 @@
 use Rattle.std.proofs.Common.{refl, ap, ◌∙◌}
 use Rattle.meaning.specs.Entering.{protection_or}
-use Rattle.volume.specs.LiveCores.{core_of}
 use Rattle.monitor.proofs.MakeDirs.{crash_asked, done_asked, keeps_core}
 use Rattle.monitor.proofs.makedir.make_dir.Goals as goal
 
 pub returns-then-lies_outside-clause-keeps : goal.returns-then-lies_outside-clause-keeps
-returns-then-lies_outside-clause-keeps g c = keeps_core (core_of c.args.volume.now.map).pending (core_of c.args.volume.now.map).pending c.args.job.now c.args.job.now.core refl
+returns-then-lies_outside-clause-keeps g c = keeps_core c.args.volume.now.core.pending c.args.volume.now.core.pending c.args.job.now c.args.job.now.core refl
 
 pub returns-in_default-clause-keeps : goal.returns-in_default-clause-keeps
-returns-in_default-clause-keeps g c = keeps_core (core_of c.args.volume.now.map).pending (core_of c.args.volume.now.map).pending c.args.job.now c.refuse.new.core refl
+returns-in_default-clause-keeps g c = keeps_core c.args.volume.now.core.pending c.args.volume.now.core.pending c.args.job.now c.refuse.new.core refl
 
 pub returns-then-ne-clause-keeps : goal.returns-then-ne-clause-keeps
-returns-then-ne-clause-keeps g c = keeps_core (core_of c.args.volume.now.map).pending (core_of c.args.volume.now.map).pending c.args.job.now c.refuse-then-ne.new.core refl
+returns-then-ne-clause-keeps g c = keeps_core c.args.volume.now.core.pending c.args.volume.now.core.pending c.args.job.now c.refuse-then-ne.new.core refl
 
 pub returns-in-Ok-clause-keeps : goal.returns-in-Ok-clause-keeps
-returns-in-Ok-clause-keeps g c = keeps_core (core_of c.args.volume.now.map).pending (core_of c.make_dir.new.self.map).pending c.args.job.now c.args.job.now.core c.make_dir.ensures.pending
+returns-in-Ok-clause-keeps g c = keeps_core c.args.volume.now.core.pending c.make_dir.new.self.core.pending c.args.job.now c.args.job.now.core c.make_dir.ensures.pending
 
 pub returns-in-Ok-clause-crash : goal.returns-in-Ok-clause-crash
 returns-in-Ok-clause-crash g c h f rests =
@@ -27,7 +26,7 @@ returns-in-Ok-clause-done g c h f rests done =
     (c.in-Some.ensures.value ∙ c.word_at.ensures.value) (c.protection_or-protection.ensures.value ∙ ap (λ w. protection_or w 0o775) c.word_at-2.ensures.value) f (c.in-Ok.ensures.done h f rests)
 
 pub returns-in-Err-Refused-clause-keeps : goal.returns-in-Err-Refused-clause-keeps
-returns-in-Err-Refused-clause-keeps g c = keeps_core (core_of c.args.volume.now.map).pending (core_of c.make_dir.new.self.map).pending c.args.job.now c.refuse-in-Err-Refused.new.core c.make_dir.ensures.pending
+returns-in-Err-Refused-clause-keeps g c = keeps_core c.args.volume.now.core.pending c.make_dir.new.self.core.pending c.args.job.now c.refuse-in-Err-Refused.new.core c.make_dir.ensures.pending
 
 pub returns-in-Err-Refused-clause-crash : goal.returns-in-Err-Refused-clause-crash
 returns-in-Err-Refused-clause-crash g c h f rests =
@@ -35,7 +34,7 @@ returns-in-Err-Refused-clause-crash g c h f rests =
     (c.in-Some.ensures.value ∙ c.word_at.ensures.value) (c.protection_or-protection.ensures.value ∙ ap (λ w. protection_or w 0o775) c.word_at-2.ensures.value) f (c.make_dir.ensures.crash h f rests)
 
 pub returns-in-Err-NoMemory-clause-keeps : goal.returns-in-Err-NoMemory-clause-keeps
-returns-in-Err-NoMemory-clause-keeps g c = keeps_core (core_of c.args.volume.now.map).pending (core_of c.make_dir.new.self.map).pending c.args.job.now c.args.job.now.core c.make_dir.ensures.pending
+returns-in-Err-NoMemory-clause-keeps g c = keeps_core c.args.volume.now.core.pending c.make_dir.new.self.core.pending c.args.job.now c.args.job.now.core c.make_dir.ensures.pending
 
 pub returns-in-Err-NoMemory-clause-crash : goal.returns-in-Err-NoMemory-clause-crash
 returns-in-Err-NoMemory-clause-crash g c h f rests =
@@ -43,7 +42,7 @@ returns-in-Err-NoMemory-clause-crash g c h f rests =
     (c.in-Some.ensures.value ∙ c.word_at.ensures.value) (c.protection_or-protection.ensures.value ∙ ap (λ w. protection_or w 0o775) c.word_at-2.ensures.value) f (c.make_dir.ensures.crash h f rests)
 
 pub returns-in-Err-Device-clause-keeps : goal.returns-in-Err-Device-clause-keeps
-returns-in-Err-Device-clause-keeps g c = keeps_core (core_of c.args.volume.now.map).pending (core_of c.make_dir.new.self.map).pending c.args.job.now c.args.job.now.core c.make_dir.ensures.pending
+returns-in-Err-Device-clause-keeps g c = keeps_core c.args.volume.now.core.pending c.make_dir.new.self.core.pending c.args.job.now c.args.job.now.core c.make_dir.ensures.pending
 
 pub returns-in-Err-Device-clause-crash : goal.returns-in-Err-Device-clause-crash
 returns-in-Err-Device-clause-crash g c h f rests =

@@ -1,6 +1,5 @@
 use Rattle.std.proofs.Common.{◌≡◌, false, Some, refl, subst, ap, slice_set}
 use Rattle.meaning.proofs.SlotLaws.{slot-set_other}
-use Rattle.volume.specs.LiveCores.{core_of}
 use Rattle.volume.specs.Rest.{IsSound}
 use Rattle.monitor.specs.DirectoryRows.{IsMakeDir}
 use Rattle.monitor.proofs.Called.{still_serves}
@@ -16,8 +15,8 @@ returns g c = record {
       let state = g.D.Disk.state in
       let old = c.args.volume.now in
       let new = c.make_dir.new.volume in
-      let map = core_of old.map in
-      let map' = core_of new.map in
+      let map = old.core in
+      let map' = new.core in
       let job = c.args.job.now in
       let job' = c.make_dir.new.job in
       let jobs' = slice_set jobs n (Some job') in
@@ -28,7 +27,6 @@ returns g c = record {
       let reading = made_reading state old.disk new.disk map map' jobs jobs' n job job' c.args.address moment among.there refl timely sound among.reading c.make_dir.ensures.reads in
       let fails = fails_by size map same job job' c.args.address c.make_dir.result c.make_dir.ensures.outcome new.failed c.make_dir.ensures.failed in
       record {
-        sound = c.make_dir.ensures.sound;
         keyed = λ serves. keyed;
         placed = λ serves. placed_made map map' c.make_dir.ensures.pending c.make_dir.ensures.directories c.requires.ready.placed;
         reading = λ serves. reading;

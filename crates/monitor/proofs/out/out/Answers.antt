@@ -4,7 +4,6 @@ use Rattle.meaning.specs.Splices.{length_after}
 use Rattle.meaning.specs.declared.code.ErrorCode.TheVariants.{NoRoom}
 use Rattle.volume.specs.declared.error.CallError.TheVariants.{Refused}
 use Rattle.volume.specs.Live.{VolumeCore}
-use Rattle.volume.specs.LiveCores.{core_of}
 use Rattle.monitor.specs.Putting.{moved, IsOut}
 use Rattle.monitor.specs.Rows.{Keeps}
 use Rattle.monitor.proofs.Calling.{keeps_same}
@@ -13,29 +12,29 @@ use Rattle.monitor.proofs.Usetos.{keeps_status}
 use Rattle.monitor.proofs.out.out.Goals as goal
 
 pub returns-in_default-clause-keeps : goal.returns-in_default-clause-keeps
-returns-in_default-clause-keeps g c alive = keeps_same (core_of c.args.volume.now.map).pending c.args.job.now
+returns-in_default-clause-keeps g c alive = keeps_same c.args.volume.now.core.pending c.args.job.now
 
 pub returns-in_default-output-clause-keeps : goal.returns-in_default-output-clause-keeps
-returns-in_default-output-clause-keeps g c alive = keeps_same (core_of c.args.volume.now.map).pending c.args.job.now
+returns-in_default-output-clause-keeps g c alive = keeps_same c.args.volume.now.core.pending c.args.job.now
 
 pub returns-in-Err-AddressCheck-clause-keeps : goal.returns-in-Err-AddressCheck-clause-keeps
-returns-in-Err-AddressCheck-clause-keeps g c alive = keeps_same (core_of c.args.volume.now.map).pending c.args.job.now
+returns-in-Err-AddressCheck-clause-keeps g c alive = keeps_same c.args.volume.now.core.pending c.args.job.now
 
 pub returns-in-Err-NoMemory-clause-keeps : goal.returns-in-Err-NoMemory-clause-keeps
-returns-in-Err-NoMemory-clause-keeps g c alive = keeps_same (core_of c.args.volume.now.map).pending c.args.job.now
+returns-in-Err-NoMemory-clause-keeps g c alive = keeps_same c.args.volume.now.core.pending c.args.job.now
 
 pub put_words-requires-clause-live : goal.put_words-requires-clause-live
 put_words-requires-clause-live g c =
-    version_live (core_of c.args.volume.now.map).pending c.args.job.now c.args.number c.in-Some.channel (sym c.channel.ensures ∙ c.in-Some.is) c.in-Some-output.output c.in-Some-output.is c.requires.live
+    version_live c.args.volume.now.core.pending c.args.job.now c.args.number c.in-Some.channel (sym c.channel.ensures ∙ c.in-Some.is) c.in-Some-output.output c.in-Some-output.is c.requires.live
 
 pub put_words-requires-clause-first : goal.put_words-requires-clause-first
 put_words-requires-clause-first g c =
-    (its_side (core_of c.args.volume.now.map).pending c.args.job.now c.args.number c.in-Some.channel (sym c.channel.ensures ∙ c.in-Some.is) c.in-Some-output.output c.in-Some-output.is c.requires.sides).starts
+    (its_side c.args.volume.now.core.pending c.args.job.now c.args.number c.in-Some.channel (sym c.channel.ensures ∙ c.in-Some.is) c.in-Some-output.output c.in-Some-output.is c.requires.sides).starts
 
 pub moved-moved-requires-clause-fits : goal.moved-moved-requires-clause-fits
 moved-moved-requires-clause-fits g c =
-    let p = version_there (core_of c.args.volume.now.map).pending c.args.job.now c.args.number c.in-Some.channel (sym c.channel.ensures ∙ c.in-Some.is) c.in-Some-output.output c.in-Some-output.is c.requires.live in
-    let first = (its_side (core_of c.args.volume.now.map).pending c.args.job.now c.args.number c.in-Some.channel (sym c.channel.ensures ∙ c.in-Some.is) c.in-Some-output.output c.in-Some-output.is c.requires.sides).starts in
+    let p = version_there c.args.volume.now.core.pending c.args.job.now c.args.number c.in-Some.channel (sym c.channel.ensures ∙ c.in-Some.is) c.in-Some-output.output c.in-Some-output.is c.requires.live in
+    let first = (its_side c.args.volume.now.core.pending c.args.job.now c.args.number c.in-Some.channel (sym c.channel.ensures ∙ c.in-Some.is) c.in-Some-output.output c.in-Some-output.is c.requires.sides).starts in
     let counted : c.len.result ≡ length c.as_slice.result.now = omega (arith, c.in-Ok.words.ok, c.len.ensures, ap length c.as_slice.ensures.value) in
     let few : c.len.result ≤ 0o400000 = omega (arith, c.in-Ok.words.ok, c.len.ensures, c.in-Ok.ensures.few) in
     let small : c.in-Some-output.output.next < 2 ^ 32 = search rules in
@@ -66,20 +65,20 @@ returns-in-Ok-put_words-clause-outcome g c =
 
 pub returns-in-Ok-put_words-clause-keeps : goal.returns-in-Ok-put_words-clause-keeps
 returns-in-Ok-put_words-clause-keeps g c alive =
-    let p = version_there (core_of c.args.volume.now.map).pending c.args.job.now c.args.number c.in-Some.channel (sym c.channel.ensures ∙ c.in-Some.is) c.in-Some-output.output c.in-Some-output.is c.requires.live in
+    let p = version_there c.args.volume.now.core.pending c.args.job.now c.args.number c.in-Some.channel (sym c.channel.ensures ∙ c.in-Some.is) c.in-Some-output.output c.in-Some-output.is c.requires.live in
     let put = c.in-Ok-put_words.ensures.put p.0 p.1 in
-    keeps_put (core_of c.args.volume.now.map).pending (core_of c.put_words.new.self.map).pending c.args.job.now c.set_channel.new.self c.args.number c.in-Some.channel (sym c.channel.ensures ∙ c.in-Some.is) c.in-Some-output.output c.in-Some-output.is c.len.result
+    keeps_put c.args.volume.now.core.pending c.put_words.new.self.core.pending c.args.job.now c.set_channel.new.self c.args.number c.in-Some.channel (sym c.channel.ensures ∙ c.in-Some.is) c.in-Some-output.output c.in-Some-output.is c.len.result
     (c.set_channel.ensures ∙ ap (λ x. record c.args.job.now { channels = slice_set c.args.job.now.channels c.args.number (Some x) }) c.moved-moved.ensures) p.0 p.1 put.0 put.1 c.put_words.ensures.others
 
 pub returns-in-Ok-put_words-clause-reads : goal.returns-in-Ok-put_words-clause-reads
 returns-in-Ok-put_words-clause-reads g c alive =
-    reads_moved (core_of c.args.volume.now.map).live (core_of c.put_words.new.self.map).live c.args.job.now c.put_words.ensures.live c.args.number c.in-Some.channel (sym c.channel.ensures ∙ c.in-Some.is) c.in-Some-output.output c.in-Some-output.is c.len.result c.set_channel.new.self
+    reads_moved c.args.volume.now.core.live c.put_words.new.self.core.live c.args.job.now c.put_words.ensures.live c.args.number c.in-Some.channel (sym c.channel.ensures ∙ c.in-Some.is) c.in-Some-output.output c.in-Some-output.is c.len.result c.set_channel.new.self
     (c.set_channel.ensures ∙ ap (λ x. record c.args.job.now { channels = slice_set c.args.job.now.channels c.args.number (Some x) }) c.moved-moved.ensures)
 
 pub returns-in-Err-Refused-clause-outcome : goal.returns-in-Err-Refused-clause-outcome
 returns-in-Err-Refused-clause-outcome g c =
-    subst (IsOut (g.D.Disk.state c.args.volume.now.disk) (g.D.Disk.state c.put_words.new.self.disk) (core_of c.args.volume.now.map) (core_of c.put_words.new.self.map)
-    ((c.put_words.new.self.disk ≡ c.args.volume.now.disk) × (core_of c.put_words.new.self.map ≡ core_of c.args.volume.now.map)) c.args.job.now c.stop.new.job c.args.number c.args.address) (sym c.stop.ensures.answered) (
+    subst (IsOut (g.D.Disk.state c.args.volume.now.disk) (g.D.Disk.state c.put_words.new.self.disk) c.args.volume.now.core c.put_words.new.self.core
+    ((c.put_words.new.self.disk ≡ c.args.volume.now.disk) × (c.put_words.new.self.core ≡ c.args.volume.now.core)) c.args.job.now c.stop.new.job c.args.number c.args.address) (sym c.stop.ensures.answered) (
       record {
         channel = c.in-Some.channel;
         there = sym c.channel.ensures ∙ c.in-Some.is;
@@ -97,15 +96,15 @@ returns-in-Err-Refused-clause-outcome g c =
 pub returns-in-Err-Refused-clause-keeps : goal.returns-in-Err-Refused-clause-keeps
 returns-in-Err-Refused-clause-keeps g c alive =
     let same = c.put_words.ensures.refused c.in-Err-Refused.field-0-0 (c.in-Err-Refused.is ∙ ap Err c.in-Err-Refused.field-0-is) in
-    subst (λ (core : VolumeCore). Keeps (core_of c.args.volume.now.map).pending core.pending c.args.job.now c.stop.new.job) (sym same.1)
-    (keeps_status c.args.job.now c.args.number 0 c.in-Some.channel (sym c.channel.ensures ∙ c.in-Some.is) (core_of c.args.volume.now.map).pending c.stop.new.job _ c.stop.ensures.kept)
+    subst (λ (core : VolumeCore). Keeps c.args.volume.now.core.pending core.pending c.args.job.now c.stop.new.job) (sym same.1)
+    (keeps_status c.args.job.now c.args.number 0 c.in-Some.channel (sym c.channel.ensures ∙ c.in-Some.is) c.args.volume.now.core.pending c.stop.new.job _ c.stop.ensures.kept)
 
 pub returns-in-Err-Refused-clause-reads : goal.returns-in-Err-Refused-clause-reads
 returns-in-Err-Refused-clause-reads g c alive =
-    reads_status (core_of c.args.volume.now.map).live (core_of c.put_words.new.self.map).live c.args.job.now c.put_words.ensures.live c.args.number c.in-Some.channel (sym c.channel.ensures ∙ c.in-Some.is) _ c.stop.new.job c.stop.ensures.kept
+    reads_status c.args.volume.now.core.live c.put_words.new.self.core.live c.args.job.now c.put_words.ensures.live c.args.number c.in-Some.channel (sym c.channel.ensures ∙ c.in-Some.is) _ c.stop.new.job c.stop.ensures.kept
 
 pub returns-in-Err-NoMemory-put_words-clause-keeps : goal.returns-in-Err-NoMemory-put_words-clause-keeps
 returns-in-Err-NoMemory-put_words-clause-keeps g c alive =
     let same = c.put_words.ensures.memory (c.in-Err-NoMemory-put_words.is ∙ ap Err c.in-Err-NoMemory-put_words.field-0-is) in
-    subst (λ (core : VolumeCore). Keeps (core_of c.args.volume.now.map).pending core.pending c.args.job.now c.args.job.now) (sym same.1)
-    (keeps_same (core_of c.args.volume.now.map).pending c.args.job.now)
+    subst (λ (core : VolumeCore). Keeps c.args.volume.now.core.pending core.pending c.args.job.now c.args.job.now) (sym same.1)
+    (keeps_same c.args.volume.now.core.pending c.args.job.now)

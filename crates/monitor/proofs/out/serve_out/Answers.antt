@@ -2,7 +2,6 @@ use Rattle.std.proofs.Common.{◌≡◌, false, Some, refl, subst, ap, slice_set
 use Rattle.std.specs.List.{AllByRecursion}
 use Rattle.meaning.specs.declared.call.Call.TheVariants.{Out}
 use Rattle.meaning.proofs.SlotLaws.{slot-set_other}
-use Rattle.volume.specs.LiveCores.{core_of}
 use Rattle.volume.specs.Rest.{IsSound}
 use Rattle.monitor.specs.Putting.{IsOut}
 use Rattle.monitor.specs.Serving.{IsSide}
@@ -18,12 +17,12 @@ use Rattle.monitor.proofs.Untouched.{quiet_crashes}
 use Rattle.monitor.proofs.out.serve_out.Goals as goal
 
 pub out-requires-clause-live : goal.out-requires-clause-live
-out-requires-clause-live g c = job_live (core_of c.args.volume.now.map) c.requires.ready.jobs c.requires.ready.number c.args.job.now c.requires.ready.among.keyed c.requires.ready.among.there
+out-requires-clause-live g c = job_live c.args.volume.now.core c.requires.ready.jobs c.requires.ready.number c.args.job.now c.requires.ready.among.keyed c.requires.ready.among.there
 
 pub out-requires-clause-sides : goal.out-requires-clause-sides
 out-requires-clause-sides g c =
-    subst (λ o. AllByRecursion (IsSide (core_of c.args.volume.now.map).pending) (sides_in o)) c.requires.ready.among.there
-    (each-slot (IsSide (core_of c.args.volume.now.map).pending) c.requires.ready.jobs c.requires.ready.number c.requires.ready.among.keyed.each)
+    subst (λ o. AllByRecursion (IsSide c.args.volume.now.core.pending) (sides_in o)) c.requires.ready.among.there
+    (each-slot (IsSide c.args.volume.now.core.pending) c.requires.ready.jobs c.requires.ready.number c.requires.ready.among.keyed.each)
 
 pub returns : goal.returns
 returns g c = record {
@@ -31,15 +30,14 @@ returns g c = record {
       let state = g.D.Disk.state in
       let old = c.args.volume.now in
       let new = c.out.new.volume in
-      let map = core_of old.map in
-      let map' = core_of new.map in
+      let map = old.core in
+      let map' = new.core in
       let job = c.args.job.now in
       let job' = c.out.new.job in
       let jobs' = slice_set jobs n (Some job') in
       let sound = subst (IsSound (state old.disk) map) c.requires.ready.alive c.requires.ready.sound in
       let same = (new.disk ≡ old.disk) × (map' ≡ map) in
       record {
-        sound = c.out.ensures.sound;
         keyed = out_keyed state old.disk new.disk map map' false new.failed jobs jobs' n job job' c.args.channel c.args.address moment among.there refl refl timely among.keyed among.reading c.out.ensures.keeps c.out.ensures.reads sound;
         placed = λ serves.
             out_placed state old.disk new.disk map map' job job' c.args.channel c.args.address new.failed (job_live map jobs n job among.keyed among.there) c.out.ensures.others c.out.ensures.known

@@ -5,7 +5,6 @@ use Rattle.meaning.specs.Jobs.{cleared, end_of_file}
 use Rattle.meaning.specs.Splices.{block_start, words_from}
 use Rattle.meaning.proofs.MapLaws.{some_same}
 use Rattle.meaning.specs.declared.call.Reply.TheVariants.{Done}
-use Rattle.volume.specs.LiveCores.{core_of}
 use Rattle.monitor.specs.Reading.{IsIn}
 use Rattle.monitor.specs.Rows.{KeepsReading}
 use Rattle.monitor.specs.declared.read_in.ReadIn.TheVariants.{Moved, AtEnd}
@@ -14,20 +13,20 @@ use Rattle.monitor.proofs.read.read.Goals as goal
 
 pub read_in-requires-clause-live : goal.read_in-requires-clause-live
 read_in-requires-clause-live g c =
-    version_held (core_of c.args.volume.now.map).live c.args.job.now c.args.number c.in-Some.channel (sym c.channel.ensures ∙ c.in-Some.is) c.in-Some-side.input c.in-Some-side.is c.requires.held
+    version_held c.args.volume.now.core.live c.args.job.now c.args.number c.in-Some.channel (sym c.channel.ensures ∙ c.in-Some.is) c.in-Some-side.input c.in-Some-side.is c.requires.held
 
 pub read_on-requires-clause-fits : goal.read_on-requires-clause-fits
 read_on-requires-clause-fits g c =
     let i = c.in-Some-side.input in
     let n = c.in-Moved.count in
-    let held = version_held (core_of c.args.volume.now.map).live c.args.job.now c.args.number c.in-Some.channel (sym c.channel.ensures ∙ c.in-Some.is) i c.in-Some-side.is c.requires.held in
+    let held = version_held c.args.volume.now.core.live c.args.job.now c.args.number c.in-Some.channel (sym c.channel.ensures ∙ c.in-Some.is) i c.in-Some-side.is c.requires.held in
     let list = is_listed c.read_in.result (Moved n) (dump_list c.args.job.now.core c.args.address) c.in-Moved.is (λ e. cc e) c.read_in.ensures.checked in
     let words = held.0.version.words in
     let many : n ≡ min (word_count list.0) (length (words_from (replicate words 0) i.next)) = c.read_in.ensures.number held.0 held.1 (replicate words 0) (length-replicate words 0) list.0 list.1 n c.in-Moved.is in
     let left : length (words_from (replicate words 0) i.next) ≡ words - block_start i.next = words_left words i.next in
     let first : 0 < i.next = search rules in
     let small : i.next < 2 ^ 32 = search rules in
-    read_fits words i.next n first small (few_words (core_of c.args.volume.now.map).live i.pin.key held.0 c.requires.sound.whole.standing held.1) (omega (arith, many, left))
+    read_fits words i.next n first small (few_words c.args.volume.now.core.live i.pin.key held.0 c.requires.sound.whole.standing held.1) (omega (arith, many, left))
 
 pub read_on-requires-clause-few : goal.read_on-requires-clause-few
 read_on-requires-clause-few g c =
@@ -56,14 +55,14 @@ returns-in-Moved-clause-outcome g c =
 
 pub returns-in-Moved-clause-reads : goal.returns-in-Moved-clause-reads
 returns-in-Moved-clause-reads g c =
-    subst (λ m. KeepsReading (core_of c.args.volume.now.map).live (core_of m).live c.args.job.now c.set_channel.new.self) (sym c.read_in.ensures.core)
-    (in_reads (g.D.Disk.state c.args.volume.now.disk) (g.D.Disk.state c.read_in.new.volume.disk) (core_of c.args.volume.now.map) c.args.job.now c.set_channel.new.self c.args.number c.args.address Done (returns-in-Moved-clause-outcome g c) (core_of c.args.volume.now.map).live)
+    subst (λ m. KeepsReading c.args.volume.now.core.live m.live c.args.job.now c.set_channel.new.self) (sym c.read_in.ensures.core)
+    (in_reads (g.D.Disk.state c.args.volume.now.disk) (g.D.Disk.state c.read_in.new.volume.disk) c.args.volume.now.core c.args.job.now c.set_channel.new.self c.args.number c.args.address Done (returns-in-Moved-clause-outcome g c) c.args.volume.now.core.live)
 
 pub returns-in-AtEnd-clause-outcome : goal.returns-in-AtEnd-clause-outcome
 returns-in-AtEnd-clause-outcome g c =
     let list = is_listed c.read_in.result AtEnd (dump_list c.args.job.now.core c.args.address) c.in-AtEnd.is (λ e. cc e) c.read_in.ensures.checked in
     let status = cleared c.in-Some.channel.status + end_of_file in
-    subst (IsIn (g.D.Disk.state c.args.volume.now.disk) (g.D.Disk.state c.read_in.new.volume.disk) (core_of c.args.volume.now.map) c.args.job.now c.stop.new.job c.args.number c.args.address) (sym c.stop.ensures.answered) (
+    subst (IsIn (g.D.Disk.state c.args.volume.now.disk) (g.D.Disk.state c.read_in.new.volume.disk) c.args.volume.now.core c.args.job.now c.stop.new.job c.args.number c.args.address) (sym c.stop.ensures.answered) (
       record {
         at = record { channel = c.in-Some.channel; there = sym c.channel.ensures ∙ c.in-Some.is; input = c.in-Some-side.input; side = c.in-Some-side.is };
         areas = list.0;
@@ -76,5 +75,5 @@ returns-in-AtEnd-clause-outcome g c =
 
 pub returns-in-AtEnd-clause-reads : goal.returns-in-AtEnd-clause-reads
 returns-in-AtEnd-clause-reads g c =
-    subst (λ m. KeepsReading (core_of c.args.volume.now.map).live (core_of m).live c.args.job.now c.stop.new.job) (sym c.read_in.ensures.core)
-    (in_reads (g.D.Disk.state c.args.volume.now.disk) (g.D.Disk.state c.read_in.new.volume.disk) (core_of c.args.volume.now.map) c.args.job.now c.stop.new.job c.args.number c.args.address c.stop.result (returns-in-AtEnd-clause-outcome g c) (core_of c.args.volume.now.map).live)
+    subst (λ m. KeepsReading c.args.volume.now.core.live m.live c.args.job.now c.stop.new.job) (sym c.read_in.ensures.core)
+    (in_reads (g.D.Disk.state c.args.volume.now.disk) (g.D.Disk.state c.read_in.new.volume.disk) c.args.volume.now.core c.args.job.now c.stop.new.job c.args.number c.args.address c.stop.result (returns-in-AtEnd-clause-outcome g c) c.args.volume.now.core.live)

@@ -1,7 +1,6 @@
 use Rattle.std.proofs.Common.{◌≡◌, false, Some, refl, sym, subst, ap, slice_set}
 use Rattle.meaning.specs.declared.call.Call.TheVariants.{In}
 use Rattle.meaning.proofs.SlotLaws.{slot-set_other}
-use Rattle.volume.specs.LiveCores.{core_of}
 use Rattle.monitor.specs.Serving.{AreKeyed, ArePlaced, AreReading}
 use Rattle.monitor.proofs.Called.{still_serves}
 use Rattle.monitor.proofs.ReadAnswers.{in_keyed, in_reading, in_answered, quiet_read}
@@ -12,7 +11,7 @@ use Rattle.monitor.proofs.Untouched.{quiet_crashes}
 use Rattle.monitor.proofs.read.serve_in.Goals as goal
 
 pub read-requires-clause-held : goal.read-requires-clause-held
-read-requires-clause-held g c = job_held (core_of c.args.volume.now.map).live c.requires.ready.jobs c.requires.ready.number c.args.job.now c.requires.ready.among.reading c.requires.ready.among.there
+read-requires-clause-held g c = job_held c.args.volume.now.core.live c.requires.ready.jobs c.requires.ready.number c.args.job.now c.requires.ready.among.reading c.requires.ready.among.there
 
 pub read-requires-clause-readers : goal.read-requires-clause-readers
 read-requires-clause-readers g c = c.requires.ready.among.reading.each c.requires.ready.number c.args.job.now c.requires.ready.among.there
@@ -23,14 +22,13 @@ returns g c = record {
       let state = g.D.Disk.state in
       let old = c.args.volume.now in
       let new = c.read.new.volume in
-      let map = core_of old.map in
-      let map' = core_of new.map in
+      let map = old.core in
+      let map' = new.core in
       let job = c.args.job.now in
       let job' = c.read.new.job in
       let jobs' = slice_set jobs n (Some job') in
       let core = c.read.ensures.core in
       record {
-        sound = c.read.ensures.sound;
         keyed = λ serves. subst (λ m. AreKeyed m.pending jobs') (sym core) (in_keyed (state old.disk) (state new.disk) map false jobs n c.args.channel c.args.address moment refl timely among.keyed among.reading job job' among.there jobs' refl c.read.result c.read.ensures.outcome);
         placed = λ serves. subst ArePlaced (sym core) c.requires.ready.placed;
         reading = λ serves. subst (λ m. AreReading m.live jobs') (sym core) (in_reading (state old.disk) (state new.disk) map false jobs n c.args.channel c.args.address moment refl timely among.keyed among.reading job job' among.there jobs' refl c.read.result c.read.ensures.outcome);

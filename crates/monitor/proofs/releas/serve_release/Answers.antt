@@ -1,7 +1,6 @@
 use Rattle.std.proofs.Common.{◌≡◌, Some, ap, sym, subst, ◌∙◌}
 use Rattle.std.specs.List.{AllByRecursion}
 use Rattle.meaning.specs.declared.call.Call.TheVariants.{Releas}
-use Rattle.volume.specs.LiveCores.{core_of}
 use Rattle.monitor.specs.Serving.{IsSide}
 use Rattle.monitor.specs.Sides.{sides_in}
 use Rattle.monitor.proofs.Dropped.{job_live}
@@ -15,14 +14,14 @@ pub release_output-requires-clause-live : goal.release_output-requires-clause-li
 release_output-requires-clause-live g c =
     let here = c.in-Some.ensures.some in
     let ready = c.requires.ready in
-    version_live (core_of c.args.volume.now.map).pending c.args.job.now c.args.channel c.in-Some._open here.there c.in-Some.output here.side
-    (job_live (core_of c.args.volume.now.map) ready.jobs ready.number c.args.job.now ready.among.keyed ready.among.there)
+    version_live c.args.volume.now.core.pending c.args.job.now c.args.channel c.in-Some._open here.there c.in-Some.output here.side
+    (job_live c.args.volume.now.core ready.jobs ready.number c.args.job.now ready.among.keyed ready.among.there)
 
 pub release_output-requires-clause-starts : goal.release_output-requires-clause-starts
 release_output-requires-clause-starts g c =
     let here = c.in-Some.ensures.some in
     let ready = c.requires.ready in
-    let pending = (core_of c.args.volume.now.map).pending in
+    let pending = c.args.volume.now.core.pending in
     (its_side pending c.args.job.now c.args.channel c.in-Some._open here.there c.in-Some.output here.side
     (subst (λ o. AllByRecursion (IsSide pending) (sides_in o)) ready.among.there (each-slot (IsSide pending) ready.jobs ready.number ready.among.keyed.each))).starts
 
@@ -32,7 +31,7 @@ release_output-requires-clause-placed g c p at = c.requires.ready.placed.each c.
 pub release-requires-clause-held : goal.release-requires-clause-held
 release-requires-clause-held g c =
     let ready = c.requires.ready in
-    job_held (core_of c.args.volume.now.map).live ready.jobs ready.number c.args.job.now ready.among.reading ready.among.there
+    job_held c.args.volume.now.core.live ready.jobs ready.number c.args.job.now ready.among.reading ready.among.there
 
 pub returns-in-Some : goal.returns-in-Some
 returns-in-Some g c = record {
@@ -41,8 +40,8 @@ returns-in-Some g c = record {
       let new = c.release_output.new.volume in
       let ready = c.requires.ready in
       let here = c.in-Some.ensures.some in
-      publishing_serves g.D.Disk.state g.met.D.Disk.only_now old.disk new.disk (core_of old.map) (core_of new.map) old.failed new.failed c.in-Some.output.pending.key c.args.job.now c.release_output.new.job (Releas c.args.channel) moment c.release_output.result
-      ready.alive ready.placed timely c.release_output.ensures.sound c.release_output.ensures.whatever c.release_output.ensures.answered c.release_output.ensures.memory c.release_output.ensures.kept c.release_output.ensures.stands (c.release_output.ensures.row ready.alive) c.release_output.ensures.crash
+      publishing_serves g.D.Disk.state g.met.D.Disk.only_now old.disk new.disk old.core new.core old.failed new.failed c.in-Some.output.pending.key c.args.job.now c.release_output.new.job (Releas c.args.channel) moment c.release_output.result
+      ready.alive ready.placed timely c.release_output.ensures.whatever c.release_output.ensures.answered c.release_output.ensures.memory c.release_output.ensures.kept c.release_output.ensures.stands (c.release_output.ensures.row ready.alive) c.release_output.ensures.crash
       (λ quiet. publishes_here c.args.job.now c.args.channel 0 c.in-Some._open c.in-Some.output here quiet) (λ kept. kept) (λ asked. asked);
 }
 
@@ -52,7 +51,7 @@ returns-in-None g c = record {
       let old = c.args.volume.now in
       let new = c.release.new.volume in
       let ready = c.requires.ready in
-      dropping_serves g.D.Disk.state g.met.D.Disk.only_now old.disk new.disk (core_of old.map) (core_of new.map) old.failed new.failed c.args.job.now c.release.new.job (Releas c.args.channel) moment c.release.result
-      ready.alive c.release.ensures.untouched c.release.ensures.sound ready.placed timely c.release.ensures.row c.release.ensures.keeps c.release.ensures.reads c.release.ensures.leaves c.release.ensures.only
+      dropping_serves g.D.Disk.state g.met.D.Disk.only_now old.disk new.disk old.core new.core old.failed new.failed c.args.job.now c.release.new.job (Releas c.args.channel) moment c.release.result
+      ready.alive c.release.ensures.untouched ready.placed timely c.release.ensures.row c.release.ensures.keeps c.release.ensures.reads c.release.ensures.leaves c.release.ensures.only
       c.release.ensures.refused (λ kept. kept) (λ asked. asked);
 }

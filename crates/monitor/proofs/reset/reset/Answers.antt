@@ -1,4 +1,3 @@
-use Rattle.volume.specs.LiveCores.{core_of}
 use Rattle.monitor.proofs.Dropped.{reset_keyed}
 use Rattle.monitor.proofs.Placing.{placed_left}
 use Rattle.monitor.proofs.ReadingJobs.{reset_reading}
@@ -6,13 +5,13 @@ use Rattle.monitor.proofs.reset.reset.Goals as goal
 
 pub returns-clause-keyed : goal.returns-clause-keyed
 returns-clause-keyed g c =
-    reset_keyed (core_of c.args.volume.now.map) (core_of c.close_job.new.volume.map) _ c.args.jobs.now c.reset.new.self c.args.number c.reset.result c.requires.keyed c.close_job.ensures.closed
+    reset_keyed c.args.volume.now.core c.close_job.new.volume.core _ c.args.jobs.now c.reset.new.self c.args.number c.reset.result c.requires.keyed c.close_job.ensures.closed
     c.reset.ensures.found c.reset.ensures.none
 
 pub returns-clause-reading : goal.returns-clause-reading
 returns-clause-reading g c =
-    reset_reading (core_of c.args.volume.now.map) (core_of c.close_job.new.volume.map) _ c.args.jobs.now c.reset.new.self c.args.number c.reset.result c.requires.reading c.close_job.ensures.closed
+    reset_reading c.args.volume.now.core c.close_job.new.volume.core _ c.args.jobs.now c.reset.new.self c.args.number c.reset.result c.requires.reading c.close_job.ensures.closed
     c.reset.ensures.found c.reset.ensures.none
 
 pub returns-clause-placed : goal.returns-clause-placed
-returns-clause-placed g c = placed_left (core_of c.args.volume.now.map) (core_of c.close_job.new.volume.map) c.close_job.ensures.closed.leaves c.requires.placed
+returns-clause-placed g c = placed_left c.args.volume.now.core c.close_job.new.volume.core c.close_job.ensures.closed.leaves c.requires.placed

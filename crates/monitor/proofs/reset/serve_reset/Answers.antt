@@ -2,7 +2,6 @@ use Rattle.std.proofs.Common.{◌≡◌, false, Some, refl, sym, subst, ap, ◌�
 use Rattle.meaning.specs.Jobs.{slot}
 use Rattle.meaning.specs.declared.call.Call.TheVariants.{Reset}
 use Rattle.meaning.specs.declared.call.Reply.TheVariants.{Done}
-use Rattle.volume.specs.LiveCores.{core_of}
 use Rattle.monitor.specs.Sides.{sides_in, readers_in, keys_of, pins_of, reset_job}
 use Rattle.monitor.specs.Dropping.{Closes}
 use Rattle.monitor.specs.declared.job.Job.{Job}
@@ -17,10 +16,10 @@ use Rattle.meaning.specs.declared.call.Event.TheVariants.{Call as Calls}
 use Rattle.monitor.proofs.reset.serve_reset.Goals as goal
 
 pub close_channels-requires-clause-live : goal.close_channels-requires-clause-live
-close_channels-requires-clause-live g c = job_live (core_of c.args.volume.now.map) c.requires.ready.jobs c.requires.ready.number c.args.job.now c.requires.ready.among.keyed c.requires.ready.among.there
+close_channels-requires-clause-live g c = job_live c.args.volume.now.core c.requires.ready.jobs c.requires.ready.number c.args.job.now c.requires.ready.among.keyed c.requires.ready.among.there
 
 pub close_channels-requires-clause-held : goal.close_channels-requires-clause-held
-close_channels-requires-clause-held g c = job_held (core_of c.args.volume.now.map).live c.requires.ready.jobs c.requires.ready.number c.args.job.now c.requires.ready.among.reading c.requires.ready.among.there
+close_channels-requires-clause-held g c = job_held c.args.volume.now.core.live c.requires.ready.jobs c.requires.ready.number c.args.job.now c.requires.ready.among.reading c.requires.ready.among.there
 
 pub returns : goal.returns
 returns g c = record {
@@ -28,8 +27,8 @@ returns g c = record {
       let state = g.D.Disk.state in
       let old = c.args.volume.now in
       let new = c.close_channels.new.volume in
-      let map = core_of old.map in
-      let map' = core_of new.map in
+      let map = old.core in
+      let map' = new.core in
       let job = c.args.job.now in
       let job' = c.reset.new.self in
       let jobs' = slice_set jobs n (Some job') in
@@ -39,7 +38,7 @@ returns g c = record {
       let keyed = closed_keyed map map' _ jobs n (Some job') among.keyed closed (ap (λ j. sides_in (Some j)) is) in
       let reading = closed_reading map map' _ jobs n job' among.reading closed (ap (λ j. readers_in (Some j)) is) (bare_readers job' (ap (λ (j : Job). j.channels) is)) in
       quiet_serves state g.met.D.Disk.only_now old.disk new.disk map map' old.failed new.failed job job' Reset moment Done c.requires.ready.alive c.close_channels.ensures.untouched
-      (λ e. cc e, λ e. cc e) c.close_channels.ensures.sound (placed_left map map' c.close_channels.ensures.closed.leaves c.requires.ready.placed) (λ light e. cc e) (λ kept. absurd kept) (λ e. cc e)
+      (λ e. cc e, λ e. cc e) (placed_left map map' c.close_channels.ensures.closed.leaves c.requires.ready.placed) (λ light e. cc e) (λ kept. absurd kept) (λ e. cc e)
       (λ code e. cc e) (λ is. absurd is) jobs n among keyed reading
       (λ h served s serves.
       row (state old.disk) map map' false jobs jobs' keyed reading c.close_channels.ensures.closed.leaves (pack_of (state old.disk)) (Calls n Reset moment) Done

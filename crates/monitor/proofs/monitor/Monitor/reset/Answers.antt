@@ -1,9 +1,8 @@
-use Rattle.std.proofs.Common.{subst, sym}
+use Rattle.std.proofs.Common.{subst, sym, ◌∙◌}
 use Rattle.meaning.specs.Runs.{Service, Answers}
 use Rattle.meaning.specs.declared.call.Call.TheVariants.{Reset}
 use Rattle.meaning.specs.declared.call.Event.TheVariants.{Call as Calls}
 use Rattle.meaning.specs.declared.call.Reply.TheVariants.{Done, NoJob, DateRange}
-use Rattle.volume.specs.LiveCores.{core_of}
 use Rattle.monitor.specs.Serving.{pack_of, Serves, AreKeyed, AreReading}
 use Rattle.monitor.proofs.Answering.{row, late, no_job, on_disk}
 use Rattle.monitor.proofs.Dropped.{leaves_none}
@@ -13,32 +12,32 @@ use Rattle.monitor.proofs.monitor.Monitor.reset.Goals as goal
 pub returns-then-moment-gt-LAST_DATE-clause-answered : goal.returns-then-moment-gt-LAST_DATE-clause-answered
 returns-then-moment-gt-LAST_DATE-clause-answered g c =
     let d = g.D.Disk.state c.self.inside.volume.disk in
-    let map = core_of c.self.inside.volume.map in
+    let map = c.self.inside.volume.core in
     subst (λ m. (old : Service) → Serves (g.D.Disk.state m.disk) m.map m.failed m.jobs old
     → (new : Service) × Serves (g.D.Disk.state m.disk) m.map m.failed m.jobs new × Answers (pack_of (g.D.Disk.state m.disk)) old (Calls c.args.job Reset c.args.moment) DateRange new) c.self.view_is
-    (row d map map c.self.inside.volume.failed c.self.inside.jobs c.self.inside.jobs (c.self.invariant.1 c.if-self.false).0 (c.self.invariant.1 c.if-self.false).2 (leaves_none map) (pack_of d) (Calls c.args.job Reset c.args.moment) DateRange
-    (λ serial files w. late d c.self.inside.jobs c.args.job Reset c.args.moment serial files w c.if-moment-gt-LAST_DATE.true) c.if-self.false)
+    (row d map map c.self.inside.volume.failed c.self.inside.jobs c.self.inside.jobs (c.self.invariant (sym c.has_failed.ensures.value ∙ c.if-has_failed.false)).0 (c.self.invariant (sym c.has_failed.ensures.value ∙ c.if-has_failed.false)).2 (leaves_none map) (pack_of d) (Calls c.args.job Reset c.args.moment) DateRange
+    (λ serial files w. late d c.self.inside.jobs c.args.job Reset c.args.moment serial files w c.if-moment-gt-LAST_DATE.true) (sym c.has_failed.ensures.value ∙ c.if-has_failed.false))
 
 pub returns-then-not-reset-clause-answered : goal.returns-then-not-reset-clause-answered
 returns-then-not-reset-clause-answered g c =
     let d = g.D.Disk.state c.self.inside.volume.disk in
-    let map = core_of c.self.inside.volume.map in
+    let map = c.self.inside.volume.core in
     let none = c.reset.ensures.none c.if-not-reset.true in
     subst (λ m. (old : Service) → Serves (g.D.Disk.state m.disk) m.map m.failed m.jobs old
-    → (new : Service) × Serves (g.D.Disk.state c.reset.new.volume.disk) (core_of c.reset.new.volume.map) c.reset.new.volume.failed c.reset.new.jobs new × Answers (pack_of (g.D.Disk.state m.disk)) old (Calls c.args.job Reset c.args.moment) NoJob new) c.self.view_is
-    (λ old state. on_disk g.D.Disk.state c.self.inside.volume.disk c.reset.new.volume.disk c.self.inside.volume.failed c.reset.new.volume.failed (core_of c.reset.new.volume.map) c.reset.new.jobs
+    → (new : Service) × Serves (g.D.Disk.state c.reset.new.volume.disk) c.reset.new.volume.core c.reset.new.volume.failed c.reset.new.jobs new × Answers (pack_of (g.D.Disk.state m.disk)) old (Calls c.args.job Reset c.args.moment) NoJob new) c.self.view_is
+    (λ old state. on_disk g.D.Disk.state c.self.inside.volume.disk c.reset.new.volume.disk c.self.inside.volume.failed c.reset.new.volume.failed c.reset.new.volume.core c.reset.new.jobs
     (Answers (pack_of d) old (Calls c.args.job Reset c.args.moment) NoJob) c.reset.ensures.untouched
-    (subst (λ jobs. (new : Service) × Serves d (core_of c.reset.new.volume.map) c.self.inside.volume.failed jobs new × Answers (pack_of d) old (Calls c.args.job Reset c.args.moment) NoJob new) (sym none.1)
-    (row d map (core_of c.reset.new.volume.map) c.self.inside.volume.failed c.self.inside.jobs c.self.inside.jobs (subst (λ jobs. AreKeyed (core_of c.reset.new.volume.map).pending jobs) none.1 c.reset.ensures.keyed) (subst (λ jobs. AreReading (core_of c.reset.new.volume.map).live jobs) none.1 c.reset.ensures.reading) c.reset.ensures.leaves (pack_of d) (Calls c.args.job Reset c.args.moment) NoJob
-    (λ serial files w. no_job d c.self.inside.jobs c.args.job Reset c.args.moment serial files w c.if-moment-gt-LAST_DATE.false none.0) c.if-self.false old state)))
+    (subst (λ jobs. (new : Service) × Serves d c.reset.new.volume.core c.self.inside.volume.failed jobs new × Answers (pack_of d) old (Calls c.args.job Reset c.args.moment) NoJob new) (sym none.1)
+    (row d map c.reset.new.volume.core c.self.inside.volume.failed c.self.inside.jobs c.self.inside.jobs (subst (λ jobs. AreKeyed c.reset.new.volume.core.pending jobs) none.1 c.reset.ensures.keyed) (subst (λ jobs. AreReading c.reset.new.volume.core.live jobs) none.1 c.reset.ensures.reading) c.reset.ensures.leaves (pack_of d) (Calls c.args.job Reset c.args.moment) NoJob
+    (λ serial files w. no_job d c.self.inside.jobs c.args.job Reset c.args.moment serial files w c.if-moment-gt-LAST_DATE.false none.0) (sym c.has_failed.ensures.value ∙ c.if-has_failed.false) old state)))
 
 pub returns-clause-answered : goal.returns-clause-answered
 returns-clause-answered g c =
     let d = g.D.Disk.state c.self.inside.volume.disk in
-    let map = core_of c.self.inside.volume.map in
+    let map = c.self.inside.volume.core in
     subst (λ m. (old : Service) → Serves (g.D.Disk.state m.disk) m.map m.failed m.jobs old
-    → (new : Service) × Serves (g.D.Disk.state c.reset.new.volume.disk) (core_of c.reset.new.volume.map) c.reset.new.volume.failed c.reset.new.jobs new × Answers (pack_of (g.D.Disk.state m.disk)) old (Calls c.args.job Reset c.args.moment) Done new) c.self.view_is
-    (λ old state. on_disk g.D.Disk.state c.self.inside.volume.disk c.reset.new.volume.disk c.self.inside.volume.failed c.reset.new.volume.failed (core_of c.reset.new.volume.map) c.reset.new.jobs
+    → (new : Service) × Serves (g.D.Disk.state c.reset.new.volume.disk) c.reset.new.volume.core c.reset.new.volume.failed c.reset.new.jobs new × Answers (pack_of (g.D.Disk.state m.disk)) old (Calls c.args.job Reset c.args.moment) Done new) c.self.view_is
+    (λ old state. on_disk g.D.Disk.state c.self.inside.volume.disk c.reset.new.volume.disk c.self.inside.volume.failed c.reset.new.volume.failed c.reset.new.volume.core c.reset.new.jobs
     (Answers (pack_of d) old (Calls c.args.job Reset c.args.moment) Done) c.reset.ensures.untouched
-    (row d map (core_of c.reset.new.volume.map) c.self.inside.volume.failed c.self.inside.jobs c.reset.new.jobs c.reset.ensures.keyed c.reset.ensures.reading c.reset.ensures.leaves (pack_of d) (Calls c.args.job Reset c.args.moment) Done
-    (reset_row d c.self.inside.jobs c.reset.new.jobs c.args.job c.args.moment c.if-moment-gt-LAST_DATE.false (c.reset.ensures.found c.if-not-reset.false)) c.if-self.false old state))
+    (row d map c.reset.new.volume.core c.self.inside.volume.failed c.self.inside.jobs c.reset.new.jobs c.reset.ensures.keyed c.reset.ensures.reading c.reset.ensures.leaves (pack_of d) (Calls c.args.job Reset c.args.moment) Done
+    (reset_row d c.self.inside.jobs c.reset.new.jobs c.args.job c.args.moment c.if-moment-gt-LAST_DATE.false (c.reset.ensures.found c.if-not-reset.false)) (sym c.has_failed.ensures.value ∙ c.if-has_failed.false) old state))

@@ -1,22 +1,18 @@
-use Rattle.volume.specs.LiveCores.{core_of}
 use Rattle.monitor.proofs.Started.{started, start_keyed, start_reading}
 use Rattle.monitor.proofs.Placing.{placed_none}
 use Rattle.monitor.proofs.monitor.Monitor.start.Goals as goal
 
 pub invariant_of-result : goal.invariant_of-result
-invariant_of-result g c = (
-  c.in_ok-volume.ensures.sound,
-  λ serves. (
-    start_keyed (core_of c.in_ok-volume.volume.map).pending c.in-Ok.jobs c.in_ok-volume.ensures.unwritten c.in-Ok.ensures,
-    placed_none (core_of c.in_ok-volume.volume.map) c.in_ok-volume.ensures.unwritten,
-    start_reading (core_of c.in_ok-volume.volume.map).live c.in-Ok.jobs c.in_ok-volume.ensures.unread c.in-Ok.ensures,
-  ),
+invariant_of-result g c serves = (
+  start_keyed c.in_ok-volume.volume.core.pending c.in-Ok.jobs c.in_ok-volume.ensures.unwritten c.in-Ok.ensures,
+  placed_none c.in_ok-volume.volume.core c.in_ok-volume.ensures.unwritten,
+  start_reading c.in_ok-volume.volume.core.live c.in-Ok.jobs c.in_ok-volume.ensures.unread c.in-Ok.ensures,
 )
 
 pub returns-in-Ok-clause-started : goal.returns-in-Ok-clause-started
 returns-in-Ok-clause-started g c files stands s start h = (
   c.in_ok-volume.ensures.serves,
-  started (g.D.Disk.state c.in_ok-volume.volume.disk) (core_of c.in_ok-volume.volume.map) c.in-Ok.jobs s files (c.in_ok-volume.ensures.files files stands h) c.in_ok-volume.ensures.unread c.in_ok-volume.ensures.unwritten
+  started (g.D.Disk.state c.in_ok-volume.volume.disk) c.in_ok-volume.volume.core c.in-Ok.jobs s files (c.in_ok-volume.ensures.files files stands h) c.in_ok-volume.ensures.unread c.in_ok-volume.ensures.unwritten
       c.in-Ok.ensures start,
 )
 
