@@ -50,13 +50,6 @@ impl<D: Disk> Model for Volume<D> {
 }
 
 impl<D: Disk> Volume<D> {
-    /// Whether a call met a fault of the disk. No call but this one and `blocks` says anything of the disk then.
-    pub fn has_failed(&self) -> bool
-        ensures { result ≡ self.now.failed }
-    {
-        self.failed
-    }
-
     /// The disk.
     pub fn disk(&self) -> &D
         ensures { result.now ≡ self.now.disk }
