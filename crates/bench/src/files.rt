@@ -1,9 +1,8 @@
 ghost use Rattle.std.specs.Prelude.{◌≡◌, ◌+◌, ◌*◌, ◌<◌, IfOk, OnOk, length};
 ghost use Rattle.meaning.specs.Files.{File, Files};
 ghost use Rattle.retrieval.specs.Writing.{rib_count};
-ghost use Rattle.volume.specs.LiveCores.{core_of};
 ghost use Rattle.volume.specs.Publishing.{file_of, files_published};
-ghost use Rattle.volume.specs.Rest.{IsSound, RestsAt};
+ghost use Rattle.volume.specs.Rest.{RestsAt};
 
 use crate::counting::{Calls, CountingDisk};
 use anyhow::{Context, Result};
@@ -79,18 +78,16 @@ pub fn publish_file<D: Disk>(
     prime: Prime,
     words: &[Word],
 ) -> Result<FileCalls>
-    requires sound { IsSound (D.state volume.old.disk.inner) (core_of volume.old.map) volume.old.failed }
     requires named { 0 < prime.file.name }
-    ensures sound { IsSound (D.state volume.new.disk.inner) (core_of volume.new.map) volume.new.failed }
     ensures done { (D.state volume.new.disk.inner).honest → (f : Files File) → RestsAt (D.state volume.old.disk.inner) f
         → OnOk result (RestsAt (D.state volume.new.disk.inner) (files_published f prime.ppn prime.file (file_of prime words.now))) }
 {
     let pending = volume.begin(alloc, prime)?;
-    let begun = volume.disk.calls();
+    let begun = volume.disk().calls();
     volume.put_words(pending, 1, words)?;
-    let written = volume.disk.calls();
+    let written = volume.disk().calls();
     volume.publish(alloc, pending, 1, &[])?;
-    let published = volume.disk.calls();
+    let published = volume.disk().calls();
     Ok(FileCalls {
         put: written.since(begun),
         published: published.since(written),

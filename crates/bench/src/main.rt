@@ -4,11 +4,6 @@
 //! takes as a plain read of the same blocks, and the publication of 1024 blocks as a plain copy of its words.
 #![tactic(auto)]
 
-ghost use Rattle.std.specs.Prelude.{IfOk};
-ghost use Rattle.blockdisk.specs.Memory.{memory_state};
-ghost use Rattle.volume.specs.LiveCores.{core_of};
-ghost use Rattle.volume.specs.Rest.{IsSound};
-
 mod counting;
 mod files;
 mod full;
@@ -42,11 +37,14 @@ const BLOCKS_IN_TABLE: u32 = 4608;
 
 /// Prints how many blocks `open` read, how many the volume reaches, and how many it needs besides: the gate, a
 /// home copy and the table.
-fn print_opened<D: Disk>(rt: &impl Print, volume: &Volume<CountingDisk<D>>) -> Result<()> {
+fn print_opened<D: Disk>(
+    rt: &impl Print,
+    volume: &Volume<CountingDisk<D>>,
+    reached: usize,
+) -> Result<()> {
     let blocks = volume.blocks();
     let fixed = 2 + blocks.div_ceil(BLOCKS_IN_TABLE);
-    let reads = volume.disk.calls().reads;
-    let reached = reached(&volume.map);
+    let reads = volume.disk().calls().reads;
     println!(rt; "  open: {reads} blocks read, {reached} reached, {fixed} fixed")?;
     Ok(())
 }
@@ -56,12 +54,14 @@ fn with_directories(rt: &impl Print, alloc: Global, blocks: u32, directories: u1
     let calls = CALLS * (usize::from(directories) + 2);
     let disk = MemDisk::new(alloc, blocks, calls)?;
     let made = make_volume(alloc, disk, u32::from(directories))?;
-    let mut volume = open(alloc, CountingDisk::new(made.disk))?;
+    let mut disk = made.into_disk();
+    let reached = reached(alloc, &mut disk)?;
+    let mut volume = open(alloc, CountingDisk::new(disk))?;
     println!(rt; "{blocks} blocks, {directories} directories")?;
-    print_opened(rt, &volume)?;
-    let before = volume.disk.calls();
+    print_opened(rt, &volume, reached)?;
+    let before = volume.disk().calls();
     make_directory(alloc, &mut volume, u32::from(directories) + 1)?;
-    let calls = volume.disk.calls().since(before);
+    let calls = volume.disk().calls().since(before);
     println!(rt;
         "  make_dir: {} writes, {} syncs",
         calls.writes, calls.syncs
@@ -83,15 +83,18 @@ fn read_plainly<D: Disk>(disk: &mut D) -> Result<()> {
 
 /// The largest volume, with no block free.
 fn largest(rt: &(impl Print + Clock), alloc: Global, is_timed: bool) -> Result<()> {
-    let disk = CountingDisk::new(full_image(alloc)?);
+    let mut image = full_image(alloc)?;
+    let reached = reached(alloc, &mut image)?;
+    let disk = CountingDisk::new(image);
     let start = Instant::now(rt)?;
-    let mut volume = open(alloc, disk)?;
+    let volume = open(alloc, disk)?;
     let opened = start.elapsed(rt)?;
     println!(rt; "{} blocks, full", volume.blocks())?;
-    print_opened(rt, &volume)?;
+    print_opened(rt, &volume, reached)?;
     if is_timed {
+        let mut disk = volume.into_disk();
         let start = Instant::now(rt)?;
-        read_plainly(&mut volume.disk)?;
+        read_plainly(&mut disk)?;
         let plain = start.elapsed(rt)?;
         let ratio = opened.div_duration_f64(plain);
         println!(rt; "  open: {ratio:.1} times a plain read of these blocks")?;
@@ -100,12 +103,10 @@ fn largest(rt: &(impl Print + Clock), alloc: Global, is_timed: bool) -> Result<(
 }
 
 /// A volume whose table is one block, with one directory.
-fn volume_for_files(alloc: Global) -> Result<Volume<CountingDisk<MemDisk>>>
-    ensures { IfOk result (λ volume. IsSound (memory_state volume.disk.inner) (core_of volume.map) volume.failed) }
-{
+fn volume_for_files(alloc: Global) -> Result<Volume<CountingDisk<MemDisk>>> {
     let disk = MemDisk::new(alloc, BLOCKS_IN_TABLE, FILE_CALLS)?;
     let made = make_volume(alloc, disk, 1)?;
-    open(alloc, CountingDisk::new(made.disk))
+    open(alloc, CountingDisk::new(made.into_disk()))
 }
 
 /// Prints what the disk was called for while a file of so many blocks was written.

@@ -1,7 +1,3 @@
-ghost use Rattle.std.specs.Prelude.{IfOk};
-ghost use Rattle.volume.specs.LiveCores.{core_of};
-ghost use Rattle.volume.specs.Rest.{IsSound};
-
 use blockdisk::{Disk, Fault, NoMemory};
 use imagefile::{Durable, ImageDisk, MemFile};
 use std::alloc::{AllocError, Global};
@@ -126,16 +122,12 @@ fn ppn(rt: &impl Abort, project: u32, programmer: u32) -> Ppn {
 
 /// The volume of a disk, or why it is refused. Of what `Volume::open` promises this says what its callers need: their
 /// proofs are short without the rest.
-fn open<D: Disk + Drop>(alloc: Global, disk: D) -> Result<Volume<D>, (VolumeError, D)>
-    ensures sound { IfOk result (λ volume. IsSound (D.state volume.disk) (core_of volume.map) volume.failed) }
-{
+fn open<D: Disk + Drop>(alloc: Global, disk: D) -> Result<Volume<D>, (VolumeError, D)> {
     Volume::open(alloc, disk)
 }
 
 /// The volume of a disk that has to be accepted.
-fn opened<D: Disk + Drop>(rt: &impl Abort, alloc: Global, disk: D) -> Volume<D>
-    ensures sound { IsSound (D.state result.disk) (core_of result.map) result.failed }
-{
+fn opened<D: Disk + Drop>(rt: &impl Abort, alloc: Global, disk: D) -> Volume<D> {
     match open(alloc, disk) {
         Ok(volume) => volume,
         Err(_refused) => panic!(rt; "the image is refused"),
@@ -144,27 +136,21 @@ fn opened<D: Disk + Drop>(rt: &impl Abort, alloc: Global, disk: D) -> Volume<D>
 
 /// The disk of a volume, which is let go.
 fn disk_behind<D: Disk + Drop>(volume: Volume<D>) -> D {
-    volume.disk
+    volume.into_disk()
 }
 
 /// So many blocks are left.
-fn expect_room<D: Disk>(rt: &impl Abort, volume: &Volume<D>, wanted: i64)
-    requires sound { IsSound (D.state volume.now.disk) (core_of volume.now.map) volume.now.failed }
-{
+fn expect_room<D: Disk>(rt: &impl Abort, volume: &Volume<D>, wanted: i64) {
     assert_eq!(rt; volume.room(), wanted);
 }
 
 /// The directory [10,20] has this protection.
-fn expect_directory<D: Disk>(rt: &impl Abort, volume: &Volume<D>, protection: u16)
-    requires sound { IsSound (D.state volume.now.disk) (core_of volume.now.map) volume.now.failed }
-{
+fn expect_directory<D: Disk>(rt: &impl Abort, volume: &Volume<D>, protection: u16) {
     assert!(rt; volume.directory(ppn(rt, 0o10, 0o20)) == Ok(protection));
 }
 
 /// FOO.TXT of [10,20] has two words.
-fn expect_foo<D: Disk>(rt: &impl Abort, volume: &Volume<D>)
-    requires sound { IsSound (D.state volume.now.disk) (core_of volume.now.map) volume.now.failed }
-{
+fn expect_foo<D: Disk>(rt: &impl Abort, volume: &Volume<D>) {
     let name = FileName {
         name: Word::from_bits(0o465757000000),
         ext: Half::from_bits(0o647064),
@@ -176,9 +162,7 @@ fn expect_foo<D: Disk>(rt: &impl Abort, volume: &Volume<D>)
 }
 
 /// The volume has 64 blocks, of which 45 are left, and in [10,20] FOO.TXT.
-fn expect_image<D: Disk>(rt: &impl Abort, volume: &Volume<D>)
-    requires sound { IsSound (D.state volume.now.disk) (core_of volume.now.map) volume.now.failed }
-{
+fn expect_image<D: Disk>(rt: &impl Abort, volume: &Volume<D>) {
     assert_eq!(rt; volume.blocks(), 64);
     expect_room(rt, volume, 45);
     expect_directory(rt, volume, 0o775);
@@ -293,9 +277,7 @@ fn init<D: Disk>(rt: &impl Abort, disk: &mut D) {
 }
 
 /// Makes the directory [10,20].
-fn make_directory<D: Disk>(rt: &impl Abort, alloc: Global, volume: &mut Volume<D>)
-    requires sound { IsSound (D.state volume.old.disk) (core_of volume.old.map) volume.old.failed }
-{
+fn make_directory<D: Disk>(rt: &impl Abort, alloc: Global, volume: &mut Volume<D>) {
     assert!(rt; volume.make_dir(alloc, ppn(rt, 0o10, 0o20), 0o755) == Ok(()));
 }
 
@@ -310,9 +292,7 @@ fn made(rt: &impl Abort, alloc: Global) -> Result<Vec<u8>, Fail> {
 }
 
 /// The directory is there, and so many blocks are left.
-fn expect_made<D: Disk>(rt: &impl Abort, volume: &Volume<D>)
-    requires sound { IsSound (D.state volume.now.disk) (core_of volume.now.map) volume.now.failed }
-{
+fn expect_made<D: Disk>(rt: &impl Abort, volume: &Volume<D>) {
     expect_room(rt, volume, 47);
     expect_directory(rt, volume, 0o755);
 }

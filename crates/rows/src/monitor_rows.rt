@@ -1,9 +1,6 @@
 ghost use Rattle.std.specs.Prelude.{IfSome};
 ghost use Rattle.std.specs.List.{AllByRecursion};
-ghost use Rattle.blockdisk.specs.Memory.{memory_state};
 ghost use Rattle.volume.specs.Live.{IsFirstRead};
-ghost use Rattle.volume.specs.LiveCores.{core_of};
-ghost use Rattle.volume.specs.Rest.{IsSound};
 
 use crate::images::{DIRECTORY, HOME, MASTER, PRIME, WORDS as OLD};
 use blockdisk::{Disk, MemDisk, NoMemory};
@@ -609,8 +606,7 @@ fn let_volume_go(_volume: Volume<MemDisk>) {}
 
 /// The volume of a disk, where that is accepted, and in which nothing is read yet.
 fn open_volume(alloc: Global, disk: MemDisk) -> Option<Volume<MemDisk>>
-    ensures sound { IfSome result (λ volume. IsSound (memory_state volume.disk) (core_of volume.map) volume.failed) }
-    ensures unread { IfSome result (λ volume. AllByRecursion (λ o. IfSome o IsFirstRead) (core_of volume.map).live) }
+    ensures unread { IfSome result (λ volume. AllByRecursion (λ o. IfSome o IsFirstRead) volume.core.live) }
 {
     match Volume::open(alloc, disk) {
         Ok(volume) => Some(volume),
@@ -620,8 +616,7 @@ fn open_volume(alloc: Global, disk: MemDisk) -> Option<Volume<MemDisk>>
 
 /// The words of FOO.TXT, where it is there and can be read.
 fn read_foo(alloc: Global, owner: Ppn, volume: &mut Volume<MemDisk>) -> Option<Vec<Word>>
-    requires sound { IsSound (memory_state volume.old.disk) (core_of volume.old.map) volume.old.failed }
-    requires unread { AllByRecursion (λ o. IfSome o IsFirstRead) (core_of volume.old.map).live }
+    requires unread { AllByRecursion (λ o. IfSome o IsFirstRead) volume.old.core.live }
 {
     let Ok(pin) = volume.pin(owner, &file_name(FOO)) else {
         return None;

@@ -1,7 +1,4 @@
 ghost use Rattle.std.specs.Prelude.{IfOk};
-ghost use Rattle.blockdisk.specs.Memory.{memory_state};
-ghost use Rattle.volume.specs.LiveCores.{core_of};
-ghost use Rattle.volume.specs.Rest.{IsSound};
 
 use crate::disks::{SIZE, expect_room, open, opened, v1};
 use crate::publish_tests::{empty, expect_directory, fresh};
@@ -50,9 +47,7 @@ fn prime_of(rt: &impl Abort, n: u32, file: FileName) -> Prime {
 }
 
 /// V1, opened. Its room is 45, and [10,20] has one file.
-fn v1_opened(rt: &impl Abort, alloc: Global) -> Result<Volume<MemDisk>, NoMemory>
-    ensures { IfOk result (λ volume. IsSound (memory_state volume.disk) (core_of volume.map) volume.failed) }
-{
+fn v1_opened(rt: &impl Abort, alloc: Global) -> Result<Volume<MemDisk>, NoMemory> {
     let disk = v1(rt, alloc, 1)?;
     Ok(opened(rt, alloc, disk))
 }
@@ -62,10 +57,7 @@ fn begin_version(
     alloc: Global,
     volume: &mut Volume<MemDisk>,
     prime: Prime,
-) -> Result<Pending, CallError>
-    requires { IsSound (memory_state volume.old.disk) (core_of volume.old.map) volume.old.failed }
-    ensures { IsSound (memory_state volume.new.disk) (core_of volume.new.map) volume.new.failed }
-{
+) -> Result<Pending, CallError> {
     volume.begin(alloc, prime)
 }
 
@@ -76,10 +68,7 @@ fn expect_unbegun(
     volume: &mut Volume<MemDisk>,
     prime: Prime,
     error: CallError,
-)
-    requires { IsSound (memory_state volume.old.disk) (core_of volume.old.map) volume.old.failed }
-    ensures { IsSound (memory_state volume.new.disk) (core_of volume.new.map) volume.new.failed }
-{
+) {
     assert!(rt; begin_version(alloc, volume, prime) == Err(error));
 }
 
@@ -90,10 +79,7 @@ fn begin(
     volume: &mut Volume<MemDisk>,
     prime: Prime,
     cost: i64,
-) -> Pending
-    requires { IsSound (memory_state volume.old.disk) (core_of volume.old.map) volume.old.failed }
-    ensures { IsSound (memory_state volume.new.disk) (core_of volume.new.map) volume.new.failed }
-{
+) -> Pending {
     let before = volume.room();
     let Ok(pending) = begin_version(alloc, volume, prime) else {
         panic!(rt; "a version is refused");
@@ -109,10 +95,7 @@ fn begin_each(
     volume: &mut Volume<MemDisk>,
     first: u8,
     end: u8,
-) -> Result<Vec<Pending>, AllocError>
-    requires { IsSound (memory_state volume.old.disk) (core_of volume.old.map) volume.old.failed }
-    ensures { IsSound (memory_state volume.new.disk) (core_of volume.new.map) volume.new.failed }
-{
+) -> Result<Vec<Pending>, AllocError> {
     let mut pendings = Vec::new(alloc);
     for n in first..end {
         pendings.push(begin(rt, alloc, volume, prime_of(rt, 0o20, numbered(n)), 1))?;
@@ -121,34 +104,25 @@ fn begin_each(
 }
 
 /// Drops a version, which gives so many blocks back.
-fn discard(rt: &impl Abort, volume: &mut Volume<MemDisk>, pending: Pending, cost: i64)
-    requires { IsSound (memory_state volume.old.disk) (core_of volume.old.map) volume.old.failed }
-    ensures { IsSound (memory_state volume.new.disk) (core_of volume.new.map) volume.new.failed }
-{
+fn discard(rt: &impl Abort, volume: &mut Volume<MemDisk>, pending: Pending, cost: i64) {
     let before = volume.room();
-    if !volume.map.pending.contains(pending.key) {
+    if !volume.is_pending(pending) {
         panic!(rt; "no such version");
     }
     volume.discard(pending);
-    assert!(rt; !volume.map.pending.contains(pending.key));
+    assert!(rt; !volume.is_pending(pending));
     assert!(rt; before.checked_add(cost) == Some(volume.room()));
 }
 
 /// Drops versions, each of which gives a block back.
-fn discard_each(rt: &impl Abort, volume: &mut Volume<MemDisk>, pendings: &[Pending])
-    requires { IsSound (memory_state volume.old.disk) (core_of volume.old.map) volume.old.failed }
-    ensures { IsSound (memory_state volume.new.disk) (core_of volume.new.map) volume.new.failed }
-{
+fn discard_each(rt: &impl Abort, volume: &mut Volume<MemDisk>, pendings: &[Pending]) {
     for &pending in pendings {
         discard(rt, volume, pending, 1);
     }
 }
 
 /// Begins a version of a file, which costs a block of 45, and drops it.
-fn begin_and_drop(rt: &impl Abort, alloc: Global, volume: &mut Volume<MemDisk>, prime: Prime)
-    requires { IsSound (memory_state volume.old.disk) (core_of volume.old.map) volume.old.failed }
-    ensures { IsSound (memory_state volume.new.disk) (core_of volume.new.map) volume.new.failed }
-{
+fn begin_and_drop(rt: &impl Abort, alloc: Global, volume: &mut Volume<MemDisk>, prime: Prime) {
     let pending = begin(rt, alloc, volume, prime, 1);
     expect_room(rt, volume, 44);
     discard(rt, volume, pending, 1);
@@ -168,10 +142,7 @@ fn versions_are_begun_and_dropped(rt: HostRuntime) -> Result<(), Fail> {
 }
 
 /// Begins a creation that asks for a block of the directory, and a version of FOO.TXT, and drops them.
-fn grow_and_shrink(rt: &impl Abort, alloc: Global, volume: &mut Volume<MemDisk>)
-    requires { IsSound (memory_state volume.old.disk) (core_of volume.old.map) volume.old.failed }
-    ensures { IsSound (memory_state volume.new.disk) (core_of volume.new.map) volume.new.failed }
-{
+fn grow_and_shrink(rt: &impl Abort, alloc: Global, volume: &mut Volume<MemDisk>) {
     expect_room(rt, volume, 4);
     let last = begin(rt, alloc, volume, prime_of(rt, 0o20, numbered(42)), 2);
     let other = begin(rt, alloc, volume, prime_of(rt, 0o20, foo()), 1);
@@ -185,9 +156,7 @@ fn begin_beyond_a_block(
     rt: &impl Abort,
     alloc: Global,
     volume: &mut Volume<MemDisk>,
-) -> Result<(), AllocError>
-    requires { IsSound (memory_state volume.old.disk) (core_of volume.old.map) volume.old.failed }
-{
+) -> Result<(), AllocError> {
     let pendings = begin_each(rt, alloc, volume, 1, 42)?;
     grow_and_shrink(rt, alloc, volume);
     discard_each(rt, volume, pendings.as_slice());
@@ -217,9 +186,11 @@ fn no_directory(rt: HostRuntime) -> Result<(), Fail> {
 }
 
 /// Begins 46 creations, of which the 43rd asks for a block of the directory, and is refused one more.
-fn begin_all(rt: &impl Abort, alloc: Global, volume: &mut Volume<MemDisk>) -> Result<(), AllocError>
-    requires { IsSound (memory_state volume.old.disk) (core_of volume.old.map) volume.old.failed }
-{
+fn begin_all(
+    rt: &impl Abort,
+    alloc: Global,
+    volume: &mut Volume<MemDisk>,
+) -> Result<(), AllocError> {
     begin_each(rt, alloc, volume, 1, 43)?;
     begin(rt, alloc, volume, prime_of(rt, 0o20, numbered(43)), 2);
     begin_each(rt, alloc, volume, 44, 47)?;
@@ -247,9 +218,7 @@ fn begin_to_the_last(
     rt: &impl Abort,
     alloc: Global,
     volume: &mut Volume<MemDisk>,
-) -> Result<(), AllocError>
-    requires { IsSound (memory_state volume.old.disk) (core_of volume.old.map) volume.old.failed }
-{
+) -> Result<(), AllocError> {
     begin_each(rt, alloc, volume, 1, 42)?;
     let present = prime_of(rt, 0o20, foo());
     begin_three(rt, alloc, volume);
@@ -262,10 +231,7 @@ fn begin_to_the_last(
 }
 
 /// Begins three versions of FOO.TXT, each of which costs a block.
-fn begin_three(rt: &impl Abort, alloc: Global, volume: &mut Volume<MemDisk>)
-    requires { IsSound (memory_state volume.old.disk) (core_of volume.old.map) volume.old.failed }
-    ensures { IsSound (memory_state volume.new.disk) (core_of volume.new.map) volume.new.failed }
-{
+fn begin_three(rt: &impl Abort, alloc: Global, volume: &mut Volume<MemDisk>) {
     begin(rt, alloc, volume, prime_of(rt, 0o20, foo()), 1);
     begin(rt, alloc, volume, prime_of(rt, 0o20, foo()), 1);
     begin(rt, alloc, volume, prime_of(rt, 0o20, foo()), 1);
@@ -294,13 +260,10 @@ fn a_failed_volume(rt: HostRuntime) -> Result<(), Fail> {
 }
 
 /// Begins a version; after `NoMemory` all is as before, and the next call begins it.
-fn begin_again(rt: &impl Abort, alloc: Global, volume: &mut Volume<MemDisk>)
-    requires { IsSound (memory_state volume.old.disk) (core_of volume.old.map) volume.old.failed }
-{
+fn begin_again(rt: &impl Abort, alloc: Global, volume: &mut Volume<MemDisk>) {
     let refused = begin_version(alloc, volume, prime_of(rt, 0o20, numbered(1)));
     if refused == Err(CallError::NoMemory) {
         expect_room(rt, volume, 45);
-        assert!(rt; volume.map.pending.is_empty());
         let again = begin_version(alloc, volume, prime_of(rt, 0o20, numbered(1)));
         assert!(rt; again.is_ok());
         expect_room(rt, volume, 44);

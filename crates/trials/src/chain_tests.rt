@@ -1,7 +1,3 @@
-ghost use Rattle.blockdisk.specs.Memory.{memory_state};
-ghost use Rattle.volume.specs.LiveCores.{core_of};
-ghost use Rattle.volume.specs.Rest.{IsSound};
-
 use crate::disks::{beginning, disk_of, expect_failure, expect_room, forget, opened};
 use crate::publish_tests::{expect_published, file_name, fresh, ppn_of, store, write};
 use blockdisk::{Disk, MemDisk, NoMemory};
@@ -25,35 +21,25 @@ const SHUT: usize = 1 + 3 + 1 + 1;
 const WHOLE: usize = SHUT + 2 + 4 + 2;
 
 /// Publishes a file of no words with this name in [10,20]. It leaves a block less.
-fn publish_one(rt: &impl Abort, alloc: Global, volume: &mut Volume<MemDisk>, name: u8)
-    requires { IsSound (memory_state volume.old.disk) (core_of volume.old.map) volume.old.failed }
-    ensures { IsSound (memory_state volume.new.disk) (core_of volume.new.map) volume.new.failed }
-{
+fn publish_one(rt: &impl Abort, alloc: Global, volume: &mut Volume<MemDisk>, name: u8) {
     let room = volume.room().checked_sub(1);
     store(rt, alloc, volume, u64::from(name), &[], room);
 }
 
 /// Publishes files of no words with these names in [10,20]. Each leaves a block less.
-fn publish_each(rt: &impl Abort, alloc: Global, volume: &mut Volume<MemDisk>, first: u8, end: u8)
-    requires { IsSound (memory_state volume.old.disk) (core_of volume.old.map) volume.old.failed }
-    ensures { IsSound (memory_state volume.new.disk) (core_of volume.new.map) volume.new.failed }
-{
+fn publish_each(rt: &impl Abort, alloc: Global, volume: &mut Volume<MemDisk>, first: u8, end: u8) {
     for n in first..end {
         publish_one(rt, alloc, volume, n);
     }
 }
 
 /// The facts of the file with this name are there.
-fn expect_there(rt: &impl Abort, volume: &Volume<MemDisk>, name: &FileName)
-    requires { IsSound (memory_state volume.now.disk) (core_of volume.now.map) volume.now.failed }
-{
+fn expect_there(rt: &impl Abort, volume: &Volume<MemDisk>, name: &FileName) {
     assert!(rt; volume.look(ppn_of(rt), name).is_ok());
 }
 
 /// These are the lines of the files of `publish_each`, so many, and the files are there.
-fn expect_lines(rt: &impl Abort, volume: &Volume<MemDisk>, lines: &[Entry], count: u8)
-    requires { IsSound (memory_state volume.now.disk) (core_of volume.now.map) volume.now.failed }
-{
+fn expect_lines(rt: &impl Abort, volume: &Volume<MemDisk>, lines: &[Entry], count: u8) {
     assert_eq!(rt; lines.len(), usize::from(count));
     for i in 0..count {
         let name = file_name(u64::from(i) + 1);
@@ -64,17 +50,13 @@ fn expect_lines(rt: &impl Abort, volume: &Volume<MemDisk>, lines: &[Entry], coun
 }
 
 /// The directory [10,20] has no file of this name.
-fn expect_absent(rt: &impl Abort, volume: &Volume<MemDisk>, name: u64)
-    requires { IsSound (memory_state volume.now.disk) (core_of volume.now.map) volume.now.failed }
-{
+fn expect_absent(rt: &impl Abort, volume: &Volume<MemDisk>, name: u64) {
     let found = volume.look(ppn_of(rt), &file_name(name));
     assert!(rt; found == Err(CallError::Refused(ErrorCode::NotFound)));
 }
 
 /// The directory [10,20] has the files of `publish_each`, so many of them, and there is so much room.
-fn expect_files(rt: &impl Abort, alloc: Global, volume: &Volume<MemDisk>, count: u8, room: i64)
-    requires { IsSound (memory_state volume.now.disk) (core_of volume.now.map) volume.now.failed }
-{
+fn expect_files(rt: &impl Abort, alloc: Global, volume: &Volume<MemDisk>, count: u8, room: i64) {
     expect_room(rt, volume, room);
     match volume.list(alloc, ppn_of(rt)) {
         Ok(lines) => expect_lines(rt, volume, lines.as_slice(), count),
@@ -104,10 +86,7 @@ fn directory_block(
 }
 
 /// Publishes 85 files. The 43rd and the 85th take a block of the directory beside their own.
-fn publish_85(rt: &impl Abort, alloc: Global, volume: &mut Volume<MemDisk>)
-    requires { IsSound (memory_state volume.old.disk) (core_of volume.old.map) volume.old.failed }
-    ensures { IsSound (memory_state volume.new.disk) (core_of volume.new.map) volume.new.failed }
-{
+fn publish_85(rt: &impl Abort, alloc: Global, volume: &mut Volume<MemDisk>) {
     publish_each(rt, alloc, volume, 1, 43);
     expect_files(rt, alloc, volume, 42, 69);
     store(rt, alloc, volume, 43, &[], Some(67));
@@ -138,10 +117,7 @@ fn expect_blocks(rt: &impl Abort, alloc: Global, disk: &mut MemDisk) -> Result<(
 }
 
 /// Publishes a file in the place of the 43rd of 85, which takes no block more.
-fn publish_again(rt: &impl Abort, alloc: Global, volume: &mut Volume<MemDisk>)
-    requires { IsSound (memory_state volume.old.disk) (core_of volume.old.map) volume.old.failed }
-    ensures { IsSound (memory_state volume.new.disk) (core_of volume.new.map) volume.new.failed }
-{
+fn publish_again(rt: &impl Abort, alloc: Global, volume: &mut Volume<MemDisk>) {
     expect_files(rt, alloc, volume, 85, 24);
     store(rt, alloc, volume, 43, &[], Some(24));
     expect_files(rt, alloc, volume, 85, 24);

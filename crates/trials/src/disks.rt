@@ -1,6 +1,4 @@
 ghost use Rattle.std.specs.Prelude.{IfSome};
-ghost use Rattle.volume.specs.LiveCores.{core_of};
-ghost use Rattle.volume.specs.Rest.{IsSound};
 
 use blockdisk::{Disk, Fault, MemDisk, NoMemory};
 use std::alloc::Global;
@@ -80,9 +78,7 @@ pub(crate) fn v1(rt: &impl Abort, alloc: Global, calls: usize) -> Result<MemDisk
 }
 
 /// Opens the volume on a disk, where it is accepted. What else `open` promises stays behind this function.
-pub(crate) fn open<D: Disk + Drop>(alloc: Global, disk: D) -> Option<Volume<D>>
-    ensures { IfSome result (λ volume. IsSound (D.state volume.disk) (core_of volume.map) volume.failed) }
-{
+pub(crate) fn open<D: Disk + Drop>(alloc: Global, disk: D) -> Option<Volume<D>> {
     match Volume::open(alloc, disk) {
         Ok(volume) => Some(volume),
         Err(_refused) => None,
@@ -90,9 +86,7 @@ pub(crate) fn open<D: Disk + Drop>(alloc: Global, disk: D) -> Option<Volume<D>>
 }
 
 /// Opens the volume on a disk that has to be accepted.
-pub(crate) fn opened<D: Disk + Drop>(rt: &impl Abort, alloc: Global, disk: D) -> Volume<D>
-    ensures { IsSound (D.state result.disk) (core_of result.map) result.failed }
-{
+pub(crate) fn opened<D: Disk + Drop>(rt: &impl Abort, alloc: Global, disk: D) -> Volume<D> {
     let Some(volume) = open(alloc, disk) else {
         panic!(rt; "the disk is refused");
     };
@@ -100,8 +94,8 @@ pub(crate) fn opened<D: Disk + Drop>(rt: &impl Abort, alloc: Global, disk: D) ->
 }
 
 /// The disk of a volume, which is given up.
-pub(crate) fn disk_of<D>(volume: Volume<D>) -> D {
-    volume.disk
+pub(crate) fn disk_of<D: Disk>(volume: Volume<D>) -> D {
+    volume.into_disk()
 }
 
 /// Opens the disk of a volume again.
@@ -109,22 +103,18 @@ pub(crate) fn reopened<D: Disk + Drop>(
     rt: &impl Abort,
     alloc: Global,
     volume: Volume<D>,
-) -> Volume<D>
-    ensures { IsSound (D.state result.disk) (core_of result.map) result.failed }
-{
+) -> Volume<D> {
     opened(rt, alloc, disk_of(volume))
 }
 
 /// So much room is left.
-pub(crate) fn expect_room<D: Disk>(rt: &impl Abort, volume: &Volume<D>, room: i64)
-    requires { IsSound (D.state volume.now.disk) (core_of volume.now.map) volume.now.failed }
-{
+pub(crate) fn expect_room<D: Disk>(rt: &impl Abort, volume: &Volume<D>, room: i64) {
     assert_eq!(rt; volume.room(), room);
 }
 
 /// The volume has failed, or hasn't.
-pub(crate) fn expect_failure<D>(rt: &impl Abort, volume: &Volume<D>, has_failed: bool) {
-    assert!(rt; volume.failed == has_failed);
+pub(crate) fn expect_failure<D: Disk>(rt: &impl Abort, volume: &Volume<D>, has_failed: bool) {
+    assert!(rt; volume.has_failed() == has_failed);
 }
 
 /// A disk in memory of which each read after so many fails, or finds its block damaged. It is called dishonest.
@@ -195,4 +185,9 @@ pub(crate) fn spoiled(disk: MemDisk, reads: u32, fails: bool) -> SpoiledDisk {
         fails,
         failures: 0,
     }
+}
+
+/// The disk below one that is spoiled.
+pub(crate) fn unspoiled(spoiled: SpoiledDisk) -> MemDisk {
+    spoiled.disk
 }

@@ -1,8 +1,5 @@
 ghost use Rattle.std.specs.Prelude.{◌≡◌, ◌<◌, IfOk, IfSome};
-ghost use Rattle.blockdisk.specs.Memory.{memory_state};
-ghost use Rattle.volume.specs.LiveCores.{core_of};
 ghost use Rattle.volume.specs.Pins.{IsReadable};
-ghost use Rattle.volume.specs.Rest.{IsSound};
 ghost use Rattle.volume.specs.declared.handles.VersionHandle.TheVariants.{Pinned};
 
 use crate::begin_tests::ppn_of;
@@ -25,7 +22,7 @@ pub(crate) fn open_and_pin<D: Disk + Drop>(
     alloc: Global,
     disk: D,
 ) -> Option<(Volume<D>, Pin)>
-    ensures { IfSome result (λ pinned. IsSound (D.state pinned.0.disk) (core_of pinned.0.map) pinned.0.failed × IsReadable (core_of pinned.0.map) (Pinned pinned.1)) }
+    ensures { IfSome result (λ pinned. IsReadable pinned.0.core (Pinned pinned.1)) }
 {
     let Some(mut volume) = open(alloc, disk) else {
         return None;
@@ -42,12 +39,10 @@ pub(crate) fn read<D: Disk>(
     block: u32,
     count: u32,
 ) -> Result<Vec<Word>, CallError>
-    requires sound { IsSound (D.state volume.old.disk) (core_of volume.old.map) volume.old.failed }
-    requires live { IsReadable (core_of volume.old.map) (Pinned pin) }
+    requires live { IsReadable volume.old.core (Pinned pin) }
     requires first { 0 < block }
-    ensures sound { IsSound (D.state volume.new.disk) (core_of volume.new.map) volume.new.failed }
-    ensures live { IsReadable (core_of volume.new.map) (Pinned pin) }
-    ensures map { volume.new.map ≡ volume.old.map }
+    ensures live { IsReadable volume.new.core (Pinned pin) }
+    ensures map { volume.new.core ≡ volume.old.core }
 {
     volume.get_words(alloc, VersionHandle::Pinned(pin), block, count)
 }
@@ -58,7 +53,7 @@ fn v1_pinned(
     alloc: Global,
     calls: usize,
 ) -> Result<(Volume<MemDisk>, Pin), NoMemory>
-    ensures { IfOk result (λ pinned. IsSound (memory_state pinned.0.disk) (core_of pinned.0.map) pinned.0.failed × IsReadable (core_of pinned.0.map) (Pinned pinned.1)) }
+    ensures { IfOk result (λ pinned. IsReadable pinned.0.core (Pinned pinned.1)) }
 {
     let disk = v1(rt, alloc, calls)?;
     let mut volume = opened(rt, alloc, disk);
@@ -84,11 +79,9 @@ fn expect_read<D: Disk>(
     count: u32,
     words: usize,
 )
-    requires sound { IsSound (D.state volume.old.disk) (core_of volume.old.map) volume.old.failed }
-    requires live { IsReadable (core_of volume.old.map) (Pinned pin) }
+    requires live { IsReadable volume.old.core (Pinned pin) }
     requires first { 0 < block }
-    ensures sound { IsSound (D.state volume.new.disk) (core_of volume.new.map) volume.new.failed }
-    ensures live { IsReadable (core_of volume.new.map) (Pinned pin) }
+    ensures live { IsReadable volume.new.core (Pinned pin) }
 {
     match read(alloc, volume, pin, block, count) {
         Ok(read) => expect_first(rt, read.as_slice(), words),
@@ -98,8 +91,7 @@ fn expect_read<D: Disk>(
 
 /// Reads FOO.TXT as far as it goes, and lets it go.
 fn read_and_let_go<D: Disk>(rt: &impl Abort, alloc: Global, volume: &mut Volume<D>, pin: Pin)
-    requires sound { IsSound (D.state volume.old.disk) (core_of volume.old.map) volume.old.failed }
-    requires live { IsReadable (core_of volume.old.map) (Pinned pin) }
+    requires live { IsReadable volume.old.core (Pinned pin) }
 {
     expect_read(rt, alloc, volume, pin, 1, 2, 2);
     expect_read(rt, alloc, volume, pin, 1, 1, 1);
@@ -120,18 +112,15 @@ fn a_pinned_file_is_read(rt: HostRuntime) -> Result<(), Fail> {
 
 /// Makes a directory while a version is pinned.
 fn make_beside<D: Disk>(rt: &impl Abort, alloc: Global, volume: &mut Volume<D>, pin: Pin)
-    requires sound { IsSound (D.state volume.old.disk) (core_of volume.old.map) volume.old.failed }
-    requires live { IsReadable (core_of volume.old.map) (Pinned pin) }
-    ensures sound { IsSound (D.state volume.new.disk) (core_of volume.new.map) volume.new.failed }
-    ensures live { IsReadable (core_of volume.new.map) (Pinned pin) }
+    requires live { IsReadable volume.old.core (Pinned pin) }
+    ensures live { IsReadable volume.new.core (Pinned pin) }
 {
     assert!(rt; volume.make_dir(alloc, ppn_of(rt, 0o30), 0o775) == Ok(()));
 }
 
 /// A directory is made beside a reader, who then reads the first word.
 fn make_and_read<D: Disk>(rt: &impl Abort, alloc: Global, volume: &mut Volume<D>, pin: Pin)
-    requires sound { IsSound (D.state volume.old.disk) (core_of volume.old.map) volume.old.failed }
-    requires live { IsReadable (core_of volume.old.map) (Pinned pin) }
+    requires live { IsReadable volume.old.core (Pinned pin) }
 {
     make_beside(rt, alloc, volume, pin);
     expect_room(rt, volume, 44);
@@ -166,16 +155,15 @@ fn what_is_not_there_is_not_pinned(rt: HostRuntime) {
 
 /// A reader of a file of two words reads it, or the device fails, and the volume with it. Tells whether it is read.
 fn is_read<D: Disk>(rt: &impl Abort, alloc: Global, volume: &mut Volume<D>, pin: Pin) -> bool
-    requires sound { IsSound (D.state volume.old.disk) (core_of volume.old.map) volume.old.failed }
-    requires live { IsReadable (core_of volume.old.map) (Pinned pin) }
+    requires live { IsReadable volume.old.core (Pinned pin) }
 {
     match read(alloc, volume, pin, 1, 2) {
         Ok(words) => {
-            assert!(rt; words.len() == 2 && !volume.failed);
+            assert!(rt; words.len() == 2 && !volume.has_failed());
             true
         }
         Err(error) => {
-            assert!(rt; error == CallError::Device && volume.failed);
+            assert!(rt; error == CallError::Device && volume.has_failed());
             false
         }
     }
@@ -208,8 +196,7 @@ fn the_read_of_a_word_may_fail(rt: HostRuntime) -> Result<(), Fail> {
 
 /// A read that finds no memory changes nothing, and the next one is answered.
 fn read_again<D: Disk>(rt: &impl Abort, alloc: Global, volume: &mut Volume<D>, pin: Pin)
-    requires sound { IsSound (D.state volume.old.disk) (core_of volume.old.map) volume.old.failed }
-    requires live { IsReadable (core_of volume.old.map) (Pinned pin) }
+    requires live { IsReadable volume.old.core (Pinned pin) }
 {
     if read(alloc, volume, pin, 1, 2) == Err(CallError::NoMemory) {
         assert!(rt; read(alloc, volume, pin, 1, 2).is_ok());

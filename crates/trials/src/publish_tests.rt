@@ -1,25 +1,23 @@
 ghost use Rattle.std.specs.Prelude.{◌≡◌, ◌+◌, ◌<◌, ◌^◌, ℕ, Some, IsSome, IfOk};
-ghost use Rattle.blockdisk.specs.Memory.{memory_state};
 ghost use Rattle.volume.specs.Live.{slot, pending_at};
-ghost use Rattle.volume.specs.LiveCores.{core_of};
 ghost use Rattle.volume.specs.Pins.{IsReadable};
 ghost use Rattle.volume.specs.Publishing.{IsPlaced};
-ghost use Rattle.volume.specs.Rest.{IsSound};
 ghost use Rattle.volume.specs.declared.handles.Pin.{Pin};
 ghost use Rattle.volume.specs.declared.handles.VersionHandle.TheVariants.{Pinned};
 ghost use Rattle.volume.specs.declared.live.LiveVersion.{LiveVersion};
 ghost use Rattle.volume.specs.declared.pending.PendingVersion.{PendingVersion};
 
-use crate::disks::{expect_failure, expect_room, opened, reopened, word};
+use crate::disks::{
+    disk_of, expect_failure, expect_room, open, opened, reopened, spoiled, unspoiled, v1, word,
+};
 use crate::pin_tests;
 use blockdisk::{Disk, MemDisk, NoMemory};
 use meaning::{Entry, ErrorCode};
 use retrieval::{Mode, Prime};
-use slab::Slab;
 use std::alloc::{AllocError, Global};
 use std::process::Abort;
 use std::test::Fail;
-use volume::{CallError, FileFacts, LiveVersion, Pending, Pin, Volume};
+use volume::{CallError, FileFacts, Pending, Pin, VersionHandle, Volume};
 use words36::{BLOCK_WORDS, FileName, Half, Moment, Ppn, Word};
 
 /// FOO in SIXBIT.
@@ -70,9 +68,7 @@ pub(crate) fn empty(
     alloc: Global,
     size: u32,
     calls: usize,
-) -> Result<Volume<MemDisk>, NoMemory>
-    ensures { IfOk result (λ volume. IsSound (memory_state volume.disk) (core_of volume.map) volume.failed) }
-{
+) -> Result<Volume<MemDisk>, NoMemory> {
     let mut disk = MemDisk::new(alloc, size, calls)?;
     expect_made(rt, &mut disk);
     Ok(opened(rt, alloc, disk))
@@ -90,10 +86,7 @@ pub(crate) fn expect_directory<D: Disk>(
     volume: &mut Volume<D>,
     ppn: Ppn,
     wanted: Result<(), CallError>,
-)
-    requires sound { IsSound (D.state volume.old.disk) (core_of volume.old.map) volume.old.failed }
-    ensures sound { IsSound (D.state volume.new.disk) (core_of volume.new.map) volume.new.failed }
-{
+) {
     assert!(rt; volume.make_dir(alloc, ppn, 0o775) == wanted);
 }
 
@@ -104,9 +97,7 @@ pub(crate) fn fresh(
     alloc: Global,
     size: u32,
     calls: usize,
-) -> Result<Volume<MemDisk>, NoMemory>
-    ensures { IfOk result (λ volume. IsSound (memory_state volume.disk) (core_of volume.map) volume.failed) }
-{
+) -> Result<Volume<MemDisk>, NoMemory> {
     let mut volume = empty(rt, alloc, size, calls)?;
     expect_directory(rt, alloc, &mut volume, ppn_of(rt), Ok(()));
     Ok(volume)
@@ -120,11 +111,9 @@ pub(crate) fn write<D: Disk>(
     name: u64,
     words: &[Word],
 ) -> Pending
-    requires sound { IsSound (D.state volume.old.disk) (core_of volume.old.map) volume.old.failed }
-    ensures sound { IsSound (D.state volume.new.disk) (core_of volume.new.map) volume.new.failed }
-    ensures live { IsSome (pending_at (core_of volume.new.map).pending result.key) }
-    ensures placed { (p : PendingVersion) → pending_at (core_of volume.new.map).pending result.key ≡ Some p → IsPlaced (core_of volume.new.map) p }
-    ensures readers { (pin : Pin) → IsReadable (core_of volume.old.map) (Pinned pin) → IsReadable (core_of volume.new.map) (Pinned pin) }
+    ensures live { IsSome (pending_at volume.new.core.pending result.key) }
+    ensures placed { (p : PendingVersion) → pending_at volume.new.core.pending result.key ≡ Some p → IsPlaced volume.new.core p }
+    ensures readers { (pin : Pin) → IsReadable volume.old.core (Pinned pin) → IsReadable volume.new.core (Pinned pin) }
 {
     let Ok(pending) = volume.begin(alloc, prime_of(rt, name)) else {
         panic!(rt; "no version is begun");
@@ -143,12 +132,10 @@ fn publish<D: Disk>(
     block: u32,
     words: &[Word],
 ) -> Result<(), CallError>
-    requires sound { IsSound (D.state volume.old.disk) (core_of volume.old.map) volume.old.failed }
-    requires live { IsSome (pending_at (core_of volume.old.map).pending pending.key) }
-    requires placed { (p : PendingVersion) → pending_at (core_of volume.old.map).pending pending.key ≡ Some p → IsPlaced (core_of volume.old.map) p }
+    requires live { IsSome (pending_at volume.old.core.pending pending.key) }
+    requires placed { (p : PendingVersion) → pending_at volume.old.core.pending pending.key ≡ Some p → IsPlaced volume.old.core p }
     requires first { 0 < block }
-    ensures sound { IsSound (D.state volume.new.disk) (core_of volume.new.map) volume.new.failed }
-    ensures readers { (pin : Pin) → IsReadable (core_of volume.old.map) (Pinned pin) → IsReadable (core_of volume.new.map) (Pinned pin) }
+    ensures readers { (pin : Pin) → IsReadable volume.old.core (Pinned pin) → IsReadable volume.new.core (Pinned pin) }
 {
     volume.publish(alloc, pending, block, words)
 }
@@ -163,12 +150,10 @@ pub(crate) fn expect_published<D: Disk>(
     words: &[Word],
     wanted: Result<(), CallError>,
 )
-    requires sound { IsSound (D.state volume.old.disk) (core_of volume.old.map) volume.old.failed }
-    requires live { IsSome (pending_at (core_of volume.old.map).pending pending.key) }
-    requires placed { (p : PendingVersion) → pending_at (core_of volume.old.map).pending pending.key ≡ Some p → IsPlaced (core_of volume.old.map) p }
+    requires live { IsSome (pending_at volume.old.core.pending pending.key) }
+    requires placed { (p : PendingVersion) → pending_at volume.old.core.pending pending.key ≡ Some p → IsPlaced volume.old.core p }
     requires first { 0 < block }
-    ensures sound { IsSound (D.state volume.new.disk) (core_of volume.new.map) volume.new.failed }
-    ensures readers { (pin : Pin) → IsReadable (core_of volume.old.map) (Pinned pin) → IsReadable (core_of volume.new.map) (Pinned pin) }
+    ensures readers { (pin : Pin) → IsReadable volume.old.core (Pinned pin) → IsReadable volume.new.core (Pinned pin) }
 {
     assert!(rt; publish(alloc, volume, pending, block, words) == wanted);
 }
@@ -182,32 +167,26 @@ pub(crate) fn store<D: Disk>(
     words: &[Word],
     room: Option<i64>,
 )
-    requires sound { IsSound (D.state volume.old.disk) (core_of volume.old.map) volume.old.failed }
-    ensures sound { IsSound (D.state volume.new.disk) (core_of volume.new.map) volume.new.failed }
-    ensures readers { (pin : Pin) → IsReadable (core_of volume.old.map) (Pinned pin) → IsReadable (core_of volume.new.map) (Pinned pin) }
+    ensures readers { (pin : Pin) → IsReadable volume.old.core (Pinned pin) → IsReadable volume.new.core (Pinned pin) }
 {
     let pending = write(rt, alloc, volume, name, words);
     expect_published(rt, alloc, volume, pending, 1, &[], Ok(()));
     assert_eq!(rt; Some(volume.room()), room);
 }
 
-/// No version has as many readers as are counted.
-fn expect_few_readers(rt: &impl Abort, versions: &Slab<LiveVersion>)
-    ensures { (key : ℕ) (v : LiveVersion) → slot versions.now.slots key ≡ Some v → v.readers + 1 < 2 ^ 32 }
+/// A version may be pinned.
+fn expect_pins<D: Disk>(rt: &impl Abort, volume: &Volume<D>)
+    ensures { (key : ℕ) (v : LiveVersion) → slot volume.now.core.live key ≡ Some v → v.readers + 1 < 2 ^ 32 }
 {
-    for (_, version) in versions.iter() {
-        assert!(rt; version.readers < u32::MAX);
-    }
+    assert!(rt; volume.can_pin());
 }
 
 /// Holds the version that FOO.TXT has, for a reader more.
 pub(crate) fn hold<D: Disk>(rt: &impl Abort, volume: &mut Volume<D>) -> Pin
-    requires sound { IsSound (D.state volume.old.disk) (core_of volume.old.map) volume.old.failed }
-    ensures sound { IsSound (D.state volume.new.disk) (core_of volume.new.map) volume.new.failed }
-    ensures live { IsReadable (core_of volume.new.map) (Pinned result) }
-    ensures others { (pin : Pin) → (pin.key ≡ result.key → ⊥) → IsReadable (core_of volume.old.map) (Pinned pin) → IsReadable (core_of volume.new.map) (Pinned pin) }
+    ensures live { IsReadable volume.new.core (Pinned result) }
+    ensures others { (pin : Pin) → (pin.key ≡ result.key → ⊥) → IsReadable volume.old.core (Pinned pin) → IsReadable volume.new.core (Pinned pin) }
 {
-    expect_few_readers(rt, &volume.map.versions);
+    expect_pins(rt, volume);
     let Ok(pin) = volume.pin(ppn_of(rt), &file_name(FOO)) else {
         panic!(rt; "the file isn't there");
     };
@@ -222,10 +201,8 @@ pub(crate) fn expect_words<D: Disk>(
     pin: Pin,
     words: &[Word],
 )
-    requires sound { IsSound (D.state volume.old.disk) (core_of volume.old.map) volume.old.failed }
-    requires live { IsReadable (core_of volume.old.map) (Pinned pin) }
-    ensures sound { IsSound (D.state volume.new.disk) (core_of volume.new.map) volume.new.failed }
-    ensures readers { (reader : Pin) → IsReadable (core_of volume.old.map) (Pinned reader) → IsReadable (core_of volume.new.map) (Pinned reader) }
+    requires live { IsReadable volume.old.core (Pinned pin) }
+    ensures readers { (reader : Pin) → IsReadable volume.old.core (Pinned reader) → IsReadable volume.new.core (Pinned reader) }
 {
     match pin_tests::read(alloc, volume, pin, 1, u32::MAX) {
         Ok(read) => assert!(rt; read.as_slice() == words),
@@ -234,9 +211,7 @@ pub(crate) fn expect_words<D: Disk>(
 }
 
 /// FOO.TXT has so many blocks and words.
-fn expect_facts<D: Disk>(rt: &impl Abort, volume: &Volume<D>, blocks: u32, words: u32)
-    requires { IsSound (D.state volume.now.disk) (core_of volume.now.map) volume.now.failed }
-{
+fn expect_facts<D: Disk>(rt: &impl Abort, volume: &Volume<D>, blocks: u32, words: u32) {
     let facts = FileFacts {
         protection: 0o057,
         mode: Mode::Dump,
@@ -248,9 +223,7 @@ fn expect_facts<D: Disk>(rt: &impl Abort, volume: &Volume<D>, blocks: u32, words
 }
 
 /// The directory [10,20] has one file, FOO.TXT, of so many blocks.
-fn expect_listed<D: Disk>(rt: &impl Abort, alloc: Global, volume: &Volume<D>, blocks: u32)
-    requires { IsSound (D.state volume.now.disk) (core_of volume.now.map) volume.now.failed }
-{
+fn expect_listed<D: Disk>(rt: &impl Abort, alloc: Global, volume: &Volume<D>, blocks: u32) {
     let line = Entry {
         name: file_name(FOO),
         protection: 0o057,
@@ -264,10 +237,7 @@ fn expect_listed<D: Disk>(rt: &impl Abort, alloc: Global, volume: &Volume<D>, bl
 }
 
 /// A reader holds FOO.TXT, reads these words, and lets it go.
-fn expect_held<D: Disk>(rt: &impl Abort, alloc: Global, volume: &mut Volume<D>, words: &[Word])
-    requires sound { IsSound (D.state volume.old.disk) (core_of volume.old.map) volume.old.failed }
-    ensures sound { IsSound (D.state volume.new.disk) (core_of volume.new.map) volume.new.failed }
-{
+fn expect_held<D: Disk>(rt: &impl Abort, alloc: Global, volume: &mut Volume<D>, words: &[Word]) {
     let pin = hold(rt, volume);
     expect_words(rt, alloc, volume, pin, words);
     volume.unpin(pin);
@@ -281,10 +251,7 @@ pub(crate) fn expect_file<D: Disk>(
     blocks: u32,
     words: &[Word],
     room: i64,
-)
-    requires sound { IsSound (D.state volume.old.disk) (core_of volume.old.map) volume.old.failed }
-    ensures sound { IsSound (D.state volume.new.disk) (core_of volume.new.map) volume.new.failed }
-{
+) {
     let length = u32::try_from(words.len()).expect(rt, "a length");
     expect_room(rt, volume, room);
     expect_facts(rt, volume, blocks, length);
@@ -293,10 +260,7 @@ pub(crate) fn expect_file<D: Disk>(
 }
 
 /// Writes FOO.TXT of two blocks, and of two words more by its publication.
-fn publish_new<D: Disk>(rt: &impl Abort, alloc: Global, volume: &mut Volume<D>, first: &[Word])
-    requires { IsSound (D.state volume.old.disk) (core_of volume.old.map) volume.old.failed }
-    ensures { IsSound (D.state volume.new.disk) (core_of volume.new.map) volume.new.failed }
-{
+fn publish_new<D: Disk>(rt: &impl Abort, alloc: Global, volume: &mut Volume<D>, first: &[Word]) {
     expect_room(rt, volume, 47);
     let pending = write(rt, alloc, volume, FOO, first);
     expect_room(rt, volume, 44);
@@ -334,13 +298,11 @@ fn expect_no_room<D: Disk>(
     pending: Pending,
     block: u32,
 )
-    requires sound { IsSound (D.state volume.old.disk) (core_of volume.old.map) volume.old.failed }
-    requires live { IsSome (pending_at (core_of volume.old.map).pending pending.key) }
-    requires placed { (p : PendingVersion) → pending_at (core_of volume.old.map).pending pending.key ≡ Some p → IsPlaced (core_of volume.old.map) p }
+    requires live { IsSome (pending_at volume.old.core.pending pending.key) }
+    requires placed { (p : PendingVersion) → pending_at volume.old.core.pending pending.key ≡ Some p → IsPlaced volume.old.core p }
     requires first { 0 < block }
-    ensures sound { IsSound (D.state volume.new.disk) (core_of volume.new.map) volume.new.failed }
-    ensures live { IsSome (pending_at (core_of volume.new.map).pending pending.key) }
-    ensures placed { (p : PendingVersion) → pending_at (core_of volume.new.map).pending pending.key ≡ Some p → IsPlaced (core_of volume.new.map) p }
+    ensures live { IsSome (pending_at volume.new.core.pending pending.key) }
+    ensures placed { (p : PendingVersion) → pending_at volume.new.core.pending pending.key ≡ Some p → IsPlaced volume.new.core p }
 {
     match volume.publish(alloc, pending, block, &[word(7)]) {
         Err(CallError::Refused(code)) => assert!(rt; code == ErrorCode::NoRoom),
@@ -349,10 +311,7 @@ fn expect_no_room<D: Disk>(
 }
 
 /// A version of 40 blocks finds no room for last words, three times, and is published without them.
-fn publish_full<D: Disk>(rt: &impl Abort, alloc: Global, volume: &mut Volume<D>, words: &[Word])
-    requires { IsSound (D.state volume.old.disk) (core_of volume.old.map) volume.old.failed }
-    ensures { IsSound (D.state volume.new.disk) (core_of volume.new.map) volume.new.failed }
-{
+fn publish_full<D: Disk>(rt: &impl Abort, alloc: Global, volume: &mut Volume<D>, words: &[Word]) {
     let pending = write(rt, alloc, volume, FOO, words);
     expect_room(rt, volume, 6);
     expect_no_room(rt, alloc, volume, pending, 47);
@@ -375,10 +334,7 @@ fn last_words_find_no_room(rt: HostRuntime) -> Result<(), Fail> {
 }
 
 /// Publishes a version of no words with a last word at block 46.
-fn publish_far<D: Disk>(rt: &impl Abort, alloc: Global, volume: &mut Volume<D>)
-    requires { IsSound (D.state volume.old.disk) (core_of volume.old.map) volume.old.failed }
-    ensures { IsSound (D.state volume.new.disk) (core_of volume.new.map) volume.new.failed }
-{
+fn publish_far<D: Disk>(rt: &impl Abort, alloc: Global, volume: &mut Volume<D>) {
     let pending = write(rt, alloc, volume, FOO, &[]);
     expect_room(rt, volume, 46);
     expect_published(rt, alloc, volume, pending, 46, &[word(7)], Ok(()));
@@ -397,9 +353,7 @@ fn last_words_take_all_room(rt: HostRuntime) -> Result<(), Fail> {
 }
 
 /// Each call that asks is answered `Failed`.
-fn expect_no_answer<D: Disk>(rt: &impl Abort, alloc: Global, volume: &Volume<D>)
-    requires { IsSound (D.state volume.now.disk) (core_of volume.now.map) volume.now.failed }
-{
+fn expect_no_answer<D: Disk>(rt: &impl Abort, alloc: Global, volume: &Volume<D>) {
     let ppn = ppn_of(rt);
     assert!(rt; volume.directory(ppn) == Err(CallError::Failed));
     assert!(rt; volume.look(ppn, &file_name(FOO)) == Err(CallError::Failed));
@@ -409,9 +363,7 @@ fn expect_no_answer<D: Disk>(rt: &impl Abort, alloc: Global, volume: &Volume<D>)
 
 /// A read is answered `Failed`.
 fn expect_unread<D: Disk>(rt: &impl Abort, alloc: Global, volume: &mut Volume<D>, pin: Pin)
-    requires sound { IsSound (D.state volume.old.disk) (core_of volume.old.map) volume.old.failed }
-    requires live { IsReadable (core_of volume.old.map) (Pinned pin) }
-    ensures sound { IsSound (D.state volume.new.disk) (core_of volume.new.map) volume.new.failed }
+    requires live { IsReadable volume.old.core (Pinned pin) }
 {
     let read = pin_tests::read(alloc, volume, pin, 1, 1);
     assert!(rt; read == Err(CallError::Failed));
@@ -423,26 +375,24 @@ pub(crate) fn pin_refusal<D: Disk>(
     volume: &mut Volume<D>,
     ppn: Ppn,
     name: u64,
-) -> Option<CallError>
-    requires sound { IsSound (D.state volume.old.disk) (core_of volume.old.map) volume.old.failed }
-    ensures sound { IsSound (D.state volume.new.disk) (core_of volume.new.map) volume.new.failed }
-{
-    expect_few_readers(rt, &volume.map.versions);
+) -> Option<CallError> {
+    expect_pins(rt, volume);
     volume.pin(ppn, &file_name(name)).err()
 }
 
 /// A version isn't begun, for this reason.
-fn expect_unbegun<D: Disk>(rt: &impl Abort, alloc: Global, volume: &mut Volume<D>, error: CallError)
-    requires { IsSound (D.state volume.old.disk) (core_of volume.old.map) volume.old.failed }
-    ensures { IsSound (D.state volume.new.disk) (core_of volume.new.map) volume.new.failed }
-{
+fn expect_unbegun<D: Disk>(
+    rt: &impl Abort,
+    alloc: Global,
+    volume: &mut Volume<D>,
+    error: CallError,
+) {
     assert!(rt; volume.begin(alloc, prime_of(rt, FOO)) == Err(error));
 }
 
 /// Each call is answered `Failed`.
 fn expect_failed<D: Disk>(rt: &impl Abort, alloc: Global, volume: &mut Volume<D>, pin: Pin)
-    requires sound { IsSound (D.state volume.old.disk) (core_of volume.old.map) volume.old.failed }
-    requires live { IsReadable (core_of volume.old.map) (Pinned pin) }
+    requires live { IsReadable volume.old.core (Pinned pin) }
 {
     expect_failure(rt, volume, true);
     expect_no_answer(rt, alloc, volume);
@@ -455,9 +405,7 @@ fn expect_failed<D: Disk>(rt: &impl Abort, alloc: Global, volume: &mut Volume<D>
 
 /// Publishes FOO.TXT twice, with a reader of the first version. The second publication fails.
 fn fail_to_publish<D: Disk>(rt: &impl Abort, alloc: Global, volume: &mut Volume<D>) -> Pin
-    requires sound { IsSound (D.state volume.old.disk) (core_of volume.old.map) volume.old.failed }
-    ensures sound { IsSound (D.state volume.new.disk) (core_of volume.new.map) volume.new.failed }
-    ensures live { IsReadable (core_of volume.new.map) (Pinned result) }
+    ensures live { IsReadable volume.new.core (Pinned result) }
 {
     store(rt, alloc, volume, FOO, &[], Some(46));
     let pin = hold(rt, volume);
@@ -478,31 +426,49 @@ fn the_first_write_of_a_publication_fails(rt: HostRuntime) -> Result<(), Fail> {
     Ok(())
 }
 
-/// Gives a volume up, as a call does that meets a fault.
-fn give_up<D: Disk>(volume: &mut Volume<D>)
-    requires sound { IsSound (D.state volume.old.disk) (core_of volume.old.map) volume.old.failed }
-    ensures sound { IsSound (D.state volume.new.disk) (core_of volume.new.map) volume.new.failed }
-    ensures map { volume.new.map ≡ volume.old.map }
+/// Reads the words of a version that is being written, and tells whether that fails, and the volume with
+/// it.
+fn fail_to_read<D: Disk>(alloc: Global, volume: &mut Volume<D>, pending: Pending) -> bool
+    requires live { IsSome (pending_at volume.old.core.pending pending.key) }
+    ensures core { volume.new.core ≡ volume.old.core }
 {
-    volume.failed = true;
+    let read = volume.get_words(alloc, VersionHandle::Pending(pending), 1, 1);
+    read.is_err() && volume.has_failed()
 }
 
-/// A version is begun, the volume is given up, and the version isn't published.
-fn publish_given_up<D: Disk>(rt: &impl Abort, alloc: Global, volume: &mut Volume<D>)
-    requires { IsSound (D.state volume.old.disk) (core_of volume.old.map) volume.old.failed }
-{
+/// A version is begun, the volume fails where it is read, and the version isn't published. Tells whether the read
+/// failed.
+fn publish_given_up<D: Disk>(rt: &impl Abort, alloc: Global, volume: &mut Volume<D>) -> bool {
     let pending = write(rt, alloc, volume, FOO, &[word(7)]);
-    give_up(volume);
+    if !fail_to_read(alloc, volume, pending) {
+        return false;
+    }
     expect_published(rt, alloc, volume, pending, 1, &[], Err(CallError::Failed));
+    true
+}
+
+/// Whether a version of V1 isn't published since its volume has failed, on a disk that fails each read after so
+/// many; V1 is on the disk then, as before. Nothing where the volume isn't opened.
+fn is_given_up_after(rt: &impl Abort, alloc: Global, reads: u32) -> Result<bool, NoMemory> {
+    let disk = spoiled(v1(rt, alloc, 100)?, reads, true);
+    let Some(mut volume) = open(alloc, disk) else {
+        return Ok(false);
+    };
+    let is_given_up = publish_given_up(rt, alloc, &mut volume);
+    let mut volume = opened(rt, alloc, unspoiled(disk_of(volume)));
+    expect_room(rt, &volume, 45);
+    store(rt, alloc, &mut volume, FOO, &[word(7)], Some(45));
+    Ok(is_given_up)
 }
 
 #[test]
 fn a_failed_volume_publishes_nothing(rt: HostRuntime) -> Result<(), Fail> {
-    let alloc = rt.alloc();
-    let mut volume = fresh(&rt, alloc, 64, 1000)?;
-    publish_given_up(&rt, alloc, &mut volume);
-    let mut volume = reopened(&rt, alloc, volume);
-    expect_room(&rt, &volume, 47);
-    store(&rt, alloc, &mut volume, FOO, &[word(7)], Some(45));
+    let mut is_given_up = false;
+    for reads in 0..16 {
+        if is_given_up_after(&rt, rt.alloc(), reads)? {
+            is_given_up = true;
+        }
+    }
+    assert!(rt; is_given_up);
     Ok(())
 }

@@ -1,7 +1,5 @@
 ghost use Rattle.std.specs.Prelude.{◌<◌, IsSome, IfSome};
 ghost use Rattle.volume.specs.Live.{pending_at};
-ghost use Rattle.volume.specs.LiveCores.{core_of};
-ghost use Rattle.volume.specs.Rest.{IsSound};
 
 use crate::disks::{disk_of, expect_failure, expect_room, forget, open, opened, spoiled, v1, word};
 use blockdisk::{Disk, MemDisk, NoMemory};
@@ -33,7 +31,7 @@ fn open_and_begin<D: Disk + Drop>(
     alloc: Global,
     disk: D,
 ) -> Option<(Volume<D>, Pending)>
-    ensures { IfSome result (λ begun. IsSound (D.state begun.0.disk) (core_of begun.0.map) begun.0.failed × IsSome (pending_at (core_of begun.0.map).pending begun.1.key)) }
+    ensures { IfSome result (λ begun. IsSome (pending_at begun.0.core.pending begun.1.key)) }
 {
     let prime = foo(rt);
     let Some(mut volume) = open(alloc, disk) else {
@@ -52,11 +50,9 @@ pub(crate) fn put<D: Disk>(
     block: u32,
     words: &[Word],
 ) -> Result<(), CallError>
-    requires sound { IsSound (D.state volume.old.disk) (core_of volume.old.map) volume.old.failed }
-    requires live { IsSome (pending_at (core_of volume.old.map).pending pending.key) }
+    requires live { IsSome (pending_at volume.old.core.pending pending.key) }
     requires first { 0 < block }
-    ensures sound { IsSound (D.state volume.new.disk) (core_of volume.new.map) volume.new.failed }
-    ensures live { IsSome (pending_at (core_of volume.new.map).pending pending.key) }
+    ensures live { IsSome (pending_at volume.new.core.pending pending.key) }
 {
     volume.put_words(pending, block, words)
 }
@@ -70,11 +66,9 @@ fn expect_answer<D: Disk>(
     words: &[Word],
     wanted: Result<(), CallError>,
 )
-    requires sound { IsSound (D.state volume.old.disk) (core_of volume.old.map) volume.old.failed }
-    requires live { IsSome (pending_at (core_of volume.old.map).pending pending.key) }
+    requires live { IsSome (pending_at volume.old.core.pending pending.key) }
     requires first { 0 < block }
-    ensures sound { IsSound (D.state volume.new.disk) (core_of volume.new.map) volume.new.failed }
-    ensures live { IsSome (pending_at (core_of volume.new.map).pending pending.key) }
+    ensures live { IsSome (pending_at volume.new.core.pending pending.key) }
 {
     assert!(rt; put(volume, pending, block, words) == wanted);
 }
@@ -88,11 +82,9 @@ fn expect_put<D: Disk>(
     wanted: Result<(), CallError>,
     room: i64,
 )
-    requires sound { IsSound (D.state volume.old.disk) (core_of volume.old.map) volume.old.failed }
-    requires live { IsSome (pending_at (core_of volume.old.map).pending pending.key) }
+    requires live { IsSome (pending_at volume.old.core.pending pending.key) }
     requires first { 0 < block }
-    ensures sound { IsSound (D.state volume.new.disk) (core_of volume.new.map) volume.new.failed }
-    ensures live { IsSome (pending_at (core_of volume.new.map).pending pending.key) }
+    ensures live { IsSome (pending_at volume.new.core.pending pending.key) }
 {
     expect_answer(rt, volume, pending, block, &[word(7)], wanted);
     expect_room(rt, volume, room);
@@ -105,21 +97,17 @@ pub(crate) fn read<D: Disk>(
     pending: Pending,
     block: u32,
 ) -> Result<Vec<Word>, CallError>
-    requires sound { IsSound (D.state volume.old.disk) (core_of volume.old.map) volume.old.failed }
-    requires live { IsSome (pending_at (core_of volume.old.map).pending pending.key) }
+    requires live { IsSome (pending_at volume.old.core.pending pending.key) }
     requires first { 0 < block }
-    ensures sound { IsSound (D.state volume.new.disk) (core_of volume.new.map) volume.new.failed }
-    ensures live { IsSome (pending_at (core_of volume.new.map).pending pending.key) }
+    ensures live { IsSome (pending_at volume.new.core.pending pending.key) }
 {
     volume.get_words(alloc, VersionHandle::Pending(pending), block, 1000)
 }
 
 /// Puts words at the beginning, past the end, over what stands there, and none at the last block that has a number.
 fn put_some<D: Disk>(rt: &impl Abort, volume: &mut Volume<D>, pending: Pending)
-    requires sound { IsSound (D.state volume.old.disk) (core_of volume.old.map) volume.old.failed }
-    requires live { IsSome (pending_at (core_of volume.old.map).pending pending.key) }
-    ensures sound { IsSound (D.state volume.new.disk) (core_of volume.new.map) volume.new.failed }
-    ensures live { IsSome (pending_at (core_of volume.new.map).pending pending.key) }
+    requires live { IsSome (pending_at volume.old.core.pending pending.key) }
+    ensures live { IsSome (pending_at volume.new.core.pending pending.key) }
 {
     expect_room(rt, volume, 44);
     let first = [word(WORDS[0]), word(WORDS[1])];
@@ -147,8 +135,7 @@ fn expect_some(rt: &impl Abort, words: &[Word]) {
 
 /// Puts words into a version, and reads them.
 fn put_and_read<D: Disk>(rt: &impl Abort, alloc: Global, volume: &mut Volume<D>, pending: Pending)
-    requires sound { IsSound (D.state volume.old.disk) (core_of volume.old.map) volume.old.failed }
-    requires live { IsSome (pending_at (core_of volume.old.map).pending pending.key) }
+    requires live { IsSome (pending_at volume.old.core.pending pending.key) }
 {
     put_some(rt, volume, pending);
     match read(alloc, volume, pending, 1) {
@@ -170,10 +157,8 @@ fn words_are_put_and_read(rt: HostRuntime) -> Result<(), Fail> {
 
 /// Words far behind the room are refused.
 fn expect_full<D: Disk>(rt: &impl Abort, volume: &mut Volume<D>, pending: Pending)
-    requires sound { IsSound (D.state volume.old.disk) (core_of volume.old.map) volume.old.failed }
-    requires live { IsSome (pending_at (core_of volume.old.map).pending pending.key) }
-    ensures sound { IsSound (D.state volume.new.disk) (core_of volume.new.map) volume.new.failed }
-    ensures live { IsSome (pending_at (core_of volume.new.map).pending pending.key) }
+    requires live { IsSome (pending_at volume.old.core.pending pending.key) }
+    ensures live { IsSome (pending_at volume.new.core.pending pending.key) }
 {
     let full = Err(CallError::Refused(ErrorCode::NoRoom));
     expect_put(rt, volume, pending, 45, full, 44);
@@ -184,10 +169,8 @@ fn expect_full<D: Disk>(rt: &impl Abort, volume: &mut Volume<D>, pending: Pendin
 
 /// Words take all room; more are refused then, and others over those that stand there are not.
 fn take_all<D: Disk>(rt: &impl Abort, volume: &mut Volume<D>, pending: Pending)
-    requires sound { IsSound (D.state volume.old.disk) (core_of volume.old.map) volume.old.failed }
-    requires live { IsSome (pending_at (core_of volume.old.map).pending pending.key) }
-    ensures sound { IsSound (D.state volume.new.disk) (core_of volume.new.map) volume.new.failed }
-    ensures live { IsSome (pending_at (core_of volume.new.map).pending pending.key) }
+    requires live { IsSome (pending_at volume.old.core.pending pending.key) }
+    ensures live { IsSome (pending_at volume.new.core.pending pending.key) }
 {
     let full = Err(CallError::Refused(ErrorCode::NoRoom));
     expect_put(rt, volume, pending, 44, Ok(()), 0);
@@ -210,8 +193,7 @@ fn a_version_takes_all_room(rt: HostRuntime) -> Result<(), Fail> {
 
 /// A put is done, or the device fails in it, and the volume with it. No words are put then.
 fn put_or_fail<D: Disk>(rt: &impl Abort, volume: &mut Volume<D>, pending: Pending, is_done: bool)
-    requires sound { IsSound (D.state volume.old.disk) (core_of volume.old.map) volume.old.failed }
-    requires live { IsSome (pending_at (core_of volume.old.map).pending pending.key) }
+    requires live { IsSome (pending_at volume.old.core.pending pending.key) }
 {
     let (first, next) = if is_done {
         (Ok(()), Ok(()))
@@ -223,12 +205,12 @@ fn put_or_fail<D: Disk>(rt: &impl Abort, volume: &mut Volume<D>, pending: Pendin
     expect_answer(rt, volume, pending, 3, &[], next);
 }
 
-/// The volume on a disk has four blocks booked.
+/// The volume on a disk has four blocks in use, so that 45 are left.
 fn expect_four(rt: &impl Abort, alloc: Global, disk: MemDisk) {
     let volume = opened(rt, alloc, disk);
-    let booked = volume.map.table.booked();
+    let room = volume.room();
     drop(volume);
-    assert_eq!(rt; booked, 4);
+    assert_eq!(rt; room, 45);
 }
 
 /// The disk has room to record so many writes of a call that makes three, and the next one fails: the volume
@@ -250,8 +232,7 @@ fn each_write_of_words_may_fail(rt: HostRuntime) -> Result<(), Fail> {
 
 /// Puts a word; after `NoMemory` all is as before, and the next call puts it.
 fn put_again<D: Disk>(rt: &impl Abort, volume: &mut Volume<D>, pending: Pending)
-    requires sound { IsSound (D.state volume.old.disk) (core_of volume.old.map) volume.old.failed }
-    requires live { IsSome (pending_at (core_of volume.old.map).pending pending.key) }
+    requires live { IsSome (pending_at volume.old.core.pending pending.key) }
 {
     let first = put(volume, pending, 1, &[word(7)]);
     if first == Err(CallError::NoMemory) {
@@ -278,10 +259,8 @@ fn each_allocation_of_a_put_refused(rt: HostRuntime) {
 
 /// A version has this one word.
 fn expect_word<D: Disk>(rt: &impl Abort, alloc: Global, volume: &mut Volume<D>, pending: Pending)
-    requires sound { IsSound (D.state volume.old.disk) (core_of volume.old.map) volume.old.failed }
-    requires live { IsSome (pending_at (core_of volume.old.map).pending pending.key) }
-    ensures sound { IsSound (D.state volume.new.disk) (core_of volume.new.map) volume.new.failed }
-    ensures live { IsSome (pending_at (core_of volume.new.map).pending pending.key) }
+    requires live { IsSome (pending_at volume.old.core.pending pending.key) }
+    ensures live { IsSome (pending_at volume.new.core.pending pending.key) }
 {
     match read(alloc, volume, pending, 1) {
         Ok(words) => assert!(rt; words.as_slice() == [word(7)].as_slice()),
@@ -291,8 +270,7 @@ fn expect_word<D: Disk>(rt: &impl Abort, alloc: Global, volume: &mut Volume<D>, 
 
 /// Puts a word far behind the one that a version has; after `NoMemory` the version has its word, and no block more.
 fn grow_again<D: Disk>(rt: &impl Abort, alloc: Global, volume: &mut Volume<D>, pending: Pending)
-    requires sound { IsSound (D.state volume.old.disk) (core_of volume.old.map) volume.old.failed }
-    requires live { IsSome (pending_at (core_of volume.old.map).pending pending.key) }
+    requires live { IsSome (pending_at volume.old.core.pending pending.key) }
 {
     let longer = put(volume, pending, 40, &[word(8)]);
     if longer == Err(CallError::NoMemory) {
@@ -321,8 +299,7 @@ fn each_allocation_of_a_longer_version_refused(rt: HostRuntime) {
 
 /// Puts words over words. A volume that finds a block damaged has failed; tells whether the words are put.
 fn is_put<D: Disk>(rt: &impl Abort, volume: &mut Volume<D>, pending: Pending) -> bool
-    requires sound { IsSound (D.state volume.old.disk) (core_of volume.old.map) volume.old.failed }
-    requires live { IsSome (pending_at (core_of volume.old.map).pending pending.key) }
+    requires live { IsSome (pending_at volume.old.core.pending pending.key) }
 {
     expect_answer(rt, volume, pending, 1, &[word(7), word(8)], Ok(()));
     if put(volume, pending, 1, &[word(9)]) == Ok(()) {

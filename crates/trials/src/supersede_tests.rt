@@ -1,8 +1,6 @@
 ghost use Rattle.std.specs.Prelude.{◌≡◌};
 ghost use Rattle.blockdisk.specs.Memory.{memory_state};
-ghost use Rattle.volume.specs.LiveCores.{core_of};
 ghost use Rattle.volume.specs.Pins.{IsReadable};
-ghost use Rattle.volume.specs.Rest.{IsSound};
 ghost use Rattle.volume.specs.declared.handles.VersionHandle.TheVariants.{Pinned};
 
 use crate::disks::{disk_of, expect_failure, expect_room, forget, opened, reopened};
@@ -30,11 +28,9 @@ const FROM_GATE: usize = 2 + 3 + 2;
 
 /// Holds the version that FOO.TXT has, beside a reader of another one.
 fn hold_beside(rt: &impl Abort, volume: &mut Volume<MemDisk>, other: Pin) -> Pin
-    requires sound { IsSound (memory_state volume.old.disk) (core_of volume.old.map) volume.old.failed }
-    requires other { IsReadable (core_of volume.old.map) (Pinned other) }
-    ensures sound { IsSound (memory_state volume.new.disk) (core_of volume.new.map) volume.new.failed }
-    ensures live { IsReadable (core_of volume.new.map) (Pinned result) }
-    ensures other { IsReadable (core_of volume.new.map) (Pinned other) }
+    requires other { IsReadable volume.old.core (Pinned other) }
+    ensures live { IsReadable volume.new.core (Pinned result) }
+    ensures other { IsReadable volume.new.core (Pinned other) }
     ensures apart { other.key ≡ result.key → ⊥ }
 {
     let pin = hold(rt, volume);
@@ -44,12 +40,10 @@ fn hold_beside(rt: &impl Abort, volume: &mut Volume<MemDisk>, other: Pin) -> Pin
 
 /// Lets a version go, beside a reader of another one.
 fn let_go_beside(volume: &mut Volume<MemDisk>, pin: Pin, other: Pin)
-    requires sound { IsSound (memory_state volume.old.disk) (core_of volume.old.map) volume.old.failed }
-    requires live { IsReadable (core_of volume.old.map) (Pinned pin) }
-    requires other { IsReadable (core_of volume.old.map) (Pinned other) }
+    requires live { IsReadable volume.old.core (Pinned pin) }
+    requires other { IsReadable volume.old.core (Pinned other) }
     requires apart { other.key ≡ pin.key → ⊥ }
-    ensures sound { IsSound (memory_state volume.new.disk) (core_of volume.new.map) volume.new.failed }
-    ensures other { IsReadable (core_of volume.new.map) (Pinned other) }
+    ensures other { IsReadable volume.new.core (Pinned other) }
 {
     volume.unpin(pin);
 }
@@ -62,10 +56,7 @@ fn supersede_twice(
     first: &[Word],
     second: &[Word],
     third: &[Word],
-)
-    requires { IsSound (memory_state volume.old.disk) (core_of volume.old.map) volume.old.failed }
-    ensures { IsSound (memory_state volume.new.disk) (core_of volume.new.map) volume.new.failed }
-{
+) {
     store(rt, alloc, volume, FOO, first, Some(44));
     let reader = hold(rt, volume);
     store(rt, alloc, volume, FOO, second, Some(40));
@@ -152,15 +143,12 @@ fn count_publication(
     words: &[Word],
     before: u32,
     all: u32,
-)
-    requires { IsSound (memory_state volume.old.disk.disk) (core_of volume.old.map) volume.old.failed }
-    ensures { IsSound (memory_state volume.new.disk.disk) (core_of volume.new.map) volume.new.failed }
-{
-    expect_counts(rt, &volume.disk, 0, 1);
+) {
+    expect_counts(rt, volume.disk(), 0, 1);
     let pending = write(rt, alloc, volume, FOO, words);
-    expect_counts(rt, &volume.disk, before, 1);
+    expect_counts(rt, volume.disk(), before, 1);
     expect_published(rt, alloc, volume, pending, 1, &[], Ok(()));
-    expect_counts(rt, &volume.disk, all, 1 + 4);
+    expect_counts(rt, volume.disk(), all, 1 + 4);
 }
 
 /// A disk in memory that has counted nothing yet.

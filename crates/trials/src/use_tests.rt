@@ -1,8 +1,6 @@
 ghost use Rattle.std.specs.Prelude.{◌≡◌, ◌<◌, ℕ, IsSome, IfSome};
 ghost use Rattle.volume.specs.Live.{pending_at};
-ghost use Rattle.volume.specs.LiveCores.{core_of};
 ghost use Rattle.volume.specs.Pins.{IsReadable};
-ghost use Rattle.volume.specs.Rest.{IsSound};
 ghost use Rattle.volume.specs.declared.handles.VersionHandle.TheVariants.{Pinned};
 
 use crate::disks::{self, expect_room, load, prime, v1, word};
@@ -35,10 +33,8 @@ fn write<D: Disk>(
     name: u64,
     blocks: usize,
 ) -> Option<Pending>
-    requires sound { IsSound (D.state volume.old.disk) (core_of volume.old.map) volume.old.failed }
     requires few { blocks < 1000 }
-    ensures sound { IsSound (D.state volume.new.disk) (core_of volume.new.map) volume.new.failed }
-    ensures live { IfSome result (λ pending. IsSome (pending_at (core_of volume.new.map).pending pending.key)) }
+    ensures live { IfSome result (λ pending. IsSome (pending_at volume.new.core.pending pending.key)) }
 {
     let Ok(words) = vec![in alloc; word(OTHERS); blocks * BLOCK_WORDS] else {
         return None;
@@ -60,10 +56,8 @@ fn write_leaving<D: Disk>(
     blocks: usize,
     room: i64,
 ) -> Pending
-    requires sound { IsSound (D.state volume.old.disk) (core_of volume.old.map) volume.old.failed }
     requires few { blocks < 1000 }
-    ensures sound { IsSound (D.state volume.new.disk) (core_of volume.new.map) volume.new.failed }
-    ensures live { IsSome (pending_at (core_of volume.new.map).pending result.key) }
+    ensures live { IsSome (pending_at volume.new.core.pending result.key) }
 {
     let Some(pending) = write(rt, alloc, volume, 1, blocks) else {
         panic!(rt; "the words aren't put");
@@ -80,7 +74,6 @@ fn write_and_drop<D: Disk>(
     blocks: usize,
     room: i64,
 )
-    requires sound { IsSound (D.state volume.old.disk) (core_of volume.old.map) volume.old.failed }
     requires few { blocks < 1000 }
 {
     expect_room(rt, volume, 495);
@@ -100,9 +93,7 @@ fn a_version_of_113_blocks_has_an_extension(rt: HostRuntime) -> Result<(), Fail>
 }
 
 /// Fills a volume of room 47, is refused one word more, and drops all.
-fn fill_and_empty<D: Disk>(rt: &impl Abort, alloc: Global, volume: &mut Volume<D>)
-    requires { IsSound (D.state volume.old.disk) (core_of volume.old.map) volume.old.failed }
-{
+fn fill_and_empty<D: Disk>(rt: &impl Abort, alloc: Global, volume: &mut Volume<D>) {
     expect_room(rt, volume, 47);
     let pending = write_leaving(rt, alloc, volume, 46, 0);
     let full = put(volume, pending, 47, &[word(7)]);
@@ -145,10 +136,8 @@ fn expect_words(rt: &impl Abort, words: &[Word], length: usize, wanted: &[(usize
 
 /// The reader reads its file: the words are those that it had, whatever was put elsewhere.
 fn expect_file<D: Disk>(rt: &impl Abort, alloc: Global, volume: &mut Volume<D>, pin: Pin)
-    requires sound { IsSound (D.state volume.old.disk) (core_of volume.old.map) volume.old.failed }
-    requires live { IsReadable (core_of volume.old.map) (Pinned pin) }
-    ensures sound { IsSound (D.state volume.new.disk) (core_of volume.new.map) volume.new.failed }
-    ensures map { volume.new.map ≡ volume.old.map }
+    requires live { IsReadable volume.old.core (Pinned pin) }
+    ensures map { volume.new.core ≡ volume.old.core }
 {
     let Ok(words) = pin_tests::read(alloc, volume, pin, 1, 1000) else {
         panic!(rt; "the file isn't read");
@@ -171,13 +160,11 @@ fn begin_beside<D: Disk>(
     name: u64,
     room: i64,
 ) -> Pending
-    requires sound { IsSound (D.state volume.old.disk) (core_of volume.old.map) volume.old.failed }
-    requires reader { IsReadable (core_of volume.old.map) (Pinned pin) }
-    ensures sound { IsSound (D.state volume.new.disk) (core_of volume.new.map) volume.new.failed }
-    ensures reader { IsReadable (core_of volume.new.map) (Pinned pin) }
-    ensures live { IsSome (pending_at (core_of volume.new.map).pending result.key) }
-    ensures others { (k : ℕ) → IsSome (pending_at (core_of volume.old.map).pending k) → IsSome (pending_at (core_of volume.new.map).pending k) }
-    ensures apart { (k : ℕ) → IsSome (pending_at (core_of volume.old.map).pending k) → k ≡ result.key → ⊥ }
+    requires reader { IsReadable volume.old.core (Pinned pin) }
+    ensures reader { IsReadable volume.new.core (Pinned pin) }
+    ensures live { IsSome (pending_at volume.new.core.pending result.key) }
+    ensures others { (k : ℕ) → IsSome (pending_at volume.old.core.pending k) → IsSome (pending_at volume.new.core.pending k) }
+    ensures apart { (k : ℕ) → IsSome (pending_at volume.old.core.pending k) → k ≡ result.key → ⊥ }
 {
     let Ok(pending) = volume.begin(alloc, prime_of(rt, name)) else {
         panic!(rt; "no version is begun");
@@ -199,15 +186,13 @@ fn put_beside<D: Disk>(
     words: &[Word],
     room: i64,
 )
-    requires sound { IsSound (D.state volume.old.disk) (core_of volume.old.map) volume.old.failed }
-    requires reader { IsReadable (core_of volume.old.map) (Pinned pin) }
-    requires other { IsSome (pending_at (core_of volume.old.map).pending other.key) }
-    requires live { IsSome (pending_at (core_of volume.old.map).pending pending.key) }
+    requires reader { IsReadable volume.old.core (Pinned pin) }
+    requires other { IsSome (pending_at volume.old.core.pending other.key) }
+    requires live { IsSome (pending_at volume.old.core.pending pending.key) }
     requires first { 0 < block }
-    ensures sound { IsSound (D.state volume.new.disk) (core_of volume.new.map) volume.new.failed }
-    ensures reader { IsReadable (core_of volume.new.map) (Pinned pin) }
-    ensures other { IsSome (pending_at (core_of volume.new.map).pending other.key) }
-    ensures live { IsSome (pending_at (core_of volume.new.map).pending pending.key) }
+    ensures reader { IsReadable volume.new.core (Pinned pin) }
+    ensures other { IsSome (pending_at volume.new.core.pending other.key) }
+    ensures live { IsSome (pending_at volume.new.core.pending pending.key) }
 {
     assert!(rt; volume.put_words(pending, block, words) == Ok(()));
     expect_room(rt, volume, room);
@@ -224,14 +209,12 @@ fn discard_beside<D: Disk>(
     pending: Pending,
     room: i64,
 )
-    requires sound { IsSound (D.state volume.old.disk) (core_of volume.old.map) volume.old.failed }
-    requires reader { IsReadable (core_of volume.old.map) (Pinned pin) }
-    requires other { IsSome (pending_at (core_of volume.old.map).pending other.key) }
-    requires live { IsSome (pending_at (core_of volume.old.map).pending pending.key) }
+    requires reader { IsReadable volume.old.core (Pinned pin) }
+    requires other { IsSome (pending_at volume.old.core.pending other.key) }
+    requires live { IsSome (pending_at volume.old.core.pending pending.key) }
     requires apart { other.key ≡ pending.key → ⊥ }
-    ensures sound { IsSound (D.state volume.new.disk) (core_of volume.new.map) volume.new.failed }
-    ensures reader { IsReadable (core_of volume.new.map) (Pinned pin) }
-    ensures other { IsSome (pending_at (core_of volume.new.map).pending other.key) }
+    ensures reader { IsReadable volume.new.core (Pinned pin) }
+    ensures other { IsSome (pending_at volume.new.core.pending other.key) }
 {
     volume.discard(pending);
     expect_room(rt, volume, room);
@@ -240,10 +223,8 @@ fn discard_beside<D: Disk>(
 
 /// A version has 257 words: those that were put at its second and its third block, and zeros.
 fn expect_version<D: Disk>(rt: &impl Abort, alloc: Global, volume: &mut Volume<D>, pending: Pending)
-    requires sound { IsSound (D.state volume.old.disk) (core_of volume.old.map) volume.old.failed }
-    requires live { IsSome (pending_at (core_of volume.old.map).pending pending.key) }
-    ensures sound { IsSound (D.state volume.new.disk) (core_of volume.new.map) volume.new.failed }
-    ensures live { IsSome (pending_at (core_of volume.new.map).pending pending.key) }
+    requires live { IsSome (pending_at volume.old.core.pending pending.key) }
+    ensures live { IsSome (pending_at volume.new.core.pending pending.key) }
 {
     match put_tests::read(alloc, volume, pending, 1) {
         Ok(words) => {
@@ -262,8 +243,7 @@ fn write_beside<D: Disk>(
     pin: Pin,
     three: &[Word],
 )
-    requires sound { IsSound (D.state volume.old.disk) (core_of volume.old.map) volume.old.failed }
-    requires reader { IsReadable (core_of volume.old.map) (Pinned pin) }
+    requires reader { IsReadable volume.old.core (Pinned pin) }
 {
     let new = begin_beside(rt, alloc, volume, pin, 1, 43);
     let same = begin_beside(rt, alloc, volume, pin, FOO, 42);

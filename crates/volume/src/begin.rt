@@ -10,7 +10,6 @@ ghost use Rattle.volume.specs.Beginning.{begin_cost, entries_with, is_absent, Is
 ghost use Rattle.volume.specs.Known.{KnownDirectory};
 ghost use Rattle.volume.specs.Live.{creates, IsWholeCore};
 ghost use Rattle.volume.specs.LiveCores.{core_of};
-ghost use Rattle.volume.specs.Rest.{IsSound};
 ghost use Rattle.volume.specs.declared.error.CallError.TheVariants.{Refused, Device, Failed};
 
 use crate::CallError;

@@ -8,7 +8,6 @@ ghost use Rattle.volume.specs.Beginning.{entries_with, IsDirectoryOf};
 ghost use Rattle.volume.specs.Known.{KnownDirectory};
 ghost use Rattle.volume.specs.Live.{pending_at, IsWholeCore};
 ghost use Rattle.volume.specs.LiveCores.{core_of};
-ghost use Rattle.volume.specs.Rest.{IsSound};
 ghost use Rattle.volume.specs.declared.pending.PendingVersion.{PendingVersion};
 
 use crate::begin::growth_at;

@@ -7,7 +7,7 @@
 //! 2. `Volume::open` recovers the disk first and then reads every block that it reaches, each once. Where it
 //!    answers Ok on an honest disk, the disk stood for some files, nothing but the recovery was done to it, the
 //!    contents have the map that is kept in core, the files are those that the disk stood for before, the gate
-//!    is closed and no block is open. (`sound`, `recovered`, `stood`, `files`, `settled`)
+//!    is closed and no block is open. (`recovered`, `stood`, `files`, `settled`)
 //! 3. Each refusal of `open` names a fault that stands in the disk as it is handed back; but for a fault of
 //!    the device that disk was recovered, or nothing was written. Whatever the disk answers, a block that is
 //!    named lies in the free space or is one of the table. (`refused`, `kept`, `named`)
@@ -39,7 +39,8 @@
 //! Between two calls the volume knows the map of its disk: the chains of its directories with their entries
 //! in the order of the disk, for each entry where its version lies, and the allocation table with what is
 //! booked. `specs/Known.antt` says how that and the contents meet, `specs/Rest.antt` what holds between two
-//! calls.
+//! calls. To contracts a volume is one value (`specs/States.antt`), and what holds between two calls is kept by its
+//! type: no call asks for it, and `has_failed` says it where a proof wants it. (`sound`)
 #![tactic(auto)]
 
 mod begin;

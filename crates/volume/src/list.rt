@@ -7,9 +7,9 @@ ghost use Rattle.meaning.specs.Maps.{entries, from_entries, get};
 ghost use Rattle.volume.specs.Cores.{file_view};
 ghost use Rattle.volume.specs.Found.{IsAdded};
 ghost use Rattle.volume.specs.Live.{IsKeyed, AreStanding};
-ghost use Rattle.volume.specs.LiveCores.{live_directory, core_of};
+ghost use Rattle.volume.specs.LiveCores.{live_directory};
 ghost use Rattle.volume.specs.Queries.{line, IsLine, IsListRefusal};
-ghost use Rattle.volume.specs.Rest.{IsSound, RestsAt};
+ghost use Rattle.volume.specs.Rest.{RestsAt};
 ghost use Rattle.volume.specs.declared.error.CallError.TheVariants.{Refused, NoMemory, Failed};
 
 use crate::CallError;

@@ -1,5 +1,4 @@
 ghost use Rattle.std.specs.Prelude.{◌≡◌};
-ghost use Rattle.volume.specs.Rest.{IsSound};
 
 use crate::files::StoredVersion;
 use crate::live::LiveMap;
@@ -51,15 +50,6 @@ impl<D: Disk> Model for Volume<D> {
 }
 
 impl<D: Disk> Volume<D> {
-    /// Whether a call met a fault of the disk. No call but this one and `blocks` says anything of the disk then. Who asks
-    /// learns as well what holds of a volume between two calls.
-    pub fn has_failed(&self) -> bool
-        ensures value { result ≡ self.now.failed }
-        ensures sound { IsSound (D.state self.now.disk) self.now.core self.now.failed }
-    {
-        self.failed
-    }
-
     /// The disk.
     pub fn disk(&self) -> &D
         ensures { result.now ≡ self.now.disk }

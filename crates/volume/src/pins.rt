@@ -10,7 +10,7 @@ ghost use Rattle.volume.specs.LiveCores.{core_of};
 ghost use Rattle.volume.specs.Pins.{IsKeyOf, IsNoFile, IsPinAnswer};
 ghost use Rattle.volume.specs.Places.{prime_at};
 ghost use Rattle.volume.specs.Queries.{IsPlainRefusal};
-ghost use Rattle.volume.specs.Rest.{IsSound, RestsAt};
+ghost use Rattle.volume.specs.Rest.{RestsAt};
 ghost use Rattle.volume.specs.declared.error.CallError.TheVariants.{Refused, Failed};
 ghost use Rattle.volume.specs.declared.live.LiveVersion.{LiveVersion};
 

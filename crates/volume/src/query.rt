@@ -8,7 +8,7 @@ ghost use Rattle.meaning.specs.Maps.{get};
 ghost use Rattle.directory.specs.Edits.{StandsAt};
 ghost use Rattle.volume.specs.Cores.{file_view, master_view};
 ghost use Rattle.volume.specs.Live.{IsKeyed, AreStanding, cost_beyond};
-ghost use Rattle.volume.specs.LiveCores.{live_directory, core_of};
+ghost use Rattle.volume.specs.LiveCores.{live_directory};
 ghost use Rattle.volume.specs.Queries.{room_of, protection_answer, IsPlainRefusal, IsNamedVersion, IsLookAnswer};
 ghost use Rattle.volume.specs.Rest.{IsSound, RestsAt};
 ghost use Rattle.volume.specs.declared.error.CallError.TheVariants.{Refused, Failed};
@@ -80,6 +80,16 @@ fn difference(blocks: u32, less: u64) -> i64
 }
 
 impl<D: Disk> Volume<D> {
+    /// Whether a call met a fault of the disk: then the other calls but `blocks` say nothing of the disk any more.
+    ///
+    /// What its contract says of soundness is so of every volume, whatever the answer: a caller has it by asking.
+    pub fn has_failed(&self) -> bool
+        ensures value { result ≡ self.now.failed }
+        ensures sound { IsSound (D.state self.now.disk) self.now.core self.now.failed }
+    {
+        self.failed
+    }
+
     /// How many blocks the disk has.
     pub fn blocks(&self) -> u32
         ensures { result ≡ (D.state self.now.disk).size }

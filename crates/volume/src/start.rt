@@ -12,9 +12,8 @@ ghost use Rattle.volume.specs.Cores.{known_of};
 ghost use Rattle.volume.specs.Homes.{IsBare, IsInitBlock};
 ghost use Rattle.volume.specs.Known.{IsWholeMap, IsBooked};
 ghost use Rattle.volume.specs.Live.{IsFirstRead};
-ghost use Rattle.volume.specs.LiveCores.{core_of};
 ghost use Rattle.volume.specs.Meets.{NamesInSpace, Refuses};
-ghost use Rattle.volume.specs.Rest.{IsAtRest, IsSound, RestsAt, StandsLike, StandsLikeBefore};
+ghost use Rattle.volume.specs.Rest.{IsAtRest, RestsAt, StandsLike, StandsLikeBefore};
 ghost use Rattle.volume.specs.declared.error.VolumeError.TheVariants.{NotVolume, Device};
 
 use crate::VolumeError;

@@ -13,7 +13,7 @@ ghost use Rattle.retrieval.specs.Versions.{VersionState};
 ghost use Rattle.volume.specs.Live.{IsWholeCore};
 ghost use Rattle.volume.specs.LiveCores.{core_of};
 ghost use Rattle.volume.specs.Pins.{version_under, IsReadable};
-ghost use Rattle.volume.specs.Rest.{IsSound, RestsAt};
+ghost use Rattle.volume.specs.Rest.{RestsAt};
 ghost use Rattle.volume.specs.declared.error.CallError.TheVariants.{Refused, Device, NoMemory, Failed};
 
 use crate::CallError;

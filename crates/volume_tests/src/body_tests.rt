@@ -1,17 +1,14 @@
-ghost use Rattle.volume.specs.LiveCores.{core_of};
-ghost use Rattle.volume.specs.Rest.{IsSound};
-
 use crate::open_tests::{
-    DIRECTORY, HOME, MASTER, beginning, damage, expect_booked, expect_in_use, expect_no_memory,
-    expect_numbers, expect_reads, load, only_version, opened, prime, put, refused, replaced, v1,
-    word,
+    DIRECTORY, HOME, MASTER, beginning, damage, disk_of, expect_booked, expect_in_use,
+    expect_no_memory, expect_numbers, expect_reads, load, map_of, only_version, opened, prime, put,
+    refused, replaced, v1, word,
 };
 use blockdisk::{Disk, MemDisk, NoMemory};
 use retrieval::Mode;
 use std::alloc::Global;
 use std::process::Abort;
 use std::test::Fail;
-use volume::{FileFacts, LiveVersion, Volume, VolumeError};
+use volume::{FileFacts, StoredVersion, Volume, VolumeError};
 use words36::{BLOCK_WORDS, Block, FileName, Half, Moment, Ppn};
 
 /// FOO in SIXBIT.
@@ -73,15 +70,13 @@ fn with_a_rib(rt: &impl Abort, alloc: Global) -> Result<MemDisk, NoMemory> {
 }
 
 /// A version has so many data blocks and these extensions.
-fn expect_blocks(rt: &impl Abort, stored: &LiveVersion, blocks: u32, ribs: &[u32]) {
+fn expect_blocks(rt: &impl Abort, stored: &StoredVersion, blocks: u32, ribs: &[u32]) {
     assert_eq!(rt; stored.version.blocks().len(), blocks as usize);
     expect_numbers(rt, stored.version.ribs(), ribs);
 }
 
 /// FOO.TXT has what V1's prime block says, so many words and data blocks.
-fn expect_facts<D: Disk>(rt: &impl Abort, volume: &Volume<D>, words: u32, blocks: u32)
-    requires { IsSound (D.state volume.now.disk) (core_of volume.now.map) volume.now.failed }
-{
+fn expect_facts<D: Disk>(rt: &impl Abort, volume: &Volume<D>, words: u32, blocks: u32) {
     let facts = FileFacts {
         protection: 0o057,
         mode: Mode::Ascii,
@@ -105,12 +100,14 @@ fn expect_file(
     disk: MemDisk,
     (words, blocks): (u32, u32),
     ribs: &[u32],
-    booked: u64,
+    booked: i64,
 ) {
     let volume = opened(rt, alloc, disk);
     expect_in_use(rt, &volume, booked);
     expect_facts(rt, &volume, words, blocks);
-    expect_blocks(rt, only_version(rt, &volume.map), blocks, ribs);
+    let mut disk = disk_of(volume);
+    let map = map_of(rt, alloc, &mut disk);
+    expect_blocks(rt, only_version(rt, &map), blocks, ribs);
 }
 
 #[test]

@@ -1,6 +1,3 @@
-ghost use Rattle.volume.specs.LiveCores.{core_of};
-ghost use Rattle.volume.specs.Rest.{IsSound};
-
 use crate::open_tests::{expect_answer, expect_made, expect_protection, expect_room, opened};
 use blockdisk::{Disk, MemDisk};
 use meaning::ErrorCode;
@@ -16,9 +13,7 @@ fn expect_64_blocks<D: Disk>(rt: &impl Abort, volume: &Volume<D>) {
 }
 
 /// A directory has no file.
-fn expect_no_file<D: Disk>(rt: &impl Abort, alloc: Global, volume: &Volume<D>, ppn: Ppn)
-    requires { IsSound (D.state volume.now.disk) (core_of volume.now.map) volume.now.failed }
-{
+fn expect_no_file<D: Disk>(rt: &impl Abort, alloc: Global, volume: &Volume<D>, ppn: Ppn) {
     let name = FileName {
         name: Word::from_bits(1),
         ext: Half::from_bits(0),
@@ -31,10 +26,7 @@ fn expect_no_file<D: Disk>(rt: &impl Abort, alloc: Global, volume: &Volume<D>, p
 }
 
 /// Makes a directory, which can't be made twice.
-fn make_twice<D: Disk>(rt: &impl Abort, alloc: Global, volume: &mut Volume<D>, ppn: Ppn)
-    requires { IsSound (D.state volume.old.disk) (core_of volume.old.map) volume.old.failed }
-    ensures { IsSound (D.state volume.new.disk) (core_of volume.new.map) volume.new.failed }
-{
+fn make_twice<D: Disk>(rt: &impl Abort, alloc: Global, volume: &mut Volume<D>, ppn: Ppn) {
     expect_room(rt, volume, 48);
     expect_protection(
         rt,

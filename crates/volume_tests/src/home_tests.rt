@@ -26,7 +26,7 @@ fn refusal(
     alloc: Global,
     first: Option<&Block>,
     second: Option<&Block>,
-) -> Result<u64, VolumeError> {
+) -> Result<i64, VolumeError> {
     let mut disk = MemDisk::new(alloc, SIZE, 1)?;
     set_copy(rt, &mut disk, 1, first);
     set_copy(rt, &mut disk, 2, second);

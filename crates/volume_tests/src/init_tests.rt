@@ -1,26 +1,26 @@
 use crate::open_tests::{
-    FailingDisk, HOME, SIZE, beginning, expect_block, expect_in_use, expect_made, expect_numbers,
-    failing, filled, init, left_of_reads, load, opened, v1,
+    FailingDisk, HOME, SIZE, beginning, disk_of, expect_block, expect_made, expect_numbers,
+    failing, filled, init, left_of_reads, load, map_of, opened, v1,
 };
 use blockdisk::{MemDisk, NoMemory};
 use std::alloc::Global;
 use std::process::Abort;
 use std::test::Fail;
-use volume::{LiveMap, VolumeError};
+use volume::{DiskMap, VolumeError};
 
-/// The master directory has this one block, and there is no other directory.
-fn expect_bare(rt: &impl Abort, map: &LiveMap, master: u32) {
+/// The master directory has this one block, there is no other directory, and nothing else is in use.
+fn expect_bare(rt: &impl Abort, map: &DiskMap, master: u32) {
     expect_numbers(rt, map.master.blocks(), &[master]);
     assert!(rt; map.directories.is_empty());
+    assert_eq!(rt; map.table.booked(), 1);
 }
 
 /// The volume on a disk is opened: its master directory has this one block, and nothing else is in use.
 fn expect_empty(rt: &impl Abort, alloc: Global, disk: MemDisk, master: u32) {
     let mut disk = disk;
     load(rt, &mut disk, 0, &filled(0)); // the record is empty then
-    let volume = opened(rt, alloc, disk);
-    expect_bare(rt, &volume.map, master);
-    expect_in_use(rt, &volume, 1);
+    let mut disk = disk_of(opened(rt, alloc, disk));
+    expect_bare(rt, &map_of(rt, alloc, &mut disk), master);
 }
 
 /// Gives these blocks this number in each word.

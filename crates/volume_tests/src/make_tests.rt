@@ -1,8 +1,3 @@
-ghost use Rattle.std.specs.Prelude.{IfOk};
-ghost use Rattle.blockdisk.specs.Memory.{memory_state};
-ghost use Rattle.volume.specs.LiveCores.{core_of};
-ghost use Rattle.volume.specs.Rest.{IsSound};
-
 use crate::open_tests::{
     SIZE, beginning, disk_of, expect_answer, expect_block, expect_booked, expect_made,
     expect_protection, expect_room, load, make_dir, open, opened, word,
@@ -53,28 +48,20 @@ fn fresh_disk(rt: &impl Abort, alloc: Global, calls: u16) -> Result<MemDisk, NoM
 }
 
 /// A fresh volume of 64 blocks, on a disk with room to record so many writes and syncs more.
-fn fresh(rt: &impl Abort, alloc: Global, calls: u16) -> Result<Volume<MemDisk>, NoMemory>
-    ensures { IfOk result (λ volume. IsSound (memory_state volume.disk) (core_of volume.map) volume.failed) }
-{
+fn fresh(rt: &impl Abort, alloc: Global, calls: u16) -> Result<Volume<MemDisk>, NoMemory> {
     let disk = fresh_disk(rt, alloc, calls)?;
     Ok(opened(rt, alloc, disk))
 }
 
 /// Makes the directory [1,n], which leaves a block less.
-fn make_one<D: Disk>(rt: &impl Abort, alloc: Global, volume: &mut Volume<D>, n: u8)
-    requires { IsSound (D.state volume.old.disk) (core_of volume.old.map) volume.old.failed }
-    ensures { IsSound (D.state volume.new.disk) (core_of volume.new.map) volume.new.failed }
-{
+fn make_one<D: Disk>(rt: &impl Abort, alloc: Global, volume: &mut Volume<D>, n: u8) {
     let before = volume.room();
     expect_answer(rt, alloc, volume, ppn_of(rt, n), Ok(()));
     assert!(rt; before.checked_sub(1) == Some(volume.room()));
 }
 
 /// Makes the directories [1,n] for these n, with protection 775. Each leaves a block less.
-fn make_each(rt: &impl Abort, alloc: Global, volume: &mut Volume<MemDisk>, first: u8, end: u8)
-    requires { IsSound (memory_state volume.old.disk) (core_of volume.old.map) volume.old.failed }
-    ensures { IsSound (memory_state volume.new.disk) (core_of volume.new.map) volume.new.failed }
-{
+fn make_each(rt: &impl Abort, alloc: Global, volume: &mut Volume<MemDisk>, first: u8, end: u8) {
     for n in first..end {
         make_one(rt, alloc, volume, n);
     }
@@ -101,10 +88,7 @@ fn master_block(
 }
 
 /// Makes 43 directories.
-fn make_43(rt: &impl Abort, alloc: Global, volume: &mut Volume<MemDisk>)
-    requires { IsSound (memory_state volume.old.disk) (core_of volume.old.map) volume.old.failed }
-    ensures { IsSound (memory_state volume.new.disk) (core_of volume.new.map) volume.new.failed }
-{
+fn make_43(rt: &impl Abort, alloc: Global, volume: &mut Volume<MemDisk>) {
     expect_room(rt, volume, 48);
     make_each(rt, alloc, volume, 1, 43);
     expect_room(rt, volume, 6);
@@ -146,10 +130,7 @@ fn the_master_directory_grows(rt: HostRuntime) -> Result<(), Fail> {
 }
 
 /// Makes as many directories as there is room for, and is refused one more, and one that there is.
-fn make_all(rt: &impl Abort, alloc: Global, volume: &mut Volume<MemDisk>)
-    requires { IsSound (memory_state volume.old.disk) (core_of volume.old.map) volume.old.failed }
-    ensures { IsSound (memory_state volume.new.disk) (core_of volume.new.map) volume.new.failed }
-{
+fn make_all(rt: &impl Abort, alloc: Global, volume: &mut Volume<MemDisk>) {
     make_each(rt, alloc, volume, 1, 43);
     expect_answer(rt, alloc, volume, ppn_of(rt, 43), Ok(()));
     make_each(rt, alloc, volume, 44, 48);
@@ -209,8 +190,8 @@ fn a_volume_is_full(rt: HostRuntime) -> Result<(), Fail> {
 }
 
 /// The volume has failed, or hasn't.
-fn expect_failed<D>(rt: &impl Abort, volume: &Volume<D>, is_failed: bool) {
-    assert!(rt; volume.failed == is_failed);
+fn expect_failed<D: Disk>(rt: &impl Abort, volume: &Volume<D>, is_failed: bool) {
+    assert!(rt; volume.has_failed() == is_failed);
 }
 
 /// The disk after a `make_dir` of the directory [1,n] behind so many others: it has room to record so many writes and
@@ -276,9 +257,7 @@ fn each_write_or_sync_of_a_directory_may_fail(rt: HostRuntime) -> Result<(), Fai
 }
 
 /// Makes a directory; after `NoMemory` all is as before, and the next call makes it.
-fn make_again(rt: &impl Abort, alloc: Global, volume: &mut Volume<MemDisk>)
-    requires { IsSound (memory_state volume.old.disk) (core_of volume.old.map) volume.old.failed }
-{
+fn make_again(rt: &impl Abort, alloc: Global, volume: &mut Volume<MemDisk>) {
     if make_dir(alloc, volume, ppn_of(rt, 1)) == Err(CallError::NoMemory) {
         expect_room(rt, volume, 48);
         expect_answer(rt, alloc, volume, ppn_of(rt, 1), Ok(()));

@@ -1,13 +1,12 @@
-ghost use Rattle.std.specs.Prelude.{IfOk};
-ghost use Rattle.volume.specs.LiveCores.{core_of};
-ghost use Rattle.volume.specs.Rest.{IsSound};
-
 use alloctab::Table;
 use blockdisk::{Disk, Fault, MemDisk, NoMemory};
+use directory::FileEntry;
 use std::alloc::Global;
 use std::process::Abort;
 use std::test::Fail;
-use volume::{CallError, LiveDirectory, LiveMap, LiveVersion, Volume, VolumeError};
+use volume::{
+    CallError, DiskMap, StoredDirectory, StoredVersion, Volume, VolumeError, read_volume,
+};
 use words36::{BLOCK_WORDS, Block, Ppn, Word};
 
 /// How many blocks vector V1 of the formats has. Its table is block 14, its free space begins at 15.
@@ -114,16 +113,12 @@ pub(crate) fn v1_to_recover(
 }
 
 /// Opens the volume on a disk. What else `open` promises stays behind this function.
-pub(crate) fn open<D: Disk + Drop>(alloc: Global, disk: D) -> Result<Volume<D>, (VolumeError, D)>
-    ensures { IfOk result (λ volume. IsSound (D.state volume.disk) (core_of volume.map) volume.failed) }
-{
+pub(crate) fn open<D: Disk + Drop>(alloc: Global, disk: D) -> Result<Volume<D>, (VolumeError, D)> {
     Volume::open(alloc, disk)
 }
 
 /// Opens the volume on a disk that has to be accepted.
-pub(crate) fn opened<D: Disk + Drop>(rt: &impl Abort, alloc: Global, disk: D) -> Volume<D>
-    ensures { IsSound (D.state result.disk) (core_of result.map) result.failed }
-{
+pub(crate) fn opened<D: Disk + Drop>(rt: &impl Abort, alloc: Global, disk: D) -> Volume<D> {
     let Ok(volume) = open(alloc, disk) else {
         panic!(rt; "the disk is refused");
     };
@@ -136,14 +131,30 @@ pub(crate) fn refused<D: Disk + Drop>(alloc: Global, disk: D) -> Option<(VolumeE
 }
 
 /// The disk of a volume, which is given up.
-pub(crate) fn disk_of<D>(volume: Volume<D>) -> D {
-    volume.disk
+pub(crate) fn disk_of<D: Disk>(volume: Volume<D>) -> D {
+    volume.into_disk()
+}
+
+/// What is read of the disk of a volume, whose record is emptied first.
+pub(crate) fn map_of(rt: &impl Abort, alloc: Global, disk: &mut MemDisk) -> DiskMap {
+    load(rt, disk, 0, &filled(0)); // the record is empty then
+    let Ok(map) = read_volume(alloc, disk) else {
+        panic!(rt; "the disk is refused");
+    };
+    map
+}
+
+/// How many blocks are booked of a volume whose free space begins at block 15.
+fn booked_of<D: Disk>(volume: &Volume<D>) -> i64 {
+    i64::from(volume.blocks())
+        .saturating_sub(15)
+        .saturating_sub(volume.room())
 }
 
 /// What the volume on a disk has booked, or why it isn't opened.
-pub(crate) fn booked<D: Disk + Drop>(alloc: Global, disk: D) -> Result<u64, VolumeError> {
+pub(crate) fn booked<D: Disk + Drop>(alloc: Global, disk: D) -> Result<i64, VolumeError> {
     match open(alloc, disk) {
-        Ok(volume) => Ok(volume.map.table.booked()),
+        Ok(volume) => Ok(booked_of(&volume)),
         Err((error, _disk)) => Err(error),
     }
 }
@@ -153,21 +164,19 @@ pub(crate) fn expect_booked<D: Disk + Drop>(
     rt: &impl Abort,
     alloc: Global,
     disk: D,
-    wanted: Result<u64, VolumeError>,
+    wanted: Result<i64, VolumeError>,
 ) {
     let found = booked(alloc, disk);
     assert!(rt; found == wanted, "{found:?}");
 }
 
 /// So many blocks are in use.
-pub(crate) fn expect_in_use<D>(rt: &impl Abort, volume: &Volume<D>, booked: u64) {
-    assert_eq!(rt; volume.map.table.booked(), booked);
+pub(crate) fn expect_in_use<D: Disk>(rt: &impl Abort, volume: &Volume<D>, booked: i64) {
+    assert_eq!(rt; booked_of(volume), booked);
 }
 
 /// So much room is left.
-pub(crate) fn expect_room<D: Disk>(rt: &impl Abort, volume: &Volume<D>, room: i64)
-    requires { IsSound (D.state volume.now.disk) (core_of volume.now.map) volume.now.failed }
-{
+pub(crate) fn expect_room<D: Disk>(rt: &impl Abort, volume: &Volume<D>, room: i64) {
     assert_eq!(rt; volume.room(), room);
 }
 
@@ -177,9 +186,7 @@ pub(crate) fn expect_protection<D: Disk>(
     volume: &Volume<D>,
     ppn: Ppn,
     wanted: Result<u16, CallError>,
-)
-    requires { IsSound (D.state volume.now.disk) (core_of volume.now.map) volume.now.failed }
-{
+) {
     assert!(rt; volume.directory(ppn) == wanted);
 }
 
@@ -188,10 +195,7 @@ pub(crate) fn make_dir<D: Disk>(
     alloc: Global,
     volume: &mut Volume<D>,
     ppn: Ppn,
-) -> Result<(), CallError>
-    requires { IsSound (D.state volume.old.disk) (core_of volume.old.map) volume.old.failed }
-    ensures { IsSound (D.state volume.new.disk) (core_of volume.new.map) volume.new.failed }
-{
+) -> Result<(), CallError> {
     volume.make_dir(alloc, ppn, 0o775)
 }
 
@@ -202,10 +206,7 @@ pub(crate) fn expect_answer<D: Disk>(
     volume: &mut Volume<D>,
     ppn: Ppn,
     wanted: Result<(), CallError>,
-)
-    requires { IsSound (D.state volume.old.disk) (core_of volume.old.map) volume.old.failed }
-    ensures { IsSound (D.state volume.new.disk) (core_of volume.new.map) volume.new.failed }
-{
+) {
     assert!(rt; make_dir(alloc, volume, ppn) == wanted);
 }
 
@@ -215,7 +216,7 @@ pub(crate) fn expect_numbers(rt: &impl Abort, found: &[u32], wanted: &[u32]) {
 }
 
 /// The only directory of a volume.
-fn only_directory<'a>(rt: &impl Abort, map: &'a LiveMap) -> &'a LiveDirectory {
+fn only_directory<'a>(rt: &impl Abort, map: &'a DiskMap) -> &'a StoredDirectory {
     let [directory] = map.directories.as_slice() else {
         panic!(rt; "another number of directories");
     };
@@ -223,20 +224,15 @@ fn only_directory<'a>(rt: &impl Abort, map: &'a LiveMap) -> &'a LiveDirectory {
 }
 
 /// The version of the only file of a volume, in its only directory.
-pub(crate) fn only_version<'a>(rt: &impl Abort, map: &'a LiveMap) -> &'a LiveVersion {
-    let [key] = only_directory(rt, map).keys.as_slice() else {
+pub(crate) fn only_version<'a>(rt: &impl Abort, map: &'a DiskMap) -> &'a StoredVersion {
+    let [stored] = only_directory(rt, map).versions.as_slice() else {
         panic!(rt; "another number of files");
-    };
-    let Some(stored) = map.versions.get(*key) else {
-        panic!(rt; "no version");
     };
     stored
 }
 
 /// The file of V1, as its prime block says.
-fn expect_file_of_v1(rt: &impl Abort, stored: &LiveVersion) {
-    assert_eq!(rt; stored.at, 17);
-    assert!(rt; stored.is_current && stored.readers == 0);
+fn expect_file_of_v1(rt: &impl Abort, stored: &StoredVersion) {
     assert_eq!(rt; stored.version.length(), 2);
     expect_numbers(rt, stored.version.blocks(), &[18]);
     assert_eq!(rt; stored.prime.protection, 0o057);
@@ -248,17 +244,26 @@ fn expect_table_of_v1(rt: &impl Abort, table: &Table) {
     assert!(rt; table.can_book(45) && !table.can_book(46));
 }
 
+/// The only entry names block 17.
+fn expect_entry_of_v1(rt: &impl Abort, entries: &[FileEntry]) {
+    let [entry] = entries else {
+        panic!(rt; "another number of entries");
+    };
+    assert_eq!(rt; entry.prime, 17);
+}
+
 /// What V1 has in core: four blocks, one directory, and one file.
-fn expect_v1(rt: &impl Abort, map: &LiveMap) {
+fn expect_v1(rt: &impl Abort, map: &DiskMap) {
     expect_table_of_v1(rt, &map.table);
     expect_numbers(rt, map.master.blocks(), &[15]);
     expect_numbers(rt, only_directory(rt, map).chain.blocks(), &[16]);
+    expect_entry_of_v1(rt, only_directory(rt, map).chain.entries());
     expect_file_of_v1(rt, only_version(rt, map));
 }
 
 /// The volume has not failed.
-fn expect_serving<D>(rt: &impl Abort, volume: &Volume<D>) {
-    assert!(rt; !volume.failed);
+fn expect_serving<D: Disk>(rt: &impl Abort, volume: &Volume<D>) {
+    assert!(rt; !volume.has_failed());
 }
 
 #[test]
@@ -266,7 +271,8 @@ fn v1_is_accepted(rt: HostRuntime) -> Result<(), Fail> {
     let disk = v1(&rt, rt.alloc(), 1)?;
     let volume = opened(&rt, rt.alloc(), disk);
     expect_serving(&rt, &volume);
-    expect_v1(&rt, &volume.map);
+    let mut disk = disk_of(volume);
+    expect_v1(&rt, &map_of(&rt, rt.alloc(), &mut disk));
     Ok(())
 }
 
@@ -395,7 +401,7 @@ pub(crate) fn failing(inner: MemDisk, size: u32, reads: u32) -> FailingDisk {
 /// disk has failed then.
 pub(crate) fn left_of_reads(alloc: Global, disk: FailingDisk) -> Result<u32, (VolumeError, u64)> {
     match open(alloc, disk) {
-        Ok(volume) => Ok(volume.disk.reads),
+        Ok(volume) => Ok(volume.disk().reads),
         Err((error, disk)) => Err((error, disk.failures)),
     }
 }

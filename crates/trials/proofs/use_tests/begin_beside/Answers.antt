@@ -1,9 +1,7 @@
 use Rattle.std.proofs.Common.{sym, ap, subst, ◌∙◌}
-use Rattle.volume.specs.Live.{slot}
-use Rattle.volume.specs.LiveCores.{core_of}
+use Rattle.volume.specs.Live.{VolumeCore, slot}
 use Rattle.volume.specs.Pins.{IsReadable}
 use Rattle.volume.specs.declared.handles.VersionHandle.TheVariants.{Pinned}
-use Rattle.volume.specs.declared.live.LiveMap.{LiveMap}
 use Rattle.trials.proofs.use_tests.begin_beside.Goals as goal
 
 pub expect_file-requires-clause-live : goal.expect_file-requires-clause-live
@@ -12,4 +10,4 @@ expect_file-requires-clause-live g c = let reader = c.requires.reader in (reader
 pub returns-clause-reader : goal.returns-clause-reader
 returns-clause-reader g c =
     let reader = c.requires.reader in
-    subst (λ (m : LiveMap). IsReadable (core_of m) (Pinned c.args.pin)) (sym c.expect_file.ensures.map) (reader.0, ap (λ l. slot l c.args.pin.key) c.in-Ok.ensures.begun.live ∙ reader.1, reader.2)
+    subst (λ (m : VolumeCore). IsReadable m (Pinned c.args.pin)) (sym c.expect_file.ensures.map) (reader.0, ap (λ l. slot l c.args.pin.key) c.in-Ok.ensures.begun.live ∙ reader.1, reader.2)
