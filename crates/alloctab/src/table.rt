@@ -14,11 +14,11 @@ ghost use Rattle.alloctab.specs.Reached.{IsWrongBlock, wanted_bit};
 ghost use Rattle.alloctab.specs.declared.error.TableError.TheVariants.{TableWrong, NoMemory, Device};
 
 use crate::blocks::put_changed;
-use crate::layout::{TABLE_BLOCK_BITS, space_start, table_blocks, table_start};
 use crate::load::read_table;
 use crate::{Reached, TableError};
 use blockdisk::Disk;
 use changeset::{ChangeSet, MAX_PUTS};
+use meaning::layout::{TABLE_BLOCK_BITS, space_start, table_blocks, table_start};
 use std::alloc::Global;
 use std::marker::Model;
 
