@@ -147,6 +147,19 @@ impl Table {
         Some(n)
     }
 
+    /// Holds the lowest free block. There is one, since fewer are used than are booked.
+    pub fn take_block(&mut self) -> u32
+        requires used { used_in_space self.old < self.old.booked }
+        requires room { self.old.booked ≤ space self.old.size }
+        ensures free { (result < self.old.size) × IsFree self.old result }
+        ensures held { self.new ≡ with_held self.old result (holds self.old result + 1) }
+    {
+        match self.take() {
+            Some(n) => n,
+            None => unreachable!(),
+        }
+    }
+
     /// The lowest block that is neither set nor held.
     fn lowest_free(&self) -> Option<u32>
         ensures free { IfSome result (λ n. (n < self.now.size) × IsFree self.now n) }
