@@ -5,12 +5,12 @@
 //! header of the log and its images; the allocation table; and the free space, with the chains of the
 //! directories and the blocks of the versions. Numbers are of blocks, counted from 0, where nothing else is said.
 //! What differs between layouts has the layout as an argument.
-ghost use Rattle.std.specs.Prelude.{◌≡◌, ◌+◌, ◌<◌, ◌↔◌, IsTrue, IfSome, IfNone};
+ghost use Rattle.std.specs.Prelude.{◌≡◌, ◌+◌, ◌<◌, ◌↔◌, IsTrue, IfSome, IfNone, length, replicate};
 ghost use Rattle.meaning.specs.Regions.{IsVolumeSize, table_blocks, log_images, table_start, space_start};
 ghost use Rattle.meaning.specs.Faults.{InSpace};
 ghost use Rattle.meaning.specs.Retrieval.{date_limit};
 
-use words36::BLOCK_WORDS;
+use words36::{BLOCK_WORDS, Word};
 
 /// The layout that a home copy names. There is one so far.
 pub const LAYOUT: u64 = 1;
@@ -129,6 +129,18 @@ pub fn follow(next: u64, full: bool, size: u32) -> Option<u32>
     } else {
         None
     }
+}
+
+/// Whether all words are zero, as those of a block are that come behind what stands in it.
+pub fn are_zeros(words: &[Word]) -> bool
+    ensures { IsTrue result ↔ (words.now ≡ replicate (length words.now) 0) }
+{
+    for word in words {
+        if word.bits() != 0 {
+            return false;
+        }
+    }
+    true
 }
 
 /// The last date that a file can have, in a layout.
