@@ -6,9 +6,9 @@ ghost use Rattle.retrieval.specs.Heads.{prime_front};
 ghost use Rattle.retrieval.specs.Pointers.{one_each};
 ghost use Rattle.retrieval.specs.Primes.{with_length};
 
-use crate::head::{PRIME_POINTERS, PRIME_WORD, attributes_word};
-use crate::parse::PRIME_HEAD;
+use crate::head::{PRIME_WORD, attributes_word};
 use crate::{Prime, Version};
+use meaning::layout::{PRIME_HEAD, PRIME_POINTERS};
 use words36::{BLOCK_WORDS, Block, Half, Word};
 
 /// The pointer to one block.
@@ -55,7 +55,7 @@ pub fn prime_block(prime: &Prime, version: &Version) -> Block
     ensures { result ≡ prime_block (with_length prime.now version.now.words) (one_each (take 112 version.now.blocks)) (head_or_zero version.now.ribs) }
 {
     let blocks = version.blocks();
-    let count = blocks.len().min(PRIME_POINTERS as usize);
+    let count = blocks.len().min(PRIME_POINTERS);
     let mut words = without_pointers(prime, version, count);
     put_pointers(&mut words, &blocks[..count]);
     words
