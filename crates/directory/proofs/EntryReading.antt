@@ -85,9 +85,6 @@ module _ {K V : Type 0} {R : K → K → Ordering} (o : IsTotalOrder R) (words :
       let r = EachOnce-without o now e [] (once_front R (now ++ e ∷ []) (drop (i + 1) es) (subst (EachOnce R) all once)) in
       again e has_words (ap (find R e.0) (sym (append-nil now)) ∙ r.0)
 
-pub handed_on : {T U E : Type 0} (outer : Result T E) (inner : Result U E) (x y error : E) → outer ≡ Err error → outer ≡ Err x → x ≡ y → inner ≡ Err y → inner ≡ Err error
-handed_on outer inner x y error is out same was = cc
-
 -- What is wrong with a block of well-formed words, and what is right.
 
 module _ {K V : Type 0} (R : K → K → Ordering) (words : K × V → List ℕ) (IsEntry : K × V → Type 0) (target : K × V → ℕ) (size : ℕ) (block : List ℕ) (before : List (K × V)) (next : ℕ) (es : List (K × V)) (s : SpellsBlock words IsEntry block next es) where
