@@ -10,7 +10,7 @@ use Rattle.meaning.specs.Log.{targets, with_puts}
 use Rattle.meaning.specs.Maps.{times}
 use Rattle.meaning.proofs.MapSums.{times-append}
 use Rattle.changeset.specs.Puts.{replaced}
-use Rattle.changeset.specs.PutLaws.{times_head, times_tail, with_puts_here, with_puts_later, with_puts-replaced, replaced-new, targets-replaced, replaced_here, replaced_later, all_replaced, length-replaced, some_or_none}
+use Rattle.changeset.specs.PutLaws.{times_head, times_tail, with_puts_here, with_puts_later, with_puts-replaced, replaced-new, targets-replaced, all_replaced, length-replaced, some_or_none}
 use Rattle.alloctab.specs.Lists.{digit}
 use Rattle.alloctab.specs.TableBlocks.{table_words}
 use Rattle.alloctab.specs.Changes.{table_put, with_changed}
