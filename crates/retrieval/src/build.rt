@@ -44,7 +44,7 @@ fn without_pointers(prime: &Prime, version: &Version, count: usize) -> Block
     words[4] = prime.ppn.word();
     words[5] = Word::from_bits(u64::from(version.length()));
     words[6] = Word::from_bits(count as u64);
-    words[7] = Word::from_bits(u64::from(first_rib(version)));
+    words[7] = Word::from_bits(u64::from(first_of(version.ribs())));
     words
 }
 
@@ -61,11 +61,11 @@ pub fn prime_block(prime: &Prime, version: &Version) -> Block
     words
 }
 
-/// The first rib of a version, or 0 where it has none.
-fn first_rib(version: &Version) -> u32
-    ensures { result ≡ head_or_zero version.now.ribs }
+/// The first of the ribs, or 0 where there is none.
+pub fn first_of(ribs: &[u32]) -> u32
+    ensures { result ≡ head_or_zero ribs.now }
 {
-    match version.ribs().first() {
+    match ribs.first() {
         Some(rib) => *rib,
         None => 0,
     }

@@ -2,7 +2,6 @@ ghost use Rattle.std.specs.Prelude.{◌≡◌, ◌+◌, ◌-◌, ◌/◌, ◌<�
 ghost use Rattle.std.specs.List.{AllByRecursion};
 ghost use Rattle.blockdisk.specs.Disk.{SameDisk, Touches, one_more};
 ghost use Rattle.blockdisk.specs.declared.fault.Fault.TheVariants.{Device as DeviceFault, Damaged};
-ghost use Rattle.meaning.specs.Blocks.{head_or_zero};
 ghost use Rattle.meaning.specs.Costs.{blocks_of};
 ghost use Rattle.meaning.specs.Faults.{InSpace};
 ghost use Rattle.meaning.specs.Maps.{times};
@@ -15,7 +14,7 @@ ghost use Rattle.retrieval.specs.Reading.{IsWholeVersion};
 ghost use Rattle.retrieval.specs.declared.error.RetrievalError.TheVariants.{BadRetrieval, Device, NoMemory};
 ghost use Rattle.retrieval.specs.Writing.{rib_count, Takes, AreApart, IsFixed, extensions_of};
 
-use crate::build::{pointer_to, prime_block};
+use crate::build::{first_of, pointer_to, prime_block};
 use crate::head::EXTENSION_HALF;
 use crate::{Prime, RetrievalError, Version};
 use alloctab::Table;
@@ -40,16 +39,6 @@ fn extension_of(blocks: &[u32], next: u32) -> Block
         words[EXTENSION_HEAD + i] = pointer_to(*n);
     }
     words
-}
-
-/// The first of the ribs, or 0 where there is none.
-fn first_of(ribs: &[u32]) -> u32
-    ensures { result ≡ head_or_zero ribs.now }
-{
-    match ribs.first() {
-        Some(rib) => *rib,
-        None => 0,
-    }
 }
 
 /// Writes the ribs with the pointers to these blocks, the last rib first.
