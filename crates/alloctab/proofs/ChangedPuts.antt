@@ -10,18 +10,12 @@ use Rattle.meaning.specs.Log.{targets, with_puts}
 use Rattle.meaning.specs.Maps.{times}
 use Rattle.meaning.proofs.MapSums.{times-append}
 use Rattle.changeset.specs.Puts.{replaced}
-use Rattle.changeset.specs.PutLaws.{times_head, times_tail, with_puts_here, with_puts_later, with_puts-replaced, replaced-new, targets-replaced, replaced_here, replaced_later, all_replaced}
+use Rattle.changeset.specs.PutLaws.{times_head, times_tail, with_puts_here, with_puts_later, with_puts-replaced, replaced-new, targets-replaced, all_replaced, length-replaced, some_or_none}
 use Rattle.alloctab.specs.Lists.{digit}
 use Rattle.alloctab.specs.TableBlocks.{table_words}
 use Rattle.alloctab.specs.Changes.{table_put, with_changed}
 
 -- Lengths and counts.
-
-pub length-replaced : (new : Put) (puts : List Put) → length (replaced new puts) ≤ length puts + 1
-length-replaced new [] = omega arith
-length-replaced new (put ∷ puts) = ⊎_elim
-    (λ is. let e = ap (λ (l : List Put). length l) (replaced_here new put puts is) in omega arith)
-    (λ other. let e = ap (λ (l : List Put). length l) (replaced_later new put puts other) in omega (arith, length-replaced new puts)) (cases_eq put.block new.block)
 
 sum_grows : (f : ℕ → ℕ) (j d : ℕ) → sum_below f j ≤ sum_below f (j + d)
 sum_grows f j zero = let e : j + 0 ≡ j = omega arith in let s = ap (sum_below f) e in omega arith
@@ -32,10 +26,6 @@ sum_below-le f j k h = subst (λ (n : ℕ). sum_below f j ≤ sum_below f n) (le
 
 -- Targets of one put more.
 
-times_or_none : (n : ℕ) → (0 < n) ⊎ (n ≡ 0)
-times_or_none zero = inr refl
-times_or_none (suc n) = inl (omega arith)
-
 times-behind : (puts : List Put) (new : Put) (n : ℕ) → times n (targets (puts ++ new ∷ [])) ≡ times n (targets puts) + times n (new.block ∷ [])
 times-behind puts new n = ap (times n) (map-append (λ (put : Put). put.block) puts (new ∷ [])) ∙ times-append n (targets puts) (new.block ∷ [])
 
@@ -45,18 +35,18 @@ times-replaced_new new puts n none = ap (λ (l : List Put). times n (targets l))
 in_replaced_old : (new : Put) (puts : List Put) (n : ℕ) → 0 < times n (targets puts) → 0 < times n (targets (replaced new puts))
 in_replaced_old new puts n was = ⊎_elim
     (λ there. let e = ap (times n) (targets-replaced new puts there) in omega arith)
-    (λ none. let e = times-replaced_new new puts n none in omega arith) (times_or_none (times new.block (targets puts)))
+    (λ none. let e = times-replaced_new new puts n none in omega arith) (some_or_none (times new.block (targets puts)))
 
 in_replaced_new : (new : Put) (puts : List Put) (n : ℕ) → n ≡ new.block → 0 < times n (targets (replaced new puts))
 in_replaced_new new puts n same = ⊎_elim
     (λ there. let e = ap (times n) (targets-replaced new puts there) in let f = ap (λ (m : ℕ). times m (targets puts)) same in omega arith)
-    (λ none. let e = times-replaced_new new puts n none in let f = times_head n new.block [] same in omega arith) (times_or_none (times new.block (targets puts)))
+    (λ none. let e = times-replaced_new new puts n none in let f = times_head n new.block [] same in omega arith) (some_or_none (times new.block (targets puts)))
 
 replaced_in : (new : Put) (puts : List Put) (n : ℕ) → 0 < times n (targets (replaced new puts)) → (0 < times n (targets puts)) ⊎ (n ≡ new.block)
 replaced_in new puts n is = ⊎_elim (λ same. inr same)
     (λ other. inl (⊎_elim
     (λ there. let e = ap (times n) (targets-replaced new puts there) in omega arith)
-    (λ none. let e = times-replaced_new new puts n none in let f = times_tail n new.block [] other in omega arith) (times_or_none (times new.block (targets puts)))))
+    (λ none. let e = times-replaced_new new puts n none in let f = times_tail n new.block [] other in omega arith) (some_or_none (times new.block (targets puts)))))
     (cases_eq n new.block)
 
 module _ (start : ℕ) (bits : ℕ → ℕ) (changed : ℕ → Bool) (puts : List Put) where

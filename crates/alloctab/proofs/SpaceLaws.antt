@@ -1,9 +1,14 @@
--- Where no block is free, all of the free space is used.
+-- The free space: where no block is free, all of it is used.
 use Rattle.std.proofs.Common.{◌≡◌, ℕ, zero, suc, ◌+◌, ◌<◌, refl, arith}
 use Rattle.std.proofs.lemmas.Bool.Decides.{nat_tests}
 use Rattle.meaning.specs.Regions.{space_start}
 use Rattle.meaning.specs.Counts.{sum_below}
+use Rattle.meaning.specs.Faults.{InSpace}
 use Rattle.alloctab.specs.TableState.{TableState, IsTable, IsFree, bit, holds, used, used_in_space, space}
+
+-- a block of the free space isn't block 0
+pub in_space_some : (size n : ℕ) → InSpace size n → 0 < n
+in_space_some size n i = let f = i.from in omega arith
 
 pub used_one : (t : TableState) (n : ℕ) → (IsFree t n → ⊥) → used t n ≡ 1
 used_one t n not_free = by_case (bit t n) (holds t n) refl refl

@@ -3,16 +3,11 @@ use Rattle.std.proofs.Common.{◌≡◌, ◌⊎◌, ⊎_elim, ℕ, ◌+◌, ◌*
 use Rattle.std.proofs.lemmas.Bool.{cases_eq}
 use Rattle.std.proofs.lemmas.Bool.Decides.{nat_tests}
 use Rattle.std.proofs.lemmas.List.{get_or_past}
-use Rattle.blockdisk.specs.Disk.{Contents, DiskState}
-use Rattle.blockdisk.specs.Laws.{still_on}
-use Rattle.changeset.specs.Reads.{OnlyReads}
+use Rattle.blockdisk.specs.Disk.{Contents}
 use Rattle.meaning.specs.Regions.{table_blocks, table_start}
 use Rattle.meaning.specs.Table.{table_bit, bit_in, bit_of}
 use Rattle.alloctab.specs.Lists.{digit, digit_at}
 use Rattle.alloctab.specs.Reading.{IsTableOf, IsBadTableBlock, ReadsBits}
-
-pub only_reads_on : (s s' s'' : DiskState) → OnlyReads s s' → OnlyReads s' s'' → OnlyReads s s''
-only_reads_on s s' s'' first second = record { still = still_on s s' s'' first.still second.still; is_open = λ n. second.is_open n ∙ first.is_open n }
 
 pub table_bit_in : (size : ℕ) (c : Contents) (n : ℕ) → n / 4608 < table_blocks size → table_bit size c n ≡ bit_in (c (table_start size + n / 4608)) n
 table_bit_in size c n below = let inside : n < 4608 * table_blocks size = omega arith in grind (arith, nat_tests)

@@ -90,11 +90,11 @@ changed_blocks-le-most t sound = let few = changed_blocks-le t sound in let larg
 used_same : (s t : TableState) (m : ℕ) → bit s m ≡ bit t m → holds s m ≡ holds t m → used s m ≡ used t m
 used_same s t m bits counts = ap (λ (b : ℕ). if b + holds s m == 0 then 0 else 1) bits ∙ ap (λ (h : ℕ). if bit t m + h == 0 then 0 else 1) counts
 
-sum_same : (f g : ℕ → ℕ) (k : ℕ) → ((j : ℕ) → j < k → g j ≡ f j) → sum_below g k ≡ sum_below f k
+pub sum_same : (f g : ℕ → ℕ) (k : ℕ) → ((j : ℕ) → j < k → g j ≡ f j) → sum_below g k ≡ sum_below f k
 sum_same f g zero same = refl
 sum_same f g (suc k) same = let e = same k (omega arith) in let rest = sum_same f g k (λ j below. same j (omega arith)) in omega arith
 
-sum_but_one : (f g : ℕ → ℕ) (k i : ℕ) → i < k → ((j : ℕ) → (j ≡ i → ⊥) → g j ≡ f j) → sum_below g k + f i ≡ sum_below f k + g i
+pub sum_but_one : (f g : ℕ → ℕ) (k i : ℕ) → i < k → ((j : ℕ) → (j ≡ i → ⊥) → g j ≡ f j) → sum_below g k + f i ≡ sum_below f k + g i
 sum_but_one f g zero i below same = absurd (omega arith)
 sum_but_one f g (suc k) i below same = ⊎_elim
     (λ is. let a = ap f is in let b = ap g is in let rest = sum_same f g k (λ j before. same j (λ e. absurd (omega arith))) in omega arith)

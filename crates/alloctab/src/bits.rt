@@ -3,7 +3,7 @@ ghost use Rattle.meaning.specs.Table.{bit_of};
 ghost use Rattle.alloctab.specs.Lists.{digit, flag_at};
 ghost use Rattle.alloctab.specs.Reading.{CopiesBits, IsSetPast};
 
-use crate::layout::{TABLE_BLOCK_BITS, WORD_BITS};
+use meaning::layout::{TABLE_BLOCK_BITS, WORD_BITS};
 use words36::{BLOCK_WORDS, Block};
 
 /// A truth value of a list, false past its end.

@@ -5,8 +5,8 @@ ghost use Rattle.alloctab.specs.TableBlocks.{number_of, table_words};
 ghost use Rattle.alloctab.specs.Changes.{with_changed};
 
 use crate::bits::flag_at;
-use crate::layout::{TABLE_BLOCK_BITS, WORD_BITS};
 use changeset::{ChangeSet, MAX_PUTS};
+use meaning::layout::{TABLE_BLOCK_BITS, WORD_BITS};
 use words36::{BLOCK_WORDS, Block, Word};
 
 /// The word of the table whose first bit is that of block `from`.

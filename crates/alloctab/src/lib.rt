@@ -16,7 +16,6 @@
 mod bits;
 mod blocks;
 mod error;
-mod layout;
 mod load;
 mod reached;
 mod table;

@@ -8,8 +8,8 @@ ghost use Rattle.alloctab.specs.declared.error.TableError.TheVariants.{TableWron
 
 use crate::TableError;
 use crate::bits::{copy_bits, has_bit_past};
-use crate::layout::{table_blocks, table_start};
 use blockdisk::{Disk, Fault};
+use meaning::layout::{table_blocks, table_start};
 
 /// Reads table block `i`, and gives the blocks of which it speaks their bits.
 fn read_bits<D: Disk>(disk: &mut D, i: u32, bits: &mut [bool]) -> Result<(), TableError>

@@ -14,11 +14,11 @@ ghost use Rattle.alloctab.specs.Reached.{IsWrongBlock, wanted_bit};
 ghost use Rattle.alloctab.specs.declared.error.TableError.TheVariants.{TableWrong, NoMemory, Device};
 
 use crate::blocks::put_changed;
-use crate::layout::{TABLE_BLOCK_BITS, space_start, table_blocks, table_start};
 use crate::load::read_table;
 use crate::{Reached, TableError};
 use blockdisk::Disk;
 use changeset::{ChangeSet, MAX_PUTS};
+use meaning::layout::{TABLE_BLOCK_BITS, space_start, table_blocks, table_start};
 use std::alloc::Global;
 use std::marker::Model;
 
@@ -145,6 +145,19 @@ impl Table {
         let n = self.lowest_free()?;
         self.hold(n);
         Some(n)
+    }
+
+    /// Holds the lowest free block. There is one, since fewer are used than are booked.
+    pub fn take_block(&mut self) -> u32
+        requires used { used_in_space self.old < self.old.booked }
+        requires room { self.old.booked ≤ space self.old.size }
+        ensures free { (result < self.old.size) × IsFree self.old result }
+        ensures held { self.new ≡ with_held self.old result (holds self.old result + 1) }
+    {
+        match self.take() {
+            Some(n) => n,
+            None => unreachable!(),
+        }
     }
 
     /// The lowest block that is neither set nor held.

@@ -1,4 +1,4 @@
 mod PutLists
 mod Moments
-mod Reading
+pub mod Reading
 mod Redoing

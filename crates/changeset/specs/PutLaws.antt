@@ -78,16 +78,16 @@ pub targets-behind : (puts : List Put) (new : Put) → targets (puts ++ new ∷ 
 targets-behind [] new = refl
 targets-behind (put ∷ puts) new = ap (λ (l : List ℕ). put.block ∷ l) (targets-behind puts new)
 
-times_or_none : (n : ℕ) → (0 < n) ⊎ (n ≡ 0)
-times_or_none zero = inr refl
-times_or_none (suc n) = inl (omega arith)
+pub some_or_none : (n : ℕ) → (0 < n) ⊎ (n ≡ 0)
+some_or_none zero = inr refl
+some_or_none (suc n) = inl (omega arith)
 
 -- what holds of each target holds with one more
 pub all_replaced : (P : ℕ → Type 0) (new : Put) (puts : List Put) → AllByRecursion P (targets puts) → P new.block → AllByRecursion P (targets (replaced new puts))
 all_replaced P new puts all is = ⊎_elim
     (λ there. subst (AllByRecursion P) (sym (targets-replaced new puts there)) all)
     (λ none. subst (AllByRecursion P) (sym (ap targets (replaced-new new puts none) ∙ targets-behind puts new)) (all_behind P (targets puts) new.block all is))
-    (times_or_none (times new.block (targets puts)))
+    (some_or_none (times new.block (targets puts)))
 
 pub distinct_behind : (puts : List Put) (new : Put) → AreDistinct puts → times new.block (targets puts) ≡ 0 → AreDistinct (puts ++ new ∷ [])
 distinct_behind puts new distinct none n = by_case (cases_eq n new.block)
@@ -106,11 +106,11 @@ pub distinct_replaced : (new : Put) (puts : List Put) → AreDistinct puts → A
 distinct_replaced new puts distinct = ⊎_elim
     (λ there n. subst (λ (l : List ℕ). times n l ≤ 1) (sym (targets-replaced new puts there)) (distinct n))
     (λ none. subst AreDistinct (sym (replaced-new new puts none)) (distinct_behind puts new distinct none))
-    (times_or_none (times new.block (targets puts)))
+    (some_or_none (times new.block (targets puts)))
 
 -- what is put with one more
 pub put_in_replaced : (new : Put) (puts : List Put) (n : ℕ) → IsPutIn (replaced new puts) n → (n ≡ new.block) ⊎ IsPutIn puts n
-put_in_replaced new puts n there = ⊎_elim (λ is. inl is) (λ other. inr (⊎_elim (λ is. subst (λ (l : List ℕ). 0 < times n l) (targets-replaced new puts is) there) (λ none. last other none) (times_or_none (times new.block (targets puts))))) (cases_eq n new.block)
+put_in_replaced new puts n there = ⊎_elim (λ is. inl is) (λ other. inr (⊎_elim (λ is. subst (λ (l : List ℕ). 0 < times n l) (targets-replaced new puts is) there) (λ none. last other none) (some_or_none (times new.block (targets puts))))) (cases_eq n new.block)
   where
     last : (n ≡ new.block → ⊥) → times new.block (targets puts) ≡ 0 → IsPutIn puts n
     last other none =

@@ -6,10 +6,8 @@ ghost use Rattle.meaning.specs.Log.{open_gate};
 
 use crate::log::word_of;
 use blockdisk::{Disk, Fault, write_through};
+use meaning::layout::GATE;
 use words36::{BLOCK_WORDS, Word};
-
-/// The block that tells whether the log counts.
-const GATE: u32 = 3;
 
 /// Each word of an open gate.
 const OPEN_WORD: u64 = 0o252525252525;

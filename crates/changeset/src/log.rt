@@ -15,22 +15,11 @@ use crate::{LogError, MAX_PUTS};
 use arrayvec::ArrayVec;
 use blockdisk::{Disk, Fault};
 use meaning::Put;
+use meaning::layout::{HOME_COPIES, LOG_HEADER, LOG_START, log_images, table_start};
 use words36::{BLOCK_WORDS, Block, Word};
-
-/// The block of the log's header.
-const HEADER: u32 = 4;
-
-/// The first of the log's images.
-const IMAGES: u32 = 5;
 
 /// The first word of a log's header: LOG in SIXBIT.
 const LOG_WORD: u64 = 0o545747000000;
-
-/// How many blocks of the disk a block of the allocation table stands for.
-const BLOCKS_IN_TABLE: u32 = 4608;
-
-/// How many images the log has room for beside one of each block of the allocation table.
-const OTHER_IMAGES: u32 = 8;
 
 /// The word of a number.
 pub fn word_of(number: u64) -> Word
@@ -41,14 +30,6 @@ pub fn word_of(number: u64) -> Word
         Some(word) => word,
         None => unreachable!(),
     }
-}
-
-/// How many images the log of a disk of this many blocks has room for.
-pub fn log_images(size: u32) -> u32
-    requires { size ≤ 131072 }
-    ensures { result ≡ log_images size }
-{
-    size.div_ceil(BLOCKS_IN_TABLE) + OTHER_IMAGES
 }
 
 /// The header of a log of these puts.
@@ -87,7 +68,7 @@ pub fn write_log<D: Disk>(disk: &mut D, puts: &[Put]) -> Result<(), Fault>
 {
     let header = header_of(puts);
     write_images(disk, puts)?;
-    disk.write(HEADER, &header)?;
+    disk.write(LOG_HEADER, &header)?;
     disk.sync()
 }
 
@@ -103,7 +84,7 @@ fn write_images<D: Disk>(disk: &mut D, puts: &[Put]) -> Result<(), Fault>
     ensures served { OnOk result ((D.state disk.new).failures ≡ (D.state disk.old).failures) }
 {
     for (i, put) in puts.iter().enumerate() {
-        disk.write(IMAGES + i as u32, &put.words)?;
+        disk.write(LOG_START + i as u32, &put.words)?;
     }
     Ok(())
 }
@@ -126,7 +107,7 @@ pub fn read_log<D: Disk>(disk: &mut D, size: u32) -> Result<ArrayVec<Put, MAX_PU
     ensures failed { IsErrOf result Failed → (D.state disk.new).failures ≡ one_more (D.state disk.old).failures }
     ensures served { (IsErrOf result Failed → ⊥) → (D.state disk.new).failures ≡ (D.state disk.old).failures }
 {
-    let header = disk.read(HEADER)?;
+    let header = disk.read(LOG_HEADER)?;
     let count = header[1].bits();
     if count == 0 || count > log_images(size) as u64 {
         return Err(LogError::BadLog);
@@ -166,7 +147,7 @@ fn read_put<D: Disk>(
     if !is_target(size, block) || place_of(before, block as u32).is_some() {
         return Err(LogError::BadLog);
     }
-    let words = disk.read(IMAGES + i)?;
+    let words = disk.read(LOG_START + i)?;
     Ok(Put {
         block: block as u32,
         words,
@@ -178,6 +159,7 @@ fn is_target(size: u32, block: u64) -> bool
     requires { IsVolumeSize size }
     ensures { IsTrue result ↔ IsTarget size block }
 {
-    let behind_log = (IMAGES + log_images(size)) as u64;
-    block == 1 || block == 2 || (behind_log..size as u64).contains(&block)
+    let [first, second] = HOME_COPIES;
+    let behind_log = u64::from(table_start(size))..u64::from(size);
+    block == u64::from(first) || block == u64::from(second) || behind_log.contains(&block)
 }

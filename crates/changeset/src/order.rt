@@ -9,10 +9,11 @@ ghost use Rattle.meaning.specs.Log.{IsTarget, targets, with_puts};
 ghost use Rattle.meaning.specs.Regions.{IsVolumeSize, log_images};
 
 use crate::gate::{close_gate, open_gate};
-use crate::log::{log_images, write_log};
+use crate::log::write_log;
 use crate::{ChangeSet, LogError};
 use blockdisk::{Disk, Fault};
 use meaning::Put;
+use meaning::layout::log_images;
 
 /// Makes all the puts of a set, or none, and waits until they are on the disk. A set of no puts is one sync.
 ///

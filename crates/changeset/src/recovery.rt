@@ -16,12 +16,7 @@ use crate::{LogError, MAX_PUTS};
 use arrayvec::ArrayVec;
 use blockdisk::Disk;
 use meaning::Put;
-
-/// How many blocks a volume has at least.
-const SMALLEST_VOLUME: u32 = 64;
-
-/// How many blocks a volume has at most.
-const LARGEST_VOLUME: u32 = 131072;
+use meaning::layout::is_volume_size;
 
 /// Makes the puts of a log whose gate a crash left open, and closes the gate. It may be stopped itself at
 /// any moment, and a second recovery changes nothing. On a disk that is no volume it only syncs.
@@ -102,7 +97,7 @@ fn pending_puts<D: Disk>(disk: &mut D) -> Result<Option<ArrayVec<Put, MAX_PUTS>>
     ensures served { (IsErrOf result Device → ⊥) → (D.state disk.new).failures ≡ (D.state disk.old).failures }
 {
     let size = disk.blocks();
-    if !(SMALLEST_VOLUME..=LARGEST_VOLUME).contains(&size) || !has_open_words(disk)? {
+    if !is_volume_size(size) || !has_open_words(disk)? {
         return Ok(None);
     }
     Ok(Some(read_log(disk, size)?))

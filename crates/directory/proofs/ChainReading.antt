@@ -7,7 +7,7 @@ use Rattle.std.proofs.lemmas.List.{get_or-set_same, get_or-set_other, length-map
 use Rattle.std.proofs.Math.ListN.{length-set}
 use Rattle.std.proofs.Math.Seq.{take-append_seam, drop-append_seam}
 use Rattle.blockdisk.specs.Disk.{Contents, DiskState}
-use Rattle.blockdisk.specs.Laws.{same_contents, still_start, still_on}
+use Rattle.blockdisk.specs.Laws.{same_contents, still_start}
 use Rattle.changeset.specs.Reads.{OnlyReads}
 use Rattle.meaning.specs.Blocks.{head_or_zero}
 use Rattle.meaning.specs.Costs.{directory_cost}
@@ -26,14 +26,12 @@ use Rattle.alloctab.specs.Lists.{digit, digit_at, flag_at}
 use Rattle.directory.specs.Chains.{nodes_of, IsChain, IsOn}
 use Rattle.directory.specs.ChainLaws.{numbers_of, items_of}
 use Rattle.directory.specs.Loading.{AreGood, IsBadWords, IsBadAt, ReadsOn, IsBadChain, IsMetTwice, IsWholeChain}
+use Rattle.alloctab.proofs.SpaceLaws.{in_space_some}
 
 -- The disk is read and not written.
 
 pub reads_start : (s : DiskState) → OnlyReads s s
 reads_start s = record { still = still_start s; is_open = λ n. refl }
-
-pub reads_on : (s s' s'' : DiskState) → OnlyReads s s' → OnlyReads s' s'' → OnlyReads s s''
-reads_on s s' s'' first second = record { still = still_on s s' s'' first.still second.still; is_open = λ n. second.is_open n ∙ first.is_open n }
 
 -- Marks.
 
@@ -83,9 +81,6 @@ digit_le marks n = bounded (flag_at marks n)
     bounded false = omega arith
 
 -- Walks.
-
-pub in_space_some : (size n : ℕ) → InSpace size n → 0 < n
-in_space_some size n i = let f = i.from in omega arith
 
 leads_more : {E : Type 0} (words : E → List ℕ) (c : Contents) (first : ℕ) (nodes : List (Node E)) (n : ℕ) (entries : List E) (next : ℕ) → Leads words c first nodes n → 0 < n → c n ≡ Some (directory_block words next entries)
     → Leads words c first (nodes ++ (n, entries) ∷ []) next

@@ -1,5 +1,5 @@
 -- Entries as they are added one after the other to those before.
-use Rattle.std.proofs.Common.{◌≡◌, ℕ, zero, suc, ◌+◌, ◌*◌, ◌==◌, ◌<◌, Bool, true, false, cond, ⊎_elim, List, [], ◌∷◌, ◌++◌, map, length, get_or, take, drop, Option, Some, None, refl, sym, ap, subst, ◌∙◌, arith, append_assoc, append-nil, Ordering, Result, Err}
+use Rattle.std.proofs.Common.{◌≡◌, ℕ, zero, suc, ◌+◌, ◌*◌, ◌==◌, ◌<◌, Bool, true, false, cond, ⊎_elim, List, [], ◌∷◌, ◌++◌, map, length, get_or, take, drop, Option, Some, None, refl, sym, ap, subst, ◌∙◌, arith, append_assoc, append-nil, Ordering}
 use Rattle.std.specs.List.{AllByRecursion}
 use Rattle.std.specs.Ordering.{eq_by_cmp}
 use Rattle.std.specs.Cmp.{IsTotalOrder, eq_by_cmp_equiv}
@@ -84,9 +84,6 @@ module _ {K V : Type 0} {R : K → K → Ordering} (o : IsTotalOrder R) (words :
       let all : old ++ es ≡ (now ++ e ∷ []) ++ drop (i + 1) es = ap (λ l. old ++ l) here.split ∙ sym (append_assoc old (take i es) (e ∷ drop (i + 1) es)) ∙ ap (λ l. l ++ e ∷ drop (i + 1) es) (sym so_far) ∙ sym (append_assoc now (e ∷ []) (drop (i + 1) es)) in
       let r = EachOnce-without o now e [] (once_front R (now ++ e ∷ []) (drop (i + 1) es) (subst (EachOnce R) all once)) in
       again e has_words (ap (find R e.0) (sym (append-nil now)) ∙ r.0)
-
-pub handed_on : {T U E : Type 0} (outer : Result T E) (inner : Result U E) (x y error : E) → outer ≡ Err error → outer ≡ Err x → x ≡ y → inner ≡ Err y → inner ≡ Err error
-handed_on outer inner x y error is out same was = cc
 
 -- What is wrong with a block of well-formed words, and what is right.
 

@@ -5,7 +5,7 @@ mod EntryReading
 mod ChainReading
 mod Finding
 mod Windows
-mod ChainPuts
+pub mod ChainPuts
 mod Editing
 mod EditedEntries
 mod Steps

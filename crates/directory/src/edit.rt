@@ -7,9 +7,10 @@ ghost use Rattle.directory.specs.Chains.{IsChain, viewed};
 ghost use Rattle.directory.specs.Edits.{TakesBlock, PutsChain, inserted, renamed, removed, last_first, block_put};
 ghost use Rattle.directory.specs.declared.error.DirectoryError.TheVariants.{NoMemory};
 
-use crate::image::{BLOCK_ENTRIES, block_image};
+use crate::image::block_image;
 use crate::{Chain, DirectoryError, Entry};
 use changeset::ChangeSet;
+use meaning::layout::BLOCK_ENTRIES;
 
 impl<E: Entry> Chain<E> {
     /// Gives a key its entry: in the place of the one that has the key, or else behind the last entry. Where the

@@ -3,8 +3,8 @@ ghost use Rattle.std.specs.FinMap.Entries.{find};
 ghost use Rattle.directory.specs.Chains.{IsChain, viewed};
 ghost use Rattle.directory.specs.Edits.{StandsAt};
 
-use crate::image::BLOCK_ENTRIES;
 use crate::{Chain, Entry};
+use meaning::layout::BLOCK_ENTRIES;
 
 impl<E: Entry> Chain<E> {
     /// The place of the entry with this key, counted from 0 in the order of the disk, or `None` where there is

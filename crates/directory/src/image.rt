@@ -2,16 +2,8 @@ ghost use Rattle.std.specs.Prelude.{◌≡◌, ◌+◌, ◌*◌, ◌≤◌, ◌+
 ghost use Rattle.meaning.specs.Directories.{directory_block};
 
 use crate::Entry;
+use meaning::layout::{DIRECTORY_HEAD, ENTRY_WORDS};
 use words36::{BLOCK_WORDS, Block, Word};
-
-/// How many entries a block of a chain has room for.
-pub const BLOCK_ENTRIES: usize = 42;
-
-/// How many words an entry has.
-pub const ENTRY_WORDS: usize = 3;
-
-/// How many words of a block stand before its entries.
-pub const BLOCK_HEAD: usize = 2;
 
 /// Puts the words of an entry at a place of a block, counted in words.
 fn put_words(block: &mut Block, at: usize, words: &[Word; 3])
@@ -31,7 +23,7 @@ pub fn block_image<E: Entry>(entries: &[E], next: u32) -> Block
     block[0] = Word::from_bits(u64::from(next));
     block[1] = Word::from_bits(entries.len() as u64);
     for (i, entry) in entries.iter().enumerate() {
-        put_words(&mut block, BLOCK_HEAD + ENTRY_WORDS * i, &entry.words());
+        put_words(&mut block, DIRECTORY_HEAD + ENTRY_WORDS * i, &entry.words());
     }
     block
 }

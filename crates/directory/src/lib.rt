@@ -38,7 +38,6 @@ mod load;
 mod master;
 mod parse;
 mod room;
-mod space;
 
 pub use chain::Chain;
 pub use entry::{Entry, EntryFault};

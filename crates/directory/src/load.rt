@@ -11,12 +11,11 @@ ghost use Rattle.directory.specs.Loading.{SpellsBlock, AreGood, IsBadWords, IsBa
 ghost use Rattle.directory.specs.declared.error.DirectoryError.TheVariants.{BadDirectory, BlockTwice, Device, NoMemory};
 ghost use Rattle.directory.specs.declared.load.AddError.TheVariants.{Outside, Again};
 
-use crate::image::BLOCK_ENTRIES;
 use crate::parse::{entry_words, is_directory_block};
-use crate::space::{follow, is_in_space};
 use crate::{Chain, DirectoryError, Entry};
 use alloctab::Reached;
 use blockdisk::{Disk, Fault};
+use meaning::layout::{BLOCK_ENTRIES, follow, is_in_space};
 use std::alloc::Global;
 use words36::{Block, Word};
 

@@ -1,8 +1,8 @@
-ghost use Rattle.std.specs.Prelude.{◌≡◌, ◌+◌, ◌*◌, ◌<◌, ◌≤◌, ◌↔◌, ℕ, List, IsTrue, length, take, drop, replicate};
+ghost use Rattle.std.specs.Prelude.{◌≡◌, ◌+◌, ◌*◌, ◌<◌, ◌≤◌, ◌↔◌, ℕ, List, IsTrue, length, take, drop};
 ghost use Rattle.directory.specs.Loading.{SpellsBlock, SpellsEntries};
 
-use crate::image::{BLOCK_ENTRIES, BLOCK_HEAD, ENTRY_WORDS};
 use crate::{Entry, EntryFault};
+use meaning::layout::{BLOCK_ENTRIES, DIRECTORY_HEAD, ENTRY_WORDS, are_zeros};
 use words36::{Block, Word};
 
 /// The words of the entry at a place of a block, counted from 0.
@@ -10,7 +10,7 @@ pub fn entry_words(block: &Block, i: usize) -> [Word; 3]
     requires { i < 42 }
     ensures { result ≡ take 3 (drop (2 + 3 * i) block.now) }
 {
-    let at = BLOCK_HEAD + ENTRY_WORDS * i;
+    let at = DIRECTORY_HEAD + ENTRY_WORDS * i;
     [block[at], block[at + 1], block[at + 2]]
 }
 
@@ -40,18 +40,6 @@ fn are_entries<E: Entry>(block: &Block, count: usize) -> bool
     true
 }
 
-/// Whether all words are zero.
-fn are_zeros(words: &[Word]) -> bool
-    ensures { IsTrue result ↔ (words.now ≡ replicate (length words.now) 0) }
-{
-    for word in words {
-        if word.bits() != 0 {
-            return false;
-        }
-    }
-    true
-}
-
 /// Whether the words of a block are those of a directory block.
 pub fn is_directory_block<E: Entry>(block: &Block) -> bool
     ensures yes { IsTrue result → (next : ℕ) × (es : List (E.Key × E.Held)) × SpellsBlock E.words_of E.IsEntry block.now next es }
@@ -63,5 +51,5 @@ pub fn is_directory_block<E: Entry>(block: &Block) -> bool
     }
     let words = &block[..];
     let count = count as usize;
-    are_entries::<E>(block, count) && are_zeros(&words[BLOCK_HEAD + ENTRY_WORDS * count..])
+    are_entries::<E>(block, count) && are_zeros(&words[DIRECTORY_HEAD + ENTRY_WORDS * count..])
 }

@@ -19,11 +19,11 @@ below_same : (f g : ℕ → ℕ) (k : ℕ) → ((n : ℕ) → n < k → f n ≡ 
 below_same f g zero h = refl
 below_same f g (suc k) h = let a = h k (omega arith) in let r = below_same f g k (λ n l. h n (omega arith)) in omega arith
 
-below_sum : (f g : ℕ → ℕ) (k : ℕ) → sum_below (λ n. f n + g n) k ≡ sum_below f k + sum_below g k
+pub below_sum : (f g : ℕ → ℕ) (k : ℕ) → sum_below (λ n. f n + g n) k ≡ sum_below f k + sum_below g k
 below_sum f g zero = refl
 below_sum f g (suc k) = let r = below_sum f g k in omega arith
 
-below_none : (k : ℕ) → sum_below (λ n. 0) k ≡ 0
+pub below_none : (k : ℕ) → sum_below (λ n. 0) k ≡ 0
 below_none zero = refl
 below_none (suc k) = let r = below_none k in omega arith
 

@@ -40,7 +40,7 @@ before-index p body i below (inr past) =
     get_or-append_right (take p body) (replicate (p - length body) 0) (length body) i 0 (omega arith) past
     ∙ get_or-replicate (p - length body) (i - length body) 0 0 (omega arith) ∙ sym (get_or_past body i 0 past)
 
-below_or_not : (i n : ℕ) → (i < n) ⊎ (n ≤ i)
+pub below_or_not : (i n : ℕ) → (i < n) ⊎ (n ≤ i)
 below_or_not i n = grind (arith, nat_tests)
 
 -- a word outside what was put

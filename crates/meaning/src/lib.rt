@@ -13,6 +13,7 @@ mod command;
 mod edits;
 mod entry;
 mod laws;
+pub mod layout;
 mod machine;
 mod maps;
 mod put;

@@ -18,6 +18,7 @@ use Rattle.retrieval.specs.Writing.{Takes, AreApart, IsFixed}
 use Rattle.retrieval.proofs.Taking.{free_in_space, may_be_written, takes_none, takes_apart, all_of}
 use Rattle.retrieval.proofs.Holding.{holds_taken, uses-with_held}
 use Rattle.retrieval.proofs.Placed.{bits_same}
+use Rattle.meaning.proofs.SlotLaws.{all_append}
 
 -- what taking blocks does to a table
 takes_table : (t : TableState) (ns : List ℕ) (t' : TableState) → Takes t ns t' → t' ≡ record t { held = t'.held }
@@ -37,10 +38,6 @@ takes_uses t (n ∷ ns) t' sound fixed takes =
     let rest = takes_uses (with_held t n (holds t n + 1)) ns t' (sound-with_held t n (holds t n + 1) sound) fixed takes.2 in
     let one = uses-with_held t n (holds t n + 1) sound (free_in_space t n fixed takes.1) takes.0 in
     omega arith
-
-pub all_append : (P : ℕ → Type 0) (xs ys : List ℕ) → AllByRecursion P xs → AllByRecursion P ys → AllByRecursion P (xs ++ ys)
-all_append P [] ys a b = b
-all_append P (x ∷ xs) ys a b = (a.0, all_append P xs ys a.1 b)
 
 apart_once : (n : ℕ) (ns : List ℕ) → AreApart ns → times n ns ≤ 1
 apart_once n [] apart = omega arith

@@ -12,7 +12,7 @@ use Rattle.meaning.specs.Maps.{times}
 use Rattle.meaning.specs.Regions.{space_start}
 use Rattle.changeset.specs.PutLaws.{times_head, times_tail}
 use Rattle.alloctab.specs.TableState.{TableState, IsTable, IsFree, bit, holds, with_held, space, used, used_in_space, uses}
-use Rattle.alloctab.specs.TableLaws.{holds-with_held_same, holds-with_held_other, sound-with_held}
+use Rattle.alloctab.specs.TableLaws.{holds-with_held_same, holds-with_held_other, sound-with_held, sum_but_one}
 use Rattle.retrieval.specs.Bodies.{IsOwn}
 use Rattle.retrieval.specs.Writing.{IsFixed}
 use Rattle.retrieval.proofs.Taking.{free_in_space}
@@ -58,16 +58,6 @@ holds_given t n m sound inside some = ⊎_elim
 
 -- Uses.
 
-sum_same : (f g : ℕ → ℕ) (k : ℕ) → ((j : ℕ) → j < k → g j ≡ f j) → sum_below g k ≡ sum_below f k
-sum_same f g zero same = refl
-sum_same f g (suc k) same = let e = same k (omega arith) in let rest = sum_same f g k (λ j below. same j (omega arith)) in omega arith
-
-pub sum_but_one : (f g : ℕ → ℕ) (k i : ℕ) → i < k → ((j : ℕ) → (j ≡ i → ⊥) → g j ≡ f j) → sum_below g k + f i ≡ sum_below f k + g i
-sum_but_one f g zero i below same = absurd (omega arith)
-sum_but_one f g (suc k) i below same = ⊎_elim
-    (λ is. let a = ap f is in let b = ap g is in let rest = sum_same f g k (λ j before. same j (λ e. absurd (omega arith))) in omega arith)
-    (λ other. let e = same k (λ is. other (sym is)) in let rest = sum_but_one f g k i (omega arith) same in omega arith) (cases_eq i k)
-
 pub uses-with_held : (t : TableState) (n count : ℕ) → IsTable t → space_start t.size ≤ n → n < t.size → uses (with_held t n count) + holds t n ≡ uses t + count
 uses-with_held t n count sound from inside =
     let start = space_start t.size in
@@ -85,7 +75,7 @@ uses-with_held t n count sound from inside =
 used_le : (t : TableState) (n : ℕ) → used t n ≤ bit t n + holds t n
 used_le t n = grind (arith, nat_tests)
 
-sum_le : (f g : ℕ → ℕ) (k : ℕ) → ((j : ℕ) → f j ≤ g j) → sum_below f k ≤ sum_below g k
+pub sum_le : (f g : ℕ → ℕ) (k : ℕ) → ((j : ℕ) → f j ≤ g j) → sum_below f k ≤ sum_below g k
 sum_le f g zero each = omega arith
 sum_le f g (suc k) each = let a = each k in let b = sum_le f g k each in omega arith
 

@@ -3,13 +3,13 @@ use Rattle.std.proofs.Common.{◌≡◌, ◌⊎◌, inl, inr, ℕ, zero, suc, �
 use Rattle.std.specs.Prelude.{slice_index, flat_map, IfSome}
 use Rattle.std.specs.List.{AllByRecursion, AllZip}
 use Rattle.std.proofs.lemmas.List.{length-append, length-take, length-drop, get_or-take, get_or-drop, get_or_append_left, get_or-append_right}
-use Rattle.std.proofs.lemmas.Bool.Decides.{nat_tests}
 use Rattle.std.proofs.lemmas.Grind.{same_number_lists}
 use Rattle.blockdisk.specs.Disk.{Contents}
 use Rattle.meaning.specs.Maps.{times}
 use Rattle.meaning.specs.Retrieval.{HasBody}
 use Rattle.meaning.proofs.Lists.{times_here, times_later}
 use Rattle.retrieval.specs.Bodies.{AreWhole}
+use Rattle.meaning.proofs.SpliceLaws.{below_or_not}
 
 -- what holds of each of a list holds at each index
 pub all_at : (P : ℕ → Type 0) (xs : List ℕ) (i : ℕ) → AllByRecursion P xs → i < length xs → P (slice_index xs i)
@@ -162,9 +162,6 @@ pub damaged_at : (old now : Contents) (blocks these : List ℕ) (k at : ℕ) →
 damaged_at old now blocks these k at same below is none kept =
     let e : k ≡ slice_index blocks at = is ∙ ap (λ (l : List ℕ). slice_index l at) same in
     (subst (λ (n : ℕ). 0 < times n blocks) (sym e) (times_at blocks at below), sym (kept k) ∙ ap now is ∙ none)
-
-pub below_or_not : (i n : ℕ) → (i < n) ⊎ (n ≤ i)
-below_or_not i n = grind (arith, nat_tests)
 
 -- so many words of a body from place j on, of the block that was read there
 pub read_more : (contents : Contents) (blocks body : List ℕ) → AreWhole contents blocks → HasBody contents blocks body → (start j : ℕ) (done got : List ℕ) (here : ℕ) → here ≤ 128

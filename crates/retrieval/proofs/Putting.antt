@@ -6,11 +6,11 @@ use Rattle.blockdisk.specs.Disk.{Contents}
 use Rattle.meaning.specs.Costs.{blocks_of}
 use Rattle.meaning.specs.Retrieval.{HasBody}
 use Rattle.meaning.specs.Splices.{splice, length_after, block_start}
-use Rattle.meaning.proofs.SpliceLaws.{length-splice, splice-outside, splice-inside}
+use Rattle.meaning.proofs.SpliceLaws.{length-splice, splice-outside, splice-inside, below_or_not}
 use Rattle.retrieval.specs.Bodies.{AreWhole}
 use Rattle.retrieval.specs.Placing.{Stays, IsPlaced}
 use Rattle.retrieval.proofs.Growing.{after_some}
-use Rattle.retrieval.proofs.Parts.{HoldsPart, part_of, body_of, all_at, all_indexed, below_or_not}
+use Rattle.retrieval.proofs.Parts.{HoldsPart, part_of, body_of, all_at, all_indexed}
 
 -- The contents before, when the words that stay were read, and after; the list of blocks at first, longer, and
 -- at the end.

@@ -18,6 +18,8 @@ use Rattle.retrieval.specs.Spelling.{SpellsPrime, SpellsExtension}
 use Rattle.retrieval.specs.Versions.{VersionState}
 use Rattle.retrieval.specs.Reading.{IsBadPrime, IsBadExtension, Overfills, IsStarted, Extends, Follows, IsReadTo, IsVersionAt, IsWholeVersion}
 use Rattle.retrieval.specs.declared.prime.Prime.{Prime as PrimeValue}
+use Rattle.meaning.proofs.SlotLaws.{all_append}
+use Rattle.alloctab.proofs.SpaceLaws.{in_space_some}
 
 -- The disk is read and not written.
 
@@ -34,13 +36,6 @@ keeps_on s s' s'' first second = record {
 }
 
 -- Walks.
-
-all_both : (P : ℕ → Type 0) (xs ys : List ℕ) → AllByRecursion P xs → AllByRecursion P ys → AllByRecursion P (xs ++ ys)
-all_both P [] ys a b = b
-all_both P (x ∷ xs) ys a b = (a.0, all_both P xs ys a.1 b)
-
-in_space_some : (size n : ℕ) → InSpace size n → 0 < n
-in_space_some size n i = let f = i.from in omega arith
 
 follows_more : (size : ℕ) (c : Contents) (first : ℕ) (es : List Extension) (n : ℕ) (words : List ℕ) (runs : List Run) (next : ℕ) → Follows size c first es n → InSpace size n → c n ≡ Some words
     → SpellsExtension words runs next → RunsInSpace size runs → (0 < next → length runs ≡ 126) → Follows size c first (es ++ (n, runs) ∷ []) next
@@ -86,7 +81,7 @@ module _ (size : ℕ) (c : Contents) where
   blocks_in : (first : ℕ) (es : List Extension) → Follows size c first es 0 → RunsInSpace size (all_runs es)
   blocks_in first [] walk = tt
   blocks_in first (e ∷ es) walk =
-      subst (AllByRecursion (InSpace size)) (sym (flat-append run_blocks e.1 (all_runs es))) (all_both (InSpace size) (flat_map run_blocks e.1) (flat_map run_blocks (all_runs es)) walk.5 (blocks_in walk.6 es walk.9))
+      subst (AllByRecursion (InSpace size)) (sym (flat-append run_blocks e.1 (all_runs es))) (all_append (InSpace size) (flat_map run_blocks e.1) (flat_map run_blocks (all_runs es)) walk.5 (blocks_in walk.6 es walk.9))
 
 zero_behind : (n : ℕ) (ns : List ℕ) → times 0 (suc n ∷ ns) ≡ times 0 ns
 zero_behind n ns = grind (arith, nat_tests)
@@ -189,7 +184,7 @@ module _ (size : ℕ) (c : Contents) (at : ℕ) (prime : PrimeValue) (v : Versio
     };
     ribs_inside = ribs;
     blocks_inside = subst (AllByRecursion (InSpace size)) (sym (r.blocks_are ∙ flat-append run_blocks r.runs (all_runs r.extensions)))
-        (all_both (InSpace size) (flat_map run_blocks r.runs) (flat_map run_blocks (all_runs r.extensions)) r.inside (blocks_in size c r.first r.extensions r.walk));
+        (all_append (InSpace size) (flat_map run_blocks r.runs) (flat_map run_blocks (all_runs r.extensions)) r.inside (blocks_in size c r.first r.extensions r.walk));
     ppn_fits = r.read.ppn_fits;
     ext_fits = r.read.ext_fits;
   }
@@ -237,11 +232,11 @@ bad_of size size' c at k n same is bad = subst (λ (s : ℕ). IsBadVersion s c 1
 
 pub extended_blocks : (size : ℕ) (words : List ℕ) (n next : ℕ) (old new : VersionState) → Extends size words n next old new → AllByRecursion (InSpace size) old.blocks → AllByRecursion (InSpace size) new.blocks
 extended_blocks size words n next old new x all =
-    subst (λ (v : VersionState). AllByRecursion (InSpace size) v.blocks) (sym x.version_is) (all_both (InSpace size) old.blocks (flat_map run_blocks x.runs) all x.inside)
+    subst (λ (v : VersionState). AllByRecursion (InSpace size) v.blocks) (sym x.version_is) (all_append (InSpace size) old.blocks (flat_map run_blocks x.runs) all x.inside)
 
 pub extended_ribs : (size : ℕ) (words : List ℕ) (n next : ℕ) (old new : VersionState) → Extends size words n next old new → InSpace size n → AllByRecursion (InSpace size) old.ribs → AllByRecursion (InSpace size) new.ribs
 extended_ribs size words n next old new x here all =
-    subst (λ (v : VersionState). AllByRecursion (InSpace size) v.ribs) (sym x.version_is) (all_both (InSpace size) old.ribs (n ∷ []) all (here, tt))
+    subst (λ (v : VersionState). AllByRecursion (InSpace size) v.ribs) (sym x.version_is) (all_append (InSpace size) old.ribs (n ∷ []) all (here, tt))
 
 -- what is wrong with none of the blocks of a version that stands as it should
 pub none_wrong : (size : ℕ) (c : Contents) (at : ℕ) (p : Prime) (ribs blocks : List ℕ) → IsWholeVersion size c at p ribs blocks → (k : ℕ) → IsBadVersion size c 1 at k → ⊥

@@ -1,15 +1,12 @@
 -- How many extensions a version has: each but the last is full, so that no more are read than its blocks ask for.
-use Rattle.std.proofs.Common.{◌≡◌, ℕ, zero, suc, ◌+◌, ◌*◌, ◌<◌, ◌≤◌, List, [], ◌∷◌, length, flat_map, refl, ap, ◌∙◌, arith, length-append}
+use Rattle.std.proofs.Common.{ℕ, ◌+◌, ◌*◌, ◌<◌, ◌≤◌, List, [], ◌∷◌, length, flat_map, ap, ◌∙◌, arith, length-append}
 use Rattle.std.specs.List.{AllByRecursion}
-use Rattle.meaning.specs.Retrieval.{Run, IsRun, count_up, run_blocks}
+use Rattle.meaning.specs.Retrieval.{Run, IsRun, run_blocks}
 use Rattle.retrieval.specs.Reading.{IsStarted, Extends}
 use Rattle.retrieval.specs.Versions.{VersionState}
 use Rattle.retrieval.specs.Writing.{rib_count}
 use Rattle.retrieval.specs.declared.prime.Prime.{Prime}
-
-counted : (k n : ℕ) → length (count_up k n) ≡ k
-counted zero n = refl
-counted (suc k) n = let rest = counted k (suc n) in omega arith
+use Rattle.retrieval.proofs.RunLists.{length-count_up}
 
 -- each run has a block at least
 runs-le : (runs : List Run) → AllByRecursion IsRun runs → length runs ≤ length (flat_map run_blocks runs)
@@ -17,7 +14,7 @@ runs-le [] are = omega arith
 runs-le (run ∷ runs) are =
     let all = length-append (run_blocks run) (flat_map run_blocks runs) in
     let rest = runs-le runs are.1 in
-    let here = counted run.0 run.1 in
+    let here = length-count_up run.0 run.1 in
     let some = are.0.0 in
     omega arith
 

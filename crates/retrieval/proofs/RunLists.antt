@@ -1,5 +1,5 @@
 -- The blocks of runs, one more and one run more.
-use Rattle.std.proofs.Common.{◌≡◌, ℕ, zero, suc, ◌+◌, ◌<◌, ◌≤◌, Result, Err, List, [], ◌∷◌, ◌++◌, length, get_or, take, drop, flat_map, refl, sym, ◌∙◌, ap, subst, arith, append_assoc, length-append, append-nil}
+use Rattle.std.proofs.Common.{◌≡◌, ℕ, zero, suc, ◌+◌, ◌<◌, ◌≤◌, List, [], ◌∷◌, ◌++◌, length, get_or, take, drop, flat_map, refl, sym, ◌∙◌, ap, subst, arith, append_assoc, length-append, append-nil}
 use Rattle.std.specs.List.{AllByRecursion}
 use Rattle.std.proofs.lemmas.List.{take_more, take-append-drop, map-append}
 use Rattle.std.proofs.lemmas.Grind.{flat_map-append}
@@ -8,6 +8,7 @@ use Rattle.meaning.specs.Retrieval.{count_up, run_blocks}
 use Rattle.meaning.specs.Faults.{InSpace, RunsInSpace}
 use Rattle.retrieval.specs.Pointers.{run_of, runs_of}
 use Rattle.retrieval.specs.Versions.{VersionState, with_blocks}
+use Rattle.meaning.proofs.SlotLaws.{all_append, all_right, all_left}
 
 pub length-count_up : (count first : ℕ) → length (count_up count first) ≡ count
 length-count_up zero first = refl
@@ -46,21 +47,9 @@ module _ (words : List ℕ) (i word : ℕ) (below : i < length words) (is : word
   pub blocks_one_more : flat_map run_blocks (runs_of (take (i + 1) words)) ≡ flat_map run_blocks (runs_of (take i words)) ++ run_blocks (run_of word)
   blocks_one_more = ap (flat_map run_blocks) runs_one_more ∙ flat_map-append run_blocks (runs_of (take i words)) (run_of word ∷ []) ∙ ap (λ (l : List ℕ). flat_map run_blocks (runs_of (take i words)) ++ l) (append-nil (run_blocks (run_of word)))
 
-all_join : (P : ℕ → Type 0) (xs ys : List ℕ) → AllByRecursion P xs → AllByRecursion P ys → AllByRecursion P (xs ++ ys)
-all_join P [] ys a b = b
-all_join P (x ∷ xs) ys a b = (a.0, all_join P xs ys a.1 b)
-
-all_later : (P : ℕ → Type 0) (xs ys : List ℕ) → AllByRecursion P (xs ++ ys) → AllByRecursion P ys
-all_later P [] ys a = a
-all_later P (x ∷ xs) ys a = all_later P xs ys a.1
-
-all_sooner : (P : ℕ → Type 0) (xs ys : List ℕ) → AllByRecursion P (xs ++ ys) → AllByRecursion P xs
-all_sooner P [] ys a = tt
-all_sooner P (x ∷ xs) ys a = (a.0, all_sooner P xs ys a.1)
-
 module _ (size : ℕ) (words : List ℕ) (i word : ℕ) (below : i < length words) (is : word ≡ get_or words i word) where
   pub inside_more : RunsInSpace size (runs_of (take i words)) → AllByRecursion (InSpace size) (run_blocks (run_of word)) → RunsInSpace size (runs_of (take (i + 1) words))
-  inside_more a b = subst (AllByRecursion (InSpace size)) (sym (blocks_one_more words i word below is)) (all_join (InSpace size) (flat_map run_blocks (runs_of (take i words))) (run_blocks (run_of word)) a b)
+  inside_more a b = subst (AllByRecursion (InSpace size)) (sym (blocks_one_more words i word below is)) (all_append (InSpace size) (flat_map run_blocks (runs_of (take i words))) (run_blocks (run_of word)) a b)
 
 -- the blocks of the first pointers, and of this one, are a part of all
 pub blocks_behind : (words : List ℕ) (i : ℕ) → flat_map run_blocks (runs_of words) ≡ flat_map run_blocks (runs_of (take i words)) ++ flat_map run_blocks (runs_of (drop i words))
@@ -72,8 +61,8 @@ module _ (size : ℕ) (words : List ℕ) (i word : ℕ) (below : i < length word
 
   pub inside_at : RunsInSpace size (runs_of words) → AllByRecursion (InSpace size) (run_blocks (run_of word))
   inside_at all =
-      all_later (InSpace size) (flat_map run_blocks (runs_of (take i words))) (run_blocks (run_of word))
-      (all_sooner (InSpace size) (flat_map run_blocks (runs_of (take i words)) ++ run_blocks (run_of word)) (flat_map run_blocks (runs_of (drop (i + 1) words)))
+      all_right (InSpace size) (flat_map run_blocks (runs_of (take i words))) (run_blocks (run_of word))
+      (all_left (InSpace size) (flat_map run_blocks (runs_of (take i words)) ++ run_blocks (run_of word)) (flat_map run_blocks (runs_of (drop (i + 1) words)))
       (subst (AllByRecursion (InSpace size)) split all))
 
   pub counted_at : length (flat_map run_blocks (runs_of (take i words))) + length (run_blocks (run_of word)) ≤ length (flat_map run_blocks (runs_of words))
@@ -82,7 +71,3 @@ module _ (size : ℕ) (words : List ℕ) (i word : ℕ) (below : i < length word
       let b = length-append (flat_map run_blocks (runs_of (take i words)) ++ run_blocks (run_of word)) (flat_map run_blocks (runs_of (drop (i + 1) words))) in
       let d = length-append (flat_map run_blocks (runs_of (take i words))) (run_blocks (run_of word)) in
       omega arith
-
--- an error that a question mark hands on
-pub handed_on : {T U E : Type 0} (outer : Result T E) (inner : Result U E) (x y error : E) → outer ≡ Err error → outer ≡ Err x → x ≡ y → inner ≡ Err y → inner ≡ Err error
-handed_on outer inner x y error is out same was = cc

@@ -9,7 +9,8 @@ use Rattle.meaning.specs.Retrieval.{HasBody}
 use Rattle.retrieval.specs.Bodies.{AreWhole}
 use Rattle.retrieval.specs.Placing.{kept_word, IsEdge, Stays}
 use Rattle.retrieval.proofs.NewBlocks.{same_block, other_block}
-use Rattle.retrieval.proofs.Parts.{HoldsPart, part_of, below_or_not}
+use Rattle.retrieval.proofs.Parts.{HoldsPart, part_of}
+use Rattle.meaning.proofs.SpliceLaws.{below_or_not}
 
 either : (b : Bool) (x : ℕ) → x ≡ 0 → (if b then x else 0) ≡ 0
 either true x is = is

@@ -15,16 +15,7 @@ use Rattle.retrieval.specs.Pointers.{one_each}
 use Rattle.std.proofs.lemmas.Grind.{flat_map-append}
 use Rattle.changeset.specs.PutLaws.{times_head}
 use Rattle.retrieval.specs.Writing.{AreApart, extensions_of, rib_count}
-
-pub fits_at : (ns : List ℕ) (i n : ℕ) → i < length ns → n ≡ get_or ns i n → AllByRecursion (λ k. k < 2 ^ 18) ns → n < 2 ^ 18
-fits_at [] i n below is all = absurd (omega arith)
-fits_at (first ∷ ns) zero n below is all = subst (λ (k : ℕ). k < 2 ^ 18) (sym is) all.0
-fits_at (first ∷ ns) (suc i) n below is all = fits_at ns i n (omega arith) is all.1
-
-pub fit_first : (count : ℕ) (ns : List ℕ) → AllByRecursion (λ k. k < 2 ^ 18) ns → AllByRecursion (λ k. k < 2 ^ 18) (take count ns)
-fit_first zero ns all = tt
-fit_first (suc count) [] all = tt
-fit_first (suc count) (n ∷ ns) all = (all.0, fit_first count ns all.1)
+use Rattle.retrieval.proofs.Building.{fit_first}
 
 pub fit_later : (count : ℕ) (ns : List ℕ) → AllByRecursion (λ k. k < 2 ^ 18) ns → AllByRecursion (λ k. k < 2 ^ 18) (drop count ns)
 fit_later zero ns all = all

@@ -6,9 +6,9 @@ ghost use Rattle.retrieval.specs.Heads.{prime_front};
 ghost use Rattle.retrieval.specs.Pointers.{one_each};
 ghost use Rattle.retrieval.specs.Primes.{with_length};
 
-use crate::head::{PRIME_POINTERS, PRIME_WORD, attributes_word};
-use crate::parse::PRIME_HEAD;
+use crate::head::{PRIME_WORD, attributes_word};
 use crate::{Prime, Version};
+use meaning::layout::{PRIME_HEAD, PRIME_POINTERS};
 use words36::{BLOCK_WORDS, Block, Half, Word};
 
 /// The pointer to one block.
@@ -44,7 +44,7 @@ fn without_pointers(prime: &Prime, version: &Version, count: usize) -> Block
     words[4] = prime.ppn.word();
     words[5] = Word::from_bits(u64::from(version.length()));
     words[6] = Word::from_bits(count as u64);
-    words[7] = Word::from_bits(u64::from(first_rib(version)));
+    words[7] = Word::from_bits(u64::from(first_of(version.ribs())));
     words
 }
 
@@ -55,17 +55,17 @@ pub fn prime_block(prime: &Prime, version: &Version) -> Block
     ensures { result ≡ prime_block (with_length prime.now version.now.words) (one_each (take 112 version.now.blocks)) (head_or_zero version.now.ribs) }
 {
     let blocks = version.blocks();
-    let count = blocks.len().min(PRIME_POINTERS as usize);
+    let count = blocks.len().min(PRIME_POINTERS);
     let mut words = without_pointers(prime, version, count);
     put_pointers(&mut words, &blocks[..count]);
     words
 }
 
-/// The first rib of a version, or 0 where it has none.
-fn first_rib(version: &Version) -> u32
-    ensures { result ≡ head_or_zero version.now.ribs }
+/// The first of the ribs, or 0 where there is none.
+pub fn first_of(ribs: &[u32]) -> u32
+    ensures { result ≡ head_or_zero ribs.now }
 {
-    match version.ribs().first() {
+    match ribs.first() {
         Some(rib) => *rib,
         None => 0,
     }

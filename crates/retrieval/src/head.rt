@@ -5,8 +5,8 @@ ghost use Rattle.retrieval.specs.Modes.{mode_number};
 ghost use Rattle.retrieval.specs.Primes.{with_length};
 ghost use Rattle.retrieval.specs.Heads.{IsAttributes, IsPrimeHead, IsExtensionHead};
 
-use crate::pointers::are_zeros;
 use crate::{Mode, Prime};
+use meaning::layout::{EXTENSION_POINTERS, MOST_WORDS, PRIME_HEAD, PRIME_POINTERS, are_zeros};
 use words36::{Block, FileName, Moment, Ppn, Word};
 
 /// RIB in SIXBIT, the first word of a prime block.
@@ -14,15 +14,6 @@ pub const PRIME_WORD: u64 = 0o625142000000;
 
 /// XRB in SIXBIT, the left half of an extension's first word.
 pub const EXTENSION_HALF: u32 = 0o706242;
-
-/// How many pointers a prime block has room for.
-pub const PRIME_POINTERS: u64 = 112;
-
-/// How many pointers an extension has room for.
-pub const EXTENSION_POINTERS: u32 = 126;
-
-/// How many words a file may have: 16384 blocks of them.
-const MOST_WORDS: u64 = 16384 * 128;
 
 /// The attributes of a file, as one word has them.
 #[derive(Clone, Copy)]
@@ -78,9 +69,9 @@ pub fn prime_head(block: &Block) -> Option<PrimeHead>
 {
     let words = &block[..];
     let marked = block[0].bits() == PRIME_WORD;
-    let plain = block[2].right().bits() == 0 && are_zeros(&words[8..16]);
+    let plain = block[2].right().bits() == 0 && are_zeros(&words[8..PRIME_HEAD]);
     let (length, count) = (block[5].bits(), block[6].bits());
-    if !marked || !plain || length > MOST_WORDS || count > PRIME_POINTERS {
+    if !marked || !plain || length > u64::from(MOST_WORDS) || count > PRIME_POINTERS as u64 {
         return None;
     }
     let attributes = attributes_of(block[3])?;
@@ -119,7 +110,7 @@ pub fn extension_head(block: &Block) -> Option<ExtensionHead>
 {
     let count = block[0].right().bits();
     let marked = block[0].left().bits() == EXTENSION_HALF;
-    if !marked || count == 0 || count > EXTENSION_POINTERS {
+    if !marked || count == 0 || count > EXTENSION_POINTERS as u32 {
         return None;
     }
     Some(ExtensionHead {

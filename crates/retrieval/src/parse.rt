@@ -6,13 +6,8 @@ ghost use Rattle.retrieval.specs.Spelling.{SpellsPrime, SpellsExtension};
 
 use crate::head::{ExtensionHead, PrimeHead, extension_head, prime_head};
 use crate::pointers::are_pointers;
+use meaning::layout::{EXTENSION_HEAD, PRIME_HEAD};
 use words36::Block;
-
-/// How many words of a prime block stand before its pointers.
-pub const PRIME_HEAD: usize = 16;
-
-/// How many words of an extension stand before its pointers.
-pub const EXTENSION_HEAD: usize = 2;
 
 /// What a prime block says before its pointers, or `None` where its words aren't those of a prime block.
 pub fn parse_prime(block: &Block) -> Option<PrimeHead>

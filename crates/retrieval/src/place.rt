@@ -12,7 +12,6 @@ ghost use Rattle.retrieval.specs.Writing.{IsFixed};
 
 use crate::Version;
 use crate::kept::{Kept, new_block};
-use crate::write::take_block;
 use alloctab::Table;
 use blockdisk::{Disk, Fault};
 use words36::{BLOCK_WORDS, Word};
@@ -42,7 +41,7 @@ pub(crate) fn own_place(table: &mut Table, version: &mut Version, i: usize) -> u
     if table.is_held_alone(shared) {
         return shared;
     }
-    let n = take_block(table);
+    let n = table.take_block();
     table.unhold(shared);
     version.put_block(i, n);
     n

@@ -1,8 +1,9 @@
-ghost use Rattle.std.specs.Prelude.{◌≡◌, ◌≤◌, ◌↔◌, IsTrue, length, replicate};
+ghost use Rattle.std.specs.Prelude.{◌≡◌, ◌≤◌, ◌↔◌, IsTrue, length};
 ghost use Rattle.std.specs.List.{AllByRecursion};
 ghost use Rattle.meaning.specs.Retrieval.{IsRun};
 ghost use Rattle.retrieval.specs.Pointers.{run_of, runs_of, ArePointers};
 
+use meaning::layout::are_zeros;
 use words36::Word;
 
 /// Whether a word is a pointer: its left half, the count, isn't zero.
@@ -20,18 +21,6 @@ fn are_runs(words: &[Word]) -> bool
 {
     for word in words {
         if !is_pointer(*word) {
-            return false;
-        }
-    }
-    true
-}
-
-/// Whether all words are zero.
-pub fn are_zeros(words: &[Word]) -> bool
-    ensures { IsTrue result ↔ (words.now ≡ replicate (length words.now) 0) }
-{
-    for word in words {
-        if word.bits() != 0 {
             return false;
         }
     }

@@ -9,12 +9,11 @@ ghost use Rattle.retrieval.specs.Reading.{IsBadPrime, IsBadExtension, Overfills,
 ghost use Rattle.retrieval.specs.declared.error.RetrievalError.TheVariants.{BadRetrieval, Device, NoMemory};
 ghost use Rattle.retrieval.specs.Writing.{rib_count};
 
-use crate::head::{EXTENSION_POINTERS, PRIME_POINTERS};
-use crate::parse::{EXTENSION_HEAD, PRIME_HEAD, parse_extension, parse_prime};
+use crate::parse::{parse_extension, parse_prime};
 use crate::runs::{RunError, push_runs};
-use crate::space::is_in_space;
 use crate::{Prime, RetrievalError, Version};
 use blockdisk::{Disk, Fault};
+use meaning::layout::{EXTENSION_HEAD, EXTENSION_POINTERS, PRIME_HEAD, PRIME_POINTERS, follow};
 use std::alloc::Global;
 use words36::{BLOCK_WORDS, Block};
 
@@ -46,25 +45,6 @@ fn blocks_of(words: u32) -> u32
     words.div_ceil(BLOCK_WORDS as u32)
 }
 
-/// The next retrieval block, or 0 where there is none; `None` where one is named that must not be.
-fn follow(next: u64, full: bool, size: u32) -> Option<u32>
-    requires { IsVolumeSize size }
-    ensures some { IfSome result (λ n. n ≡ next) }
-    ensures full { IfSome result (λ n. 0 < n → IsTrue full) }
-    ensures inside { IfSome result (λ n. 0 < n → InSpace size n) }
-    ensures named { IfNone result (0 < next) }
-    ensures none { IfNone result (IsTrue full → InSpace size next → ⊥) }
-{
-    if next == 0 {
-        return Some(0);
-    }
-    if full && is_in_space(size, next) {
-        Some(next as u32)
-    } else {
-        None
-    }
-}
-
 /// The version as its prime block has it, with the first extension, or 0.
 fn start_version(
     alloc: Global,
@@ -81,7 +61,7 @@ fn start_version(
     let Some(head) = parse_prime(block) else {
         return Err(RetrievalError::BadRetrieval(at));
     };
-    let full = head.count as u64 == PRIME_POINTERS;
+    let full = head.count == PRIME_POINTERS;
     let Some(next) = follow(head.next, full, size) else {
         return Err(RetrievalError::BadRetrieval(at));
     };
@@ -115,7 +95,7 @@ fn extend_version(
     let Some(head) = parse_extension(block) else {
         return Err(RetrievalError::BadRetrieval(n));
     };
-    let full = head.count as u32 == EXTENSION_POINTERS;
+    let full = head.count == EXTENSION_POINTERS;
     let Some(next) = follow(head.next, full, size) else {
         return Err(RetrievalError::BadRetrieval(n));
     };

@@ -2,7 +2,6 @@ ghost use Rattle.std.specs.Prelude.{◌≡◌, ◌+◌, ◌-◌, ◌/◌, ◌<�
 ghost use Rattle.std.specs.List.{AllByRecursion};
 ghost use Rattle.blockdisk.specs.Disk.{SameDisk, Touches, one_more};
 ghost use Rattle.blockdisk.specs.declared.fault.Fault.TheVariants.{Device as DeviceFault, Damaged};
-ghost use Rattle.meaning.specs.Blocks.{head_or_zero};
 ghost use Rattle.meaning.specs.Costs.{blocks_of};
 ghost use Rattle.meaning.specs.Faults.{InSpace};
 ghost use Rattle.meaning.specs.Maps.{times};
@@ -15,12 +14,12 @@ ghost use Rattle.retrieval.specs.Reading.{IsWholeVersion};
 ghost use Rattle.retrieval.specs.declared.error.RetrievalError.TheVariants.{BadRetrieval, Device, NoMemory};
 ghost use Rattle.retrieval.specs.Writing.{rib_count, Takes, AreApart, IsFixed, extensions_of};
 
-use crate::build::{pointer_to, prime_block};
-use crate::head::{EXTENSION_HALF, EXTENSION_POINTERS, PRIME_POINTERS};
-use crate::parse::EXTENSION_HEAD;
+use crate::build::{first_of, pointer_to, prime_block};
+use crate::head::EXTENSION_HALF;
 use crate::{Prime, RetrievalError, Version};
 use alloctab::Table;
 use blockdisk::{Disk, Fault};
+use meaning::layout::{EXTENSION_HEAD, EXTENSION_POINTERS, PRIME_POINTERS};
 use std::alloc::Global;
 use words36::{BLOCK_WORDS, Block, Half, Word};
 
@@ -40,16 +39,6 @@ fn extension_of(blocks: &[u32], next: u32) -> Block
         words[EXTENSION_HEAD + i] = pointer_to(*n);
     }
     words
-}
-
-/// The first of the ribs, or 0 where there is none.
-fn first_of(ribs: &[u32]) -> u32
-    ensures { result ≡ head_or_zero ribs.now }
-{
-    match ribs.first() {
-        Some(rib) => *rib,
-        None => 0,
-    }
 }
 
 /// Writes the ribs with the pointers to these blocks, the last rib first.
@@ -72,23 +61,10 @@ fn write_ribs<D: Disk>(disk: &mut D, ribs: &[u32], blocks: &[u32]) -> Result<(),
     let Some((rib, further)) = ribs.split_first() else {
         return Ok(());
     };
-    let here = blocks.len().min(EXTENSION_POINTERS as usize);
+    let here = blocks.len().min(EXTENSION_POINTERS);
     write_ribs(disk, further, &blocks[here..])?;
     let words = extension_of(&blocks[..here], first_of(further));
     disk.write(*rib, &words)
-}
-
-/// Takes a free block. There is one, since fewer are used than are booked.
-pub(crate) fn take_block(table: &mut Table) -> u32
-    requires used { used_in_space table.old < table.old.booked }
-    requires room { table.old.booked ≤ space table.old.size }
-    ensures free { (result < table.old.size) × IsFree table.old result }
-    ensures held { table.new ≡ with_held table.old result (holds table.old result + 1) }
-{
-    match table.take() {
-        Some(n) => n,
-        None => unreachable!(),
-    }
 }
 
 /// Takes free blocks, one after the other.
@@ -101,7 +77,7 @@ pub(crate) fn take_blocks(table: &mut Table, blocks: &mut [u32])
     ensures length { length blocks.new ≡ length blocks.old }
 {
     for i in 0..blocks.len() {
-        blocks[i] = take_block(table);
+        blocks[i] = table.take_block();
     }
 }
 
@@ -110,8 +86,8 @@ pub(crate) fn take_blocks(table: &mut Table, blocks: &mut [u32])
 pub fn rib_count(blocks: usize) -> usize
     ensures { result ≡ rib_count blocks }
 {
-    let others = blocks.saturating_sub(PRIME_POINTERS as usize);
-    others.div_ceil(EXTENSION_POINTERS as usize)
+    let others = blocks.saturating_sub(PRIME_POINTERS);
+    others.div_ceil(EXTENSION_POINTERS)
 }
 
 /// Takes the blocks that the retrieval blocks of a version will have: its prime block, which is answered, and
@@ -125,7 +101,7 @@ pub fn take_retrieval_blocks(table: &mut Table, version: &mut Version, mut ribs:
     ensures taken { Takes table.old (result ∷ version.new.ribs) table.new }
 {
     let _booked = table.booked(); // which says that the table is sound
-    let at = take_block(table);
+    let at = table.take_block();
     take_blocks(table, ribs.as_mut_slice());
     version.set_ribs(ribs);
     at
@@ -158,7 +134,7 @@ pub fn write_retrieval_blocks<D: Disk>(
     ensures served { OnOk result ((D.state disk.new).failures ≡ (D.state disk.old).failures) }
 {
     let blocks = version.blocks();
-    let here = blocks.len().min(PRIME_POINTERS as usize);
+    let here = blocks.len().min(PRIME_POINTERS);
     write_ribs(disk, version.ribs(), &blocks[here..])?;
     let words = prime_block(prime, version);
     disk.write(at, &words)

@@ -8,13 +8,11 @@ use Rattle.volume.specs.declared.error.VolumeError.TheVariants.{NotVolume, BadHo
 use Rattle.volume.specs.FileReading.{IsVersionRefusal, IsDataRefusal, IsFileRefusal, IsOtherPlace, IsReachedTwice, IsDamagedData}
 use Rattle.volume.specs.Meets.{NamesInSpace, FileMeets, IsTableRefusal}
 use Rattle.std.proofs.Common.{Bool, List}
+use Rattle.volume.proofs.Finding.{refusal}
 
 -- what an error has that is handed on
 pub handed : {T U E : Type 0} (P : E → Type 0) (outer : Result T E) (inner : Result U E) (x y : E) → outer ≡ Err x → x ≡ y → inner ≡ Err y → IfErr inner P → IfErr outer P
 handed P outer inner x y is same was met = subst (λ r. IfErr r P) (sym is) (subst P (sym same) (subst (λ r. IfErr r P) was met))
-
-pub error_has : {T E : Type 0} (P : E → Type 0) (result : Result T E) (e : E) → result ≡ Err e → IfErr result P → P e
-error_has P result e is met = subst (λ r. IfErr r P) is met
 
 -- each error of the result has P
 pub each_error : {T E : Type 0} (P : E → Type 0) (result : Result T E) → ((e : E) → result ≡ Err e → P e) → IfErr result P
@@ -28,16 +26,16 @@ pub file_met_by : {T : Type 0} (size : ℕ) (contents : Contents) (reached : Lis
 file_met_by size contents reached place prime result only bad twice damaged = each_error (FileMeets size contents reached place prime) result by_error
   where
     by_error : (e : VolumeError) → result ≡ Err e → FileMeets size contents reached place prime e
-    by_error NotVolume is = error_has IsFileRefusal result NotVolume is only
-    by_error BadHome is = error_has IsFileRefusal result BadHome is only
-    by_error BadLog is = error_has IsFileRefusal result BadLog is only
-    by_error (BadDirectory n) is = error_has IsFileRefusal result (BadDirectory n) is only
+    by_error NotVolume is = refusal IsFileRefusal result NotVolume is only
+    by_error BadHome is = refusal IsFileRefusal result BadHome is only
+    by_error BadLog is = refusal IsFileRefusal result BadLog is only
+    by_error (BadDirectory n) is = refusal IsFileRefusal result (BadDirectory n) is only
     by_error (BadRetrieval n) is = bad n is
     by_error (BlockTwice n) is = twice n is
-    by_error (TableWrong n) is = error_has IsFileRefusal result (TableWrong n) is only
+    by_error (TableWrong n) is = refusal IsFileRefusal result (TableWrong n) is only
     by_error Device is = tt
     by_error NoMemory is = tt
-    by_error Failed is = error_has IsFileRefusal result Failed is only
+    by_error Failed is = refusal IsFileRefusal result Failed is only
     by_error (BadData n) is = damaged n is
 
 pub met_on : {T E : Type 0} (P Q : E → Type 0) (result : Result T E) → ((e : E) → P e → Q e) → IfErr result P → IfErr result Q
@@ -57,14 +55,14 @@ version_named size prime result here only named = each_error (NamesInSpace size)
     by_error NotVolume is = tt
     by_error BadHome is = tt
     by_error BadLog is = tt
-    by_error (BadDirectory n) is = absurd (error_has IsVersionRefusal result (BadDirectory n) is only)
+    by_error (BadDirectory n) is = absurd (refusal IsVersionRefusal result (BadDirectory n) is only)
     by_error (BadRetrieval n) is = ⊎_elim (λ e. subst (InSpace size) (sym e) here) (λ there. there) (named n is)
-    by_error (BlockTwice n) is = absurd (error_has IsVersionRefusal result (BlockTwice n) is only)
+    by_error (BlockTwice n) is = absurd (refusal IsVersionRefusal result (BlockTwice n) is only)
     by_error (TableWrong n) is = tt
     by_error Device is = tt
     by_error NoMemory is = tt
     by_error Failed is = tt
-    by_error (BadData n) is = absurd (error_has IsVersionRefusal result (BadData n) is only)
+    by_error (BadData n) is = absurd (refusal IsVersionRefusal result (BadData n) is only)
 
 pub data_named : {T : Type 0} (size : ℕ) (result : Result T VolumeError) → IfErr result IsDataRefusal → ((k : ℕ) → result ≡ Err (BadData k) → InSpace size k) → IfErr result (NamesInSpace size)
 data_named size result only named = each_error (NamesInSpace size) result by_error
@@ -73,9 +71,9 @@ data_named size result only named = each_error (NamesInSpace size) result by_err
     by_error NotVolume is = tt
     by_error BadHome is = tt
     by_error BadLog is = tt
-    by_error (BadDirectory n) is = absurd (error_has IsDataRefusal result (BadDirectory n) is only)
-    by_error (BadRetrieval n) is = absurd (error_has IsDataRefusal result (BadRetrieval n) is only)
-    by_error (BlockTwice n) is = absurd (error_has IsDataRefusal result (BlockTwice n) is only)
+    by_error (BadDirectory n) is = absurd (refusal IsDataRefusal result (BadDirectory n) is only)
+    by_error (BadRetrieval n) is = absurd (refusal IsDataRefusal result (BadRetrieval n) is only)
+    by_error (BlockTwice n) is = absurd (refusal IsDataRefusal result (BlockTwice n) is only)
     by_error (TableWrong n) is = tt
     by_error Device is = tt
     by_error NoMemory is = tt

@@ -14,6 +14,8 @@ use Rattle.volume.specs.declared.live.LiveVersion.{LiveVersion}
 use Rattle.volume.specs.declared.pending.PendingVersion.{PendingVersion}
 use Rattle.volume.specs.Known.{KnownVersion, KnownDirectory, blocks_reached, reaches_in_entries, reaches_in_known, known_reaches, cost_of_version, cost_of_directory, IsWholeVersion, IsWholeDirectory}
 use Rattle.volume.specs.Live.{VolumeCore, as_known, held_reaches, held_cost, pending_reaches, pending_cost, growths, IsWholePending, IsWholeCore}
+use Rattle.meaning.proofs.Counting.{below_sum, below_none}
+use Rattle.retrieval.proofs.Holding.{sum_le}
 
 -- A slot that is another.
 
@@ -65,18 +67,6 @@ total_updated f none old new key x is others = let e = updated f none old new ke
 
 -- Sums over a stretch of blocks, from s on, k of them.
 
-stretch_more : (f g : ℕ → ℕ) (k : ℕ) → ((i : ℕ) → f i ≤ g i) → sum_below f k ≤ sum_below g k
-stretch_more f g zero le = omega arith
-stretch_more f g (suc k) le = let a = le k in let r = stretch_more f g k le in omega arith
-
-stretch_sum : (f g : ℕ → ℕ) (k : ℕ) → sum_below (λ i. f i + g i) k ≡ sum_below f k + sum_below g k
-stretch_sum f g zero = refl
-stretch_sum f g (suc k) = let r = stretch_sum f g k in omega arith
-
-stretch_none : (k : ℕ) → sum_below (λ i. 0) k ≡ 0
-stretch_none zero = refl
-stretch_none (suc k) = let r = stretch_none k in omega arith
-
 test_one : (a x : ℕ) → cond {A = ℕ} (eqb a x) 1 0 + cond (ltb x a) 1 0 ≤ cond (ltb x (suc a)) 1 0
 test_one a x = grind (arith, nat_tests)
 
@@ -90,12 +80,12 @@ cond_few false = omega arith
 
 -- the numbers of a list, counted one by one
 stretch_times : (s k : ℕ) (xs : List ℕ) → sum_below (λ i. times (s + i) xs) k ≤ length xs
-stretch_times s k [] = omega (arith, stretch_none k)
+stretch_times s k [] = omega (arith, below_none k)
 stretch_times s k (x ∷ xs) =
     let r = stretch_times s k xs in
     let one = stretch_one s x k in
     let few = cond_few (ltb x (s + k)) in
-    let parts = stretch_sum (λ i. cond (eqb (s + i) x) 1 0) (λ i. times (s + i) xs) k in
+    let parts = below_sum (λ i. cond (eqb (s + i) x) 1 0) (λ i. times (s + i) xs) k in
     omega arith
 
 -- a version's blocks are no more than it costs
@@ -112,37 +102,37 @@ stretch_version s k prime v whole =
     omega arith
 
 stretch_entries : (s k : ℕ) (es : List FileEntry) (vs : List KnownVersion) → AllByRecursion IsWholeVersion vs → sum_below (λ i. reaches_in_entries (s + i) es vs) k ≤ total cost_of_version vs
-stretch_entries s k [] vs all = omega (arith, stretch_none k)
-stretch_entries s k (e ∷ es) [] all = omega (arith, stretch_none k)
+stretch_entries s k [] vs all = omega (arith, below_none k)
+stretch_entries s k (e ∷ es) [] all = omega (arith, below_none k)
 stretch_entries s k (e ∷ es) (v ∷ vs) all =
     let one = stretch_version s k e.1 v all.0 in
     let rest = stretch_entries s k es vs all.1 in
-    let parts = stretch_sum (λ i. times (s + i) (blocks_reached e.1 v.version)) (λ i. reaches_in_entries (s + i) es vs) k in
+    let parts = below_sum (λ i. times (s + i) (blocks_reached e.1 v.version)) (λ i. reaches_in_entries (s + i) es vs) k in
     omega arith
 
 stretch_directory : (size s k : ℕ) (d : KnownDirectory) → IsWholeDirectory size d → sum_below (λ i. reaches_in_known (s + i) d) k ≤ cost_of_directory d
 stretch_directory size s k d whole =
     let chain = stretch_times s k d.chain.blocks in
     let entries = stretch_entries s k d.chain.entries d.versions whole.versions in
-    let parts = stretch_sum (λ i. times (s + i) d.chain.blocks) (λ i. reaches_in_entries (s + i) d.chain.entries d.versions) k in
+    let parts = below_sum (λ i. times (s + i) d.chain.blocks) (λ i. reaches_in_entries (s + i) d.chain.entries d.versions) k in
     omega arith
 
 -- a sum over a list in each block of the stretch
 stretch_total : {X : Type 0} (P : X → Type 0) (s k : ℕ) (g : ℕ → X → ℕ) (f : X → ℕ) → ((x : X) → P x → sum_below (λ i. g (s + i) x) k ≤ f x) → (xs : List X) → AllByRecursion P xs
     → sum_below (λ i. total (g (s + i)) xs) k ≤ total f xs
-stretch_total P s k g f each [] all = omega (arith, stretch_none k)
+stretch_total P s k g f each [] all = omega (arith, below_none k)
 stretch_total P s k g f each (x ∷ xs) all =
     let one = each x all.0 in
     let rest = stretch_total P s k g f each xs all.1 in
-    let parts = stretch_sum (λ i. g (s + i) x) (λ i. total (g (s + i)) xs) k in
+    let parts = below_sum (λ i. g (s + i) x) (λ i. total (g (s + i)) xs) k in
     omega arith
 
 stretch_held : (s k : ℕ) (o : Option LiveVersion) → IfSome o (λ v. IsWholeVersion (as_known v)) → sum_below (λ i. held_reaches (s + i) o) k ≤ held_cost o
-stretch_held s k None whole = omega (arith, stretch_none k)
+stretch_held s k None whole = omega (arith, below_none k)
 stretch_held s k (Some v) whole = by v.is_current refl
   where
     by : (b : Bool) → v.is_current ≡ b → sum_below (λ i. held_reaches (s + i) (Some v)) k ≤ held_cost (Some v)
-    by true is = rw is (omega (arith, stretch_none k))
+    by true is = rw is (omega (arith, below_none k))
     by false is = rw is (stretch_version s k v.at (as_known v) whole)
 
 -- the blocks of a version that is being written
@@ -151,7 +141,7 @@ pending_blocks None = 0
 pending_blocks (Some p) = length p.version.blocks
 
 stretch_pending : (size s k : ℕ) (o : Option PendingVersion) → IfSome o (IsWholePending size) → sum_below (λ i. pending_reaches (s + i) o) k ≤ pending_blocks o
-stretch_pending size s k None whole = omega (arith, stretch_none k)
+stretch_pending size s k None whole = omega (arith, below_none k)
 stretch_pending size s k (Some p) whole = stretch_times s k p.version.blocks
 
 -- they cost a block more each, for the prime block
@@ -202,14 +192,14 @@ uses_by size c whole more waits =
     let none = past_fixed t.size i in
     let size_is = ap (λ n. fixed n (s + i)) whole.map.size_is in
     omega arith in
-    let parts = stretch_sum (λ i. bit t (s + i)) (λ i. holds t (s + i)) k in
+    let parts = below_sum (λ i. bit t (s + i)) (λ i. holds t (s + i)) k in
     let sets = same_stretch (λ i. bit t (s + i)) (λ i. known_reaches (s + i) master directories) k set in
     let helds = same_stretch (λ i. holds t (s + i)) (λ i. total (held_reaches (s + i)) c.live + total (pending_reaches (s + i)) c.pending) k (λ i. whole.held (s + i)) in
-    let apart = stretch_sum (λ i. total (held_reaches (s + i)) c.live) (λ i. total (pending_reaches (s + i)) c.pending) k in
+    let apart = below_sum (λ i. total (held_reaches (s + i)) c.live) (λ i. total (pending_reaches (s + i)) c.pending) k in
     let waiting = stretch_total (λ o. IfSome o (IsWholePending size)) s k pending_reaches pending_blocks (stretch_pending size s k) c.pending whole.waiting in
     let chain = stretch_times s k master.blocks in
     let each = stretch_total (IsWholeDirectory size) s k reaches_in_known cost_of_directory (λ d is. stretch_directory size s k d is) directories whole.map.each in
-    let both = stretch_sum (λ i. times (s + i) master.blocks) (λ i. total (reaches_in_known (s + i)) directories) k in
+    let both = below_sum (λ i. times (s + i) master.blocks) (λ i. total (reaches_in_known (s + i)) directories) k in
     let held = stretch_total (λ o. IfSome o (λ v. IsWholeVersion (as_known v))) s k held_reaches held_cost (stretch_held s k) c.live whole.standing in
     let booked = whole.booked in
     omega arith
@@ -259,4 +249,4 @@ pub core_used : (size : ℕ) (c : VolumeCore) → IsWholeCore size c → used_in
 core_used size c whole =
     let t = c.known.table in
     let s = space_start t.size in
-    stretch_more (λ i. used t (s + i)) (λ i. bit t (s + i) + holds t (s + i)) (space t.size) (λ i. used_once (bit t (s + i)) (holds t (s + i)))
+    sum_le (λ i. used t (s + i)) (λ i. bit t (s + i) + holds t (s + i)) (space t.size) (λ i. used_once (bit t (s + i)) (holds t (s + i)))

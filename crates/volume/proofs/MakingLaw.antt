@@ -24,8 +24,8 @@ use Rattle.meaning.proofs.MapSums.{times-append}
 use Rattle.meaning.proofs.DiskMaps.{once}
 use Rattle.meaning.proofs.QuietLaws.{each_times}
 use Rattle.meaning.proofs.DirectoryChanges.{directory_made}
-use Rattle.changeset.specs.PutLaws.{times_head, times_tail}
-use Rattle.alloctab.specs.Lists.{digit, flag_at}
+use Rattle.changeset.specs.PutLaws.{times_head, times_tail, some_or_none}
+use Rattle.alloctab.specs.Lists.{flag_at}
 use Rattle.alloctab.specs.TableState.{TableState, bit}
 use Rattle.directory.specs.Chains.{IsChain, IsOn}
 use Rattle.directory.specs.ChainLaws.{chain_stands, on_kept, bare_on}
@@ -33,6 +33,7 @@ use Rattle.volume.specs.Known.{KnownDirectory, Known, IsKnownDirectory, IsHeld, 
 use Rattle.volume.specs.Making.{bare_known, entry_made, map_made, IsMade}
 use Rattle.volume.proofs.Lookups.{all_each}
 use Rattle.volume.proofs.MakingHeld.{reached_in_space, chain_reached, master_reached}
+use Rattle.alloctab.proofs.WordLaws.{digit_few}
 
 -- Lists.
 
@@ -46,16 +47,8 @@ pub head_front : (xs ys : List ℕ) → 0 < length xs → head_or_zero (xs ++ ys
 head_front [] ys some = absurd (omega arith)
 head_front (x ∷ xs) ys some = refl
 
-one_digit : (b : Bool) → digit b ≤ 1
-one_digit true = omega arith
-one_digit false = omega arith
-
 pub bit_few : (t : TableState) (n : ℕ) → bit t n ≤ 1
-bit_few t n = one_digit (flag_at t.bits n)
-
-pub some_or_none : (n : ℕ) → (0 < n) ⊎ (n ≡ 0)
-some_or_none zero = inr refl
-some_or_none (suc n) = inl (omega arith)
+bit_few t n = digit_few (flag_at t.bits n)
 
 pub none_mapped : {A B : Type 0} (f : A → B) (o : Option A) → option_map f o ≡ None → o ≡ None
 none_mapped f None e = refl
@@ -103,7 +96,7 @@ module _ (size : ℕ) (k k' : Known) (m : DiskMap) (ppn protection first : ℕ) 
   fresh_times n = times-append n (first ∷ []) made.grown
 
   fresh_once : (n : ℕ) → bit k.table n + times n (first ∷ made.grown) ≤ 1
-  fresh_once n = let e = made.taken.bits n in let few = one_digit (flag_at k'.table.bits n) in omega arith
+  fresh_once n = let e = made.taken.bits n in let few = digit_few (flag_at k'.table.bits n) in omega arith
 
   fresh_unreached : (n : ℕ) → 0 < times n (first ∷ made.grown) → reaches n m ≡ 0
   fresh_unreached n there = let few = fresh_once n in let e = held.bits n in let f = held.stands.marked.bits n in omega arith

@@ -4,7 +4,6 @@ use Rattle.std.specs.List.{AllByRecursion}
 use Rattle.std.proofs.lemmas.Bool.{cases_eq}
 use Rattle.std.proofs.lemmas.List.{take_more, take-append-drop, get_or-set_same, get_or-set_other}
 use Rattle.meaning.specs.Maps.{times}
-use Rattle.meaning.proofs.Lists.{times_here, times_later}
 use Rattle.meaning.proofs.MapSums.{times-append}
 use Rattle.changeset.specs.PutLaws.{times_head, times_tail}
 use Rattle.alloctab.specs.Lists.{digit, digit_at, flag_at}
@@ -45,12 +44,6 @@ all_at P (x ∷ xs) (suc i) all below = all_at P xs i all.1 (omega arith)
 
 pub all_more : (P : ℕ → Type 0) (xs : List ℕ) (i : ℕ) → i < length xs → AllByRecursion P (take i xs) → P (get_or xs i 0) → AllByRecursion P (take (i + 1) xs)
 all_more P xs i below all here = subst (AllByRecursion P) (sym (take_more xs i 0 below)) (all_append P (take i xs) (get_or xs i 0 ∷ []) all (here, tt))
-
--- One that stands at a place stands in the list.
-pub times_at : (xs : List ℕ) (i : ℕ) → i < length xs → 0 < times (get_or xs i 0) xs
-times_at [] i below = absurd (omega arith)
-times_at (x ∷ xs) zero below = times_here x xs
-times_at (x ∷ xs) (suc i) below = times_later (get_or xs i 0) x xs (times_at xs i (omega arith))
 
 -- The blocks of a version: the prime block, the ribs, and the data blocks.
 

@@ -5,7 +5,7 @@ use Rattle.std.proofs.lemmas.List.{get_or_past}
 use Rattle.std.specs.List.{AllByRecursion}
 use Rattle.std.specs.Ordering.{nat_cmp}
 use Rattle.blockdisk.specs.Disk.{Contents, DiskState, MayLeave, Keeps}
-use Rattle.blockdisk.specs.Laws.{keeps_still, still_on, passes_weaker}
+use Rattle.blockdisk.specs.Laws.{keeps_still, passes_weaker}
 use Rattle.changeset.specs.Reads.{OnlyReads}
 use Rattle.meaning.specs.Regions.{IsVolumeSize, space_start, table_blocks}
 use Rattle.meaning.specs.Table.{fixed}
@@ -20,13 +20,11 @@ use Rattle.directory.specs.Chains.{IsChain}
 use Rattle.volume.specs.Known.{Known, known_reaches, cost_of_known, IsWholeDirectory, IsWholeMap, IsBooked}
 use Rattle.volume.specs.Found.{IsWrongFor, IsRightFor}
 use Rattle.volume.specs.Meets.{SettledRefuses, IsTableRefusal}
-use Rattle.volume.proofs.Handing.{error_has, each_error}
+use Rattle.volume.proofs.Handing.{each_error}
+use Rattle.volume.proofs.Finding.{refusal}
 
 pub reads_of : (s s' : DiskState) → Keeps s s' → OnlyReads s s'
 reads_of s s' keeps = record { still = keeps_still s s' keeps; is_open = keeps.is_open }
-
-pub reads_on : (s s' s'' : DiskState) → OnlyReads s s' → OnlyReads s' s'' → OnlyReads s s''
-reads_on s s' s'' first second = record { still = still_on s s' s'' first.still second.still; is_open = λ n. second.is_open n ∙ first.is_open n }
 
 none_past : (size : ℕ) (reached : List Bool) (k : ℕ) → IsVolumeSize size → length reached ≡ size → size ≤ k → wanted_bit size reached k ≡ 0
 none_past size reached k volume long past =
@@ -52,17 +50,17 @@ pub table_refused : {T : Type 0} (size : ℕ) (contents now : Contents) (reached
 table_refused size contents now reached result same only wrong faulty = each_error (SettledRefuses size contents) result by_error
   where
     by_error : (e : VolumeError) → result ≡ Err e → SettledRefuses size contents e
-    by_error NotVolume is = absurd (error_has IsTableRefusal result NotVolume is only)
-    by_error BadHome is = absurd (error_has IsTableRefusal result BadHome is only)
-    by_error BadLog is = error_has IsTableRefusal result BadLog is only
-    by_error (BadDirectory n) is = absurd (error_has IsTableRefusal result (BadDirectory n) is only)
-    by_error (BadRetrieval n) is = absurd (error_has IsTableRefusal result (BadRetrieval n) is only)
-    by_error (BlockTwice n) is = absurd (error_has IsTableRefusal result (BlockTwice n) is only)
+    by_error NotVolume is = absurd (refusal IsTableRefusal result NotVolume is only)
+    by_error BadHome is = absurd (refusal IsTableRefusal result BadHome is only)
+    by_error BadLog is = refusal IsTableRefusal result BadLog is only
+    by_error (BadDirectory n) is = absurd (refusal IsTableRefusal result (BadDirectory n) is only)
+    by_error (BadRetrieval n) is = absurd (refusal IsTableRefusal result (BadRetrieval n) is only)
+    by_error (BlockTwice n) is = absurd (refusal IsTableRefusal result (BlockTwice n) is only)
     by_error (TableWrong n) is = faulty n (subst (λ c. IsWrongFor size c reached n) same (wrong n is))
     by_error Device is = tt
     by_error NoMemory is = tt
-    by_error Failed is = error_has IsTableRefusal result Failed is only
-    by_error (BadData n) is = absurd (error_has IsTableRefusal result (BadData n) is only)
+    by_error Failed is = refusal IsTableRefusal result Failed is only
+    by_error (BadData n) is = absurd (refusal IsTableRefusal result (BadData n) is only)
 
 -- what is right of a table is so of one with the same bits
 pub right_bits : (size : ℕ) (contents : Contents) (reached : List Bool) (t u : TableState) → u.bits ≡ t.bits → IsRightFor size contents reached t → IsRightFor size contents reached u

@@ -25,11 +25,12 @@ use Rattle.volume.specs.declared.pending.PendingVersion.{PendingVersion}
 use Rattle.volume.proofs.FoundDirectories.{all_at}
 use Rattle.volume.proofs.Growing.{Adds, added_total, added_growths}
 use Rattle.volume.proofs.MakingHeld.{element_at}
-use Rattle.volume.proofs.MakingLaw.{bit_few, some_or_none}
+use Rattle.volume.proofs.MakingLaw.{bit_few}
 use Rattle.volume.proofs.Pinning.{all_updated}
 use Rattle.volume.proofs.PublishingPuts.{was_whole, published_times, published_inside}
 use Rattle.volume.proofs.PublishingSlots.{set_total, set_each, all_places, set_growths, came, reaches_parts, entered, Counts, counts, turned_total, turned_all}
 use Rattle.volume.proofs.PuttingCore.{waits}
+use Rattle.changeset.specs.PutLaws.{some_or_none}
 
 module _ (size : ℕ) (c c' : VolumeCore) (key : ℕ) (p : PendingVersion) (at : ℕ) (ribs : List ℕ) (puts : List Put) (whole : IsWholeCore size c) (is : Turns size c c' key p at ribs puts) where
   abbrev new : LiveVersion

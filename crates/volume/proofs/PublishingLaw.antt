@@ -33,7 +33,8 @@ use Rattle.volume.specs.Known.{KnownVersion, KnownDirectory, Known, IsKnownFile,
 use Rattle.volume.specs.Publishing.{Before, given_up, files_put_in, files_published, IsPublished}
 use Rattle.volume.proofs.MakingHeld.{reached_in_space, element_at, chain_reached}
 use Rattle.volume.proofs.PublishingPuts.{set_cases, other_key, file_times, given_up_is, was_whole, published_times, published_inside, published_apart, published_stays}
-use Rattle.volume.proofs.MakingLaw.{head_front, some_or_none, bits_same}
+use Rattle.volume.proofs.MakingLaw.{head_front, bits_same}
+use Rattle.changeset.specs.PutLaws.{some_or_none}
 
 -- The map with the file.
 

@@ -19,14 +19,15 @@ use Rattle.meaning.proofs.MapSums.{times-append}
 use Rattle.meaning.proofs.QuietLaws.{each_times}
 use Rattle.meaning.proofs.Walking.{all_front}
 use Rattle.changeset.specs.Puts.{IsPutIn}
-use Rattle.retrieval.proofs.Growing.{all_append}
 use Rattle.volume.specs.Facts.{Facts, facts_of, known_facts}
 use Rattle.volume.specs.Known.{KnownVersion, KnownDirectory, Known, IsKnownDirectory, IsWholeDirectory, IsWholeMap, blocks_reached}
 use Rattle.volume.specs.Publishing.{Before, given_up, IsNamed, IsPublished}
 use Rattle.volume.proofs.FoundDirectories.{all_at}
 use Rattle.volume.proofs.Growing.{one_place}
 use Rattle.volume.proofs.MakingDirectories.{not_put}
-use Rattle.volume.proofs.MakingLaw.{some_or_none, none_mapped}
+use Rattle.volume.proofs.MakingLaw.{none_mapped}
+use Rattle.changeset.specs.PutLaws.{some_or_none}
+use Rattle.meaning.proofs.SlotLaws.{all_append}
 
 -- Lists.
 

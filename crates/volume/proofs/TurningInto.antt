@@ -36,7 +36,7 @@ use Rattle.volume.proofs.PublishingEntries.{inserted_at, inserted_new, entry_rep
 use Rattle.volume.proofs.PublishingKeys.{keys_apart, turned_directories, turned_keyed, replaced_known, replaced_keyed, added_known, added_keyed}
 use Rattle.volume.proofs.PuttingCore.{waits}
 use Rattle.volume.proofs.Turning.{known_place, keys_place, new_here, keyed_here, whole_here, old_version}
-use Rattle.volume.proofs.MakingLaw.{some_or_none}
+use Rattle.changeset.specs.PutLaws.{some_or_none}
 
 apart_keys : (live : List (Option LiveVersion)) (a b : ℕ) (x : LiveVersion) → slot live a ≡ Some x → slot live b ≡ None → a ≡ b → ⊥
 apart_keys live a b x there none same = some_none (sym there ∙ ap (slot live) same ∙ none)

@@ -1,7 +1,7 @@
 -- A version that comes into use, with the blocks that are taken for it and for the chain of its directory.
 use Rattle.std.proofs.Common.{◌≡◌, ⊎_elim, ℕ, ◌+◌, ◌<◌, ◌≤◌, List, [], ◌∷◌, ◌++◌, length, refl, sym, ap, subst, ◌∙◌, arith}
 use Rattle.std.proofs.lemmas.Bool.{cases_eq}
-use Rattle.changeset.specs.PutLaws.{times_head, times_tail}
+use Rattle.changeset.specs.PutLaws.{times_head, times_tail, some_or_none}
 use Rattle.meaning.specs.Faults.{InSpace}
 use Rattle.meaning.specs.Maps.{times}
 use Rattle.meaning.proofs.MapSums.{times-append}
@@ -14,7 +14,7 @@ use Rattle.volume.specs.Known.{blocks_reached}
 use Rattle.volume.specs.Making.{taken, brought}
 use Rattle.volume.specs.Publishing.{Marks, Brings, BringsVersion}
 use Rattle.volume.proofs.BlockLists.{marks_none, marks_then, marks_counts, held_inside, brings_none, brings_then, brings_one}
-use Rattle.volume.proofs.MakingLaw.{bit_few, some_or_none}
+use Rattle.volume.proofs.MakingLaw.{bit_few}
 
 -- Blocks that are taken.
 

@@ -20,13 +20,11 @@ use crate::pending::PendingVersion;
 use crate::query::directory_place;
 use blockdisk::Disk;
 use meaning::ErrorCode;
+use meaning::layout::BLOCK_ENTRIES;
 use retrieval::{Prime, Version};
 use slab::Slab;
 use std::alloc::Global;
 use words36::Ppn;
-
-/// How many entries a block of a directory has.
-const BLOCK_ENTRIES: u64 = 42;
 
 /// 1 for a version that will be a new entry of this directory, else 0.
 fn creates(version: &PendingVersion, ppn: Ppn) -> u64
@@ -52,7 +50,7 @@ fn growth(entries: u64) -> u32
     ensures value { result ≡ growth entries }
     ensures few { result < 2 }
 {
-    u32::from(entries != 0 && entries % BLOCK_ENTRIES == 0)
+    u32::from(entries != 0 && entries % BLOCK_ENTRIES as u64 == 0)
 }
 
 /// By how much the cost of the directory at a place grows with one entry more than it has and than are being

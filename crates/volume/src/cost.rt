@@ -15,16 +15,22 @@ ghost use Rattle.volume.specs.Live.{VolumeCore, IsWholeCore};
 use crate::map::StoredDirectory;
 use alloctab::Table;
 use directory::{Chain, MasterEntry};
-use retrieval::Version;
+use retrieval::{Version, rib_count};
 
-/// What a version costs, in blocks: its data blocks, a prime retrieval block, and an extension for each
-/// 126 blocks after the first 112.
+/// What a version of so many data blocks costs: these, a prime retrieval block, and the ribs that they ask for.
+pub fn cost_of_blocks(blocks: u32) -> u32
+    requires { blocks ≤ most_blocks }
+    ensures { result ≡ cost_of_blocks blocks }
+{
+    blocks + 1 + rib_count(blocks as usize) as u32
+}
+
+/// What a version costs, in blocks.
 pub fn version_cost(version: &Version) -> u32
     requires { length version.now.blocks ≤ most_blocks }
     ensures { result ≡ cost_of_blocks (length version.now.blocks) }
 {
-    let blocks = version.blocks().len() as u32;
-    blocks + 1 + blocks.saturating_sub(112).div_ceil(126)
+    cost_of_blocks(version.blocks().len() as u32)
 }
 
 /// Books what a directory costs with all its files.

@@ -12,13 +12,12 @@ ghost use Rattle.volume.specs.declared.error.VolumeError.{VolumeError};
 ghost use Rattle.volume.specs.declared.error.VolumeError.TheVariants.{NotVolume, Device};
 
 use crate::VolumeError;
-use crate::home::{HOME_COPIES, home_block};
-use crate::regions::{BLOCKS_IN_TABLE, FIRST_BLOCKS, is_volume_size, space_start, table_start};
+use crate::home::home_block;
 use blockdisk::{Disk, Fault};
+use meaning::layout::{
+    HOME_COPIES, LOG_START, TABLE_BLOCK_BITS, WORD_BITS, is_volume_size, space_start, table_start,
+};
 use words36::{BLOCK_WORDS, Block, Word};
-
-/// How many bits a word of the allocation table has.
-const WORD_BITS: u32 = 36;
 
 /// Makes a volume with no directory of a disk of 64 to 131072 blocks. The blocks behind the master
 /// directory's first, and the log's images, stay as they are. A disk whose making was stopped by a crash
@@ -70,7 +69,7 @@ fn write_volume<D: Disk>(disk: &mut D) -> Result<(), Fault>
     ensures served { OnOk result ((D.state disk.new).failures ≡ (D.state disk.old).failures) }
 {
     let size = disk.blocks();
-    write_fresh(disk, 0, FIRST_BLOCKS)?;
+    write_fresh(disk, 0, LOG_START)?;
     write_fresh(disk, table_start(size), space_start(size) + 1)?;
     disk.sync()
 }
@@ -117,7 +116,10 @@ fn table_block(i: u32, limit: u32) -> Block
 {
     let mut words = [Word::ZERO; BLOCK_WORDS];
     for place in 0..BLOCK_WORDS {
-        words[place] = table_word(i * BLOCKS_IN_TABLE + place as u32 * WORD_BITS, limit);
+        words[place] = table_word(
+            i * TABLE_BLOCK_BITS as u32 + (place * WORD_BITS) as u32,
+            limit,
+        );
     }
     words
 }
@@ -129,7 +131,7 @@ fn table_word(from: u32, limit: u32) -> Word
     ensures { result ≡ number_of (bit_below limit) from 36 }
 {
     let mut number = 0;
-    for place in 0..WORD_BITS {
+    for place in 0..WORD_BITS as u32 {
         number = number * 2 + u64::from(from + place < limit);
     }
     Word::from_bits(number)

@@ -9,18 +9,12 @@ ghost use Rattle.volume.specs.declared.error.VolumeError.{VolumeError};
 ghost use Rattle.volume.specs.declared.error.VolumeError.TheVariants.{NotVolume, BadHome, Device};
 
 use crate::VolumeError;
-use crate::regions::{is_in_space, is_volume_size, log_images, table_blocks};
 use blockdisk::{Disk, Fault};
+use meaning::layout::{HOME_COPIES, LAYOUT, is_in_space, is_volume_size, log_images, table_blocks};
 use words36::{BLOCK_WORDS, Block, Word};
-
-/// The blocks of the home copies.
-pub const HOME_COPIES: [u32; 2] = [1, 2];
 
 /// FILSER in SIXBIT, the first word of a home copy.
 const HOME_WORD: u64 = 0o465154634562;
-
-/// The layout of a volume.
-const LAYOUT: u64 = 1;
 
 /// The place of the word in a home copy that names the first block of the master directory.
 const MASTER_PLACE: usize = 5;

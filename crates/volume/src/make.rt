@@ -42,19 +42,6 @@ pub struct FreshBlocks {
     pub master: Option<u32>,
 }
 
-/// Takes a free block. There is one where fewer are used than are booked.
-pub(crate) fn take_block(table: &mut Table) -> u32
-    requires used { used_in_space table.old < table.old.booked }
-    requires room { table.old.booked ≤ space table.old.size }
-    ensures free { (result < table.old.size) × IsFree table.old result }
-    ensures held { table.new ≡ with_held table.old result (holds table.old result + 1) }
-{
-    match table.take() {
-        Some(n) => n,
-        None => unreachable!(),
-    }
-}
-
 /// Takes the blocks for a new directory, which are booked.
 fn take_blocks(table: &mut Table, grows: bool) -> FreshBlocks
     requires sound { IsTable table.old }
@@ -64,7 +51,7 @@ fn take_blocks(table: &mut Table, grows: bool) -> FreshBlocks
     ensures taken { Takes table.old (fresh_list result) table.new }
     ensures count { length (option_to_list result.master) ≡ (if grows then 1 else 0) }
 {
-    let directory = take_block(table);
+    let directory = table.take_block();
     if !grows {
         return FreshBlocks {
             directory,
@@ -73,7 +60,7 @@ fn take_blocks(table: &mut Table, grows: bool) -> FreshBlocks
     }
     FreshBlocks {
         directory,
-        master: Some(take_block(table)),
+        master: Some(table.take_block()),
     }
 }
 

@@ -24,7 +24,7 @@ ghost use Rattle.volume.specs.declared.error.CallError.TheVariants.{Refused, Dev
 ghost use Rattle.volume.specs.declared.pending.PendingVersion.{PendingVersion};
 
 use crate::CallError;
-use crate::cost::version_cost;
+use crate::cost::{cost_of_blocks, version_cost};
 use crate::handles::Pending;
 use crate::live::LiveMap;
 use crate::map::Volume;
@@ -32,12 +32,10 @@ use crate::pending::PendingVersion;
 use alloctab::Table;
 use blockdisk::Disk;
 use meaning::ErrorCode;
+use meaning::layout::MOST_WORDS;
 use retrieval::{BodyError, Version, put_words};
 use slab::Slab;
 use words36::{BLOCK_WORDS, Word};
-
-/// How many words a file may have: 16384 blocks of them.
-const MOST_WORDS: u64 = 16384 * 128;
 
 /// How many words a body of `words` has once `count` are put at block `block`, counted from 1; `None` where
 /// that is more than a file may have.
@@ -51,7 +49,8 @@ pub(crate) fn length_with(words: u32, block: u32, count: usize) -> Option<u32>
 {
     let start = u64::from(block - 1) * BLOCK_WORDS as u64;
     let count = count as u64;
-    if start > MOST_WORDS || count > MOST_WORDS - start {
+    let most = u64::from(MOST_WORDS);
+    if start > most || count > most - start {
         return None;
     }
     Some(words.max((start + count) as u32))
@@ -70,7 +69,7 @@ pub(crate) fn growth(version: &Version, block: u32, count: usize) -> Option<u32>
 {
     let after = length_with(version.length(), block, count)?;
     let blocks = after.div_ceil(BLOCK_WORDS as u32);
-    Some(blocks + 1 + blocks.saturating_sub(112).div_ceil(126) - version_cost(version))
+    Some(cost_of_blocks(blocks) - version_cost(version))
 }
 
 /// Puts words into a version, once so many blocks more are booked as it costs more then. Where they can't be

@@ -17,10 +17,10 @@ use crate::CallError;
 use crate::file_facts::FileFacts;
 use crate::live::{LiveDirectory, LiveVersion};
 use crate::map::Volume;
-use crate::regions::space_start;
 use blockdisk::Disk;
 use directory::{Chain, MasterEntry};
 use meaning::ErrorCode;
+use meaning::layout::space_start;
 use slab::Slab;
 use words36::{FileName, Ppn};
 

@@ -23,7 +23,7 @@ ghost use Rattle.volume.specs.declared.pending.PendingVersion.{PendingVersion};
 use crate::blocks::{bring_all, clear_all, hold_all};
 use crate::cost::version_cost;
 use crate::live::{LiveDirectory, LiveMap, LiveVersion};
-use crate::make::{take_block, use_block};
+use crate::make::use_block;
 use crate::pending::PendingVersion;
 use crate::query::directory_place;
 use crate::supplies::Supplies;
@@ -50,7 +50,11 @@ fn take_for_chain(table: &mut Table, grows: bool) -> Option<u32>
     ensures taken { Takes table.old (option_to_list result) table.new }
     ensures count { length (option_to_list result) ≡ (if grows then 1 else 0) }
 {
-    if grows { Some(take_block(table)) } else { None }
+    if grows {
+        Some(table.take_block())
+    } else {
+        None
+    }
 }
 
 /// Takes the blocks that a version wants besides its data blocks, and brings all of them into use: their bits are

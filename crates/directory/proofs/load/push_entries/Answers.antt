@@ -2,7 +2,8 @@ use Rattle.std.proofs.Common.{◌∙◌, sym, ap, arith, map, append-nil, ◌++�
 use Rattle.std.proofs.lemmas.List.{take_all}
 use Rattle.std.proofs.lemmas.Result.{err_from_is_err_and}
 use Rattle.directory.specs.declared.load.AddError.TheVariants.{Outside, Again}
-use Rattle.directory.proofs.EntryReading.{pushed, one_outside, one_again, handed_on}
+use Rattle.directory.proofs.EntryReading.{pushed, one_outside, one_again}
+use Rattle.changeset.proofs.Reading.{passed_on}
 use Rattle.directory.proofs.load.push_entries.Goals as goal
 
 pub loop-i-init : goal.loop-i-init
@@ -16,14 +17,14 @@ returns-in_err-push_entry-clause-outside g c is next es s many =
     let p = err_from_is_err_and c.from_residual.result c.from_residual.ensures.1 in
     one_outside g.met.E.Entry.total g.E.Entry.words_of g.met.E.Entry.apart g.E.Entry.IsEntry g.E.Entry.target c.args.size c.args.block.now c.entry_words.result c.args.count c.loop-i.i c.loop-i-test.true
     c.told-block c.entry_words.ensures next es s many
-    (c.push_entry.ensures.outside (handed_on c.from_residual.result c.push_entry.result p.0 c.in_err-push_entry.field-0.0 Outside is p.1 p.2 c.in_err-push_entry.was))
+    (c.push_entry.ensures.outside (passed_on c.from_residual.result c.push_entry.result p.0 c.in_err-push_entry.field-0.0 Outside is p.1 p.2 c.in_err-push_entry.was))
 
 pub returns-in_err-push_entry-clause-again : goal.returns-in_err-push_entry-clause-again
 returns-in_err-push_entry-clause-again g c is next es s many =
     let p = err_from_is_err_and c.from_residual.result c.from_residual.ensures.1 in
     one_again g.met.E.Entry.total g.E.Entry.words_of g.met.E.Entry.apart g.E.Entry.IsEntry g.E.Entry.target c.args.size c.args.block.now c.entry_words.result c.args.count c.loop-i.i c.loop-i-test.true
     c.told-block c.entry_words.ensures next es s many (map g.E.Entry.view c.args.entries.now.items) (map g.E.Entry.view c.loop-i.entries.items) (c.loop-i.invariant.so_far next es s many)
-    (c.push_entry.ensures.again (handed_on c.from_residual.result c.push_entry.result p.0 c.in_err-push_entry.field-0.0 Again is p.1 p.2 c.in_err-push_entry.was))
+    (c.push_entry.ensures.again (passed_on c.from_residual.result c.push_entry.result p.0 c.in_err-push_entry.field-0.0 Again is p.1 p.2 c.in_err-push_entry.was))
 
 pub loop-i-preserved : goal.loop-i-preserved
 loop-i-preserved g c = record {

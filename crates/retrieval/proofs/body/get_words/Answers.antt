@@ -7,9 +7,9 @@ use Rattle.blockdisk.specs.Laws.{same_disk_on}
 use Rattle.meaning.specs.Splices.{block_start}
 use Rattle.retrieval.specs.declared.error.BodyError.TheVariants.{BadData}
 use Rattle.meaning.proofs.MapLaws.{some_none}
-use Rattle.retrieval.proofs.RunLists.{handed_on}
 use Rattle.retrieval.proofs.Readings.{keeps_on}
 use Rattle.retrieval.proofs.Parts.{whole_from, damaged_at, read_more, read_all}
+use Rattle.changeset.proofs.Reading.{passed_on}
 use Rattle.retrieval.proofs.body.get_words.Goals as goal
 
 pub returns-in_err-data-clause-damaged : goal.returns-in_err-data-clause-damaged
@@ -18,7 +18,7 @@ returns-in_err-data-clause-damaged g c h k is =
     let at : ℕ = c.args.block - 1 + c.loop-i.i in
     let below : at < length c.args.version.now.blocks = let b = c.loop-i-test.true in let e = c.words_there-wanted.ensures in let f = c.requires.counted in let d = c.requires.first in omega (arith, c.length.ensures) in
     let p = err_from_is_err_and c.from_residual-in_err-data.result c.from_residual-in_err-data.ensures.1 in
-    let e = c.read_data.ensures.bad h k (handed_on c.from_residual-in_err-data.result c.read_data.result p.0 c.in_err-data.field-0.0 (BadData k) is p.1 p.2 c.in_err-data.was) in
+    let e = c.read_data.ensures.bad h k (passed_on c.from_residual-in_err-data.result c.read_data.result p.0 c.in_err-data.field-0.0 (BadData k) is p.1 p.2 c.in_err-data.was) in
     damaged_at s.contents (g.D.Disk.state c.loop-i.disk).contents c.args.version.now.blocks c.blocks-blocks.result.now k at c.blocks-blocks.ensures below e.0 e.1 (c.loop-i.invariant.keeps (c.read_data.ensures.same.was_honest h)).contents
 
 pub returns-in_err-data-clause-keeps : goal.returns-in_err-data-clause-keeps

@@ -1,9 +1,9 @@
 use Rattle.std.proofs.Common.{length, refl}
 use Rattle.std.proofs.lemmas.Result.{err_from_is_err_and}
 use Rattle.retrieval.specs.declared.error.BodyError.TheVariants.{BadData}
-use Rattle.retrieval.proofs.RunLists.{handed_on}
 use Rattle.retrieval.proofs.Parts.{damaged_at}
 use Rattle.retrieval.proofs.Staying.{stays_none, stays_some, edge_below}
+use Rattle.changeset.proofs.Reading.{passed_on}
 use Rattle.retrieval.proofs.kept.read_kept.Goals as goal
 
 pub returns-in_default-clause-kept : goal.returns-in_default-clause-kept
@@ -13,7 +13,7 @@ pub returns-in_err-block-clause-damaged : goal.returns-in_err-block-clause-damag
 returns-in_err-block-clause-damaged g c h k is =
     let s = g.D.Disk.state c.args.disk.now in
     let p = err_from_is_err_and c.from_residual.result c.from_residual.ensures.1 in
-    let e = c.read_data.ensures.bad h k (handed_on c.from_residual.result c.read_data.result p.0 c.in_err-block.field-0.0 (BadData k) is p.1 p.2 c.in_err-block.was) in
+    let e = c.read_data.ensures.bad h k (passed_on c.from_residual.result c.read_data.result p.0 c.in_err-block.field-0.0 (BadData k) is p.1 p.2 c.in_err-block.was) in
     damaged_at s.contents s.contents c.args.blocks.now c.args.blocks.now k c.in-Some.place refl (edge_below c.args.total c.args.at c.args.count c.in-Some.place (length c.args.blocks.now) c.in-Some.ensures.some c.requires.counted) e.0 e.1 (λ n. refl)
 
 pub returns-clause-kept : goal.returns-clause-kept

@@ -7,24 +7,24 @@ use Rattle.meaning.specs.Costs.{blocks_of}
 use Rattle.retrieval.specs.Versions.{VersionState}
 use Rattle.retrieval.specs.Reading.{IsReadTo, IsVersionAt}
 use Rattle.retrieval.specs.declared.error.RetrievalError.TheVariants.{BadRetrieval}
-use Rattle.retrieval.proofs.RunLists.{handed_on}
 use Rattle.retrieval.proofs.Readings.{keeps_on, read_started, read_more, damaged_extension, bad_extension, bad_overfilled, read_whole, bad_count, damaged_prime, bad_prime, extended_longer, none_wrong, extended_blocks, extended_ribs, falls, bad_of}
 use Rattle.retrieval.proofs.RibCounts.{started_filled, extended_filled, filled_few}
 use Rattle.retrieval.proofs.Whole.{read_as}
+use Rattle.changeset.proofs.Reading.{passed_on}
 use Rattle.retrieval.proofs.read.read_version.Goals as goal
 
 pub returns-in_err-block-clause-bad : goal.returns-in_err-block-clause-bad
 returns-in_err-block-clause-bad g c h k is =
     let s = g.D.Disk.state c.args.disk.now in
     let p = err_from_is_err_and c.from_residual.result c.from_residual.ensures.1 in
-    let e = c.read_block.ensures.bad h k (handed_on c.from_residual.result c.read_block.result p.0 c.in_err-block.field-0.0 (BadRetrieval k) is p.1 p.2 c.in_err-block.was) in
+    let e = c.read_block.ensures.bad h k (passed_on c.from_residual.result c.read_block.result p.0 c.in_err-block.field-0.0 (BadRetrieval k) is p.1 p.2 c.in_err-block.was) in
     bad_of s.size s.size s.contents c.args.at k c.args.at (λ i. s.size) e.0 (damaged_prime s.size s.contents c.args.at e.1)
 
 pub returns-in_err-prime-clause-bad : goal.returns-in_err-prime-clause-bad
 returns-in_err-prime-clause-bad g c h k is =
     let s = g.D.Disk.state c.args.disk.now in
     let p = err_from_is_err_and c.from_residual-in_err-prime.result c.from_residual-in_err-prime.ensures.1 in
-    let e = c.start_version.ensures.bad k (handed_on c.from_residual-in_err-prime.result c.start_version.result p.0 c.in_err-prime.field-0.0 (BadRetrieval k) is p.1 p.2 c.in_err-prime.was) in
+    let e = c.start_version.ensures.bad k (passed_on c.from_residual-in_err-prime.result c.start_version.result p.0 c.in_err-prime.field-0.0 (BadRetrieval k) is p.1 p.2 c.in_err-prime.was) in
     bad_of c.blocks-size.result s.size s.contents c.args.at k c.args.at c.blocks-size.ensures e.0 (bad_prime c.blocks-size.result s.contents c.args.at c.in_ok-block.block (c.in_ok-block.ensures.words h) e.1)
 
 pub loop-next-init : goal.loop-next-init
@@ -51,7 +51,7 @@ returns-in_err-block-2-clause-bad g c h k is =
     let some : 0 < next = let e = c.loop-next-test.true in omega arith in
     let p = err_from_is_err_and c.from_residual-in_err-block-2.result c.from_residual-in_err-block-2.ensures.1 in
     let e = c.read_block-in-loop-next.ensures.bad h k
-    (handed_on c.from_residual-in_err-block-2.result c.read_block-in-loop-next.result p.0 c.in_err-block-2.field-0.0 (BadRetrieval k) is p.1 p.2 c.in_err-block-2.was) in
+    (passed_on c.from_residual-in_err-block-2.result c.read_block-in-loop-next.result p.0 c.in_err-block-2.field-0.0 (BadRetrieval k) is p.1 p.2 c.in_err-block-2.was) in
     bad_of c.blocks-size.result s.size s.contents c.args.at k next c.blocks-size.ensures e.0
     (damaged_extension c.blocks-size.result s.contents c.args.at c.in_ok-prime.prime c.loop-next.version next (c.loop-next.invariant.read (c.read_block-in-loop-next.ensures.same.was_honest h)) some (sym ((c.loop-next.invariant.keeps (c.read_block-in-loop-next.ensures.same.was_honest h)).contents next) ∙ e.1))
 
@@ -73,7 +73,7 @@ returns-in_err-next-clause-bad g c h k is =
     ⊎_elim
     (λ x. bad_of size s.size s.contents c.args.at k next c.blocks-size.ensures x.0 (bad_extension size s.contents c.args.at c.in_ok-prime.prime c.loop-next.version next read words some has x.1))
     (λ x. bad_of size s.size s.contents c.args.at k c.args.at c.blocks-size.ensures x.0 (bad_overfilled size s.contents c.args.at c.in_ok-prime.prime c.loop-next.version next read words some has x.1))
-    (c.extend_version.ensures.bad k (handed_on c.from_residual-in_err-next.result c.extend_version.result p.0 c.in_err-next.field-0.0 (BadRetrieval k) is p.1 p.2 c.in_err-next.was))
+    (c.extend_version.ensures.bad k (passed_on c.from_residual-in_err-next.result c.extend_version.result p.0 c.in_err-next.field-0.0 (BadRetrieval k) is p.1 p.2 c.in_err-next.was))
 
 pub returns-in_err-next-clause-keeps : goal.returns-in_err-next-clause-keeps
 returns-in_err-next-clause-keeps g c h =
@@ -151,12 +151,12 @@ returns-clause-counted g c = sym (ap length c.blocks-2.ensures) ∙ c.if-blocks-
 pub returns-in_err-block-clause-named : goal.returns-in_err-block-clause-named
 returns-in_err-block-clause-named g c k is =
     let p = err_from_is_err_and c.from_residual.result c.from_residual.ensures.1 in
-    inl (c.read_block.ensures.named k (handed_on c.from_residual.result c.read_block.result p.0 c.in_err-block.field-0.0 (BadRetrieval k) is p.1 p.2 c.in_err-block.was))
+    inl (c.read_block.ensures.named k (passed_on c.from_residual.result c.read_block.result p.0 c.in_err-block.field-0.0 (BadRetrieval k) is p.1 p.2 c.in_err-block.was))
 
 pub returns-in_err-prime-clause-named : goal.returns-in_err-prime-clause-named
 returns-in_err-prime-clause-named g c k is =
     let p = err_from_is_err_and c.from_residual-in_err-prime.result c.from_residual-in_err-prime.ensures.1 in
-    inl (c.start_version.ensures.bad k (handed_on c.from_residual-in_err-prime.result c.start_version.result p.0 c.in_err-prime.field-0.0 (BadRetrieval k) is p.1 p.2 c.in_err-prime.was)).0
+    inl (c.start_version.ensures.bad k (passed_on c.from_residual-in_err-prime.result c.start_version.result p.0 c.in_err-prime.field-0.0 (BadRetrieval k) is p.1 p.2 c.in_err-prime.was)).0
 
 pub returns-in_err-block-2-clause-named : goal.returns-in_err-block-2-clause-named
 returns-in_err-block-2-clause-named g c k is =
@@ -166,7 +166,7 @@ returns-in_err-block-2-clause-named g c k is =
     let here : InSpace size next = subst (λ (n : ℕ). InSpace n next) c.blocks-size.ensures (c.loop-next.invariant.next_inside some) in
     let p = err_from_is_err_and c.from_residual-in_err-block-2.result c.from_residual-in_err-block-2.ensures.1 in
     inr (subst (InSpace size)
-    (sym (c.read_block-in-loop-next.ensures.named k (handed_on c.from_residual-in_err-block-2.result c.read_block-in-loop-next.result p.0 c.in_err-block-2.field-0.0 (BadRetrieval k) is p.1 p.2 c.in_err-block-2.was))) here)
+    (sym (c.read_block-in-loop-next.ensures.named k (passed_on c.from_residual-in_err-block-2.result c.read_block-in-loop-next.result p.0 c.in_err-block-2.field-0.0 (BadRetrieval k) is p.1 p.2 c.in_err-block-2.was))) here)
 
 pub returns-in_err-next-clause-named : goal.returns-in_err-next-clause-named
 returns-in_err-next-clause-named g c k is =
@@ -176,7 +176,7 @@ returns-in_err-next-clause-named g c k is =
     let here : InSpace size next = subst (λ (n : ℕ). InSpace n next) c.blocks-size.ensures (c.loop-next.invariant.next_inside some) in
     let p = err_from_is_err_and c.from_residual-in_err-next.result c.from_residual-in_err-next.ensures.1 in
     ⊎_elim (λ x. inr (subst (InSpace size) (sym x.0) here)) (λ x. inl x.0)
-    (c.extend_version.ensures.bad k (handed_on c.from_residual-in_err-next.result c.extend_version.result p.0 c.in_err-next.field-0.0 (BadRetrieval k) is p.1 p.2 c.in_err-next.was))
+    (c.extend_version.ensures.bad k (passed_on c.from_residual-in_err-next.result c.extend_version.result p.0 c.in_err-next.field-0.0 (BadRetrieval k) is p.1 p.2 c.in_err-next.was))
 
 pub returns-then-blocks-blocks_of-clause-named : goal.returns-then-blocks-blocks_of-clause-named
 returns-then-blocks-blocks_of-clause-named g c k is = inl (cc)

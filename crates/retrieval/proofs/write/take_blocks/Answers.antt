@@ -29,7 +29,7 @@ loop-i-preserved c =
     let n = c.take_block.result in
     let taken = takes_more c.args.table.now (take c.loop-i.i c.loop-i.blocks) now n c.loop-i.invariant.taken c.take_block.ensures.free.0 c.take_block.ensures.free.1 in
     record {
-      taken = subst (λ (l : List ℕ). Takes c.args.table.now l c.take_block.new.table) (sym (take_more_set c.loop-i.blocks c.loop-i.i n (let a = c.loop-i.invariant.long in let b = c.loop-i-test.true in omega arith)))
+      taken = subst (λ (l : List ℕ). Takes c.args.table.now l c.take_block.new.self) (sym (take_more_set c.loop-i.blocks c.loop-i.i n (let a = c.loop-i.invariant.long in let b = c.loop-i-test.true in omega arith)))
           (subst (λ (t : TableState). Takes c.args.table.now (first ++ c.take_block.result ∷ []) t) (sym c.take_block.ensures.held) taken);
       long = length-set c.loop-i.blocks c.loop-i.i n ∙ c.loop-i.invariant.long;
     }

@@ -6,7 +6,7 @@ use Rattle.meaning.specs.Faults.{InSpace}
 use Rattle.meaning.specs.Maps.{times}
 use Rattle.meaning.proofs.MapSums.{times-append}
 use Rattle.retrieval.specs.Versions.{VersionState}
-use Rattle.retrieval.proofs.Growing.{all_append}
+use Rattle.meaning.proofs.SlotLaws.{all_append}
 use Rattle.retrieval_tests.proofs.body_tests.held_version.Goals as goal
 
 pub loop-place-preserved : goal.loop-place-preserved

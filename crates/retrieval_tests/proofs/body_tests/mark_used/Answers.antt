@@ -2,8 +2,7 @@ use Rattle.std.proofs.Common.{◌≡◌, ◌+◌, ◌-◌, ◌<◌, ◌≤◌, �
 use Rattle.meaning.specs.Faults.{InSpace}
 use Rattle.meaning.specs.Regions.{space_start}
 use Rattle.alloctab.specs.TableState.{TableState, IsTable, bit, holds, space, with_bit, uses}
-use Rattle.alloctab.specs.TableLaws.{bit-with_bit_same, bit-with_bit_other}
-use Rattle.retrieval.proofs.Holding.{sum_but_one}
+use Rattle.alloctab.specs.TableLaws.{bit-with_bit_same, bit-with_bit_other, sum_but_one}
 use Rattle.retrieval_tests.proofs.body_tests.mark_used.Goals as goal
 
 uses-with_bit : (t : TableState) (n : ℕ) → IsTable t → space_start t.size ≤ n → n < t.size → uses (with_bit t n true) + bit t n ≡ uses t + 1

@@ -4,7 +4,8 @@ use Rattle.meaning.specs.Maps.{times}
 use Rattle.meaning.specs.Faults.{InSpace}
 use Rattle.retrieval.proofs.Readings.{keeps_on}
 use Rattle.volume.specs.FileReading.{IsWholeBlock}
-use Rattle.volume.proofs.Marking.{all_at, all_more, times_at}
+use Rattle.volume.proofs.Marking.{all_at, all_more}
+use Rattle.directory.proofs.ChainPuts.{times_get}
 use Rattle.volume.proofs.files.read_data.Goals as goal
 
 pub returns-in-Err-Damaged-clause-damaged : goal.returns-in-Err-Damaged-clause-damaged
@@ -15,7 +16,7 @@ returns-in-Err-Damaged-clause-damaged g c h k is =
     let block = slice_index_or blocks i 0 in
     let same : block ≡ k = cc in
     let none : s.contents block ≡ None = sym ((c.loop-block.invariant.keeps (c.in-Err-Damaged.ensures.same.was_honest h)).contents block) ∙ c.in-Err-Damaged.ensures.damaged h (cc) in
-    subst (λ (n : ℕ). (0 < times n blocks) × (s.contents n ≡ None)) same (times_at blocks i c.loop-block-test.true, none)
+    subst (λ (n : ℕ). (0 < times n blocks) × (s.contents n ≡ None)) same (times_get blocks i c.loop-block-test.true, none)
 
 pub loop-block-preserved : goal.loop-block-preserved
 loop-block-preserved g c =

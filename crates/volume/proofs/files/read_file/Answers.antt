@@ -5,7 +5,6 @@ use Rattle.blockdisk.specs.Laws.{same_contents}
 use Rattle.blockdisk.specs.Disk.{Contents}
 use Rattle.meaning.specs.Maps.{times}
 use Rattle.meaning.specs.Faults.{InSpace}
-use Rattle.retrieval.proofs.RunLists.{handed_on}
 use Rattle.retrieval.proofs.Readings.{keeps_on}
 use Rattle.volume.specs.FileReading.{IsWholeBlock, IsVersionRefusal, IsDataRefusal, IsFileRefusal}
 use Rattle.volume.specs.declared.error.VolumeError.TheVariants.{BadRetrieval, BlockTwice, NoMemory, BadData}
@@ -14,17 +13,18 @@ use Rattle.volume.proofs.FoundDirectories.{all_behind_all, all_times_at}
 use Rattle.volume.proofs.Handing.{handed, version_named, data_named, named_on}
 use Rattle.volume.proofs.Marking.{all_weaker}
 use Rattle.volume.proofs.Finding.{refusal, refused_on, version_wider, data_wider, file_found, reached_twice, damaged_data}
+use Rattle.changeset.proofs.Reading.{passed_on}
 use Rattle.volume.proofs.files.read_file.Goals as goal
 
 pub returns-in_err-stored-clause-twice : goal.returns-in_err-stored-clause-twice
 returns-in_err-stored-clause-twice g c h k is =
     let p = err_from_is_err_and c.from_residual.result c.from_residual.ensures.1 in
-    absurd (refusal IsVersionRefusal c.read_named.result (BlockTwice k) (handed_on c.from_residual.result c.read_named.result p.0 c.in_err-stored.field-0.0 (BlockTwice k) is p.1 p.2 c.in_err-stored.was) c.read_named.ensures.only)
+    absurd (refusal IsVersionRefusal c.read_named.result (BlockTwice k) (passed_on c.from_residual.result c.read_named.result p.0 c.in_err-stored.field-0.0 (BlockTwice k) is p.1 p.2 c.in_err-stored.was) c.read_named.ensures.only)
 
 pub returns-in_err-stored-clause-bad_data : goal.returns-in_err-stored-clause-bad_data
 returns-in_err-stored-clause-bad_data g c h k is =
     let p = err_from_is_err_and c.from_residual.result c.from_residual.ensures.1 in
-    absurd (refusal IsVersionRefusal c.read_named.result (BadData k) (handed_on c.from_residual.result c.read_named.result p.0 c.in_err-stored.field-0.0 (BadData k) is p.1 p.2 c.in_err-stored.was) c.read_named.ensures.only)
+    absurd (refusal IsVersionRefusal c.read_named.result (BadData k) (passed_on c.from_residual.result c.read_named.result p.0 c.in_err-stored.field-0.0 (BadData k) is p.1 p.2 c.in_err-stored.was) c.read_named.ensures.only)
 
 pub returns-in_err-stored-clause-only : goal.returns-in_err-stored-clause-only
 returns-in_err-stored-clause-only g c =
@@ -53,17 +53,17 @@ returns-in-Err-clause-twice g c h k is =
 pub returns-in_err-read_data-clause-memory : goal.returns-in_err-read_data-clause-memory
 returns-in_err-read_data-clause-memory g c is =
     let p = err_from_is_err_and c.from_residual-in_err-read_data.result c.from_residual-in_err-read_data.ensures.1 in
-    absurd (refusal IsDataRefusal c.read_data.result NoMemory (handed_on c.from_residual-in_err-read_data.result c.read_data.result p.0 c.in_err-read_data.field-0.0 NoMemory is p.1 p.2 c.in_err-read_data.was) c.read_data.ensures.only)
+    absurd (refusal IsDataRefusal c.read_data.result NoMemory (passed_on c.from_residual-in_err-read_data.result c.read_data.result p.0 c.in_err-read_data.field-0.0 NoMemory is p.1 p.2 c.in_err-read_data.was) c.read_data.ensures.only)
 
 pub returns-in_err-read_data-clause-bad_version : goal.returns-in_err-read_data-clause-bad_version
 returns-in_err-read_data-clause-bad_version g c h k is =
     let p = err_from_is_err_and c.from_residual-in_err-read_data.result c.from_residual-in_err-read_data.ensures.1 in
-    absurd (refusal IsDataRefusal c.read_data.result (BadRetrieval k) (handed_on c.from_residual-in_err-read_data.result c.read_data.result p.0 c.in_err-read_data.field-0.0 (BadRetrieval k) is p.1 p.2 c.in_err-read_data.was) c.read_data.ensures.only)
+    absurd (refusal IsDataRefusal c.read_data.result (BadRetrieval k) (passed_on c.from_residual-in_err-read_data.result c.read_data.result p.0 c.in_err-read_data.field-0.0 (BadRetrieval k) is p.1 p.2 c.in_err-read_data.was) c.read_data.ensures.only)
 
 pub returns-in_err-read_data-clause-twice : goal.returns-in_err-read_data-clause-twice
 returns-in_err-read_data-clause-twice g c h k is =
     let p = err_from_is_err_and c.from_residual-in_err-read_data.result c.from_residual-in_err-read_data.ensures.1 in
-    absurd (refusal IsDataRefusal c.read_data.result (BlockTwice k) (handed_on c.from_residual-in_err-read_data.result c.read_data.result p.0 c.in_err-read_data.field-0.0 (BlockTwice k) is p.1 p.2 c.in_err-read_data.was) c.read_data.ensures.only)
+    absurd (refusal IsDataRefusal c.read_data.result (BlockTwice k) (passed_on c.from_residual-in_err-read_data.result c.read_data.result p.0 c.in_err-read_data.field-0.0 (BlockTwice k) is p.1 p.2 c.in_err-read_data.was) c.read_data.ensures.only)
 
 pub returns-in_err-read_data-clause-bad_data : goal.returns-in_err-read_data-clause-bad_data
 returns-in_err-read_data-clause-bad_data g c h k is =
@@ -71,7 +71,7 @@ returns-in_err-read_data-clause-bad_data g c h k is =
     let read = g.D.Disk.state c.read_named.new.disk in
     let v = c.in_ok-stored.stored in
     let p = err_from_is_err_and c.from_residual-in_err-read_data.result c.from_residual-in_err-read_data.ensures.1 in
-    let bad = c.read_data.ensures.damaged h k (handed_on c.from_residual-in_err-read_data.result c.read_data.result p.0 c.in_err-read_data.field-0.0 (BadData k) is p.1 p.2 c.in_err-read_data.was) in
+    let bad = c.read_data.ensures.damaged h k (passed_on c.from_residual-in_err-read_data.result c.read_data.result p.0 c.in_err-read_data.field-0.0 (BadData k) is p.1 p.2 c.in_err-read_data.was) in
     damaged_data s.size s.contents c.args.ppn c.args.name c.args.prime v.prime v.version (c.in_ok-stored.ensures.ok (c.read_data.ensures.same.was_honest h)) c.in_ok-stored.ensures.name c.in_ok-stored.ensures.ppn
     k (subst (λ blocks. 0 < times k blocks) c.blocks-2.ensures bad.0) (sym ((c.read_named.ensures.keeps (c.read_data.ensures.same.was_honest h)).contents k) ∙ bad.1)
 

@@ -2,7 +2,8 @@ use Rattle.std.proofs.Common.{◌<◌, ◌+◌, ◌≤◌, ℕ, slice_index_or, 
 use Rattle.std.proofs.Math.ListN.{length-set}
 use Rattle.meaning.specs.Maps.{times}
 use Rattle.alloctab.specs.Lists.{digit_at}
-use Rattle.volume.proofs.Marking.{all_at, times_at, marked_more, marked_twice}
+use Rattle.volume.proofs.Marking.{all_at, marked_more, marked_twice}
+use Rattle.directory.proofs.ChainPuts.{times_get}
 use Rattle.volume.proofs.marks.mark_all.Goals as goal
 
 pub returns-then-not-mark-clause-twice : goal.returns-then-not-mark-clause-twice
@@ -21,4 +22,4 @@ loop-block-preserved c =
     }
 
 pub returns-then-not-mark-clause-among : goal.returns-then-not-mark-clause-among
-returns-then-not-mark-clause-among c n is = subst (λ (m : ℕ). 0 < times m c.args.blocks.now) (cc) (times_at c.args.blocks.now c.loop-block.block-index c.loop-block-test.true)
+returns-then-not-mark-clause-among c n is = subst (λ (m : ℕ). 0 < times m c.args.blocks.now) (cc) (times_get c.args.blocks.now c.loop-block.block-index c.loop-block-test.true)

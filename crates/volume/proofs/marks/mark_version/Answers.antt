@@ -5,8 +5,8 @@ use Rattle.std.proofs.Math.ListN.{length-set}
 use Rattle.meaning.specs.Maps.{times}
 use Rattle.meaning.proofs.Lists.{times_here}
 use Rattle.alloctab.specs.Lists.{digit_at}
-use Rattle.retrieval.proofs.RunLists.{handed_on}
 use Rattle.volume.proofs.Marking.{digit-marked, times_parts, on_ok}
+use Rattle.changeset.proofs.Reading.{passed_on}
 use Rattle.volume.proofs.marks.mark_version.Goals as goal
 
 pub returns-in_err-mark_all-clause-twice : goal.returns-in_err-mark_all-clause-twice
@@ -15,7 +15,7 @@ returns-in_err-mark_all-clause-twice c n is =
     let prime = c.args.prime in
     let v = c.args.version.now in
     let p = err_from_is_err_and c.from_residual.result c.from_residual.ensures.1 in
-    let twice = c.mark_all.ensures.twice n (handed_on c.from_residual.result c.mark_all.result p.0 c.in_err-mark_all.field-0.0 n is p.1 p.2 c.in_err-mark_all.was) in
+    let twice = c.mark_all.ensures.twice n (passed_on c.from_residual.result c.mark_all.result p.0 c.in_err-mark_all.field-0.0 n is p.1 p.2 c.in_err-mark_all.was) in
     let ribs : times n c.ribs.result.now ≡ times n v.ribs = ap (times n) c.ribs.ensures in
     let first : digit_at c.mark.new.self n ≡ digit_at old n + times n (prime ∷ []) = ap (λ flags. digit_at flags n) c.mark.ensures.marked ∙ digit-marked old prime c.requires.prime (c.if-not-mark.ensures.first.0 refl) n in
     omega (arith, times_parts n prime v.ribs v.blocks)
@@ -60,7 +60,7 @@ pub returns-in_err-mark_all-clause-among : goal.returns-in_err-mark_all-clause-a
 returns-in_err-mark_all-clause-among c n is =
     let v = c.args.version.now in
     let p = err_from_is_err_and c.from_residual.result c.from_residual.ensures.1 in
-    let among = c.mark_all.ensures.among n (handed_on c.from_residual.result c.mark_all.result p.0 c.in_err-mark_all.field-0.0 n is p.1 p.2 c.in_err-mark_all.was) in
+    let among = c.mark_all.ensures.among n (passed_on c.from_residual.result c.mark_all.result p.0 c.in_err-mark_all.field-0.0 n is p.1 p.2 c.in_err-mark_all.was) in
     let ribs : times n c.ribs.result.now ≡ times n v.ribs = ap (times n) c.ribs.ensures in
     omega (arith, times_parts n c.args.prime v.ribs v.blocks)
 

@@ -14,7 +14,8 @@ use Rattle.volume.specs.Found.{IsOnlySpace, IsMapRead, IsRightFor, IsWrongFor}
 use Rattle.volume.specs.Meets.{NamesInSpace, SettledRefuses, IsTableRefusal}
 use Rattle.volume.proofs.Handing.{handed, met_on, home_named, table_named, named_on}
 use Rattle.volume.proofs.FoundMaps.{map_found, map_held, table_met}
-use Rattle.volume.proofs.Opening.{reads_on, table_refused, right_bits, read_whole, read_booked}
+use Rattle.volume.proofs.Opening.{table_refused, right_bits, read_whole, read_booked}
+use Rattle.changeset.proofs.Reading.{only_reads_on}
 use Rattle.volume.proofs.open.read_map.Goals as goal
 
 pub returns-in_err-master-clause-met : goal.returns-in_err-master-clause-met
@@ -36,16 +37,16 @@ returns-in_err-table-clause-reads g c h =
     let s = g.D.Disk.state c.args.disk.now in
     let first = g.D.Disk.state c.read_home.new.disk in
     let second = g.D.Disk.state c.read_tree.new.disk in
-    reads_on s first (g.D.Disk.state c.load_table.new.disk) (c.read_home.ensures.reads (c.read_tree.ensures.same.was_honest (c.load_table.ensures.same.was_honest h)))
-    (reads_on first second (g.D.Disk.state c.load_table.new.disk) (c.read_tree.ensures.reads (c.load_table.ensures.same.was_honest h)) (c.load_table.ensures.reads h))
+    only_reads_on s first (g.D.Disk.state c.load_table.new.disk) (c.read_home.ensures.reads (c.read_tree.ensures.same.was_honest (c.load_table.ensures.same.was_honest h)))
+    (only_reads_on first second (g.D.Disk.state c.load_table.new.disk) (c.read_tree.ensures.reads (c.load_table.ensures.same.was_honest h)) (c.load_table.ensures.reads h))
 
 pub returns-clause-reads : goal.returns-clause-reads
 returns-clause-reads g c h =
     let s = g.D.Disk.state c.args.disk.now in
     let first = g.D.Disk.state c.read_home.new.disk in
     let second = g.D.Disk.state c.read_tree.new.disk in
-    reads_on s first (g.D.Disk.state c.load_table.new.disk) (c.read_home.ensures.reads (c.read_tree.ensures.same.was_honest (c.load_table.ensures.same.was_honest h)))
-    (reads_on first second (g.D.Disk.state c.load_table.new.disk) (c.read_tree.ensures.reads (c.load_table.ensures.same.was_honest h)) (c.load_table.ensures.reads h))
+    only_reads_on s first (g.D.Disk.state c.load_table.new.disk) (c.read_home.ensures.reads (c.read_tree.ensures.same.was_honest (c.load_table.ensures.same.was_honest h)))
+    (only_reads_on first second (g.D.Disk.state c.load_table.new.disk) (c.read_tree.ensures.reads (c.load_table.ensures.same.was_honest h)) (c.load_table.ensures.reads h))
 
 pub returns-in_err-table-clause-met : goal.returns-in_err-table-clause-met
 returns-in_err-table-clause-met g c h =

@@ -13,7 +13,8 @@ use Rattle.volume.specs.Meets.{NamesInSpace, DirectoriesMeet, SettledRefuses}
 use Rattle.volume.proofs.Handing.{handed, met_named, named_on}
 use Rattle.volume.proofs.FoundDirectories.{all_times_at}
 use Rattle.volume.proofs.MetMaps.{directories_met}
-use Rattle.volume.proofs.Opening.{reads_of, reads_on}
+use Rattle.volume.proofs.Opening.{reads_of}
+use Rattle.changeset.proofs.Reading.{only_reads_on}
 use Rattle.volume.proofs.open.read_tree.Goals as goal
 
 pub returns-in_err-directories-clause-met : goal.returns-in_err-directories-clause-met
@@ -38,13 +39,13 @@ pub returns-in_err-directories-clause-reads : goal.returns-in_err-directories-cl
 returns-in_err-directories-clause-reads g c h =
     let now = g.D.Disk.state c.load_master.new.disk in
     let new = g.D.Disk.state c.read_directories.new.disk in
-    reads_on (g.D.Disk.state c.args.disk.now) now new (c.load_master.ensures.reads (c.read_directories.ensures.same.was_honest h)) (reads_of now new (c.read_directories.ensures.keeps h))
+    only_reads_on (g.D.Disk.state c.args.disk.now) now new (c.load_master.ensures.reads (c.read_directories.ensures.same.was_honest h)) (reads_of now new (c.read_directories.ensures.keeps h))
 
 pub returns-clause-reads : goal.returns-clause-reads
 returns-clause-reads g c h =
     let now = g.D.Disk.state c.load_master.new.disk in
     let new = g.D.Disk.state c.read_directories.new.disk in
-    reads_on (g.D.Disk.state c.args.disk.now) now new (c.load_master.ensures.reads (c.read_directories.ensures.same.was_honest h)) (reads_of now new (c.read_directories.ensures.keeps h))
+    only_reads_on (g.D.Disk.state c.args.disk.now) now new (c.load_master.ensures.reads (c.read_directories.ensures.same.was_honest h)) (reads_of now new (c.read_directories.ensures.keeps h))
 
 pub returns-clause-space : goal.returns-clause-space
 returns-clause-space g c =

@@ -5,8 +5,8 @@ use Rattle.blockdisk.specs.Laws.{same_disk_start, same_disk_on}
 use Rattle.meaning.specs.Faults.{InSpace}
 use Rattle.directory.specs.declared.error.DirectoryError.TheVariants.{BadDirectory, BlockTwice}
 use Rattle.directory.specs.Loading.{IsMetTwice}
-use Rattle.directory.proofs.EntryReading.{handed_on}
-use Rattle.directory.proofs.ChainReading.{reads_start, reads_on, loading_starts, loading_less, loading_on, fewer, bad_chain, met_twice, reads_moved, bad_moved, bad_of, loaded_walk, loaded_on, whole_not_bad, whole_not_twice}
+use Rattle.directory.proofs.ChainReading.{reads_start, loading_starts, loading_less, loading_on, fewer, bad_chain, met_twice, reads_moved, bad_moved, bad_of, loaded_walk, loaded_on, whole_not_bad, whole_not_twice}
+use Rattle.changeset.proofs.Reading.{only_reads_on, passed_on}
 use Rattle.directory.proofs.chain.Chain.load.Goals as goal
 
 pub loop-next-init : goal.loop-next-init
@@ -29,7 +29,7 @@ returns-in_err-next-clause-bad g c h k is =
     let entries = map g.E.Entry.view c.loop-next.entries.items in
     let some : 0 < next = let e = c.loop-next-test.true in omega arith in
     let p = err_from_is_err_and c.from_residual.result c.from_residual.ensures.1 in
-    let e = c.read_on.ensures.bad h k (handed_on c.from_residual.result c.read_on.result p.0 c.in_err-next.field-0.0 (BadDirectory k) is p.1 p.2 c.in_err-next.was) in
+    let e = c.read_on.ensures.bad h k (passed_on c.from_residual.result c.read_on.result p.0 c.in_err-next.field-0.0 (BadDirectory k) is p.1 p.2 c.in_err-next.was) in
     bad_of g.E.Entry.order g.E.Entry.words_of g.E.Entry.IsEntry g.E.Entry.target c.blocks-size.result s.size s.contents c.args.first k next c.blocks-size.ensures e.0
     (bad_chain g.E.Entry.order g.E.Entry.words_of g.E.Entry.IsEntry g.E.Entry.target c.blocks-size.result now.honest s.contents c.args.reached.now c.args.first c.loop-next.reached c.loop-next.blocks.items entries next
     c.loop-next.invariant.loading some (c.read_on.ensures.same.was_honest h) (bad_moved g.E.Entry.order g.E.Entry.words_of g.E.Entry.IsEntry g.E.Entry.target c.blocks-size.result s.contents now.contents next entries (c.loop-next.invariant.reads (c.read_on.ensures.same.was_honest h)).still.contents e.1))
@@ -41,7 +41,7 @@ returns-in_err-next-clause-twice g c h k is =
     let entries = map g.E.Entry.view c.loop-next.entries.items in
     let some : 0 < next = let e = c.loop-next-test.true in omega arith in
     let p = err_from_is_err_and c.from_residual.result c.from_residual.ensures.1 in
-    let e = c.read_on.ensures.twice k (handed_on c.from_residual.result c.read_on.result p.0 c.in_err-next.field-0.0 (BlockTwice k) is p.1 p.2 c.in_err-next.was) in
+    let e = c.read_on.ensures.twice k (passed_on c.from_residual.result c.read_on.result p.0 c.in_err-next.field-0.0 (BlockTwice k) is p.1 p.2 c.in_err-next.was) in
     subst (IsMetTwice g.E.Entry.words_of s.contents c.args.reached.now c.args.first) (sym e.0)
     (met_twice g.E.Entry.order g.E.Entry.words_of g.E.Entry.IsEntry g.E.Entry.target c.blocks-size.result (g.D.Disk.state c.loop-next.disk).honest s.contents c.args.reached.now c.args.first c.loop-next.reached c.loop-next.blocks.items entries next
     c.loop-next.invariant.loading some (c.read_on.ensures.same.was_honest h) e.1)
@@ -54,8 +54,8 @@ returns-in_err-next-clause-named g c k is =
     let p = err_from_is_err_and c.from_residual.result c.from_residual.ensures.1 in
     let here : InSpace size next = subst (λ n. InSpace n next) c.blocks-size.ensures (c.loop-next.invariant.loading.next_inside some) in
     subst (InSpace size)
-    (⊎_elim (λ bad. sym (c.read_on.ensures.named k (handed_on c.from_residual.result c.read_on.result p.0 c.in_err-next.field-0.0 (BadDirectory k) bad p.1 p.2 c.in_err-next.was)))
-    (λ twice. sym (c.read_on.ensures.twice k (handed_on c.from_residual.result c.read_on.result p.0 c.in_err-next.field-0.0 (BlockTwice k) twice p.1 p.2 c.in_err-next.was)).0) is) here
+    (⊎_elim (λ bad. sym (c.read_on.ensures.named k (passed_on c.from_residual.result c.read_on.result p.0 c.in_err-next.field-0.0 (BadDirectory k) bad p.1 p.2 c.in_err-next.was)))
+    (λ twice. sym (c.read_on.ensures.twice k (passed_on c.from_residual.result c.read_on.result p.0 c.in_err-next.field-0.0 (BlockTwice k) twice p.1 p.2 c.in_err-next.was)).0) is) here
 
 pub returns-in_err-next-clause-whole : goal.returns-in_err-next-clause-whole
 returns-in_err-next-clause-whole g c h nodes w k is =
@@ -69,7 +69,7 @@ returns-in_err-next-clause-once g c h nodes w k is =
 
 pub returns-in_err-next-clause-reads : goal.returns-in_err-next-clause-reads
 returns-in_err-next-clause-reads g c h =
-    reads_on (g.D.Disk.state c.args.disk.now) (g.D.Disk.state c.loop-next.disk) (g.D.Disk.state c.read_on.new.disk) (c.loop-next.invariant.reads (c.read_on.ensures.same.was_honest h)) (c.read_on.ensures.reads h)
+    only_reads_on (g.D.Disk.state c.args.disk.now) (g.D.Disk.state c.loop-next.disk) (g.D.Disk.state c.read_on.new.disk) (c.loop-next.invariant.reads (c.read_on.ensures.same.was_honest h)) (c.read_on.ensures.reads h)
 
 pub loop-next-smaller : goal.loop-next-smaller
 loop-next-smaller g c =
@@ -89,7 +89,7 @@ loop-next-preserved g c =
     record {
       same = same_disk_on s now new c.loop-next.invariant.same c.read_on.ensures.same;
       served = c.in_ok-next.ensures.served (λ is. cc) ∙ c.loop-next.invariant.served;
-      reads = λ h. reads_on s now new (c.loop-next.invariant.reads (c.read_on.ensures.same.was_honest h)) (c.read_on.ensures.reads h);
+      reads = λ h. only_reads_on s now new (c.loop-next.invariant.reads (c.read_on.ensures.same.was_honest h)) (c.read_on.ensures.reads h);
       loading = loading_on g.E.Entry.order g.E.Entry.words_of g.E.Entry.IsEntry g.E.Entry.target c.blocks-size.result new.honest s.contents c.args.reached.now c.args.first c.loop-next.reached c.loop-next.blocks.items old next
           (loading_less g.E.Entry.order g.E.Entry.words_of g.E.Entry.IsEntry g.E.Entry.target c.blocks-size.result now.honest new.honest c.read_on.ensures.same.was_honest s.contents c.args.reached.now c.loop-next.reached c.args.first
           c.loop-next.blocks.items old next c.loop-next.invariant.loading) some c.read_on.new.reached c.read_on.new.blocks.items c.in_ok-next.next (map g.E.Entry.view c.read_on.new.entries.items) c.read_on.ensures.marked c.in_ok-next.ensures.blocks

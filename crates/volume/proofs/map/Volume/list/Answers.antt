@@ -7,11 +7,11 @@ use Rattle.volume.specs.declared.error.CallError.TheVariants.{Refused, NoMemory}
 use Rattle.volume.specs.Cores.{master_view}
 use Rattle.volume.specs.LiveCores.{core_of, live_directory}
 use Rattle.volume.proofs.Answering.{rest_holds, directory_none, directory_there, placed}
-use Rattle.volume.proofs.Handing.{error_has}
 use Rattle.volume.proofs.Listing.{lines_are, if_ok_on}
 use Rattle.volume.specs.declared.error.CallError.{CallError}
 use Rattle.meaning.specs.Stands.{directory_of}
 use Rattle.volume.proofs.LiveLookups.{keyed_at}
+use Rattle.volume.proofs.Finding.{refusal}
 use Rattle.volume.proofs.map.Volume.list.Goals as goal
 
 pub returns-in_err-i-clause-refused : goal.returns-in_err-i-clause-refused
@@ -55,4 +55,4 @@ returns-clause-refused g c = rw (← c.self.view_is) (λ honest alive files rest
     let m = c.self.inside.map in
     let d = (live_directory c.self.inside.map.versions.slots) c.index-directory.result.now in
     let there = directory_there s k files holds c.args.ppn at.0 c.in_ok-i.i at.1 d (placed (live_directory c.self.inside.map.versions.slots) m.directories.items (map master_view m.master.entries) c.in_ok-i.i c.index-directory.result.now at.1.within c.self.invariant.whole.map.aligned c.index-directory.ensures) in
-    (λ is. let other : Refused NoDirectory ≡ NoMemory = error_has (λ (e : CallError). e ≡ NoMemory) c.directory_lines.result (Refused NoDirectory) is c.directory_lines.ensures.only in cc, λ none. absurd (some_none (sym there.get_is ∙ none))))
+    (λ is. let other : Refused NoDirectory ≡ NoMemory = refusal (λ (e : CallError). e ≡ NoMemory) c.directory_lines.result (Refused NoDirectory) is c.directory_lines.ensures.only in cc, λ none. absurd (some_none (sym there.get_is ∙ none))))
