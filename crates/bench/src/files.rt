@@ -7,7 +7,7 @@ ghost use Rattle.volume.specs.Rest.{RestsAt};
 use crate::counting::{Calls, CountingDisk};
 use anyhow::{Context, Result};
 use blockdisk::Disk;
-use retrieval::{Mode, Prime};
+use retrieval::{Mode, Prime, rib_count};
 use std::alloc::Global;
 use volume::Volume;
 use words36::{BLOCK_WORDS, FileName, Half, Moment, Ppn, Word};
@@ -17,12 +17,6 @@ const FOO: u64 = 0o465757000000;
 
 /// The protection of the file.
 const PROTECTION: u16 = 0o057;
-
-/// So many blocks of a file have their pointers in its prime block.
-const PRIME_POINTERS: u32 = 112;
-
-/// And so many in each of its ribs.
-const RIB_POINTERS: u32 = 126;
 
 /// The puts of a publication where the table is one block: that one, and the directory's.
 const PUTS: u32 = 2;
@@ -44,9 +38,7 @@ pub struct FileCalls {
 pub fn least_writes(blocks: u16) -> u32
     ensures { result ≡ 1 + rib_count blocks + (2 * 2 + 3) }
 {
-    let ribs = u32::from(blocks)
-        .saturating_sub(PRIME_POINTERS)
-        .div_ceil(RIB_POINTERS);
+    let ribs = rib_count(usize::from(blocks)) as u32;
     1 + ribs + 2 * PUTS + 3
 }
 

@@ -1,5 +1,6 @@
 use anyhow::Result;
 use blockdisk::{Disk, MemDisk};
+use meaning::layout::MOST_BLOCKS;
 use std::alloc::{AllocError, Global};
 use volume::{LARGEST_VOLUME, Volume};
 use words36::{BLOCK_WORDS, Block, Word};
@@ -8,7 +9,7 @@ use words36::{BLOCK_WORDS, Block, Word};
 const CALLS: usize = 64;
 
 /// The first block of the table of the largest volume.
-pub const TABLE: u32 = 42;
+const TABLE: u32 = 42;
 
 /// The first block of the master directory, just behind the table's 29.
 const MASTER: u32 = 71;
@@ -24,9 +25,6 @@ const ALL: u64 = 0o777777777777;
 
 /// So many files fill the free space: each has as many blocks as a file can have, but for the last one.
 const FILES: u32 = 8;
-
-/// The most blocks that a file can have.
-const MOST: u32 = 16384;
 
 fn word(number: u64) -> Word {
     Word::new(number).unwrap_or(Word::ZERO)
@@ -57,7 +55,7 @@ fn last_of_table() -> Block {
 
 /// The prime block of a file. Its data blocks follow.
 fn prime_of(file: u32) -> u32 {
-    DIRECTORY + 1 + file.min(FILES) * (MOST + 1)
+    DIRECTORY + 1 + file.min(FILES) * (MOST_BLOCKS + 1)
 }
 
 /// The directory: a file is named by its number, counted from 1.
@@ -76,7 +74,7 @@ fn directory_block(alloc: Global) -> Result<Block, AllocError> {
 /// The prime block of a file, with one pointer to all its blocks.
 fn prime_block(file: u32) -> Block {
     let first = prime_of(file).saturating_add(1);
-    let blocks = u64::from(LARGEST_VOLUME.saturating_sub(first).min(MOST));
+    let blocks = u64::from(LARGEST_VOLUME.saturating_sub(first).min(MOST_BLOCKS));
     let mut block = beginning(&[
         0o625142000000,
         u64::from(file) + 1,

@@ -13,7 +13,8 @@ use anyhow::Result;
 use blockdisk::{Disk, MemDisk};
 use counting::CountingDisk;
 use files::{FileCalls, LEAST_SYNCS, least_writes, prime_of_foo, publish_file, words_of_file};
-use full::{TABLE, full_image};
+use full::full_image;
+use meaning::layout::{TABLE_BLOCK_BITS, table_blocks, table_start};
 use std::alloc::Global;
 use std::env;
 use std::rt::{Clock, Env};
@@ -32,8 +33,8 @@ const FILE_CALLS: usize = 4096;
 /// 1 MiB of the image in blocks.
 const MEBIBYTE: u16 = 1024;
 
-/// How many blocks of the disk a block of the allocation table stands for.
-const BLOCKS_IN_TABLE: u32 = 4608;
+/// How many blocks a volume has whose allocation table is one full block.
+const FILES_VOLUME: u32 = TABLE_BLOCK_BITS as u32;
 
 /// Prints how many blocks `open` read, how many the volume reaches, and how many it needs besides: the gate, a
 /// home copy and the table.
@@ -43,7 +44,7 @@ fn print_opened<D: Disk>(
     reached: usize,
 ) -> Result<()> {
     let blocks = volume.blocks();
-    let fixed = 2 + blocks.div_ceil(BLOCKS_IN_TABLE);
+    let fixed = 2 + table_blocks(blocks);
     let reads = volume.disk().calls().reads;
     println!(rt; "  open: {reads} blocks read, {reached} reached, {fixed} fixed")?;
     Ok(())
@@ -69,10 +70,10 @@ fn with_directories(rt: &impl Print, alloc: Global, blocks: u32, directories: u1
     Ok(())
 }
 
-/// Reads the table and the free space of the largest volume, each block once: all but two of the blocks that
+/// Reads the table and the free space of a volume, each block once: all but two of the blocks that
 /// `open` reads.
 fn read_plainly<D: Disk>(disk: &mut D) -> Result<()> {
-    for n in TABLE..u32::MAX {
+    for n in table_start(disk.blocks())..u32::MAX {
         if n >= disk.blocks() {
             break;
         }
@@ -104,7 +105,7 @@ fn largest(rt: &(impl Print + Clock), alloc: Global, is_timed: bool) -> Result<(
 
 /// A volume whose table is one block, with one directory.
 fn volume_for_files(alloc: Global) -> Result<Volume<CountingDisk<MemDisk>>> {
-    let disk = MemDisk::new(alloc, BLOCKS_IN_TABLE, FILE_CALLS)?;
+    let disk = MemDisk::new(alloc, FILES_VOLUME, FILE_CALLS)?;
     let made = make_volume(alloc, disk, 1)?;
     open(alloc, CountingDisk::new(made.into_disk()))
 }
@@ -113,7 +114,7 @@ fn volume_for_files(alloc: Global) -> Result<Volume<CountingDisk<MemDisk>>> {
 fn print_written(rt: &impl Print, blocks: u16, act: &str, calls: &FileCalls) -> Result<()> {
     let FileCalls { put, published } = calls;
     let least = least_writes(blocks);
-    println!(rt; "{BLOCKS_IN_TABLE} blocks, 1 directory, file of {blocks} blocks {act}")?;
+    println!(rt; "{FILES_VOLUME} blocks, 1 directory, file of {blocks} blocks {act}")?;
     println!(rt;
         "  put_words: {} blocks read, {} written, {} syncs",
         put.reads, put.writes, put.syncs
