@@ -87,7 +87,7 @@ abbrev pub Near : (ℕ → Type 0) → DiskState → Contents → Type 0
 Near In s c = (d : Contents) × MayLeave s d × SameOutside In d c
 
 -- Only blocks of this set were written, and nothing is known of what they hold.
-pub record Touches (In : ℕ → Type 0) (s s' : DiskState) : Type 0 where
+pub record Modifies (In : ℕ → Type 0) (s s' : DiskState) : Type 0 where
   pub contents : SameOutside In s.contents s'.contents
   pub crash : (c : Contents) → MayLeave s' c → Near In s c
   pub time : Passes s s' (Near In s)

@@ -1,11 +1,11 @@
 -- How stretches of calls of a disk follow each other. The layers above cite these laws and look into
--- no clock: a stretch begins by `touches_start` or `leaves_start`, goes on by one line a call, and ends
--- in `touches_leaves` or `leaves_on`.
+-- no clock: a stretch begins by `modifies_start` or `leaves_start`, goes on by one line a call, and ends
+-- in `modifies_leaves` or `leaves_on`.
 use Rattle.std.specs.Prelude.{◌≡◌, ◌⊎◌, ◌≤◌, ℕ, false, if◌then◌else◌, ◌==◌, Result, Ok, Err, OnOk, OnErr}
 use Rattle.std.proofs.Common.{inl, inr, ⊎_elim, refl, sym, ◌∙◌, arith, subst}
 use Rattle.std.proofs.lemmas.Bool.{cases_eq}
 use Rattle.std.proofs.lemmas.Bool.Decides.{nat_tests}
-use Rattle.blockdisk.specs.Disk.{Contents, DiskState, MayLeave, NoneOpen, Passes, SameDisk, Keeps, Writes, Syncs, Fails, Near, Touches, Still, LeavesOnly, Between}
+use Rattle.blockdisk.specs.Disk.{Contents, DiskState, MayLeave, NoneOpen, Passes, SameDisk, Keeps, Writes, Syncs, Fails, Near, Modifies, Still, LeavesOnly, Between}
 
 -- contents that agree at each block are equal
 pub same_contents : (c d : Contents) → ((n : ℕ) → d n ≡ c n) → d ≡ c
@@ -88,38 +88,38 @@ near_self In s c left = (c, left, λ n out. refl)
 pub near_wider : (In Out : ℕ → Type 0) (s : DiskState) → ((n : ℕ) → In n → Out n) → (c : Contents) → Near In s c → Near Out s c
 near_wider In Out s wider c near = (near.0, near.1, λ n out. near.2 n (λ is. out (wider n is)))
 
-pub near_on : (In : ℕ → Type 0) (s s' : DiskState) → Touches In s s' → (c : Contents) → Near In s' c → Near In s c
+pub near_on : (In : ℕ → Type 0) (s s' : DiskState) → Modifies In s s' → (c : Contents) → Near In s' c → Near In s c
 near_on In s s' t c near =
     let from = t.crash near.0 near.1 in
     (from.0, from.1, λ n out. near.2 n out ∙ from.2 n out)
 
-pub touches_start : (In : ℕ → Type 0) (s : DiskState) → Touches In s s
-touches_start In s = record { contents = λ n out. refl; crash = near_self In s; time = passes_start s (Near In s) }
+pub modifies_start : (In : ℕ → Type 0) (s : DiskState) → Modifies In s s
+modifies_start In s = record { contents = λ n out. refl; crash = near_self In s; time = passes_start s (Near In s) }
 
-pub touches_on : (In : ℕ → Type 0) (s s' s'' : DiskState) → Touches In s s' → Touches In s' s'' → Touches In s s''
-touches_on In s s' s'' first second = record {
+pub modifies_on : (In : ℕ → Type 0) (s s' s'' : DiskState) → Modifies In s s' → Modifies In s' s'' → Modifies In s s''
+modifies_on In s s' s'' first second = record {
   contents = λ n out. second.contents n out ∙ first.contents n out;
   crash = λ c left. near_on In s s' first c (second.crash c left);
   time = passes_on s s' s'' (Near In s) (Near In s') first.time second.time (near_on In s s' first);
 }
 
-pub touches_wider : (In Out : ℕ → Type 0) (s s' : DiskState) → ((n : ℕ) → In n → Out n) → Touches In s s' → Touches Out s s'
-touches_wider In Out s s' wider t = record {
+pub modifies_wider : (In Out : ℕ → Type 0) (s s' : DiskState) → ((n : ℕ) → In n → Out n) → Modifies In s s' → Modifies Out s s'
+modifies_wider In Out s s' wider t = record {
   contents = λ n out. t.contents n (λ is. out (wider n is));
   crash = λ c left. near_wider In Out s wider c (t.crash c left);
   time = passes_weaker s s' (Near In s) (Near Out s) t.time (near_wider In Out s wider);
 }
 
-pub still_touches : (In : ℕ → Type 0) (s s' : DiskState) → Still s s' → Touches In s s'
-still_touches In s s' still = record {
+pub still_modifies : (In : ℕ → Type 0) (s s' : DiskState) → Still s s' → Modifies In s s'
+still_modifies In s s' still = record {
   contents = λ n out. still.contents n;
   crash = λ c left. near_self In s c (still.crash c left);
   time = passes_weaker s s' (MayLeave s) (Near In s) still.time (near_self In s);
 }
 
 -- a write to one of these blocks, whatever it answered
-pub writes_touches : (In : ℕ → Type 0) (n : ℕ) (s s' : DiskState) → In n → Writes n s s' → Touches In s s'
-writes_touches In n s s' within writes = record {
+pub writes_modifies : (In : ℕ → Type 0) (n : ℕ) (s s' : DiskState) → In n → Writes n s s' → Modifies In s s'
+writes_modifies In n s s' within writes = record {
   contents = λ m out. writes.contents m (λ here. out (inside m here));
   crash = near;
   time = passes_weaker s s' (MayLeave s') (Near In s) writes.time near;
@@ -145,12 +145,12 @@ writes_touches In n s s' within writes = record {
     near c left = (before c, λ m closed. at_before c left m closed (cases_eq m n), λ m out. elsewhere c m (λ here. out (inside m here)))
 
 -- one more call of a stretch: a write to one of its blocks
-pub touches_write : (In : ℕ → Type 0) (n : ℕ) (s s' s'' : DiskState) → In n → Touches In s s' → Writes n s' s'' → Touches In s s''
-touches_write In n s s' s'' within first writes = touches_on In s s' s'' first (writes_touches In n s' s'' within writes)
+pub modifies_write : (In : ℕ → Type 0) (n : ℕ) (s s' s'' : DiskState) → In n → Modifies In s s' → Writes n s' s'' → Modifies In s s''
+modifies_write In n s s' s'' within first writes = modifies_on In s s' s'' first (writes_modifies In n s' s'' within writes)
 
 -- a read, or a sync that succeeded
-pub touches_still : (In : ℕ → Type 0) (s s' s'' : DiskState) → Touches In s s' → Still s' s'' → Touches In s s''
-touches_still In s s' s'' first still = touches_on In s s' s'' first (still_touches In s' s'' still)
+pub modifies_still : (In : ℕ → Type 0) (s s' s'' : DiskState) → Modifies In s s' → Still s' s'' → Modifies In s s''
+modifies_still In s s' s'' first still = modifies_on In s s' s'' first (still_modifies In s' s'' still)
 
 -- Each moment
 
@@ -158,9 +158,9 @@ pub leaves_start : (s : DiskState) (P : Contents → Type 0) → ((c : Contents)
 leaves_start s P only_now here = record { now = here; since = λ c left. here c (only_now c left); time = passes_start s P }
 
 -- what a stretch leaves that wrote only these blocks
-pub touches_leaves : (In : ℕ → Type 0) (s s' : DiskState) (P : Contents → Type 0) → ((c : Contents) → s.left_since s.clock c → MayLeave s c) → Touches In s s'
+pub modifies_leaves : (In : ℕ → Type 0) (s s' : DiskState) (P : Contents → Type 0) → ((c : Contents) → s.left_since s.clock c → MayLeave s c) → Modifies In s s'
     → ((c : Contents) → Near In s c → P c) → LeavesOnly s s' P
-touches_leaves In s s' P only_now t near = record {
+modifies_leaves In s s' P only_now t near = record {
   now = λ c left. near c (t.crash c left);
   since = λ c left. ⊎_elim (λ was. near c (near_self In s c (only_now c was))) (near c) (t.time.nothing_else s.clock c (omega arith) left);
   time = passes_weaker s s' (Near In s) P t.time near;
@@ -207,17 +207,17 @@ leaves_weaker s s' P Q leaves weaker = record {
 }
 
 -- what a stretch leaves that wrote only these blocks, and another one after it
-pub touches_near : (In : ℕ → Type 0) (s s' : DiskState) → ((c : Contents) → s.left_since s.clock c → MayLeave s c) → Touches In s s' → LeavesOnly s s' (Near In s)
-touches_near In s s' only_now t = touches_leaves In s s' (Near In s) only_now t (λ c near. near)
+pub modifies_near : (In : ℕ → Type 0) (s s' : DiskState) → ((c : Contents) → s.left_since s.clock c → MayLeave s c) → Modifies In s s' → LeavesOnly s s' (Near In s)
+modifies_near In s s' only_now t = modifies_leaves In s s' (Near In s) only_now t (λ c near. near)
 
-pub near_then : (In : ℕ → Type 0) (s s' s'' : DiskState) → ((c : Contents) → s.left_since s.clock c → MayLeave s c) → Touches In s s' → LeavesOnly s' s'' (Near In s') → LeavesOnly s s'' (Near In s)
-near_then In s s' s'' only_now t leaves = leaves_on s s' s'' (Near In s) (Near In s') (touches_near In s s' only_now t) leaves (near_on In s s' t)
+pub near_then : (In : ℕ → Type 0) (s s' s'' : DiskState) → ((c : Contents) → s.left_since s.clock c → MayLeave s c) → Modifies In s s' → LeavesOnly s' s'' (Near In s') → LeavesOnly s s'' (Near In s)
+near_then In s s' s'' only_now t leaves = leaves_on s s' s'' (Near In s) (Near In s') (modifies_near In s s' only_now t) leaves (near_on In s s' t)
 
 -- the end of such a stretch is a sync, whatever it answered
 pub near_sync : {E : Type 0} (answer : Result (Unit {0}) E) (In : ℕ → Type 0) (s s' s'' : DiskState) → ((c : Contents) → s.left_since s.clock c → MayLeave s c)
-    → ((c : Contents) → s'.left_since s'.clock c → MayLeave s' c) → Touches In s s' → OnOk answer (Syncs s' s'') → OnErr answer (Fails s' s'') → LeavesOnly s s'' (Near In s)
+    → ((c : Contents) → s'.left_since s'.clock c → MayLeave s' c) → Modifies In s s' → OnOk answer (Syncs s' s'') → OnErr answer (Fails s' s'') → LeavesOnly s s'' (Near In s)
 near_sync answer In s s' s'' only_now only_now' t syncs fails =
-    leaves_on s s' s'' (Near In s) (MayLeave s') (touches_near In s s' only_now t) (sync_leaves answer s' s'' only_now' syncs fails) t.crash
+    leaves_on s s' s'' (Near In s) (MayLeave s') (modifies_near In s s' only_now t) (sync_leaves answer s' s'' only_now' syncs fails) t.crash
 
 pub leaves_wider : (In Out : ℕ → Type 0) (s s' : DiskState) → ((n : ℕ) → In n → Out n) → LeavesOnly s s' (Near In s) → LeavesOnly s s' (Near Out s)
 leaves_wider In Out s s' wider leaves = leaves_weaker s s' (Near In s) (Near Out s) leaves (near_wider In Out s wider)

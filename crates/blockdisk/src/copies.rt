@@ -1,6 +1,6 @@
 ghost use Rattle.std.specs.Prelude.{◌≡◌, ◌≢◌, ◌<◌, ◌⊎◌, Some, OnOk, IsErrOf};
 ghost use Rattle.blockdisk.specs.Copies.{OneIsWhole, BothAreNew};
-ghost use Rattle.blockdisk.specs.Disk.{NoneOpen, SameDisk, Near, Touches, LeavesOnly, one_more};
+ghost use Rattle.blockdisk.specs.Disk.{NoneOpen, SameDisk, Near, Modifies, LeavesOnly, one_more};
 ghost use Rattle.blockdisk.specs.declared.fault.Fault.TheVariants.{Device, Damaged};
 
 use crate::{Disk, Fault};
@@ -15,7 +15,7 @@ pub fn write_through<D: Disk>(disk: &mut D, n: u32, block: &Block) -> Result<(),
     requires { n < (D.state disk.old).size }
     ensures put { (D.state disk.new).honest → OnOk result ((D.state disk.new).contents n ≡ Some block.now) }
     ensures settled { (D.state disk.new).honest → OnOk result (NoneOpen (D.state disk.new)) }
-    ensures touched { (D.state disk.new).honest → OnOk result (Touches (λ m. m ≡ n) (D.state disk.old) (D.state disk.new)) }
+    ensures modified { (D.state disk.new).honest → OnOk result (Modifies (λ m. m ≡ n) (D.state disk.old) (D.state disk.new)) }
     ensures near { (D.state disk.new).honest → LeavesOnly (D.state disk.old) (D.state disk.new) (Near (λ m. m ≡ n) (D.state disk.old)) }
     ensures same { SameDisk (D.state disk.old) (D.state disk.new) }
     ensures device { IsErrOf result Damaged → ⊥ }

@@ -4,8 +4,8 @@ use Rattle.std.specs.Cmp.Lexicographic.{pointwise}
 use Rattle.std.specs.Bool.{Decides}
 use Rattle.std.proofs.lemmas.Bool.Decides.{Decides-eqb}
 use Rattle.std.proofs.lemmas.Slice.Eq.{slice_eq-Decides}
-use Rattle.blockdisk.specs.Disk.{Contents, DiskState, MayLeave, NoneOpen, SameOutside, Near, Touches, LeavesOnly}
-use Rattle.blockdisk.specs.Laws.{touches_on, touches_wider, leaves_on, leaves_weaker}
+use Rattle.blockdisk.specs.Disk.{Contents, DiskState, MayLeave, NoneOpen, SameOutside, Near, Modifies, LeavesOnly}
+use Rattle.blockdisk.specs.Laws.{modifies_on, modifies_wider, leaves_on, leaves_weaker}
 use Rattle.meaning.specs.declared.put.Put.{Put}
 use Rattle.meaning.specs.Maps.{times}
 use Rattle.meaning.specs.Regions.{IsVolumeSize, log_start, table_start}
@@ -103,18 +103,18 @@ module _ (size : ℕ) (puts : List Put) (s placed : DiskState) (none : NoneOpen 
           (by_gate size puts s.contents pending.gate.volume pending.log c
           (λ n out. same n (λ here. out (inl here)) ∙ all n ∙ with_puts_other puts s.contents n (let not_there : 0 < times n (targets puts) → ⊥ = (λ there. out (inr there)) in omega arith)))
 
-outside_log : (s logged : DiskState) → Touches (IsInLog s.size) s logged → SameOutside (IsGateOrLog s.size) s.contents logged.contents
+outside_log : (s logged : DiskState) → Modifies (IsInLog s.size) s logged → SameOutside (IsGateOrLog s.size) s.contents logged.contents
 outside_log s logged logs n out = logs.contents n (λ behind. out (omega arith, behind.1))
 
 -- what the puts make of the disk with its gate open, they make of the disk before
-pub all_outside : (puts : List Put) (s logged opened : DiskState) → Touches (IsInLog s.size) s logged → Touches IsGate logged opened → SameOutside (IsGateOrLog s.size) (with_puts puts s.contents) (with_puts puts opened.contents)
+pub all_outside : (puts : List Put) (s logged opened : DiskState) → Modifies (IsInLog s.size) s logged → Modifies IsGate logged opened → SameOutside (IsGateOrLog s.size) (with_puts puts s.contents) (with_puts puts opened.contents)
 all_outside puts s logged opened logs opens n out = with_puts_same puts opened.contents s.contents n (λ other. opens.contents n (λ here. out (omega arith, omega arith)) ∙ outside_log s logged logs n out)
 
 -- the blocks of a commit
-pub opening_touches : (puts : List Put) (s logged opened : DiskState) → Touches (IsInLog s.size) s logged → Touches IsGate logged opened → Touches (λ n. IsGateOrLog s.size n ⊎ IsPutIn puts n) s opened
-opening_touches puts s logged opened logs opens = touches_on Written s logged opened
-    (touches_wider (IsInLog s.size) Written s logged (λ n behind. inl (omega (arith, behind.0), behind.1)) logs)
-    (touches_wider IsGate Written logged opened (λ n here. inl (omega arith, omega arith)) opens)
+pub opening_modifies : (puts : List Put) (s logged opened : DiskState) → Modifies (IsInLog s.size) s logged → Modifies IsGate logged opened → Modifies (λ n. IsGateOrLog s.size n ⊎ IsPutIn puts n) s opened
+opening_modifies puts s logged opened logs opens = modifies_on Written s logged opened
+    (modifies_wider (IsInLog s.size) Written s logged (λ n behind. inl (omega (arith, behind.0), behind.1)) logs)
+    (modifies_wider IsGate Written logged opened (λ n here. inl (omega arith, omega arith)) opens)
   where
     Written : ℕ → Type 0
     Written n = IsGateOrLog s.size n ⊎ IsPutIn puts n
@@ -132,7 +132,7 @@ module _ (puts : List Put) (s logged : DiskState) (volume : IsVolumeSize s.size)
             (λ n out. is.2 n (λ behind. out (omega arith, behind.1))),
       )
 
-  module _ (logs : Touches (IsInLog s.size) s logged) (none : NoneOpen logged) (log : IsLog s.size logged.contents puts)
+  module _ (logs : Modifies (IsInLog s.size) s logged) (none : NoneOpen logged) (log : IsLog s.size logged.contents puts)
       (opened : DiskState) (near_gate : LeavesOnly logged opened (Near IsGate logged)) where
     pub opening_leaves : LeavesOnly s opened (AllOrNone puts s)
     opening_leaves = leaves_on s logged opened (AllOrNone puts s) (Near IsGate logged) logging_leaves near_gate near
@@ -145,7 +145,7 @@ module _ (puts : List Put) (s logged : DiskState) (volume : IsVolumeSize s.size)
             (λ closed. inl (s.contents, (λ n is_closed. refl), settles_itself s.size s.contents c closed (λ n out. same n (λ here. out (omega arith, omega arith)) ∙ outside_log s logged logs n out)))
             (by_gate s.size puts logged.contents volume log c (λ n out. same n (λ here. out (inl here))))
 
-    pub commit_leaves : Touches IsGate logged opened → (end : DiskState) → LeavesOnly opened end (SettlesAs s.size (with_puts puts opened.contents)) → LeavesOnly s end (AllOrNone puts s)
+    pub commit_leaves : Modifies IsGate logged opened → (end : DiskState) → LeavesOnly opened end (SettlesAs s.size (with_puts puts opened.contents)) → LeavesOnly s end (AllOrNone puts s)
     commit_leaves opens end redone = leaves_on s opened end (AllOrNone puts s) (SettlesAs s.size (with_puts puts opened.contents)) opening_leaves redone
         (λ c settles. inr (settles_from s.size (with_puts puts s.contents) (with_puts puts opened.contents) c (all_outside puts s logged opened logs opens) settles))
 

@@ -2,8 +2,8 @@
 -- is at rest, writes that nobody looks at keep it so, and a commit leads from rest to rest.
 use Rattle.std.specs.Prelude.{◌≡◌, ◌⊎◌, ℕ, List}
 use Rattle.std.proofs.Common.{inl, inr, ⊎_elim, refl, sym, ◌∙◌, subst}
-use Rattle.blockdisk.specs.Disk.{Contents, DiskState, MayLeave, NoneOpen, SameOutside, Near, Touches, LeavesOnly}
-use Rattle.blockdisk.specs.Laws.{touches_leaves, leaves_weaker, leaves_on, none_open_leaves}
+use Rattle.blockdisk.specs.Disk.{Contents, DiskState, MayLeave, NoneOpen, SameOutside, Near, Modifies, LeavesOnly}
+use Rattle.blockdisk.specs.Laws.{modifies_leaves, leaves_weaker, leaves_on, none_open_leaves}
 use Rattle.meaning.specs.declared.put.Put.{Put}
 use Rattle.meaning.specs.Regions.{IsVolumeSize}
 use Rattle.meaning.specs.Log.{IsGateOpen, IsSettled, with_puts}
@@ -48,7 +48,7 @@ commit_rest puts s s' R ignores changed all none shut = record {
 }
 
 -- Quiet writes, of blocks that Q doesn't look at and the gate isn't among: the disk stays at rest.
-pub quiet_rest : (In : ℕ → Type 0) (s s' : DiskState) (Q : Contents → Type 0) → Ignores In Q → (In 3 → ⊥) → s'.size ≡ s.size → AtRest s Q → Touches In s s' → AtRest s' Q
+pub quiet_rest : (In : ℕ → Type 0) (s s' : DiskState) (Q : Contents → Type 0) → Ignores In Q → (In 3 → ⊥) → s'.size ≡ s.size → AtRest s Q → Modifies In s s' → AtRest s' Q
 quiet_rest In s s' Q ignores gate size rest t = record {
   shut = λ c left is_open.
       let near = t.crash c left in
@@ -57,8 +57,8 @@ quiet_rest In s s' Q ignores gate size rest t = record {
 }
 
 pub quiet_leaves : (In : ℕ → Type 0) (s s' : DiskState) (Q : Contents → Type 0) → Ignores In Q → (In 3 → ⊥) → AtRest s Q
-    → ((c : Contents) → s.left_since s.clock c → MayLeave s c) → Touches In s s' → LeavesOnly s s' (λ c. (IsGateOpen s.size c → ⊥) × Q c)
-quiet_leaves In s s' Q ignores gate rest only_now t = touches_leaves In s s' (λ c. (IsGateOpen s.size c → ⊥) × Q c) only_now t near
+    → ((c : Contents) → s.left_since s.clock c → MayLeave s c) → Modifies In s s' → LeavesOnly s s' (λ c. (IsGateOpen s.size c → ⊥) × Q c)
+quiet_leaves In s s' Q ignores gate rest only_now t = modifies_leaves In s s' (λ c. (IsGateOpen s.size c → ⊥) × Q c) only_now t near
   where
     near : (c : Contents) → Near In s c → (IsGateOpen s.size c → ⊥) × Q c
     near c is = (
@@ -69,12 +69,12 @@ quiet_leaves In s s' Q ignores gate rest only_now t = touches_leaves In s s' (λ
 pub quiet_stands : (s s' : DiskState) (Q : Contents → Type 0) → LeavesOnly s s' (λ c. (IsGateOpen s.size c → ⊥) × Q c) → LeavesOnly s s' (SettlesTo s.size Q)
 quiet_stands s s' Q leaves = leaves_weaker s s' (λ c. (IsGateOpen s.size c → ⊥) × Q c) (SettlesTo s.size Q) leaves (λ c is. (c, inl (is.0, λ n. refl), is.1))
 
--- One event of a layer above: quiet writes, then one commit.
-pub event_leaves : (In : ℕ → Type 0) (puts : List Put) (s mid s' : DiskState) (Q R : Contents → Type 0) → Ignores In Q → (In 3 → ⊥)
+-- One transaction of a layer above: quiet writes, then one commit.
+pub transaction_leaves : (In : ℕ → Type 0) (puts : List Put) (s mid s' : DiskState) (Q R : Contents → Type 0) → Ignores In Q → (In 3 → ⊥)
     → Ignores (IsGateOrLog s.size) Q → Ignores (IsGateOrLog s.size) R → mid.size ≡ s.size → AtRest s Q
-    → ((c : Contents) → s.left_since s.clock c → MayLeave s c) → Touches In s mid
+    → ((c : Contents) → s.left_since s.clock c → MayLeave s c) → Modifies In s mid
     → R (with_puts puts mid.contents) → LeavesOnly mid s' (AllOrNone puts mid) → LeavesOnly s s' (λ c. SettlesTo s.size Q c ⊎ SettlesTo s.size R c)
-event_leaves In puts s mid s' Q R ignores gate log_q log_r size rest only_now quiet changed leaves =
+transaction_leaves In puts s mid s' Q R ignores gate log_q log_r size rest only_now quiet changed leaves =
     leaves_on s mid s' (Either s.size) (Either mid.size) first second (λ c. subst (λ (n : ℕ). Either n c) size)
   where
     Either : ℕ → Contents → Type 0

@@ -1,5 +1,5 @@
 ghost use Rattle.std.specs.Prelude.{◌≡◌, ◌<◌, ◌↔◌, IsTrue, IfOk, OnOk, IsErrOf, Some, replicate};
-ghost use Rattle.blockdisk.specs.Disk.{Keeps, Near, Touches, LeavesOnly, NoneOpen, SameDisk, one_more};
+ghost use Rattle.blockdisk.specs.Disk.{Keeps, Near, Modifies, LeavesOnly, NoneOpen, SameDisk, one_more};
 ghost use Rattle.blockdisk.specs.declared.fault.Fault.TheVariants.{Device, Damaged};
 ghost use Rattle.changeset.specs.Crashes.{IsGate};
 ghost use Rattle.meaning.specs.Log.{open_gate};
@@ -43,7 +43,7 @@ pub fn open_gate<D: Disk>(disk: &mut D) -> Result<(), Fault>
     requires { 3 < (D.state disk.old).size }
     ensures gate { (D.state disk.new).honest → OnOk result ((D.state disk.new).contents 3 ≡ Some open_gate) }
     ensures settled { (D.state disk.new).honest → OnOk result (NoneOpen (D.state disk.new)) }
-    ensures touched { (D.state disk.new).honest → OnOk result (Touches IsGate (D.state disk.old) (D.state disk.new)) }
+    ensures modified { (D.state disk.new).honest → OnOk result (Modifies IsGate (D.state disk.old) (D.state disk.new)) }
     ensures near { (D.state disk.new).honest → LeavesOnly (D.state disk.old) (D.state disk.new) (Near IsGate (D.state disk.old)) }
     ensures same { SameDisk (D.state disk.old) (D.state disk.new) }
     ensures device { IsErrOf result Damaged → ⊥ }
@@ -62,7 +62,7 @@ pub fn close_gate<D: Disk>(disk: &mut D) -> Result<(), Fault>
     requires { 3 < (D.state disk.old).size }
     ensures gate { (D.state disk.new).honest → OnOk result ((D.state disk.new).contents 3 ≡ Some (replicate 128 0)) }
     ensures settled { (D.state disk.new).honest → OnOk result (NoneOpen (D.state disk.new)) }
-    ensures touched { (D.state disk.new).honest → OnOk result (Touches IsGate (D.state disk.old) (D.state disk.new)) }
+    ensures modified { (D.state disk.new).honest → OnOk result (Modifies IsGate (D.state disk.old) (D.state disk.new)) }
     ensures near { (D.state disk.new).honest → LeavesOnly (D.state disk.old) (D.state disk.new) (Near IsGate (D.state disk.old)) }
     ensures same { SameDisk (D.state disk.old) (D.state disk.new) }
     ensures device { IsErrOf result Damaged → ⊥ }

@@ -8,13 +8,13 @@
 //!    (`all`, `settled`, `gate`, `shut`)
 //! 3. At each moment a commit has written no other block than gate, log and targets; a commit of no
 //!    puts has only synced. Where a sync failed, blocks that were open before may be anything, too.
-//!    (`touched`, `near`, `nothing`, `unwritten`)
+//!    (`modified`, `near`, `nothing`, `unwritten`)
 //! 4. A crash at any moment of a recovery leaves what settles like something that a crash could leave before
 //!    it, and from the end of its first sync on like what was read before it. (`recover`, `crash`, `synced`)
 //! 5. Where a recovery answers `Ok` the contents are those that settled before it, the gate is closed (with
 //!    zeros where it was open, and else as it was) and no block is open. (`recovered`, `settled`)
 //! 6. A recovery writes only where the gate is open and the log good, and then behind its first sync alone; it
-//!    answers `BadLog` only where nothing settles, and there never `Ok`. (`untouched`, `unwritten`, `synced`,
+//!    answers `BadLog` only where nothing settles, and there never `Ok`. (`unmodified`, `unwritten`, `synced`,
 //!    `bad`, `recovered`)
 //!
 //! And on every disk, honest or not:
@@ -25,7 +25,7 @@
 //! The order of a commit, and what each sync is for:
 //!
 //! ```text
-//! images and header   write_log      only the log is touched: with the gate closed nobody looks at it
+//! images and header   write_log      only the log is modified: with the gate closed nobody looks at it
 //!        | sync                      the whole log is on the disk before the gate can be open
 //! gate opened         open_gate      one write: open with the whole log, or closed
 //!        | sync                      the puts are made from here on, and the places may be spoiled

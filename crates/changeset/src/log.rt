@@ -1,6 +1,6 @@
 ghost use Rattle.std.specs.Prelude.{ℕ, List, ◌≡◌, ◌⊎◌, ◌+◌, ◌<◌, ◌≤◌, ◌^◌, ◌↔◌, IsTrue, IfOk, OnOk, IsErrOf, Some, length};
 ghost use Rattle.std.specs.List.{AllByRecursion};
-ghost use Rattle.blockdisk.specs.Disk.{Near, Touches, LeavesOnly, NoneOpen, SameDisk, one_more};
+ghost use Rattle.blockdisk.specs.Disk.{Near, Modifies, LeavesOnly, NoneOpen, SameDisk, one_more};
 ghost use Rattle.blockdisk.specs.declared.fault.Fault.TheVariants.{Device, Damaged};
 ghost use Rattle.changeset.specs.Crashes.{IsInLog};
 ghost use Rattle.changeset.specs.Reads.{IsNextTarget, OnlyReads};
@@ -59,7 +59,7 @@ pub fn write_log<D: Disk>(disk: &mut D, puts: &[Put]) -> Result<(), Fault>
     requires in_range { AllByRecursion (IsTarget (D.state disk.old).size) (targets puts.now) }
     ensures logged { (D.state disk.new).honest → OnOk result (IsLog (D.state disk.old).size (D.state disk.new).contents puts.now) }
     ensures settled { (D.state disk.new).honest → OnOk result (NoneOpen (D.state disk.new)) }
-    ensures touched { (D.state disk.new).honest → OnOk result (Touches (IsInLog (D.state disk.old).size) (D.state disk.old) (D.state disk.new)) }
+    ensures modified { (D.state disk.new).honest → OnOk result (Modifies (IsInLog (D.state disk.old).size) (D.state disk.old) (D.state disk.new)) }
     ensures near { (D.state disk.new).honest → LeavesOnly (D.state disk.old) (D.state disk.new) (Near (IsInLog (D.state disk.old).size) (D.state disk.old)) }
     ensures same { SameDisk (D.state disk.old) (D.state disk.new) }
     ensures device { IsErrOf result Damaged → ⊥ }
@@ -77,7 +77,7 @@ fn write_images<D: Disk>(disk: &mut D, puts: &[Put]) -> Result<(), Fault>
     requires few { length puts.now ≤ most_puts }
     requires room { log_start + length puts.now ≤ (D.state disk.old).size }
     ensures images { (D.state disk.new).honest → OnOk result (AreImages (D.state disk.new).contents log_start puts.now) }
-    ensures touched { (D.state disk.new).honest → Touches (λ n. (log_start ≤ n) × (n < log_start + length puts.now)) (D.state disk.old) (D.state disk.new) }
+    ensures modified { (D.state disk.new).honest → Modifies (λ n. (log_start ≤ n) × (n < log_start + length puts.now)) (D.state disk.old) (D.state disk.new) }
     ensures same { SameDisk (D.state disk.old) (D.state disk.new) }
     ensures device { IsErrOf result Damaged → ⊥ }
     ensures failed { IsErrOf result Device → (D.state disk.new).failures ≡ one_more (D.state disk.old).failures }

@@ -1,6 +1,6 @@
 ghost use Rattle.std.specs.Prelude.{ℕ, ◌≡◌, ◌⊎◌, ◌<◌, ◌≤◌, ◌↔◌, [], OnOk, IsErrOf, Some, length, replicate};
 ghost use Rattle.std.specs.List.{AllByRecursion};
-ghost use Rattle.blockdisk.specs.Disk.{MayLeave, Near, Touches, Still, NoneOpen, SameDisk, SameOutside, LeavesOnly, one_more};
+ghost use Rattle.blockdisk.specs.Disk.{MayLeave, Near, Modifies, Still, NoneOpen, SameDisk, SameOutside, LeavesOnly, one_more};
 ghost use Rattle.blockdisk.specs.declared.fault.Fault.TheVariants.{Device, Damaged};
 ghost use Rattle.changeset.specs.Crashes.{IsGate, IsGateOrLog, IsShut, SettlesAs, AllOrNone, ArePending};
 ghost use Rattle.changeset.specs.Puts.{IsPutIn, AreDistinct};
@@ -37,7 +37,7 @@ pub fn commit<D: Disk>(disk: &mut D, set: &ChangeSet) -> Result<(), LogError>
 
     // No other block is written, and none at all where there are no puts. Where a sync failed, the blocks that
     // were open before may be anything, too.
-    ensures touched { (D.state disk.new).honest → OnOk result (Touches (λ n. IsGateOrLog (D.state disk.old).size n ⊎ IsPutIn set.now n) (D.state disk.old) (D.state disk.new)) }
+    ensures modified { (D.state disk.new).honest → OnOk result (Modifies (λ n. IsGateOrLog (D.state disk.old).size n ⊎ IsPutIn set.now n) (D.state disk.old) (D.state disk.new)) }
     ensures near { (D.state disk.new).honest → LeavesOnly (D.state disk.old) (D.state disk.new) (Near (λ n. IsGateOrLog (D.state disk.old).size n ⊎ IsPutIn set.now n) (D.state disk.old)) }
     ensures nothing { (D.state disk.new).honest → set.now ≡ [] → OnOk result (Still (D.state disk.old) (D.state disk.new)) }
     ensures unwritten { (D.state disk.new).honest → set.now ≡ [] → LeavesOnly (D.state disk.old) (D.state disk.new) (MayLeave (D.state disk.old)) }
@@ -72,7 +72,7 @@ fn commit_some<D: Disk>(disk: &mut D, puts: &[Put]) -> Result<(), Fault>
     ensures all { (D.state disk.new).honest → OnOk result (SameOutside (IsGateOrLog (D.state disk.old).size) (with_puts puts.now (D.state disk.old).contents) (D.state disk.new).contents) }
     ensures settled { (D.state disk.new).honest → OnOk result (NoneOpen (D.state disk.new)) }
     ensures gate { (D.state disk.new).honest → OnOk result ((D.state disk.new).contents 3 ≡ Some (replicate 128 0)) }
-    ensures touched { (D.state disk.new).honest → OnOk result (Touches (λ n. IsGateOrLog (D.state disk.old).size n ⊎ IsPutIn puts.now n) (D.state disk.old) (D.state disk.new)) }
+    ensures modified { (D.state disk.new).honest → OnOk result (Modifies (λ n. IsGateOrLog (D.state disk.old).size n ⊎ IsPutIn puts.now n) (D.state disk.old) (D.state disk.new)) }
     ensures near { (D.state disk.new).honest → LeavesOnly (D.state disk.old) (D.state disk.new) (Near (λ n. IsGateOrLog (D.state disk.old).size n ⊎ IsPutIn puts.now n) (D.state disk.old)) }
     ensures same { SameDisk (D.state disk.old) (D.state disk.new) }
     ensures device { IsErrOf result Damaged → ⊥ }
@@ -100,7 +100,7 @@ pub fn redo<D: Disk>(disk: &mut D, puts: &[Put]) -> Result<(), Fault>
     ensures all { (D.state disk.new).honest → OnOk result (SameOutside IsGate (with_puts puts.now (D.state disk.old).contents) (D.state disk.new).contents) }
     ensures settled { (D.state disk.new).honest → OnOk result (NoneOpen (D.state disk.new)) }
     ensures gate { (D.state disk.new).honest → OnOk result ((D.state disk.new).contents 3 ≡ Some (replicate 128 0)) }
-    ensures touched { (D.state disk.new).honest → OnOk result (Touches (λ n. IsGate n ⊎ IsPutIn puts.now n) (D.state disk.old) (D.state disk.new)) }
+    ensures modified { (D.state disk.new).honest → OnOk result (Modifies (λ n. IsGate n ⊎ IsPutIn puts.now n) (D.state disk.old) (D.state disk.new)) }
     ensures near { (D.state disk.new).honest → LeavesOnly (D.state disk.old) (D.state disk.new) (Near (λ n. IsGate n ⊎ IsPutIn puts.now n) (D.state disk.old)) }
     ensures same { SameDisk (D.state disk.old) (D.state disk.new) }
     ensures device { IsErrOf result Damaged → ⊥ }
@@ -117,7 +117,7 @@ fn write_places<D: Disk>(disk: &mut D, puts: &[Put]) -> Result<(), Fault>
     requires in_range { AllByRecursion (λ n. n < (D.state disk.old).size) (targets puts.now) }
     ensures placed { (D.state disk.new).honest → OnOk result ((n : ℕ) → (D.state disk.new).contents n ≡ with_puts puts.now (D.state disk.old).contents n) }
     ensures settled { (D.state disk.new).honest → OnOk result (NoneOpen (D.state disk.new)) }
-    ensures touched { (D.state disk.new).honest → OnOk result (Touches (IsPutIn puts.now) (D.state disk.old) (D.state disk.new)) }
+    ensures modified { (D.state disk.new).honest → OnOk result (Modifies (IsPutIn puts.now) (D.state disk.old) (D.state disk.new)) }
     ensures near { (D.state disk.new).honest → LeavesOnly (D.state disk.old) (D.state disk.new) (Near (IsPutIn puts.now) (D.state disk.old)) }
     ensures same { SameDisk (D.state disk.old) (D.state disk.new) }
     ensures device { IsErrOf result Damaged → ⊥ }

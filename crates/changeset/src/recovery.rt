@@ -41,7 +41,7 @@ pub fn recover<D: Disk>(disk: &mut D) -> Result<(), LogError>
     // The log is bad only where nothing settles. Nothing is written but where the gate is open and the
     // log good: a first sync that failed may have changed open blocks, and nothing else did.
     ensures bad { (D.state disk.new).honest → IsErrOf result BadLog → IsLost (D.state disk.old).size (D.state disk.old).contents }
-    ensures untouched { (D.state disk.new).honest → ((puts : List Put) → ArePending (D.state disk.old).size (D.state disk.old).contents puts → ⊥)
+    ensures unmodified { (D.state disk.new).honest → ((puts : List Put) → ArePending (D.state disk.old).size (D.state disk.old).contents puts → ⊥)
         → (IsErrOf result Device → ⊥) → Still (D.state disk.old) (D.state disk.new) }
     ensures unwritten { (D.state disk.new).honest → ((puts : List Put) → ArePending (D.state disk.old).size (D.state disk.old).contents puts → ⊥)
         → LeavesOnly (D.state disk.old) (D.state disk.new) (MayLeave (D.state disk.old)) }
@@ -63,7 +63,7 @@ fn recover_synced<D: Disk>(disk: &mut D) -> Result<(), LogError>
     ensures recovered { (D.state disk.new).honest → OnOk result (IsRecovered (D.state disk.old).size (D.state disk.old).contents (D.state disk.new).contents) }
     ensures settled { (D.state disk.new).honest → NoneOpen (D.state disk.old) → OnOk result (NoneOpen (D.state disk.new)) }
     ensures bad { (D.state disk.new).honest → IsErrOf result BadLog → IsLost (D.state disk.old).size (D.state disk.old).contents }
-    ensures untouched { (D.state disk.new).honest → ((puts : List Put) → ArePending (D.state disk.old).size (D.state disk.old).contents puts → ⊥) → Still (D.state disk.old) (D.state disk.new) }
+    ensures unmodified { (D.state disk.new).honest → ((puts : List Put) → ArePending (D.state disk.old).size (D.state disk.old).contents puts → ⊥) → Still (D.state disk.old) (D.state disk.new) }
     ensures many { IsErrOf result TooMany → ⊥ }
     ensures same { SameDisk (D.state disk.old) (D.state disk.new) }
     ensures failed { IsErrOf result Device → (D.state disk.new).failures ≡ one_more (D.state disk.old).failures }

@@ -3,8 +3,8 @@ use Rattle.std.proofs.Common.{◌≡◌, ◌≢◌, ℕ, ◌||◌, Bool, true, f
 use Rattle.std.specs.Prelude.{codes}
 use Rattle.words36.specs.declared.moment.Moment.{Moment}
 use Rattle.meaning.specs.Texts.{Spoken, complains, refuses, prints, refusal, is_broken, greeting, listing, line}
-use Rattle.meaning.specs.Conducts.{Act, Asks, Looks, Plan, Say, Conducts, begins, fails, ends, ok}
-use Rattle.meaning.specs.Talks.{Speaks, core_words}
+use Rattle.meaning.specs.Plans.{Act, Asks, Looks, Plan, Say, Conducts, begins, fails, ends, ok}
+use Rattle.meaning.specs.Transcripts.{Speaks, core_words}
 use Rattle.meaning.specs.declared.entry.Entry.{Entry}
 use Rattle.meaning.specs.declared.command.Command.{Command}
 use Rattle.meaning.specs.declared.command.Command.TheVariants.{Login as LoginLine, Directory as DirectoryLine}
@@ -17,7 +17,7 @@ use Rattle.commands.specs.Sessions.{Spoke}
 use Rattle.commands.specs.declared.answer.Tally.{Tally}
 use Rattle.commands.proofs.GoingLaws.{goes_nowhere, goes_answered, goes_listed, served_always}
 use Rattle.commands.proofs.LedLaws.{led_on}
-use Rattle.commands.proofs.TalkLaws.{or-false}
+use Rattle.commands.proofs.TranscriptLaws.{or-false}
 
 pub or-true : (b : Bool) → true ≡ b || true
 or-true true = refl

@@ -1,7 +1,7 @@
 -- How a file is copied: its plan, step by step.
 use Rattle.std.proofs.Common.{◌≡◌, ◌≢◌, ℕ, zero, suc, ◌+◌, ◌-◌, ◌<◌, ◌≤◌, List, [], ◌∷◌, ◌++◌, map, refl, sym, ◌∙◌, ap, subst, arith}
 use Rattle.words36.specs.declared.moment.Moment.{Moment}
-use Rattle.meaning.specs.Conducts.{Plan, each, examines, fails, finds, writes, lists, takes, puts, calls, copies_blocks, copies_last, copies_body, until_end, blocks_said, file_words}
+use Rattle.meaning.specs.Plans.{Plan, each, examines, fails, finds, writes, lists, takes, puts, calls, copies_blocks, copies_last, copies_body, until_end, blocks_said, file_words}
 use Rattle.meaning.specs.declared.command.Spec.{Spec}
 use Rattle.meaning.specs.declared.call.Call.TheVariants.{Close}
 use Rattle.meaning.specs.declared.call.Reply.{Reply}

@@ -4,8 +4,8 @@ use Rattle.blockdisk.specs.Laws.{still_start, still_on}
 use Rattle.meaning.specs.Jobs.{State}
 use Rattle.meaning.specs.Room.{Pack}
 use Rattle.meaning.specs.Runs.{Service, Serving, Broken, Answers, Lists}
-use Rattle.meaning.specs.Conducts.{Act, Asks, Looks}
-use Rattle.meaning.specs.Talks.{Went}
+use Rattle.meaning.specs.Plans.{Act, Asks, Looks}
+use Rattle.meaning.specs.Transcripts.{Went}
 use Rattle.meaning.specs.declared.entry.Entry.{Entry}
 use Rattle.meaning.specs.declared.call.Reply.{Reply}
 use Rattle.monitor.specs.Runs.{IsServedIn, IsServedAt}

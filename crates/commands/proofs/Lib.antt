@@ -7,7 +7,7 @@ pub mod WritingLaws
 pub mod GoingLaws
 pub mod AnswerLaws
 pub mod SplitLaws
-pub mod TalkLaws
+pub mod TranscriptLaws
 pub mod StepLaws
 pub mod SessionLaws
 pub mod OneText

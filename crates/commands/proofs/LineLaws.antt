@@ -2,7 +2,7 @@
 use Rattle.std.proofs.Common.{◌≡◌, ◌≢◌, ℕ, ◌<◌, ◌≤◌, ◌==◌, Bool, true, false, cond, List, [], ◌∷◌, ◌++◌, length, map, refl, sym, ◌∙◌, ap, arith}
 use Rattle.std.proofs.lemmas.Bool.Decides.{nat_tests}
 use Rattle.meaning.specs.Lines.{Line, TooLong, without_return, line_of, fitting, upper}
-use Rattle.commands.specs.Held.{Keeps, text_line}
+use Rattle.commands.specs.PartialLines.{Keeps, text_line}
 
 -- A return in the place of the last byte.
 

@@ -2,9 +2,9 @@
 use Rattle.std.proofs.Common.{◌≡◌, ℕ, ◌||◌, Bool, true, false, [], ◌∷◌, List, refl, sym, ◌∙◌, subst, Option, Some, None, Result, IfOk}
 use Rattle.words36.specs.declared.moment.Moment.{Moment}
 use Rattle.meaning.specs.Scripts.{written, wrong}
-use Rattle.meaning.specs.Talks.{is_good, refused_unless, reports}
+use Rattle.meaning.specs.Transcripts.{is_good, refused_unless, reports}
 use Rattle.meaning.specs.Texts.{complains, is_broken, line}
-use Rattle.meaning.specs.Conducts.{Asks}
+use Rattle.meaning.specs.Plans.{Asks}
 use Rattle.meaning.specs.declared.call.Reply.{Reply}
 use Rattle.meaning.specs.declared.call.Event.{Event}
 use Rattle.commands.specs.Languages.{Goes}
@@ -14,7 +14,7 @@ use Rattle.commands.specs.declared.answer.Tally.{Tally}
 use Rattle.commands.specs.declared.language.Language.{Language}
 use Rattle.commands.specs.declared.run.Heard.TheVariants.{Ordered}
 use Rattle.commands.proofs.GoingLaws.{goes_still, goes_ordered}
-use Rattle.commands.proofs.TalkLaws.{or-false}
+use Rattle.commands.proofs.TranscriptLaws.{or-false}
 
 or-true : (b : Bool) → true ≡ b || true
 or-true true = refl

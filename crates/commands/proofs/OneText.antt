@@ -5,15 +5,15 @@ use Rattle.words36.specs.declared.moment.Moment.{Moment}
 use Rattle.meaning.specs.Lines.{Line, Bytes, TooLong}
 use Rattle.meaning.specs.Commands.{Means}
 use Rattle.meaning.specs.Texts.{Spoken}
-use Rattle.meaning.specs.Conducts.{Act}
-use Rattle.meaning.specs.Talks.{Talks, Scripts, Served}
+use Rattle.meaning.specs.Plans.{Act}
+use Rattle.meaning.specs.Transcripts.{IsTranscript, Scripts, Served}
 use Rattle.meaning.specs.Room.{Pack}
 use Rattle.meaning.specs.Jobs.{State}
 use Rattle.meaning.specs.declared.command.Command.{Command}
 use Rattle.meaning.proofs.CommandLaws.{same_command}
-use Rattle.meaning.proofs.TalkLaws.{one_text, one_script}
+use Rattle.meaning.proofs.TranscriptLaws.{one_text, one_script}
 use Rattle.commands.specs.Served.{SaysServed, MeansServed}
-use Rattle.commands.specs.Streams.{TalksServed}
+use Rattle.commands.specs.Streams.{IsServedTranscript}
 use Rattle.commands.specs.declared.language.Language.TheVariants.{Commands, Events}
 
 same_says : (text : List ℕ) (x y : Option Command) → SaysServed text x → SaysServed text y → x ≡ y
@@ -47,29 +47,29 @@ same_forms (line ∷ lines) x y a b =
     let r = same_forms lines a.2 b.2 a.3 b.3 in
     a.4 ∙ (λ i. form (m i) line ∷ r i) ∙ sym b.4
 
-talks_forms : (moment : Moment) (who : Option ℕ) (lines : List Line) (acts : List Act) (said : Spoken) (after : Option ℕ) → TalksServed Commands moment who lines acts said after
-    → (forms : List Line) × Forms lines forms × Talks moment who forms acts said after
-talks_forms moment who [] acts said after p = ([], refl, p)
-talks_forms moment who (line ∷ lines) acts said after (first, more, here, there, mid, (meant, m, speaks), rest, split, text) =
-    let r = talks_forms moment mid lines more there after rest in
+transcript_forms : (moment : Moment) (who : Option ℕ) (lines : List Line) (acts : List Act) (said : Spoken) (after : Option ℕ) → IsServedTranscript Commands moment who lines acts said after
+    → (forms : List Line) × Forms lines forms × IsTranscript moment who forms acts said after
+transcript_forms moment who [] acts said after p = ([], refl, p)
+transcript_forms moment who (line ∷ lines) acts said after (first, more, here, there, mid, (meant, m, speaks), rest, split, text) =
+    let r = transcript_forms moment mid lines more there after rest in
     (form meant line ∷ r.0, (meant, m, r.0, r.1, refl), (meant, means_form line meant m, first, more, here, there, mid, speaks, r.2, split, text))
 
 pub one_served_text : (pack : Pack) (moment : Moment) (lines : List Line) (who : Option ℕ) (s t u : State) (acts others : List Act) (one other : Spoken) (x y : Option ℕ)
-    → TalksServed Commands moment who lines acts one x → Served pack s acts t → TalksServed Commands moment who lines others other y → Served pack s others u → one ≡ other
+    → IsServedTranscript Commands moment who lines acts one x → Served pack s acts t → IsServedTranscript Commands moment who lines others other y → Served pack s others u → one ≡ other
 one_served_text pack moment lines who s t u acts others one other x y a p b q =
-    let f = talks_forms moment who lines acts one x a in
-    let g = talks_forms moment who lines others other y b in
-    one_text pack moment f.0 who s t u acts others one other x y f.2 p (subst (λ (l : List Line). Talks moment who l others other y) (same_forms lines g.0 f.0 g.1 f.1) g.2) q
+    let f = transcript_forms moment who lines acts one x a in
+    let g = transcript_forms moment who lines others other y b in
+    one_text pack moment f.0 who s t u acts others one other x y f.2 p (subst (λ (l : List Line). IsTranscript moment who l others other y) (same_forms lines g.0 f.0 g.1 f.1) g.2) q
 
 -- The same of call scripts.
 
 -- a script by its lines alone, since it does not matter who is logged in
-script_of : (moment : Moment) (who : Option ℕ) (lines : List Line) (acts : List Act) (said : Spoken) (after : Option ℕ) → TalksServed Events moment who lines acts said after → Scripts moment lines acts said
+script_of : (moment : Moment) (who : Option ℕ) (lines : List Line) (acts : List Act) (said : Spoken) (after : Option ℕ) → IsServedTranscript Events moment who lines acts said after → Scripts moment lines acts said
 script_of moment who [] acts said after p = (p.0, p.1)
 script_of moment who (line ∷ lines) acts said after (first, more, here, there, mid, (meant, m, orders, same), rest, split, text) =
     (meant, m, first, more, here, there, orders, script_of moment mid lines more there after rest, split, text)
 
 pub one_served_script : (pack : Pack) (moment : Moment) (lines : List Line) (who : Option ℕ) (s t u : State) (acts others : List Act) (one other : Spoken) (x y : Option ℕ)
-    → TalksServed Events moment who lines acts one x → Served pack s acts t → TalksServed Events moment who lines others other y → Served pack s others u → one ≡ other
+    → IsServedTranscript Events moment who lines acts one x → Served pack s acts t → IsServedTranscript Events moment who lines others other y → Served pack s others u → one ≡ other
 one_served_script pack moment lines who s t u acts others one other x y a p b q =
     one_script pack moment lines s t u acts others one other (script_of moment who lines acts one x a) p (script_of moment who lines others other y b) q

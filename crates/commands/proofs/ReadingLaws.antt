@@ -4,7 +4,7 @@ use Rattle.std.proofs.lemmas.List.{take_all}
 use Rattle.std.proofs.lemmas.Nat.Bits.{and_pow}
 use Rattle.words36.specs.Words.{left}
 use Rattle.words36.specs.declared.moment.Moment.{Moment}
-use Rattle.meaning.specs.Conducts.{Asks, Plan, Ask, each, fails, deposits, fetches, examines, same_words, takes, takes_over, counts, sizes, last_said, says_words, is_end, if_end, until_end}
+use Rattle.meaning.specs.Plans.{Asks, Plan, Ask, each, fails, deposits, fetches, examines, same_words, takes, takes_over, counts, sizes, last_said, says_words, is_end, if_end, until_end}
 use Rattle.meaning.specs.declared.call.Event.TheVariants.{Deposit}
 use Rattle.meaning.specs.declared.call.Reply.{Reply}
 use Rattle.meaning.specs.declared.call.Reply.TheVariants.{Done, Value, Refused, Stopped, NoChannel, AddressCheck, NoJob, NoMemory, Device, Failed, DateRange}

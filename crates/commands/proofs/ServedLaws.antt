@@ -5,7 +5,7 @@ use Rattle.std.specs.Prelude.{nat_lt, nat_le}
 use Rattle.std.proofs.lemmas.Bool.Decides.{nat_tests}
 use Rattle.std.proofs.lemmas.List.{get_or-set_same, get_or-set_other}
 use Rattle.words36.specs.declared.moment.Moment.{Moment}
-use Rattle.meaning.specs.Conducts.{open_words, file_words, new_words}
+use Rattle.meaning.specs.Plans.{open_words, file_words, new_words}
 use Rattle.meaning.specs.Jobs.{Job, State, job_at, slot, with_job}
 use Rattle.meaning.specs.Opening.{dump_mode, open_answer, open_done, opens}
 use Rattle.meaning.specs.Rings.{is_buffered}

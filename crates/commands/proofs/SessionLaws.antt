@@ -4,15 +4,15 @@ use Rattle.std.specs.Io.KnownBytes.{Appends, Consumes, Keeps, IsAtEnd}
 use Rattle.std.proofs.KnownBytes.{Appends-nil, Appends-trans, Consumes-trans, Consumes-nil, Consumes-kept}
 use Rattle.words36.specs.declared.moment.Moment.{Moment}
 use Rattle.meaning.specs.Lines.{lines}
-use Rattle.meaning.specs.Conducts.{Act, Asks, calls}
-use Rattle.meaning.specs.Talks.{Went}
+use Rattle.meaning.specs.Plans.{Act, Asks, calls}
+use Rattle.meaning.specs.Transcripts.{Went}
 use Rattle.meaning.specs.Room.{Pack}
 use Rattle.meaning.specs.Runs.{Service, Answers}
 use Rattle.meaning.specs.declared.call.Call.TheVariants.{Reset}
-use Rattle.commands.specs.Held.{IsHeld}
+use Rattle.commands.specs.PartialLines.{IsPartialLine}
 use Rattle.commands.specs.Languages.{Goes}
 use Rattle.commands.specs.Machines.{Machine, AlwaysStands}
-use Rattle.commands.specs.Streams.{TalksServed, IsServedSession, IsServedScript, spoken, Finished, Unfinished}
+use Rattle.commands.specs.Streams.{IsServedTranscript, IsServedSession, IsServedScript, spoken, Finished, Unfinished}
 use Rattle.commands.specs.Sessions.{SoFar, StepsOn, BreaksOff, EndsWell, Ends, Talked, Session, Script}
 use Rattle.commands.specs.declared.error.SessionError.{SessionError}
 use Rattle.commands.specs.declared.error.SessionError.TheVariants.{Read, Write, NoMemory}
@@ -21,7 +21,7 @@ use Rattle.commands.specs.declared.language.Language.{Language}
 use Rattle.commands.specs.declared.language.Language.TheVariants.{Commands, Events}
 use Rattle.commands.specs.declared.run.Talk.{Talk}
 use Rattle.commands.proofs.GoingLaws.{goes_still, goes_further, went_apart, acts_went}
-use Rattle.commands.proofs.TalkLaws.{events_who}
+use Rattle.commands.proofs.TranscriptLaws.{events_who}
 
 -- how far it is with its reader, its writer and its service
 pub record Streams {S : Type 0} (language : Language) (source left sink full : Option (List ℕ)) (machine : S → Machine) (old now : S) (moment : Moment) (talk : Talk) : Type 0 where
@@ -33,7 +33,7 @@ pub record Streams {S : Type 0} (language : Language) (source left sink full : O
   pub goes : Goes language machine old now acts
   pub so : SoFar language moment talk read written acts
 
-pub stream_starts : {S : Type 0} (language : Language) (machine : S → Machine) (stands : AlwaysStands machine) (source sink : Option (List ℕ)) (m : S) (moment : Moment) (talk : Talk) → IsHeld talk.held [] → talk.who ≡ None → talk.tally.refused ≡ false → talk.tally.broke ≡ false
+pub stream_starts : {S : Type 0} (language : Language) (machine : S → Machine) (stands : AlwaysStands machine) (source sink : Option (List ℕ)) (m : S) (moment : Moment) (talk : Talk) → IsPartialLine talk.held [] → talk.who ≡ None → talk.tally.refused ≡ false → talk.tally.broke ≡ false
     → Streams language source source sink sink machine m m moment talk
 stream_starts language machine stands source sink m moment talk held who refused broke = record {
   read = [];
@@ -42,7 +42,7 @@ stream_starts language machine stands source sink m moment talk held who refused
   consumed = Consumes-nil source;
   appended = Appends-nil sink;
   goes = goes_still machine stands language m;
-  so = record { front = []; seen = []; parted = refl; ended = inl refl; unended = tt; held = held; talks = (refl, (λ i. record { text = []; refused = refused i; broke = broke i }), who) };
+  so = record { front = []; seen = []; parted = refl; ended = inl refl; unended = tt; held = held; transcript = (refl, (λ i. record { text = []; refused = refused i; broke = broke i }), who) };
 }
 
 pub stream_more : {S : Type 0} (language : Language) (machine : S → Machine) (source left rest sink full over : Option (List ℕ)) (old now new : S) (moment : Moment) (talk after : Talk) (bytes : List ℕ) → Streams language source left sink full machine old now moment talk
@@ -67,7 +67,7 @@ stream_stops language machine source left rest sink full old now moment talk s k
   consumed = Consumes-kept source left rest s.read s.consumed k;
   appended = s.appended;
   goes = s.goes;
-  ends = record { front = s.so.front; seen = s.so.seen; parted = s.so.parted; ended = s.so.ended; unended = s.so.unended; said = spoken s.written talk.tally; who = talk.who; talks = s.so.talks; whole = refl };
+  ends = record { front = s.so.front; seen = s.so.seen; parted = s.so.parted; ended = s.so.ended; unended = s.so.unended; said = spoken s.written talk.tally; who = talk.who; transcript = s.so.transcript; whole = refl };
 }
 
 ends_unfinished : (language : Language) (at_end : Type 0) (moment : Moment) (error : SessionError) (read written : List ℕ) (acts : List Act) → Unfinished language at_end moment error read written acts → Ends language at_end moment read written acts (Err error)
@@ -87,7 +87,7 @@ unfinished_at language a b moment error read written acts f u = record {
   first = u.first;
   earlier = u.earlier;
   mid = u.mid;
-  talks = u.talks;
+  transcript = u.transcript;
   more = u.more;
   here = u.here;
   who = u.who;
@@ -140,7 +140,7 @@ served_session pack moment read written acts tally first last f w =
       acts = f.talked;
       mid = parts.0;
       who = f.who;
-      talks = f.talks;
+      transcript = f.transcript;
       went = parts.1;
       answer = f.closes.0;
       reset = subst (λ (s : Service). Answers pack parts.0 (calls moment Reset) f.closes.0 s) (sym parts.2.2) parts.2.1;
@@ -153,7 +153,7 @@ served_script pack moment read written acts tally first last f w =
     let all : acts ≡ f.talked = f.acts_are ∙ ap (λ (l : List Act). f.talked ++ l) f.closes ∙ append-nil f.talked in
     record {
       acts = f.talked;
-      ordered = subst (λ (o : Option ℕ). TalksServed Events moment None (lines read) f.talked (spoken written tally) o) (events_who moment None (lines read) f.talked (spoken written tally) f.who f.talks) f.talks;
+      ordered = subst (λ (o : Option ℕ). IsServedTranscript Events moment None (lines read) f.talked (spoken written tally) o) (events_who moment None (lines read) f.talked (spoken written tally) f.who f.transcript) f.transcript;
       went = subst (λ (l : List Act). Went pack first l last) all w;
     }
 

@@ -8,21 +8,21 @@ use Rattle.meaning.specs.Lines.{Line, without_return, fitting, lines}
 use Rattle.meaning.specs.Texts.{Spoken, silent}
 use Rattle.meaning.specs.declared.command.Command.{Command}
 use Rattle.commands.specs.Served.{served}
-use Rattle.meaning.specs.Conducts.{Act, Asks, calls}
+use Rattle.meaning.specs.Plans.{Act, Asks, calls}
 use Rattle.meaning.specs.declared.call.Call.TheVariants as played
 use Rattle.meaning.specs.declared.call.Reply.{Reply}
-use Rattle.commands.specs.Held.{IsHeld}
+use Rattle.commands.specs.PartialLines.{IsPartialLine}
 use Rattle.commands.specs.Characters.{is_other_than}
 use Rattle.meaning.specs.declared.call.Call.TheVariants.{Reset}
 use Rattle.meaning.specs.declared.call.Event.{Event}
 use Rattle.meaning.specs.declared.call.Event.TheVariants.{Call as Calls}
 use Rattle.commands.specs.Languages.{Goes}
 use Rattle.commands.specs.Machines.{Machine, AlwaysStands, IsAnswered}
-use Rattle.commands.specs.Streams.{TalksServed, spoken, AreWholeLines, Unfinished, IsCut}
+use Rattle.commands.specs.Streams.{IsServedTranscript, spoken, AreWholeLines, Unfinished, IsCut}
 use Rattle.commands.specs.Sessions.{HeardIn, IsHeardIn, Hears, Replied, Puts, Told, Closed, SoFar, StepsOn, BreaksOff, EndsWell, Spoke}
 use Rattle.commands.specs.declared.error.SessionError.{SessionError}
 use Rattle.commands.specs.declared.answer.Tally.{Tally}
-use Rattle.commands.specs.declared.input.Held.{Held}
+use Rattle.commands.specs.declared.input.PartialLine.{PartialLine}
 use Rattle.commands.specs.declared.language.Language.{Language}
 use Rattle.commands.specs.declared.language.Language.TheVariants.{Commands, Events}
 use Rattle.commands.specs.declared.run.Heard.{Heard}
@@ -32,7 +32,7 @@ use Rattle.meaning.proofs.SpellingLaws.{are_append}
 use Rattle.commands.proofs.FieldLaws.{is_other}
 use Rattle.commands.proofs.GoingLaws.{goes_still, goes_further, goes_answered, served_always}
 use Rattle.commands.proofs.SplitLaws.{lines_fed, lines_ended}
-use Rattle.commands.proofs.TalkLaws.{talks_on, talks_heard, heard_line, spoken_more, or-false}
+use Rattle.commands.proofs.TranscriptLaws.{transcript_on, transcript_heard, heard_line, spoken_more, or-false}
 
 -- Steps one after another.
 
@@ -71,7 +71,7 @@ unfinished_behind language error moment read written more acts u = record {
   first = u.first;
   earlier = u.earlier;
   mid = u.mid;
-  talks = u.talks;
+  transcript = u.transcript;
   more = u.more;
   here = u.here;
   who = u.who;
@@ -115,7 +115,7 @@ pub steps_all : {S : Type 0} (language : Language) (machine : S → Machine) (a 
 steps_all language machine a c p r moment x z piece i h s = subst (λ (l : List ℕ). StepsOn language machine a c p r moment x z l) (take_all i piece h) s
 
 -- A byte that is no line feed.
-pub step_byte : {S : Type 0} (language : Language) (machine : S → Machine) (stands : AlwaysStands machine) (m : S) (sink : Option (List ℕ)) (moment : Moment) (talk : Talk) (held : Held) (b : ℕ) → b ≢ 10 → ((seen : List ℕ) → IsHeld talk.held seen → IsHeld held (seen ++ b ∷ []))
+pub step_byte : {S : Type 0} (language : Language) (machine : S → Machine) (stands : AlwaysStands machine) (m : S) (sink : Option (List ℕ)) (moment : Moment) (talk : Talk) (held : PartialLine) (b : ℕ) → b ≢ 10 → ((seen : List ℕ) → IsPartialLine talk.held seen → IsPartialLine held (seen ++ b ∷ []))
     → StepsOn language machine m m sink sink moment talk (record talk { held = held }) (b ∷ [])
 step_byte language machine stands m sink moment talk held b other keeps = record {
   acts = [];
@@ -129,14 +129,14 @@ step_byte language machine stands m sink moment talk held b other keeps = record
     ended = so.ended;
     unended = are_append (is_other_than 10) so.seen (b ∷ []) so.unended (is_other b 10 other, tt);
     held = keeps so.seen so.held;
-    talks = subst (λ (l : List Act). TalksServed language moment None (lines so.front) l (spoken (past ++ []) talk.tally) talk.who) (sym (append-nil done))
-        (subst (λ (l : List ℕ). TalksServed language moment None (lines so.front) done (spoken l talk.tally) talk.who) (sym (append-nil past)) so.talks);
+    transcript = subst (λ (l : List Act). IsServedTranscript language moment None (lines so.front) l (spoken (past ++ []) talk.tally) talk.who) (sym (append-nil done))
+        (subst (λ (l : List ℕ). IsServedTranscript language moment None (lines so.front) done (spoken l talk.tally) talk.who) (sym (append-nil past)) so.transcript);
   };
 }
 
 -- A line feed.
-pub step_feed : {S : Type 0} (language : Language) (machine : S → Machine) (result : Result (Unit {0}) SessionError) (a b : S) (p q : Option (List ℕ)) (moment : Moment) (talk after : Talk) (heard : Heard) (byte : ℕ) → byte ≡ 10 → IsHeld after.held [] → IsHeardIn language heard
-    → ((seen : List ℕ) → IsHeld talk.held seen → HeardIn language moment (fitting seen (without_return seen)) heard) → Told result machine a b p q moment talk.who after.who talk.tally after.tally heard
+pub step_feed : {S : Type 0} (language : Language) (machine : S → Machine) (result : Result (Unit {0}) SessionError) (a b : S) (p q : Option (List ℕ)) (moment : Moment) (talk after : Talk) (heard : Heard) (byte : ℕ) → byte ≡ 10 → IsPartialLine after.held [] → IsHeardIn language heard
+    → ((seen : List ℕ) → IsPartialLine talk.held seen → HeardIn language moment (fitting seen (without_return seen)) heard) → Told result machine a b p q moment talk.who after.who talk.tally after.tally heard
     → OnOk result (StepsOn language machine a b p q moment talk after (byte ∷ []))
 step_feed language machine (Err error) a b p q moment talk after heard byte feed none in_it hears t = tt
 step_feed language machine (Ok v) a b p q moment talk after heard byte feed none in_it hears t = record {
@@ -151,11 +151,11 @@ step_feed language machine (Ok v) a b p q moment talk after heard byte feed none
     ended = inr (read, ap (λ (n : ℕ). read ++ n ∷ []) feed);
     unended = tt;
     held = none;
-    talks = subst (λ (l : List Line). TalksServed language moment None l (done ++ t.acts) (spoken (past ++ t.written) after.tally) after.who) (sym (lines_fed read so.front so.seen byte feed so.parted so.ended so.unended))
-        (subst (λ (s : Spoken). TalksServed language moment None (lines so.front ++ fitting so.seen (without_return so.seen)) (done ++ t.acts) s after.who)
+    transcript = subst (λ (l : List Line). IsServedTranscript language moment None l (done ++ t.acts) (spoken (past ++ t.written) after.tally) after.who) (sym (lines_fed read so.front so.seen byte feed so.parted so.ended so.unended))
+        (subst (λ (s : Spoken). IsServedTranscript language moment None (lines so.front ++ fitting so.seen (without_return so.seen)) (done ++ t.acts) s after.who)
         (spoken_more past talk.tally after.tally t.said t.written t.unwritten t.parts t.whole t.refused t.broke)
-        (talks_on language moment None (lines so.front) (fitting so.seen (without_return so.seen)) done t.acts (spoken past talk.tally) t.said talk.who after.who so.talks
-        (talks_heard language moment talk.who (fitting so.seen (without_return so.seen)) heard t.acts t.said after.who (hears so.seen so.held) t.hears)));
+        (transcript_on language moment None (lines so.front) (fitting so.seen (without_return so.seen)) done t.acts (spoken past talk.tally) t.said talk.who after.who so.transcript
+        (transcript_heard language moment talk.who (fitting so.seen (without_return so.seen)) heard t.acts t.said after.who (hears so.seen so.held) t.hears)));
   };
 }
 
@@ -179,7 +179,7 @@ unfinished language machine at_end error a b p q moment talk after heard here re
       first = done;
       earlier = spoken past talk.tally;
       mid = talk.who;
-      talks = so.talks;
+      transcript = so.transcript;
       more = t.acts;
       here = t.said;
       who = after.who;
@@ -193,7 +193,7 @@ unfinished language machine at_end error a b p q moment talk after heard here re
     }
 
 pub break_feed : {S : Type 0} (language : Language) (machine : S → Machine) (result : Result (Unit {0}) SessionError) (a b : S) (p q : Option (List ℕ)) (moment : Moment) (talk after : Talk) (heard : Heard) (byte : ℕ) → byte ≡ 10 → IsHeardIn language heard
-    → ((seen : List ℕ) → IsHeld talk.held seen → HeardIn language moment (fitting seen (without_return seen)) heard) → Told result machine a b p q moment talk.who after.who talk.tally after.tally heard
+    → ((seen : List ℕ) → IsPartialLine talk.held seen → HeardIn language moment (fitting seen (without_return seen)) heard) → Told result machine a b p q moment talk.who after.who talk.tally after.tally heard
     → IfErr result (λ error. BreaksOff language ⊥ machine a b p q moment talk error (byte ∷ []))
 break_feed language machine (Ok v) a b p q moment talk after heard byte feed in_it hears t = tt
 break_feed language machine (Err error) a b p q moment talk after heard byte feed in_it hears t = record {
@@ -207,7 +207,7 @@ break_feed language machine (Err error) a b p q moment talk after heard byte fee
 
 -- The end of the input.
 pub break_end : {S : Type 0} (language : Language) (machine : S → Machine) (error : SessionError) (a b : S) (p q : Option (List ℕ)) (moment : Moment) (talk after : Talk) (heard : Heard) → IsHeardIn language heard
-    → ((seen : List ℕ) → IsHeld talk.held seen → HeardIn language moment (fitting seen seen) heard) → Told (Err error) machine a b p q moment talk.who after.who talk.tally after.tally heard
+    → ((seen : List ℕ) → IsPartialLine talk.held seen → HeardIn language moment (fitting seen seen) heard) → Told (Err error) machine a b p q moment talk.who after.who talk.tally after.tally heard
     → BreaksOff language (Unit {0}) machine a b p q moment talk error []
 break_end language machine error a b p q moment talk after heard in_it hears t = record {
   acts = t.acts;
@@ -219,7 +219,7 @@ break_end language machine error a b p q moment talk after heard in_it hears t =
 }
 
 pub end_well : {S : Type 0} (language : Language) (machine : S → Machine) (v : Unit {0}) (a b c : S) (p q : Option (List ℕ)) (moment : Moment) (talk after : Talk) (heard : Heard) → IsHeardIn language heard
-    → ((seen : List ℕ) → IsHeld talk.held seen → HeardIn language moment (fitting seen seen) heard) → Told (Ok v) machine a b p q moment talk.who after.who talk.tally after.tally heard → Closed language machine b c moment
+    → ((seen : List ℕ) → IsPartialLine talk.held seen → HeardIn language moment (fitting seen seen) heard) → Told (Ok v) machine a b p q moment talk.who after.who talk.tally after.tally heard → Closed language machine b c moment
     → EndsWell language machine a c p q moment talk after.tally
 end_well language machine v a b c p q moment talk after heard in_it hears t end = record {
   acts = t.acts ++ end.acts;
@@ -229,11 +229,11 @@ end_well language machine v a b c p q moment talk after heard in_it hears t end 
   ends = λ read past done so. record {
     talked = done ++ t.acts;
     who = after.who;
-    talks = subst (λ (l : List Line). TalksServed language moment None l (done ++ t.acts) (spoken (past ++ t.written) after.tally) after.who) (sym (lines_ended read so.front so.seen so.parted so.ended so.unended))
-        (subst (λ (s : Spoken). TalksServed language moment None (lines so.front ++ fitting so.seen so.seen) (done ++ t.acts) s after.who)
+    transcript = subst (λ (l : List Line). IsServedTranscript language moment None l (done ++ t.acts) (spoken (past ++ t.written) after.tally) after.who) (sym (lines_ended read so.front so.seen so.parted so.ended so.unended))
+        (subst (λ (s : Spoken). IsServedTranscript language moment None (lines so.front ++ fitting so.seen so.seen) (done ++ t.acts) s after.who)
         (spoken_more past talk.tally after.tally t.said t.written t.unwritten t.parts t.whole t.refused t.broke)
-        (talks_on language moment None (lines so.front) (fitting so.seen so.seen) done t.acts (spoken past talk.tally) t.said talk.who after.who so.talks
-        (talks_heard language moment talk.who (fitting so.seen so.seen) heard t.acts t.said after.who (hears so.seen so.held) t.hears)));
+        (transcript_on language moment None (lines so.front) (fitting so.seen so.seen) done t.acts (spoken past talk.tally) t.said talk.who after.who so.transcript
+        (transcript_heard language moment talk.who (fitting so.seen so.seen) heard t.acts t.said after.who (hears so.seen so.held) t.hears)));
     closing = end.acts;
     closes = end.closes;
     acts_are = sym (append_assoc done t.acts end.acts);

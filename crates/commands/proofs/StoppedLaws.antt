@@ -2,7 +2,7 @@
 use Rattle.std.proofs.Common.{◌≡◌, inl, inr, ⊎_elim, ℕ, List, [], ◌∷◌, refl, sym, subst, arith, Result, ◌∙◌}
 use Rattle.blockdisk.specs.Disk.{Contents, DiskState, MayLeave, Still, Passes}
 use Rattle.blockdisk.specs.Laws.{passes_start, passes_on, passes_weaker}
-use Rattle.meaning.specs.Conducts.{Act, Asks, Looks}
+use Rattle.meaning.specs.Plans.{Act, Asks, Looks}
 use Rattle.meaning.specs.Crashes.{StandsForState, StandsForEither}
 use Rattle.meaning.specs.Jobs.{State}
 use Rattle.meaning.specs.Room.{Pack}

@@ -5,7 +5,7 @@ use Rattle.std.proofs.lemmas.Grind.{flat_map-append}
 use Rattle.std.specs.Prelude.{flat_map}
 use Rattle.words36.specs.Ascii.{unpacked, five_characters}
 use Rattle.words36.specs.declared.moment.Moment.{Moment}
-use Rattle.meaning.specs.Conducts.{Plan, Say, each, examines, fetches, sizes, finds, lists, takes, goes_to, ends, fails, file_words, block_words, blocks_said, types_blocks, types_last, types_body, until_end}
+use Rattle.meaning.specs.Plans.{Plan, Say, each, examines, fetches, sizes, finds, lists, takes, goes_to, ends, fails, file_words, block_address, blocks_said, types_blocks, types_last, types_body, until_end}
 use Rattle.meaning.specs.Texts.{Spoken, typed, not_null, prints, refuses, refusal, is_broken, line}
 use Rattle.meaning.specs.declared.call.Event.{Event}
 use Rattle.meaning.specs.declared.call.Reply.{Reply}
@@ -16,7 +16,7 @@ use Rattle.commands.specs.Machines.{Machine, AlwaysStands}
 use Rattle.commands.specs.Sessions.{Spoke}
 use Rattle.commands.specs.declared.answer.Tally.{Tally}
 use Rattle.commands.specs.declared.typing.Typed.{Typed}
-use Rattle.commands.proofs.TalkLaws.{or-false}
+use Rattle.commands.proofs.TranscriptLaws.{or-false}
 use Rattle.commands.proofs.AnswerLaws.{or-true}
 use Rattle.commands.proofs.LedLaws.{led_on, led_still, each_append}
 
@@ -85,7 +85,7 @@ module _ {S : Type 0} (machine : S → Machine) where
 
   module _ (a b c d : S) (moment : Moment) (count : ℕ) (left : ℕ) (more : ℕ) (before mid after : Typed) (is_more : left ≡ suc more) (p : HasRead a b (types_blocks moment count) (types_blocks moment left) before mid) where
     abbrev asked : (List ℕ → Plan) → Plan
-    asked next = fetches moment 128 block_words (λ words. types_blocks moment more (λ others. next (words ++ others)))
+    asked next = fetches moment 128 block_address (λ words. types_blocks moment more (λ others. next (words ++ others)))
 
     next_block : HasRead a b (types_blocks moment count) (λ next. each moment (takes moment ∷ []) (asked next)) before mid
     unfolding types_blocks
@@ -96,13 +96,13 @@ module _ {S : Type 0} (machine : S → Machine) where
     no_block result reply e failed = read_until a b c moment (types_blocks moment count) (λ next. each moment (takes moment ∷ []) (asked next)) before mid result reply e next_block (λ next. failed (asked next))
 
     module _ (took : (next : Plan) → Led machine b c (each moment (takes moment ∷ []) next) next) where
-      pub no_words : {X : Type 0} (result : Result X Reply) (reply : Reply) → result ≡ Err reply → ((next : List ℕ → Plan) → Led machine c d (fetches moment 128 block_words next) (fails moment reply))
+      pub no_words : {X : Type 0} (result : Result X Reply) (reply : Reply) → result ≡ Err reply → ((next : List ℕ → Plan) → Led machine c d (fetches moment 128 block_address next) (fails moment reply))
           → HasTyped machine a d moment (types_blocks moment count) result before mid
       no_words result reply e failed =
           read_until a b d moment (types_blocks moment count) (λ next. each moment (takes moment ∷ []) (asked next)) before mid result reply e next_block
           (λ next. led_then (took (asked next)) (failed (λ words. types_blocks moment more (λ others. next (words ++ others)))))
 
-      pub read_block : (words : List ℕ) → ((next : List ℕ → Plan) → Led machine c d (fetches moment 128 block_words next) (next words))
+      pub read_block : (words : List ℕ) → ((next : List ℕ → Plan) → Led machine c d (fetches moment 128 block_address next) (next words))
           → ((seen : List ℕ) → AreTyped mid.is_whole mid.bytes.items seen → AreTyped after.is_whole after.bytes.items (seen ++ words))
           → HasRead a d (types_blocks moment count) (types_blocks moment more) before after
       read_block words fetched pushed =
@@ -131,36 +131,36 @@ module _ {S : Type 0} (machine : S → Machine) where
   pub not_counted : {X : Type 0} (a b : S) (moment : Moment) (n size : ℕ) (t : Typed) (result : Result X Reply) (reply : Reply) → result ≡ Err reply → ((next : ℕ → Plan) → Led machine a b (sizes moment n size next) (fails moment reply))
       → HasTyped machine a b moment (types_last moment n size) result t t
   not_counted a b moment n size t result reply e failed =
-      failed_at a b moment (types_last moment n size) t result reply e (λ next. failed (λ m. each moment (lists m ++ goes_to moment n ∷ takes moment ∷ []) (fetches moment m block_words next)))
+      failed_at a b moment (types_last moment n size) t result reply e (λ next. failed (λ m. each moment (lists m ++ goes_to moment n ∷ takes moment ∷ []) (fetches moment m block_address next)))
 
   module _ (a b : S) (moment : Moment) (n size : ℕ) (count : ℕ) (counted : (next : ℕ → Plan) → Led machine a b (sizes moment n size next) (next count)) where
-    pub last_at : (next : List ℕ → Plan) → Led machine a b (types_last moment n size next) (each moment (lists count) (each moment (goes_to moment n ∷ takes moment ∷ []) (fetches moment count block_words next)))
+    pub last_at : (next : List ℕ → Plan) → Led machine a b (types_last moment n size next) (each moment (lists count) (each moment (goes_to moment n ∷ takes moment ∷ []) (fetches moment count block_address next)))
     last_at next =
-        subst (λ (p : Plan). Led machine a b (types_last moment n size next) p) (each_append moment (lists count) (goes_to moment n ∷ takes moment ∷ []) (fetches moment count block_words next))
-        (counted (λ m. each moment (lists m ++ goes_to moment n ∷ takes moment ∷ []) (fetches moment m block_words next)))
+        subst (λ (p : Plan). Led machine a b (types_last moment n size next) p) (each_append moment (lists count) (goes_to moment n ∷ takes moment ∷ []) (fetches moment count block_address next))
+        (counted (λ m. each moment (lists m ++ goes_to moment n ∷ takes moment ∷ []) (fetches moment m block_address next)))
 
     module _ (c : S) (t : Typed) where
       pub no_list : {X : Type 0} (result : Result X Reply) (reply : Reply) → result ≡ Err reply → ((next : Plan) → Led machine b c (each moment (lists count) next) (fails moment reply))
           → HasTyped machine a c moment (types_last moment n size) result t t
       no_list result reply e failed =
-          failed_at a c moment (types_last moment n size) t result reply e (λ next. led_then (last_at next) (failed (each moment (goes_to moment n ∷ takes moment ∷ []) (fetches moment count block_words next))))
+          failed_at a c moment (types_last moment n size) t result reply e (λ next. led_then (last_at next) (failed (each moment (goes_to moment n ∷ takes moment ∷ []) (fetches moment count block_address next))))
 
       module _ (listed : (next : Plan) → Led machine b c (each moment (lists count) next) next) (d : S) where
         pub no_last : {X : Type 0} (result : Result X Reply) (reply : Reply) → result ≡ Err reply → ((next : Plan) → Led machine c d (each moment (goes_to moment n ∷ takes moment ∷ []) next) (fails moment reply))
             → HasTyped machine a d moment (types_last moment n size) result t t
         no_last result reply e failed =
             failed_at a d moment (types_last moment n size) t result reply e
-            (λ next. led_then (last_at next) (led_then (listed (each moment (goes_to moment n ∷ takes moment ∷ []) (fetches moment count block_words next))) (failed (fetches moment count block_words next))))
+            (λ next. led_then (last_at next) (led_then (listed (each moment (goes_to moment n ∷ takes moment ∷ []) (fetches moment count block_address next))) (failed (fetches moment count block_address next))))
 
         module _ (took : (next : Plan) → Led machine c d (each moment (goes_to moment n ∷ takes moment ∷ []) next) next) (e : S) where
-          last_fetches : (next : List ℕ → Plan) → Led machine a d (types_last moment n size next) (fetches moment count block_words next)
-          last_fetches next = led_then (last_at next) (led_then (listed (each moment (goes_to moment n ∷ takes moment ∷ []) (fetches moment count block_words next))) (took (fetches moment count block_words next)))
+          last_fetches : (next : List ℕ → Plan) → Led machine a d (types_last moment n size next) (fetches moment count block_address next)
+          last_fetches next = led_then (last_at next) (led_then (listed (each moment (goes_to moment n ∷ takes moment ∷ []) (fetches moment count block_address next))) (took (fetches moment count block_address next)))
 
-          pub no_last_words : {X : Type 0} (result : Result X Reply) (reply : Reply) → result ≡ Err reply → ((next : List ℕ → Plan) → Led machine d e (fetches moment count block_words next) (fails moment reply))
+          pub no_last_words : {X : Type 0} (result : Result X Reply) (reply : Reply) → result ≡ Err reply → ((next : List ℕ → Plan) → Led machine d e (fetches moment count block_address next) (fails moment reply))
               → HasTyped machine a e moment (types_last moment n size) result t t
           no_last_words result reply is failed = failed_at a e moment (types_last moment n size) t result reply is (λ next. led_then (last_fetches next) (failed next))
 
-          pub read_last : {X : Type 0} (x : X) (words : List ℕ) (after : Typed) → ((next : List ℕ → Plan) → Led machine d e (fetches moment count block_words next) (next words))
+          pub read_last : {X : Type 0} (x : X) (words : List ℕ) (after : Typed) → ((next : List ℕ → Plan) → Led machine d e (fetches moment count block_address next) (next words))
               → ((seen : List ℕ) → AreTyped t.is_whole t.bytes.items seen → AreTyped after.is_whole after.bytes.items (seen ++ words))
               → HasTyped machine a e moment (types_last moment n size) (Ok x) t after
           read_last x words after fetched pushed = record { words = words; types = pushed; led = λ next. led_then (last_fetches next) (fetched next) }

@@ -1,11 +1,11 @@
 -- What a line asks of a service, event by event, and how far its plan has come.
 use Rattle.std.specs.Prelude.{◌≡◌, ℕ, ◌||◌, Bool, true, List, [], ◌∷◌, ◌++◌, map, Result, Ok, Err, IfOk}
 use Rattle.words36.specs.declared.moment.Moment.{Moment}
-use Rattle.meaning.specs.Conducts.{Act, Plan, Leads, Say, each, fails}
+use Rattle.meaning.specs.Plans.{Act, Plan, Leads, Say, each, fails}
 use Rattle.meaning.specs.Jobs.{State}
 use Rattle.meaning.specs.Room.{Pack}
 use Rattle.meaning.specs.Runs.{Service, Answers}
-use Rattle.meaning.specs.Talks.{Went}
+use Rattle.meaning.specs.Transcripts.{Went}
 use Rattle.meaning.specs.Texts.{Spoken, typed}
 use Rattle.meaning.specs.declared.call.Reply.{Reply}
 use Rattle.meaning.specs.declared.call.Reply.TheVariants.{Done}

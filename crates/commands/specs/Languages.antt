@@ -4,8 +4,8 @@ use Rattle.words36.specs.declared.moment.Moment.{Moment}
 use Rattle.meaning.specs.Lines.{Line}
 use Rattle.meaning.specs.Scripts.{MeansEvent}
 use Rattle.meaning.specs.Texts.{Spoken}
-use Rattle.meaning.specs.Conducts.{Act, Asks, calls}
-use Rattle.meaning.specs.Talks.{Speaks, Orders}
+use Rattle.meaning.specs.Plans.{Act, Asks, calls}
+use Rattle.meaning.specs.Transcripts.{Speaks, Orders}
 use Rattle.meaning.specs.declared.command.Command.{Command}
 use Rattle.meaning.specs.declared.call.Call.TheVariants.{Reset}
 use Rattle.meaning.specs.declared.call.Event.{Event}

@@ -1,4 +1,4 @@
-pub mod Held
+pub mod PartialLines
 pub mod Served
 pub mod Characters
 pub mod Machines

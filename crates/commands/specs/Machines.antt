@@ -6,9 +6,9 @@ use Rattle.meaning.specs.Crashes.{may_change, StandsForEither}
 use Rattle.meaning.specs.Jobs.{State}
 use Rattle.meaning.specs.Room.{Pack}
 use Rattle.meaning.specs.Runs.{Service, Serving, Broken, Answers, Lists}
-use Rattle.meaning.specs.Conducts.{Act, Asks, Looks}
+use Rattle.meaning.specs.Plans.{Act, Asks, Looks}
 use Rattle.meaning.specs.Step.{step}
-use Rattle.meaning.specs.Talks.{Went}
+use Rattle.meaning.specs.Transcripts.{Went}
 use Rattle.meaning.specs.declared.entry.Entry.{Entry}
 use Rattle.meaning.specs.declared.call.Reply.{Reply}
 use Rattle.monitor.specs.Moments.{StandsNow}

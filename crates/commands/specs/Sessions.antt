@@ -4,16 +4,16 @@ use Rattle.std.specs.Io.KnownBytes.{Consumes, Appends, IsAtEnd}
 use Rattle.words36.specs.declared.moment.Moment.{Moment}
 use Rattle.meaning.specs.Lines.{Line, lines}
 use Rattle.meaning.specs.Texts.{Spoken, silent}
-use Rattle.meaning.specs.Conducts.{Act}
-use Rattle.meaning.specs.Talks.{Speaks, Orders}
+use Rattle.meaning.specs.Plans.{Act}
+use Rattle.meaning.specs.Transcripts.{Speaks, Orders}
 use Rattle.meaning.specs.Runs.{Service}
 use Rattle.meaning.specs.declared.command.Command.{Command}
-use Rattle.commands.specs.Held.{IsHeld}
+use Rattle.commands.specs.PartialLines.{IsPartialLine}
 use Rattle.commands.specs.Served.{MeansServed, served, Fits}
 use Rattle.commands.specs.Languages.{Closes, Goes}
 use Rattle.commands.specs.Machines.{Machine, GoesBy, GoesServed, AreServedActs}
 use Rattle.meaning.specs.Scripts.{MeansEvent}
-use Rattle.commands.specs.Streams.{TalksServed, IsServedSession, IsServedScript, spoken, HasNoFeed, AreWholeLines, Finished, CutShort, IsCut, Unfinished}
+use Rattle.commands.specs.Streams.{IsServedTranscript, IsServedSession, IsServedScript, spoken, HasNoFeed, AreWholeLines, Finished, CutShort, IsCut, Unfinished}
 use Rattle.commands.specs.declared.error.SessionError.{SessionError}
 use Rattle.commands.specs.declared.error.SessionError.TheVariants.{Read, Write, NoMemory}
 use Rattle.commands.specs.declared.answer.Tally.{Tally}
@@ -106,8 +106,8 @@ pub record SoFar (language : Language) (moment : Moment) (talk : Talk) (read wri
   pub parted : read ≡ front ++ seen
   pub ended : AreWholeLines front
   pub unended : HasNoFeed seen
-  pub held : IsHeld talk.held seen
-  pub talks : TalksServed language moment None (lines front) acts (spoken written talk.tally) talk.who
+  pub held : IsPartialLine talk.held seen
+  pub transcript : IsServedTranscript language moment None (lines front) acts (spoken written talk.tally) talk.who
 
 -- Whatever there was so far, it goes on by these bytes,
 pub record StepsOn {S : Type 0} (language : Language) (machine : S → Machine) (old new : S) (sink full : Option (List ℕ)) (moment : Moment) (talk after : Talk) (bytes : List ℕ) : Type 0 where

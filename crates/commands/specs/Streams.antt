@@ -4,10 +4,10 @@ use Rattle.words36.specs.declared.moment.Moment.{Moment}
 use Rattle.meaning.specs.Lines.{Line, feed, lines}
 use Rattle.meaning.specs.Spellings.{Are}
 use Rattle.meaning.specs.Texts.{Spoken, silent, joined}
-use Rattle.meaning.specs.Conducts.{Act, calls}
+use Rattle.meaning.specs.Plans.{Act, calls}
 use Rattle.meaning.specs.Room.{Pack}
 use Rattle.meaning.specs.Runs.{Service, Answers}
-use Rattle.meaning.specs.Talks.{Went}
+use Rattle.meaning.specs.Transcripts.{Went}
 use Rattle.meaning.specs.declared.call.Call.TheVariants.{Reset}
 use Rattle.meaning.specs.declared.call.Reply.{Reply}
 use Rattle.commands.specs.Characters.{is_other_than}
@@ -19,11 +19,11 @@ use Rattle.commands.specs.declared.language.Language.{Language}
 use Rattle.commands.specs.declared.language.Language.TheVariants.{Commands, Events}
 
 -- What lines ask, one after the other, and what they say.
-abbrev pub TalksServed : Language → Moment → Option ℕ → List Line → List Act → Spoken → Option ℕ → Type 0
-TalksServed language moment who [] acts said then_who = (acts ≡ []) × (said ≡ silent) × (then_who ≡ who)
-TalksServed language moment who (line ∷ lines) acts said then_who =
+abbrev pub IsServedTranscript : Language → Moment → Option ℕ → List Line → List Act → Spoken → Option ℕ → Type 0
+IsServedTranscript language moment who [] acts said then_who = (acts ≡ []) × (said ≡ silent) × (then_who ≡ who)
+IsServedTranscript language moment who (line ∷ lines) acts said then_who =
     (first : List Act) × (more : List Act) × (here : Spoken) × (there : Spoken) × (mid : Option ℕ)
-    × Says language moment who line first here mid × TalksServed language moment mid lines more there then_who × (acts ≡ first ++ more) × (said ≡ joined here there)
+    × Says language moment who line first here mid × IsServedTranscript language moment mid lines more there then_who × (acts ≡ first ++ more) × (said ≡ joined here there)
 
 -- A whole input, answered at a moment by a service that was `old` before it and is `new` after it.
 
@@ -31,14 +31,14 @@ pub record IsServedSession (pack : Pack) (moment : Moment) (input : List ℕ) (o
   pub acts : List Act
   pub mid : Service
   pub who : Option ℕ
-  pub talks : TalksServed Commands moment None (lines input) acts said who
+  pub transcript : IsServedTranscript Commands moment None (lines input) acts said who
   pub went : Went pack old acts mid
   pub answer : Reply
   pub reset : Answers pack mid (calls moment Reset) answer new
 
 pub record IsServedScript (pack : Pack) (moment : Moment) (input : List ℕ) (old new : Service) (said : Spoken) : Type 0 where
   pub acts : List Act
-  pub ordered : TalksServed Events moment None (lines input) acts said None
+  pub ordered : IsServedTranscript Events moment None (lines input) acts said None
   pub went : Went pack old acts new
 
 -- a text with what was counted of its lines
@@ -56,7 +56,7 @@ AreWholeLines bytes = (bytes ≡ []) ⊎ ((before : List ℕ) × (bytes ≡ befo
 pub record Finished (language : Language) (moment : Moment) (read written : List ℕ) (acts : List Act) (tally : Tally) : Type 0 where
   pub talked : List Act
   pub who : Option ℕ
-  pub talks : TalksServed language moment None (lines read) talked (spoken written tally) who
+  pub transcript : IsServedTranscript language moment None (lines read) talked (spoken written tally) who
   pub closing : List Act
   pub closes : Closes language moment closing
   pub acts_are : acts ≡ talked ++ closing
@@ -70,7 +70,7 @@ pub record CutShort (language : Language) (moment : Moment) (read written : List
   pub unended : HasNoFeed seen
   pub said : Spoken
   pub who : Option ℕ
-  pub talks : TalksServed language moment None (lines front) acts said who
+  pub transcript : IsServedTranscript language moment None (lines front) acts said who
   pub whole : written ≡ said.text
 
 -- Of a line's text this was written and this was not: the writer refused some of it, or there was no memory for it.
@@ -91,7 +91,7 @@ pub record Unfinished (language : Language) (at_end : Type 0) (moment : Moment) 
   pub first : List Act
   pub earlier : Spoken
   pub mid : Option ℕ
-  pub talks : TalksServed language moment None before first earlier mid
+  pub transcript : IsServedTranscript language moment None before first earlier mid
   pub more : List Act
   pub here : Spoken
   pub who : Option ℕ

@@ -1,6 +1,6 @@
 ghost use Rattle.std.specs.Prelude.{◌≡◌, ℕ, map};
 ghost use Rattle.words36.specs.declared.moment.Moment as moments;
-ghost use Rattle.meaning.specs.Conducts.{Plan, Say, each, examines, ends, until_end};
+ghost use Rattle.meaning.specs.Plans.{Plan, Say, each, examines, ends, until_end};
 ghost use Rattle.meaning.specs.Texts.{Spoken};
 ghost use Rattle.commands.specs.Asking.{AreServedFrom, Led, followed};
 

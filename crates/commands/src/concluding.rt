@@ -1,4 +1,4 @@
-ghost use Rattle.meaning.specs.Conducts.{ends, ok};
+ghost use Rattle.meaning.specs.Plans.{ends, ok};
 ghost use Rattle.commands.specs.Asking.{Concludes, followed};
 
 use crate::answer::{Tally, is_broken, refuse};

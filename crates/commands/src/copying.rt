@@ -1,5 +1,5 @@
 ghost use Rattle.std.specs.Prelude.{◌++◌, ◌∷◌, [], ◌+◌, ℕ, Some};
-ghost use Rattle.meaning.specs.Conducts.{Plan, each, examines, finds as found, writes as written, lists as listed, file_words, copies_blocks, copies_last, copies_body, blocks_said as said_blocks, until_end, calls};
+ghost use Rattle.meaning.specs.Plans.{Plan, each, examines, finds as found, writes as written, lists as listed, file_words, copies_blocks, copies_last, copies_body, blocks_said as said_blocks, until_end, calls};
 ghost use Rattle.meaning.specs.declared.call.Call.TheVariants.{Close};
 ghost use Rattle.meaning.specs.declared.command.Command.TheVariants.{Copy as CopyLine};
 ghost use Rattle.commands.specs.Asking.{Led, followed};

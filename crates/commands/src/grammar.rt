@@ -2,7 +2,7 @@ ghost use Rattle.std.specs.Prelude.{◌≡◌, ◌++◌, ◌∷◌, [], length, 
 ghost use Rattle.meaning.specs.Spellings.{AreFields, IsBracketed};
 ghost use Rattle.meaning.specs.Commands.{IsProtection, IsMade};
 ghost use Rattle.commands.specs.Served.{SaysServed, MeansServed};
-ghost use Rattle.commands.specs.Held.{line_of};
+ghost use Rattle.commands.specs.PartialLines.{line_of};
 
 use crate::fields::{first_field, length_before, pair, small_number};
 use crate::input::InputLine;

@@ -1,6 +1,6 @@
 ghost use Rattle.std.specs.Prelude.{◌≡◌, ◌++◌, ◌∷◌, [], List, ℕ, if◌then◌else◌};
 ghost use Rattle.meaning.specs.Lines.{fitting, without_return, upper, TooLong};
-ghost use Rattle.commands.specs.Held.{IsHeld, line_list, text_line};
+ghost use Rattle.commands.specs.PartialLines.{IsPartialLine, line_list, text_line};
 
 use arrayvec::ArrayVec;
 
@@ -18,23 +18,23 @@ pub enum InputLine<'a> {
 
 /// A line that hasn't ended: its bytes so far, or that there are too many of them.
 #[derive(Drop)]
-pub struct Held {
+pub struct PartialLine {
     bytes: ArrayVec<u8, LINE_BYTES>,
     is_too_long: bool,
 }
 
-impl Default for Held {
+impl Default for PartialLine {
     fn default() -> Self {
-        Held::new()
+        PartialLine::new()
     }
 }
 
-impl Held {
+impl PartialLine {
     /// No byte of a line yet.
     pub fn new() -> Self
-        ensures { IsHeld result [] }
+        ensures { IsPartialLine result [] }
     {
-        Held {
+        PartialLine {
             bytes: ArrayVec::new(),
             is_too_long: false,
         }
@@ -42,7 +42,7 @@ impl Held {
 
     /// One more byte of the line, that is no line feed.
     pub fn push(&mut self, byte: u8)
-        ensures { (seen : List ℕ) → IsHeld self.old seen → IsHeld self.new (seen ++ byte ∷ []) }
+        ensures { (seen : List ℕ) → IsPartialLine self.old seen → IsPartialLine self.new (seen ++ byte ∷ []) }
     {
         if self.bytes.try_push(upper(byte)).is_err() {
             self.is_too_long = true;
@@ -52,14 +52,14 @@ impl Held {
     /// The line that a line feed ends here, without a carriage return just before the feed; none where
     /// it is empty.
     pub fn ended(&self) -> Option<InputLine<'_>>
-        ensures { (seen : List ℕ) → IsHeld self.now seen → line_list result ≡ fitting seen (without_return seen) }
+        ensures { (seen : List ℕ) → IsPartialLine self.now seen → line_list result ≡ fitting seen (without_return seen) }
     {
         input_line(self.is_too_long, without_return(self.bytes.as_slice()))
     }
 
     /// The line that the end of the input ends here, with all its bytes; none where it is empty.
     pub fn last(&self) -> Option<InputLine<'_>>
-        ensures { (seen : List ℕ) → IsHeld self.now seen → line_list result ≡ fitting seen seen }
+        ensures { (seen : List ℕ) → IsPartialLine self.now seen → line_list result ≡ fitting seen seen }
     {
         input_line(self.is_too_long, self.bytes.as_slice())
     }

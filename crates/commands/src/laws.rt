@@ -2,16 +2,16 @@ ghost use Rattle.std.specs.Prelude.{◌≡◌, ℕ, List, Option};
 ghost use Rattle.words36.specs.declared.moment.Moment.{Moment};
 ghost use Rattle.meaning.specs.Lines.{Line};
 ghost use Rattle.meaning.specs.Commands.{Means};
-ghost use Rattle.meaning.specs.Conducts.{Act};
+ghost use Rattle.meaning.specs.Plans.{Act};
 ghost use Rattle.meaning.specs.Jobs.{State};
 ghost use Rattle.meaning.specs.Scripts.{SaysEvent};
 ghost use Rattle.meaning.specs.Room.{Pack};
-ghost use Rattle.meaning.specs.Talks.{Served};
+ghost use Rattle.meaning.specs.Transcripts.{Served};
 ghost use Rattle.meaning.specs.Texts.{Spoken};
 ghost use Rattle.meaning.specs.declared.call.Event.{Event};
 ghost use Rattle.meaning.specs.declared.command.Command.{Command};
 ghost use Rattle.commands.specs.Served.{MeansServed, served};
-ghost use Rattle.commands.specs.Streams.{TalksServed};
+ghost use Rattle.commands.specs.Streams.{IsServedTranscript};
 ghost use Rattle.commands.specs.declared.language.Language.TheVariants.{Commands, Events};
 
 /// What a line says that is served is what it means, where that is served, and nothing where it is not.
@@ -23,9 +23,9 @@ pub fn lines_say_what_is_served()
 /// the state and the moment, where no act met want of memory or a fault of the disk.
 pub fn served_texts_are_functions()
     ensures session { (pack : Pack) (moment : Moment) (lines : List Line) (who : Option ℕ) (s t u : State) (acts others : List Act) (one other : Spoken) (x y : Option ℕ)
-        → TalksServed Commands moment who lines acts one x → Served pack s acts t → TalksServed Commands moment who lines others other y → Served pack s others u → one ≡ other }
+        → IsServedTranscript Commands moment who lines acts one x → Served pack s acts t → IsServedTranscript Commands moment who lines others other y → Served pack s others u → one ≡ other }
     ensures script { (pack : Pack) (moment : Moment) (lines : List Line) (who : Option ℕ) (s t u : State) (acts others : List Act) (one other : Spoken) (x y : Option ℕ)
-        → TalksServed Events moment who lines acts one x → Served pack s acts t → TalksServed Events moment who lines others other y → Served pack s others u → one ≡ other }
+        → IsServedTranscript Events moment who lines acts one x → Served pack s acts t → IsServedTranscript Events moment who lines others other y → Served pack s others u → one ≡ other }
 {}
 
 /// A line of a call script orders one event at a moment, or nothing.

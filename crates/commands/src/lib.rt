@@ -1,6 +1,6 @@
 //! The lines of a session, and the texts that they are answered with. What the layer keeps:
 //!
-//! 1. The lines of an input are those of the definition, in whatever pieces the reader gives it. (`Held`,
+//! 1. The lines of an input are those of the definition, in whatever pieces the reader gives it. (`PartialLine`,
 //!    `Session`)
 //! 2. `command_of` answers a command exactly where a text spells one that is served, and none exactly where
 //!    it spells none. So far LOGIN, DIRECTORY, COPY, TYPE and MAKDIR are served; a line that means another

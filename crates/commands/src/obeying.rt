@@ -1,6 +1,6 @@
 ghost use Rattle.std.specs.Prelude.{◌≡◌, ◌||◌, ℕ, Option};
 ghost use Rattle.words36.specs.declared.moment.Moment.{Moment};
-ghost use Rattle.meaning.specs.Talks.{is_good, refused_unless};
+ghost use Rattle.meaning.specs.Transcripts.{is_good, refused_unless};
 ghost use Rattle.meaning.specs.Texts.{is_broken};
 ghost use Rattle.commands.specs.Sessions.{Replied};
 ghost use Rattle.commands.specs.declared.run.Heard.TheVariants.{Ordered};

@@ -1,8 +1,8 @@
 ghost use Rattle.std.specs.Prelude.{◌≡◌, ◌<◌, ◌≤◌, ◌-◌, ◌^◌, ℕ, List, if◌then◌else◌, IfOk, Some, None, length, take, replicate};
 ghost use Rattle.words36.specs.Words.{left};
 ghost use Rattle.words36.specs.declared.moment.Moment as moments;
-ghost use Rattle.meaning.specs.Conducts as plans;
-ghost use Rattle.meaning.specs.Conducts.{Plan, each, fetches, deposits, takes_over, sizes, until_end, says_words, block_words};
+ghost use Rattle.meaning.specs.Plans as plans;
+ghost use Rattle.meaning.specs.Plans.{Plan, each, fetches, deposits, takes_over, sizes, until_end, says_words, block_address};
 ghost use Rattle.commands.specs.Asking.{Led, followed};
 
 use crate::asking::{ask_all, examine};
@@ -42,7 +42,7 @@ pub fn blocks_said(size: Word) -> u32
 /// Makes all words of the block this one.
 fn fill<S: FileService>(alloc: Global, service: &mut S, word: Word) -> Result<(), Reply>
     ensures { (moment : moments.Moment) (next : Plan) → Led S.machine service.old service.new
-        (each moment (deposits block_words (replicate 128 word)) next) (followed moment result (λ unit. next)) }
+        (each moment (deposits block_address (replicate 128 word)) next) (followed moment result (λ unit. next)) }
 {
     for place in 0..BLOCK_WORDS as u32 {
         ask_all(alloc, service, &[fills(place, word)])?;
@@ -54,7 +54,7 @@ fn fill<S: FileService>(alloc: Global, service: &mut S, word: Word) -> Result<()
 pub fn fetch<S: FileService>(alloc: Global, service: &mut S, count: u32) -> Result<Block, Reply>
     requires { count ≤ 128 }
     ensures { (moment : moments.Moment) (next : List ℕ → Plan) → Led S.machine service.old service.new
-        (fetches moment count block_words next) (followed moment result (λ block. next (take count block))) }
+        (fetches moment count block_address next) (followed moment result (λ block. next (take count block))) }
 {
     let mut block = [Word::ZERO; BLOCK_WORDS];
     for place in 0..count {

@@ -1,8 +1,8 @@
 ghost use Rattle.std.specs.Prelude.{◌≡◌, ◌<◌, ◌≤◌, ◌+◌, ◌-◌, ◌*◌, ◌%◌, ◌^◌, map, unwrap_or};
 ghost use Rattle.std.specs.List.{AllByRecursion};
 ghost use Rattle.words36.specs.Words.{join};
-ghost use Rattle.meaning.specs.Conducts as plans;
-ghost use Rattle.meaning.specs.Conducts.{block_words};
+ghost use Rattle.meaning.specs.Plans as plans;
+ghost use Rattle.meaning.specs.Plans.{block_address};
 ghost use Rattle.meaning.specs.declared.call.Call.TheVariants.{Close};
 ghost use Rattle.meaning.specs.declared.call.Event.TheVariants.{Deposit};
 ghost use Rattle.commands.specs.Asking.{AreServedFrom, IsAlwaysServed};
@@ -112,7 +112,7 @@ pub fn writes(moment: Moment, spec: Spec) -> [Event; 9]
 /// The command word of so many words of the block.
 fn block_command(count: u32) -> Word
     requires { count ≤ 128 }
-    ensures { result ≡ join ((2 ^ 18 - count) % 2 ^ 18) (block_words - 1) }
+    ensures { result ≡ join ((2 ^ 18 - count) % 2 ^ 18) (block_address - 1) }
 {
     Word::from_halves(
         Half::from_bits(((1 << 18) - count) % (1 << 18)),
@@ -167,7 +167,7 @@ pub fn closes(moment: Moment) -> Event
 /// A word of the block becomes this one.
 pub fn fills(place: u32, word: Word) -> Event
     requires { place < 128 }
-    ensures made { result ≡ Deposit 1 (block_words + place) word }
+    ensures made { result ≡ Deposit 1 (block_address + place) word }
     ensures served { IsAlwaysServed result }
 {
     Event::Deposit(SESSION_JOB, BLOCK_AREA + place, word)

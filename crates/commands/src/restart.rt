@@ -1,5 +1,5 @@
 ghost use Rattle.std.specs.Prelude.{◌≡◌, ◌⊎◌, List, IfOk, IfErr};
-ghost use Rattle.meaning.specs.Conducts.{Act};
+ghost use Rattle.meaning.specs.Plans.{Act};
 ghost use Rattle.meaning.specs.Jobs.{State};
 ghost use Rattle.meaning.specs.Published.{without_serials};
 ghost use Rattle.meaning.specs.Runs.{Serving};

@@ -1,11 +1,11 @@
 ghost use Rattle.std.specs.Prelude.{◌≡◌, ◌∷◌, [], ℕ, OnOk, IfOk, IfErr, MatchResult};
-ghost use Rattle.commands.specs.Held.{line_list};
+ghost use Rattle.commands.specs.PartialLines.{line_list};
 ghost use Rattle.commands.specs.Sessions.{HeardIn, IsHeardIn, FitsIn, Puts, Told, Closed, StepsOn, BreaksOff, EndsWell, Talked, Session, Script};
 
 use crate::SessionError;
 use crate::answer::{SESSION_JOB, Tally, answer};
 use crate::grammar::meant_by;
-use crate::input::{Held, InputLine};
+use crate::input::{InputLine, PartialLine};
 use crate::language::Language;
 use crate::obeying::obey;
 use crate::orders::ordered_by;
@@ -33,7 +33,7 @@ pub enum Heard {
 /// How far an input is answered.
 #[derive(Drop)]
 pub struct Talk {
-    held: Held,
+    held: PartialLine,
     who: Option<Ppn>,
     tally: Tally,
 }
@@ -114,7 +114,7 @@ fn take_byte<S: FileService, W: Write>(
         return Ok(());
     }
     let heard = heard_of(language, moment, talk.held.ended());
-    talk.held = Held::new();
+    talk.held = PartialLine::new();
     tell(alloc, service, writer, moment, talk, heard)
 }
 
@@ -180,7 +180,7 @@ fn talk_in<R: Read, W: Write, S: FileService>(
         S.machine service.old service.new moment result }
 {
     let mut talk = Talk {
-        held: Held::new(),
+        held: PartialLine::new(),
         who: None,
         tally: Tally {
             refused: false,

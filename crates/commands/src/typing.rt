@@ -1,5 +1,5 @@
 ghost use Rattle.std.specs.Prelude.{◌+◌, ◌++◌, ℕ, List, [], Some};
-ghost use Rattle.meaning.specs.Conducts.{Plan, each, examines, finds as found, lists as listed, file_words, types_blocks, types_last, types_body, blocks_said as said_blocks, until_end};
+ghost use Rattle.meaning.specs.Plans.{Plan, each, examines, finds as found, lists as listed, file_words, types_blocks, types_last, types_body, blocks_said as said_blocks, until_end};
 ghost use Rattle.meaning.specs.declared.command.Command.TheVariants.{TypeOut as TypeLine};
 ghost use Rattle.commands.specs.Asking.{Led, followed, AreTyped, HasTyped};
 ghost use Rattle.commands.specs.Sessions.{Spoke};

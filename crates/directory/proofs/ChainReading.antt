@@ -25,7 +25,7 @@ use Rattle.meaning.proofs.Chains.{head-numbers}
 use Rattle.alloctab.specs.Lists.{digit, digit_at, flag_at}
 use Rattle.directory.specs.Chains.{nodes_of, IsChain, IsOn}
 use Rattle.directory.specs.ChainLaws.{numbers_of, items_of}
-use Rattle.directory.specs.Loading.{AreGood, IsBadWords, IsBadAt, ReadsOn, IsBadChain, IsMetTwice, IsWholeChain}
+use Rattle.directory.specs.Loading.{AreGood, IsBadWords, IsBadAt, ReadsOn, IsBadChain, IsTwiceInChain, IsWholeChain}
 use Rattle.alloctab.proofs.SpaceLaws.{in_space_some}
 
 -- The disk is read and not written.
@@ -236,8 +236,8 @@ module _ {K V : Type 0} (R : K → K → Ordering) (words : K × V → List ℕ)
         wrong (block, is, w) = as_bad block is w
 
     -- a stop at a block that is marked
-    pub met_twice : honest → flag_at marks n ≡ true → IsMetTwice words contents old first n
-    met_twice h on =
+    pub twice_in_chain : honest → flag_at marks n ≡ true → IsTwiceInChain words contents old first n
+    twice_in_chain h on =
         let there : digit_at marks n ≡ 1 = ap digit on in
         record { before = nodes_of blocks entries; walk = l.walk h; somewhere = some; twice = twice n some there (l.marked n) }
       where
@@ -311,7 +311,7 @@ module _ {K V : Type 0} (R : K → K → Ordering) (words : K × V → List ℕ)
       no_bad_block words apart IsEntry IsEntry target size contents (numbers nodes) (from_entries (items nodes)) directory nonzero w.blocks_inside w.read.are_entries w.targets_inside
       first b.before n begin b.walk (in_space_some size n b.inside) b.bad
 
-  pub whole_not_twice : (n : ℕ) → IsMetTwice words contents old first n → ⊥
+  pub whole_not_twice : (n : ℕ) → IsTwiceInChain words contents old first n → ⊥
   whole_not_twice n t =
       let le = walk_le words apart IsEntry contents (numbers nodes) (from_entries (items nodes)) directory nonzero first n t.before begin t.walk n in
       let once = w.once n in

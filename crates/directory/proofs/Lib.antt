@@ -9,5 +9,5 @@ pub mod ChainPuts
 mod Editing
 mod EditedEntries
 mod Steps
-mod Rooms
+mod Reserves
 mod Listing

@@ -29,10 +29,10 @@ module _ {K V : Type 0} (R : K → K → Ordering) where
   TakesBlock chain k = (find R k chain.entries ≡ None) × (length chain.entries ≡ 42 * length chain.blocks)
 
   -- Lists with a place for an entry more, where the key has none yet, and for the block that the chain takes for it.
-  pub record IsRoom (chain : ChainState (K × V)) (k : K) (room : ChainState (K × V)) : Type 0 where
-    pub entry : find R k chain.entries ≡ None → (e : K × V) × (room.entries ≡ chain.entries ++ e ∷ [])
-    pub grown : TakesBlock chain k → (n : ℕ) × (room.blocks ≡ chain.blocks ++ n ∷ [])
-    pub kept : find R k chain.entries ≡ None → (length chain.entries ≡ 42 * length chain.blocks → ⊥) → room.blocks ≡ chain.blocks
+  pub record IsReserve (chain : ChainState (K × V)) (k : K) (reserve : ChainState (K × V)) : Type 0 where
+    pub entry : find R k chain.entries ≡ None → (e : K × V) × (reserve.entries ≡ chain.entries ++ e ∷ [])
+    pub grown : TakesBlock chain k → (n : ℕ) × (reserve.blocks ≡ chain.blocks ++ n ∷ [])
+    pub kept : find R k chain.entries ≡ None → (length chain.entries ≡ 42 * length chain.blocks → ⊥) → reserve.blocks ≡ chain.blocks
 
   -- the entries with this one: in the place of the one with its key, or at the end
   abbrev pub inserted : List (K × V) → K × V → List (K × V)

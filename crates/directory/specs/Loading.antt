@@ -54,7 +54,7 @@ pub record IsBadChain {K V : Type 0} (R : K → K → Ordering) (words : K × V 
   pub bad : IsBadBlock R words IsEntry target size contents before n
 
 -- Where a walk from `first` comes to block n, which is marked or was walked already.
-pub record IsMetTwice {K V : Type 0} (words : K × V → List ℕ) (contents : Contents) (reached : List Bool) (first n : ℕ) : Type 0 where
+pub record IsTwiceInChain {K V : Type 0} (words : K × V → List ℕ) (contents : Contents) (reached : List Bool) (first n : ℕ) : Type 0 where
   pub before : List (Node (K × V))
   pub walk : Leads words contents first before n
   pub somewhere : 0 < n

@@ -24,22 +24,22 @@ pub trait Entry: Copy {
     type Key: Copy;
 
     // What stands at a key.
-    ghost Held: { Type 0 };
+    ghost Stored: { Type 0 };
 
     // The order of the keys.
     ghost order: { Self.Key → Self.Key → Ordering };
 
     // The entry as a key and what stands there.
-    ghost view: { Self → Self.Key × Held };
+    ghost view: { Self → Self.Key × Stored };
 
     // The words of an entry on the disk.
-    ghost words_of: { Self.Key × Held → List ℕ };
+    ghost words_of: { Self.Key × Stored → List ℕ };
 
     // The entry is as it should be.
-    ghost IsEntry: { Self.Key × Held → Type 0 };
+    ghost IsEntry: { Self.Key × Stored → Type 0 };
 
     // The block that an entry names.
-    ghost target: { Self.Key × Held → ℕ };
+    ghost target: { Self.Key × Stored → ℕ };
 
     /// The three words on the disk.
     fn words(&self) -> [Word; 3]
@@ -55,8 +55,8 @@ pub trait Entry: Copy {
     fn parse(words: [Word; 3]) -> Result<Self, EntryFault>
         ensures value { IfOk result (λ entry. words_of (view entry) ≡ words) }
         ensures good { IfOk result (λ entry. IsEntry (view entry)) }
-        ensures malformed { IsErrOf result Malformed → (e : Self.Key × Held) → IsEntry e → words_of e ≡ words → ⊥ }
-        ensures outside { IsErrOf result Outside → (e : Self.Key × Held) × IsEntry e × (words_of e ≡ words) × (2 ^ 32 ≤ target e) };
+        ensures malformed { IsErrOf result Malformed → (e : Self.Key × Stored) → IsEntry e → words_of e ≡ words → ⊥ }
+        ensures outside { IsErrOf result Outside → (e : Self.Key × Stored) × IsEntry e × (words_of e ≡ words) × (2 ^ 32 ≤ target e) };
 
     /// The number of the block that the entry names.
     fn target(&self) -> u32

@@ -38,7 +38,7 @@ impl Entry for FileEntry {
 
     type Key = FileName;
 
-    ghost Held = { ℕ };
+    ghost Stored = { ℕ };
 
     ghost order = { name_cmp };
 

@@ -20,9 +20,9 @@
 //! 8. A chain grows by the block that is handed to `insert`, where a new key finds the last block full, and
 //!    gives back the one that `remove` answers. (`grown`, `kept`, `blocks`)
 //! 9. `list_sorted` gives the entries by rising keys.
-//! 10. Memory is taken by `bare`, `load`, `insert`, `room_for` and `list_sorted` alone; where `insert` is
+//! 10. Memory is taken by `bare`, `load`, `insert`, `reserve_for` and `list_sorted` alone; where `insert` is
 //!    refused it, chain and change set are as before. (`same`, `unput`)
-//! 11. `insert_into` makes the edit of `insert` in memory that `room_for` found before, and can't fail.
+//! 11. `insert_into` makes the edit of `insert` in memory that `reserve_for` found before, and can't fail.
 #![tactic(auto)]
 
 mod chain;
@@ -37,7 +37,7 @@ mod list;
 mod load;
 mod master;
 mod parse;
-mod room;
+mod reserve;
 
 pub use chain::Chain;
 pub use entry::{Entry, EntryFault};
@@ -45,4 +45,4 @@ pub use error::DirectoryError;
 pub use file::FileEntry;
 pub use laws::chain_stands;
 pub use master::MasterEntry;
-pub use room::Room;
+pub use reserve::Reserve;

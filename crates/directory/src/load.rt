@@ -46,10 +46,10 @@ fn is_new<E: Entry>(entries: &[E], key: &E::Key) -> bool
 fn push_entry<E: Entry>(words: [Word; 3], size: u32, entries: &mut Vec<E>) -> Result<(), AddError>
     requires volume { IsVolumeSize size }
     requires good { AreGood E.order E.IsEntry E.target size (map E.view entries.old.items) }
-    ensures ok { OnOk result ((e : E.Key × E.Held) → E.words_of e ≡ words → map E.view entries.new.items ≡ map E.view entries.old.items ++ e ∷ []) }
+    ensures ok { OnOk result ((e : E.Key × E.Stored) → E.words_of e ≡ words → map E.view entries.new.items ≡ map E.view entries.old.items ++ e ∷ []) }
     ensures good { OnOk result (AreGood E.order E.IsEntry E.target size (map E.view entries.new.items)) }
-    ensures outside { IsErrOf result Outside → (e : E.Key × E.Held) → E.IsEntry e → E.words_of e ≡ words → InSpace size (E.target e) → ⊥ }
-    ensures again { IsErrOf result Again → (e : E.Key × E.Held) → E.words_of e ≡ words → find E.order e.0 (map E.view entries.old.items) ≡ None → ⊥ }
+    ensures outside { IsErrOf result Outside → (e : E.Key × E.Stored) → E.IsEntry e → E.words_of e ≡ words → InSpace size (E.target e) → ⊥ }
+    ensures again { IsErrOf result Again → (e : E.Key × E.Stored) → E.words_of e ≡ words → find E.order e.0 (map E.view entries.old.items) ≡ None → ⊥ }
 {
     let Ok(entry) = E::parse(words) else {
         return Err(AddError::Outside);
@@ -76,10 +76,10 @@ fn push_entries<E: Entry>(
     requires volume { IsVolumeSize size }
     requires few { count ≤ 42 }
     requires good { AreGood E.order E.IsEntry E.target size (map E.view entries.old.items) }
-    ensures ok { OnOk result ((next : ℕ) (es : List (E.Key × E.Held)) → SpellsBlock E.words_of E.IsEntry block.now next es → length es ≡ count → map E.view entries.new.items ≡ map E.view entries.old.items ++ es) }
+    ensures ok { OnOk result ((next : ℕ) (es : List (E.Key × E.Stored)) → SpellsBlock E.words_of E.IsEntry block.now next es → length es ≡ count → map E.view entries.new.items ≡ map E.view entries.old.items ++ es) }
     ensures good { OnOk result (AreGood E.order E.IsEntry E.target size (map E.view entries.new.items)) }
-    ensures outside { IsErrOf result Outside → (next : ℕ) (es : List (E.Key × E.Held)) → SpellsBlock E.words_of E.IsEntry block.now next es → length es ≡ count → AllByRecursion (λ e. InSpace size (E.target e)) es → ⊥ }
-    ensures again { IsErrOf result Again → (next : ℕ) (es : List (E.Key × E.Held)) → SpellsBlock E.words_of E.IsEntry block.now next es → length es ≡ count → EachOnce E.order (map E.view entries.old.items ++ es) → ⊥ }
+    ensures outside { IsErrOf result Outside → (next : ℕ) (es : List (E.Key × E.Stored)) → SpellsBlock E.words_of E.IsEntry block.now next es → length es ≡ count → AllByRecursion (λ e. InSpace size (E.target e)) es → ⊥ }
+    ensures again { IsErrOf result Again → (next : ℕ) (es : List (E.Key × E.Stored)) → SpellsBlock E.words_of E.IsEntry block.now next es → length es ≡ count → EachOnce E.order (map E.view entries.old.items ++ es) → ⊥ }
 {
     for i in 0..count {
         push_entry(entry_words(block, i), size, entries)?;
@@ -187,7 +187,7 @@ impl<E: Entry> Chain<E> {
     ghost use Rattle.meaning.specs.Walks.{Leads};
     ghost use Rattle.alloctab.specs.Lists.{digit_at};
     ghost use Rattle.directory.specs.Chains.{IsChain, IsOn, viewed, nodes_of};
-    ghost use Rattle.directory.specs.Loading.{IsBadChain, IsMetTwice, IsWholeChain};
+    ghost use Rattle.directory.specs.Loading.{IsBadChain, IsTwiceInChain, IsWholeChain};
 
     /// Reads the chain that begins in block `first`, and marks its blocks. A block that is marked already,
     /// by this call or before it, ends the walk before it is read: so a loop does.
@@ -216,10 +216,10 @@ impl<E: Entry> Chain<E> {
         ensures marked { IfOk result (λ chain. (n : ℕ) → digit_at reached.new n ≡ digit_at reached.old n + times n chain.blocks) }
         ensures length { length reached.new ≡ length reached.old }
         ensures bad { (D.state disk.new).honest → (k : ℕ) → IsErrOf result (BadDirectory k) → IsBadChain E.order E.words_of E.IsEntry E.target (D.state disk.old).size (D.state disk.old).contents first k }
-        ensures twice { (D.state disk.new).honest → (k : ℕ) → IsErrOf result (BlockTwice k) → IsMetTwice E.words_of (D.state disk.old).contents reached.old first k }
-        ensures whole { (D.state disk.new).honest → (nodes : List (Node (E.Key × E.Held))) → IsWholeChain E.order E.words_of E.IsEntry E.target (D.state disk.old).size (D.state disk.old).contents reached.old first nodes
+        ensures twice { (D.state disk.new).honest → (k : ℕ) → IsErrOf result (BlockTwice k) → IsTwiceInChain E.words_of (D.state disk.old).contents reached.old first k }
+        ensures whole { (D.state disk.new).honest → (nodes : List (Node (E.Key × E.Stored))) → IsWholeChain E.order E.words_of E.IsEntry E.target (D.state disk.old).size (D.state disk.old).contents reached.old first nodes
             → (k : ℕ) → IsErrOf result (BadDirectory k) → ⊥ }
-        ensures once { (D.state disk.new).honest → (nodes : List (Node (E.Key × E.Held))) → IsWholeChain E.order E.words_of E.IsEntry E.target (D.state disk.old).size (D.state disk.old).contents reached.old first nodes
+        ensures once { (D.state disk.new).honest → (nodes : List (Node (E.Key × E.Stored))) → IsWholeChain E.order E.words_of E.IsEntry E.target (D.state disk.old).size (D.state disk.old).contents reached.old first nodes
             → (k : ℕ) → IsErrOf result (BlockTwice k) → ⊥ }
 
         // Whatever the disk answers, a block that is named lies in the free space.

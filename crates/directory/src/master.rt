@@ -47,7 +47,7 @@ impl Entry for MasterEntry {
 
     type Key = Ppn;
 
-    ghost Held = { ℕ × ℕ };
+    ghost Stored = { ℕ × ℕ };
 
     ghost order = { nat_cmp };
 

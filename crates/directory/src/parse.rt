@@ -16,8 +16,8 @@ pub fn entry_words(block: &Block, i: usize) -> [Word; 3]
 
 /// Whether three words are those of an entry, whatever block it names.
 fn is_entry<E: Entry>(words: [Word; 3]) -> bool
-    ensures yes { IsTrue result → (e : E.Key × E.Held) × E.IsEntry e × (E.words_of e ≡ words) }
-    ensures no { (e : E.Key × E.Held) → E.IsEntry e → E.words_of e ≡ words → IsTrue result }
+    ensures yes { IsTrue result → (e : E.Key × E.Stored) × E.IsEntry e × (E.words_of e ≡ words) }
+    ensures no { (e : E.Key × E.Stored) → E.IsEntry e → E.words_of e ≡ words → IsTrue result }
 {
     match E::parse(words) {
         Err(EntryFault::Malformed) => false,
@@ -29,8 +29,8 @@ fn is_entry<E: Entry>(words: [Word; 3]) -> bool
 /// Whether a block has so many entries.
 fn are_entries<E: Entry>(block: &Block, count: usize) -> bool
     requires { count ≤ 42 }
-    ensures yes { IsTrue result → (es : List (E.Key × E.Held)) × (length es ≡ count) × SpellsEntries E.words_of E.IsEntry (take (3 * count) (drop 2 block.now)) es }
-    ensures no { (es : List (E.Key × E.Held)) → length es ≡ count → SpellsEntries E.words_of E.IsEntry (take (3 * count) (drop 2 block.now)) es → IsTrue result }
+    ensures yes { IsTrue result → (es : List (E.Key × E.Stored)) × (length es ≡ count) × SpellsEntries E.words_of E.IsEntry (take (3 * count) (drop 2 block.now)) es }
+    ensures no { (es : List (E.Key × E.Stored)) → length es ≡ count → SpellsEntries E.words_of E.IsEntry (take (3 * count) (drop 2 block.now)) es → IsTrue result }
 {
     for i in 0..count {
         if !is_entry::<E>(entry_words(block, i)) {
@@ -42,8 +42,8 @@ fn are_entries<E: Entry>(block: &Block, count: usize) -> bool
 
 /// Whether the words of a block are those of a directory block.
 pub fn is_directory_block<E: Entry>(block: &Block) -> bool
-    ensures yes { IsTrue result → (next : ℕ) × (es : List (E.Key × E.Held)) × SpellsBlock E.words_of E.IsEntry block.now next es }
-    ensures no { (next : ℕ) (es : List (E.Key × E.Held)) → SpellsBlock E.words_of E.IsEntry block.now next es → IsTrue result }
+    ensures yes { IsTrue result → (next : ℕ) × (es : List (E.Key × E.Stored)) × SpellsBlock E.words_of E.IsEntry block.now next es }
+    ensures no { (next : ℕ) (es : List (E.Key × E.Stored)) → SpellsBlock E.words_of E.IsEntry block.now next es → IsTrue result }
 {
     let count = block[1].bits();
     if count > BLOCK_ENTRIES as u64 {

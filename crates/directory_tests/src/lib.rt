@@ -10,4 +10,4 @@ mod entry_tests;
 #[cfg(test)]
 mod load_tests;
 #[cfg(test)]
-mod room_tests;
+mod reserve_tests;

@@ -35,16 +35,16 @@ IsEnding status (Err error) = status ≡ Fault
 abbrev pub IsSaid : Option (List ℕ) → Option (List ℕ) → Status → Refusal → Type 0
 IsSaid sink full status refusal = (status ≡ Fault) ⊎ ((status_code status ≡ refusal_code refusal) × Appends sink full (refusal_text refusal ++ feed ∷ []))
 
--- A service was started from these files with nobody logged in, and went from its first value to its last as `Talks`
+-- A service was started from these files with nobody logged in, and went from its first value to its last as `IsTranscript`
 -- says; the disk of the last is what is handed back.
-pub record IsServed {D : Type 0} (state : D → DiskState) (disk end : D) (status : Status) (files : Files File) (Talks : MonitorState D → MonitorState D → Result Tally SessionError → Type 0) : Type 0 where
+pub record IsServed {D : Type 0} (state : D → DiskState) (disk end : D) (status : Status) (files : Files File) (IsTranscript : MonitorState D → MonitorState D → Result Tally SessionError → Type 0) : Type 0 where
   pub first : MonitorState D
   pub last : MonitorState D
   pub result : Result Tally SessionError
   pub begun : ServesFiles (state first.disk) first.map first.failed first.jobs files
   -- until then a crash left the same files
   pub started : LeavesOnly (state disk) (state first.disk) (StandsLikeBefore (state disk))
-  pub talks : Talks first last result
+  pub transcript : IsTranscript first last result
   pub ends : IsEnding status result
   pub ended : end ≡ last.disk
 

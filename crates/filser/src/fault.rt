@@ -74,6 +74,6 @@ impl From<HostFault> for ImageFault {
 
 /// Tells people something about a file, or about another part of the host: a line on the standard error, which is left
 /// out where that fails.
-pub(crate) fn tell<E: Write, T: Display>(errors: &mut E, name: &str, what: &T) {
+pub(crate) fn report<E: Write, T: Display>(errors: &mut E, name: &str, what: &T) {
     let _ = writeln!(errors, "filser: {name}: {what}");
 }

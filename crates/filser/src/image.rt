@@ -6,7 +6,7 @@ ghost use Rattle.imagefile.specs.Supposition.{unseen_in};
 ghost use Rattle.filser.specs.declared.refusal.Refusal.TheVariants.{Exists, Start};
 ghost use Rattle.volume.specs.declared.error.VolumeError.TheVariants.{Device};
 
-use crate::fault::tell;
+use crate::fault::report;
 use crate::streams::stream_of;
 use crate::{HostFault, ImageFault, Refusal};
 use blockdisk::Disk;
@@ -29,7 +29,7 @@ fn failure_of(file: &HostFile) -> Option<HostFault> {
 /// Tells people why the file of an image failed, where it did.
 pub(crate) fn tell_failure<E: Write>(errors: &mut E, path: &str, image: Image) {
     if let Some(fault) = failure_of(&image.finish()) {
-        tell(errors, path, &fault);
+        report(errors, path, &fault);
     }
 }
 
@@ -61,7 +61,7 @@ fn claim<E: Write>(file: &File, path: &str, errors: &mut E) -> Result<(), ImageF
         Ok(()) => Ok(()),
         Err(TryLockError::WouldBlock) => Err(ImageFault::from(HostFault::InUse)),
         Err(TryLockError::Error(error)) => {
-            tell(
+            report(
                 errors,
                 path,
                 &format_args!("nothing keeps another process away: {error}"),

@@ -7,7 +7,7 @@ ghost use Rattle.filser.specs.Requests.{Asks, InRange};
 ghost use Rattle.filser.specs.declared.asked.Request.{Request as Asked};
 ghost use Rattle.filser.specs.declared.status.Status.TheVariants.{Done, BadArguments, Fault};
 
-use crate::fault::tell;
+use crate::fault::report;
 use crate::image::{Image, open_file, tell_failure};
 use crate::lines::LineReader;
 use crate::serving::{say, serve_calls_in_file, serve_file, serve_fresh};
@@ -45,7 +45,7 @@ pub fn work<F: Files<File = File>, R: Read, W: Write, E: Write>(
     let mut lines = LineReader::new(reader);
     let status = answer(files, alloc, words, missing, &mut lines, writer, errors);
     if let Some((line, fault)) = lines.fault() {
-        tell(
+        report(
             errors,
             "standard input",
             &format_args!("line {line}: {fault}"),
@@ -97,7 +97,7 @@ fn start<F: Files<File = File>, R: Read, W: Write, E: Write>(
         }
     }
     if missing.are_needed() {
-        tell(errors, "standard input or output", &"it is closed");
+        report(errors, "standard input or output", &"it is closed");
         return Status::Fault;
     }
     perform(files, alloc, asked, reader, writer, errors)
@@ -182,7 +182,7 @@ fn refuse_image<W: Write, E: Write>(
         return say(writer, fault.refusal);
     };
     if !host.forbids_errors() {
-        tell(errors, path, &host);
+        report(errors, path, &host);
     }
     if host.forbids_output() {
         return fault.refusal.status();

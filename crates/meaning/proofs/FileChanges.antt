@@ -46,14 +46,14 @@ whole_changed layout old new ppn d chain files gone w one c each same = record {
 }
 
 -- The files of one directory change.
-files_changed : (size : ℕ) (old new : Contents) (m : DiskMap) (ppn : ℕ) (d : StoredDirectory) (chain : List ℕ) (files : FinMap name_cmp StoredFile) (gone touched given_up taken : ℕ → ℕ)
+files_changed : (size : ℕ) (old new : Contents) (m : DiskMap) (ppn : ℕ) (d : StoredDirectory) (chain : List ℕ) (files : FinMap name_cmp StoredFile) (gone modified given_up taken : ℕ → ℕ)
     → HasMap size old m → get m.directories ppn ≡ Some d → IsFileChain new chain (map_values (λ f. f.prime) files) → head_or_zero chain ≡ head_or_zero d.chain
     → ((name : FileName) (f : StoredFile) → get files name ≡ Some f → IsNewOrStays (λ z g. IsVersion m.layout new (place_of ppn z) g) reaches_in_file gone d.files name f)
     → ((n : ℕ) → gone n ≤ sum_over (reaches_in_file n) d.files)
-    → ChangesOnly old new m touched → ((n : ℕ) → touched n ≤ times n d.chain + gone n)
+    → ChangesOnly old new m modified → ((n : ℕ) → modified n ≤ times n d.chain + gone n)
     → TableFollows size old new given_up taken → ((n : ℕ) → times n chain + sum_over (reaches_in_file n) files + given_up n ≡ reaches_in_directory n d + taken n)
     → HasMap size new (with_directory m m.chain ppn (record { protection = d.protection; quota = d.quota; chain = chain; files = files }))
-files_changed size old new m ppn d chain files gone touched given_up taken s at c first each part only inside table sums =
+files_changed size old new m ppn d chain files gone modified given_up taken s at c first each part only inside table sums =
     let in_map : (n : ℕ) → reaches_in_directory n d ≤ reaches n m = directory_part m ppn d at in
     directory_changed size old new m ppn d (record { protection = d.protection; quota = d.quota; chain = chain; files = files }) given_up taken s at
     (whole_changed m.layout old new ppn d chain files gone (s.mapped.directories ppn d at) (λ n. omega (arith, once size old m s.marked n, in_map n)) c each

@@ -72,5 +72,5 @@ pub mod SerialMaps
 pub mod SerialRows
 pub mod SerialSteps
 pub mod SerialRuns
-pub mod TalkLaws
+pub mod TranscriptLaws
 pub mod SerialLaws

@@ -49,12 +49,12 @@ directories_changed size old new m chain directories gone given_up taken s maste
     }) table sums
 
 -- One directory is put, whether there was one before or not.
-pub directory_put : (size : ℕ) (old new : Contents) (m : DiskMap) (chain : List ℕ) (ppn : ℕ) (was : Option StoredDirectory) (d : StoredDirectory) (touched given_up taken : ℕ → ℕ)
+pub directory_put : (size : ℕ) (old new : Contents) (m : DiskMap) (chain : List ℕ) (ppn : ℕ) (was : Option StoredDirectory) (d : StoredDirectory) (modified given_up taken : ℕ → ℕ)
     → HasMap size old m → get m.directories ppn ≡ was → IsWhole m.layout new ppn d → IsMasterChain new chain (insert (entries_of m) ppn (entry_of d)) → head_or_zero chain ≡ head_or_zero m.chain
-    → ChangesOnly old new m touched → ((n : ℕ) → touched n ≤ times n m.chain + part (reaches_in_directory n) was)
+    → ChangesOnly old new m modified → ((n : ℕ) → modified n ≤ times n m.chain + part (reaches_in_directory n) was)
     → TableFollows size old new given_up taken → ((n : ℕ) → times n chain + reaches_in_directory n d + given_up n ≡ times n m.chain + part (reaches_in_directory n) was + taken n)
     → HasMap size new (with_directory m chain ppn d)
-directory_put size old new m chain ppn was d touched given_up taken s at whole master first only inside table sums =
+directory_put size old new m chain ppn was d modified given_up taken s at whole master first only inside table sums =
     directories_changed size old new m chain (insert m.directories ppn d) (λ n. part (reaches_in_directory n) was) given_up taken s
     (subst (IsMasterChain new chain) (sym (map_values-insert nat_cmp_total nat_cmp-IsAntisymmetric entry_of m.directories ppn d)) master) first
     (each_put nat_cmp_total nat_cmp-IsAntisymmetric (IsWhole m.layout new) reaches_in_directory m.directories ppn was d at whole)
@@ -69,9 +69,9 @@ entry_stays directories ppn d changed at same =
     ap (insert (map_values entry_of directories) ppn) same
     ∙ insert_same nat_cmp_total nat_cmp-IsAntisymmetric (map_values entry_of directories) ppn (entry_of d) (get-map_values nat_cmp_total entry_of directories ppn ∙ ap (option_map entry_of) at)
 
-master_stays : (size : ℕ) (old new : Contents) (m : DiskMap) (touched : ℕ → ℕ) → HasMap size old m → ChangesOnly old new m touched → ((n : ℕ) → touched n ≤ sum_over (reaches_in_directory n) m.directories)
+master_stays : (size : ℕ) (old new : Contents) (m : DiskMap) (modified : ℕ → ℕ) → HasMap size old m → ChangesOnly old new m modified → ((n : ℕ) → modified n ≤ sum_over (reaches_in_directory n) m.directories)
     → IsMasterChain new m.chain (entries_of m)
-master_stays size old new m touched s only inside =
+master_stays size old new m modified s only inside =
     directory_kept master_words IsMasterEntry old new m.chain _ s.mapped.master (λ n h. only.others n (omega arith) (let one = once size old m s.marked n in omega (arith, inside n)))
 
 -- One directory changes with its files: its protection, its quota and its first block stay.

@@ -3,8 +3,8 @@ use Rattle.std.proofs.Common.{◌≡◌, ℕ, zero, suc, ◌<◌, ◌⊎◌, inl
 use Rattle.std.specs.List.{AllByRecursion}
 use Rattle.std.proofs.lemmas.Bool.{cases_eq}
 use Rattle.std.proofs.lemmas.Bool.Decides.{nat_tests}
-use Rattle.blockdisk.specs.Disk.{Contents, DiskState, MayLeave, Near, Touches, LeavesOnly}
-use Rattle.blockdisk.specs.Laws.{touches_leaves}
+use Rattle.blockdisk.specs.Disk.{Contents, DiskState, MayLeave, Near, Modifies, LeavesOnly}
+use Rattle.blockdisk.specs.Laws.{modifies_leaves}
 use Rattle.meaning.specs.Maps.{times}
 use Rattle.meaning.specs.Files.{File, Files}
 use Rattle.meaning.specs.Stands.{Stands}
@@ -24,8 +24,8 @@ zero_or_more zero = inl refl
 zero_or_more (suc k) = inr (omega arith)
 
 pub quiet_leaves : (s s' : DiskState) (blocks : List ℕ) (files : Files File) → AllByRecursion (IsQuiet s) blocks → ((c : Contents) → MayLeave s c → Stands s.size c files)
-    → ((c : Contents) → s.left_since s.clock c → MayLeave s c) → Touches (λ n. 0 < times n blocks) s s' → LeavesOnly s s' (λ c. Stands s.size c files)
-quiet_leaves s s' blocks files quiet stands only_now touches = touches_leaves (λ n. 0 < times n blocks) s s' (λ c. Stands s.size c files) only_now touches near
+    → ((c : Contents) → s.left_since s.clock c → MayLeave s c) → Modifies (λ n. 0 < times n blocks) s s' → LeavesOnly s s' (λ c. Stands s.size c files)
+quiet_leaves s s' blocks files quiet stands only_now modifies = modifies_leaves (λ n. 0 < times n blocks) s s' (λ c. Stands s.size c files) only_now modifies near
   where
     near : (c : Contents) → Near (λ n. 0 < times n blocks) s c → Stands s.size c files
     near c is =

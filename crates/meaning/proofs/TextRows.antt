@@ -11,8 +11,8 @@ use Rattle.meaning.specs.Sessions.{list}
 use Rattle.meaning.specs.Step.{step}
 use Rattle.meaning.specs.Lines.{Bytes, TooLong, lines}
 use Rattle.meaning.specs.Texts.{Spoken, joined, silent, prints, day_text, entry_text, listing, list_said}
-use Rattle.meaning.specs.Conducts.{Plan, Ask, Show, Say, each, fetches, finds, lists, counts, copies_blocks, types_blocks, begins}
-use Rattle.meaning.specs.Talks.{login_said, core_words}
+use Rattle.meaning.specs.Plans.{Plan, Ask, Show, Say, each, fetches, finds, lists, counts, copies_blocks, types_blocks, begins}
+use Rattle.meaning.specs.Transcripts.{login_said, core_words}
 use Rattle.meaning.specs.Scripts.{written}
 use Rattle.meaning.specs.declared.command.Spec.{Spec}
 use Rattle.meaning.specs.declared.command.Command.{Command}

@@ -26,9 +26,9 @@ pub record HomeStays (old new : Contents) : Type 0 where
   pub second : new 2 ≡ old 2
 
 -- The home copies stay, and of the map's blocks all but these.
-pub record ChangesOnly (old new : Contents) (m : DiskMap) (touched : ℕ → ℕ) : Type 0 where
+pub record ChangesOnly (old new : Contents) (m : DiskMap) (modified : ℕ → ℕ) : Type 0 where
   pub home : HomeStays old new
-  pub others : (n : ℕ) → 0 < reaches n m → touched n ≡ 0 → new n ≡ old n
+  pub others : (n : ℕ) → 0 < reaches n m → modified n ≡ 0 → new n ≡ old n
 
 -- the blocks are the chain of a directory with these prime blocks under its names
 abbrev pub IsFileChain : Contents → List ℕ → FinMap name_cmp ℕ → Type 0

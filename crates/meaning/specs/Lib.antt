@@ -49,5 +49,5 @@ pub mod Spellings
 pub mod Commands
 pub mod Scripts
 pub mod Texts
-pub mod Conducts
-pub mod Talks
+pub mod Plans
+pub mod Transcripts

@@ -1,6 +1,6 @@
 ghost use Rattle.std.specs.Prelude.{ℕ, ◌<◌, List};
 ghost use Rattle.std.specs.List.{AllByRecursion};
-ghost use Rattle.blockdisk.specs.Disk.{Contents, MayLeave, SameDisk, Touches, LeavesOnly};
+ghost use Rattle.blockdisk.specs.Disk.{Contents, MayLeave, SameDisk, Modifies, LeavesOnly};
 ghost use Rattle.meaning.specs.Files.{File, Files};
 ghost use Rattle.meaning.specs.Maps.{times};
 ghost use Rattle.meaning.specs.Quiet.{IsQuiet};
@@ -13,6 +13,6 @@ use blockdisk::Disk;
 pub fn quiet_stretch<D: Disk>(old: &D, new: &D)
     ensures { SameDisk (D.state old.now) (D.state new.now) → (D.state new.now).honest → (blocks : List ℕ) (files : Files File) → AllByRecursion (IsQuiet (D.state old.now)) blocks
         → ((c : Contents) → MayLeave (D.state old.now) c → Stands (D.state old.now).size c files)
-        → Touches (λ n. 0 < times n blocks) (D.state old.now) (D.state new.now)
+        → Modifies (λ n. 0 < times n blocks) (D.state old.now) (D.state new.now)
         → LeavesOnly (D.state old.now) (D.state new.now) (λ c. Stands (D.state old.now).size c files) }
 {}

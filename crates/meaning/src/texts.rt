@@ -3,13 +3,13 @@ ghost use Rattle.words36.specs.declared.moment.Moment.{Moment};
 ghost use Rattle.meaning.specs.declared.call.Event.{Event};
 ghost use Rattle.meaning.specs.declared.command.Command.{Command};
 ghost use Rattle.meaning.specs.Commands.{IsCommand};
-ghost use Rattle.meaning.specs.Conducts.{Act};
+ghost use Rattle.meaning.specs.Plans.{Act};
 ghost use Rattle.meaning.specs.Jobs.{State};
 ghost use Rattle.meaning.specs.Lines.{Line};
 ghost use Rattle.meaning.specs.Room.{Pack};
 ghost use Rattle.meaning.specs.Runs.{Serving};
 ghost use Rattle.meaning.specs.Scripts.{IsEvent};
-ghost use Rattle.meaning.specs.Talks.{Talks, Scripts, Served, Went};
+ghost use Rattle.meaning.specs.Transcripts.{IsTranscript, Scripts, Served, Went};
 ghost use Rattle.meaning.specs.Texts.{Spoken};
 
 /// A line says one thing at most: it has at most one reading in the grammar of sessions, and at most one in
@@ -28,7 +28,7 @@ pub fn served_acts_are_acts()
 /// no act met want of memory or a fault of the disk: whatever serials were chosen, the same is printed.
 pub fn texts_are_functions()
     ensures session { (pack : Pack) (moment : Moment) (lines : List Line) (who : Option ℕ) (s t u : State) (acts others : List Act) (one other : Spoken) (x y : Option ℕ)
-        → Talks moment who lines acts one x → Served pack s acts t → Talks moment who lines others other y → Served pack s others u → one ≡ other }
+        → IsTranscript moment who lines acts one x → Served pack s acts t → IsTranscript moment who lines others other y → Served pack s others u → one ≡ other }
     ensures script { (pack : Pack) (moment : Moment) (lines : List Line) (s t u : State) (acts others : List Act) (one other : Spoken)
         → Scripts moment lines acts one → Served pack s acts t → Scripts moment lines others other → Served pack s others u → one ≡ other }
 {}

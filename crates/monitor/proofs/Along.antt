@@ -17,7 +17,7 @@ use Rattle.meaning.specs.declared.call.Event.{Event}
 use Rattle.meaning.specs.declared.call.Reply.{Reply}
 use Rattle.meaning.proofs.ExcludedFiles.{fault_excludes}
 use Rattle.meaning.proofs.Settled.{settled_same}
-use Rattle.volume.specs.Meets.{Refuses}
+use Rattle.volume.specs.FaultsFound.{Refuses}
 use Rattle.volume.specs.declared.error.VolumeError.{VolumeError}
 use Rattle.volume.specs.declared.error.VolumeError.TheVariants.{NotVolume, BadHome, BadLog, BadDirectory, BadRetrieval, BlockTwice, TableWrong, Device, NoMemory, Failed, BadData}
 use Rattle.volume.proofs.Starting.{stands_ignores_gate}

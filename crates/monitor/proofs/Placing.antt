@@ -162,7 +162,7 @@ module _ (size : ℕ) (c c' : VolumeCore) (key : ℕ) (p : PendingVersion) (word
   other_placed : (q : PendingVersion) → (q.prime.ppn ≡ p.prime.ppn → q.prime.file ≡ p.prime.file → ⊥) → IsPlaced c q → IsPlaced c' q
   other_placed q apart placed =
       let put = placed_on c is.put is.known q q.version placed in
-      let new = is.turns.published in
+      let new = is.makes_current.published in
       let there = put.there in
       let stands = subst (λ (es : List MasterEntry). StandsAt nat_cmp es q.prime.ppn there.1 there.0) (ap (λ m. m.entries) (sym new.master)) there.2 in
       ⊎_elim

@@ -14,7 +14,7 @@ use Rattle.volume.specs.Rest.{KeepsRead}
 use Rattle.volume.specs.declared.live.LiveVersion.{LiveVersion}
 use Rattle.volume.specs.declared.pending.PendingVersion.{PendingVersion}
 use Rattle.volume.proofs.PublishedPlaces.{ended_stays, current_goes_on}
-use Rattle.volume.proofs.PublishingSlots.{left, left_cases, turned_slot}
+use Rattle.volume.proofs.PublishingSlots.{left, left_cases, made_current_slot}
 use Rattle.monitor.specs.Readers.{readers_of, IsRead, AreRead}
 use Rattle.monitor.proofs.HeldSerials.{superseded, still_none}
 use Rattle.monitor.proofs.PublishedFiles.{versions_in, put_elsewhere}
@@ -27,9 +27,9 @@ none_left v unread = ap (λ n. if n == 0 then None else Some (record v { is_curr
 -- What stood under a key before.
 module _ (size : ℕ) (c c' : VolumeCore) (key : ℕ) (p : PendingVersion) (words : ℕ) (is : IsPublishedCore size c c' key p words) where
   -- the new version is current, and has no reader
-  new_under : (k : ℕ) (v : LiveVersion) → slot c'.live k ≡ Some v → k ≡ is.turns.new_key → (v.is_current ≡ true) × (v.readers ≡ 0)
+  new_under : (k : ℕ) (v : LiveVersion) → slot c'.live k ≡ Some v → k ≡ is.makes_current.new_key → (v.is_current ≡ true) × (v.readers ≡ 0)
   new_under k v now same =
-      let version = some_same (sym is.turns.here ∙ ap (slot c'.live) (sym same) ∙ now) in
+      let version = some_same (sym is.makes_current.here ∙ ap (slot c'.live) (sym same) ∙ now) in
       (sym (ap (λ (u : LiveVersion). u.is_current) version), sym (ap (λ (u : LiveVersion). u.readers) version))
 
   -- one that was superseded has a reader
@@ -45,26 +45,26 @@ module _ (size : ℕ) (c c' : VolumeCore) (key : ℕ) (p : PendingVersion) (word
   put_is : (k : ℕ) → slot c.live k ≡ slot is.put.live k
   put_is k = ap (λ l. slot l k) (sym is.live)
 
-  was_there : (k : ℕ) (v : LiveVersion) → slot c'.live k ≡ Some v → (k ≡ is.turns.new_key → ⊥) → WasThere k v
+  was_there : (k : ℕ) (v : LiveVersion) → slot c'.live k ≡ Some v → (k ≡ is.makes_current.new_key → ⊥) → WasThere k v
   was_there k v now other = ⊎_elim
       (λ kept. (v, put_is k ∙ sym kept ∙ now, inl refl))
       (λ ended. (ended.0, put_is k ∙ ended.1, inr (left_of_read ended.0 v (sym ended.2 ∙ now))))
-      (turned_slot is.put.live c'.live is.turns.old is.turns.new_key is.turns.ended is.turns.others k other)
+      (made_current_slot is.put.live c'.live is.makes_current.old is.makes_current.new_key is.makes_current.ended is.makes_current.others k other)
 
   -- one that is read was read before
   was_read : (k : ℕ) (v : LiveVersion) → slot c'.live k ≡ Some v → 0 < v.readers → (u : LiveVersion) × (slot c.live k ≡ Some u) × (0 < u.readers)
   was_read k v now held = ⊎_elim
-      (λ (new : k ≡ is.turns.new_key). let none = (new_under k v now new).1 in absurd (omega arith))
+      (λ (new : k ≡ is.makes_current.new_key). let none = (new_under k v now new).1 in absurd (omega arith))
       (λ other.
       let was = was_there k v now other in
-      (was.0, was.1, ⊎_elim (λ same. subst (λ (u : LiveVersion). 0 < u.readers) (sym same) held) (λ ended. ended.0) was.2)) (cases_eq k is.turns.new_key)
+      (was.0, was.1, ⊎_elim (λ same. subst (λ (u : LiveVersion). 0 < u.readers) (sym same) held) (λ ended. ended.0) was.2)) (cases_eq k is.makes_current.new_key)
 
   still_held : ((k : ℕ) (v : LiveVersion) → slot c.live k ≡ Some v → v.is_current ≡ false → 0 < v.readers) → (k : ℕ) (v : LiveVersion) → slot c'.live k ≡ Some v → v.is_current ≡ false → 0 < v.readers
   still_held all k v now ended = ⊎_elim
-      (λ (new : k ≡ is.turns.new_key). absurd (both_ways v.is_current ended (new_under k v now new).0))
+      (λ (new : k ≡ is.makes_current.new_key). absurd (both_ways v.is_current ended (new_under k v now new).0))
       (λ other.
       let was = was_there k v now other in
-      ⊎_elim (λ same. all k v (was.1 ∙ ap Some same) ended) (λ turned. subst (λ (u : LiveVersion). 0 < u.readers) turned.1 turned.0) was.2) (cases_eq k is.turns.new_key)
+      ⊎_elim (λ same. all k v (was.1 ∙ ap Some same) ended) (λ turned. subst (λ (u : LiveVersion). 0 < u.readers) turned.1 turned.0) was.2) (cases_eq k is.makes_current.new_key)
 
   -- each version has as many readers as before
   left_readers : (u : LiveVersion) → readers_of (left u) ≡ u.readers
@@ -72,12 +72,12 @@ module _ (size : ℕ) (c c' : VolumeCore) (key : ℕ) (p : PendingVersion) (word
 
   pub readers_stay : (k : ℕ) → readers_of (slot c'.live k) ≡ readers_of (slot c.live k)
   readers_stay k = ⊎_elim
-      (λ (new : k ≡ is.turns.new_key). ap readers_of (ap (slot c'.live) new ∙ is.turns.here) ∙ sym (ap readers_of (put_is k ∙ ap (slot is.put.live) new ∙ is.turns.vacant)))
+      (λ (new : k ≡ is.makes_current.new_key). ap readers_of (ap (slot c'.live) new ∙ is.makes_current.here) ∙ sym (ap readers_of (put_is k ∙ ap (slot is.put.live) new ∙ is.makes_current.vacant)))
       (λ other. ⊎_elim
       (λ kept. ap readers_of (kept ∙ sym (put_is k)))
       (λ ended. ap readers_of ended.2 ∙ left_readers ended.0 ∙ sym (ap readers_of (put_is k ∙ ended.1)))
-      (turned_slot is.put.live c'.live is.turns.old is.turns.new_key is.turns.ended is.turns.others k other))
-      (cases_eq k is.turns.new_key)
+      (made_current_slot is.put.live c'.live is.makes_current.old is.makes_current.new_key is.makes_current.ended is.makes_current.others k other))
+      (cases_eq k is.makes_current.new_key)
 
 -- The version that is published has a serial that none has that is read.
 module _ (d d' : DiskState) (c c' : VolumeCore) (files : Files Version) (read : ℕ → Version) (key : ℕ) (p : PendingVersion) (words : ℕ) (place : Place) (x : Version)

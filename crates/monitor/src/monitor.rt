@@ -9,7 +9,7 @@ ghost use Rattle.meaning.specs.Runs.{Service, Serving, IsStart};
 ghost use Rattle.meaning.specs.Stands.{Stands};
 ghost use Rattle.monitor.specs.Runs.{HasStarted};
 ghost use Rattle.monitor.specs.Serving.{pack_of, Serves};
-ghost use Rattle.volume.specs.Meets.{NamesInSpace, Refuses};
+ghost use Rattle.volume.specs.FaultsFound.{NamesInSpace, Refuses};
 ghost use Rattle.volume.specs.Rest.{StandsLike};
 ghost use Rattle.volume.specs.declared.error.VolumeError.TheVariants.{Device};
 

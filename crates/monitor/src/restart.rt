@@ -12,7 +12,7 @@ ghost use Rattle.meaning.specs.declared.call.Event.{Event};
 ghost use Rattle.meaning.specs.declared.call.Reply.{Reply};
 ghost use Rattle.monitor.specs.Runs.{IsAlong, ServesFiles, HasStarted, AreStopped};
 ghost use Rattle.monitor.specs.Serving.{pack_of};
-ghost use Rattle.volume.specs.Meets.{NamesInSpace, Refuses};
+ghost use Rattle.volume.specs.FaultsFound.{NamesInSpace, Refuses};
 ghost use Rattle.volume.specs.declared.error.VolumeError.TheVariants.{NoMemory, Device};
 
 use crate::StartError;

@@ -1,4 +1,4 @@
-use crate::job_tests::{expect_room, let_go, log_in, start, word};
+use crate::job_tests::{drop_monitor, expect_room, log_in, start, word};
 use blockdisk::MemDisk;
 use meaning::{Call, Reply};
 use monitor::Monitor;
@@ -133,7 +133,7 @@ fn words_are_put_and_asked_for(rt: HostRuntime) -> Result<(), Fail> {
     expect_word(&rt, &monitor, (1, 0), Reply::NoJob);
     log_in(&rt, &mut monitor, rt.alloc(), 1, (0o10, 0o20));
     put_and_ask(&rt, &mut monitor);
-    let_go(monitor);
+    drop_monitor(monitor);
     Ok(())
 }
 
@@ -164,7 +164,7 @@ fn channels_are_opened(rt: HostRuntime) -> Result<(), Fail> {
     expect_not_opened(&rt, &mut monitor, rt.alloc());
     log_in_to_open(&rt, &mut monitor, rt.alloc(), 1, (0o10, 0o20));
     open_channels(&rt, &mut monitor, rt.alloc());
-    let_go(monitor);
+    drop_monitor(monitor);
     Ok(())
 }
 
@@ -197,7 +197,7 @@ fn other_devices_and_modes_are_stopped(rt: HostRuntime) -> Result<(), Fail> {
     let mut monitor = start(&rt, rt.alloc(), 0o775000000000)?;
     log_in(&rt, &mut monitor, rt.alloc(), 1, (0o10, 0o20));
     open_others(&rt, &mut monitor, rt.alloc());
-    let_go(monitor);
+    drop_monitor(monitor);
     Ok(())
 }
 
@@ -261,7 +261,7 @@ fn a_new_file_is_entered(rt: HostRuntime) -> Result<(), Fail> {
     enter_bar(&rt, &mut monitor, rt.alloc());
     enter_bar_twice(&rt, &mut monitor, rt.alloc());
     enter_bar_again(&rt, &mut monitor, rt.alloc());
-    let_go(monitor);
+    drop_monitor(monitor);
     Ok(())
 }
 
@@ -283,7 +283,7 @@ fn a_file_is_superseded(rt: HostRuntime) -> Result<(), Fail> {
     expect_room(&rt, &monitor, 44);
     log_in(&rt, &mut monitor, rt.alloc(), 1, (0o10, 0o20));
     expect_room(&rt, &monitor, 45);
-    let_go(monitor);
+    drop_monitor(monitor);
     Ok(())
 }
 
@@ -325,7 +325,7 @@ fn an_enter_is_refused(rt: HostRuntime) -> Result<(), Fail> {
     refuse_enters(&rt, &mut monitor, rt.alloc());
     expect_number(&rt, &monitor, (2, 0o301), 0o647064000001);
     expect_room(&rt, &monitor, 45);
-    let_go(monitor);
+    drop_monitor(monitor);
     Ok(())
 }
 
@@ -351,14 +351,8 @@ fn calls_out_of_order(rt: HostRuntime) -> Result<(), Fail> {
     name_bar(&rt, &mut monitor, rt.alloc());
     out_of_order(&rt, &mut monitor, rt.alloc());
     let deleted = (1, Call::DeleteDir(0o777));
-    expect_call(
-        &rt,
-        &mut monitor,
-        rt.alloc(),
-        deleted,
-        Reply::AddressCheck,
-    );
+    expect_call(&rt, &mut monitor, rt.alloc(), deleted, Reply::AddressCheck);
     expect_room(&rt, &monitor, 45);
-    let_go(monitor);
+    drop_monitor(monitor);
     Ok(())
 }

@@ -1,4 +1,4 @@
-use crate::job_tests::{expect_room, image, let_go, room, start, started, word};
+use crate::job_tests::{drop_monitor, expect_room, image, room, start, started, word};
 use blockdisk::{MemDisk, NoMemory};
 use meaning::{Call, Event, Reply};
 use monitor::{Monitor, start_after_crash};
@@ -105,7 +105,7 @@ fn a_file_is_written_by_a_list(rt: HostRuntime) -> Result<(), Fail> {
     write_bar(&rt, &mut monitor, rt.alloc());
     expect_room(&rt, &monitor, 43);
     expect_served(&rt, &mut monitor, rt.alloc(), &[], &[]);
-    let_go(monitor);
+    drop_monitor(monitor);
     Ok(())
 }
 
@@ -145,7 +145,7 @@ fn a_failed_device_ends_a_list(rt: HostRuntime) -> Result<(), Fail> {
         &[put(0, 1)],
         &[Reply::Failed],
     );
-    let_go(monitor);
+    drop_monitor(monitor);
     Ok(())
 }
 
@@ -153,7 +153,7 @@ fn a_failed_device_ends_a_list(rt: HostRuntime) -> Result<(), Fail> {
 fn room_after_crash(alloc: Global, stopped: &MemDisk, left: MemDisk) -> Option<i64> {
     let monitor = start_after_crash(alloc, stopped, left).ok()?;
     let room = room(&monitor);
-    let_go(monitor);
+    drop_monitor(monitor);
     Some(room)
 }
 

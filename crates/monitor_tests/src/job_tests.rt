@@ -132,7 +132,7 @@ pub(crate) fn log_in(
 }
 
 /// Lets a monitor go. A function that owns one to its end would prove that each time.
-pub(crate) fn let_go(_monitor: Monitor<MemDisk>) {}
+pub(crate) fn drop_monitor(_monitor: Monitor<MemDisk>) {}
 
 /// How many blocks are left.
 pub(crate) fn room(monitor: &Monitor<MemDisk>) -> i64 {
@@ -212,7 +212,7 @@ fn jobs_log_in(rt: HostRuntime) -> Result<(), Fail> {
     log_jobs_in(&rt, &mut monitor, rt.alloc());
     expect_blocks(&rt, &monitor, 64);
     expect_room(&rt, &monitor, 45);
-    let_go(monitor);
+    drop_monitor(monitor);
     Ok(())
 }
 
@@ -230,7 +230,7 @@ fn directories_are_listed(rt: HostRuntime) -> Result<(), Fail> {
         (1, (0o11, 5)),
         Err(Reply::Refused(1)),
     );
-    let_go(monitor);
+    drop_monitor(monitor);
     Ok(())
 }
 
@@ -250,7 +250,7 @@ fn a_directory_may_forbid_its_list(rt: HostRuntime) -> Result<(), Fail> {
     );
     expect_count(&rt, &monitor, rt.alloc(), (2, owner), Ok(1));
     expect_count(&rt, &monitor, rt.alloc(), (3, owner), Ok(1));
-    let_go(monitor);
+    drop_monitor(monitor);
     Ok(())
 }
 

@@ -1,6 +1,6 @@
 ghost use Rattle.std.specs.Prelude.{◌≡◌, ◌+◌, ◌<◌, ◌≤◌, ℕ, length, slice_index, slice_set, OnOk, IsErrOf};
 ghost use Rattle.std.specs.List.{AllByRecursion};
-ghost use Rattle.blockdisk.specs.Disk.{SameDisk, Touches, one_more};
+ghost use Rattle.blockdisk.specs.Disk.{SameDisk, Modifies, one_more};
 ghost use Rattle.blockdisk.specs.declared.fault.Fault.TheVariants.{Device as DeviceFault, Damaged};
 ghost use Rattle.meaning.specs.Costs.{blocks_of};
 ghost use Rattle.meaning.specs.Faults.{InSpace};
@@ -83,7 +83,7 @@ pub(crate) fn write_places<D: Disk>(
     ensures held { (n : ℕ) → holds table.new n + times n version.old.blocks ≡ holds table.old n + times n version.new.blocks }
     ensures used { uses table.new ≡ uses table.old }
     ensures stays { KeepsOwn table.old version.old.blocks version.new.blocks }
-    ensures touched { (D.state disk.new).honest → Touches (IsOwn table.old version.old.blocks) (D.state disk.old) (D.state disk.new) }
+    ensures modified { (D.state disk.new).honest → Modifies (IsOwn table.old version.old.blocks) (D.state disk.old) (D.state disk.new) }
 
     ensures same { SameDisk (D.state disk.old) (D.state disk.new) }
     ensures device { IsErrOf result Damaged → ⊥ }

@@ -1,6 +1,6 @@
 ghost use Rattle.std.specs.Prelude.{◌≡◌, ◌+◌, ◌-◌, ◌*◌, ◌/◌, ◌<◌, ◌≤◌, ◌++◌, ℕ, List, None, IfOk, OnOk, OnErr, IsErrOf, length, min, take, replicate};
 ghost use Rattle.std.specs.List.{AllByRecursion};
-ghost use Rattle.blockdisk.specs.Disk.{Keeps, SameDisk, Touches, one_more};
+ghost use Rattle.blockdisk.specs.Disk.{Keeps, SameDisk, Modifies, one_more};
 ghost use Rattle.meaning.specs.Costs.{blocks_of};
 ghost use Rattle.meaning.specs.Faults.{InSpace};
 ghost use Rattle.meaning.specs.Maps.{times};
@@ -99,7 +99,7 @@ pub fn put_words<D: Disk>(
     ensures held { (n : ℕ) → holds table.new n + times n version.old.blocks ≡ holds table.old n + times n version.new.blocks }
     ensures used { uses table.new + length version.old.blocks ≡ uses table.old + length version.new.blocks }
     ensures stays { KeepsOwn table.old version.old.blocks version.new.blocks }
-    ensures touched { (D.state disk.new).honest → Touches (IsOwn table.old version.old.blocks) (D.state disk.old) (D.state disk.new) }
+    ensures modified { (D.state disk.new).honest → Modifies (IsOwn table.old version.old.blocks) (D.state disk.old) (D.state disk.new) }
     ensures memory { IsErrOf result NoMemory → (table.new ≡ table.old) × (version.new ≡ version.old) × (disk.new ≡ disk.old) }
     ensures damaged { (D.state disk.new).honest → (k : ℕ) → IsErrOf result (BadData k) → (0 < times k version.old.blocks) × ((D.state disk.old).contents k ≡ None) }
     ensures left { OnErr result (version.new.words ≡ version.old.words) }

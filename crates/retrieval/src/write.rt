@@ -1,6 +1,6 @@
 ghost use Rattle.std.specs.Prelude.{◌≡◌, ◌+◌, ◌-◌, ◌/◌, ◌<◌, ◌≤◌, ◌^◌, ◌∷◌, ℕ, map, length, Some, OnOk, IfOk, IsErrOf};
 ghost use Rattle.std.specs.List.{AllByRecursion};
-ghost use Rattle.blockdisk.specs.Disk.{SameDisk, Touches, one_more};
+ghost use Rattle.blockdisk.specs.Disk.{SameDisk, Modifies, one_more};
 ghost use Rattle.blockdisk.specs.declared.fault.Fault.TheVariants.{Device as DeviceFault, Damaged};
 ghost use Rattle.meaning.specs.Costs.{blocks_of};
 ghost use Rattle.meaning.specs.Faults.{InSpace};
@@ -52,7 +52,7 @@ fn write_ribs<D: Disk>(disk: &mut D, ribs: &[u32], blocks: &[u32]) -> Result<(),
     requires count { length ribs.now ≡ (length blocks.now + 125) / 126 }
     requires fit { AllByRecursion (λ n. n < 2 ^ 18) blocks.now }
     ensures written { (D.state disk.new).honest → OnOk result (AreExtensions (D.state disk.new).contents (extensions_of ribs.now blocks.now)) }
-    ensures touched { (D.state disk.new).honest → Touches (λ n. 0 < times n ribs.now) (D.state disk.old) (D.state disk.new) }
+    ensures modified { (D.state disk.new).honest → Modifies (λ n. 0 < times n ribs.now) (D.state disk.old) (D.state disk.new) }
     ensures same { SameDisk (D.state disk.old) (D.state disk.new) }
     ensures device { IsErrOf result Damaged → ⊥ }
     ensures failed { IsErrOf result DeviceFault → (D.state disk.new).failures ≡ one_more (D.state disk.old).failures }
@@ -127,7 +127,7 @@ pub fn write_retrieval_blocks<D: Disk>(
     requires enough { length version.now.blocks ≡ blocks_of version.now.words }
     requires fit { AllByRecursion (λ n. n < 2 ^ 18) version.now.blocks }
     ensures written { (D.state disk.new).honest → OnOk result (IsRetrieved 1 (D.state disk.new).contents (with_length prime.now version.now.words) at version.now.ribs version.now.blocks) }
-    ensures touched { (D.state disk.new).honest → Touches (λ n. 0 < times n (at ∷ version.now.ribs)) (D.state disk.old) (D.state disk.new) }
+    ensures modified { (D.state disk.new).honest → Modifies (λ n. 0 < times n (at ∷ version.now.ribs)) (D.state disk.old) (D.state disk.new) }
     ensures same { SameDisk (D.state disk.old) (D.state disk.new) }
     ensures device { IsErrOf result Damaged → ⊥ }
     ensures failed { IsErrOf result DeviceFault → (D.state disk.new).failures ≡ one_more (D.state disk.old).failures }
@@ -176,7 +176,7 @@ pub fn write_version<D: Disk>(
     ensures left { IsErrOf result Device → (n : ℕ) × Takes table.old (n ∷ version.new.ribs) table.new }
 
     // Nothing but blocks that were free is written, whatever the answer.
-    ensures touched { (D.state disk.new).honest → Touches (λ n. IsFree table.old n × InSpace (D.state disk.old).size n) (D.state disk.old) (D.state disk.new) }
+    ensures modified { (D.state disk.new).honest → Modifies (λ n. IsFree table.old n × InSpace (D.state disk.old).size n) (D.state disk.old) (D.state disk.new) }
     ensures memory { IsErrOf result NoMemory → (table.new ≡ table.old) × (version.new ≡ version.old) × (disk.new ≡ disk.old) }
     ensures bad { (k : ℕ) → IsErrOf result (BadRetrieval k) → ⊥ }
 

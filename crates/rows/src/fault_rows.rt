@@ -162,7 +162,7 @@ fn is_met(rt: &impl Abort, monitor: &mut Monitor<FailingDisk>, alloc: Global) ->
 }
 
 /// Lets a monitor go.
-fn let_go(_monitor: Monitor<FailingDisk>) {}
+fn drop_monitor(_monitor: Monitor<FailingDisk>) {}
 
 /// Whether an IN meets the fault of a disk that fails after so many reads.
 fn is_met_after(rt: &impl Abort, alloc: Global, reads: u32) -> Result<bool, NoMemory> {
@@ -170,7 +170,7 @@ fn is_met_after(rt: &impl Abort, alloc: Global, reads: u32) -> Result<bool, NoMe
         return Ok(false);
     };
     let is_met = is_met(rt, &mut monitor, alloc);
-    let_go(monitor);
+    drop_monitor(monitor);
     Ok(is_met)
 }
 

@@ -298,7 +298,7 @@ fn expect_made<D: Disk>(rt: &impl Abort, volume: &Volume<D>) {
 }
 
 /// Lets a volume go.
-fn let_go<D: Disk + Drop>(_volume: Volume<D>) {}
+fn drop_volume<D: Disk + Drop>(_volume: Volume<D>) {}
 
 /// A directory that was made is there when the bytes are opened anew.
 #[test]
@@ -307,6 +307,6 @@ fn a_directory_is_found_again(rt: HostRuntime) -> Result<(), Fail> {
     let disk = image_disk(&rt, rt.alloc(), bytes.as_slice(), 9)?;
     let volume = opened(&rt, rt.alloc(), disk);
     expect_made(&rt, &volume);
-    let_go(volume);
+    drop_volume(volume);
     Ok(())
 }

@@ -1,5 +1,6 @@
 use crate::monitor_rows::{
-    BLOCK, LIST, TXT, WORDS, expect_room, expect_word, fill, let_go, login, open, put_word, ready,
+    BLOCK, LIST, TXT, WORDS, drop_monitor, expect_room, expect_word, fill, login, open, put_word,
+    ready,
 };
 use blockdisk::{MemDisk, NoMemory};
 use meaning::{Call, Event, Reply};
@@ -211,7 +212,7 @@ fn serve_four_jobs(rt: &impl Abort, alloc: Global, order: Order) -> Result<(), F
     let served = serve_in_order(rt, &mut monitor, alloc, order);
     expect_read(rt, &monitor);
     expect_room(rt, &monitor, 47 - 8);
-    let_go(monitor);
+    drop_monitor(monitor);
     served
 }
 
@@ -335,7 +336,7 @@ fn play_example(
 fn a_reader_across_a_supersede(rt: HostRuntime) -> Result<(), Fail> {
     let mut monitor = ready(&rt, rt.alloc(), 64)?;
     let played = play_example(&rt, &mut monitor, rt.alloc());
-    let_go(monitor);
+    drop_monitor(monitor);
     played?;
     Ok(())
 }

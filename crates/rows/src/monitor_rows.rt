@@ -83,7 +83,7 @@ fn fresh(rt: &impl Abort, alloc: Global, blocks: u32) -> Result<Monitor<MemDisk>
 }
 
 /// Lets a monitor go. A function that owns one to its end would prove that each time.
-pub(crate) fn let_go(_monitor: Monitor<MemDisk>) {}
+pub(crate) fn drop_monitor(_monitor: Monitor<MemDisk>) {}
 
 /// How many blocks are left.
 fn room(monitor: &Monitor<MemDisk>) -> i64 {
@@ -349,7 +349,7 @@ fn the_smallest_volume(rt: HostRuntime) -> Result<(), Fail> {
     make_directory(&rt, &mut monitor, rt.alloc());
     expect_room(&rt, &monitor, 47);
     expect_none(&rt, &monitor, rt.alloc());
-    let_go(monitor);
+    drop_monitor(monitor);
     Ok(())
 }
 
@@ -379,7 +379,7 @@ fn a_file_takes_all_room(rt: HostRuntime) -> Result<(), Fail> {
     let mut monitor = ready(&rt, rt.alloc(), 64)?;
     take_all_room(&rt, &mut monitor, rt.alloc());
     begin_without_room(&rt, &mut monitor, rt.alloc());
-    let_go(monitor);
+    drop_monitor(monitor);
     Ok(())
 }
 
@@ -413,7 +413,7 @@ fn a_version_is_dropped(rt: HostRuntime) -> Result<(), Fail> {
     expect_close(&rt, &mut monitor, rt.alloc(), (3, 0o40), Reply::Done);
     expect_file(&rt, &monitor, rt.alloc(), 0, 24);
     expect_room(&rt, &monitor, 22);
-    let_go(monitor);
+    drop_monitor(monitor);
     Ok(())
 }
 
@@ -423,7 +423,7 @@ fn a_version_is_published(rt: HostRuntime) -> Result<(), Fail> {
     expect_close(&rt, &mut monitor, rt.alloc(), (3, 0), Reply::Done);
     expect_file(&rt, &monitor, rt.alloc(), 0, 21);
     expect_room(&rt, &monitor, 25);
-    let_go(monitor);
+    drop_monitor(monitor);
     Ok(())
 }
 
@@ -441,7 +441,7 @@ fn a_channel_is_released(rt: HostRuntime) -> Result<(), Fail> {
     expect_file(&rt, &monitor, rt.alloc(), 0, 21);
     expect_room(&rt, &monitor, 25);
     expect_close(&rt, &mut monitor, rt.alloc(), (3, 0), Reply::NoChannel);
-    let_go(monitor);
+    drop_monitor(monitor);
     Ok(())
 }
 
@@ -478,7 +478,7 @@ fn a_file_with_an_extension(rt: HostRuntime) -> Result<(), Fail> {
     let mut monitor = ready(&rt, rt.alloc(), 512)?;
     expect_rooms(&rt, &mut monitor, rt.alloc(), (FOO, 112 * 128), (495, 382));
     expect_rooms(&rt, &mut monitor, rt.alloc(), (BAR, 113 * 128), (382, 267));
-    let_go(monitor);
+    drop_monitor(monitor);
     Ok(())
 }
 
@@ -506,7 +506,7 @@ fn dates_end(rt: HostRuntime) -> Result<(), Fail> {
     enter_last(&rt, &mut monitor, rt.alloc());
     expect_close(&rt, &mut monitor, rt.alloc(), (3, 0), Reply::Done);
     expect_file(&rt, &monitor, rt.alloc(), 4095, 0);
-    let_go(monitor);
+    drop_monitor(monitor);
     Ok(())
 }
 
@@ -534,7 +534,7 @@ fn two_jobs_enter_a_name(rt: HostRuntime) -> Result<(), Fail> {
     let mut monitor = ready(&rt, rt.alloc(), 64)?;
     enter_both(&rt, &mut monitor, rt.alloc());
     enter_after_reset(&rt, &mut monitor, rt.alloc());
-    let_go(monitor);
+    drop_monitor(monitor);
     Ok(())
 }
 

@@ -1,7 +1,7 @@
 use crate::monitor_rows::{
-    self, BAR, BLOCK, FOO, LIST, TXT, WORDS, expect_call, expect_close, expect_enter, expect_outs,
-    expect_room, expect_word, fill, let_go, login, name_words, open, put_numbers, put_word, ready,
-    word_at, write, write_21_blocks, write_24_blocks,
+    self, BAR, BLOCK, FOO, LIST, TXT, WORDS, drop_monitor, expect_call, expect_close, expect_enter,
+    expect_outs, expect_room, expect_word, fill, login, name_words, open, put_numbers, put_word,
+    ready, word_at, write, write_21_blocks, write_24_blocks,
 };
 use blockdisk::{MemDisk, NoMemory};
 use meaning::{Call, Reply};
@@ -148,7 +148,7 @@ fn an_empty_file_is_read(rt: HostRuntime) -> Result<(), Fail> {
     for ending in ENDS {
         let mut monitor = ready(&rt, rt.alloc(), 64)?;
         read_empty_file(&rt, &mut monitor, rt.alloc(), ending);
-        let_go(monitor);
+        drop_monitor(monitor);
     }
     Ok(())
 }
@@ -194,7 +194,7 @@ fn files_have_sizes_and_words(rt: HostRuntime) -> Result<(), Fail> {
         expect_three_sizes(&rt, &mut monitor, rt.alloc());
         read_last_file(&rt, &mut monitor, rt.alloc());
         end_with_room(&rt, &mut monitor, rt.alloc(), (1, ending), 40);
-        let_go(monitor);
+        drop_monitor(monitor);
     }
     Ok(())
 }
@@ -217,7 +217,7 @@ fn a_large_file_is_read(rt: HostRuntime) -> Result<(), Fail> {
         let mut monitor = ready(&rt, rt.alloc(), 64)?;
         look_large_file_up(&rt, &mut monitor, rt.alloc());
         end_with_room(&rt, &mut monitor, rt.alloc(), (1, ending), 0);
-        let_go(monitor);
+        drop_monitor(monitor);
     }
     Ok(())
 }
@@ -238,7 +238,7 @@ fn the_old_file_stays(rt: HostRuntime) -> Result<(), Fail> {
         let mut monitor = ready(&rt, rt.alloc(), 64)?;
         look_old_file_up(&rt, &mut monitor, rt.alloc());
         end_with_room(&rt, &mut monitor, rt.alloc(), (1, ending), 22);
-        let_go(monitor);
+        drop_monitor(monitor);
     }
     Ok(())
 }
@@ -304,7 +304,7 @@ fn a_reader_keeps_its_version(rt: HostRuntime) -> Result<(), Fail> {
         read_new_version(&rt, &mut monitor, rt.alloc());
         end_with_room(&rt, &mut monitor, rt.alloc(), (2, ending), 45);
         end_with_room(&rt, &mut monitor, rt.alloc(), (3, ending), 45);
-        let_go(monitor);
+        drop_monitor(monitor);
     }
     Ok(())
 }
@@ -340,7 +340,7 @@ fn the_last_reader_lets_a_version_go(rt: HostRuntime) -> Result<(), Fail> {
     look_new_version_up(&rt, &mut monitor, rt.alloc(), 2, 42);
     look_new_version_up(&rt, &mut monitor, rt.alloc(), 2, 42);
     look_new_version_up(&rt, &mut monitor, rt.alloc(), 3, 45);
-    let_go(monitor);
+    drop_monitor(monitor);
     Ok(())
 }
 
@@ -407,7 +407,7 @@ fn lists_are_read_before_words_move(rt: HostRuntime) -> Result<(), Fail> {
     read_by_two_lists(&rt, &mut monitor, rt.alloc());
     read_by_an_endless_list(&rt, &mut monitor, rt.alloc());
     read_into_a_list(&rt, &mut monitor, rt.alloc());
-    let_go(monitor);
+    drop_monitor(monitor);
     Ok(())
 }
 
@@ -455,7 +455,7 @@ fn a_gap_is_read_as_zeros(rt: HostRuntime) -> Result<(), Fail> {
     write_behind_a_gap(&rt, &mut monitor, rt.alloc());
     expect_size(&rt, &mut monitor, rt.alloc(), (1, FOO), 0o777177000000);
     read_over_a_gap(&rt, &mut monitor, rt.alloc());
-    let_go(monitor);
+    drop_monitor(monitor);
     Ok(())
 }
 
@@ -531,7 +531,7 @@ fn lookups_are_refused(rt: HostRuntime) -> Result<(), Fail> {
         Reply::AddressCheck,
     );
     expect_call(&rt, &mut monitor, rt.alloc(), (4, closed), Reply::NoChannel);
-    let_go(monitor);
+    drop_monitor(monitor);
     Ok(())
 }
 
@@ -559,7 +559,7 @@ fn lists_are_checked(rt: HostRuntime) -> Result<(), Fail> {
     let mut monitor = three_files(&rt, rt.alloc())?;
     read_by_an_empty_list(&rt, &mut monitor, rt.alloc());
     read_outside_the_core(&rt, &mut monitor, rt.alloc());
-    let_go(monitor);
+    drop_monitor(monitor);
     Ok(())
 }
 
@@ -616,7 +616,7 @@ fn blocks_are_named(rt: HostRuntime) -> Result<(), Fail> {
     let mut monitor = three_files(&rt, rt.alloc())?;
     name_no_block(&rt, &mut monitor, rt.alloc());
     name_blocks(&rt, &mut monitor, rt.alloc());
-    let_go(monitor);
+    drop_monitor(monitor);
     Ok(())
 }
 
@@ -643,7 +643,7 @@ fn sides_are_closed_apart(rt: HostRuntime) -> Result<(), Fail> {
     let mut monitor = three_files(&rt, rt.alloc())?;
     close_output_side(&rt, &mut monitor, rt.alloc());
     close_input_side(&rt, &mut monitor, rt.alloc());
-    let_go(monitor);
+    drop_monitor(monitor);
     Ok(())
 }
 
@@ -696,6 +696,6 @@ fn long_files_have_sizes_in_blocks(rt: HostRuntime) -> Result<(), Fail> {
         (BAR, 1),
         (2012, 0o002001000000),
     );
-    let_go(monitor);
+    drop_monitor(monitor);
     Ok(())
 }

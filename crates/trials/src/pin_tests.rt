@@ -90,7 +90,7 @@ fn expect_read<D: Disk>(
 }
 
 /// Reads FOO.TXT as far as it goes, and lets it go.
-fn read_and_let_go<D: Disk>(rt: &impl Abort, alloc: Global, volume: &mut Volume<D>, pin: Pin)
+fn read_and_unpin<D: Disk>(rt: &impl Abort, alloc: Global, volume: &mut Volume<D>, pin: Pin)
     requires live { IsReadable volume.old.core (Pinned pin) }
 {
     expect_read(rt, alloc, volume, pin, 1, 2, 2);
@@ -106,7 +106,7 @@ fn read_and_let_go<D: Disk>(rt: &impl Abort, alloc: Global, volume: &mut Volume<
 #[test]
 fn a_pinned_file_is_read(rt: HostRuntime) -> Result<(), Fail> {
     let (mut volume, pin) = v1_pinned(&rt, rt.alloc(), 1)?;
-    read_and_let_go(&rt, rt.alloc(), &mut volume, pin);
+    read_and_unpin(&rt, rt.alloc(), &mut volume, pin);
     Ok(())
 }
 

@@ -39,7 +39,7 @@ fn hold_beside(rt: &impl Abort, volume: &mut Volume<MemDisk>, other: Pin) -> Pin
 }
 
 /// Lets a version go, beside a reader of another one.
-fn let_go_beside(volume: &mut Volume<MemDisk>, pin: Pin, other: Pin)
+fn unpin_beside(volume: &mut Volume<MemDisk>, pin: Pin, other: Pin)
     requires live { IsReadable volume.old.core (Pinned pin) }
     requires other { IsReadable volume.old.core (Pinned other) }
     requires apart { other.key ≡ pin.key → ⊥ }
@@ -66,7 +66,7 @@ fn supersede_twice(
     store(rt, alloc, volume, FOO, third, Some(38));
     expect_words(rt, alloc, volume, reader, first);
     expect_words(rt, alloc, volume, later, second);
-    let_go_beside(volume, later, reader);
+    unpin_beside(volume, later, reader);
     expect_room(rt, volume, 42);
     expect_words(rt, alloc, volume, reader, first);
     volume.unpin(reader);

@@ -7,9 +7,9 @@ use Rattle.meaning.specs.Maps.{times}
 use Rattle.meaning.proofs.MapSums.{times-append}
 use Rattle.alloctab.specs.TableState.{TableState, IsTable, IsChanged, bit, holds, with_bit, with_held}
 use Rattle.alloctab.specs.TableLaws.{bit-with_bit_other, bit-taken, bit-freed, changed-with_bit_same, changed-with_bit_other, sound-with_bit, sound-with_held, holds-with_held_same, holds-with_held_other}
-use Rattle.volume.specs.Publishing.{Marks, SetsBits, ClearsBits, Brings}
-use Rattle.volume.specs.Making.{brought}
-use Rattle.volume.proofs.LettingGo.{held_less}
+use Rattle.volume.specs.Publishing.{Marks, SetsBits, ClearsBits, PutsInUse}
+use Rattle.volume.specs.Making.{put_in_use}
+use Rattle.volume.proofs.Releasing.{held_less}
 
 pub marks_none : (t : TableState) → IsTable t → Marks t t
 marks_none t sound = record { sound = sound; size = refl; stays = λ i is. is; moved = λ n still. refl }
@@ -99,11 +99,11 @@ pub held_inside : (t : TableState) (n : ℕ) → IsTable t → 0 < holds t n →
 held_inside t n sound there = ⊎_elim (λ below. below)
     (λ past. absurd (let none = get_or_past t.held n 0 (let long = sound.held_are in omega arith) in omega arith)) (cases_lt n t.size)
 
-pub brings_none : (t : TableState) → IsTable t → Brings t t []
-brings_none t sound = record { marks = marks_none t sound; booked = refl; bits = λ n. omega arith; held = λ n. omega arith }
+pub puts_in_use_none : (t : TableState) → IsTable t → PutsInUse t t []
+puts_in_use_none t sound = record { marks = marks_none t sound; booked = refl; bits = λ n. omega arith; held = λ n. omega arith }
 
-pub brings_then : (t u v : TableState) (xs ys : List ℕ) → Brings t u xs → Brings u v ys → Brings t v (xs ++ ys)
-brings_then t u v xs ys first second = record {
+pub puts_in_use_then : (t u v : TableState) (xs ys : List ℕ) → PutsInUse t u xs → PutsInUse u v ys → PutsInUse t v (xs ++ ys)
+puts_in_use_then t u v xs ys first second = record {
   marks = marks_then t u v first.marks second.marks;
   booked = second.booked ∙ first.booked;
   bits = λ n. omega (arith, times-append n xs ys, first.bits n, second.bits n);
@@ -111,8 +111,8 @@ brings_then t u v xs ys first second = record {
 }
 
 -- set, and held once less
-pub brings_all : (t u v : TableState) (blocks : List ℕ) → SetsBits t u blocks → v ≡ record u { held = v.held } → IsTable v → ((n : ℕ) → holds v n + times n blocks ≡ holds u n) → Brings t v blocks
-brings_all t u v blocks sets is sound less = subst (λ w. Brings t w blocks) (sym is) (record {
+pub puts_in_use_all : (t u v : TableState) (blocks : List ℕ) → SetsBits t u blocks → v ≡ record u { held = v.held } → IsTable v → ((n : ℕ) → holds v n + times n blocks ≡ holds u n) → PutsInUse t v blocks
+puts_in_use_all t u v blocks sets is sound less = subst (λ w. PutsInUse t w blocks) (sym is) (record {
   marks = marks_counts t u v.held sets.marks (subst IsTable is sound);
   booked = sets.booked;
   bits = sets.bits;
@@ -120,8 +120,8 @@ brings_all t u v blocks sets is sound less = subst (λ w. Brings t w blocks) (sy
 })
 
 -- one block
-pub brings_one : (t : TableState) (n : ℕ) → IsTable t → n < t.size → bit t n ≡ 0 → 0 < holds t n → Brings t (brought t n) (n ∷ [])
-brings_one t n sound inside clear held = record {
+pub puts_in_use_one : (t : TableState) (n : ℕ) → IsTable t → n < t.size → bit t n ≡ 0 → 0 < holds t n → PutsInUse t (put_in_use t n) (n ∷ [])
+puts_in_use_one t n sound inside clear held = record {
   marks = marks_counts t (with_bit t n true) (slice_set t.held n (holds t n - 1)) (marks_bit t n true sound inside) (sound-with_held (with_bit t n true) n (holds t n - 1) (sound-with_bit t n true sound));
   booked = refl;
   bits = bit-taken t n sound inside clear;

@@ -22,7 +22,7 @@ use Rattle.volume.specs.FileReading.{IsFileFound}
 use Rattle.volume.specs.FileLaws.{facts_found}
 use Rattle.volume.specs.Known.{KnownVersion}
 use Rattle.volume.specs.Found.{IsAdded, IsMarkedFile, IsKnownVersion, AreFilesRead}
-use Rattle.volume.specs.Meets.{FileMeets, FilesMeet}
+use Rattle.volume.specs.FaultsFound.{IsFaultOfFile, IsFaultOfFiles}
 use Rattle.volume.proofs.Lookups.{viewed_more, all_of_map, all_both, all_each, all_push, all_to_map, zip_behind, total-push, total-map, found_in_front}
 
 pub no_files : (contents : Contents) (ppn : ℕ) (marks : ℕ → ℕ) → AreFilesRead contents ppn [] [] marks marks
@@ -74,10 +74,10 @@ pub files_once : (ppn : ℕ) (entries : List FileEntry) (found : List (FileName 
 files_once ppn entries found named once = EachOnce-from_map name_cmp (λ (f : ReadFile). f.prime) (map (as_read ppn) found) (subst (EachOnce name_cmp) (sym (named_again ppn found ∙ named)) once)
 
 -- The next file is at fault.
-pub file_met : (size : ℕ) (contents : Contents) (ppn : ℕ) (all front rest : List FileEntry) (versions : List KnownVersion) (marks : ℕ → ℕ) (e : FileEntry) (error : VolumeError) (reached : List Bool)
+pub file_fault : (size : ℕ) (contents : Contents) (ppn : ℕ) (all front rest : List FileEntry) (versions : List KnownVersion) (marks : ℕ → ℕ) (e : FileEntry) (error : VolumeError) (reached : List Bool)
     → all ≡ front ++ e ∷ rest → EachOnce name_cmp all → AreFilesRead contents ppn front versions marks (digit_at reached)
-    → FileMeets size contents reached (place_of ppn e.0) e.1 error → FilesMeet size contents marks ppn all error
-file_met size contents ppn all front rest versions marks e error reached is once read = by_error error
+    → IsFaultOfFile size contents reached (place_of ppn e.0) e.1 error → IsFaultOfFiles size contents marks ppn all error
+file_fault size contents ppn all front rest versions marks e error reached is once read = by_error error
   where
     entry : find name_cmp e.0 all ≡ Some e.1
     entry = (all_last (found_in_front name_total all (front ++ e ∷ []) rest (is ∙ sym (append_assoc front (e ∷ []) rest)) once))
@@ -89,7 +89,7 @@ file_met size contents ppn all front rest versions marks e error reached is once
             last [] b = b.0
             last (x ∷ xs) b = last xs b.1
 
-    by_error : (er : VolumeError) → FileMeets size contents reached (place_of ppn e.0) e.1 er → FilesMeet size contents marks ppn all er
+    by_error : (er : VolumeError) → IsFaultOfFile size contents reached (place_of ppn e.0) e.1 er → IsFaultOfFiles size contents marks ppn all er
     by_error NotVolume met = met
     by_error BadHome met = met
     by_error BadLog met = met

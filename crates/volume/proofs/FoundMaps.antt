@@ -97,8 +97,8 @@ module _ (size : ℕ) (contents : Contents) (first : ℕ) (master : ChainState M
               some j other = grind arith
 
   -- A table that doesn't is wrong.
-  pub table_met : (reached_marks : List Bool) (n : ℕ) → ((k : ℕ) → digit_at reached_marks k ≡ marks k) → IsOnlySpace size reached_marks → IsWrongFor size contents reached_marks n → IsWrongTable size contents n
-  table_met reached_marks n same only wrong = record {
+  pub table_fault : (reached_marks : List Bool) (n : ℕ) → ((k : ℕ) → digit_at reached_marks k ≡ marks k) → IsOnlySpace size reached_marks → IsWrongFor size contents reached_marks n → IsWrongTable size contents n
+  table_fault reached_marks n same only wrong = record {
     m = map_found;
     volume = r.volume;
     mapped = map_is_mapped;

@@ -2,8 +2,8 @@
 use Rattle.std.proofs.Common.{◌≡◌, inl, inr, ⊎_elim, ℕ, ◌+◌, ◌/◌, ◌<◌, ◌≤◌, [], ◌∷◌, Some, IsSome, refl, sym, ◌∙◌, ap, subst, arith, lit≤}
 use Rattle.std.proofs.lemmas.Bool.{cases_eq}
 use Rattle.std.proofs.lemmas.Bool.Decides.{nat_tests}
-use Rattle.blockdisk.specs.Disk.{Contents, DiskState, NoneOpen, Touches}
-use Rattle.blockdisk.specs.Laws.{none_open_leaves, touches_on, touches_wider}
+use Rattle.blockdisk.specs.Disk.{Contents, DiskState, NoneOpen, Modifies}
+use Rattle.blockdisk.specs.Laws.{none_open_leaves, modifies_on, modifies_wider}
 use Rattle.changeset.specs.Rest.{AtRest}
 use Rattle.meaning.specs.Maps.{empty, entries}
 use Rattle.meaning.specs.Blocks.{head_or_zero}
@@ -27,14 +27,14 @@ written_more size from n c d before others here m low high = ⊎_elim
     (λ is. ap d is ∙ here ∙ ap (λ (k : ℕ). Some (fresh_words size k)) (sym is))
     (λ other. others m other ∙ before m low (omega arith)) (cases_eq m n)
 
-pub first_touched : (s s' : DiskState) → Touches (λ n. (0 ≤ n) × (n < 5)) s s' → Touches (IsInitBlock s.size) s s'
-first_touched s s' = touches_wider (λ n. (0 ≤ n) × (n < 5)) (IsInitBlock s.size) s s' (λ n is. inl (let high = is.1 in omega arith))
+pub first_modified : (s s' : DiskState) → Modifies (λ n. (0 ≤ n) × (n < 5)) s s' → Modifies (IsInitBlock s.size) s s'
+first_modified s s' = modifies_wider (λ n. (0 ≤ n) × (n < 5)) (IsInitBlock s.size) s s' (λ n is. inl (let high = is.1 in omega arith))
 
-pub volume_touched : (s s' s'' : DiskState) (start end : ℕ) → start ≡ table_start s.size → end ≡ space_start s.size + 1 → Touches (λ n. (0 ≤ n) × (n < 5)) s s'
-    → Touches (λ n. (start ≤ n) × (n < end)) s' s'' → Touches (IsInitBlock s.size) s s''
-volume_touched s s' s'' start end at until first second =
-    touches_on (IsInitBlock s.size) s s' s'' (first_touched s s' first)
-    (touches_wider (λ n. (start ≤ n) × (n < end)) (IsInitBlock s.size) s' s'' (λ n is. let low = is.0 in let high = is.1 in inr (omega arith, omega arith)) second)
+pub volume_modified : (s s' s'' : DiskState) (start end : ℕ) → start ≡ table_start s.size → end ≡ space_start s.size + 1 → Modifies (λ n. (0 ≤ n) × (n < 5)) s s'
+    → Modifies (λ n. (start ≤ n) × (n < end)) s' s'' → Modifies (IsInitBlock s.size) s s''
+volume_modified s s' s'' start end at until first second =
+    modifies_on (IsInitBlock s.size) s s' s'' (first_modified s s' first)
+    (modifies_wider (λ n. (start ≤ n) × (n < end)) (IsInitBlock s.size) s' s'' (λ n is. let low = is.0 in let high = is.1 in inr (omega arith, omega arith)) second)
 
 -- What it holds.
 

@@ -6,7 +6,7 @@ use Rattle.meaning.specs.Faults.{InSpace, IsBadVersion}
 use Rattle.volume.specs.declared.error.VolumeError.{VolumeError}
 use Rattle.volume.specs.declared.error.VolumeError.TheVariants.{NotVolume, BadHome, BadLog, BadDirectory, BadRetrieval, BlockTwice, TableWrong, Device, NoMemory, Failed, BadData}
 use Rattle.volume.specs.FileReading.{IsVersionRefusal, IsDataRefusal, IsFileRefusal, IsOtherPlace, IsReachedTwice, IsDamagedData}
-use Rattle.volume.specs.Meets.{NamesInSpace, FileMeets, IsTableRefusal}
+use Rattle.volume.specs.FaultsFound.{NamesInSpace, IsFaultOfFile, IsTableRefusal}
 use Rattle.std.proofs.Common.{Bool, List}
 use Rattle.volume.proofs.Finding.{refusal}
 
@@ -22,10 +22,10 @@ each_error P (Err e) all = all e refl
 pub file_met_by : {T : Type 0} (size : ℕ) (contents : Contents) (reached : List Bool) (place : Place) (prime : ℕ) (result : Result T VolumeError) → IfErr result IsFileRefusal
     → ((k : ℕ) → result ≡ Err (BadRetrieval k) → IsBadVersion size contents 1 prime k ⊎ ((k ≡ prime) × IsOtherPlace contents place prime))
     → ((k : ℕ) → result ≡ Err (BlockTwice k) → IsReachedTwice contents place prime reached k) → ((k : ℕ) → result ≡ Err (BadData k) → IsDamagedData contents place prime k)
-    → IfErr result (FileMeets size contents reached place prime)
-file_met_by size contents reached place prime result only bad twice damaged = each_error (FileMeets size contents reached place prime) result by_error
+    → IfErr result (IsFaultOfFile size contents reached place prime)
+file_met_by size contents reached place prime result only bad twice damaged = each_error (IsFaultOfFile size contents reached place prime) result by_error
   where
-    by_error : (e : VolumeError) → result ≡ Err e → FileMeets size contents reached place prime e
+    by_error : (e : VolumeError) → result ≡ Err e → IsFaultOfFile size contents reached place prime e
     by_error NotVolume is = refusal IsFileRefusal result NotVolume is only
     by_error BadHome is = refusal IsFileRefusal result BadHome is only
     by_error BadLog is = refusal IsFileRefusal result BadLog is only
@@ -38,9 +38,9 @@ file_met_by size contents reached place prime result only bad twice damaged = ea
     by_error Failed is = refusal IsFileRefusal result Failed is only
     by_error (BadData n) is = damaged n is
 
-pub met_on : {T E : Type 0} (P Q : E → Type 0) (result : Result T E) → ((e : E) → P e → Q e) → IfErr result P → IfErr result Q
-met_on P Q (Ok x) on met = tt
-met_on P Q (Err e) on met = on e met
+pub found_on : {T E : Type 0} (P Q : E → Type 0) (result : Result T E) → ((e : E) → P e → Q e) → IfErr result P → IfErr result Q
+found_on P Q (Ok x) on met = tt
+found_on P Q (Err e) on met = on e met
 
 pub handed_back : {T U E : Type 0} (outer : Result T E) (inner : Result U E) (x y e : E) → outer ≡ Err x → x ≡ y → inner ≡ Err y → inner ≡ Err e → outer ≡ Err e
 handed_back outer inner x y e is same was inner_is = cc
@@ -100,6 +100,6 @@ table_named size (BadData n) only = absurd only
 pub named_on : {T : Type 0} (size size' : ℕ) (result : Result T VolumeError) → size ≡ size' → IfErr result (NamesInSpace size) → IfErr result (NamesInSpace size')
 named_on size size' result same named = subst (λ (n : ℕ). IfErr result (NamesInSpace n)) same named
 
-pub met_named : {T E : Type 0} (P N Q : E → Type 0) (result : Result T E) → ((e : E) → P e → N e → Q e) → IfErr result P → IfErr result N → IfErr result Q
-met_named P N Q (Ok x) on met named = tt
-met_named P N Q (Err e) on met named = on e met named
+pub found_named : {T E : Type 0} (P N Q : E → Type 0) (result : Result T E) → ((e : E) → P e → N e → Q e) → IfErr result P → IfErr result N → IfErr result Q
+found_named P N Q (Ok x) on met named = tt
+found_named P N Q (Err e) on met named = on e met named

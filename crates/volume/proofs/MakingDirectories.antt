@@ -287,16 +287,16 @@ module _ (s s' : DiskState) (k k' : Known) (ppn protection first : ℕ) (puts : 
       → ((m m' : DiskMap) → IsAligned k → IsAligned k' → AtRest s (IsHeld s.size k m) → bit k.table first ≡ 0 → LeadsTo s.size s.contents first (replicate 128 0) puts k m k' m'
       → LeavesOnly s s' (λ c. SettlesTo s.size (IsHeld s.size k m) c ⊎ SettlesTo s.size (IsHeld s.size k' m') c))
       → LeavesOnly s s' (StandsForEither s.size f (files_made f ppn protection))
-  made_crash f rests event =
+  made_crash f rests transaction =
       let next = map_made at.map k'.master.blocks ppn protection first in
       let same = files_are s k at.map f at.rest rests in
       crash_for s s' k k' at.map next f (files_made f ppn protection) same (files_of_made at.map k'.master.blocks ppn protection 0 (first ∷ []) ∙ ap (λ (z : Files File). files_made z ppn protection) same)
-      (event at.map next whole.aligned (made_aligned s.size k k' ppn protection first puts whole made) at.rest (first_clear s.size k k' ppn protection first puts whole made) (leads s.size k k' ppn protection first puts whole made s.contents at.map fits))
+      (transaction at.map next whole.aligned (made_aligned s.size k k' ppn protection first puts whole made) at.rest (first_clear s.size k k' ppn protection first puts whole made) (leads s.size k k' ppn protection first puts whole made s.contents at.map fits))
 
   pub made_rest : ((m m' : DiskMap) → IsAligned k → IsAligned k' → AtRest s (IsHeld s.size k m) → bit k.table first ≡ 0 → LeadsTo s.size s.contents first (replicate 128 0) puts k m k' m' → AtRest s' (IsHeld s.size k' m'))
       → AtRest s' (IsHeld s.size k' (map_made at.map k'.master.blocks ppn protection first))
-  made_rest event =
-      event at.map (map_made at.map k'.master.blocks ppn protection first) whole.aligned (made_aligned s.size k k' ppn protection first puts whole made) at.rest (first_clear s.size k k' ppn protection first puts whole made)
+  made_rest transaction =
+      transaction at.map (map_made at.map k'.master.blocks ppn protection first) whole.aligned (made_aligned s.size k k' ppn protection first puts whole made) at.rest (first_clear s.size k k' ppn protection first puts whole made)
       (leads s.size k k' ppn protection first puts whole made s.contents at.map fits)
 
   pub made_done : (f : Files File) → RestsAt s f → s'.size ≡ s.size → AtRest s' (IsHeld s.size k' (map_made at.map k'.master.blocks ppn protection first)) → RestsAt s' (files_made f ppn protection)
@@ -306,4 +306,4 @@ module _ (s s' : DiskState) (k k' : Known) (ppn protection first : ℕ) (puts : 
 
   pub made_at : s'.size ≡ s.size → ((m m' : DiskMap) → IsAligned k → IsAligned k' → AtRest s (IsHeld s.size k m) → bit k.table first ≡ 0 → LeadsTo s.size s.contents first (replicate 128 0) puts k m k' m' → AtRest s' (IsHeld s.size k' m'))
       → (m' : DiskMap) × AtRest s' (IsHeld s.size k' m')
-  made_at size event = (map_made at.map k'.master.blocks ppn protection first, made_rest event)
+  made_at size transaction = (map_made at.map k'.master.blocks ppn protection first, made_rest transaction)

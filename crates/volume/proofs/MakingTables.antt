@@ -17,7 +17,7 @@ use Rattle.retrieval.specs.Writing.{Takes, IsFixed}
 use Rattle.meaning.proofs.Lists.{times_here, times_later}
 use Rattle.retrieval.proofs.Taking.{free_before, free_in_space, used_one_more, takes_each}
 use Rattle.volume.specs.Publishing.{Marks}
-use Rattle.volume.specs.Making.{taken, released, brought, Uses, with_booked, TakesBlocks, PutsTable}
+use Rattle.volume.specs.Making.{taken, released, put_in_use, Uses, with_booked, TakesBlocks, PutsTable}
 
 -- Given up.
 
@@ -53,7 +53,7 @@ takes_other t (m ∷ ns) t' sound takes n stuck = ⊎_elim
     (λ other. times_tail n m ns other ∙ takes_other (taken t m) ns t' (sound-with_held t m (holds t m + 1) sound) takes.2 n (λ free. stuck (free_before t m n sound takes.0 free).1)) (cases_eq n m)
 
 -- the first block of the list is brought into use after the others
-pub uses_more : (t : TableState) (n : ℕ) (ns : List ℕ) (t' u : TableState) → IsTable t → Takes t (n ∷ ns) t' → Uses (taken t n) u ns → Uses t (brought u n) (n ∷ ns)
+pub uses_more : (t : TableState) (n : ℕ) (ns : List ℕ) (t' u : TableState) → IsTable t → Takes t (n ∷ ns) t' → Uses (taken t n) u ns → Uses t (put_in_use u n) (n ∷ ns)
 uses_more t n ns t' u sound takes uses =
     let inside : n < u.size = let a = takes.0 in let e = uses.size in omega arith in
     let sound' = sound-with_held t n (holds t n + 1) sound in
@@ -73,7 +73,7 @@ uses_more t n ns t' u sound takes uses =
     sum : (m : ℕ) → bit (with_bit u n true) m ≡ bit u m + times m (n ∷ []) → bit u m ≡ bit t m + times m ns → bit (with_bit u n true) m ≡ bit t m + times m (n ∷ ns)
     sum m e f = omega arith
 
-    by_block : (m : ℕ) → (IsChanged (brought u n) (m / 4608) → ⊥) → (m ≡ n → ⊥) → bit (brought u n) m ≡ bit t m
+    by_block : (m : ℕ) → (IsChanged (put_in_use u n) (m / 4608) → ⊥) → (m ≡ n → ⊥) → bit (put_in_use u n) m ≡ bit t m
     by_block m still other = bit-with_bit_other u n m true other ∙ uses.moved m (λ was. ⊎_elim
         (λ same. still (subst (λ (i : ℕ). IsChanged (with_bit u n true) i) (sym same) (changed-with_bit_same u n true uses.sound (let a = takes.0 in let e = uses.size in omega arith))))
         (λ apart. still (changed-with_bit_other u n (m / 4608) true apart ∙ was)) (cases_eq (m / 4608) (n / 4608)))
@@ -172,14 +172,14 @@ held_two t n k o t' is sound takes =
     (subst (λ (u : TableState). k < u.size) (sym two.2) two.0, gives_held (taken t n) t' k two.1 two.0 two.2)
 
 -- brought into use
-pub uses_one : (t : TableState) (n : ℕ) (o : Option ℕ) (t' v w : TableState) → o ≡ None → IsTable t → Takes t (n ∷ option_to_list o) t' → v ≡ t' → w ≡ brought v n → Uses t w (n ∷ option_to_list o)
+pub uses_one : (t : TableState) (n : ℕ) (o : Option ℕ) (t' v w : TableState) → o ≡ None → IsTable t → Takes t (n ∷ option_to_list o) t' → v ≡ t' → w ≡ put_in_use v n → Uses t w (n ∷ option_to_list o)
 uses_one t n o t' v w is sound takes same second =
     let one : Takes t (n ∷ []) t' = subst (λ (p : Option ℕ). Takes t (n ∷ option_to_list p) t') is takes in
     let sound' = sound-with_held t n (holds t n + 1) sound in
     let begun : Uses (taken t n) v [] = subst (λ (u : TableState). Uses (taken t n) u []) (sym (same ∙ one.2)) (uses_none (taken t n) sound') in
     subst (λ (p : Option ℕ). Uses t w (n ∷ option_to_list p)) (sym is) (subst (λ (u : TableState). Uses t u (n ∷ [])) (sym second) (uses_more t n [] t' v sound one begun))
 
-pub uses_two : (t : TableState) (n k : ℕ) (o : Option ℕ) (t' v w : TableState) → o ≡ Some k → IsTable t → Takes t (n ∷ option_to_list o) t' → v ≡ brought t' k → w ≡ brought v n → Uses t w (n ∷ option_to_list o)
+pub uses_two : (t : TableState) (n k : ℕ) (o : Option ℕ) (t' v w : TableState) → o ≡ Some k → IsTable t → Takes t (n ∷ option_to_list o) t' → v ≡ put_in_use t' k → w ≡ put_in_use v n → Uses t w (n ∷ option_to_list o)
 uses_two t n k o t' v w is sound takes first second =
     let two : Takes t (n ∷ k ∷ []) t' = subst (λ (p : Option ℕ). Takes t (n ∷ option_to_list p) t') is takes in
     let sound' = sound-with_held t n (holds t n + 1) sound in

@@ -19,7 +19,7 @@ use Rattle.volume.specs.declared.error.VolumeError.TheVariants.{NotVolume, BadHo
 use Rattle.directory.specs.Chains.{IsChain}
 use Rattle.volume.specs.Known.{Known, known_reaches, cost_of_known, IsWholeDirectory, IsWholeMap, IsBooked}
 use Rattle.volume.specs.Found.{IsWrongFor, IsRightFor}
-use Rattle.volume.specs.Meets.{SettledRefuses, IsTableRefusal}
+use Rattle.volume.specs.FaultsFound.{SettledRefuses, IsTableRefusal}
 use Rattle.volume.proofs.Handing.{each_error}
 use Rattle.volume.proofs.Finding.{refusal}
 

@@ -69,13 +69,13 @@ entered_before : (old : Entered) → option_map (λ o. o.0) (before old) ≡ opt
 entered_before None = refl
 entered_before (Some o) = refl
 
-pub primes_published : (size : ℕ) (c c' : VolumeCore) (key : ℕ) (p : PendingVersion) (words : ℕ) → (is : IsPublishedCore size c c' key p words) → PrimesGoOn c c' p.prime.ppn p.prime.file is.at is.turns.old
+pub primes_published : (size : ℕ) (c c' : VolumeCore) (key : ℕ) (p : PendingVersion) (words : ℕ) → (is : IsPublishedCore size c c' key p words) → PrimesGoOn c c' p.prime.ppn p.prime.file is.at is.makes_current.old
 primes_published size c c' key p words is = record {
-  others = λ q n differ. published_elsewhere size is.put.known c'.known p.prime.ppn p.prime.file is.at _ (before is.turns.old) is.puts is.turns.published q n differ ∙ primes_table c is.put is.put.known.table is.known q n;
-  here = published_here size is.put.known c'.known p.prime.ppn p.prime.file is.at _ (before is.turns.old) is.puts is.turns.published;
+  others = λ q n differ. published_elsewhere size is.put.known c'.known p.prime.ppn p.prime.file is.at _ (before is.makes_current.old) is.puts is.makes_current.published q n differ ∙ primes_table c is.put is.put.known.table is.known q n;
+  here = published_here size is.put.known c'.known p.prime.ppn p.prime.file is.at _ (before is.makes_current.old) is.puts is.makes_current.published;
   before =
       sym (primes_table c is.put is.put.known.table is.known p.prime.ppn p.prime.file)
-      ∙ published_before size is.put.known c'.known p.prime.ppn p.prime.file is.at _ (before is.turns.old) is.puts is.turns.published ∙ entered_before is.turns.old;
+      ∙ published_before size is.put.known c'.known p.prime.ppn p.prime.file is.at _ (before is.makes_current.old) is.puts is.makes_current.published ∙ entered_before is.makes_current.old;
 }
 
 -- The versions that readers hold.
@@ -89,8 +89,8 @@ not_zero : {A : Type 0} (n : ℕ) (x y : A) → 0 < n → (if n == 0 then x else
 not_zero n x y some = grind (arith, nat_tests)
 
 module _ (size : ℕ) (c c' : VolumeCore) (key : ℕ) (p : PendingVersion) (words : ℕ) (whole : IsWholeCore size c) (is : IsPublishedCore size c c' key p words) (k : ℕ) (v : LiveVersion) (there : slot c.live k ≡ Some v) where
-  not_new : k ≡ is.turns.new_key → ⊥
-  not_new same = some_none (sym there ∙ ap (λ l. slot l k) (sym is.live) ∙ ap (slot is.put.live) same ∙ is.turns.vacant)
+  not_new : k ≡ is.makes_current.new_key → ⊥
+  not_new same = some_none (sym there ∙ ap (λ l. slot l k) (sym is.live) ∙ ap (slot is.put.live) same ∙ is.makes_current.vacant)
 
   was_live : (o : ℕ × LiveVersion) → slot is.put.live o.0 ≡ Some o.1 → slot c.live o.0 ≡ Some o.1
   was_live o at = ap (λ l. slot l o.0) (sym is.live) ∙ at
@@ -99,12 +99,12 @@ module _ (size : ℕ) (c c' : VolumeCore) (key : ℕ) (p : PendingVersion) (word
   is_before : (o : ℕ × LiveVersion) → slot is.put.live o.0 ≡ Some o.1 → k ≡ o.0 → o.1 ≡ v
   is_before o at same = some_same (sym (was_live o at) ∙ ap (slot c.live) (sym same) ∙ there)
 
-  stays : HasOtherKey is.turns.old k → slot c'.live k ≡ Some v
-  stays other = is.turns.others k not_new other ∙ ap (λ l. slot l k) is.live ∙ there
+  stays : HasOtherKey is.makes_current.old k → slot c'.live k ≡ Some v
+  stays other = is.makes_current.others k not_new other ∙ ap (λ l. slot l k) is.live ∙ there
 
   -- one that is no longer current stays
   pub ended_stays : v.is_current ≡ false → slot c'.live k ≡ Some v
-  ended_stays ended = stays (by is.turns.old is.turns.ended)
+  ended_stays ended = stays (by is.makes_current.old is.makes_current.ended)
     where
       by : (old : Entered) → IsEnded is.put.live c'.live old → HasOtherKey old k
       by None none = tt
@@ -113,7 +113,7 @@ module _ (size : ℕ) (c c' : VolumeCore) (key : ℕ) (p : PendingVersion) (word
   module _ (current : v.is_current ≡ true) (q : ℕ) (name : FileName) (at : prime_at c q name ≡ Some v.at) where
     -- that of the place is superseded, and stays for its readers
     superseded : 0 < v.readers → (q ≡ p.prime.ppn) × (name ≡ p.prime.file) → slot c'.live k ≡ Some (record v { is_current = false })
-    superseded held same = by is.turns.old is.turns.ended (primes_published size c c' key p words is).before
+    superseded held same = by is.makes_current.old is.makes_current.ended (primes_published size c c' key p words is).before
       where
         by : (old : Entered) → IsEnded is.put.live c'.live old → prime_at c p.prime.ppn p.prime.file ≡ option_map (λ o. o.1.at) old → slot c'.live k ≡ Some (record v { is_current = false })
         by None none was = absurd (some_none (sym at ∙ (λ i. prime_at c (same.0 i) (same.1 i)) ∙ was))
@@ -125,7 +125,7 @@ module _ (size : ℕ) (c c' : VolumeCore) (key : ℕ) (p : PendingVersion) (word
 
     -- that of another place stays, and so does its place
     elsewhere : ((q ≡ p.prime.ppn) × (name ≡ p.prime.file) → ⊥) → (slot c'.live k ≡ Some v) × (prime_at c' q name ≡ Some v.at)
-    elsewhere differ = (stays (by is.turns.old is.turns.ended (primes_published size c c' key p words is).before), (primes_published size c c' key p words is).others q name differ ∙ at)
+    elsewhere differ = (stays (by is.makes_current.old is.makes_current.ended (primes_published size c c' key p words is).before), (primes_published size c c' key p words is).others q name differ ∙ at)
       where
         by : (old : Entered) → IsEnded is.put.live c'.live old → prime_at c p.prime.ppn p.prime.file ≡ option_map (λ o. o.1.at) old → HasOtherKey old k
         by None none was = tt

@@ -18,7 +18,7 @@ use Rattle.changeset.specs.PutLaws.{times_head}
 use Rattle.retrieval.specs.Writing.{AreApart}
 use Rattle.volume.specs.Known.{KnownDirectory, blocks_reached}
 use Rattle.volume.specs.Live.{VolumeCore, slot, pending_at, held_reaches, current_reaches, pending_reaches, entry_reaches, IsWholePending, IsWholeCore}
-use Rattle.volume.specs.Publishing.{before, Turns}
+use Rattle.volume.specs.Publishing.{before, MakesCurrent}
 use Rattle.volume.specs.declared.live.LiveVersion.{LiveVersion}
 use Rattle.volume.specs.declared.pending.PendingVersion.{PendingVersion}
 use Rattle.volume.proofs.LiveBodies.{IsUsed, read_used, written_used}
@@ -30,17 +30,17 @@ use Rattle.volume.proofs.PublishingSlots.{reaches_parts}
 use Rattle.volume.proofs.PuttingCore.{waits}
 
 -- The version that was put into core, under its new key, is the one that was written.
-pub record IsTurned (size : ℕ) (c c' : VolumeCore) (key : ℕ) (p : PendingVersion) (v : LiveVersion) (puts : List Put) : Type 0 where
-  pub turns : Turns size c c' key p v.at v.version.ribs puts
+pub record IsMadeCurrent (size : ℕ) (c c' : VolumeCore) (key : ℕ) (p : PendingVersion) (v : LiveVersion) (puts : List Put) : Type 0 where
+  pub makes_current : MakesCurrent size c c' key p v.at v.version.ribs puts
   pub prime : v.prime ≡ p.prime
   pub words : v.version.words ≡ p.version.words
   pub blocks : v.version.blocks ≡ p.version.blocks
 
-pub turned_of : (size bits : ℕ) (c c' : VolumeCore) (key : ℕ) (p : PendingVersion) (v : LiveVersion) (puts : List Put) (current : ℕ) → bits ≡ size
-    → (at : ℕ) × (ribs : List ℕ) × (turns : Turns bits c c' key p at ribs puts) × (current ≡ turns.new_key) → Some v ≡ slot c'.live current → IsTurned size c c' key p v puts
-turned_of size bits c c' key p v puts current size_is turned there =
-    subst (λ (n : ℕ). IsTurned n c c' key p v puts) size_is
-    (subst (λ (u : LiveVersion). IsTurned bits c c' key p u puts) (sym (some_same (there ∙ ap (slot c'.live) turned.3 ∙ turned.2.here))) (record { turns = turned.2; prime = refl; words = refl; blocks = refl }))
+pub made_current_of : (size bits : ℕ) (c c' : VolumeCore) (key : ℕ) (p : PendingVersion) (v : LiveVersion) (puts : List Put) (current : ℕ) → bits ≡ size
+    → (at : ℕ) × (ribs : List ℕ) × (makes_current : MakesCurrent bits c c' key p at ribs puts) × (current ≡ makes_current.new_key) → Some v ≡ slot c'.live current → IsMadeCurrent size c c' key p v puts
+made_current_of size bits c c' key p v puts current size_is made_current there =
+    subst (λ (n : ℕ). IsMadeCurrent n c c' key p v puts) size_is
+    (subst (λ (u : LiveVersion). IsMadeCurrent bits c c' key p u puts) (sym (some_same (there ∙ ap (slot c'.live) made_current.3 ∙ made_current.2.here))) (record { makes_current = made_current.2; prime = refl; words = refl; blocks = refl }))
 
 -- Lists.
 
@@ -108,9 +108,9 @@ module _ (size : ℕ) (c : VolumeCore) (whole : IsWholeCore size c) where
 
 -- The blocks of one that is published.
 
-module _ (size : ℕ) (c c' : VolumeCore) (key : ℕ) (p : PendingVersion) (v : LiveVersion) (puts : List Put) (whole : IsWholeCore size c) (turned : IsTurned size c c' key p v puts) where
-  abbrev is : Turns size c c' key p v.at v.version.ribs puts
-  is = turned.turns
+module _ (size : ℕ) (c c' : VolumeCore) (key : ℕ) (p : PendingVersion) (v : LiveVersion) (puts : List Put) (whole : IsWholeCore size c) (made_current : IsMadeCurrent size c c' key p v puts) where
+  abbrev is : MakesCurrent size c c' key p v.at v.version.ribs puts
+  is = made_current.makes_current
 
   waiting : IsWholePending size p
   waiting = waits size c whole key p is.written
@@ -143,13 +143,13 @@ module _ (size : ℕ) (c c' : VolumeCore) (key : ℕ) (p : PendingVersion) (v : 
       by (suc n) some = absurd (let from = (each_times (InSpace size) v.version.ribs 0 in_space.1 (omega arith)).from in omega arith)
 
   pub version_words : v.version.words ≤ 2097152
-  version_words = let few = waiting.whole.few in let same = turned.words in omega arith
+  version_words = let few = waiting.whole.few in let same = made_current.words in omega arith
 
   pub version_enough : length v.version.blocks ≡ blocks_of v.version.words
-  version_enough = ap (λ (l : List ℕ). length l) turned.blocks ∙ waiting.whole.counted ∙ ap blocks_of (sym turned.words)
+  version_enough = ap (λ (l : List ℕ). length l) made_current.blocks ∙ waiting.whole.counted ∙ ap blocks_of (sym made_current.words)
 
   pub version_fits : AllByRecursion (λ n. n < 262144) v.version.blocks
-  version_fits = subst (AllByRecursion (λ n. n < 262144)) (sym turned.blocks)
+  version_fits = subst (AllByRecursion (λ n. n < 262144)) (sym made_current.blocks)
       (all_weaker (InSpace size) (λ n. n < 262144) p.version.blocks (λ n there. let below = there.below in let large = whole.map.volume.large in omega arith) waiting.inside)
 
   -- which blocks are written

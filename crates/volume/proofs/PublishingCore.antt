@@ -19,7 +19,7 @@ use Rattle.alloctab.specs.TableState.{bit, holds}
 use Rattle.directory.specs.Chains.{ChainState, IsChain}
 use Rattle.volume.specs.Known.{KnownDirectory, blocks_reached, reaches_in_known, reaches_in_entries, cost_of_directory, cost_of_known, IsWholeVersion, IsWholeDirectory, IsWholeMap}
 use Rattle.volume.specs.Live.{VolumeCore, as_known, held_reaches, held_cost, current_reaches, pending_reaches, pending_cost, creates, growths, cost_beyond, IsWholePending, IsWholeCore}
-use Rattle.volume.specs.Publishing.{given_up, added, before, left_of, Turns}
+use Rattle.volume.specs.Publishing.{given_up, added, before, left_of, MakesCurrent}
 use Rattle.volume.specs.declared.live.LiveVersion.{LiveVersion}
 use Rattle.volume.specs.declared.pending.PendingVersion.{PendingVersion}
 use Rattle.volume.proofs.FoundDirectories.{all_at}
@@ -28,11 +28,11 @@ use Rattle.volume.proofs.MakingHeld.{element_at}
 use Rattle.volume.proofs.MakingLaw.{bit_few}
 use Rattle.volume.proofs.Pinning.{all_updated}
 use Rattle.volume.proofs.PublishingPuts.{was_whole, published_times, published_inside}
-use Rattle.volume.proofs.PublishingSlots.{set_total, set_each, all_places, set_growths, came, reaches_parts, entered, Counts, counts, turned_total, turned_all}
+use Rattle.volume.proofs.PublishingSlots.{set_total, set_each, all_places, set_growths, came, reaches_parts, entered, Counts, counts, made_current_total, made_current_all}
 use Rattle.volume.proofs.PuttingCore.{waits}
 use Rattle.changeset.specs.PutLaws.{some_or_none}
 
-module _ (size : ℕ) (c c' : VolumeCore) (key : ℕ) (p : PendingVersion) (at : ℕ) (ribs : List ℕ) (puts : List Put) (whole : IsWholeCore size c) (is : Turns size c c' key p at ribs puts) where
+module _ (size : ℕ) (c c' : VolumeCore) (key : ℕ) (p : PendingVersion) (at : ℕ) (ribs : List ℕ) (puts : List Put) (whole : IsWholeCore size c) (is : MakesCurrent size c c' key p at ribs puts) where
   abbrev new : LiveVersion
   new = record { prime = p.prime; version = record p.version { ribs = ribs }; at = at; readers = 0; is_current = true }
 
@@ -42,7 +42,7 @@ module _ (size : ℕ) (c c' : VolumeCore) (key : ℕ) (p : PendingVersion) (at :
   counted n = counts c.live c'.live is.old n is.ended
 
   live_total : (f : Option LiveVersion → ℕ) → f None ≡ 0 → total f c'.live + f (entered is.old) ≡ total f c.live + f (Some new) + f (left_of is.old)
-  live_total f none = turned_total f none c.live c'.live is.old is.new_key (Some new) is.vacant is.here is.ended is.others
+  live_total f none = made_current_total f none c.live c'.live is.old is.new_key (Some new) is.vacant is.here is.ended is.others
 
   adds : Adds c'.pending c.pending key p
   adds = record { vacant = is.gone; here = is.written; others = λ k other. sym (is.other_pending k other) }
@@ -87,8 +87,8 @@ module _ (size : ℕ) (c c' : VolumeCore) (key : ℕ) (p : PendingVersion) (at :
         (is.published.entry.each i e.0 u e.1 there));
   }
 
-  turned_map : IsWholeMap size c'.known
-  turned_map = record {
+  made_current_map : IsWholeMap size c'.known
+  made_current_map = record {
     volume = whole.map.volume;
     size_is = is.published.size_is ∙ whole.map.size_is;
     chain = subst (IsChain nat_cmp (IsMasterEntryOf 1)) (sym is.published.master) whole.map.chain;
@@ -132,8 +132,8 @@ module _ (size : ℕ) (c c' : VolumeCore) (key : ℕ) (p : PendingVersion) (at :
       let split = fresh_times n in
       (omega arith, omega arith, omega arith)
 
-  turned_inside : (n : ℕ) → 0 < holds c'.known.table n → InSpace size n
-  turned_inside n some = ⊎_elim (λ old. whole.inside n old)
+  made_current_inside : (n : ℕ) → 0 < holds c'.known.table n → InSpace size n
+  made_current_inside n some = ⊎_elim (λ old. whole.inside n old)
       (λ given.
       let alone = given_alone n given in
       let free = alone.0 in
@@ -146,8 +146,8 @@ module _ (size : ℕ) (c c' : VolumeCore) (key : ℕ) (p : PendingVersion) (at :
       })
       (held_before n some)
 
-  turned_apart : (n : ℕ) → 0 < holds c'.known.table n → times n c'.known.master.blocks + total (λ d. times n d.chain.blocks) c'.known.directories ≡ 0
-  turned_apart n some =
+  made_current_apart : (n : ℕ) → 0 < holds c'.known.table n → times n c'.known.master.blocks + total (λ d. times n d.chain.blocks) c'.known.directories ≡ 0
+  made_current_apart n some =
       let chain = chain_times n in
       let all = directory_total (λ d. times n d.chain.blocks) in
       let master = ap (λ (m : ChainState MasterEntry). times n m.blocks) is.published.master in
@@ -159,8 +159,8 @@ module _ (size : ℕ) (c c' : VolumeCore) (key : ℕ) (p : PendingVersion) (at :
       (held_before n some)
 
   -- a block of another version that is being written is in nothing else still
-  turned_own : (n : ℕ) → 0 < total (pending_reaches n) c'.pending → bit c'.known.table n + holds c'.known.table n ≤ 1
-  turned_own n some =
+  made_current_own : (n : ℕ) → 0 < total (pending_reaches n) c'.pending → bit c'.known.table n + holds c'.known.table n ≤ 1
+  made_current_own n some =
       let waiting = pending_total (pending_reaches n) refl in
       let alone = whole.own n (omega arith) in
       let held = whole.held n in
@@ -182,8 +182,8 @@ module _ (size : ℕ) (c c' : VolumeCore) (key : ℕ) (p : PendingVersion) (at :
   no_more_booked = let sum = is.booked in let cost = (counted 0).cost in omega arith
 
   -- the directory costs as much more as was booked for a new entry
-  turned_growths : growths c.pending c.known.master.entries c.known.directories + length is.published.directory.chain.blocks ≡ growths c'.pending c'.known.master.entries c'.known.directories + length is.published.directory'.chain.blocks
-  turned_growths =
+  made_current_growths : growths c.pending c.known.master.entries c.known.directories + length is.published.directory.chain.blocks ≡ growths c'.pending c'.known.master.entries c'.known.directories + length is.published.directory'.chain.blocks
+  made_current_growths =
       let d = is.published.directory in
       let d' = is.published.directory' in
       let k = p.prime.ppn in
@@ -206,8 +206,8 @@ module _ (size : ℕ) (c c' : VolumeCore) (key : ℕ) (p : PendingVersion) (at :
       by true (Some o) is_new n m n' count = absurd (cc)
       by false None is_new n m n' count = absurd (cc)
 
-  turned_booked : c'.known.table.booked ≡ cost_of_known c'.known.master c'.known.directories + cost_beyond c'
-  turned_booked =
+  made_current_booked : c'.known.table.booked ≡ cost_of_known c'.known.master c'.known.directories + cost_beyond c'
+  made_current_booked =
       let sum = is.booked in
       let was_booked = whole.booked in
       let held = live_total held_cost refl in
@@ -215,15 +215,15 @@ module _ (size : ℕ) (c c' : VolumeCore) (key : ℕ) (p : PendingVersion) (at :
       let waiting = pending_total pending_cost refl in
       let all = directory_total cost_of_directory in
       let entry = is.published.entry.cost in
-      let grown = turned_growths in
+      let grown = made_current_growths in
       let master = ap (λ (m : ChainState MasterEntry). length m.blocks) is.published.master in
       omega arith
 
-  pub turned_whole : IsWholeCore size c'
-  turned_whole = record {
-    map = turned_map;
+  pub made_current_whole : IsWholeCore size c'
+  made_current_whole = record {
+    map = made_current_map;
     keyed = is.keyed;
-    standing = turned_all size c c' key p at ribs puts is (λ o. IfSome o (λ v. IsWholeVersion (as_known v))) tt (subst (λ o. IfSome o (λ v. IsWholeVersion (as_known v))) (sym is.here) new_whole) (λ v of_v. of_v) whole.standing;
+    standing = made_current_all size c c' key p at ribs puts is (λ o. IfSome o (λ v. IsWholeVersion (as_known v))) tt (subst (λ o. IfSome o (λ v. IsWholeVersion (as_known v))) (sym is.here) new_whole) (λ v of_v. of_v) whole.standing;
     waiting = all_updated (λ o. IfSome o (IsWholePending size)) c.pending c'.pending key is.other_pending tt whole.waiting (subst (λ o. IfSome o (IsWholePending size)) (sym is.gone) tt);
     current = λ n.
         let now = live_total (current_reaches n) refl in
@@ -244,11 +244,11 @@ module _ (size : ℕ) (c c' : VolumeCore) (key : ℕ) (p : PendingVersion) (at :
         let waiting = pending_total (pending_reaches n) refl in
         let held = whole.held n in
         omega arith;
-    own = turned_own;
-    inside = turned_inside;
-    apart = turned_apart;
+    own = made_current_own;
+    inside = made_current_inside;
+    apart = made_current_apart;
     fits = let fits = whole.fits in let few = no_more_booked in omega arith;
-    booked = turned_booked;
+    booked = made_current_booked;
     within = λ some.
         let waiting = pending_total pending_cost refl in
         let most = whole.within (omega arith) in

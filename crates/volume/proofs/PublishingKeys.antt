@@ -228,12 +228,12 @@ module _ (size : ℕ) (m : LiveMap) (whole : IsWholeCore size (core_of m)) (live
       λ i. record (live_directory m.versions.slots x) { versions = versions i }
 
   -- the other directories are as before
-  pub turned_directories : map (live_directory live') (slice_set m.directories.items place d) ≡ slice_set (core_of m).known.directories place (live_directory live' d)
-  turned_directories = mapped_set (live_directory live') (live_directory m.versions.slots) m.directories.items place d same_directory
+  pub made_current_directories : map (live_directory live') (slice_set m.directories.items place d) ≡ slice_set (core_of m).known.directories place (live_directory live' d)
+  made_current_directories = mapped_set (live_directory live') (live_directory m.versions.slots) m.directories.items place d same_directory
 
   -- and keyed, where this one is
-  pub turned_keyed : IsKeyed live' (live_directory live' d) d.keys.items
+  pub made_current_keyed : IsKeyed live' (live_directory live' d) d.keys.items
       → AllZip (IsKeyed live') (slice_set (core_of m).known.directories place (live_directory live' d)) (map (λ x. x.keys.items) (slice_set m.directories.items place d))
-  turned_keyed is =
+  made_current_keyed is =
       pairs_set (IsKeyed live') (live_directory m.versions.slots) (λ (x : LiveDirectory). x.keys.items) m.directories.items place d (live_directory live' d)
       (λ j x there other. kept_keyed m.versions.slots live' (map file_view x.chain.entries) x.keys.items (was_keyed j x there) (stay_in j x there other)) is

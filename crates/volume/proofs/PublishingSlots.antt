@@ -12,7 +12,7 @@ use Rattle.meaning.specs.Room.{growth}
 use Rattle.meaning.proofs.MapLaws.{some_same, some_none}
 use Rattle.volume.specs.Known.{KnownDirectory, blocks_reached, reaches_in_known}
 use Rattle.volume.specs.Live.{VolumeCore, slot, pending_at, held_reaches, held_cost, current_reaches, entry_reaches, growths}
-use Rattle.volume.specs.Publishing.{given_up, cost_before, Entered, before, left_of, IsEnded, HasOtherKey, Turns}
+use Rattle.volume.specs.Publishing.{given_up, cost_before, Entered, before, left_of, IsEnded, HasOtherKey, MakesCurrent}
 use Rattle.volume.specs.Rest.{HasSomeBody}
 use Rattle.volume.specs.declared.live.LiveVersion.{LiveVersion}
 use Rattle.volume.specs.declared.pending.PendingVersion.{PendingVersion}
@@ -126,13 +126,13 @@ set_here [] k q x is = absurd (some_none (sym is))
 set_here (o ∷ slots) zero q x is = refl
 set_here (o ∷ slots) (suc k) q x is = set_here slots k q x is
 
-pub turned_total : (f : Option LiveVersion → ℕ) → f None ≡ 0 → (live live' : List (Option LiveVersion)) (old : Entered) (key : ℕ) (x : Option LiveVersion) → slot live key ≡ None → slot live' key ≡ x → IsEnded live live' old
+pub made_current_total : (f : Option LiveVersion → ℕ) → f None ≡ 0 → (live live' : List (Option LiveVersion)) (old : Entered) (key : ℕ) (x : Option LiveVersion) → slot live key ≡ None → slot live' key ≡ x → IsEnded live live' old
     → ((k : ℕ) → (k ≡ key → ⊥) → HasOtherKey old k → slot live' k ≡ slot live k) → total f live' + f (entered old) ≡ total f live + f x + f (left_of old)
-turned_total f none live live' None key x vacant here ended others =
+made_current_total f none live live' None key x vacant here ended others =
     let all = total_updated f none live live' key x here (λ k other. others k other tt) in
     let was = ap f vacant in
     omega arith
-turned_total f none live live' (Some o) key x vacant here ended others =
+made_current_total f none live live' (Some o) key x vacant here ended others =
     let mid = slice_set live o.0 (left_of (Some o)) in
     let apart : key ≡ o.0 → ⊥ = λ same. some_none (sym ended.0 ∙ sym (ap (slot live) same) ∙ vacant) in
     let first = total_updated f none live mid o.0 (left_of (Some o)) (set_here live o.0 o.1 (left_of (Some o)) ended.0) (λ k other. elsewhere k other) in
@@ -147,20 +147,20 @@ turned_total f none live live' (Some o) key x vacant here ended others =
     elsewhere k other = get_or-set_other live o.0 k (left_of (Some o)) None other
 
 -- another slot is as it was, or holds what is left of the one before
-pub turned_slot : (live live' : List (Option LiveVersion)) (old : Entered) (key : ℕ) → IsEnded live live' old → ((k : ℕ) → (k ≡ key → ⊥) → HasOtherKey old k → slot live' k ≡ slot live k)
+pub made_current_slot : (live live' : List (Option LiveVersion)) (old : Entered) (key : ℕ) → IsEnded live live' old → ((k : ℕ) → (k ≡ key → ⊥) → HasOtherKey old k → slot live' k ≡ slot live k)
     → (k : ℕ) → (k ≡ key → ⊥) → (slot live' k ≡ slot live k) ⊎ ((v : LiveVersion) × (slot live k ≡ Some v) × (slot live' k ≡ left v))
-turned_slot live live' None key ended others k other = inl (others k other tt)
-turned_slot live live' (Some o) key ended others k other = ⊎_elim
+made_current_slot live live' None key ended others k other = inl (others k other tt)
+made_current_slot live live' (Some o) key ended others k other = ⊎_elim
     (λ (same : k ≡ o.0). inr (o.1, ap (slot live) same ∙ ended.0, ap (slot live') same ∙ ended.2))
     (λ differs. inl (others k other differs)) (cases_eq k o.0)
 
-module _ (size : ℕ) (c c' : VolumeCore) (key : ℕ) (p : PendingVersion) (at : ℕ) (ribs : List ℕ) (puts : List Put) (is : Turns size c c' key p at ribs puts) where
+module _ (size : ℕ) (c c' : VolumeCore) (key : ℕ) (p : PendingVersion) (at : ℕ) (ribs : List ℕ) (puts : List Put) (is : MakesCurrent size c c' key p at ribs puts) where
   slot_of : (k : ℕ) → (k ≡ is.new_key → ⊥) → (slot c'.live k ≡ slot c.live k) ⊎ ((v : LiveVersion) × (slot c.live k ≡ Some v) × (slot c'.live k ≡ left v))
-  slot_of = turned_slot c.live c'.live is.old is.new_key is.ended is.others
+  slot_of = made_current_slot c.live c'.live is.old is.new_key is.ended is.others
 
   -- what holds of all versions, and of what is left of them, still does
-  pub turned_all : (P : Option LiveVersion → Type 0) → P None → P (slot c'.live is.new_key) → ((v : LiveVersion) → P (Some v) → P (Some (record v { is_current = false }))) → AllByRecursion P c.live → AllByRecursion P c'.live
-  turned_all P none new ends all = all_slots P c'.live (λ k. ⊎_elim
+  pub made_current_all : (P : Option LiveVersion → Type 0) → P None → P (slot c'.live is.new_key) → ((v : LiveVersion) → P (Some v) → P (Some (record v { is_current = false }))) → AllByRecursion P c.live → AllByRecursion P c'.live
+  made_current_all P none new ends all = all_slots P c'.live (λ k. ⊎_elim
       (λ (same : k ≡ is.new_key). subst (λ n. P (slot c'.live n)) (sym same) new)
       (λ other. ⊎_elim
       (λ kept. subst P (sym kept) (each_slot P none c.live all k))
@@ -171,8 +171,8 @@ module _ (size : ℕ) (c c' : VolumeCore) (key : ℕ) (p : PendingVersion) (at :
       (slot_of k other)) (cases_eq k is.new_key))
 
   -- a version that readers hold is still there
-  pub turned_readers : (k : ℕ) (v : LiveVersion) → slot c.live k ≡ Some v → 0 < v.readers → (b : Bool) × (slot c'.live k ≡ Some (record v { is_current = b }))
-  turned_readers k v there read = ⊎_elim
+  pub made_current_readers : (k : ℕ) (v : LiveVersion) → slot c.live k ≡ Some v → 0 < v.readers → (b : Bool) × (slot c'.live k ≡ Some (record v { is_current = b }))
+  made_current_readers k v there read = ⊎_elim
       (λ kept. (v.is_current, kept ∙ there))
       (λ ended.
       let same : ended.0 ≡ v = some_same (sym ended.1 ∙ there) in (
@@ -185,8 +185,8 @@ module _ (size : ℕ) (c c' : VolumeCore) (key : ℕ) (p : PendingVersion) (at :
       (slot_of k (λ (same : k ≡ is.new_key). some_none (sym there ∙ ap (slot c.live) same ∙ is.vacant)))
 
 -- the words of each are there, and nobody reads the new one yet
-pub turned_bodies : (contents : Contents) (size : ℕ) (c c' : VolumeCore) (key : ℕ) (p : PendingVersion) (at : ℕ) (ribs : List ℕ) (puts : List Put) → Turns size c c' key p at ribs puts → HaveBodies contents c → HaveBodies contents c'
-turned_bodies contents size c c' key p at ribs puts is bodies = record {
+pub made_current_bodies : (contents : Contents) (size : ℕ) (c c' : VolumeCore) (key : ℕ) (p : PendingVersion) (at : ℕ) (ribs : List ℕ) (puts : List Put) → MakesCurrent size c c' key p at ribs puts → HaveBodies contents c → HaveBodies contents c'
+made_current_bodies contents size c c' key p at ribs puts is bodies = record {
   read = λ k v there read. ⊎_elim
       (λ (same : k ≡ is.new_key).
       let new = ap (λ (u : LiveVersion). u.readers) (some_same (sym there ∙ ap (slot c'.live) same ∙ is.here)) in

@@ -3,7 +3,7 @@
 use Rattle.std.proofs.Common.{◌≡◌, inl, inr, ⊎_elim, ℕ, zero, suc, ◌+◌, ◌<◌, ◌≤◌, Bool, true, false, if◌then◌else◌, List, [], ◌∷◌, length, Option, Some, None, slice_index_or, refl, sym, ap, subst, ◌∙◌, arith}
 use Rattle.std.proofs.lemmas.Bool.{cases_eq, cases_lt}
 use Rattle.std.specs.List.{AllZip}
-use Rattle.blockdisk.specs.Disk.{Contents, DiskState, MayLeave, SameDisk, SameOutside, Touches, LeavesOnly}
+use Rattle.blockdisk.specs.Disk.{Contents, DiskState, MayLeave, SameDisk, SameOutside, Modifies, LeavesOnly}
 use Rattle.blockdisk.specs.Laws.{leaves_weaker}
 use Rattle.changeset.specs.PutLaws.{times_tail}
 use Rattle.changeset.specs.Rest.{Ignores, AtRest, SettlesTo, quiet_rest, quiet_leaves, quiet_stands}
@@ -69,7 +69,7 @@ same_bits size k t m c same h = record {
   bits = λ n. h.bits n ∙ sym (same n);
 }
 
-module _ (s s' : DiskState) (k : Known) (blocks : List ℕ) (aligned : IsAligned k) (at : IsAtRest s k) (size : s'.size ≡ s.size) (touched : Touches (IsOwn k.table blocks) s s') (gate : bit k.table 3 ≡ 1) where
+module _ (s s' : DiskState) (k : Known) (blocks : List ℕ) (aligned : IsAligned k) (at : IsAtRest s k) (size : s'.size ≡ s.size) (modified : Modifies (IsOwn k.table blocks) s s') (gate : bit k.table 3 ≡ 1) where
   ignores : Ignores (IsOwn k.table blocks) (IsHeld s.size k at.map)
   ignores = ignores_clear s.size k at.map (IsOwn k.table blocks) aligned (λ n own. own.clear)
 
@@ -77,14 +77,14 @@ module _ (s s' : DiskState) (k : Known) (blocks : List ℕ) (aligned : IsAligned
   not_gate own = let clear = own.clear in omega arith
 
   rest_after : AtRest s' (IsHeld s.size k at.map)
-  rest_after = quiet_rest (IsOwn k.table blocks) s s' (IsHeld s.size k at.map) ignores not_gate size at.rest touched
+  rest_after = quiet_rest (IsOwn k.table blocks) s s' (IsHeld s.size k at.map) ignores not_gate size at.rest modified
 
   -- a crash finds the files from before
   pub put_quiet : (f : Files File) → RestsAt s f → ((c : Contents) → s.left_since s.clock c → MayLeave s c) → LeavesOnly s s' (λ c. Stands s.size c f)
   put_quiet f rests only_now =
       let same = files_are s k at.map f at.rest rests in
       leaves_weaker s s' (SettlesTo s.size (IsHeld s.size k at.map)) (λ c. Stands s.size c f)
-      (quiet_stands s s' (IsHeld s.size k at.map) (quiet_leaves (IsOwn k.table blocks) s s' (IsHeld s.size k at.map) ignores not_gate at.rest only_now touched))
+      (quiet_stands s s' (IsHeld s.size k at.map) (quiet_leaves (IsOwn k.table blocks) s s' (IsHeld s.size k at.map) ignores not_gate at.rest only_now modified))
       (λ c held. (held.0, held.1, (at.map, held.2.stands, same)))
 
   -- and so does a start
@@ -187,7 +187,7 @@ none_damaged contents v has k there none = undamaged_at contents v.blocks has.2.
 
 module _ (s s' : DiskState) (c : VolumeCore) (sound : IsSound s c false) (same : SameDisk s s') (key : ℕ) (p : PendingVersion) (was : pending_at c.pending key ≡ Some p)
     (t : TableState) (pending : List (Option PendingVersion)) (v : VersionState) (is : Regrown s.size c.known.table t pending key p v) (others : (k : ℕ) → (k ≡ key → ⊥) → pending_at pending k ≡ pending_at c.pending k)
-    (touched : s'.honest → Touches (IsOwn c.known.table p.version.blocks) s s') where
+    (modified : s'.honest → Modifies (IsOwn c.known.table p.version.blocks) s s') where
   gate_set : bit c.known.table 3 ≡ 1
   gate_set = whole_fixed s.size c.known sound.whole.map 3 (omega arith)
 
@@ -199,12 +199,12 @@ module _ (s s' : DiskState) (c : VolumeCore) (sound : IsSound s c false) (same :
       → IsSound s' (record c { known = record c.known { table = t }; pending = pending }) false
   put_done w block words now long put = sound_for s s' (record c { known = record c.known { table = t }; pending = pending }) false same.size (put_whole s.size c sound.whole key p was t pending v is others)
       (λ h' ok. let h : s.honest = same.was_honest h' in
-      put_bodies s.size c sound.whole key p was s s' false sound h refl (touched h').contents (record c { known = record c.known { table = t }; pending = pending }) w block words refl others now long (put h'))
+      put_bodies s.size c sound.whole key p was s s' false sound h refl (modified h').contents (record c { known = record c.known { table = t }; pending = pending }) w block words refl others now long (put h'))
       (λ h' ok. let h : s.honest = same.was_honest h' in
-      put_at s s' c.known p.version.blocks sound.whole.map.aligned (sound.rest h refl) same.size (touched h') gate_set t (λ n. ap (λ (u : TableState). bit u n) is.1.table))
+      put_at s s' c.known p.version.blocks sound.whole.map.aligned (sound.rest h refl) same.size (modified h') gate_set t (λ n. ap (λ (u : TableState). bit u n) is.1.table))
 
   pub crash_finds : s'.honest → (f : Files File) → RestsAt s f → ((d : Contents) → s.left_since s.clock d → MayLeave s d) → LeavesOnly s s' (λ d. Stands s.size d f)
-  crash_finds h f rests only_now = put_quiet s s' c.known p.version.blocks sound.whole.map.aligned (sound.rest (same.was_honest h) refl) same.size (touched h) gate_set f rests only_now
+  crash_finds h f rests only_now = put_quiet s s' c.known p.version.blocks sound.whole.map.aligned (sound.rest (same.was_honest h) refl) same.size (modified h) gate_set f rests only_now
 
   pub rest_finds : s'.honest → (f : Files File) → RestsAt s f → RestsAt s' f
-  rest_finds h f rests = put_rests s s' c.known p.version.blocks sound.whole.map.aligned (sound.rest (same.was_honest h) refl) same.size (touched h) gate_set f rests
+  rest_finds h f rests = put_rests s s' c.known p.version.blocks sound.whole.map.aligned (sound.rest (same.was_honest h) refl) same.size (modified h) gate_set f rests

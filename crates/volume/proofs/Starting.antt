@@ -17,7 +17,7 @@ use Rattle.meaning.proofs.Settled.{settled_same}
 use Rattle.volume.specs.declared.error.VolumeError.{VolumeError}
 use Rattle.volume.specs.declared.error.VolumeError.TheVariants.{NotVolume, BadHome, BadLog, BadDirectory, BadRetrieval, BlockTwice, TableWrong, Device, NoMemory, Failed, BadData}
 use Rattle.volume.specs.Known.{Known, IsHeld}
-use Rattle.volume.specs.Meets.{SettledRefuses, Refuses}
+use Rattle.volume.specs.FaultsFound.{SettledRefuses, Refuses}
 use Rattle.volume.specs.Rest.{IsAtRest, RestsAt, StandsLike, StandsLikeBefore}
 
 -- Answers.

@@ -7,7 +7,7 @@ use Rattle.meaning.specs.Directories.{FileEntry}
 use Rattle.meaning.specs.Files.{name_cmp}
 use Rattle.meaning.proofs.MapLaws.{some_same, some_none}
 use Rattle.directory.specs.Chains.{ChainState, viewed}
-use Rattle.directory.specs.Edits.{StandsAt, IsRoom}
+use Rattle.directory.specs.Edits.{StandsAt, IsReserve}
 use Rattle.volume.specs.declared.live.LiveDirectory.{LiveDirectory}
 use Rattle.volume.specs.declared.live.LiveMap.{LiveMap}
 use Rattle.volume.specs.declared.pending.PendingVersion.{PendingVersion}
@@ -36,14 +36,14 @@ is_there c p placed none = some_none (sym placed.there.2.found ∙ none)
 
 -- lists for the directory at the place of its entry
 pub supplied : (size : ℕ) (m : LiveMap) (p : PendingVersion) (i : ℕ) (v : ℕ × ℕ) (x : LiveDirectory) (room : ChainState FileEntry) (keys : List ℕ) → IsWholeCore size (core_of m) → StandsAt nat_cmp (map master_view m.master.entries) p.prime.ppn v i → x ≡ get_or m.directories.items i x
-    → IsRoom name_cmp (viewed file_view x.chain) p.prime.file room → keys ≡ x.keys.items ++ 0 ∷ [] → IsSupplied (core_of m) p room keys
+    → IsReserve name_cmp (viewed file_view x.chain) p.prime.file room → keys ≡ x.keys.items ++ 0 ∷ [] → IsSupplied (core_of m) p room keys
 supplied size m p i v x room keys whole stands is fits longer =
     let c = core_of m in
     let at = directory_at size m p.prime.ppn i v x whole stands is in
     record {
       fits = λ d there.
           let same : d ≡ live_directory m.versions.slots x = same_directory size c p.prime.ppn i v d (live_directory m.versions.slots x) whole there stands.is at in
-          subst (λ (e : KnownDirectory). IsRoom name_cmp e.chain p.prime.file room) (sym same) fits;
+          subst (λ (e : KnownDirectory). IsReserve name_cmp e.chain p.prime.file room) (sym same) fits;
       longer = λ j w d ks stands' is_d is_ks none.
           let place = one_place c.known.master.entries i j p.prime.ppn v w whole.map.chain.each_once stands.is stands'.is in
           let within = stands.within in

@@ -11,9 +11,9 @@ use Rattle.retrieval.specs.Versions.{VersionState}
 use Rattle.retrieval.specs.Writing.{Takes, IsFixed}
 use Rattle.retrieval.proofs.Taking.{Stays, takes_stays, takes_each, takes_apart, may_be_written}
 use Rattle.volume.specs.Known.{blocks_reached}
-use Rattle.volume.specs.Making.{taken, brought}
-use Rattle.volume.specs.Publishing.{Marks, Brings, BringsVersion}
-use Rattle.volume.proofs.BlockLists.{marks_none, marks_then, marks_counts, held_inside, brings_none, brings_then, brings_one}
+use Rattle.volume.specs.Making.{taken, put_in_use}
+use Rattle.volume.specs.Publishing.{Marks, PutsInUse, PutsVersionInUse}
+use Rattle.volume.proofs.BlockLists.{marks_none, marks_then, marks_counts, held_inside, puts_in_use_none, puts_in_use_then, puts_in_use_one}
 use Rattle.volume.proofs.MakingLaw.{bit_few}
 
 -- Blocks that are taken.
@@ -144,41 +144,41 @@ module _ {t u : TableState} {grown : List ℕ} {at : ℕ} {v : VersionState} (to
   at_clear = let one = times_head at at [] refl in omega (arith, all_clear at, all_times at grown at v)
 
   -- the prime block
-  module _ {w : TableState} (is : w ≡ brought u at) where
-    pub brings_at : Brings u w (at ∷ [])
-    brings_at = subst (λ (x : TableState). Brings u x (at ∷ [])) (sym is) (brings_one u at took.marks.sound at_inside at_clear at_held)
+  module _ {w : TableState} (is : w ≡ put_in_use u at) where
+    pub puts_in_use_at : PutsInUse u w (at ∷ [])
+    puts_in_use_at = subst (λ (x : TableState). PutsInUse u x (at ∷ [])) (sym is) (puts_in_use_one u at took.marks.sound at_inside at_clear at_held)
 
     pub ribs_held : {listed : List ℕ} → listed ≡ v.ribs → (n : ℕ) → times n listed ≤ holds w n
-    ribs_held same n = let list = ap (times n) same in omega (arith, brings_at.held n, all_held n, all_times n grown at v)
+    ribs_held same n = let list = ap (times n) same in omega (arith, puts_in_use_at.held n, all_held n, all_times n grown at v)
 
     pub ribs_clear : {listed : List ℕ} → listed ≡ v.ribs → (n : ℕ) → bit w n + times n listed ≤ 1
-    ribs_clear same n = let list = ap (times n) same in omega (arith, brings_at.bits n, all_clear n, all_times n grown at v)
+    ribs_clear same n = let list = ap (times n) same in omega (arith, puts_in_use_at.bits n, all_clear n, all_times n grown at v)
 
     -- the ribs
-    module _ {ribs : List ℕ} (of : ribs ≡ v.ribs) {x : TableState} (brings : Brings w x ribs) where
-      brings_ribs : Brings u x (at ∷ v.ribs)
-      brings_ribs = brings_then u w x (at ∷ []) v.ribs brings_at (subst (Brings w x) of brings)
+    module _ {ribs : List ℕ} (of : ribs ≡ v.ribs) {x : TableState} (puts_in_use : PutsInUse w x ribs) where
+      puts_in_use_ribs : PutsInUse u x (at ∷ v.ribs)
+      puts_in_use_ribs = puts_in_use_then u w x (at ∷ []) v.ribs puts_in_use_at (subst (PutsInUse w x) of puts_in_use)
 
       pub blocks_held : {listed : List ℕ} → listed ≡ v.blocks → (n : ℕ) → times n listed ≤ holds x n
-      blocks_held same n = let list = ap (times n) same in omega (arith, brings_ribs.held n, all_held n, all_times n grown at v)
+      blocks_held same n = let list = ap (times n) same in omega (arith, puts_in_use_ribs.held n, all_held n, all_times n grown at v)
 
       pub blocks_clear : {listed : List ℕ} → listed ≡ v.blocks → (n : ℕ) → bit x n + times n listed ≤ 1
-      blocks_clear same n = let list = ap (times n) same in omega (arith, brings_ribs.bits n, all_clear n, all_times n grown at v)
+      blocks_clear same n = let list = ap (times n) same in omega (arith, puts_in_use_ribs.bits n, all_clear n, all_times n grown at v)
 
       -- the data blocks
-      module _ {blocks : List ℕ} (named : blocks ≡ v.blocks) {y : TableState} (brings_blocks : Brings x y blocks) where
-        brings_reached : Brings u y (blocks_reached at v)
-        brings_reached = brings_then u x y (at ∷ v.ribs) v.blocks brings_ribs (subst (Brings x y) named brings_blocks)
+      module _ {blocks : List ℕ} (named : blocks ≡ v.blocks) {y : TableState} (puts_in_use_blocks : PutsInUse x y blocks) where
+        puts_in_use_reached : PutsInUse u y (blocks_reached at v)
+        puts_in_use_reached = puts_in_use_then u x y (at ∷ v.ribs) v.blocks puts_in_use_ribs (subst (PutsInUse x y) named puts_in_use_blocks)
 
         grown_held : (n : ℕ) → times n grown ≤ holds y n
-        grown_held n = omega (arith, brings_reached.held n, all_held n, times-append n grown (blocks_reached at v))
+        grown_held n = omega (arith, puts_in_use_reached.held n, all_held n, times-append n grown (blocks_reached at v))
 
         grown_clear : (n : ℕ) → bit y n + times n grown ≤ 1
-        grown_clear n = omega (arith, brings_reached.bits n, all_clear n, times-append n grown (blocks_reached at v))
+        grown_clear n = omega (arith, puts_in_use_reached.bits n, all_clear n, times-append n grown (blocks_reached at v))
 
-        brings_version : (z : TableState) → Brings y z grown → BringsVersion t z grown at v
-        brings_version z last =
-            let whole = brings_then u y z (blocks_reached at v) grown brings_reached last in
+        puts_in_use_version : (z : TableState) → PutsInUse y z grown → PutsVersionInUse t z grown at v
+        puts_in_use_version z last =
+            let whole = puts_in_use_then u y z (blocks_reached at v) grown puts_in_use_reached last in
             let both : (n : ℕ) → times n (blocks_reached at v ++ grown) ≡ times n (grown ++ blocks_reached at v) = λ n. omega (arith, times-append n (blocks_reached at v) grown, times-append n grown (blocks_reached at v)) in
             record {
               marks = marks_then t u z took.marks whole.marks;
@@ -190,8 +190,8 @@ module _ {t u : TableState} {grown : List ℕ} {at : ℕ} {v : VersionState} (to
             }
 
         -- where no chain grows
-        pub used_alone : grown ≡ [] → BringsVersion t y grown at v
-        used_alone none = brings_version y (subst (Brings y y) (sym none) (brings_none y brings_blocks.marks.sound))
+        pub used_alone : grown ≡ [] → PutsVersionInUse t y grown at v
+        used_alone none = puts_in_use_version y (subst (PutsInUse y y) (sym none) (puts_in_use_none y puts_in_use_blocks.marks.sound))
 
         -- where one grows
         module _ {k : ℕ} (one : grown ≡ k ∷ []) where
@@ -202,7 +202,7 @@ module _ {t u : TableState} {grown : List ℕ} {at : ℕ} {v : VersionState} (to
               omega (arith, grown_held k)
 
           pub more_inside : k < y.size
-          more_inside = held_inside y k brings_blocks.marks.sound more_held
+          more_inside = held_inside y k puts_in_use_blocks.marks.sound more_held
 
           more_clear : bit y k ≡ 0
           more_clear =
@@ -210,6 +210,6 @@ module _ {t u : TableState} {grown : List ℕ} {at : ℕ} {v : VersionState} (to
               let here = times_head k k [] refl in
               omega (arith, grown_clear k)
 
-          pub used_grown : (z : TableState) → z ≡ brought y k → BringsVersion t z (k ∷ []) at v
-          used_grown z last = subst (λ (l : List ℕ). BringsVersion t z l at v) one
-              (brings_version z (subst (λ (s : TableState). Brings y s grown) (sym last) (subst (Brings y (brought y k)) (sym one) (brings_one y k brings_blocks.marks.sound more_inside more_clear more_held))))
+          pub used_grown : (z : TableState) → z ≡ put_in_use y k → PutsVersionInUse t z (k ∷ []) at v
+          used_grown z last = subst (λ (l : List ℕ). PutsVersionInUse t z l at v) one
+              (puts_in_use_version z (subst (λ (s : TableState). PutsInUse y s grown) (sym last) (subst (PutsInUse y (put_in_use y k)) (sym one) (puts_in_use_one y k puts_in_use_blocks.marks.sound more_inside more_clear more_held))))

@@ -3,7 +3,7 @@ pub mod FileReading
 pub mod FileLaws
 pub mod Homes
 pub mod Known
-pub mod Meets
+pub mod FaultsFound
 pub mod Found
 pub mod Cores
 pub mod Rest

@@ -20,7 +20,7 @@ use Rattle.directory.specs.Edits.{PutsChain}
 use Rattle.volume.specs.declared.make.FreshBlocks.{FreshBlocks}
 use Rattle.volume.specs.Known.{KnownDirectory, Known, IsHeld}
 
--- Any event of quiet writes and one commit.
+-- Any transaction of quiet writes and one commit.
 
 -- The puts lead from what one map has to what another has, once the fresh block has its words and all
 -- else is as before.
@@ -45,8 +45,8 @@ abbrev pub released : TableState → ℕ → TableState
 released t n = with_held t n (holds t n - 1)
 
 -- the table with a block that was taken brought into use
-abbrev pub brought : TableState → ℕ → TableState
-brought t n = released (with_bit t n true) n
+abbrev pub put_in_use : TableState → ℕ → TableState
+put_in_use t n = released (with_bit t n true) n
 
 -- The table `u` is `t` with blocks in use that were free, and where it differs its block is marked.
 pub record Uses (t u : TableState) (blocks : List ℕ) : Type 0 where

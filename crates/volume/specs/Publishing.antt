@@ -13,7 +13,7 @@ use Rattle.meaning.specs.Files.{File, Files, Directory, name_cmp}
 use Rattle.meaning.specs.Maps.{get, insert, from_entries, total, times}
 use Rattle.alloctab.specs.TableState.{TableState, IsTable, IsChanged, IsFree, bit, holds}
 use Rattle.directory.specs.Chains.{ChainState, IsChain}
-use Rattle.directory.specs.Edits.{StandsAt, IsRoom, PutsChain}
+use Rattle.directory.specs.Edits.{StandsAt, IsReserve, PutsChain}
 use Rattle.meaning.specs.Regions.{table_blocks}
 use Rattle.retrieval.specs.Modes.{mode_number}
 use Rattle.retrieval.specs.Versions.{VersionState}
@@ -50,7 +50,7 @@ pub record ClearsBits (t u : TableState) (blocks : List ℕ) : Type 0 where
   pub bits : (n : ℕ) → bit u n + times n blocks ≡ bit t n
 
 -- Blocks that were held come into use: their bits are set, and each is held once less.
-pub record Brings (t u : TableState) (blocks : List ℕ) : Type 0 where
+pub record PutsInUse (t u : TableState) (blocks : List ℕ) : Type 0 where
   pub marks : Marks t u
   pub booked : u.booked ≡ t.booked
   pub bits : (n : ℕ) → bit u n ≡ bit t n + times n blocks
@@ -58,7 +58,7 @@ pub record Brings (t u : TableState) (blocks : List ℕ) : Type 0 where
 
 -- A version that was being written comes into use, with prime block `at`, its ribs, and the block by which a chain grows:
 -- these were free.
-pub record BringsVersion (t u : TableState) (grown : List ℕ) (at : ℕ) (v : VersionState) : Type 0 where
+pub record PutsVersionInUse (t u : TableState) (grown : List ℕ) (at : ℕ) (v : VersionState) : Type 0 where
   pub marks : Marks t u
   pub booked : u.booked ≡ t.booked
   pub bits : (n : ℕ) → bit u n ≡ bit t n + times n (grown ++ blocks_reached at v)
@@ -176,7 +176,7 @@ HasOtherKey None k = Unit {0}
 HasOtherKey (Some o) k = k ≡ o.0 → ⊥
 
 -- The version under `key`, which was being written, has become the file of its name, with prime block `at` and these ribs.
-pub record Turns (size : ℕ) (c c' : VolumeCore) (key : ℕ) (p : PendingVersion) (at : ℕ) (ribs : List ℕ) (puts : List Put) : Type 0 where
+pub record MakesCurrent (size : ℕ) (c c' : VolumeCore) (key : ℕ) (p : PendingVersion) (at : ℕ) (ribs : List ℕ) (puts : List Put) : Type 0 where
   pub old : Entered
   pub published : IsPublished size c.known c'.known p.prime.ppn p.prime.file at (record { prime = p.prime; version = record p.version { ribs = ribs } }) (before old) puts
   pub few_ribs : length ribs ≡ rib_count (length p.version.blocks)
@@ -210,8 +210,8 @@ pub record IsPlaced (c : VolumeCore) (p : PendingVersion) : Type 0 where
   pub is_new : p.is_new ≡ is_absent p.prime.file directory
 
 -- Lists with a place for its entry and its key, where its name is new.
-pub record IsSupplied (c : VolumeCore) (p : PendingVersion) (room : ChainState FileEntry) (keys : List ℕ) : Type 0 where
-  pub fits : (d : KnownDirectory) → IsDirectoryOf c p.prime.ppn d → IsRoom name_cmp d.chain p.prime.file room
+pub record IsSupplied (c : VolumeCore) (p : PendingVersion) (reserve : ChainState FileEntry) (keys : List ℕ) : Type 0 where
+  pub fits : (d : KnownDirectory) → IsDirectoryOf c p.prime.ppn d → IsReserve name_cmp d.chain p.prime.file reserve
   pub longer : (i : ℕ) (w : ℕ × ℕ) (d : KnownDirectory) (ks : List ℕ) → StandsAt nat_cmp c.known.master.entries p.prime.ppn w i → slice_get c.known.directories i ≡ Some d → slice_get c.keys i ≡ Some ks
       → find name_cmp p.prime.file d.chain.entries ≡ None → (k : ℕ) × (keys ≡ ks ++ k ∷ [])
 
@@ -228,4 +228,4 @@ pub record IsPublishedCore (size : ℕ) (c c' : VolumeCore) (key : ℕ) (p : Pen
   pub at : ℕ
   pub ribs : List ℕ
   pub puts : List Put
-  pub turns : Turns size put c' key (record p { version = version }) at ribs puts
+  pub makes_current : MakesCurrent size put c' key (record p { version = version }) at ribs puts

@@ -1,7 +1,7 @@
 ghost use Rattle.std.specs.Prelude.{◌≡◌, ◌+◌, ◌<◌, ◌≤◌, ◌^◌, ℕ};
 ghost use Rattle.meaning.specs.Maps.{times};
 ghost use Rattle.alloctab.specs.TableState.{IsTable, bit, holds};
-ghost use Rattle.volume.specs.Publishing.{SetsBits, ClearsBits, Brings};
+ghost use Rattle.volume.specs.Publishing.{SetsBits, ClearsBits, PutsInUse};
 
 use crate::live::unhold_all;
 use alloctab::Table;
@@ -49,7 +49,7 @@ pub(crate) fn bring_all(table: &mut Table, blocks: &[u32])
     requires sound { IsTable table.old }
     requires held { (n : ℕ) → times n blocks.now ≤ holds table.old n }
     requires clear { (n : ℕ) → bit table.old n + times n blocks.now ≤ 1 }
-    ensures { Brings table.old table.new blocks.now }
+    ensures { PutsInUse table.old table.new blocks.now }
 {
     set_all(table, blocks);
     unhold_all(table, blocks);

@@ -11,7 +11,7 @@ ghost use Rattle.alloctab.specs.Lists.{digit_at};
 ghost use Rattle.retrieval.specs.Reading.{IsVersionAt};
 ghost use Rattle.retrieval.specs.Writing.{rib_count};
 ghost use Rattle.volume.specs.FileReading.{IsWholeBlock, IsFileFound, IsOtherPlace, IsReachedTwice, IsDamagedData, IsVersionRefusal, IsDataRefusal, IsFileRefusal};
-ghost use Rattle.volume.specs.Meets.{NamesInSpace};
+ghost use Rattle.volume.specs.FaultsFound.{NamesInSpace};
 ghost use Rattle.volume.specs.declared.error.VolumeError.TheVariants.{BadRetrieval, BlockTwice, Device, NoMemory, BadData};
 
 use crate::VolumeError;

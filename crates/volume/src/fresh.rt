@@ -1,5 +1,5 @@
 ghost use Rattle.std.specs.Prelude.{◌≡◌, ◌⊎◌, ◌<◌, ◌≤◌, ◌+◌, ◌↔◌, ◌^◌, ℕ, Some, OnOk, IsErrOf};
-ghost use Rattle.blockdisk.specs.Disk.{LeavesOnly, Near, SameDisk, Touches, NoneOpen, one_more};
+ghost use Rattle.blockdisk.specs.Disk.{LeavesOnly, Near, SameDisk, Modifies, NoneOpen, one_more};
 ghost use Rattle.blockdisk.specs.declared.fault.Fault.TheVariants.{Device as Failed, Damaged};
 ghost use Rattle.alloctab.specs.TableBlocks.{number_of, table_words};
 ghost use Rattle.changeset.specs.Rest.{AtRest};
@@ -36,7 +36,7 @@ pub fn init<D: Disk>(disk: &mut D) -> Result<(), VolumeError>
 
     // What is written, and where.
     ensures bare { (D.state disk.new).honest → OnOk result (IsBare (D.state disk.old).size (D.state disk.new).contents) }
-    ensures touched { (D.state disk.new).honest → OnOk result (Touches (IsInitBlock (D.state disk.old).size) (D.state disk.old) (D.state disk.new)) }
+    ensures modified { (D.state disk.new).honest → OnOk result (Modifies (IsInitBlock (D.state disk.old).size) (D.state disk.old) (D.state disk.new)) }
     ensures near { (D.state disk.new).honest → LeavesOnly (D.state disk.old) (D.state disk.new) (Near (IsInitBlock (D.state disk.old).size) (D.state disk.old)) }
 
     // On every disk.
@@ -61,7 +61,7 @@ fn write_volume<D: Disk>(disk: &mut D) -> Result<(), Fault>
     requires { IsVolumeSize (D.state disk.old).size }
     ensures bare { (D.state disk.new).honest → OnOk result (IsBare (D.state disk.old).size (D.state disk.new).contents) }
     ensures settled { (D.state disk.new).honest → OnOk result (NoneOpen (D.state disk.new)) }
-    ensures touched { (D.state disk.new).honest → OnOk result (Touches (IsInitBlock (D.state disk.old).size) (D.state disk.old) (D.state disk.new)) }
+    ensures modified { (D.state disk.new).honest → OnOk result (Modifies (IsInitBlock (D.state disk.old).size) (D.state disk.old) (D.state disk.new)) }
     ensures near { (D.state disk.new).honest → LeavesOnly (D.state disk.old) (D.state disk.new) (Near (IsInitBlock (D.state disk.old).size) (D.state disk.old)) }
     ensures same { SameDisk (D.state disk.old) (D.state disk.new) }
     ensures device { IsErrOf result Damaged → ⊥ }
@@ -80,7 +80,7 @@ fn write_fresh<D: Disk>(disk: &mut D, from: u32, end: u32) -> Result<(), Fault>
     requires inside { end ≤ (D.state disk.old).size }
     ensures written { (D.state disk.new).honest → OnOk result ((n : ℕ) → from ≤ n → n < end
         → (D.state disk.new).contents n ≡ Some (fresh_words (D.state disk.old).size n)) }
-    ensures touched { (D.state disk.new).honest → Touches (λ n. (from ≤ n) × (n < end)) (D.state disk.old) (D.state disk.new) }
+    ensures modified { (D.state disk.new).honest → Modifies (λ n. (from ≤ n) × (n < end)) (D.state disk.old) (D.state disk.new) }
     ensures same { SameDisk (D.state disk.old) (D.state disk.new) }
     ensures device { IsErrOf result Damaged → ⊥ }
     ensures failed { IsErrOf result Failed → (D.state disk.new).failures ≡ one_more (D.state disk.old).failures }

@@ -3,7 +3,7 @@
 //! 1. `Volume::init` makes a volume with no directory on every disk of 64 to 131072 blocks: at Ok no block
 //!    is open, and whatever a crash leaves from then on stands for no files. It writes the fixed regions but
 //!    for the log's images, and the first block of the master directory. (`stands`, `settled`, `bare`,
-//!    `touched`, `near`)
+//!    `modified`, `near`)
 //! 2. `Volume::open` recovers the disk first and then reads every block that it reaches, each once. Where it
 //!    answers Ok on an honest disk, the disk stood for some files, nothing but the recovery was done to it, the
 //!    contents have the map that is kept in core, the files are those that the disk stood for before, the gate
@@ -47,9 +47,9 @@ mod begin;
 mod blocks;
 mod claims;
 mod cost;
+mod current;
 mod discard;
 mod error;
-mod event;
 mod file_facts;
 mod files;
 mod fresh;
@@ -69,7 +69,7 @@ mod query;
 mod read;
 mod start;
 mod supplies;
-mod turn;
+mod transaction;
 mod words;
 
 pub use error::{CallError, VolumeError};

@@ -213,7 +213,7 @@ pub(crate) fn unhold_all(table: &mut Table, blocks: &[u32])
 }
 
 /// Lets the blocks of a version that was held go, and takes back the booking of what it cost.
-fn let_go(table: &mut Table, version: &LiveVersion)
+fn release_version(table: &mut Table, version: &LiveVersion)
     requires held { (n : ℕ) → times n (blocks_reached version.now.at version.now.version) ≤ holds table.old n }
     requires inside { (n : ℕ) → 0 < holds table.old n → n < table.old.size }
     requires few { length version.now.version.blocks ≤ most_blocks }
@@ -261,7 +261,7 @@ pub fn unpin_version(map: &mut LiveMap, key: usize)
 {
     if goes_with_reader(&map.versions, key) {
         if let Some(version) = map.versions.try_remove(key) {
-            let_go(&mut map.table, &version);
+            release_version(&mut map.table, &version);
         }
     } else {
         remove_reader(&mut map.versions, key);

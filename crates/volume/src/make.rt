@@ -16,15 +16,15 @@ ghost use Rattle.volume.specs.Beginning.{IsDirectoryOf};
 ghost use Rattle.volume.specs.Known.{KnownDirectory};
 ghost use Rattle.volume.specs.Live.{IsWholeCore};
 ghost use Rattle.volume.specs.LiveCores.{core_of};
-ghost use Rattle.volume.specs.Making.{brought, Uses, TakesBlocks, PutsTable, growth, fresh_list, files_made, IsEntered, IsMade};
+ghost use Rattle.volume.specs.Making.{put_in_use, Uses, TakesBlocks, PutsTable, growth, fresh_list, files_made, IsEntered, IsMade};
 ghost use Rattle.volume.specs.Places.{prime_at};
 ghost use Rattle.volume.specs.Rest.{RestsAt, StandsForEither, KeepsRead, KeepsEachWritten};
 ghost use Rattle.volume.specs.declared.error.CallError.TheVariants.{Refused, Device, Failed};
 
 use crate::CallError;
-use crate::event::write_and_commit;
 use crate::live::{LiveDirectory, LiveMap};
 use crate::map::Volume;
+use crate::transaction::write_and_commit;
 use alloctab::Table;
 use blockdisk::{Disk, NoMemory};
 use changeset::ChangeSet;
@@ -79,7 +79,7 @@ fn give_back(table: &mut Table, fresh: FreshBlocks)
 pub(crate) fn use_block(table: &mut Table, n: u32)
     requires inside { n < table.old.size }
     requires held { 0 < holds table.old n }
-    ensures { table.new ≡ brought table.old n }
+    ensures { table.new ≡ put_in_use table.old n }
 {
     table.set(n);
     table.unhold(n);

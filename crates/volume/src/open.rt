@@ -19,7 +19,7 @@ ghost use Rattle.volume.specs.Cores.{master_view, known_directory, known_of};
 ghost use Rattle.volume.specs.Homes.{home_of_master};
 ghost use Rattle.volume.specs.Known.{known_reaches, IsWholeDirectory, IsWholeMap, IsBooked, IsHeld};
 ghost use Rattle.volume.specs.Found.{IsOnlySpace, IsMapRead, IsRightFor, IsWrongFor};
-ghost use Rattle.volume.specs.Meets.{NamesInSpace, SettledRefuses, IsTableRefusal};
+ghost use Rattle.volume.specs.FaultsFound.{NamesInSpace, SettledRefuses, IsTableRefusal};
 ghost use Rattle.volume.specs.declared.error.VolumeError.TheVariants.{Device, TableWrong};
 
 use crate::VolumeError;
@@ -50,7 +50,7 @@ fn load_master<D: Disk>(
     ensures inside { IfOk result (λ chain. AllByRecursion (InSpace (D.state disk.old).size) chain.blocks) }
     ensures targets { IfOk result (λ chain. AllByRecursion (λ e. InSpace (D.state disk.old).size e.1.1) (map master_view chain.entries)) }
     ensures marked { IfOk result (λ chain. (n : ℕ) → digit_at reached.new n ≡ times n chain.blocks) }
-    ensures met { (D.state disk.new).honest → IsHome (D.state disk.old).size (D.state disk.old).contents (home_of_master first) → IfErr result (SettledRefuses (D.state disk.old).size (D.state disk.old).contents) }
+    ensures fault { (D.state disk.new).honest → IsHome (D.state disk.old).size (D.state disk.old).contents (home_of_master first) → IfErr result (SettledRefuses (D.state disk.old).size (D.state disk.old).contents) }
     ensures named { IfErr result (NamesInSpace (D.state disk.old).size) }
     ensures length { length reached.new ≡ length reached.old }
     ensures reads { (D.state disk.new).honest → OnlyReads (D.state disk.old) (D.state disk.new) }
@@ -80,7 +80,7 @@ fn read_tree<D: Disk>(
     requires fresh { (n : ℕ) → digit_at reached.old n ≡ 0 }
     ensures read { (D.state disk.new).honest → IsHome (D.state disk.old).size (D.state disk.old).contents (home_of_master first)
         → IfOk result (λ tree. IsMapRead (D.state disk.old).size (D.state disk.old).contents first (viewed master_view tree.0) (map known_directory tree.1.items) (digit_at reached.new)) }
-    ensures met { (D.state disk.new).honest → IsHome (D.state disk.old).size (D.state disk.old).contents (home_of_master first) → IfErr result (SettledRefuses (D.state disk.old).size (D.state disk.old).contents) }
+    ensures fault { (D.state disk.new).honest → IsHome (D.state disk.old).size (D.state disk.old).contents (home_of_master first) → IfErr result (SettledRefuses (D.state disk.old).size (D.state disk.old).contents) }
     ensures named { IfErr result (NamesInSpace (D.state disk.old).size) }
     ensures marked { IfOk result (λ tree. (n : ℕ) → digit_at reached.new n ≡ known_reaches n (viewed master_view tree.0) (map known_directory tree.1.items)) }
     ensures space { IfOk result (λ tree. IsOnlySpace (D.state disk.old).size reached.new) }
@@ -131,7 +131,7 @@ fn load_table<D: Disk>(alloc: Global, disk: &mut D, reached: &Reached) -> Result
 /// Reads all that a disk reaches from its home blocks, each block once, and its allocation table.
 pub fn read_map<D: Disk>(alloc: Global, disk: &mut D) -> Result<DiskMap, VolumeError>
     ensures held { (D.state disk.new).honest → IfOk result (λ read. (m : MapValue) × IsHeld (D.state disk.old).size (known_of read) m (D.state disk.old).contents) }
-    ensures met { (D.state disk.new).honest → IfErr result (SettledRefuses (D.state disk.old).size (D.state disk.old).contents) }
+    ensures fault { (D.state disk.new).honest → IfErr result (SettledRefuses (D.state disk.old).size (D.state disk.old).contents) }
     ensures named { IfErr result (NamesInSpace (D.state disk.old).size) }
     ensures whole { IfOk result (λ read. IsWholeMap (D.state disk.old).size (known_of read)) }
     ensures booked { IfOk result (λ read. IsBooked (D.state disk.old).size (known_of read)) }

@@ -16,20 +16,20 @@ ghost use Rattle.slab.specs.Slab.{HasRoomFor};
 ghost use Rattle.volume.specs.Cores.{file_view};
 ghost use Rattle.volume.specs.Live.{VolumeCore, slot, pending_at, IsWholeCore};
 ghost use Rattle.volume.specs.LiveCores.{core_of};
-ghost use Rattle.volume.specs.Publishing.{Turns, IsPlaced, IsPublishedCore, IsSupplied, file_of, files_published};
+ghost use Rattle.volume.specs.Publishing.{MakesCurrent, IsPlaced, IsPublishedCore, IsSupplied, file_of, files_published};
 ghost use Rattle.volume.specs.Rest.{IsSound, RestsAt, StandsForEither, KeepsRead, KeepsWritten};
 ghost use Rattle.volume.specs.declared.error.CallError.TheVariants.{Refused, Device, Failed, NoMemory};
 ghost use Rattle.volume.specs.declared.live.LiveVersion.{LiveVersion};
 ghost use Rattle.volume.specs.declared.pending.PendingVersion.{PendingVersion};
 
 use crate::CallError;
-use crate::event::commit_puts;
+use crate::current::make_current;
 use crate::handles::Pending;
 use crate::live::LiveMap;
 use crate::map::Volume;
 use crate::put::{growth, length_with, put_in_core};
 use crate::supplies::{Supplies, find_supplies};
-use crate::turn::make_current;
+use crate::transaction::commit_puts;
 use blockdisk::Disk;
 use changeset::ChangeSet;
 use meaning::ErrorCode;
@@ -91,8 +91,8 @@ fn publish_written<D: Disk>(
     requires slot { HasRoomFor map.old.versions 1 }
 
     ensures sound { IsSound (D.state disk.new) (core_of map.new) failed.new }
-    ensures turned { (p : PendingVersion) → pending_at (core_of map.old).pending key ≡ Some p
-        → (at : ℕ) × (ribs : List ℕ) × (puts : List Put) × Turns (D.state disk.old).size (core_of map.old) (core_of map.new) key p at ribs puts }
+    ensures made_current { (p : PendingVersion) → pending_at (core_of map.old).pending key ≡ Some p
+        → (at : ℕ) × (ribs : List ℕ) × (puts : List Put) × MakesCurrent (D.state disk.old).size (core_of map.old) (core_of map.new) key p at ribs puts }
     ensures crash { (D.state disk.new).honest → (f : Files File) → RestsAt (D.state disk.old) f → (p : PendingVersion) → pending_at (core_of map.old).pending key ≡ Some p
         → (body : List ℕ) → length body ≡ p.version.words → HasBody (D.state disk.old).contents p.version.blocks body
         → LeavesOnly (D.state disk.old) (D.state disk.new) (StandsForEither (D.state disk.old).size f (files_published f p.prime.ppn p.prime.file (file_of p.prime body))) }

@@ -1,6 +1,6 @@
 ghost use Rattle.std.specs.Prelude.{◌≡◌, ◌↔◌, ◌⊎◌, ◌+◌, ◌-◌, ◌*◌, ◌<◌, ◌≤◌, ℕ, List, true, false, length, None, Some, IfNone, IfSome, IsSome, OnOk, IsErrOf};
 ghost use Rattle.std.specs.List.{AllByRecursion};
-ghost use Rattle.blockdisk.specs.Disk.{LeavesOnly, SameDisk, Touches, one_more};
+ghost use Rattle.blockdisk.specs.Disk.{LeavesOnly, SameDisk, Modifies, one_more};
 ghost use Rattle.meaning.specs.declared.code.ErrorCode.{ErrorCode};
 ghost use Rattle.meaning.specs.declared.code.ErrorCode.TheVariants.{NoRoom};
 ghost use Rattle.meaning.specs.Costs.{blocks_of, cost_of_blocks, version_cost};
@@ -103,7 +103,7 @@ fn put_booked<D: Disk>(
     ensures body { (D.state disk.new).honest → OnOk result ((body : List ℕ) → length body ≡ version.old.words → HasBody (D.state disk.old).contents version.old.blocks body → HasBody (D.state disk.new).contents version.new.blocks (splice body block words.now)) }
     ensures length { OnOk result (version.new.words ≡ length_after version.old.words block (length words.now)) }
     ensures grown { Regrows (D.state disk.old).size table.old table.new version.old version.new }
-    ensures touched { (D.state disk.new).honest → Touches (IsOwn table.old version.old.blocks) (D.state disk.old) (D.state disk.new) }
+    ensures modified { (D.state disk.new).honest → Modifies (IsOwn table.old version.old.blocks) (D.state disk.old) (D.state disk.new) }
     ensures memory { IsErrOf result body.NoMemory → (table.new ≡ table.old) × (version.new ≡ version.old) × (disk.new ≡ disk.old) }
     ensures damaged { (D.state disk.new).honest → (k : ℕ) → IsErrOf result (body.BadData k) → (0 < times k version.old.blocks) × ((D.state disk.old).contents k ≡ None) }
     ensures same { SameDisk (D.state disk.old) (D.state disk.new) }
@@ -152,7 +152,7 @@ fn put_pending<D: Disk>(
         × ((D.state disk.new).honest → (body : List ℕ) → length body ≡ p.version.words → HasBody (D.state disk.old).contents p.version.blocks body → HasBody (D.state disk.new).contents v.blocks (splice body block words.now))) }
     ensures grown { (p : PendingVersion) → pending_at pending.old.slots key ≡ Some p → (v : VersionState) × Regrown (D.state disk.old).size table.old table.new pending.new.slots key p v }
     ensures others { (k : ℕ) → (k ≡ key → ⊥) → pending_at pending.new.slots k ≡ pending_at pending.old.slots k }
-    ensures touched { (D.state disk.new).honest → (p : PendingVersion) → pending_at pending.old.slots key ≡ Some p → Touches (IsOwn table.old p.version.blocks) (D.state disk.old) (D.state disk.new) }
+    ensures modified { (D.state disk.new).honest → (p : PendingVersion) → pending_at pending.old.slots key ≡ Some p → Modifies (IsOwn table.old p.version.blocks) (D.state disk.old) (D.state disk.new) }
 
     ensures room { (p : PendingVersion) → pending_at pending.old.slots key ≡ Some p
         → (IsErrOf result (Refused NoRoom) ↔ ((most_blocks * 128 < length_after p.version.words block (length words.now))

@@ -15,7 +15,7 @@ ghost use Rattle.directory.specs.Chains.{nodes_of, IsChain, IsOn, viewed};
 ghost use Rattle.volume.specs.Cores.{file_view, master_view, known_version, known_directory};
 ghost use Rattle.volume.specs.Known.{blocks_reached, reaches_in_entries, reaches_in_known, IsWholeVersion, IsWholeDirectory};
 ghost use Rattle.volume.specs.Found.{IsOnlySpace, IsAdded, IsMarkedFile, AreFilesRead, IsDirectoryFound, AreDirectoriesRead};
-ghost use Rattle.volume.specs.Meets.{NamesInSpace, FileMeets, FilesMeet, DirectoryMeets, DirectoriesMeet};
+ghost use Rattle.volume.specs.FaultsFound.{NamesInSpace, IsFaultOfFile, IsFaultOfFiles, IsFaultOfDirectory, IsFaultOfDirectories};
 ghost use Rattle.volume.specs.declared.error.VolumeError.TheVariants.{Device};
 
 use crate::VolumeError;
@@ -44,7 +44,7 @@ fn load_files<D: Disk>(
     ensures inside { IfOk result (λ chain. AllByRecursion (InSpace (D.state disk.old).size) chain.blocks) }
     ensures targets { IfOk result (λ chain. AllByRecursion (λ e. InSpace (D.state disk.old).size e.1) (map file_view chain.entries)) }
     ensures marked { IfOk result (λ chain. (n : ℕ) → digit_at reached.new n ≡ digit_at reached.old n + times n chain.blocks) }
-    ensures met { (D.state disk.new).honest → (ppn : ℕ) → IfErr result (DirectoryMeets (D.state disk.old).size (D.state disk.old).contents (digit_at reached.old) ppn first) }
+    ensures fault { (D.state disk.new).honest → (ppn : ℕ) → IfErr result (IsFaultOfDirectory (D.state disk.old).size (D.state disk.old).contents (digit_at reached.old) ppn first) }
     ensures named { IfErr result (NamesInSpace (D.state disk.old).size) }
     ensures length { length reached.new ≡ length reached.old }
     ensures keeps { (D.state disk.new).honest → Keeps (D.state disk.old) (D.state disk.new) }
@@ -75,7 +75,7 @@ fn add_file<D: Disk>(
     requires marks { length reached.old ≡ (D.state disk.old).size }
     ensures read { (D.state disk.new).honest → OnOk result (IsAdded known_version versions.old.items versions.new.items (IsMarkedFile (D.state disk.old).contents ppn (file_view entry.now) (digit_at reached.old) (digit_at reached.new))) }
     ensures marked { OnOk result (IsAdded known_version versions.old.items versions.new.items (λ v. (n : ℕ) → digit_at reached.new n ≡ digit_at reached.old n + times n (blocks_reached entry.now.prime v.version))) }
-    ensures met { (D.state disk.new).honest → IfErr result (FileMeets (D.state disk.old).size (D.state disk.old).contents reached.old (place_of ppn entry.now.name) entry.now.prime) }
+    ensures fault { (D.state disk.new).honest → IfErr result (IsFaultOfFile (D.state disk.old).size (D.state disk.old).contents reached.old (place_of ppn entry.now.name) entry.now.prime) }
     ensures named { IfErr result (NamesInSpace (D.state disk.old).size) }
     ensures whole { OnOk result (IsAdded known_version versions.old.items versions.new.items IsWholeVersion) }
     ensures aligned { OnOk result (length versions.new.items ≡ length versions.old.items + 1) }
@@ -107,7 +107,7 @@ fn read_files<D: Disk>(
     requires marks { length reached.old ≡ (D.state disk.old).size }
     ensures read { (D.state disk.new).honest → IfOk result (λ versions. AreFilesRead (D.state disk.old).contents ppn (map file_view entries.now) (map known_version versions.items) (digit_at reached.old) (digit_at reached.new)) }
     ensures marked { IfOk result (λ versions. (n : ℕ) → digit_at reached.new n ≡ digit_at reached.old n + reaches_in_entries n (map file_view entries.now) (map known_version versions.items)) }
-    ensures met { (D.state disk.new).honest → IfErr result (FilesMeet (D.state disk.old).size (D.state disk.old).contents (digit_at reached.old) ppn (map file_view entries.now)) }
+    ensures fault { (D.state disk.new).honest → IfErr result (IsFaultOfFiles (D.state disk.old).size (D.state disk.old).contents (digit_at reached.old) ppn (map file_view entries.now)) }
     ensures named { IfErr result (NamesInSpace (D.state disk.old).size) }
     ensures whole { IfOk result (λ versions. AllByRecursion IsWholeVersion (map known_version versions.items)) }
     ensures aligned { IfOk result (λ versions. length versions.items ≡ length entries.now) }
@@ -137,7 +137,7 @@ fn read_directory<D: Disk>(
     requires marks { length reached.old ≡ (D.state disk.old).size }
     ensures read { (D.state disk.new).honest → IfOk result (λ directory. IsDirectoryFound (D.state disk.old).contents (master_view entry.now) (known_directory directory) (digit_at reached.old) (digit_at reached.new)) }
     ensures marked { IfOk result (λ directory. (n : ℕ) → digit_at reached.new n ≡ digit_at reached.old n + reaches_in_known n (known_directory directory)) }
-    ensures met { (D.state disk.new).honest → IfErr result (DirectoryMeets (D.state disk.old).size (D.state disk.old).contents (digit_at reached.old) entry.now.ppn entry.now.first) }
+    ensures fault { (D.state disk.new).honest → IfErr result (IsFaultOfDirectory (D.state disk.old).size (D.state disk.old).contents (digit_at reached.old) entry.now.ppn entry.now.first) }
     ensures named { IfErr result (NamesInSpace (D.state disk.old).size) }
     ensures whole { IfOk result (λ directory. IsWholeDirectory (D.state disk.old).size (known_directory directory)) }
     ensures space { IsOnlySpace (D.state disk.old).size reached.old → IfOk result (λ directory. IsOnlySpace (D.state disk.old).size reached.new) }
@@ -165,7 +165,7 @@ fn add_directory<D: Disk>(
     requires marks { length reached.old ≡ (D.state disk.old).size }
     ensures read { (D.state disk.new).honest → OnOk result (IsAdded known_directory directories.old.items directories.new.items (λ d. IsDirectoryFound (D.state disk.old).contents (master_view entry.now) d (digit_at reached.old) (digit_at reached.new))) }
     ensures marked { OnOk result (IsAdded known_directory directories.old.items directories.new.items (λ d. (n : ℕ) → digit_at reached.new n ≡ digit_at reached.old n + reaches_in_known n d)) }
-    ensures met { (D.state disk.new).honest → IfErr result (DirectoryMeets (D.state disk.old).size (D.state disk.old).contents (digit_at reached.old) entry.now.ppn entry.now.first) }
+    ensures fault { (D.state disk.new).honest → IfErr result (IsFaultOfDirectory (D.state disk.old).size (D.state disk.old).contents (digit_at reached.old) entry.now.ppn entry.now.first) }
     ensures named { IfErr result (NamesInSpace (D.state disk.old).size) }
     ensures whole { OnOk result (IsAdded known_directory directories.old.items directories.new.items (IsWholeDirectory (D.state disk.old).size)) }
     ensures aligned { OnOk result (length directories.new.items ≡ length directories.old.items + 1) }
@@ -196,7 +196,7 @@ pub fn read_directories<D: Disk>(
     requires marks { length reached.old ≡ (D.state disk.old).size }
     ensures read { (D.state disk.new).honest → IfOk result (λ directories. AreDirectoriesRead (D.state disk.old).contents (map master_view entries.now) (map known_directory directories.items) (digit_at reached.old) (digit_at reached.new)) }
     ensures marked { IfOk result (λ directories. (n : ℕ) → digit_at reached.new n ≡ digit_at reached.old n + total (reaches_in_known n) (map known_directory directories.items)) }
-    ensures met { (D.state disk.new).honest → IfErr result (DirectoriesMeet (D.state disk.old).size (D.state disk.old).contents (digit_at reached.old) (map master_view entries.now)) }
+    ensures fault { (D.state disk.new).honest → IfErr result (IsFaultOfDirectories (D.state disk.old).size (D.state disk.old).contents (digit_at reached.old) (map master_view entries.now)) }
     ensures named { IfErr result (NamesInSpace (D.state disk.old).size) }
     ensures whole { IfOk result (λ directories. AllByRecursion (IsWholeDirectory (D.state disk.old).size) (map known_directory directories.items)) }
     ensures aligned { IfOk result (λ directories. length directories.items ≡ length entries.now) }

@@ -1,6 +1,6 @@
 ghost use Rattle.std.specs.Prelude.{◌≡◌, ◌⊎◌, ◌↔◌, ℕ, [], false, OnOk, IfOk, IfErr, IfSome, IsErrOf};
 ghost use Rattle.std.specs.List.{AllByRecursion};
-ghost use Rattle.blockdisk.specs.Disk.{Near, NoneOpen, SameDisk, Still, Touches, LeavesOnly, one_more};
+ghost use Rattle.blockdisk.specs.Disk.{Near, NoneOpen, SameDisk, Still, Modifies, LeavesOnly, one_more};
 ghost use Rattle.changeset.specs.Crashes.{IsRecovered, SyncsFirst};
 ghost use Rattle.changeset.specs.Rest.{AtRest};
 ghost use Rattle.meaning.specs.Files.{File, Files};
@@ -12,7 +12,7 @@ ghost use Rattle.volume.specs.Cores.{known_of};
 ghost use Rattle.volume.specs.Homes.{IsBare, IsInitBlock};
 ghost use Rattle.volume.specs.Known.{IsWholeMap, IsBooked};
 ghost use Rattle.volume.specs.Live.{IsFirstRead};
-ghost use Rattle.volume.specs.Meets.{NamesInSpace, Refuses};
+ghost use Rattle.volume.specs.FaultsFound.{NamesInSpace, Refuses};
 ghost use Rattle.volume.specs.Rest.{IsAtRest, RestsAt, StandsLike, StandsLikeBefore};
 ghost use Rattle.volume.specs.declared.error.VolumeError.TheVariants.{NotVolume, Device};
 
@@ -80,7 +80,7 @@ impl<D: Disk> Volume<D> {
         ensures settled { (D.state disk.new).honest → OnOk result (NoneOpen (D.state disk.new)) }
         ensures shut { (D.state disk.new).honest → OnOk result (IsGateOpen (D.state disk.old).size (D.state disk.new).contents → ⊥) }
         ensures bare { (D.state disk.new).honest → OnOk result (IsBare (D.state disk.old).size (D.state disk.new).contents) }
-        ensures touched { (D.state disk.new).honest → OnOk result (Touches (IsInitBlock (D.state disk.old).size) (D.state disk.old) (D.state disk.new)) }
+        ensures modified { (D.state disk.new).honest → OnOk result (Modifies (IsInitBlock (D.state disk.old).size) (D.state disk.old) (D.state disk.new)) }
         ensures near { (D.state disk.new).honest → LeavesOnly (D.state disk.old) (D.state disk.new) (Near (IsInitBlock (D.state disk.old).size) (D.state disk.old)) }
         ensures range { IsErrOf result NotVolume ↔ (IsVolumeSize (D.state disk.old).size → ⊥) }
         ensures untouched { IsErrOf result NotVolume → disk.new ≡ disk.old }

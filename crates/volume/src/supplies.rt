@@ -11,7 +11,7 @@ ghost use Rattle.volume.specs.declared.pending.PendingVersion.{PendingVersion};
 use crate::live::LiveMap;
 use crate::query::directory_place;
 use blockdisk::NoMemory;
-use directory::{FileEntry, Room};
+use directory::{FileEntry, Reserve};
 use retrieval::rib_count;
 use std::alloc::Global;
 
@@ -20,8 +20,8 @@ use std::alloc::Global;
 pub(crate) struct Supplies {
     /// A list with a place for each rib.
     pub ribs: Vec<u32>,
-    /// Room for the entry in its directory.
-    pub room: Room<FileEntry>,
+    /// Memory for the entry in its directory.
+    pub reserve: Reserve<FileEntry>,
     /// The keys of the directory's versions with a place behind, where the entry is new.
     pub keys: Vec<usize>,
 }
@@ -54,7 +54,7 @@ pub(crate) fn find_supplies(
     requires placed { (p : PendingVersion) → pending_at (core_of map.old).pending key ≡ Some p → IsPlaced (core_of map.old) p }
     ensures core { core_of map.new ≡ core_of map.old }
     ensures ribs { IfOk result (λ supplies. length supplies.ribs.items ≡ rib_count blocks) }
-    ensures supplied { IfOk result (λ supplies. (p : PendingVersion) → pending_at (core_of map.old).pending key ≡ Some p → IsSupplied (core_of map.old) p (viewed file_view supplies.room) supplies.keys.items) }
+    ensures supplied { IfOk result (λ supplies. (p : PendingVersion) → pending_at (core_of map.old).pending key ≡ Some p → IsSupplied (core_of map.old) p (viewed file_view supplies.reserve) supplies.keys.items) }
     ensures slot { IfOk result (λ supplies. HasRoomFor map.new.versions 1) }
 {
     let Some(version) = map.pending.get(key) else {
@@ -67,11 +67,15 @@ pub(crate) fn find_supplies(
         unreachable!() // its name isn't zero
     };
     let directory = &map.directories[place];
-    let Ok(room) = directory.chain.room_for(alloc, &entry) else {
+    let Ok(reserve) = directory.chain.reserve_for(alloc, &entry) else {
         return Err(NoMemory);
     };
     let keys = longer(alloc, &directory.keys)?;
     let ribs = vec![in alloc; 0; rib_count(blocks)]?;
     map.versions.reserve(1)?;
-    Ok(Supplies { ribs, room, keys })
+    Ok(Supplies {
+        ribs,
+        reserve,
+        keys,
+    })
 }

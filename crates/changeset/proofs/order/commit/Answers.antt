@@ -1,6 +1,6 @@
 use Rattle.std.proofs.Common.{◌⊎◌, ℕ, List, subst}
-use Rattle.blockdisk.specs.Disk.{MayLeave, Near, Touches, LeavesOnly}
-use Rattle.blockdisk.specs.Laws.{syncs_still, still_touches, near_self, leaves_start, leaves_weaker, sync_leaves}
+use Rattle.blockdisk.specs.Disk.{MayLeave, Near, Modifies, LeavesOnly}
+use Rattle.blockdisk.specs.Laws.{syncs_still, still_modifies, near_self, leaves_start, leaves_weaker, sync_leaves}
 use Rattle.meaning.specs.declared.put.Put.{Put}
 use Rattle.changeset.specs.Crashes.{IsGateOrLog}
 use Rattle.changeset.specs.Puts.{IsPutIn}
@@ -45,11 +45,11 @@ returns-then-is_empty-clause-crash g c h shut =
     still_leaves c.args.set.now s synced shut
     (sync_leaves c.sync.result s synced (λ d left. g.met.D.Disk.only_now c.args.disk.now d (c.sync.ensures.same.was_honest h) left) (c.sync.ensures.syncs h) (c.sync.ensures.fails h))
 
-pub returns-then-is_empty-clause-touched : goal.returns-then-is_empty-clause-touched
-returns-then-is_empty-clause-touched g c h =
+pub returns-then-is_empty-clause-modified : goal.returns-then-is_empty-clause-modified
+returns-then-is_empty-clause-modified g c h =
     let s = g.D.Disk.state c.args.disk.now in
     let synced = g.D.Disk.state c.sync.new.self in
-    still_touches (λ n. IsGateOrLog s.size n ⊎ IsPutIn c.args.set.now n) s synced (syncs_still s synced (c.in_ok-sync.ensures.syncs h))
+    still_modifies (λ n. IsGateOrLog s.size n ⊎ IsPutIn c.args.set.now n) s synced (syncs_still s synced (c.in_ok-sync.ensures.syncs h))
 
 pub returns-then-is_empty-clause-near : goal.returns-then-is_empty-clause-near
 returns-then-is_empty-clause-near g c h =
@@ -85,7 +85,7 @@ returns-clause-near g c h =
     let s = g.D.Disk.state c.args.disk.now in
     subst (λ (puts : List Put). LeavesOnly s (g.D.Disk.state c.commit_some.new.disk) (Near (λ n. IsGateOrLog s.size n ⊎ IsPutIn puts n) s)) c.puts-puts.ensures.puts (c.commit_some.ensures.near h)
 
-pub returns-clause-touched : goal.returns-clause-touched
-returns-clause-touched g c h =
+pub returns-clause-modified : goal.returns-clause-modified
+returns-clause-modified g c h =
     let s = g.D.Disk.state c.args.disk.now in
-    subst (λ (puts : List Put). Touches (λ n. IsGateOrLog s.size n ⊎ IsPutIn puts n) s (g.D.Disk.state c.commit_some.new.disk)) c.puts-puts.ensures.puts (c.in_ok-commit_some.ensures.touched h)
+    subst (λ (puts : List Put). Modifies (λ n. IsGateOrLog s.size n ⊎ IsPutIn puts n) s (g.D.Disk.state c.commit_some.new.disk)) c.puts-puts.ensures.puts (c.in_ok-commit_some.ensures.modified h)

@@ -1,7 +1,7 @@
 use Rattle.std.proofs.Common.{◌⊎◌, inl, inr, ℕ}
 use Rattle.std.proofs.lemmas.Result.{on_ok_weaker}
-use Rattle.blockdisk.specs.Disk.{Touches}
-use Rattle.blockdisk.specs.Laws.{touches_on, touches_wider, near_then, leaves_wider}
+use Rattle.blockdisk.specs.Disk.{Modifies}
+use Rattle.blockdisk.specs.Laws.{modifies_on, modifies_wider, near_then, leaves_wider}
 use Rattle.changeset.specs.Crashes.{IsGate}
 use Rattle.changeset.specs.Puts.{IsPutIn}
 use Rattle.changeset.proofs.Moments.{placing_leaves, redo_leaves}
@@ -30,15 +30,15 @@ returns-clause-near g c h =
     let end = g.D.Disk.state c.close_gate.new.disk in
     let honest = c.close_gate.ensures.same.was_honest h in
     near_then Written s placed end (λ d left. g.met.D.Disk.only_now c.args.disk.now d (c.write_places.ensures.same.was_honest honest) left)
-    (touches_wider (IsPutIn c.args.puts.now) Written s placed (λ n there. inr there) (c.in_ok-write_places.ensures.touched honest))
+    (modifies_wider (IsPutIn c.args.puts.now) Written s placed (λ n there. inr there) (c.in_ok-write_places.ensures.modified honest))
     (leaves_wider IsGate Written placed end (λ n here. inl here) (c.close_gate.ensures.near h))
 
-pub returns-clause-touched : goal.returns-clause-touched
-returns-clause-touched g c h =
+pub returns-clause-modified : goal.returns-clause-modified
+returns-clause-modified g c h =
     let Written : ℕ → Type 0 = λ n. IsGate n ⊎ IsPutIn c.args.puts.now n in
     let s = g.D.Disk.state c.args.disk.now in
     let placed = g.D.Disk.state c.write_places.new.disk in
     let end = g.D.Disk.state c.close_gate.new.disk in
-    on_ok_weaker c.close_gate.result (λ (closes : Touches IsGate placed end). touches_on Written s placed end
-    (touches_wider (IsPutIn c.args.puts.now) Written s placed (λ n there. inr there) (c.in_ok-write_places.ensures.touched (c.close_gate.ensures.same.was_honest h)))
-    (touches_wider IsGate Written placed end (λ n here. inl here) closes)) (c.close_gate.ensures.touched h)
+    on_ok_weaker c.close_gate.result (λ (closes : Modifies IsGate placed end). modifies_on Written s placed end
+    (modifies_wider (IsPutIn c.args.puts.now) Written s placed (λ n there. inr there) (c.in_ok-write_places.ensures.modified (c.close_gate.ensures.same.was_honest h)))
+    (modifies_wider IsGate Written placed end (λ n here. inl here) closes)) (c.close_gate.ensures.modified h)

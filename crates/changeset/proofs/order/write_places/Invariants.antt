@@ -1,5 +1,5 @@
 use Rattle.std.proofs.Common.{◌≡◌, ℕ, take}
-use Rattle.blockdisk.specs.Disk.{Touches, SameDisk}
+use Rattle.blockdisk.specs.Disk.{Modifies, SameDisk}
 use Rattle.meaning.specs.Log.{with_puts}
 use Rattle.changeset.specs.Puts.{IsPutIn}
 use Rattle.changeset.proofs.order.write_places.Given as goal
@@ -8,6 +8,6 @@ abbrev pub invariant-loop-put : goal.invariant-loop-put
 invariant-loop-put g l = record {
   same : SameDisk (g.D.Disk.state l.initial.disk) (g.D.Disk.state l.disk);
   served : (g.D.Disk.state l.disk).failures ≡ (g.D.Disk.state l.initial.disk).failures;
-  touched : (g.D.Disk.state l.disk).honest → Touches (IsPutIn l.puts) (g.D.Disk.state l.initial.disk) (g.D.Disk.state l.disk);
+  modified : (g.D.Disk.state l.disk).honest → Modifies (IsPutIn l.puts) (g.D.Disk.state l.initial.disk) (g.D.Disk.state l.disk);
   placed : (g.D.Disk.state l.disk).honest → (n : ℕ) → (g.D.Disk.state l.disk).contents n ≡ with_puts (take l.put-index l.puts) (g.D.Disk.state l.initial.disk).contents n;
 }

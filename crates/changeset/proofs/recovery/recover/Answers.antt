@@ -42,13 +42,13 @@ pub returns-clause-bad : goal.returns-clause-bad
 returns-clause-bad g c h bad =
     along IsLost (g.D.Disk.state c.args.disk.now) (g.D.Disk.state c.sync.new.self) c.sync.ensures.same.size (c.in_ok-sync.ensures.syncs (c.recover_synced.ensures.same.was_honest h)).contents (c.recover_synced.ensures.bad h bad)
 
-pub returns-clause-untouched : goal.returns-clause-untouched
-returns-clause-untouched g c h none_pending served =
+pub returns-clause-unmodified : goal.returns-clause-unmodified
+returns-clause-unmodified g c h none_pending served =
     let s = g.D.Disk.state c.args.disk.now in
     let synced = g.D.Disk.state c.sync.new.self in
     let syncs = c.in_ok-sync.ensures.syncs (c.recover_synced.ensures.same.was_honest h) in
     still_on s synced (g.D.Disk.state c.recover_synced.new.disk) (syncs_still s synced syncs)
-    (c.recover_synced.ensures.untouched h (λ puts pending. none_pending puts (along (λ n d. ArePending n d puts) s synced c.sync.ensures.same.size syncs.contents pending)))
+    (c.recover_synced.ensures.unmodified h (λ puts pending. none_pending puts (along (λ n d. ArePending n d puts) s synced c.sync.ensures.same.size syncs.contents pending)))
 
 pub returns-clause-unwritten : goal.returns-clause-unwritten
 returns-clause-unwritten g c h none_pending =
@@ -58,7 +58,7 @@ returns-clause-unwritten g c h none_pending =
     let honest = c.recover_synced.ensures.same.was_honest h in
     let syncs = c.in_ok-sync.ensures.syncs honest in
     leaves_still s end (MayLeave s) (λ d left. g.met.D.Disk.only_now c.args.disk.now d (c.sync.ensures.same.was_honest honest) left) (still_on s synced end (syncs_still s synced syncs)
-    (c.recover_synced.ensures.untouched h (λ puts pending. none_pending puts (along (λ n d. ArePending n d puts) s synced c.sync.ensures.same.size syncs.contents pending))))
+    (c.recover_synced.ensures.unmodified h (λ puts pending. none_pending puts (along (λ n d. ArePending n d puts) s synced c.sync.ensures.same.size syncs.contents pending))))
     (λ d left. left)
 
 pub returns-clause-recovered : goal.returns-clause-recovered

@@ -44,8 +44,8 @@ returns-in_err-redo-in-Some-clause-crash g c h none =
     (pending_at (λ found. found.items) s.size s.contents c.in_ok-puts.field-0 c.in-Some.puts c.as_slice.result.now c.in-Some.is c.as_slice.ensures.value (c.in_ok-puts.ensures.pending (c.redo.ensures.same.was_honest h)))
     (λ d left. g.met.D.Disk.only_now c.args.disk.now d (c.pending_puts.ensures.same.was_honest (c.redo.ensures.same.was_honest h)) left) none (c.redo.ensures.crash h)
 
-pub returns-in_err-redo-in-Some-clause-untouched : goal.returns-in_err-redo-in-Some-clause-untouched
-returns-in_err-redo-in-Some-clause-untouched g c h none_pending =
+pub returns-in_err-redo-in-Some-clause-unmodified : goal.returns-in_err-redo-in-Some-clause-unmodified
+returns-in_err-redo-in-Some-clause-unmodified g c h none_pending =
     let s = g.D.Disk.state c.args.disk.now in
     absurd (none_pending c.as_slice.result.now (pending_at (λ found. found.items) s.size s.contents c.in_ok-puts.field-0 c.in-Some.puts c.as_slice.result.now c.in-Some.is c.as_slice.ensures.value (c.in_ok-puts.ensures.pending (c.redo.ensures.same.was_honest h))))
 
@@ -56,8 +56,8 @@ returns-in_ok-redo-in-Some-clause-crash g c h none =
     (pending_at (λ found. found.items) s.size s.contents c.in_ok-puts.field-0 c.in-Some.puts c.as_slice.result.now c.in-Some.is c.as_slice.ensures.value (c.in_ok-puts.ensures.pending (c.redo.ensures.same.was_honest h)))
     (λ d left. g.met.D.Disk.only_now c.args.disk.now d (c.pending_puts.ensures.same.was_honest (c.redo.ensures.same.was_honest h)) left) none (c.redo.ensures.crash h)
 
-pub returns-in_ok-redo-in-Some-clause-untouched : goal.returns-in_ok-redo-in-Some-clause-untouched
-returns-in_ok-redo-in-Some-clause-untouched g c h none_pending =
+pub returns-in_ok-redo-in-Some-clause-unmodified : goal.returns-in_ok-redo-in-Some-clause-unmodified
+returns-in_ok-redo-in-Some-clause-unmodified g c h none_pending =
     let s = g.D.Disk.state c.args.disk.now in
     absurd (none_pending c.as_slice.result.now (pending_at (λ found. found.items) s.size s.contents c.in_ok-puts.field-0 c.in-Some.puts c.as_slice.result.now c.in-Some.is c.as_slice.ensures.value (c.in_ok-puts.ensures.pending (c.redo.ensures.same.was_honest h))))
 

@@ -1,5 +1,5 @@
 use Rattle.std.proofs.Common.{◌-◌}
-use Rattle.meaning.specs.Conducts.{Plan, copies_blocks}
+use Rattle.meaning.specs.Plans.{Plan, copies_blocks}
 use Rattle.commands.specs.Asking.{Led}
 use Rattle.commands.proofs.copying.copy_blocks.Given as goal
 

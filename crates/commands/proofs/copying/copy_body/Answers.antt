@@ -1,5 +1,5 @@
 use Rattle.std.proofs.Common.{◌-◌, ◌∙◌, sym}
-use Rattle.meaning.specs.Conducts.{copies_last, copies_blocks}
+use Rattle.meaning.specs.Plans.{copies_last, copies_blocks}
 use Rattle.commands.proofs.LedLaws.{led_on}
 use Rattle.commands.proofs.CopyingLaws.{body_none, body_led, not_none}
 use Rattle.commands.proofs.copying.copy_body.Goals as goal

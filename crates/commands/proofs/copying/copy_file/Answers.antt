@@ -1,6 +1,6 @@
 use Rattle.std.proofs.Common.{◌∷◌, []}
 use Rattle.std.proofs.lemmas.Result.{err_from_is_err_and}
-use Rattle.meaning.specs.Conducts.{until_end, calls}
+use Rattle.meaning.specs.Plans.{until_end, calls}
 use Rattle.meaning.specs.declared.call.Call.TheVariants.{Close}
 use Rattle.commands.proofs.LedLaws.{led_on}
 use Rattle.commands.proofs.CopyingLaws.{led_each, copied_all, closed_then, copied_then}

@@ -1,5 +1,5 @@
 use Rattle.std.proofs.Common.{refl}
-use Rattle.meaning.specs.Conducts.{ends, ok}
+use Rattle.meaning.specs.Plans.{ends, ok}
 use Rattle.meaning.specs.declared.command.Command.TheVariants.{MakeDir as MakeLine}
 use Rattle.commands.proofs.LedLaws.{always_along}
 use Rattle.commands.proofs.CopyingLaws.{led_each}

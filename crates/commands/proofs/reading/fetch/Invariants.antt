@@ -1,7 +1,7 @@
 use Rattle.std.proofs.Common.{◌≡◌, take, length}
-use Rattle.meaning.specs.Conducts.{block_words}
+use Rattle.meaning.specs.Plans.{block_address}
 use Rattle.commands.proofs.ReadingLaws.{Fetches}
 use Rattle.commands.proofs.reading.fetch.Given as goal
 
 abbrev pub invariant-loop-place : goal.invariant-loop-place
-invariant-loop-place g l = (length l.block ≡ 128) × Fetches g.S.FileService.machine block_words l.fn.count l.fn.service l.service l.place (take l.place l.block)
+invariant-loop-place g l = (length l.block ≡ 128) × Fetches g.S.FileService.machine block_address l.fn.count l.fn.service l.service l.place (take l.place l.block)

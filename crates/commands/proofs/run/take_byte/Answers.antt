@@ -1,8 +1,8 @@
 use Rattle.std.proofs.Common.{subst, sym, List, []}
 use Rattle.meaning.specs.Lines.{Line}
-use Rattle.commands.specs.Held.{IsHeld}
+use Rattle.commands.specs.PartialLines.{IsPartialLine}
 use Rattle.commands.specs.Sessions.{HeardIn}
-use Rattle.commands.specs.declared.input.Held.{Held}
+use Rattle.commands.specs.declared.input.PartialLine.{PartialLine}
 use Rattle.commands.proofs.SayingLaws.{heard_fits}
 use Rattle.commands.proofs.StepLaws.{step_byte, step_feed, break_feed}
 use Rattle.commands.proofs.run.take_byte.Goals as goal
@@ -12,7 +12,7 @@ returns-then-byte-ne10-clause-ok g c = step_byte c.args.language g.S.FileService
 
 pub returns-clause-ok : goal.returns-clause-ok
 returns-clause-ok g c = step_feed c.args.language g.S.FileService.machine c.tell.result _ _ _ _ c.args.moment c.args.talk.now c.tell.new.talk c.heard_of-heard.result c.args.byte c.if-byte-ne10.false
-    (subst (λ (h : Held). IsHeld h []) (sym c.tell.ensures.held) c.new-talk.ensures) c.heard_of-heard.ensures.language
+    (subst (λ (h : PartialLine). IsPartialLine h []) (sym c.tell.ensures.held) c.new-talk.ensures) c.heard_of-heard.ensures.language
     (λ seen h. subst (λ (l : List Line). HeardIn c.args.language c.args.moment l c.heard_of-heard.result) (c.ended.ensures seen h) c.heard_of-heard.ensures.line) c.tell.ensures.told
 
 pub returns-clause-err : goal.returns-clause-err

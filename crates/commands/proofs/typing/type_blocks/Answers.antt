@@ -1,7 +1,7 @@
 use Rattle.std.proofs.Common.{◌≡◌, ◌-◌, ◌+◌, ℕ, List, length, suc, zero, arith, subst, take}
 use Rattle.std.proofs.lemmas.List.{take_all}
 use Rattle.std.proofs.lemmas.Result.{err_from_is_err_and}
-use Rattle.meaning.specs.Conducts.{fetches, block_words, types_blocks}
+use Rattle.meaning.specs.Plans.{fetches, block_address, types_blocks}
 use Rattle.commands.specs.Asking.{Led}
 use Rattle.commands.proofs.TypingLaws.{HasRead, handed_on, one_made, asked_done, asked_failed, read_none, no_block, no_words, read_block, read_blocks}
 use Rattle.commands.proofs.typing.type_blocks.Goals as goal
@@ -34,7 +34,7 @@ loop-preserved g c =
     let whole : take 128 c.in_ok-block.block ≡ c.in_ok-block.block = take_all 128 c.in_ok-block.block (omega arith) in
     read_block g.S.FileService.machine _ _ c.ask_all.new.service _ c.args.moment c.args.count _ (c.args.count - (c.loop.counter + 1)) _ _ _ more c.loop.invariant
     (asked_done g.S.FileService.machine c.args.moment (one_made c.takes.ensures.made) c.in_ok-ask_all.ensures) c.in_ok-block.block
-    (λ next. subst (λ (l : List ℕ). Led g.S.FileService.machine c.ask_all.new.service c.fetch.new.service (fetches c.args.moment 128 block_words next) (next l)) whole (c.in_ok-block.ensures c.args.moment next)) c.push.ensures
+    (λ next. subst (λ (l : List ℕ). Led g.S.FileService.machine c.ask_all.new.service c.fetch.new.service (fetches c.args.moment 128 block_address next) (next l)) whole (c.in_ok-block.ensures c.args.moment next)) c.push.ensures
 
 pub returns : goal.returns
 returns g c =

@@ -1,5 +1,5 @@
 use Rattle.std.proofs.Common.{◌-◌}
-use Rattle.meaning.specs.Conducts.{types_blocks}
+use Rattle.meaning.specs.Plans.{types_blocks}
 use Rattle.commands.proofs.TypingLaws.{HasRead}
 use Rattle.commands.proofs.typing.type_blocks.Given as goal
 

@@ -12,7 +12,7 @@ returns-in-Ok-clause-served g c h files stands =
       result = c.session-talked.result;
       begun = λ s start. c.in-Ok.ensures.started files stands s start first;
       started = c.in-Ok.ensures.crash first;
-      talks = c.session-talked.ensures;
+      transcript = c.session-talked.ensures;
       ends = c.ending.ensures.ends;
       ended = c.finish.ensures;
     })

@@ -1,4 +1,4 @@
-use Rattle.meaning.proofs.TalkLaws.{one_text, one_script}
+use Rattle.meaning.proofs.TranscriptLaws.{one_text, one_script}
 use Rattle.meaning.proofs.texts.texts_are_functions.Goals as goal
 
 pub returns-clause-session : goal.returns-clause-session

@@ -2,7 +2,7 @@ use Rattle.std.proofs.Common.{◌≡◌, ◌+◌, ◌<◌, ◌≤◌, inl, ℕ, 
 use Rattle.std.specs.Prelude.{slice_set}
 use Rattle.std.specs.List.{AllByRecursion}
 use Rattle.std.proofs.lemmas.List.{length-set}
-use Rattle.blockdisk.specs.Laws.{same_disk_start, same_disk_on, touches_start, touches_write}
+use Rattle.blockdisk.specs.Laws.{same_disk_start, same_disk_on, modifies_start, modifies_write}
 use Rattle.meaning.specs.Faults.{InSpace}
 use Rattle.meaning.specs.Maps.{times}
 use Rattle.retrieval.specs.Bodies.{IsOwn, AddsFree, KeepsOwn}
@@ -17,7 +17,7 @@ loop-i-init g c =
     record {
       same = same_disk_start s;
       served = refl;
-      touched = λ h. touches_start (IsOwn c.args.table.now c.args.version.now.blocks) s;
+      modified = λ h. modifies_start (IsOwn c.args.table.now c.args.version.now.blocks) s;
       version = refl;
       long = refl;
       inside = c.requires.inside;
@@ -30,15 +30,15 @@ loop-i-init g c =
       placed = λ h. placed_none s.contents c.args.version.now.blocks c.args.at c.args.words.now c.args.kept.now.place c.args.kept.now.words c.args.first c.args.first refl;
     }
 
-pub returns-in_err-write-clause-touched : goal.returns-in_err-write-clause-touched
-returns-in_err-write-clause-touched g c h =
+pub returns-in_err-write-clause-modified : goal.returns-in_err-write-clause-modified
+returns-in_err-write-clause-modified g c h =
     let t = c.args.table.now in
     let xs = c.args.version.now.blocks in
     let same = same_on t c.loop-i.table c.loop-i.invariant.table c.own_place-n.new.table c.own_place-n.ensures.table in
     let held = held_again t c.loop-i.table c.loop-i.invariant.table xs c.loop-i.version.blocks c.loop-i.invariant.held c.own_place-n.new.table c.own_place-n.new.version.blocks c.own_place-n.ensures.held in
-    touches_write (IsOwn t xs) c.own_place-n.result (g.D.Disk.state c.args.disk.now) (g.D.Disk.state c.loop-i.disk) (g.D.Disk.state c.write.new.self)
+    modifies_write (IsOwn t xs) c.own_place-n.result (g.D.Disk.state c.args.disk.now) (g.D.Disk.state c.loop-i.disk) (g.D.Disk.state c.write.new.self)
     (own_before t c.own_place-n.new.table same xs c.own_place-n.new.version.blocks held c.own_place-n.result c.own_place-n.ensures.own)
-    (c.loop-i.invariant.touched (c.write.ensures.same.was_honest h)) (c.write.ensures.writes h)
+    (c.loop-i.invariant.modified (c.write.ensures.same.was_honest h)) (c.write.ensures.writes h)
 
 pub returns-in_err-write-clause-adds : goal.returns-in_err-write-clause-adds
 returns-in_err-write-clause-adds g c =
@@ -79,8 +79,8 @@ loop-i-preserved g c =
     record {
       same = same_disk_on s now new c.loop-i.invariant.same c.write.ensures.same;
       served = c.in_ok-write.ensures.served ∙ c.loop-i.invariant.served;
-      touched = λ h. touches_write (IsOwn t xs) n s now new (own_before t c.own_place-n.new.table same xs c.own_place-n.new.version.blocks held n c.own_place-n.ensures.own)
-          (c.loop-i.invariant.touched (c.write.ensures.same.was_honest h)) (c.write.ensures.writes h);
+      modified = λ h. modifies_write (IsOwn t xs) n s now new (own_before t c.own_place-n.new.table same xs c.own_place-n.new.version.blocks held n c.own_place-n.ensures.own)
+          (c.loop-i.invariant.modified (c.write.ensures.same.was_honest h)) (c.write.ensures.writes h);
       version = c.own_place-n.ensures.version ∙ sym (ap (λ (v : VersionState). record v { blocks = slice_set c.loop-i.version.blocks i n }) (sym c.loop-i.invariant.version)) ∙ ap (λ (l : List ℕ). record c.args.version.now { blocks = l }) (sym blocks_are);
       long = ap length blocks_are ∙ length-set c.loop-i.version.blocks i n ∙ c.loop-i.invariant.long;
       inside = subst (AllByRecursion (InSpace s.size)) (sym blocks_are) (inside_set s.size c.loop-i.version.blocks i n c.loop-i.invariant.inside (subst (λ (z : ℕ). InSpace z n) size c.own_place-n.ensures.inside));

@@ -1,6 +1,6 @@
 use Rattle.std.proofs.Common.{◌≡◌, ◌≤◌, ◌+◌, ℕ, length}
 use Rattle.std.specs.List.{AllByRecursion}
-use Rattle.blockdisk.specs.Disk.{SameDisk, Touches}
+use Rattle.blockdisk.specs.Disk.{SameDisk, Modifies}
 use Rattle.meaning.specs.Faults.{InSpace}
 use Rattle.meaning.specs.Maps.{times}
 use Rattle.alloctab.specs.TableState.{holds, uses}
@@ -12,7 +12,7 @@ abbrev pub invariant-loop-i : goal.invariant-loop-i
 invariant-loop-i g l = record {
   same : SameDisk (g.D.Disk.state l.fn.disk) (g.D.Disk.state l.disk);
   served : (g.D.Disk.state l.disk).failures ≡ (g.D.Disk.state l.fn.disk).failures;
-  touched : (g.D.Disk.state l.disk).honest → Touches (IsOwn l.fn.table l.fn.version.blocks) (g.D.Disk.state l.fn.disk) (g.D.Disk.state l.disk);
+  modified : (g.D.Disk.state l.disk).honest → Modifies (IsOwn l.fn.table l.fn.version.blocks) (g.D.Disk.state l.fn.disk) (g.D.Disk.state l.disk);
   version : l.version ≡ record l.fn.version { blocks = l.version.blocks };
   long : length l.version.blocks ≡ length l.fn.version.blocks;
   inside : AllByRecursion (InSpace (g.D.Disk.state l.fn.disk).size) l.version.blocks;

@@ -1,7 +1,7 @@
 use Rattle.std.proofs.Common.{◌≡◌, ◌+◌, ◌-◌, ◌/◌, ◌<◌, ℕ, length, min, replicate, sym, ap, ◌∙◌, subst, arith, rules}
 use Rattle.std.specs.List.{AllByRecursion}
 use Rattle.std.proofs.lemmas.List.{length-append, length-replicate}
-use Rattle.blockdisk.specs.Laws.{touches_start, touches_on, touches_wider, still_touches, keeps_still}
+use Rattle.blockdisk.specs.Laws.{modifies_start, modifies_on, modifies_wider, still_modifies, keeps_still}
 use Rattle.meaning.specs.Costs.{blocks_of}
 use Rattle.meaning.specs.Faults.{InSpace}
 use Rattle.meaning.specs.Maps.{times}
@@ -18,13 +18,13 @@ use Rattle.retrieval.proofs.Putting.{body_put}
 use Rattle.retrieval.proofs.Parts.{whole_from}
 use Rattle.retrieval.proofs.put.put_words.Goals as goal
 
-pub returns-then-is_empty-clause-touched : goal.returns-then-is_empty-clause-touched
-returns-then-is_empty-clause-touched g c h =
-    touches_start (IsOwn c.args.table.now c.args.version.now.blocks) (g.D.Disk.state c.args.disk.now)
+pub returns-then-is_empty-clause-modified : goal.returns-then-is_empty-clause-modified
+returns-then-is_empty-clause-modified g c h =
+    modifies_start (IsOwn c.args.table.now c.args.version.now.blocks) (g.D.Disk.state c.args.disk.now)
 
-pub returns-in_err-kept-clause-touched : goal.returns-in_err-kept-clause-touched
-returns-in_err-kept-clause-touched g c h =
-    still_touches (IsOwn c.args.table.now c.args.version.now.blocks) (g.D.Disk.state c.args.disk.now) (g.D.Disk.state c.prepare.new.disk) (keeps_still (g.D.Disk.state c.args.disk.now) (g.D.Disk.state c.prepare.new.disk) (c.prepare.ensures.keeps h))
+pub returns-in_err-kept-clause-modified : goal.returns-in_err-kept-clause-modified
+returns-in_err-kept-clause-modified g c h =
+    still_modifies (IsOwn c.args.table.now c.args.version.now.blocks) (g.D.Disk.state c.args.disk.now) (g.D.Disk.state c.prepare.new.disk) (keeps_still (g.D.Disk.state c.args.disk.now) (g.D.Disk.state c.prepare.new.disk) (c.prepare.ensures.keeps h))
 
 pub fill-requires-clause-used : goal.fill-requires-clause-used
 fill-requires-clause-used g c =
@@ -198,8 +198,8 @@ returns-in-Ok-clause-stays g c =
     c.booked-booked.ensures.sound c.requires.fixed c.requires.inside (ap length c.blocks-had.ensures) (ap (λ (v : VersionState). v.blocks) c.in_ok-kept.ensures.ok) (ap (λ (v : VersionState). v.blocks) c.fill.ensures.kept) c.fill.ensures.taken in
     subst (λ (v : VersionState). KeepsOwn t xs v.blocks) (sym c.set_length.ensures) (grown_keeps s.size t t1 xs xs1 c.write_places.new.version.blocks grown' c.write_places.ensures.stays)
 
-pub returns-in-Ok-clause-touched : goal.returns-in-Ok-clause-touched
-returns-in-Ok-clause-touched g c h =
+pub returns-in-Ok-clause-modified : goal.returns-in-Ok-clause-modified
+returns-in-Ok-clause-modified g c h =
     let s = g.D.Disk.state c.args.disk.now in
     let t = c.args.table.now in
     let xs = c.args.version.now.blocks in
@@ -209,8 +209,8 @@ returns-in-Ok-clause-touched g c h =
     c.booked-booked.ensures.sound c.requires.fixed c.requires.inside (ap length c.blocks-had.ensures) (ap (λ (v : VersionState). v.blocks) c.in_ok-kept.ensures.ok) (ap (λ (v : VersionState). v.blocks) c.fill.ensures.kept) c.fill.ensures.taken in
     let s1 = g.D.Disk.state c.prepare.new.disk in
     let s2 = g.D.Disk.state c.write_places.new.disk in
-    touches_on (IsOwn t xs) s s1 s2 (still_touches (IsOwn t xs) s s1 (keeps_still s s1 (c.prepare.ensures.keeps (c.write_places.ensures.same.was_honest h))))
-    (touches_wider (IsOwn t1 xs1) (IsOwn t xs) s1 s2 (own_before t t1 grown'.table xs xs1 grown'.held) (c.write_places.ensures.touched h))
+    modifies_on (IsOwn t xs) s s1 s2 (still_modifies (IsOwn t xs) s s1 (keeps_still s s1 (c.prepare.ensures.keeps (c.write_places.ensures.same.was_honest h))))
+    (modifies_wider (IsOwn t1 xs1) (IsOwn t xs) s1 s2 (own_before t t1 grown'.table xs xs1 grown'.held) (c.write_places.ensures.modified h))
 
 pub returns-in-Err-clause-table : goal.returns-in-Err-clause-table
 returns-in-Err-clause-table g c =
@@ -261,8 +261,8 @@ returns-in-Err-clause-stays g c =
     c.booked-booked.ensures.sound c.requires.fixed c.requires.inside (ap length c.blocks-had.ensures) (ap (λ (v : VersionState). v.blocks) c.in_ok-kept.ensures.ok) (ap (λ (v : VersionState). v.blocks) c.fill.ensures.kept) c.fill.ensures.taken in
     grown_keeps s.size t t1 xs xs1 c.write_places.new.version.blocks grown' c.write_places.ensures.stays
 
-pub returns-in-Err-clause-touched : goal.returns-in-Err-clause-touched
-returns-in-Err-clause-touched g c h =
+pub returns-in-Err-clause-modified : goal.returns-in-Err-clause-modified
+returns-in-Err-clause-modified g c h =
     let s = g.D.Disk.state c.args.disk.now in
     let t = c.args.table.now in
     let xs = c.args.version.now.blocks in
@@ -272,8 +272,8 @@ returns-in-Err-clause-touched g c h =
     c.booked-booked.ensures.sound c.requires.fixed c.requires.inside (ap length c.blocks-had.ensures) (ap (λ (v : VersionState). v.blocks) c.in_ok-kept.ensures.ok) (ap (λ (v : VersionState). v.blocks) c.fill.ensures.kept) c.fill.ensures.taken in
     let s1 = g.D.Disk.state c.prepare.new.disk in
     let s2 = g.D.Disk.state c.write_places.new.disk in
-    touches_on (IsOwn t xs) s s1 s2 (still_touches (IsOwn t xs) s s1 (keeps_still s s1 (c.prepare.ensures.keeps (c.write_places.ensures.same.was_honest h))))
-    (touches_wider (IsOwn t1 xs1) (IsOwn t xs) s1 s2 (own_before t t1 grown'.table xs xs1 grown'.held) (c.write_places.ensures.touched h))
+    modifies_on (IsOwn t xs) s s1 s2 (still_modifies (IsOwn t xs) s s1 (keeps_still s s1 (c.prepare.ensures.keeps (c.write_places.ensures.same.was_honest h))))
+    (modifies_wider (IsOwn t1 xs1) (IsOwn t xs) s1 s2 (own_before t t1 grown'.table xs xs1 grown'.held) (c.write_places.ensures.modified h))
 
 pub returns-in-Ok-clause-adds : goal.returns-in-Ok-clause-adds
 returns-in-Ok-clause-adds g c =

@@ -1,6 +1,6 @@
 use Rattle.std.proofs.Common.{ℕ, List, subst, ap, ◌∷◌, ◌-◌, ◌<◌, length, take, drop, refl, ◌∙◌}
-use Rattle.blockdisk.specs.Laws.{touches_wider, touches_write}
-use Rattle.blockdisk.specs.Disk.{Touches}
+use Rattle.blockdisk.specs.Laws.{modifies_wider, modifies_write}
+use Rattle.blockdisk.specs.Disk.{Modifies}
 use Rattle.meaning.specs.Retrieval.{AreExtensions, IsPrime}
 use Rattle.retrieval.specs.Writing.{extensions_of}
 use Rattle.meaning.specs.Maps.{times}
@@ -23,14 +23,14 @@ returns-clause-written g c h =
     (behind blocks count ∙ drop_min blocks 112 count c.min-here.ensures ∙ ap (drop 112) c.blocks-blocks.ensures)
     c.requires.apart (c.write.ensures.writes h).contents c.prime_block-words.ensures (c.write.ensures.put h) fits c.requires.nonzero c.requires.fit c.requires.count c.requires.enough
 
-pub returns-clause-touched : goal.returns-clause-touched
-returns-clause-touched g c h =
+pub returns-clause-modified : goal.returns-clause-modified
+returns-clause-modified g c h =
     let s = g.D.Disk.state c.args.disk.now in
     let now = g.D.Disk.state c.write_ribs.new.disk in
     let new = g.D.Disk.state c.write.new.self in
     let ribs = c.args.version.now.ribs in
-    touches_write (λ n. 0 < times n (c.args.at ∷ ribs)) c.args.at s now new
+    modifies_write (λ n. 0 < times n (c.args.at ∷ ribs)) c.args.at s now new
     (is_in (c.args.at ∷ ribs) c.args.at ribs refl)
-    (touches_wider (λ n. 0 < times n ribs) (λ n. 0 < times n (c.args.at ∷ ribs)) s now (in_later (c.args.at ∷ ribs) c.args.at ribs refl)
-    (subst (λ (l : List ℕ). Touches (λ n. 0 < times n l) s now) c.ribs.ensures (c.write_ribs.ensures.touched (c.write.ensures.same.was_honest h))))
+    (modifies_wider (λ n. 0 < times n ribs) (λ n. 0 < times n (c.args.at ∷ ribs)) s now (in_later (c.args.at ∷ ribs) c.args.at ribs refl)
+    (subst (λ (l : List ℕ). Modifies (λ n. 0 < times n l) s now) c.ribs.ensures (c.write_ribs.ensures.modified (c.write.ensures.same.was_honest h))))
     (c.write.ensures.writes h)

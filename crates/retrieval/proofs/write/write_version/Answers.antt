@@ -1,7 +1,7 @@
 use Rattle.std.proofs.Common.{◌≡◌, ◌∷◌, ◌<◌, ◌^◌, ℕ, length, drop, sym, subst, ap, ◌∙◌, arith}
 use Rattle.std.specs.List.{AllByRecursion}
 use Rattle.words36.specs.Words.{IsPpn}
-use Rattle.blockdisk.specs.Laws.{touches_wider, touches_start}
+use Rattle.blockdisk.specs.Laws.{modifies_wider, modifies_start}
 use Rattle.meaning.specs.Faults.{InSpace}
 use Rattle.meaning.specs.Maps.{times}
 use Rattle.alloctab.specs.TableState.{IsFree}
@@ -42,27 +42,27 @@ write_retrieval_blocks-requires-clause-nonzero g c =
     let none = takes_nonzero t (at ∷ ribs) c.take_retrieval_blocks-at.new.table sound c.requires.fixed all in
     later 0 at ribs none
 
-pub returns-in-Ok-clause-touched : goal.returns-in-Ok-clause-touched
-returns-in-Ok-clause-touched g c h =
+pub returns-in-Ok-clause-modified : goal.returns-in-Ok-clause-modified
+returns-in-Ok-clause-modified g c h =
     let t = c.args.table.now in
     let at = c.take_retrieval_blocks-at.result in
     let ribs = c.take_retrieval_blocks-at.new.version.ribs in
     let sound = c.booked-booked.ensures.sound in
     let all = c.take_retrieval_blocks-at.ensures.taken in
     let old = g.D.Disk.state c.args.disk.now in
-    touches_wider (λ n. 0 < times n (at ∷ ribs)) (λ n. IsFree t n × InSpace old.size n) old (g.D.Disk.state c.write_retrieval_blocks.new.disk)
-    (may_be_written old.size t (at ∷ ribs) c.take_retrieval_blocks-at.new.table c.requires.size sound c.requires.fixed all) (c.write_retrieval_blocks.ensures.touched h)
+    modifies_wider (λ n. 0 < times n (at ∷ ribs)) (λ n. IsFree t n × InSpace old.size n) old (g.D.Disk.state c.write_retrieval_blocks.new.disk)
+    (may_be_written old.size t (at ∷ ribs) c.take_retrieval_blocks-at.new.table c.requires.size sound c.requires.fixed all) (c.write_retrieval_blocks.ensures.modified h)
 
-pub returns-in-Err-clause-touched : goal.returns-in-Err-clause-touched
-returns-in-Err-clause-touched g c h =
+pub returns-in-Err-clause-modified : goal.returns-in-Err-clause-modified
+returns-in-Err-clause-modified g c h =
     let t = c.args.table.now in
     let at = c.take_retrieval_blocks-at.result in
     let ribs = c.take_retrieval_blocks-at.new.version.ribs in
     let sound = c.booked-booked.ensures.sound in
     let all = c.take_retrieval_blocks-at.ensures.taken in
     let old = g.D.Disk.state c.args.disk.now in
-    touches_wider (λ n. 0 < times n (at ∷ ribs)) (λ n. IsFree t n × InSpace old.size n) old (g.D.Disk.state c.write_retrieval_blocks.new.disk)
-    (may_be_written old.size t (at ∷ ribs) c.take_retrieval_blocks-at.new.table c.requires.size sound c.requires.fixed all) (c.write_retrieval_blocks.ensures.touched h)
+    modifies_wider (λ n. 0 < times n (at ∷ ribs)) (λ n. IsFree t n × InSpace old.size n) old (g.D.Disk.state c.write_retrieval_blocks.new.disk)
+    (may_be_written old.size t (at ∷ ribs) c.take_retrieval_blocks-at.new.table c.requires.size sound c.requires.fixed all) (c.write_retrieval_blocks.ensures.modified h)
 
 pub returns-in-Ok-clause-own : goal.returns-in-Ok-clause-own
 returns-in-Ok-clause-own g c =
@@ -100,5 +100,5 @@ returns-in-Ok-clause-read_back g c h inside =
     (whole_version old.size new.contents p at ribs v.blocks (c.in-Ok.ensures.written h) (λ n there. (own n there).1) its (subst IsPpn c.word.ensures.value c.word.ensures.ppn)
     (subst (λ (n : ℕ). n < 2 ^ 18) c.bits.ensures.value c.bits.ensures.fits))
 
-pub returns-in_err-ribs-clause-touched : goal.returns-in_err-ribs-clause-touched
-returns-in_err-ribs-clause-touched g c h = touches_start (λ n. IsFree c.args.table.now n × InSpace (g.D.Disk.state c.args.disk.now).size n) (g.D.Disk.state c.args.disk.now)
+pub returns-in_err-ribs-clause-modified : goal.returns-in_err-ribs-clause-modified
+returns-in_err-ribs-clause-modified g c h = modifies_start (λ n. IsFree c.args.table.now n × InSpace (g.D.Disk.state c.args.disk.now).size n) (g.D.Disk.state c.args.disk.now)

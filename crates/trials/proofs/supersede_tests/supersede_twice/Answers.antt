@@ -18,15 +18,15 @@ expect_words-requires-4-clause-live g c =
     let later = c.hold_beside-later.result in
     c.expect_words-3.ensures.readers later (c.store-3.ensures.readers later (c.expect_words-2.ensures.readers later c.hold_beside-later.ensures.live))
 
-pub let_go_beside-requires-clause-live : goal.let_go_beside-requires-clause-live
-let_go_beside-requires-clause-live g c =
+pub unpin_beside-requires-clause-live : goal.unpin_beside-requires-clause-live
+unpin_beside-requires-clause-live g c =
     let later = c.hold_beside-later.result in
     c.expect_words-4.ensures.readers later (c.expect_words-3.ensures.readers later (c.store-3.ensures.readers later (c.expect_words-2.ensures.readers later c.hold_beside-later.ensures.live)))
 
-pub let_go_beside-requires-clause-other : goal.let_go_beside-requires-clause-other
-let_go_beside-requires-clause-other g c =
+pub unpin_beside-requires-clause-other : goal.unpin_beside-requires-clause-other
+unpin_beside-requires-clause-other g c =
     let reader = c.hold-reader.result in
     c.expect_words-4.ensures.readers reader (c.expect_words-3.ensures.readers reader (c.store-3.ensures.readers reader (c.expect_words-2.ensures.readers reader c.hold_beside-later.ensures.other)))
 
 pub unpin-requires-clause-live : goal.unpin-requires-clause-live
-unpin-requires-clause-live g c = c.expect_words-5.ensures.readers c.hold-reader.result c.let_go_beside.ensures.other
+unpin-requires-clause-live g c = c.expect_words-5.ensures.readers c.hold-reader.result c.unpin_beside.ensures.other

@@ -8,7 +8,7 @@ use Rattle.meaning.specs.Faults.{InSpace}
 use Rattle.retrieval.proofs.Readings.{keeps_on}
 use Rattle.volume.specs.FileReading.{IsWholeBlock, IsVersionRefusal, IsDataRefusal, IsFileRefusal}
 use Rattle.volume.specs.declared.error.VolumeError.TheVariants.{BadRetrieval, BlockTwice, NoMemory, BadData}
-use Rattle.volume.specs.Meets.{NamesInSpace}
+use Rattle.volume.specs.FaultsFound.{NamesInSpace}
 use Rattle.volume.proofs.FoundDirectories.{all_behind_all, all_times_at}
 use Rattle.volume.proofs.Handing.{handed, version_named, data_named, named_on}
 use Rattle.volume.proofs.Marking.{all_weaker}

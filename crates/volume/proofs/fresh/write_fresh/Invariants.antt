@@ -1,5 +1,5 @@
 use Rattle.std.proofs.Common.{◌≡◌, ◌<◌, ◌≤◌, ℕ, Some}
-use Rattle.blockdisk.specs.Disk.{Touches, SameDisk}
+use Rattle.blockdisk.specs.Disk.{Modifies, SameDisk}
 use Rattle.volume.specs.Homes.{fresh_words}
 use Rattle.volume.proofs.fresh.write_fresh.Given as goal
 
@@ -7,6 +7,6 @@ abbrev pub invariant-loop-n : goal.invariant-loop-n
 invariant-loop-n g l = record {
   same : SameDisk (g.D.Disk.state l.initial.disk) (g.D.Disk.state l.disk);
   served : (g.D.Disk.state l.disk).failures ≡ (g.D.Disk.state l.initial.disk).failures;
-  touched : (g.D.Disk.state l.disk).honest → Touches (λ n. (l.from ≤ n) × (n < l.end)) (g.D.Disk.state l.initial.disk) (g.D.Disk.state l.disk);
+  modified : (g.D.Disk.state l.disk).honest → Modifies (λ n. (l.from ≤ n) × (n < l.end)) (g.D.Disk.state l.initial.disk) (g.D.Disk.state l.disk);
   written : (g.D.Disk.state l.disk).honest → (n : ℕ) → l.from ≤ n → n < l.n → (g.D.Disk.state l.disk).contents n ≡ Some (fresh_words (g.D.Disk.state l.initial.disk).size n);
 }

@@ -1,14 +1,14 @@
 use Rattle.std.proofs.Common.{inl, inr}
-use Rattle.volume.proofs.MetMaps.{master_met, master_twice}
+use Rattle.volume.proofs.FaultyMaps.{master_fault, master_twice}
 use Rattle.volume.proofs.open.load_master.Goals as goal
 
-pub returns-in-Err-BadDirectory-clause-met : goal.returns-in-Err-BadDirectory-clause-met
-returns-in-Err-BadDirectory-clause-met g c h home =
+pub returns-in-Err-BadDirectory-clause-fault : goal.returns-in-Err-BadDirectory-clause-fault
+returns-in-Err-BadDirectory-clause-fault g c h home =
     let s = g.D.Disk.state c.args.disk.now in
-    master_met s.size s.contents c.args.first c.in-Err-BadDirectory.n home (c.load.ensures.bad h c.in-Err-BadDirectory.n (cc))
+    master_fault s.size s.contents c.args.first c.in-Err-BadDirectory.n home (c.load.ensures.bad h c.in-Err-BadDirectory.n (cc))
 
-pub returns-in-Err-BlockTwice-clause-met : goal.returns-in-Err-BlockTwice-clause-met
-returns-in-Err-BlockTwice-clause-met g c h home =
+pub returns-in-Err-BlockTwice-clause-fault : goal.returns-in-Err-BlockTwice-clause-fault
+returns-in-Err-BlockTwice-clause-fault g c h home =
     let s = g.D.Disk.state c.args.disk.now in
     master_twice s.size s.contents c.args.reached.now c.args.first c.in-Err-BlockTwice.n home c.requires.fresh (c.load.ensures.named c.in-Err-BlockTwice.n (inr (cc))) (c.load.ensures.twice h c.in-Err-BlockTwice.n (cc))
 

@@ -11,15 +11,15 @@ use Rattle.volume.specs.Cores.{master_view, known_directory}
 use Rattle.volume.specs.Known.{cost_of_known}
 use Rattle.volume.specs.Homes.{home_of_master}
 use Rattle.volume.specs.Found.{IsOnlySpace, IsMapRead, IsRightFor, IsWrongFor}
-use Rattle.volume.specs.Meets.{NamesInSpace, SettledRefuses, IsTableRefusal}
-use Rattle.volume.proofs.Handing.{handed, met_on, home_named, table_named, named_on}
-use Rattle.volume.proofs.FoundMaps.{map_found, map_held, table_met}
+use Rattle.volume.specs.FaultsFound.{NamesInSpace, SettledRefuses, IsTableRefusal}
+use Rattle.volume.proofs.Handing.{handed, found_on, home_named, table_named, named_on}
+use Rattle.volume.proofs.FoundMaps.{map_found, map_held, table_fault}
 use Rattle.volume.proofs.Opening.{table_refused, right_bits, read_whole, read_booked}
 use Rattle.changeset.proofs.Reading.{only_reads_on}
 use Rattle.volume.proofs.open.read_map.Goals as goal
 
-pub returns-in_err-master-clause-met : goal.returns-in_err-master-clause-met
-returns-in_err-master-clause-met g c h =
+pub returns-in_err-master-clause-fault : goal.returns-in_err-master-clause-fault
+returns-in_err-master-clause-fault g c h =
     let s = g.D.Disk.state c.args.disk.now in
     let now = g.D.Disk.state c.read_home.new.disk in
     let p = err_from_is_err_and c.from_residual-in_err-master.result c.from_residual-in_err-master.ensures.1 in
@@ -28,9 +28,9 @@ returns-in_err-master-clause-met g c h =
     subst (λ (n : ℕ). IsHome n now.contents (home_of_master c.in_ok-first.first)) (sym c.read_home.ensures.same.size)
     (subst (λ (contents : Contents). IsHome s.size contents (home_of_master c.in_ok-first.first)) (sym same) (c.in_ok-first.ensures.ok (c.read_tree.ensures.same.was_honest h))) in
     handed (SettledRefuses s.size s.contents) c.from_residual-in_err-master.result c.read_tree.result p.0 c.in_err-master.field-0.0 p.1 p.2 c.in_err-master.was
-    (met_on (SettledRefuses now.size now.contents) (SettledRefuses s.size s.contents) c.read_tree.result
+    (found_on (SettledRefuses now.size now.contents) (SettledRefuses s.size s.contents) c.read_tree.result
     (λ error met. subst (λ contents. SettledRefuses s.size contents error) same (subst (λ (n : ℕ). SettledRefuses n now.contents error) c.read_home.ensures.same.size met))
-    (c.read_tree.ensures.met h home))
+    (c.read_tree.ensures.fault h home))
 
 pub returns-in_err-table-clause-reads : goal.returns-in_err-table-clause-reads
 returns-in_err-table-clause-reads g c h =
@@ -48,8 +48,8 @@ returns-clause-reads g c h =
     only_reads_on s first (g.D.Disk.state c.load_table.new.disk) (c.read_home.ensures.reads (c.read_tree.ensures.same.was_honest (c.load_table.ensures.same.was_honest h)))
     (only_reads_on first second (g.D.Disk.state c.load_table.new.disk) (c.read_tree.ensures.reads (c.load_table.ensures.same.was_honest h)) (c.load_table.ensures.reads h))
 
-pub returns-in_err-table-clause-met : goal.returns-in_err-table-clause-met
-returns-in_err-table-clause-met g c h =
+pub returns-in_err-table-clause-fault : goal.returns-in_err-table-clause-fault
+returns-in_err-table-clause-fault g c h =
     let s = g.D.Disk.state c.args.disk.now in
     let now = g.D.Disk.state c.read_home.new.disk in
     let then = g.D.Disk.state c.read_tree.new.disk in
@@ -71,7 +71,7 @@ returns-in_err-table-clause-met g c h =
     handed (SettledRefuses s.size s.contents) c.from_residual-in_err-table.result c.load_table.result p.0 c.in_err-table.field-0.0 p.1 p.2 c.in_err-table.was
     (table_refused s.size s.contents then.contents reached c.load_table.result later c.load_table.ensures.only
     (λ n is. subst (λ (k : ℕ). IsWrongFor k then.contents reached n) sizes (c.load_table.ensures.wrong h n is))
-    (λ n wrong. table_met s.size s.contents first master directories (digit_at reached) read reached n (λ k. refl) only wrong))
+    (λ n wrong. table_fault s.size s.contents first master directories (digit_at reached) read reached n (λ k. refl) only wrong))
 
 pub returns-clause-held : goal.returns-clause-held
 returns-clause-held g c h =
@@ -146,4 +146,4 @@ returns-in_err-table-clause-named g c =
     let size = (g.D.Disk.state c.args.disk.now).size in
     let p = err_from_is_err_and c.from_residual-in_err-table.result c.from_residual-in_err-table.ensures.1 in
     handed (NamesInSpace size) c.from_residual-in_err-table.result c.load_table.result p.0 c.in_err-table.field-0.0 p.1 p.2 c.in_err-table.was
-    (met_on IsTableRefusal (NamesInSpace size) c.load_table.result (table_named size) c.load_table.ensures.only)
+    (found_on IsTableRefusal (NamesInSpace size) c.load_table.result (table_named size) c.load_table.ensures.only)

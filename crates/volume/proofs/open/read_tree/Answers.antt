@@ -9,16 +9,16 @@ use Rattle.directory.specs.Chains.{nodes_of, viewed}
 use Rattle.directory.specs.ChainLaws.{chain_items, numbers_of}
 use Rattle.volume.specs.Cores.{master_view}
 use Rattle.volume.specs.Found.{IsOnlySpace}
-use Rattle.volume.specs.Meets.{NamesInSpace, DirectoriesMeet, SettledRefuses}
-use Rattle.volume.proofs.Handing.{handed, met_named, named_on}
+use Rattle.volume.specs.FaultsFound.{NamesInSpace, IsFaultOfDirectories, SettledRefuses}
+use Rattle.volume.proofs.Handing.{handed, found_named, named_on}
 use Rattle.volume.proofs.FoundDirectories.{all_times_at}
-use Rattle.volume.proofs.MetMaps.{directories_met}
+use Rattle.volume.proofs.FaultyMaps.{directories_fault}
 use Rattle.volume.proofs.Opening.{reads_of}
 use Rattle.changeset.proofs.Reading.{only_reads_on}
 use Rattle.volume.proofs.open.read_tree.Goals as goal
 
-pub returns-in_err-directories-clause-met : goal.returns-in_err-directories-clause-met
-returns-in_err-directories-clause-met g c h home =
+pub returns-in_err-directories-clause-fault : goal.returns-in_err-directories-clause-fault
+returns-in_err-directories-clause-fault g c h home =
     let s = g.D.Disk.state c.args.disk.now in
     let now = g.D.Disk.state c.load_master.new.disk in
     let p = err_from_is_err_and c.from_residual-in_err-directories.result c.from_residual-in_err-directories.ensures.1 in
@@ -26,14 +26,14 @@ returns-in_err-directories-clause-met g c h home =
     let marks = digit_at c.load_master.new.reached in
     let chain = viewed master_view c.in_ok-master.master in
     handed (SettledRefuses s.size s.contents) c.from_residual-in_err-directories.result c.read_directories.result p.0 c.in_err-directories.field-0.0 p.1 p.2 c.in_err-directories.was
-    (met_named (DirectoriesMeet now.size now.contents marks (map master_view c.entries.result.now)) (NamesInSpace now.size) (SettledRefuses s.size s.contents) c.read_directories.result
-    (λ error met inside. directories_met s.size s.contents c.args.first (nodes_of chain.blocks chain.entries) chain.entries marks error home (c.in_ok-master.ensures.walk (c.read_directories.ensures.same.was_honest h))
+    (found_named (IsFaultOfDirectories now.size now.contents marks (map master_view c.entries.result.now)) (NamesInSpace now.size) (SettledRefuses s.size s.contents) c.read_directories.result
+    (λ error met inside. directories_fault s.size s.contents c.args.first (nodes_of chain.blocks chain.entries) chain.entries marks error home (c.in_ok-master.ensures.walk (c.read_directories.ensures.same.was_honest h))
     (chain_items master_words (IsMasterEntryOf 1) chain c.in_ok-master.ensures.chain) (λ n. c.in_ok-master.ensures.marked n ∙ ap (times n) (sym (numbers_of chain.blocks chain.entries)))
     (subst (λ (n : ℕ). NamesInSpace n error) c.load_master.ensures.same.size inside)
-    (subst (λ (es : List MasterEntry). DirectoriesMeet s.size s.contents marks es error) (ap (map master_view) c.entries.ensures.value)
-    (subst (λ contents. DirectoriesMeet s.size contents marks (map master_view c.entries.result.now) error) same
-    (subst (λ (n : ℕ). DirectoriesMeet n now.contents marks (map master_view c.entries.result.now) error) c.load_master.ensures.same.size met))))
-    (c.read_directories.ensures.met h) c.read_directories.ensures.named)
+    (subst (λ (es : List MasterEntry). IsFaultOfDirectories s.size s.contents marks es error) (ap (map master_view) c.entries.ensures.value)
+    (subst (λ contents. IsFaultOfDirectories s.size contents marks (map master_view c.entries.result.now) error) same
+    (subst (λ (n : ℕ). IsFaultOfDirectories n now.contents marks (map master_view c.entries.result.now) error) c.load_master.ensures.same.size met))))
+    (c.read_directories.ensures.fault h) c.read_directories.ensures.named)
 
 pub returns-in_err-directories-clause-reads : goal.returns-in_err-directories-clause-reads
 returns-in_err-directories-clause-reads g c h =

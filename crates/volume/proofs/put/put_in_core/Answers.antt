@@ -19,7 +19,7 @@ returns-in-Err-Device-clause-sound g c =
     let there = some_of (pending_at core.pending c.args.key) c.requires.live in
     let p : PendingVersion = there.0 in
     let grown = c.put_pending.ensures.grown p there.1 in
-    put_failed s s' core sound c.put_pending.ensures.same c.args.key p there.1 c.put_pending.new.table c.put_pending.new.pending.slots grown.0 grown.1 c.put_pending.ensures.others (λ h. c.put_pending.ensures.touched h p there.1)
+    put_failed s s' core sound c.put_pending.ensures.same c.args.key p there.1 c.put_pending.new.table c.put_pending.new.pending.slots grown.0 grown.1 c.put_pending.ensures.others (λ h. c.put_pending.ensures.modified h p there.1)
 
 pub returns-in-Err-Device-clause-quiet : goal.returns-in-Err-Device-clause-quiet
 returns-in-Err-Device-clause-quiet g c h f rests =
@@ -30,7 +30,7 @@ returns-in-Err-Device-clause-quiet g c h f rests =
     let there = some_of (pending_at core.pending c.args.key) c.requires.live in
     let p : PendingVersion = there.0 in
     let grown = c.put_pending.ensures.grown p there.1 in
-    crash_finds s s' core sound c.put_pending.ensures.same c.args.key p there.1 c.put_pending.new.table c.put_pending.new.pending.slots grown.0 grown.1 c.put_pending.ensures.others (λ h. c.put_pending.ensures.touched h p there.1) h f rests (λ d left. g.met.D.Disk.only_now c.args.disk.now d (c.put_pending.ensures.same.was_honest h) left)
+    crash_finds s s' core sound c.put_pending.ensures.same c.args.key p there.1 c.put_pending.new.table c.put_pending.new.pending.slots grown.0 grown.1 c.put_pending.ensures.others (λ h. c.put_pending.ensures.modified h p there.1) h f rests (λ d left. g.met.D.Disk.only_now c.args.disk.now d (c.put_pending.ensures.same.was_honest h) left)
 
 pub returns-in-Err-clause-quiet : goal.returns-in-Err-clause-quiet
 returns-in-Err-clause-quiet g c h f rests =
@@ -41,7 +41,7 @@ returns-in-Err-clause-quiet g c h f rests =
     let there = some_of (pending_at core.pending c.args.key) c.requires.live in
     let p : PendingVersion = there.0 in
     let grown = c.put_pending.ensures.grown p there.1 in
-    crash_finds s s' core sound c.put_pending.ensures.same c.args.key p there.1 c.put_pending.new.table c.put_pending.new.pending.slots grown.0 grown.1 c.put_pending.ensures.others (λ h. c.put_pending.ensures.touched h p there.1) h f rests (λ d left. g.met.D.Disk.only_now c.args.disk.now d (c.put_pending.ensures.same.was_honest h) left)
+    crash_finds s s' core sound c.put_pending.ensures.same c.args.key p there.1 c.put_pending.new.table c.put_pending.new.pending.slots grown.0 grown.1 c.put_pending.ensures.others (λ h. c.put_pending.ensures.modified h p there.1) h f rests (λ d left. g.met.D.Disk.only_now c.args.disk.now d (c.put_pending.ensures.same.was_honest h) left)
 
 pub returns-in-Ok-clause-quiet : goal.returns-in-Ok-clause-quiet
 returns-in-Ok-clause-quiet g c h f rests =
@@ -52,7 +52,7 @@ returns-in-Ok-clause-quiet g c h f rests =
     let there = some_of (pending_at core.pending c.args.key) c.requires.live in
     let p : PendingVersion = there.0 in
     let grown = c.put_pending.ensures.grown p there.1 in
-    crash_finds s s' core sound c.put_pending.ensures.same c.args.key p there.1 c.put_pending.new.table c.put_pending.new.pending.slots grown.0 grown.1 c.put_pending.ensures.others (λ h. c.put_pending.ensures.touched h p there.1) h f rests (λ d left. g.met.D.Disk.only_now c.args.disk.now d (c.put_pending.ensures.same.was_honest h) left)
+    crash_finds s s' core sound c.put_pending.ensures.same c.args.key p there.1 c.put_pending.new.table c.put_pending.new.pending.slots grown.0 grown.1 c.put_pending.ensures.others (λ h. c.put_pending.ensures.modified h p there.1) h f rests (λ d left. g.met.D.Disk.only_now c.args.disk.now d (c.put_pending.ensures.same.was_honest h) left)
 
 pub returns-in-Err-Device-clause-rests : goal.returns-in-Err-Device-clause-rests
 returns-in-Err-Device-clause-rests g c h f rests =
@@ -63,7 +63,7 @@ returns-in-Err-Device-clause-rests g c h f rests =
     let there = some_of (pending_at core.pending c.args.key) c.requires.live in
     let p : PendingVersion = there.0 in
     let grown = c.put_pending.ensures.grown p there.1 in
-    rest_finds s s' core sound c.put_pending.ensures.same c.args.key p there.1 c.put_pending.new.table c.put_pending.new.pending.slots grown.0 grown.1 c.put_pending.ensures.others (λ h. c.put_pending.ensures.touched h p there.1) h f rests
+    rest_finds s s' core sound c.put_pending.ensures.same c.args.key p there.1 c.put_pending.new.table c.put_pending.new.pending.slots grown.0 grown.1 c.put_pending.ensures.others (λ h. c.put_pending.ensures.modified h p there.1) h f rests
 
 pub returns-in-Ok-clause-rests : goal.returns-in-Ok-clause-rests
 returns-in-Ok-clause-rests g c h f rests =
@@ -74,7 +74,7 @@ returns-in-Ok-clause-rests g c h f rests =
     let there = some_of (pending_at core.pending c.args.key) c.requires.live in
     let p : PendingVersion = there.0 in
     let grown = c.put_pending.ensures.grown p there.1 in
-    rest_finds s s' core sound c.put_pending.ensures.same c.args.key p there.1 c.put_pending.new.table c.put_pending.new.pending.slots grown.0 grown.1 c.put_pending.ensures.others (λ h. c.put_pending.ensures.touched h p there.1) h f rests
+    rest_finds s s' core sound c.put_pending.ensures.same c.args.key p there.1 c.put_pending.new.table c.put_pending.new.pending.slots grown.0 grown.1 c.put_pending.ensures.others (λ h. c.put_pending.ensures.modified h p there.1) h f rests
 
 pub returns-in-Err-Device-clause-given_up : goal.returns-in-Err-Device-clause-given_up
 returns-in-Err-Device-clause-given_up g c gone =
@@ -101,7 +101,7 @@ returns-in-Ok-clause-sound g c =
     let new = core_of (record c.args.map.now { pending = c.put_pending.new.pending; table = c.put_pending.new.table }) in
     let put = c.in-Ok.ensures.put p there.1 in
     subst (λ (b : Bool). IsSound s' new b) (sym c.if-failed.false)
-    (put_done s s' core sound c.put_pending.ensures.same c.args.key p there.1 c.put_pending.new.table c.put_pending.new.pending.slots grown.0 grown.1 c.put_pending.ensures.others (λ h. c.put_pending.ensures.touched h p there.1) put.0 c.args.block c.args.words.now put.1 put.2 put.3)
+    (put_done s s' core sound c.put_pending.ensures.same c.args.key p there.1 c.put_pending.new.table c.put_pending.new.pending.slots grown.0 grown.1 c.put_pending.ensures.others (λ h. c.put_pending.ensures.modified h p there.1) put.0 c.args.block c.args.words.now put.1 put.2 put.3)
 
 pub returns-in-Err-Device-clause-readers : goal.returns-in-Err-Device-clause-readers
 returns-in-Err-Device-clause-readers g c h =
@@ -110,7 +110,7 @@ returns-in-Err-Device-clause-readers g c h =
     let core = core_of c.args.map.now in
     let there = some_of (pending_at core.pending c.args.key) c.requires.live in
     let p : PendingVersion = there.0 in
-    keeps_read s.size core c.requires.sound.whole c.args.key p there.1 s.contents s'.contents (c.put_pending.ensures.touched h p there.1).contents
+    keeps_read s.size core c.requires.sound.whole c.args.key p there.1 s.contents s'.contents (c.put_pending.ensures.modified h p there.1).contents
 
 pub returns-in-Err-Device-clause-writers : goal.returns-in-Err-Device-clause-writers
 returns-in-Err-Device-clause-writers g c h =
@@ -119,7 +119,7 @@ returns-in-Err-Device-clause-writers g c h =
     let core = core_of c.args.map.now in
     let there = some_of (pending_at core.pending c.args.key) c.requires.live in
     let p : PendingVersion = there.0 in
-    keeps_written s.size core c.requires.sound.whole c.args.key p there.1 s.contents s'.contents (c.put_pending.ensures.touched h p there.1).contents
+    keeps_written s.size core c.requires.sound.whole c.args.key p there.1 s.contents s'.contents (c.put_pending.ensures.modified h p there.1).contents
 
 pub returns-in-Err-clause-readers : goal.returns-in-Err-clause-readers
 returns-in-Err-clause-readers g c h =
@@ -128,7 +128,7 @@ returns-in-Err-clause-readers g c h =
     let core = core_of c.args.map.now in
     let there = some_of (pending_at core.pending c.args.key) c.requires.live in
     let p : PendingVersion = there.0 in
-    keeps_read s.size core c.requires.sound.whole c.args.key p there.1 s.contents s'.contents (c.put_pending.ensures.touched h p there.1).contents
+    keeps_read s.size core c.requires.sound.whole c.args.key p there.1 s.contents s'.contents (c.put_pending.ensures.modified h p there.1).contents
 
 pub returns-in-Err-clause-writers : goal.returns-in-Err-clause-writers
 returns-in-Err-clause-writers g c h =
@@ -137,7 +137,7 @@ returns-in-Err-clause-writers g c h =
     let core = core_of c.args.map.now in
     let there = some_of (pending_at core.pending c.args.key) c.requires.live in
     let p : PendingVersion = there.0 in
-    keeps_written s.size core c.requires.sound.whole c.args.key p there.1 s.contents s'.contents (c.put_pending.ensures.touched h p there.1).contents
+    keeps_written s.size core c.requires.sound.whole c.args.key p there.1 s.contents s'.contents (c.put_pending.ensures.modified h p there.1).contents
 
 pub returns-in-Ok-clause-readers : goal.returns-in-Ok-clause-readers
 returns-in-Ok-clause-readers g c h =
@@ -146,7 +146,7 @@ returns-in-Ok-clause-readers g c h =
     let core = core_of c.args.map.now in
     let there = some_of (pending_at core.pending c.args.key) c.requires.live in
     let p : PendingVersion = there.0 in
-    keeps_read s.size core c.requires.sound.whole c.args.key p there.1 s.contents s'.contents (c.put_pending.ensures.touched h p there.1).contents
+    keeps_read s.size core c.requires.sound.whole c.args.key p there.1 s.contents s'.contents (c.put_pending.ensures.modified h p there.1).contents
 
 pub returns-in-Ok-clause-writers : goal.returns-in-Ok-clause-writers
 returns-in-Ok-clause-writers g c h =
@@ -155,4 +155,4 @@ returns-in-Ok-clause-writers g c h =
     let core = core_of c.args.map.now in
     let there = some_of (pending_at core.pending c.args.key) c.requires.live in
     let p : PendingVersion = there.0 in
-    keeps_written s.size core c.requires.sound.whole c.args.key p there.1 s.contents s'.contents (c.put_pending.ensures.touched h p there.1).contents
+    keeps_written s.size core c.requires.sound.whole c.args.key p there.1 s.contents s'.contents (c.put_pending.ensures.modified h p there.1).contents

@@ -1,5 +1,5 @@
 use Rattle.std.proofs.Common.{◌≡◌, ℕ, List, length, Some, slice_set, sym, subst}
-use Rattle.blockdisk.specs.Laws.{touches_start}
+use Rattle.blockdisk.specs.Laws.{modifies_start}
 use Rattle.meaning.specs.Retrieval.{HasBody}
 use Rattle.meaning.specs.Splices.{splice, length_after}
 use Rattle.retrieval.specs.Bodies.{IsOwn}
@@ -10,11 +10,11 @@ use Rattle.volume.proofs.put.put_pending.Goals as goal
 pub growth-requires-clause-few : goal.growth-requires-clause-few
 growth-requires-clause-few g c = (c.requires.ready c.in-Some.pending.now (sym c.in-Some.ensures.value)).few
 
-pub returns-in_default-growth-clause-touched : goal.returns-in_default-growth-clause-touched
-returns-in_default-growth-clause-touched g c h p was = touches_start (IsOwn c.args.table.now p.version.blocks) (g.D.Disk.state c.args.disk.now)
+pub returns-in_default-growth-clause-modified : goal.returns-in_default-growth-clause-modified
+returns-in_default-growth-clause-modified g c h p was = modifies_start (IsOwn c.args.table.now p.version.blocks) (g.D.Disk.state c.args.disk.now)
 
-pub returns-in-Some-clause-touched : goal.returns-in-Some-clause-touched
-returns-in-Some-clause-touched g c h p was = touches_start (IsOwn c.args.table.now p.version.blocks) (g.D.Disk.state c.args.disk.now)
+pub returns-in-Some-clause-modified : goal.returns-in-Some-clause-modified
+returns-in-Some-clause-modified g c h p was = modifies_start (IsOwn c.args.table.now p.version.blocks) (g.D.Disk.state c.args.disk.now)
 
 pub returns-in-Some-clause-grown : goal.returns-in-Some-clause-grown
 returns-in-Some-clause-grown g c p was =

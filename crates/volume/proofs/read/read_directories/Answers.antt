@@ -12,12 +12,12 @@ use Rattle.volume.specs.declared.error.VolumeError.TheVariants.{Device}
 use Rattle.volume.specs.Cores.{master_view, known_directory}
 use Rattle.volume.specs.Known.{KnownDirectory, reaches_in_known, IsWholeDirectory}
 use Rattle.volume.specs.Found.{IsOnlySpace, IsAdded, AreDirectoriesRead}
-use Rattle.volume.specs.Meets.{NamesInSpace, DirectoryMeets, DirectoriesMeet}
-use Rattle.volume.proofs.Handing.{handed, handed_back, met_on, named_on}
+use Rattle.volume.specs.FaultsFound.{NamesInSpace, IsFaultOfDirectory, IsFaultOfDirectories}
+use Rattle.volume.proofs.Handing.{handed, handed_back, found_on, named_on}
 use Rattle.volume.proofs.Lookups.{viewed_at, viewed_split}
 use Rattle.volume.proofs.Reaching.{total_marked}
 use Rattle.volume.proofs.FoundDirectories.{no_directories, directories_go_on, all_added}
-use Rattle.volume.proofs.MetDirectories.{directory_met}
+use Rattle.volume.proofs.FaultyDirectories.{directory_fault}
 use Rattle.volume.proofs.read.read_directories.Goals as goal
 
 pub add_directory-requires-clause-inside : goal.add_directory-requires-clause-inside
@@ -26,8 +26,8 @@ add_directory-requires-clause-inside g c =
     subst (λ (n : ℕ). InSpace n c.entry-item.result.first) (sym c.loop-entry.invariant.same.size)
     (viewed_at master_view c.args.entries.now c.loop-entry.entry-index c.entry-item.result c.loop-entry-test.true c.entry-item.is (λ (e : MasterEntry). InSpace s.size e.1.1) c.requires.inside)
 
-pub returns-in_err-add_directory-clause-met : goal.returns-in_err-add_directory-clause-met
-returns-in_err-add_directory-clause-met g c h =
+pub returns-in_err-add_directory-clause-fault : goal.returns-in_err-add_directory-clause-fault
+returns-in_err-add_directory-clause-fault g c h =
     let s = g.D.Disk.state c.args.disk.now in
     let now = g.D.Disk.state c.loop-entry.disk in
     let i = c.loop-entry.entry-index in
@@ -35,12 +35,12 @@ returns-in_err-add_directory-clause-met g c h =
     let p = err_from_is_err_and c.from_residual.result c.from_residual.ensures.1 in
     let same = same_contents s.contents now.contents (c.loop-entry.invariant.keeps (c.add_directory.ensures.same.was_honest h)).contents in
     let marks = digit_at c.loop-entry.reached in
-    handed (DirectoriesMeet s.size s.contents (digit_at c.args.reached.now) (map master_view c.args.entries.now)) c.from_residual.result c.add_directory.result p.0 c.in_err-add_directory.field-0.0 p.1 p.2 c.in_err-add_directory.was
-    (met_on (DirectoryMeets now.size now.contents marks e.ppn e.first) (DirectoriesMeet s.size s.contents (digit_at c.args.reached.now) (map master_view c.args.entries.now)) c.add_directory.result
-    (λ error met. directory_met s.size s.contents (map master_view c.args.entries.now) (map master_view (take i c.args.entries.now)) (map master_view (drop (i + 1) c.args.entries.now)) (map known_directory c.loop-entry.directories.items)
+    handed (IsFaultOfDirectories s.size s.contents (digit_at c.args.reached.now) (map master_view c.args.entries.now)) c.from_residual.result c.add_directory.result p.0 c.in_err-add_directory.field-0.0 p.1 p.2 c.in_err-add_directory.was
+    (found_on (IsFaultOfDirectory now.size now.contents marks e.ppn e.first) (IsFaultOfDirectories s.size s.contents (digit_at c.args.reached.now) (map master_view c.args.entries.now)) c.add_directory.result
+    (λ error met. directory_fault s.size s.contents (map master_view c.args.entries.now) (map master_view (take i c.args.entries.now)) (map master_view (drop (i + 1) c.args.entries.now)) (map known_directory c.loop-entry.directories.items)
     (digit_at c.args.reached.now) marks (master_view e) error (viewed_split master_view c.args.entries.now i e c.loop-entry-test.true c.entry-item.is) c.requires.once (c.loop-entry.invariant.read (c.add_directory.ensures.same.was_honest h))
-    (subst (λ contents. DirectoryMeets s.size contents marks e.ppn e.first error) same (subst (λ (n : ℕ). DirectoryMeets n now.contents marks e.ppn e.first error) c.loop-entry.invariant.same.size met)))
-    (c.add_directory.ensures.met h))
+    (subst (λ contents. IsFaultOfDirectory s.size contents marks e.ppn e.first error) same (subst (λ (n : ℕ). IsFaultOfDirectory n now.contents marks e.ppn e.first error) c.loop-entry.invariant.same.size met)))
+    (c.add_directory.ensures.fault h))
 
 pub returns-in_err-add_directory-clause-keeps : goal.returns-in_err-add_directory-clause-keeps
 returns-in_err-add_directory-clause-keeps g c h =

@@ -11,26 +11,26 @@ use Rattle.directory.specs.Chains.{viewed}
 use Rattle.retrieval.proofs.Readings.{keeps_on}
 use Rattle.volume.specs.Cores.{file_view, known_version}
 use Rattle.volume.specs.Found.{IsOnlySpace, AreFilesRead}
-use Rattle.volume.specs.Meets.{NamesInSpace, FilesMeet, DirectoryMeets}
-use Rattle.volume.proofs.Handing.{handed, met_on, named_on}
+use Rattle.volume.specs.FaultsFound.{NamesInSpace, IsFaultOfFiles, IsFaultOfDirectory}
+use Rattle.volume.proofs.Handing.{handed, found_on, named_on}
 use Rattle.volume.proofs.FoundDirectories.{directory_found, space_more}
-use Rattle.volume.proofs.MetDirectories.{files_met}
+use Rattle.volume.proofs.FaultyDirectories.{files_fault}
 use Rattle.volume.proofs.read.read_directory.Goals as goal
 
-pub returns-in_err-chain-clause-met : goal.returns-in_err-chain-clause-met
-returns-in_err-chain-clause-met g c h =
+pub returns-in_err-chain-clause-fault : goal.returns-in_err-chain-clause-fault
+returns-in_err-chain-clause-fault g c h =
     let s = g.D.Disk.state c.args.disk.now in
     let p = err_from_is_err_and c.from_residual.result c.from_residual.ensures.1 in
-    handed (DirectoryMeets s.size s.contents (digit_at c.args.reached.now) c.args.entry.now.ppn c.args.entry.now.first) c.from_residual.result c.load_files.result p.0 c.in_err-chain.field-0.0 p.1 p.2 c.in_err-chain.was
-    (c.load_files.ensures.met h c.args.entry.now.ppn)
+    handed (IsFaultOfDirectory s.size s.contents (digit_at c.args.reached.now) c.args.entry.now.ppn c.args.entry.now.first) c.from_residual.result c.load_files.result p.0 c.in_err-chain.field-0.0 p.1 p.2 c.in_err-chain.was
+    (c.load_files.ensures.fault h c.args.entry.now.ppn)
 
 pub read_files-requires-clause-inside : goal.read_files-requires-clause-inside
 read_files-requires-clause-inside g c =
     subst (λ (es : List FileEntry). AllByRecursion (λ e. InSpace (g.D.Disk.state c.load_files.new.disk).size e.1) es) (ap (map file_view) (sym c.entries.ensures.value))
     (subst (λ (n : ℕ). AllByRecursion (λ (e : FileEntry). InSpace n e.1) (map file_view c.in_ok-chain.chain.entries)) (sym c.load_files.ensures.same.size) c.in_ok-chain.ensures.targets)
 
-pub returns-in_err-versions-clause-met : goal.returns-in_err-versions-clause-met
-returns-in_err-versions-clause-met g c h =
+pub returns-in_err-versions-clause-fault : goal.returns-in_err-versions-clause-fault
+returns-in_err-versions-clause-fault g c h =
     let s = g.D.Disk.state c.args.disk.now in
     let now = g.D.Disk.state c.load_files.new.disk in
     let p = err_from_is_err_and c.from_residual-in_err-versions.result c.from_residual-in_err-versions.ensures.1 in
@@ -38,12 +38,12 @@ returns-in_err-versions-clause-met g c h =
     let marks = digit_at c.load_files.new.reached in
     let ppn = c.args.entry.now.ppn in
     let chain = viewed file_view c.in_ok-chain.chain in
-    handed (DirectoryMeets s.size s.contents (digit_at c.args.reached.now) ppn c.args.entry.now.first) c.from_residual-in_err-versions.result c.read_files.result p.0 c.in_err-versions.field-0.0 p.1 p.2 c.in_err-versions.was
-    (met_on (FilesMeet now.size now.contents marks ppn (map file_view c.entries.result.now)) (DirectoryMeets s.size s.contents (digit_at c.args.reached.now) ppn c.args.entry.now.first) c.read_files.result
-    (λ error met. files_met s.size s.contents (digit_at c.args.reached.now) marks ppn c.args.entry.now.first chain error c.in_ok-chain.ensures.chain (c.in_ok-chain.ensures.walk (c.read_files.ensures.same.was_honest h)) c.in_ok-chain.ensures.marked
-    (subst (λ (es : List FileEntry). FilesMeet s.size s.contents marks ppn es error) (ap (map file_view) c.entries.ensures.value)
-    (subst (λ contents. FilesMeet s.size contents marks ppn (map file_view c.entries.result.now) error) same (subst (λ (n : ℕ). FilesMeet n now.contents marks ppn (map file_view c.entries.result.now) error) c.load_files.ensures.same.size met))))
-    (c.read_files.ensures.met h))
+    handed (IsFaultOfDirectory s.size s.contents (digit_at c.args.reached.now) ppn c.args.entry.now.first) c.from_residual-in_err-versions.result c.read_files.result p.0 c.in_err-versions.field-0.0 p.1 p.2 c.in_err-versions.was
+    (found_on (IsFaultOfFiles now.size now.contents marks ppn (map file_view c.entries.result.now)) (IsFaultOfDirectory s.size s.contents (digit_at c.args.reached.now) ppn c.args.entry.now.first) c.read_files.result
+    (λ error met. files_fault s.size s.contents (digit_at c.args.reached.now) marks ppn c.args.entry.now.first chain error c.in_ok-chain.ensures.chain (c.in_ok-chain.ensures.walk (c.read_files.ensures.same.was_honest h)) c.in_ok-chain.ensures.marked
+    (subst (λ (es : List FileEntry). IsFaultOfFiles s.size s.contents marks ppn es error) (ap (map file_view) c.entries.ensures.value)
+    (subst (λ contents. IsFaultOfFiles s.size contents marks ppn (map file_view c.entries.result.now) error) same (subst (λ (n : ℕ). IsFaultOfFiles n now.contents marks ppn (map file_view c.entries.result.now) error) c.load_files.ensures.same.size met))))
+    (c.read_files.ensures.fault h))
 
 pub returns-in_err-versions-clause-keeps : goal.returns-in_err-versions-clause-keeps
 returns-in_err-versions-clause-keeps g c h =

@@ -7,15 +7,15 @@ use Rattle.meaning.specs.Directories.{FileEntry}
 use Rattle.alloctab.specs.Lists.{digit_at}
 use Rattle.retrieval.proofs.Readings.{keeps_on}
 use Rattle.volume.specs.Cores.{file_view, known_version}
-use Rattle.volume.specs.Meets.{NamesInSpace, FileMeets, FilesMeet}
+use Rattle.volume.specs.FaultsFound.{NamesInSpace, IsFaultOfFile, IsFaultOfFiles}
 use Rattle.volume.specs.declared.error.VolumeError.TheVariants.{Device}
-use Rattle.volume.proofs.Handing.{handed, handed_back, met_on, named_on}
+use Rattle.volume.proofs.Handing.{handed, handed_back, found_on, named_on}
 use Rattle.volume.proofs.Lookups.{viewed_at, viewed_split}
 use Rattle.volume.specs.Known.{IsWholeVersion}
 use Rattle.volume.specs.Found.{IsOnlySpace}
 use Rattle.volume.proofs.FoundDirectories.{all_added}
 use Rattle.volume.proofs.Reaching.{entries_marked}
-use Rattle.volume.proofs.FoundFiles.{file_met, files_go_on}
+use Rattle.volume.proofs.FoundFiles.{file_fault, files_go_on}
 use Rattle.volume.proofs.read.read_files.Goals as goal
 
 pub add_file-requires-clause-inside : goal.add_file-requires-clause-inside
@@ -24,20 +24,20 @@ add_file-requires-clause-inside g c =
     subst (λ (n : ℕ). InSpace n c.entry-item.result.prime) (sym c.loop-entry.invariant.same.size)
     (viewed_at file_view c.args.entries.now c.loop-entry.entry-index c.entry-item.result c.loop-entry-test.true c.entry-item.is (λ (e : FileEntry). InSpace s.size e.1) c.requires.inside)
 
-pub returns-in_err-add_file-clause-met : goal.returns-in_err-add_file-clause-met
-returns-in_err-add_file-clause-met g c h =
+pub returns-in_err-add_file-clause-fault : goal.returns-in_err-add_file-clause-fault
+returns-in_err-add_file-clause-fault g c h =
     let s = g.D.Disk.state c.args.disk.now in
     let now = g.D.Disk.state c.loop-entry.disk in
     let i = c.loop-entry.entry-index in
     let e = c.entry-item.result in
     let p = err_from_is_err_and c.from_residual.result c.from_residual.ensures.1 in
     let same = same_contents s.contents now.contents (c.loop-entry.invariant.keeps (c.add_file.ensures.same.was_honest h)).contents in
-    handed (FilesMeet s.size s.contents (digit_at c.args.reached.now) c.args.ppn (map file_view c.args.entries.now)) c.from_residual.result c.add_file.result p.0 c.in_err-add_file.field-0.0 p.1 p.2 c.in_err-add_file.was
-    (met_on (FileMeets now.size now.contents c.loop-entry.reached (place_of c.args.ppn e.name) e.prime) (FilesMeet s.size s.contents (digit_at c.args.reached.now) c.args.ppn (map file_view c.args.entries.now)) c.add_file.result
-    (λ error met. file_met s.size s.contents c.args.ppn (map file_view c.args.entries.now) (map file_view (take i c.args.entries.now)) (map file_view (drop (i + 1) c.args.entries.now)) (map known_version c.loop-entry.versions.items)
+    handed (IsFaultOfFiles s.size s.contents (digit_at c.args.reached.now) c.args.ppn (map file_view c.args.entries.now)) c.from_residual.result c.add_file.result p.0 c.in_err-add_file.field-0.0 p.1 p.2 c.in_err-add_file.was
+    (found_on (IsFaultOfFile now.size now.contents c.loop-entry.reached (place_of c.args.ppn e.name) e.prime) (IsFaultOfFiles s.size s.contents (digit_at c.args.reached.now) c.args.ppn (map file_view c.args.entries.now)) c.add_file.result
+    (λ error met. file_fault s.size s.contents c.args.ppn (map file_view c.args.entries.now) (map file_view (take i c.args.entries.now)) (map file_view (drop (i + 1) c.args.entries.now)) (map known_version c.loop-entry.versions.items)
     (digit_at c.args.reached.now) (file_view e) error c.loop-entry.reached (viewed_split file_view c.args.entries.now i e c.loop-entry-test.true c.entry-item.is) c.requires.once (c.loop-entry.invariant.read (c.add_file.ensures.same.was_honest h))
-    (subst (λ contents. FileMeets s.size contents c.loop-entry.reached (place_of c.args.ppn e.name) e.prime error) same (subst (λ (n : ℕ). FileMeets n now.contents c.loop-entry.reached (place_of c.args.ppn e.name) e.prime error) c.loop-entry.invariant.same.size met)))
-    (c.add_file.ensures.met h))
+    (subst (λ contents. IsFaultOfFile s.size contents c.loop-entry.reached (place_of c.args.ppn e.name) e.prime error) same (subst (λ (n : ℕ). IsFaultOfFile n now.contents c.loop-entry.reached (place_of c.args.ppn e.name) e.prime error) c.loop-entry.invariant.same.size met)))
+    (c.add_file.ensures.fault h))
 
 pub returns-in_err-add_file-clause-keeps : goal.returns-in_err-add_file-clause-keeps
 returns-in_err-add_file-clause-keeps g c h =

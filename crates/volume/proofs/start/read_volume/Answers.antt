@@ -10,9 +10,9 @@ use Rattle.volume.specs.declared.error.VolumeError.TheVariants.{BadLog, Device}
 use Rattle.volume.specs.declared.map.DiskMap.{DiskMap as CoreMap}
 use Rattle.volume.specs.Cores.{known_of}
 use Rattle.volume.specs.Known.{IsHeld}
-use Rattle.volume.specs.Meets.{SettledRefuses, Refuses}
+use Rattle.volume.specs.FaultsFound.{SettledRefuses, Refuses}
 use Rattle.volume.specs.Rest.{IsAtRest, RestsAt, StandsLike, StandsLikeBefore}
-use Rattle.volume.proofs.Handing.{met_on, named_on}
+use Rattle.volume.proofs.Handing.{found_on, named_on}
 use Rattle.volume.proofs.Starting.{ok_on, ok_always, crash_recovered, synced_recovered, crash_read, synced_read, rest_known, rest_files, stood_before, closed_refuses, lost_refuses}
 use Rattle.volume.proofs.start.read_volume.Goals as goal
 
@@ -91,9 +91,9 @@ returns-in-Ok-clause-refused g c h =
     let recovered : IsRecovered s.size s.contents s1.contents = c.in-Ok.ensures.recovered (c.read_map.ensures.same.was_honest h) in
     let none : NoneOpen s1 = c.in-Ok.ensures.settled (c.read_map.ensures.same.was_honest h) in
     let same : s2.contents ≡ s1.contents = same_contents s1.contents s2.contents reads.still.contents in
-    met_on (SettledRefuses s1.size s1.contents) (Refuses s.size s2.contents) c.read_map.result
+    found_on (SettledRefuses s1.size s1.contents) (Refuses s.size s2.contents) c.read_map.result
     (λ error met. subst (λ contents. Refuses s.size contents error) (sym same) (closed_refuses s.size s1.contents recovered.gate error (subst (λ (n : ℕ). SettledRefuses n s1.contents error) c.recover.ensures.same.size met)))
-    (c.read_map.ensures.met h)
+    (c.read_map.ensures.fault h)
 
 pub returns-in-Ok-clause-kept : goal.returns-in-Ok-clause-kept
 returns-in-Ok-clause-kept g c h other =
@@ -127,7 +127,7 @@ returns-in-Err-BadLog-clause-refused g c h =
     let s = g.D.Disk.state c.args.disk.now in
     let s1 = g.D.Disk.state c.recover.new.disk in
     let lost = c.recover.ensures.bad h (cc) in
-    let still = c.recover.ensures.untouched h (λ puts pending. lost (with_puts puts s.contents) (inr (pending.gate, puts, pending.log, λ n. refl)))
+    let still = c.recover.ensures.unmodified h (λ puts pending. lost (with_puts puts s.contents) (inr (pending.gate, puts, pending.log, λ n. refl)))
     (λ (is : c.recover.result ≡ Err LogDevice). let bad = c.in-Err-BadLog.is in let which = c.in-Err-BadLog.field-0-is in cc) in
     subst (λ contents. Refuses s.size contents BadLog) (sym (same_contents s.contents s1.contents still.contents)) (lost_refuses s.size s.contents lost)
 
@@ -136,7 +136,7 @@ returns-in-Err-BadLog-clause-kept g c h other =
     let s = g.D.Disk.state c.args.disk.now in
     let s1 = g.D.Disk.state c.recover.new.disk in
     let lost = c.recover.ensures.bad h (cc) in
-    let still = c.recover.ensures.untouched h (λ puts pending. lost (with_puts puts s.contents) (inr (pending.gate, puts, pending.log, λ n. refl)))
+    let still = c.recover.ensures.unmodified h (λ puts pending. lost (with_puts puts s.contents) (inr (pending.gate, puts, pending.log, λ n. refl)))
     (λ (is : c.recover.result ≡ Err LogDevice). let bad = c.in-Err-BadLog.is in let which = c.in-Err-BadLog.field-0-is in cc) in
     inl still
 

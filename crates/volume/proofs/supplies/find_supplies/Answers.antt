@@ -7,7 +7,7 @@ use Rattle.volume.specs.declared.pending.PendingVersion.{PendingVersion}
 use Rattle.words36.specs.declared.names.FileName.{FileName}
 use Rattle.meaning.specs.Files.{name_cmp}
 use Rattle.meaning.proofs.MapLaws.{some_same}
-use Rattle.directory.specs.Edits.{IsRoom}
+use Rattle.directory.specs.Edits.{IsReserve}
 use Rattle.volume.proofs.Supplying.{is_there, supplied}
 use Rattle.volume.proofs.supplies.find_supplies.Goals as goal
 
@@ -32,7 +32,7 @@ returns-clause-supplied c p is =
     let core = c.args.map.now in
     let q = c.in-Some.version.now in
     let stands = c.in-Ok.ensures.found in
-    let fits = subst (λ (name : FileName). IsRoom name_cmp (viewed file_view c.index-directory.result.now.chain) name (viewed file_view c.in-Ok-room_for.room)) c.in-Some-new.ensures.name c.in-Ok-room_for.ensures.room in
+    let fits = subst (λ (name : FileName). IsReserve name_cmp (viewed file_view c.index-directory.result.now.chain) name (viewed file_view c.in-Ok-reserve_for.reserve)) c.in-Some-new.ensures.name c.in-Ok-reserve_for.ensures.reserve in
     let longer = c.in_ok-keys.ensures ∙ ap (λ (ns : List ℕ). ns ++ 0 ∷ []) c.deref.ensures.value in
-    let all = supplied core.table.size core q c.in-Ok.place stands.0 c.index-directory.result.now (viewed file_view c.in-Ok-room_for.room) c.in_ok-keys.keys.items c.requires.whole stands.1 c.index-directory.ensures fits longer in
-    subst (λ (v : PendingVersion). IsSupplied (core_of core) v (viewed file_view c.in-Ok-room_for.room) c.in_ok-keys.keys.items) (some_same (c.in-Some.ensures ∙ is)) all
+    let all = supplied core.table.size core q c.in-Ok.place stands.0 c.index-directory.result.now (viewed file_view c.in-Ok-reserve_for.reserve) c.in_ok-keys.keys.items c.requires.whole stands.1 c.index-directory.ensures fits longer in
+    subst (λ (v : PendingVersion). IsSupplied (core_of core) v (viewed file_view c.in-Ok-reserve_for.reserve) c.in_ok-keys.keys.items) (some_same (c.in-Some.ensures ∙ is)) all

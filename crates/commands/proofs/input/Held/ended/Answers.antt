@@ -1,8 +1,8 @@
 use Rattle.std.proofs.Common.{subst, ◌≡◌, ◌∷◌, [], List, ℕ, cond}
 use Rattle.meaning.specs.Lines.{TooLong, without_return}
-use Rattle.commands.specs.Held.{text_line, line_list}
+use Rattle.commands.specs.PartialLines.{text_line, line_list}
 use Rattle.commands.proofs.LineLaws.{line_ended}
-use Rattle.commands.proofs.input.Held.ended.Goals as goal
+use Rattle.commands.proofs.input.PartialLine.ended.Goals as goal
 
 pub returns : goal.returns
 returns c = λ seen h.

@@ -1,16 +1,16 @@
 use Rattle.std.proofs.Common.{refl, subst}
 use Rattle.directory.specs.Chains.{IsChain, viewed}
-use Rattle.directory.proofs.Rooms.{filled_entries, filled_blocks}
+use Rattle.directory.proofs.Reserves.{filled_entries, filled_blocks}
 use Rattle.directory.proofs.Steps.{appended_sound, appended_put}
 use Rattle.directory.proofs.chain.Chain.append_into.Goals as goal
 
 pub returns-clause-entries : goal.returns-clause-entries
 returns-clause-entries g c =
-    filled_entries g.E.Entry.view c.args.self.now c.args.room (g.E.Entry.view c.args.entry).0 c.requires.room c.requires.absent c.args.entry c.fill-blocks.result.1.items c.fill-blocks.ensures.entries
+    filled_entries g.E.Entry.view c.args.self.now c.args.reserve (g.E.Entry.view c.args.entry).0 c.requires.reserve c.requires.absent c.args.entry c.fill-blocks.result.1.items c.fill-blocks.ensures.entries
 
 pub returns-clause-blocks : goal.returns-clause-blocks
 returns-clause-blocks g c =
-    filled_blocks g.E.Entry.view c.args.self.now c.args.room (g.E.Entry.view c.args.entry).0 c.requires.room c.requires.absent c.args.block c.fill-blocks.result.0.items c.requires.block c.fill-blocks.ensures.kept c.fill-blocks.ensures.grown
+    filled_blocks g.E.Entry.view c.args.self.now c.args.reserve (g.E.Entry.view c.args.entry).0 c.requires.reserve c.requires.absent c.args.block c.fill-blocks.result.0.items c.requires.block c.fill-blocks.ensures.kept c.fill-blocks.ensures.grown
 
 pub invariant_of-self : goal.invariant_of-self
 invariant_of-self g c =

@@ -4,8 +4,8 @@ use Rattle.std.specs.List.{AllByRecursion}
 use Rattle.blockdisk.specs.Laws.{same_disk_start, same_disk_on}
 use Rattle.meaning.specs.Faults.{InSpace}
 use Rattle.directory.specs.declared.error.DirectoryError.TheVariants.{BadDirectory, BlockTwice}
-use Rattle.directory.specs.Loading.{IsMetTwice}
-use Rattle.directory.proofs.ChainReading.{reads_start, loading_starts, loading_less, loading_on, fewer, bad_chain, met_twice, reads_moved, bad_moved, bad_of, loaded_walk, loaded_on, whole_not_bad, whole_not_twice}
+use Rattle.directory.specs.Loading.{IsTwiceInChain}
+use Rattle.directory.proofs.ChainReading.{reads_start, loading_starts, loading_less, loading_on, fewer, bad_chain, twice_in_chain, reads_moved, bad_moved, bad_of, loaded_walk, loaded_on, whole_not_bad, whole_not_twice}
 use Rattle.changeset.proofs.Reading.{only_reads_on, passed_on}
 use Rattle.directory.proofs.chain.Chain.load.Goals as goal
 
@@ -42,8 +42,8 @@ returns-in_err-next-clause-twice g c h k is =
     let some : 0 < next = let e = c.loop-next-test.true in omega arith in
     let p = err_from_is_err_and c.from_residual.result c.from_residual.ensures.1 in
     let e = c.read_on.ensures.twice k (passed_on c.from_residual.result c.read_on.result p.0 c.in_err-next.field-0.0 (BlockTwice k) is p.1 p.2 c.in_err-next.was) in
-    subst (IsMetTwice g.E.Entry.words_of s.contents c.args.reached.now c.args.first) (sym e.0)
-    (met_twice g.E.Entry.order g.E.Entry.words_of g.E.Entry.IsEntry g.E.Entry.target c.blocks-size.result (g.D.Disk.state c.loop-next.disk).honest s.contents c.args.reached.now c.args.first c.loop-next.reached c.loop-next.blocks.items entries next
+    subst (IsTwiceInChain g.E.Entry.words_of s.contents c.args.reached.now c.args.first) (sym e.0)
+    (twice_in_chain g.E.Entry.order g.E.Entry.words_of g.E.Entry.IsEntry g.E.Entry.target c.blocks-size.result (g.D.Disk.state c.loop-next.disk).honest s.contents c.args.reached.now c.args.first c.loop-next.reached c.loop-next.blocks.items entries next
     c.loop-next.invariant.loading some (c.read_on.ensures.same.was_honest h) e.1)
 
 pub returns-in_err-next-clause-named : goal.returns-in_err-next-clause-named

@@ -5,7 +5,7 @@ use Rattle.volume.specs.LiveCores.{core_of}
 use Rattle.volume.specs.Making.{IsMade}
 use Rattle.volume.proofs.LiveBodies.{bodies_stay, bodies_of, used_read, used_written}
 use Rattle.volume.proofs.MakingDirectories.{sound_for, sound_failed, made_core, puts_in_range, not_written, made_crash, made_rest, made_at, made_done}
-use Rattle.volume.proofs.MakingEvents.{near_closed}
+use Rattle.volume.proofs.MakingTransactions.{near_closed}
 use Rattle.volume.proofs.MakingPlaces.{directory_stays, primes_stay}
 use Rattle.volume.proofs.map.Volume.make_dir.Goals as goal
 
@@ -32,7 +32,7 @@ invariant_of-self-in-Ok-write_and_commit g c =
     let h : s.honest = c.write_and_commit.ensures.same.was_honest h' in
     bodies_of s'.contents (core_of c.self.inside.map) (core_of c.make_in_core.new.core) c.make_in_core.ensures.live c.make_in_core.ensures.pending
     (bodies_stay s (core_of c.self.inside.map) c.self.inside.failed s'.contents c.self.invariant h ok
-    (λ n is. (c.in-Ok-write_and_commit.ensures.touched h').contents n (not_written s.size k k' c.args.ppn c.args.protection c.in-Ok.first c.make_in_core.new.set whole made n is.from is.apart is.used))))
+    (λ n is. (c.in-Ok-write_and_commit.ensures.modified h').contents n (not_written s.size k k' c.args.ppn c.args.protection c.in-Ok.first c.make_in_core.new.set whole made n is.from is.apart is.used))))
     (λ h' ok.
     let h : s.honest = c.write_and_commit.ensures.same.was_honest h' in
     let at = c.self.invariant.rest h ok in
@@ -58,7 +58,7 @@ returns-in-Ok-write_and_commit-clause-kept g c = rw (← c.self.view_is) (λ h n
     let whole = c.self.invariant.whole.map in
     let made : IsMade s.size k k' c.args.ppn c.args.protection c.in-Ok.first c.make_in_core.new.set =
     subst (λ (b : ℕ). IsMade b k k' c.args.ppn c.args.protection c.in-Ok.first c.make_in_core.new.set) c.self.invariant.whole.map.size_is c.in-Ok.ensures.made in
-    (c.in-Ok-write_and_commit.ensures.touched h).contents n (not_written s.size k k' c.args.ppn c.args.protection c.in-Ok.first c.make_in_core.new.set whole made n from none used))
+    (c.in-Ok-write_and_commit.ensures.modified h).contents n (not_written s.size k k' c.args.ppn c.args.protection c.in-Ok.first c.make_in_core.new.set whole made n from none used))
 
 pub returns-in-Err-write_and_commit-clause-crash : goal.returns-in-Err-write_and_commit-clause-crash
 returns-in-Err-write_and_commit-clause-crash g c = rw (← c.self.view_is) (λ h f rests.
@@ -116,7 +116,7 @@ returns-in-Ok-write_and_commit-clause-readers g c = rw (← c.self.view_is) (λ 
     let made : IsMade s.size k k' c.args.ppn c.args.protection c.in-Ok.first c.make_in_core.new.set =
     subst (λ (b : ℕ). IsMade b k k' c.args.ppn c.args.protection c.in-Ok.first c.make_in_core.new.set) c.self.invariant.whole.map.size_is c.in-Ok.ensures.made in
     used_read s.size (core_of c.self.inside.map) c.self.invariant.whole s.contents s'.contents
-    (λ n is. (c.in-Ok-write_and_commit.ensures.touched h).contents n (not_written s.size k k' c.args.ppn c.args.protection c.in-Ok.first c.make_in_core.new.set whole made n is.from is.apart is.used)))
+    (λ n is. (c.in-Ok-write_and_commit.ensures.modified h).contents n (not_written s.size k k' c.args.ppn c.args.protection c.in-Ok.first c.make_in_core.new.set whole made n is.from is.apart is.used)))
 
 pub returns-in-Ok-write_and_commit-clause-writers : goal.returns-in-Ok-write_and_commit-clause-writers
 returns-in-Ok-write_and_commit-clause-writers g c = rw (← c.self.view_is) (λ h served.
@@ -128,7 +128,7 @@ returns-in-Ok-write_and_commit-clause-writers g c = rw (← c.self.view_is) (λ 
     let made : IsMade s.size k k' c.args.ppn c.args.protection c.in-Ok.first c.make_in_core.new.set =
     subst (λ (b : ℕ). IsMade b k k' c.args.ppn c.args.protection c.in-Ok.first c.make_in_core.new.set) c.self.invariant.whole.map.size_is c.in-Ok.ensures.made in
     used_written s.size (core_of c.self.inside.map) c.self.invariant.whole s.contents s'.contents
-    (λ n is. (c.in-Ok-write_and_commit.ensures.touched h).contents n (not_written s.size k k' c.args.ppn c.args.protection c.in-Ok.first c.make_in_core.new.set whole made n is.from is.apart is.used)))
+    (λ n is. (c.in-Ok-write_and_commit.ensures.modified h).contents n (not_written s.size k k' c.args.ppn c.args.protection c.in-Ok.first c.make_in_core.new.set whole made n is.from is.apart is.used)))
 
 pub returns-in-Err-write_and_commit-clause-readers : goal.returns-in-Err-write_and_commit-clause-readers
 returns-in-Err-write_and_commit-clause-readers g c = rw (← c.self.view_is) (λ h served. absurd (served refl))

@@ -1,0 +1,28 @@
+-- A line of an input while its bytes come in, and the line that it is in the end.
+use Rattle.std.specs.Prelude.{◌≡◌, ℕ, ◌<◌, ◌≤◌, Bool, true, false, List, [], ◌∷◌, length, map, Option, Some, None}
+use Rattle.meaning.specs.Lines.{Line, Bytes, TooLong, upper}
+use Rattle.commands.specs.declared.input.PartialLine.{PartialLine}
+use Rattle.commands.specs.declared.input.InputLine.{InputLine}
+use Rattle.commands.specs.declared.input.InputLine.TheVariants.{Text as ItsText, TooLong as ItsLength}
+
+-- Of the bytes of a line up to here these are kept, in upper case; of too many nothing but that there are too many.
+abbrev pub Keeps : Bool → List ℕ → List ℕ → Type 0
+Keeps false kept seen = (kept ≡ map upper seen) × (length seen ≤ 255)
+Keeps true kept seen = 255 < length seen
+
+abbrev pub IsPartialLine : PartialLine → List ℕ → Type 0
+IsPartialLine held seen = Keeps held.is_too_long held.bytes.items seen
+
+-- a text in upper case as a line, where it is one
+abbrev pub text_line : List ℕ → List Line
+text_line [] = []
+text_line (b ∷ bs) = Bytes (b ∷ bs) ∷ []
+
+-- the line that this is, where there is one
+abbrev pub line_of : InputLine → Line
+line_of (ItsText text) = Bytes text.now
+line_of ItsLength = TooLong
+
+abbrev pub line_list : Option InputLine → List Line
+line_list None = []
+line_list (Some line) = line_of line ∷ []

@@ -1,0 +1,299 @@
+-- A version that was being written becomes current in core: what its steps ask for.
+use Rattle.std.proofs.Common.{◌≡◌, ◌↔◌, ℕ, zero, suc, ◌+◌, ◌-◌, ◌*◌, ◌^◌, ◌<◌, ◌≤◌, ◌==◌, Bool, true, false, if◌then◌else◌, List, [], ◌∷◌, ◌++◌, map, length, slice_get, slice_index_or, get_or, option_to_list, Option, Some, None, IfSome, IsSome, IsTrue, is_none, refl, sym, ap, subst, ◌∙◌, arith}
+use Rattle.std.proofs.Common.{append-nil}
+use Rattle.std.proofs.lemmas.List.{length-map}
+use Rattle.std.proofs.lemmas.Bool.Decides.{nat_tests}
+use Rattle.std.specs.Ordering.{nat_cmp}
+use Rattle.meaning.specs.Costs.{directory_cost, cost_of_blocks}
+use Rattle.meaning.specs.Directories.{MasterEntry, FileEntry}
+use Rattle.meaning.specs.Files.{name_cmp}
+use Rattle.meaning.specs.Maps.{total, times}
+use Rattle.meaning.specs.Retrieval.{most_blocks}
+use Rattle.meaning.proofs.MapLaws.{some_same, some_none}
+use Rattle.alloctab.specs.TableState.{TableState, IsTable, bit, holds, space, used_in_space, changed_blocks}
+use Rattle.alloctab.specs.TableLaws.{changed_blocks-le-most}
+use Rattle.directory.specs.Edits.{StandsAt, TakesBlock}
+use Rattle.changeset.specs.PutLaws.{times_head}
+use Rattle.retrieval.specs.Versions.{VersionState}
+use Rattle.retrieval.specs.Writing.{rib_count}
+use Rattle.words36.specs.declared.names.FileName.{FileName}
+use Rattle.volume.specs.declared.live.LiveDirectory.{LiveDirectory}
+use Rattle.volume.specs.declared.live.LiveMap.{LiveMap}
+use Rattle.volume.specs.declared.live.LiveVersion.{LiveVersion}
+use Rattle.volume.specs.declared.pending.PendingVersion.{PendingVersion}
+use Rattle.volume.specs.Beginning.{is_absent, IsDirectoryOf}
+use Rattle.volume.specs.Cores.{file_view, master_view}
+use Rattle.volume.specs.Known.{KnownDirectory, blocks_reached, cost_of_version, cost_of_directory, IsWholeDirectory, IsWholeVersion}
+use Rattle.volume.specs.Live.{VolumeCore, slot, pending_at, as_known, IsCurrent, IsKeyed, pending_reaches, pending_cost, creates, growths, IsWholeCore}
+use Rattle.volume.specs.LiveCores.{core_of, live_directory}
+use Rattle.volume.specs.Publishing.{PutsVersionInUse, Retires, left_of, IsPlaced}
+use Rattle.volume.proofs.Beginnings.{same_directory}
+use Rattle.volume.proofs.Costing.{few_blocks}
+use Rattle.volume.proofs.FoundDirectories.{mapped_at, zip_at, all_at}
+use Rattle.volume.proofs.Growing.{share}
+use Rattle.volume.proofs.LiveLookups.{as_many, kept_at, standing_at}
+use Rattle.volume.proofs.LiveTotals.{core_uses_more, core_used, core_holds}
+use Rattle.volume.proofs.Pinning.{total_at, current_stands}
+use Rattle.volume.proofs.MakingHeld.{element_at}
+use Rattle.volume.proofs.PuttingCore.{chains_within}
+
+-- A part of a sum.
+part_of : {X : Type 0} (f : X → ℕ) (xs : List X) (i : ℕ) (x : X) → slice_get xs i ≡ Some x → f x ≤ total f xs
+part_of f [] i x is = cc
+part_of f (y ∷ xs) zero x is = let same = ap f (some_same is) in omega arith
+part_of f (y ∷ xs) (suc i) x is = let rest = part_of f xs i x is in omega arith
+
+index_of : (xs : List ℕ) (i x : ℕ) → slice_get xs i ≡ Some x → x ≡ get_or xs i 0
+index_of [] i x is = cc
+index_of (y ∷ xs) zero x is = sym (some_same is)
+index_of (y ∷ xs) (suc i) x is = index_of xs i x is
+
+-- what stands at an index
+pub index_is : {X : Type 0} (xs : List X) (i : ℕ) (x e : X) → i < length xs → x ≡ slice_index_or xs i e → slice_get xs i ≡ Some x
+index_is [] i x e below is = absurd (omega arith)
+index_is (y ∷ xs) zero x e below is = ap Some (sym is)
+index_is (y ∷ xs) (suc i) x e below is = index_is xs i x e (omega arith) is
+
+-- a directory is there, at the place of its entry
+module _ (m : LiveMap) (whole : IsWholeCore m.table.size (core_of m)) (ppn place : ℕ) (w : ℕ × ℕ) (stands : StandsAt nat_cmp (map master_view m.master.entries) ppn w place) where
+  pub place_within : place < length m.directories.items
+  place_within =
+      let within = stands.within in
+      let aligned = whole.map.aligned in
+      let many = length-map m.directories.items (live_directory m.versions.slots) in
+      omega arith
+
+  pub directory_there : (d : LiveDirectory) × (slice_get m.directories.items place ≡ Some d)
+  directory_there = element_at m.directories.items place place_within
+
+-- one number, or none
+pub one_number : (o : Option ℕ) → length (option_to_list o) ≡ 1 → (n : ℕ) × (o ≡ Some n)
+one_number None one = absurd (omega arith)
+one_number (Some n) one = (n, refl)
+
+pub no_number : (o : Option ℕ) → length (option_to_list o) ≡ 0 → option_to_list o ≡ []
+no_number None none = refl
+no_number (Some n) none = absurd (omega arith)
+
+-- what one directory grows by is a part of what all do
+share_within : (pending : List (Option PendingVersion)) (es : List MasterEntry) (ds : List KnownDirectory) (i k : ℕ) (w : ℕ × ℕ) (d : KnownDirectory) → slice_get es i ≡ Some (k, w) → slice_get ds i ≡ Some d → share pending k d ≤ growths pending es ds
+share_within pending [] ds i k w d is at = cc
+share_within pending (e ∷ es) [] i k w d is at = cc
+share_within pending (e ∷ es) (x ∷ ds) zero k w d is at =
+    let key : e.0 ≡ k = ap (λ (y : MasterEntry). y.0) (some_same is) in
+    let same : share pending e.0 x ≡ share pending k d = λ j. share pending (key j) (some_same at j) in
+    omega arith
+share_within pending (e ∷ es) (x ∷ ds) (suc i) k w d is at = let rest = share_within pending es ds i k w d is at in omega arith
+
+-- a chain whose last block is full takes one more for the next entry
+full_grows : (entries blocks more : ℕ) → blocks ≡ directory_cost entries → entries ≡ 42 * blocks → 0 < more → 1 ≤ directory_cost (entries + more) - directory_cost entries
+full_grows entries blocks more counted full some = grind (arith, nat_tests)
+
+module _ (m : LiveMap) (whole : IsWholeCore m.table.size (core_of m)) (key : ℕ) (p : PendingVersion) (was : pending_at m.pending.slots key ≡ Some p) (placed : IsPlaced (core_of m) p)
+    (place : ℕ) (w : ℕ × ℕ) (stands : StandsAt nat_cmp (map master_view m.master.entries) p.prime.ppn w place) (d : LiveDirectory) (at : slice_get m.directories.items place ≡ Some d) where
+  abbrev c : VolumeCore
+  c = core_of m
+
+  abbrev dk : KnownDirectory
+  dk = live_directory m.versions.slots d
+
+  pub known_place : slice_get c.known.directories place ≡ Some dk
+  known_place = mapped_at (live_directory m.versions.slots) m.directories.items place d at
+
+  pub keys_place : slice_get c.keys place ≡ Some d.keys.items
+  keys_place = mapped_at (λ (x : LiveDirectory). x.keys.items) m.directories.items place d at
+
+  pub is_directory : IsDirectoryOf c p.prime.ppn dk
+  is_directory = (place, w, stands, known_place)
+
+  pub placed_here : placed.directory ≡ dk
+  placed_here = same_directory m.table.size c p.prime.ppn place w placed.directory dk whole placed.there stands.is known_place
+
+  pub new_here : p.is_new ≡ is_absent p.prime.file dk
+  new_here = placed.is_new ∙ ap (is_absent p.prime.file) placed_here
+
+  pub keyed_here : IsKeyed c.live dk d.keys.items
+  keyed_here =
+      let pair = zip_at (IsKeyed c.live) c.known.directories c.keys place d.keys.items whole.keyed keys_place in
+      subst (λ (x : KnownDirectory). IsKeyed c.live x d.keys.items) (some_same (sym pair.1 ∙ known_place)) pair.2
+
+  pub whole_here : IsWholeDirectory m.table.size dk
+  whole_here = all_at (IsWholeDirectory m.table.size) c.known.directories place dk whole.map.each known_place
+
+  pub as_many_keys : length d.keys.items ≡ length d.chain.entries
+  as_many_keys = as_many c.live dk.chain.entries d.keys.items keyed_here ∙ length-map d.chain.entries file_view
+
+  -- What the version's blocks ask for.
+
+  pub version_held : (n : ℕ) → times n p.version.blocks ≤ holds m.table n
+  version_held n =
+      let part = total_at (pending_reaches n) refl c.pending key in
+      let here = ap (pending_reaches n) was in
+      let all = whole.held n in
+      omega arith
+
+  pub version_own : (n : ℕ) → 0 < times n p.version.blocks → bit m.table n + holds m.table n ≤ 1
+  version_own n some =
+      let part = total_at (pending_reaches n) refl c.pending key in
+      let here = ap (pending_reaches n) was in
+      whole.own n (omega arith)
+
+  pub within_space : m.table.booked ≤ space m.table.size
+  within_space =
+      let part = total_at pending_cost refl c.pending key in
+      let here = ap pending_cost was in
+      whole.within (omega arith)
+
+  grown_booked : (grows : Bool) → (IsTrue grows ↔ TakesBlock name_cmp dk.chain p.prime.file) → (if grows then 1 else 0) ≤ growths c.pending c.known.master.entries c.known.directories
+  grown_booked false takes = omega arith
+  grown_booked true takes =
+      let full = takes.0 refl in
+      let new : p.is_new ≡ true = new_here ∙ ap is_none full.0 in
+      let part = total_at (creates p.prime.ppn) refl c.pending key in
+      let here = ap (creates p.prime.ppn) was in
+      let one : creates p.prime.ppn (Some p) ≡ 1 = ap (λ (b : Bool). if b then (if p.prime.ppn == p.prime.ppn then 1 else 0) else 0) new ∙ itself p.prime.ppn in
+      let within = share_within c.pending c.known.master.entries c.known.directories place p.prime.ppn w dk stands.is known_place in
+      let more = full_grows (length dk.chain.entries) (length dk.chain.blocks) (total (creates p.prime.ppn) c.pending) whole_here.chain.counted full.1 (omega arith) in
+      omega arith
+    where
+      itself : (n : ℕ) → ◌≡◌ {A = ℕ} (if n == n then 1 else 0) 1
+      itself n = grind (arith, nat_tests)
+
+  pub blocks_booked : (grows : Bool) (ribs : ℕ) → (IsTrue grows ↔ TakesBlock name_cmp dk.chain p.prime.file) → ribs ≡ rib_count (length p.version.blocks) → used_in_space m.table + (if grows then 1 else 0) + (1 + ribs) ≤ m.table.booked
+  blocks_booked grows ribs takes many =
+      let all = core_uses_more m.table.size c whole key p was (if grows then 1 else 0) (grown_booked grows takes) in
+      let most = core_used m.table.size c whole in
+      omega arith
+
+  -- a block that was free stands in no chain
+  pub free_elsewhere : (n : ℕ) → bit m.table n ≡ 0 → times n d.chain.blocks ≡ 0
+  free_elsewhere n clear =
+      let part = part_of (λ (x : KnownDirectory). times n x.chain.blocks) c.known.directories place dk known_place in
+      let bits = whole.map.bits n in
+      let chains = chains_within n c.known.directories in
+      omega arith
+
+  -- The version that the name had.
+
+  pub old_version : (i v k : ℕ) → StandsAt name_cmp (map file_view d.chain.entries) p.prime.file v i → slice_get d.keys.items i ≡ Some k
+      → (u : LiveVersion) × (slot m.versions.slots k ≡ Some u) × (u.is_current ≡ true) × (u.at ≡ v) × (slice_get dk.versions i ≡ Some (as_known u))
+  old_version i v k named is =
+      let pair = zip_at (λ (e : FileEntry) (n : ℕ). IsCurrent c.live n e.1) dk.chain.entries d.keys.items i k keyed_here is in
+      let entry : pair.0 ≡ (p.prime.file, v) = some_same (sym pair.1 ∙ named.is) in
+      let current = pair.2 in
+      let kept = kept_at c.live dk.chain.entries d.keys.items i k 0 keyed_here named.within (index_of d.keys.items i k is) in
+      let same : kept.0 ≡ current.version = some_same (sym kept.1 ∙ current.there) in
+      (current.version, current.there, current.current, current.at ∙ ap (λ (e : FileEntry). e.1) entry, kept.2 ∙ ap (λ (x : LiveVersion). Some (as_known x)) same)
+
+  pub old_set : (k : ℕ) (u : LiveVersion) → slot m.versions.slots k ≡ Some u → u.is_current ≡ true → (n : ℕ) → times n (blocks_reached u.at u.version) ≤ bit m.table n
+  old_set k u there current n =
+      let stand = current_stands m.table.size c whole k u there current n in
+      let bits = whole.map.bits n in
+      omega arith
+
+  pub old_few : (k : ℕ) (u : LiveVersion) → slot m.versions.slots k ≡ Some u → length u.version.blocks ≤ most_blocks
+  old_few k u there = few_blocks (as_known u) (standing_at (λ v. IsWholeVersion (as_known v)) m.versions.slots k u whole.standing there)
+
+  pub old_booked : (i : ℕ) (u : LiveVersion) → slice_get dk.versions i ≡ Some (as_known u) → cost_of_blocks (length u.version.blocks) ≤ m.table.booked
+  old_booked i u is =
+      let one = part_of cost_of_version dk.versions i (as_known u) is in
+      let all = part_of cost_of_directory c.known.directories place dk known_place in
+      let booked = whole.booked in
+      omega arith
+
+  pub holds_few : (n : ℕ) → holds m.table n + 1 < 2 ^ 32
+  holds_few n =
+      let few = core_holds m.table.size c whole n in
+      let most = within_space in
+      let large = whole.map.volume.large in
+      omega arith
+
+  -- What follows for the version before, once the new one has a key and its blocks are in use.
+  module _ (o : Option ℕ) (name : FileName) (same : name ≡ p.prime.file) (now : List ℕ → ℕ → Type 0)
+      (replaced : IfSome o (λ k. (i : ℕ) × (v : ℕ) × StandsAt name_cmp (map file_view d.chain.entries) name v i × (slice_get d.keys.items i ≡ Some k) × now d.keys.items i))
+      (versions : List (Option LiveVersion)) (stay : (k : ℕ) (v : LiveVersion) → slot m.versions.slots k ≡ Some v → slot versions k ≡ Some v)
+      (t : TableState) (grown : List ℕ) (prime : ℕ) (ver : VersionState) (puts_in_use : PutsVersionInUse m.table t grown prime ver) where
+    -- the one under that key
+    abbrev OldAt : ℕ → Type 0
+    OldAt k = (u : LiveVersion) × (slot m.versions.slots k ≡ Some u) × (slot versions k ≡ Some u) × (u.is_current ≡ true) × (i : ℕ) × (slice_get dk.versions i ≡ Some (as_known u))
+
+    old_at : (q : Option ℕ) → IfSome q (λ k. (i : ℕ) × (v : ℕ) × StandsAt name_cmp (map file_view d.chain.entries) name v i × (slice_get d.keys.items i ≡ Some k) × now d.keys.items i) → IfSome q OldAt
+    old_at None none = tt
+    old_at (Some k) is =
+        let u = old_version is.0 is.1 k (subst (λ n. StandsAt name_cmp (map file_view d.chain.entries) n is.1 is.0) same is.2) is.3 in
+        (u.0, u.1, stay k u.0 u.1, u.2, is.0, u.4)
+
+    by_slot : (P : LiveVersion → Type 0) (q : Option LiveVersion) (u : LiveVersion) → q ≡ Some u → P u → IfSome q P
+    by_slot P None u is has = cc
+    by_slot P (Some v) u is has = subst P (sym (some_same is)) has
+
+    each_old : (Q : ℕ → Type 0) → ((k : ℕ) → OldAt k → Q k) → IfSome o Q
+    each_old Q give = by o (old_at o replaced)
+      where
+        by : (q : Option ℕ) → IfSome q OldAt → IfSome q Q
+        by None none = tt
+        by (Some k) is = give k is
+
+    pub retires_there : IfSome o (λ k. IsSome (slot versions k))
+    retires_there = each_old (λ k. IsSome (slot versions k)) (λ k is. subst IsSome (sym is.2) refl)
+
+    pub retires_set : IfSome o (λ k. IfSome (slot versions k) (λ v. (n : ℕ) → times n (blocks_reached v.at v.version) ≤ bit t n))
+    retires_set = each_old (λ k. IfSome (slot versions k) (λ v. (n : ℕ) → times n (blocks_reached v.at v.version) ≤ bit t n))
+        (λ k is. by_slot (λ v. (n : ℕ) → times n (blocks_reached v.at v.version) ≤ bit t n) (slot versions k) is.0 is.2
+        (λ n. let set = old_set k is.0 is.1 is.3 n in let more = puts_in_use.bits n in omega arith))
+
+    pub retires_few : IfSome o (λ k. IfSome (slot versions k) (λ v. length v.version.blocks ≤ most_blocks))
+    retires_few = each_old (λ k. IfSome (slot versions k) (λ v. length v.version.blocks ≤ most_blocks))
+        (λ k is. by_slot (λ v. length v.version.blocks ≤ most_blocks) (slot versions k) is.0 is.2 (old_few k is.0 is.1))
+
+    pub retires_booked : IfSome o (λ k. IfSome (slot versions k) (λ v. cost_of_blocks (length v.version.blocks) ≤ t.booked))
+    retires_booked = each_old (λ k. IfSome (slot versions k) (λ v. cost_of_blocks (length v.version.blocks) ≤ t.booked))
+        (λ k is. by_slot (λ v. cost_of_blocks (length v.version.blocks) ≤ t.booked) (slot versions k) is.0 is.2
+        (let booked = old_booked is.4 is.0 is.5 in let kept = puts_in_use.booked in omega arith))
+
+    pub retires_fits : IfSome o (λ k. (n : ℕ) → holds t n + 1 < 2 ^ 32)
+    retires_fits = each_old (λ k. (n : ℕ) → holds t n + 1 < 2 ^ 32) (λ k is n. let few = holds_few n in let less = puts_in_use.held n in omega arith)
+
+    -- the new version stands under its key, whatever becomes of the old one
+    pub new_stands : (after : List (Option LiveVersion)) (new_key : ℕ) (new : LiveVersion) → slot m.versions.slots new_key ≡ None → slot versions new_key ≡ Some new
+        → ((k j : ℕ) → o ≡ Some k → (j ≡ k → ⊥) → slot after j ≡ slot versions j) → (o ≡ None → after ≡ versions) → slot after new_key ≡ Some new
+    new_stands after new_key new vacant there others none = by o refl (old_at o replaced)
+      where
+        by : (q : Option ℕ) → o ≡ q → IfSome q OldAt → slot after new_key ≡ Some new
+        by None is is_old = ap (λ l. slot l new_key) (none is) ∙ there
+        by (Some k) is is_old = others k new_key is (λ same. some_none (sym is_old.1 ∙ ap (slot m.versions.slots) (sym same) ∙ vacant)) ∙ there
+
+    -- the table is sound at the end
+    pub retired_sound : (after : TableState) → ((k : ℕ) (v : LiveVersion) → o ≡ Some k → slot versions k ≡ Some v → Retires t after v (left_of (Some (k, v)))) → (o ≡ None → after ≡ t) → IsTable after
+    retired_sound after retired none = by o refl (old_at o replaced)
+      where
+        by : (q : Option ℕ) → o ≡ q → IfSome q OldAt → IsTable after
+        by None is is_old = subst IsTable (sym (none is)) puts_in_use.marks.sound
+        by (Some k) is is_old = (retired k is_old.0 is is_old.2).marks.sound
+
+  -- the chain has its block more where it grows
+  pub chain_grown : (grows : Bool) (o : Option ℕ) (name : FileName) (blocks : List ℕ) → name ≡ p.prime.file → (IsTrue grows ↔ TakesBlock name_cmp dk.chain p.prime.file) → length (option_to_list o) ≡ (if grows then 1 else 0)
+      → ((TakesBlock name_cmp dk.chain name → ⊥) → blocks ≡ d.chain.blocks) → ((n : ℕ) → TakesBlock name_cmp dk.chain name → o ≡ Some n → blocks ≡ d.chain.blocks ++ n ∷ []) → blocks ≡ d.chain.blocks ++ option_to_list o
+  chain_grown true o name blocks same takes count stays more =
+      let one = one_number o count in
+      more one.0 (subst (TakesBlock name_cmp dk.chain) (sym same) (takes.0 refl)) one.1 ∙ ap (λ (q : Option ℕ). d.chain.blocks ++ option_to_list q) (sym one.1)
+  chain_grown false o name blocks same takes count stays more =
+      stays (λ full. let yes : false ≡ true = takes.1 (subst (TakesBlock name_cmp dk.chain) same full) in cc) ∙ sym (ap (λ (ns : List ℕ). d.chain.blocks ++ ns) (no_number o count) ∙ append-nil d.chain.blocks)
+
+  -- that block stands in no chain
+  pub grown_free : (grows : Bool) (o : Option ℕ) (name : FileName) (t : TableState) (prime : ℕ) (ver : VersionState) → name ≡ p.prime.file → (IsTrue grows ↔ TakesBlock name_cmp dk.chain p.prime.file) → length (option_to_list o) ≡ (if grows then 1 else 0)
+      → PutsVersionInUse m.table t (option_to_list o) prime ver → TakesBlock name_cmp dk.chain name → (n : ℕ) × (o ≡ Some n) × (times n d.chain.blocks ≡ 0)
+  grown_free grows o name t prime ver same takes count puts_in_use full = by grows (takes.1 (subst (TakesBlock name_cmp dk.chain) same full)) count
+    where
+      by : (b : Bool) → IsTrue b → length (option_to_list o) ≡ (if b then 1 else 0) → (n : ℕ) × (o ≡ Some n) × (times n d.chain.blocks ≡ 0)
+      by false holds count = cc
+      by true holds count =
+          let one = one_number o count in
+          let list : option_to_list o ≡ one.0 ∷ [] = ap option_to_list one.1 in
+          let here : times one.0 (option_to_list o ++ prime ∷ ver.ribs) ≡ times one.0 (one.0 ∷ prime ∷ ver.ribs) = ap (λ (ns : List ℕ). times one.0 (ns ++ prime ∷ ver.ribs)) list in
+          let first = times_head one.0 one.0 (prime ∷ ver.ribs) refl in
+          (one.0, one.1, free_elsewhere one.0 (puts_in_use.free one.0 (omega arith)).0.clear)
+
+-- no more blocks are put than the log has room for
+pub changed_many : (t : TableState) (count : ℕ) → IsTable t → count ≤ 2 → count + changed_blocks t ≤ 37
+changed_many t count sound few = let most = changed_blocks-le-most t sound in omega arith

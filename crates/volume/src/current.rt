@@ -1,0 +1,289 @@
+ghost use Rattle.std.specs.Prelude.{◌≡◌, ◌↔◌, ◌+◌, ◌<◌, ◌≤◌, ◌^◌, ◌++◌, ◌∷◌, [], ℕ, List, if◌then◌else◌, length, map, slice_get, slice_set, option_to_list, Some, None, IsSome, IfSome, IfNone, IsTrue};
+ghost use Rattle.std.specs.Ordering.{nat_cmp};
+ghost use Rattle.std.specs.FinMap.Entries.{find};
+ghost use Rattle.meaning.specs.Costs.{cost_of_blocks};
+ghost use Rattle.meaning.specs.Directories.{file_words, IsFileEntry};
+ghost use Rattle.meaning.specs.Files.{name_cmp};
+ghost use Rattle.meaning.specs.Maps.{insert, from_entries, times};
+ghost use Rattle.meaning.specs.Retrieval.{most_blocks};
+ghost use Rattle.alloctab.specs.TableState.{IsTable, bit, holds, space, used_in_space};
+ghost use Rattle.directory.specs.Chains.{IsChain, viewed};
+ghost use Rattle.directory.specs.Edits.{StandsAt, TakesBlock, IsReserve, PutsChain, inserted};
+ghost use Rattle.retrieval.specs.Writing.{rib_count, Takes, IsFixed};
+ghost use Rattle.slab.specs.Slab.{HasRoomFor};
+ghost use Rattle.volume.specs.Cores.{file_view, master_view};
+ghost use Rattle.volume.specs.Known.{blocks_reached};
+ghost use Rattle.volume.specs.Live.{slot, pending_at, IsWholeCore};
+ghost use Rattle.volume.specs.LiveCores.{core_of};
+ghost use Rattle.volume.specs.Publishing.{ClearsBits, PutsVersionInUse, Retires, left_of, MakesCurrent, IsPlaced, IsSupplied};
+ghost use Rattle.volume.specs.declared.live.LiveDirectory.{LiveDirectory};
+ghost use Rattle.volume.specs.declared.live.LiveVersion.{LiveVersion};
+ghost use Rattle.volume.specs.declared.pending.PendingVersion.{PendingVersion};
+
+use crate::blocks::{bring_all, clear_all, hold_all};
+use crate::cost::version_cost;
+use crate::live::{LiveDirectory, LiveMap, LiveVersion};
+use crate::make::use_block;
+use crate::pending::PendingVersion;
+use crate::query::directory_place;
+use crate::supplies::Supplies;
+use alloctab::Table;
+use changeset::ChangeSet;
+use directory::{Chain, FileEntry, MasterEntry, Reserve};
+use retrieval::{Version, take_retrieval_blocks};
+use slab::Slab;
+use words36::{FileName, Ppn};
+
+/// Where a version comes to stand: its prime block, and the block by which the chain of its directory grows.
+#[derive(Clone, Copy)]
+pub(crate) struct Places {
+    /// The prime block.
+    pub at: u32,
+    /// The new last block of the chain, where the one before is full.
+    pub grown: Option<u32>,
+}
+
+/// Takes a block for a chain, where it grows.
+fn take_for_chain(table: &mut Table, grows: bool) -> Option<u32>
+    requires used { used_in_space table.old + (if grows then 1 else 0) ≤ table.old.booked }
+    requires room { table.old.booked ≤ space table.old.size }
+    ensures taken { Takes table.old (option_to_list result) table.new }
+    ensures count { length (option_to_list result) ≡ (if grows then 1 else 0) }
+{
+    if grows {
+        Some(table.take_block())
+    } else {
+        None
+    }
+}
+
+/// Takes the blocks that a version wants besides its data blocks, and brings all of them into use: their bits are
+/// set, and none is held for it any more. `ribs` is a list with a place for each rib.
+pub(crate) fn use_version(
+    table: &mut Table,
+    version: &mut Version,
+    ribs: Vec<u32>,
+    grows: bool,
+) -> Places
+    requires sound { IsTable table.old }
+    requires fixed { IsFixed table.old }
+    requires used { used_in_space table.old + (if grows then 1 else 0) + (1 + length ribs.items) ≤ table.old.booked }
+    requires room { table.old.booked ≤ space table.old.size }
+    requires held { (n : ℕ) → times n version.old.blocks ≤ holds table.old n }
+    requires own { (n : ℕ) → 0 < times n version.old.blocks → bit table.old n + holds table.old n ≤ 1 }
+    ensures kept { version.new ≡ record version.old { ribs = version.new.ribs } }
+    ensures count { length version.new.ribs ≡ length ribs.items }
+    ensures grown { length (option_to_list result.grown) ≡ (if grows then 1 else 0) }
+    ensures put_in_use { PutsVersionInUse table.old table.new (option_to_list result.grown) result.at version.new }
+{
+    let grown = take_for_chain(table, grows);
+    let at = take_retrieval_blocks(table, version, ribs);
+    use_block(table, at);
+    bring_all(table, version.ribs());
+    bring_all(table, version.blocks());
+    if let Some(n) = grown {
+        use_block(table, n);
+    }
+    Places { at, grown }
+}
+
+/// Gives a name its entry in a directory in core, with the key of its version. Answers the key of the version that
+/// it had. `reserve` and `keys` are lists with a place for it, where its name is new.
+fn put_entry(
+    directory: &mut LiveDirectory,
+    reserve: Reserve<FileEntry>,
+    keys: Vec<usize>,
+    entry: FileEntry,
+    key: usize,
+    grown: Option<u32>,
+    set: &mut ChangeSet,
+) -> Option<usize>
+    requires reserve { IsReserve name_cmp (viewed file_view directory.old.chain) entry.name (viewed file_view reserve) }
+    requires keys { find name_cmp entry.name (map file_view directory.old.chain.entries) ≡ None → (k : ℕ) × (keys.items ≡ directory.old.keys.items ++ k ∷ []) }
+    requires grown { TakesBlock name_cmp (viewed file_view directory.old.chain) entry.name → (n : ℕ) × (grown ≡ Some n) × (times n directory.old.chain.blocks ≡ 0) }
+    requires aligned { length directory.old.keys.items ≡ length directory.old.chain.entries }
+    requires empty { set.old ≡ [] }
+    ensures items { map file_view directory.new.chain.entries ≡ inserted name_cmp (map file_view directory.old.chain.entries) (file_view entry) }
+    ensures map { from_entries {R = name_cmp} (map file_view directory.new.chain.entries) ≡ insert (from_entries (map file_view directory.old.chain.entries)) entry.name entry.prime }
+    ensures same { (TakesBlock name_cmp (viewed file_view directory.old.chain) entry.name → ⊥) → directory.new.chain.blocks ≡ directory.old.chain.blocks }
+    ensures more { (n : ℕ) → TakesBlock name_cmp (viewed file_view directory.old.chain) entry.name → grown ≡ Some n → directory.new.chain.blocks ≡ directory.old.chain.blocks ++ n ∷ [] }
+    ensures chain { IsChain name_cmp IsFileEntry (viewed file_view directory.new.chain) }
+    ensures put { PutsChain file_words (viewed file_view directory.old.chain) (viewed file_view directory.new.chain) [] set.new }
+    ensures few { length set.new ≤ 2 }
+    ensures replaced { IfSome result (λ old. (i : ℕ) × (w : ℕ) × StandsAt name_cmp (map file_view directory.old.chain.entries) entry.name w i × (slice_get directory.old.keys.items i ≡ Some old) × (directory.new.keys.items ≡ slice_set directory.old.keys.items i key)) }
+    ensures added { IfNone result ((find name_cmp entry.name (map file_view directory.old.chain.entries) ≡ None) × (directory.new.keys.items ≡ directory.old.keys.items ++ key ∷ [])) }
+{
+    let place = directory.chain.find(&entry.name);
+    directory.chain.insert_into(reserve, entry, grown, set);
+    let _blocks = directory.chain.blocks(); // any chain is one as it should be
+    if let Some(i) = place {
+        let old = directory.keys[i];
+        directory.keys[i] = key;
+        return Some(old);
+    }
+    directory.keys = keys;
+    let last = directory.keys.len() - 1;
+    directory.keys[last] = key;
+    None
+}
+
+/// The place of a directory that there is.
+fn place_of(master: &Chain<MasterEntry>, ppn: Ppn) -> usize
+    requires { find nat_cmp ppn (map master_view master.now.entries) ≡ None → ⊥ }
+    ensures { (v : ℕ × ℕ) × StandsAt nat_cmp (map master_view master.now.entries) ppn v result }
+{
+    match directory_place(master, ppn) {
+        Ok(place) => place,
+        Err(_) => unreachable!(), // it is there
+    }
+}
+
+/// The entry of a name that isn't zero.
+fn file_entry(name: FileName, prime: u32) -> FileEntry
+    requires { 0 < name.name }
+    ensures name { result.name ≡ name }
+    ensures prime { result.prime ≡ prime }
+{
+    match FileEntry::new(name, prime) {
+        Some(entry) => entry,
+        None => unreachable!(), // the name isn't zero
+    }
+}
+
+/// Whether the chain at a place takes a block for an entry with this name.
+fn takes_block(core: &LiveMap, place: usize, name: &FileName) -> bool
+    requires { place < length core.now.directories.items }
+    ensures { (d : LiveDirectory) → slice_get core.now.directories.items place ≡ Some d → (IsTrue result ↔ TakesBlock name_cmp (viewed file_view d.chain) name.now) }
+{
+    let chain = &core.directories[place].chain;
+    chain.find(name).is_none() && chain.needs_block()
+}
+
+/// Makes the version under a key, which was being written, the file of its name in core, with the puts that will make it
+/// so on the disk once its retrieval blocks are written. Answers its key among the versions that stand.
+pub(crate) fn make_current(
+    core: &mut LiveMap,
+    key: usize,
+    supplies: Supplies,
+    set: &mut ChangeSet,
+) -> usize
+    requires whole { IsWholeCore core.old.table.size (core_of core.old) }
+    requires there { IsSome (pending_at (core_of core.old).pending key) }
+    requires placed { (p : PendingVersion) → pending_at (core_of core.old).pending key ≡ Some p → IsPlaced (core_of core.old) p }
+    requires ribs { (p : PendingVersion) → pending_at (core_of core.old).pending key ≡ Some p → length supplies.ribs.items ≡ rib_count (length p.version.blocks) }
+    requires supplied { (p : PendingVersion) → pending_at (core_of core.old).pending key ≡ Some p → IsSupplied (core_of core.old) p (viewed file_view supplies.reserve) supplies.keys.items }
+    requires slot { HasRoomFor core.old.versions 1 }
+    requires empty { set.old ≡ [] }
+    ensures { (p : PendingVersion) → pending_at (core_of core.old).pending key ≡ Some p
+        → (at : ℕ) × (ribs : List ℕ) × (makes_current : MakesCurrent core.old.table.size (core_of core.old) (core_of core.new) key p at ribs set.new) × (result ≡ makes_current.new_key) }
+{
+    let Some(
+        PendingVersion {
+            prime,
+            mut version,
+            ..
+        },
+    ) = core.pending.try_remove(key)
+    else {
+        unreachable!() // there is one
+    };
+    let Supplies {
+        ribs,
+        reserve,
+        keys,
+    } = supplies;
+    let _booked = core.table.booked(); // any table is one as it should be
+    let place = place_of(&core.master, prime.ppn);
+    let grows = takes_block(core, place, &prime.file);
+    let Places { at, grown } = use_version(&mut core.table, &mut version, ribs, grows);
+    let entry = file_entry(prime.file, at);
+    let current = core.versions.insert_reserved(LiveVersion {
+        prime,
+        version,
+        at,
+        readers: 0,
+        is_current: true,
+    });
+    let old = put_entry(
+        &mut core.directories[place],
+        reserve,
+        keys,
+        entry,
+        current,
+        grown,
+        set,
+    );
+    retire_before(&mut core.versions, &mut core.table, old);
+    core.table.changes(set);
+    current
+}
+
+/// Clears the bits of a version's blocks.
+fn clear_version(table: &mut Table, version: &LiveVersion)
+    requires sound { IsTable table.old }
+    requires set { (n : ℕ) → times n (blocks_reached version.now.at version.now.version) ≤ bit table.old n }
+    ensures { ClearsBits table.old table.new (blocks_reached version.now.at version.now.version) }
+{
+    table.clear(version.at);
+    clear_all(table, version.version.ribs());
+    clear_all(table, version.version.blocks());
+}
+
+/// Holds a version's blocks.
+fn hold_version(table: &mut Table, version: &LiveVersion)
+    requires sound { IsTable table.old }
+    requires inside { (n : ℕ) → 0 < times n (blocks_reached version.now.at version.now.version) → n < table.old.size }
+    requires fits { (n : ℕ) → holds table.old n + times n (blocks_reached version.now.at version.now.version) < 2 ^ 32 }
+    ensures held { (n : ℕ) → holds table.new n ≡ holds table.old n + times n (blocks_reached version.now.at version.now.version) }
+    ensures rest { table.new ≡ record table.old { held = table.new.held } }
+    ensures sound { IsTable table.new }
+{
+    table.hold(version.at);
+    hold_all(table, version.version.ribs());
+    hold_all(table, version.version.blocks());
+}
+
+/// Takes the version under a key out of use: no file has it any more, so that its blocks are free on the disk.
+/// While readers hold it, its blocks are held and its cost stays booked; else it goes.
+pub(crate) fn retire(versions: &mut Slab<LiveVersion>, table: &mut Table, key: usize)
+    requires sound { IsTable table.old }
+    requires there { IsSome (slot versions.old.slots key) }
+    requires set { IfSome (slot versions.old.slots key) (λ v. (n : ℕ) → times n (blocks_reached v.at v.version) ≤ bit table.old n) }
+    requires few { IfSome (slot versions.old.slots key) (λ v. length v.version.blocks ≤ most_blocks) }
+    requires booked { IfSome (slot versions.old.slots key) (λ v. cost_of_blocks (length v.version.blocks) ≤ table.old.booked) }
+    requires fits { (n : ℕ) → holds table.old n + 1 < 2 ^ 32 }
+    ensures retired { (v : LiveVersion) → slot versions.old.slots key ≡ Some v → Retires table.old table.new v (left_of (Some (key, v))) }
+    ensures left { (v : LiveVersion) → slot versions.old.slots key ≡ Some v → slot versions.new.slots key ≡ left_of (Some (key, v)) }
+    ensures others { (k : ℕ) → (k ≡ key → ⊥) → slot versions.new.slots k ≡ slot versions.old.slots k }
+{
+    let Some(version) = versions.get_mut(key) else {
+        unreachable!() // there is one
+    };
+    clear_version(table, version);
+    if version.readers > 0 {
+        hold_version(table, version);
+        version.is_current = false;
+        return;
+    }
+    table.unbook(version_cost(&version.version));
+    let _gone = versions.try_remove(key);
+}
+
+/// Takes the version under a key out of use, where an entry had one.
+fn retire_before(versions: &mut Slab<LiveVersion>, table: &mut Table, old: Option<usize>)
+    requires sound { IsTable table.old }
+    requires there { IfSome old (λ key. IsSome (slot versions.old.slots key)) }
+    requires set { IfSome old (λ key. IfSome (slot versions.old.slots key) (λ v. (n : ℕ) → times n (blocks_reached v.at v.version) ≤ bit table.old n)) }
+    requires few { IfSome old (λ key. IfSome (slot versions.old.slots key) (λ v. length v.version.blocks ≤ most_blocks)) }
+    requires booked { IfSome old (λ key. IfSome (slot versions.old.slots key) (λ v. cost_of_blocks (length v.version.blocks) ≤ table.old.booked)) }
+    requires fits { IfSome old (λ key. (n : ℕ) → holds table.old n + 1 < 2 ^ 32) }
+    ensures retired { (key : ℕ) (v : LiveVersion) → old ≡ Some key → slot versions.old.slots key ≡ Some v → Retires table.old table.new v (left_of (Some (key, v))) }
+    ensures left { (key : ℕ) (v : LiveVersion) → old ≡ Some key → slot versions.old.slots key ≡ Some v → slot versions.new.slots key ≡ left_of (Some (key, v)) }
+    ensures others { (key k : ℕ) → old ≡ Some key → (k ≡ key → ⊥) → slot versions.new.slots k ≡ slot versions.old.slots k }
+    ensures none { old ≡ None → (versions.new ≡ versions.old) × (table.new ≡ table.old) }
+{
+    let Some(key) = old else {
+        return;
+    };
+    retire(versions, table, key);
+}
