@@ -135,7 +135,7 @@ module _ {S : Type 0} (machine : S → Machine) where
       pack = p.pack;
       was_honest = p.was_honest;
       went = λ h first serves served.
-          let one = p.answers h first serves (served.0 event refl) in
+          let one = p.answers h first serves served.0 in
           (one.0, one.1, answered_acts a b event reply p h first one.0 serves one.1 one.2);
     }
 

@@ -9,7 +9,7 @@ use Rattle.meaning.specs.Transcripts.{Speaks, Orders}
 use Rattle.meaning.specs.declared.command.Command.{Command}
 use Rattle.meaning.specs.declared.call.Event.{Event}
 use Rattle.commands.specs.Languages.{Says}
-use Rattle.commands.specs.Orders.{IsOrdered}
+use Rattle.meaning.specs.Scripts.{MeansEvent}
 use Rattle.commands.specs.Served.{MeansServed, served}
 use Rattle.commands.specs.Streams.{IsServedTranscript, spoken}
 use Rattle.commands.specs.Sessions.{HeardIn, Hears}
@@ -77,10 +77,10 @@ module _ (language : Language) (moment : Moment) where
   says_said who line meant acts said after e m p =
       subst (λ (l : Language). Says l moment who line acts said after) (sym e) (meant, m, subst (λ (o : Option Command). Speaks moment who o acts said after) (means_served line meant m) p)
 
-  says_ordered : (who : Option ℕ) (line : Line) (order : Option Event) (acts : List Act) (said : Spoken) (after : Option ℕ) → language ≡ Events → IsOrdered line moment order → Orders order acts said × (after ≡ who)
+  says_ordered : (who : Option ℕ) (line : Line) (order : Option Event) (acts : List Act) (said : Spoken) (after : Option ℕ) → language ≡ Events → MeansEvent line moment order → Orders order acts said × (after ≡ who)
       → Says language moment who line acts said after
   says_ordered who line order acts said after e m p =
-      subst (λ (l : Language). Says l moment who line acts said after) (sym e) (m.0, m.1, subst (λ (o : Option Event). Orders o acts said) m.2 p.0, p.1)
+      subst (λ (l : Language). Says l moment who line acts said after) (sym e) (order, m, p.0, p.1)
 
   -- where something was heard there is a line
   pub heard_line : (who : Option ℕ) (lines : List Line) (heard : Heard) (acts : List Act) (said : Spoken) (after : Option ℕ) → heard ≢ Nothing → HeardIn language moment lines heard → Hears moment who heard acts said after
