@@ -20,7 +20,8 @@ used_one t n not_free = by_case (bit t n) (holds t n) refl refl
 
 sum_of_ones : (f : ℕ → ℕ) (k : ℕ) → ((n : ℕ) → n < k → f n ≡ 1) → sum_below f k ≡ k
 sum_of_ones f zero h = refl
-sum_of_ones f (suc k) h = let one = h k (omega arith) in let rest = sum_of_ones f k (λ n l. h n (omega arith)) in omega arith
+sum_of_ones f (suc k) h = let one = h k (omega arith) in let rest = sum_of_ones f k (λ n l. h n (omega arith)) in
+    omega arith
 
 pub space_used : (t : TableState) → IsTable t → ((n : ℕ) → n < t.size → IsFree t n → ⊥) → used_in_space t ≡ space t.size
 space_used t sound none = sum_of_ones (λ k. used t (space_start t.size + k)) (space t.size)

@@ -1,5 +1,6 @@
 -- The bits of a table, read block after block.
-use Rattle.std.proofs.Common.{◌≡◌, ◌⊎◌, ⊎_elim, ℕ, ◌+◌, ◌*◌, ◌/◌, ◌<◌, ◌≤◌, Bool, false, List, length, Option, Some, IsSome, sym, ◌∙◌, ap, subst, arith}
+use Rattle.std.proofs.Common.{◌≡◌, ◌⊎◌, ⊎_elim, ℕ, ◌+◌, ◌*◌, ◌/◌, ◌<◌, ◌≤◌, Bool, false, List, length, Option, Some}
+use Rattle.std.proofs.Common.{IsSome, sym, ◌∙◌, ap, subst, arith}
 use Rattle.std.proofs.lemmas.Bool.{cases_eq}
 use Rattle.std.proofs.lemmas.Bool.Decides.{nat_tests}
 use Rattle.std.proofs.lemmas.List.{get_or_past}
@@ -9,21 +10,25 @@ use Rattle.meaning.specs.Table.{table_bit, bit_in, bit_of}
 use Rattle.alloctab.specs.Lists.{digit, digit_at}
 use Rattle.alloctab.specs.Reading.{IsTableOf, IsBadTableBlock, ReadsBits}
 
-pub table_bit_in : (size : ℕ) (c : Contents) (n : ℕ) → n / 4608 < table_blocks size → table_bit size c n ≡ bit_in (c (table_start size + n / 4608)) n
+pub table_bit_in : (size : ℕ) (c : Contents) (n : ℕ) → n / 4608 < table_blocks size
+    → table_bit size c n ≡ bit_in (c (table_start size + n / 4608)) n
 table_bit_in size c n below = let inside : n < 4608 * table_blocks size = omega arith in grind (arith, nat_tests)
 
 pub table_bit_past : (size : ℕ) (c : Contents) (n : ℕ) → table_blocks size ≤ n / 4608 → table_bit size c n ≡ 0
 table_bit_past size c n past = let outside : 4608 * table_blocks size ≤ n = omega arith in grind (arith, nat_tests)
 
 -- the bit of a block, whose table block has these words
-pub table_bit_at : (size : ℕ) (c : Contents) (words : List ℕ) (i n : ℕ) → i < table_blocks size → c (table_start size + i) ≡ Some words → n / 4608 ≡ i → table_bit size c n ≡ bit_of words n
+pub table_bit_at : (size : ℕ) (c : Contents) (words : List ℕ) (i n : ℕ) → i < table_blocks size
+    → c (table_start size + i) ≡ Some words → n / 4608 ≡ i → table_bit size c n ≡ bit_of words n
 table_bit_at size c words i n below is here =
-    table_bit_in size c n (omega arith) ∙ ap (λ (k : ℕ). bit_in (c (table_start size + k)) n) here ∙ ap (λ (block : Option (List ℕ)). bit_in block n) is
+    table_bit_in size c n (omega arith) ∙ ap (λ (k : ℕ). bit_in (c (table_start size + k)) n) here
+    ∙ ap (λ (block : Option (List ℕ)). bit_in block n) is
 
 pub in_or_past : (n k : ℕ) → (n < k) ⊎ (k ≤ n)
 in_or_past n k = grind arith
 
-pub past_the_end : (flags : List Bool) (size n : ℕ) → length flags ≡ size → table_blocks size ≤ n / 4608 → digit_at flags n ≡ 0
+pub past_the_end : (flags : List Bool) (size n : ℕ) → length flags ≡ size → table_blocks size ≤ n / 4608
+    → digit_at flags n ≡ 0
 past_the_end flags size n long past = ap digit (get_or_past flags n false (omega arith))
 
 -- The bits of the first so many table blocks are those on the disk, and none of these blocks is damaged.
@@ -32,24 +37,36 @@ pub record IsTableBelow (count size : ℕ) (contents : Contents) (bits : ℕ →
   pub undamaged : (i : ℕ) → i < count → IsSome (contents (table_start size + i))
 
 pub read_none : (size : ℕ) (c : Contents) (bits : ℕ → ℕ) → IsTableBelow 0 size c bits
-read_none size c bits = record { bits_are = λ n below. absurd (omega arith); undamaged = λ i below. absurd (omega arith) }
-
-pub read_more : (size : ℕ) (c : Contents) (i : ℕ) (old new : List Bool) → ReadsBits size c i old new → IsTableBelow i size c (digit_at old) → IsTableBelow (i + 1) size c (digit_at new)
-read_more size c i old new reads so_far = record {
-  bits_are = λ n below. ⊎_elim (λ same. reads.read n same) (λ other. reads.others n other ∙ so_far.bits_are n (omega arith)) (cases_eq (n / 4608) i);
-  undamaged = λ j below. ⊎_elim (λ same. subst (λ (k : ℕ). IsSome (c (table_start size + k))) (sym same) reads.undamaged) (λ other. so_far.undamaged j (omega arith)) (cases_eq j i);
+read_none size c bits = record {
+  bits_are = λ n below. absurd (omega arith);
+  undamaged = λ i below. absurd (omega arith);
 }
 
-pub read_all : (size : ℕ) (c : Contents) (i : ℕ) (bits : List Bool) → length bits ≡ size → table_blocks size ≤ i → i ≤ table_blocks size → IsTableBelow i size c (digit_at bits) → IsTableOf size c (digit_at bits)
+pub read_more : (size : ℕ) (c : Contents) (i : ℕ) (old new : List Bool) → ReadsBits size c i old new
+    → IsTableBelow i size c (digit_at old) → IsTableBelow (i + 1) size c (digit_at new)
+read_more size c i old new reads so_far = record {
+  bits_are = λ n below. ⊎_elim (λ same. reads.read n same) (λ other. reads.others n other
+      ∙ so_far.bits_are n (omega arith)) (cases_eq (n / 4608) i);
+  undamaged = λ j below. ⊎_elim (λ same. subst (λ (k : ℕ). IsSome (c (table_start size + k)))
+      (sym same) reads.undamaged) (λ other. so_far.undamaged j (omega arith)) (cases_eq j i);
+}
+
+pub read_all : (size : ℕ) (c : Contents) (i : ℕ) (bits : List Bool) → length bits ≡ size → table_blocks size ≤ i
+    → i ≤ table_blocks size → IsTableBelow i size c (digit_at bits) → IsTableOf size c (digit_at bits)
 read_all size c i bits long enough few so_far = record {
-  bits_are = λ n. ⊎_elim (λ below. so_far.bits_are n (omega arith)) (λ past. past_the_end bits size n long past ∙ sym (table_bit_past size c n past)) (in_or_past (n / 4608) (table_blocks size));
+  bits_are = λ n. ⊎_elim (λ below. so_far.bits_are n (omega arith)) (λ past. past_the_end bits size n long past
+      ∙ sym (table_bit_past size c n past)) (in_or_past (n / 4608) (table_blocks size));
   undamaged = λ j below. so_far.undamaged j (omega arith);
 }
 
 -- the same of a disk that holds the same
 
-pub bad_moved : (size size' : ℕ) (c c' : Contents) (n : ℕ) → size ≡ size' → c ≡ c' → IsBadTableBlock size c n → IsBadTableBlock size' c' n
-bad_moved size size' c c' n same_size same bad = subst (λ (k : ℕ). IsBadTableBlock k c' n) same_size (subst (λ (d : Contents). IsBadTableBlock size d n) same bad)
+pub bad_moved : (size size' : ℕ) (c c' : Contents) (n : ℕ) → size ≡ size' → c ≡ c' → IsBadTableBlock size c n
+    → IsBadTableBlock size' c' n
+bad_moved size size' c c' n same_size same bad = subst (λ (k : ℕ). IsBadTableBlock k c' n) same_size
+    (subst (λ (d : Contents). IsBadTableBlock size d n) same bad)
 
-pub reads_moved : (size size' : ℕ) (c c' : Contents) (i : ℕ) (old new : List Bool) → size ≡ size' → c ≡ c' → ReadsBits size c i old new → ReadsBits size' c' i old new
-reads_moved size size' c c' i old new same_size same reads = subst (λ (k : ℕ). ReadsBits k c' i old new) same_size (subst (λ (d : Contents). ReadsBits size d i old new) same reads)
+pub reads_moved : (size size' : ℕ) (c c' : Contents) (i : ℕ) (old new : List Bool) → size ≡ size' → c ≡ c'
+    → ReadsBits size c i old new → ReadsBits size' c' i old new
+reads_moved size size' c c' i old new same_size same reads = subst (λ (k : ℕ). ReadsBits k c' i old new) same_size
+    (subst (λ (d : Contents). ReadsBits size d i old new) same reads)

@@ -16,7 +16,8 @@ table_put start bits i = record { block = start + i; words = table_words bits i 
 abbrev pub with_changed : ℕ → (ℕ → ℕ) → (ℕ → Bool) → ℕ → List Put → List Put
 with_changed start bits changed zero puts = puts
 with_changed start bits changed (suc k) puts =
-    if changed k then replaced (table_put start bits k) (with_changed start bits changed k puts) else with_changed start bits changed k puts
+    if changed k then replaced (table_put start bits k) (with_changed start bits changed k puts)
+    else with_changed start bits changed k puts
 
 -- Block n of the disk is a changed table block.
 pub record IsChangedBlock (t : TableState) (n : ℕ) : Type 0 where
@@ -26,5 +27,7 @@ pub record IsChangedBlock (t : TableState) (n : ℕ) : Type 0 where
 
 -- Where the contents before are the table but for its changed blocks, those after are the table.
 pub record SpellsTable (t : TableState) (before after : Contents) : Type 0 where
-  pub bits : ((n : ℕ) → (IsChanged t (n / 4608) → ⊥) → table_bit t.size before n ≡ bit t n) → (n : ℕ) → table_bit t.size after n ≡ bit t n
-  pub undamaged : (i : ℕ) → i < table_blocks t.size → IsSome (before (table_start t.size + i)) ⊎ IsChanged t i → IsSome (after (table_start t.size + i))
+  pub bits : ((n : ℕ) → (IsChanged t (n / 4608) → ⊥) → table_bit t.size before n ≡ bit t n) → (n : ℕ)
+      → table_bit t.size after n ≡ bit t n
+  pub undamaged : (i : ℕ) → i < table_blocks t.size → IsSome (before (table_start t.size + i)) ⊎ IsChanged t i
+      → IsSome (after (table_start t.size + i))

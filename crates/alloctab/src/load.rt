@@ -16,8 +16,10 @@ fn read_bits<D: Disk>(disk: &mut D, i: u32, bits: &mut [bool]) -> Result<(), Tab
     requires volume { IsVolumeSize (D.state disk.old).size }
     requires long { length bits.old ≡ (D.state disk.old).size }
     requires in_table { i < table_blocks (D.state disk.old).size }
-    ensures read { (D.state disk.new).honest → OnOk result (ReadsBits (D.state disk.old).size (D.state disk.old).contents i bits.old bits.new) }
-    ensures wrong { (D.state disk.new).honest → (n : ℕ) → IsErrOf result (TableWrong n) → IsBadTableBlock (D.state disk.old).size (D.state disk.old).contents n }
+    ensures read { (D.state disk.new).honest
+        → OnOk result (ReadsBits (D.state disk.old).size (D.state disk.old).contents i bits.old bits.new) }
+    ensures wrong { (D.state disk.new).honest → (n : ℕ) → IsErrOf result (TableWrong n)
+        → IsBadTableBlock (D.state disk.old).size (D.state disk.old).contents n }
     ensures reads { (D.state disk.new).honest → OnlyReads (D.state disk.old) (D.state disk.new) }
     ensures same { SameDisk (D.state disk.old) (D.state disk.new) }
     ensures memory { IsErrOf result NoMemory → ⊥ }
@@ -41,8 +43,10 @@ fn read_bits<D: Disk>(disk: &mut D, i: u32, bits: &mut [bool]) -> Result<(), Tab
 pub fn read_table<D: Disk>(disk: &mut D, bits: &mut [bool]) -> Result<(), TableError>
     requires volume { IsVolumeSize (D.state disk.old).size }
     requires long { length bits.old ≡ (D.state disk.old).size }
-    ensures read { (D.state disk.new).honest → OnOk result (IsTableOf (D.state disk.old).size (D.state disk.old).contents (digit_at bits.new)) }
-    ensures wrong { (D.state disk.new).honest → (n : ℕ) → IsErrOf result (TableWrong n) → IsBadTableBlock (D.state disk.old).size (D.state disk.old).contents n }
+    ensures read { (D.state disk.new).honest
+        → OnOk result (IsTableOf (D.state disk.old).size (D.state disk.old).contents (digit_at bits.new)) }
+    ensures wrong { (D.state disk.new).honest → (n : ℕ) → IsErrOf result (TableWrong n)
+        → IsBadTableBlock (D.state disk.old).size (D.state disk.old).contents n }
     ensures reads { (D.state disk.new).honest → OnlyReads (D.state disk.old) (D.state disk.new) }
     ensures same { SameDisk (D.state disk.old) (D.state disk.new) }
     ensures memory { IsErrOf result NoMemory → ⊥ }

@@ -1,4 +1,5 @@
-ghost use Rattle.std.specs.Prelude.{◌≡◌, ◌<◌, ◌≤◌, ◌+◌, ◌-◌, ◌^◌, ◌↔◌, ◌⊎◌, ◌∷◌, [], ℕ, true, false, replicate, Some, IfOk, IsErrOf, IsTrue, IsSome, IfSome, IfNone, length};
+ghost use Rattle.std.specs.Prelude.{◌≡◌, ◌<◌, ◌≤◌, ◌+◌, ◌-◌, ◌^◌, ◌↔◌, ◌⊎◌, ◌∷◌, [], ℕ, true, false, replicate, Some};
+ghost use Rattle.std.specs.Prelude.{IfOk, IsErrOf, IsTrue, IsSome, IfSome, IfNone, length};
 ghost use Rattle.std.specs.List.{AllByRecursion};
 ghost use Rattle.blockdisk.specs.Disk.{Contents, SameDisk, one_more};
 ghost use Rattle.meaning.specs.Maps.{times};
@@ -6,7 +7,8 @@ ghost use Rattle.meaning.specs.Log.{targets, with_puts, IsTarget};
 ghost use Rattle.meaning.specs.Regions.{IsVolumeSize, table_blocks, table_start};
 ghost use Rattle.changeset.specs.Puts.{IsPutIn};
 ghost use Rattle.changeset.specs.Reads.{OnlyReads};
-ghost use Rattle.alloctab.specs.TableState.{IsTable, IsFree, bit, holds, IsChanged, space, used_in_space, changed_blocks, with_bit, with_held};
+ghost use Rattle.alloctab.specs.TableState.{IsTable, IsFree, bit, holds, IsChanged, space, used_in_space};
+ghost use Rattle.alloctab.specs.TableState.{changed_blocks, with_bit, with_held};
 ghost use Rattle.alloctab.specs.TableBlocks.{table_words};
 ghost use Rattle.alloctab.specs.Reading.{IsTableOf, IsBadTableBlock};
 ghost use Rattle.alloctab.specs.Changes.{IsChangedBlock, SpellsTable};
@@ -38,9 +40,21 @@ impl Model for Table {
 
     ghost Value = { TableState };
 
-    ghost view = { λ t. record { size = t.size; bits = t.bits.items; held = t.held.items; booked = t.booked; changed = t.changed.items } };
+    ghost view = { λ t. record {
+      size = t.size;
+      bits = t.bits.items;
+      held = t.held.items;
+      booked = t.booked;
+      changed = t.changed.items;
+    } };
 
-    ghost invariant = { λ t. IsTable (record { size = t.size; bits = t.bits.items; held = t.held.items; booked = t.booked; changed = t.changed.items }) };
+    ghost invariant = { λ t. IsTable (record {
+      size = t.size;
+      bits = t.bits.items;
+      held = t.held.items;
+      booked = t.booked;
+      changed = t.changed.items;
+    }) };
 }
 
 impl Table {
@@ -52,14 +66,18 @@ impl Table {
     /// of the disk; `Device` where the device failed; `NoMemory` where the table finds no room.
     pub fn load<D: Disk>(alloc: Global, disk: &mut D) -> Result<Self, TableError>
         requires { IsVolumeSize (D.state disk.old).size }
+        // The table that was read.
         ensures size { IfOk result (λ table. table.size ≡ (D.state disk.old).size) }
         ensures sound { IfOk result (λ table. IsTable table) }
         ensures unheld { IfOk result (λ table. table.held ≡ replicate table.size 0) }
         ensures unbooked { IfOk result (λ table. table.booked ≡ 0) }
         ensures unchanged { IfOk result (λ table. table.changed ≡ replicate (table_blocks table.size) false) }
 
-        ensures read { (D.state disk.new).honest → IfOk result (λ table. IsTableOf (D.state disk.old).size (D.state disk.old).contents (bit table)) }
-        ensures wrong { (D.state disk.new).honest → (n : ℕ) → IsErrOf result (TableWrong n) → IsBadTableBlock (D.state disk.old).size (D.state disk.old).contents n }
+        ensures read { (D.state disk.new).honest
+            → IfOk result (λ table. IsTableOf (D.state disk.old).size (D.state disk.old).contents (bit table)) }
+        // Which refusal comes when, and what the disk is then.
+        ensures wrong { (D.state disk.new).honest → (n : ℕ) → IsErrOf result (TableWrong n)
+            → IsBadTableBlock (D.state disk.old).size (D.state disk.old).contents n }
 
         ensures reads { (D.state disk.new).honest → OnlyReads (D.state disk.old) (D.state disk.new) }
         ensures same { SameDisk (D.state disk.old) (D.state disk.new) }
@@ -140,7 +158,8 @@ impl Table {
         ensures held { IfSome result (λ n. self.new ≡ with_held self.old n (holds self.old n + 1)) }
         ensures none { IfNone result ((m : ℕ) → m < self.old.size → IsFree self.old m → ⊥) }
         ensures unchanged { IfNone result (self.new ≡ self.old) }
-        ensures booked { used_in_space self.old < self.old.booked → self.old.booked ≤ space self.old.size → IsSome result }
+        ensures booked { used_in_space self.old < self.old.booked → self.old.booked ≤ space self.old.size
+            → IsSome result }
     {
         let n = self.lowest_free()?;
         self.hold(n);
@@ -227,11 +246,14 @@ impl Table {
         requires { length set.old + changed_blocks self.old ≤ MAX_PUTS }
         ensures done { self.new ≡ record self.old { changed = replicate (table_blocks self.old.size) false } }
 
-        ensures put { (c : Contents) (i : ℕ) → IsChanged self.old i → with_puts set.new c (table_start self.old.size + i) ≡ Some (table_words (bit self.old) i) }
-        ensures others { (c : Contents) (n : ℕ) → (IsChangedBlock self.old n → ⊥) → with_puts set.new c n ≡ with_puts set.old c n }
+        ensures put { (c : Contents) (i : ℕ) → IsChanged self.old i
+            → with_puts set.new c (table_start self.old.size + i) ≡ Some (table_words (bit self.old) i) }
+        ensures others { (c : Contents) (n : ℕ) → (IsChangedBlock self.old n → ⊥)
+            → with_puts set.new c n ≡ with_puts set.old c n }
         ensures targets { (n : ℕ) → (IsPutIn set.new n ↔ (IsPutIn set.old n ⊎ IsChangedBlock self.old n)) }
         ensures few { length set.new ≤ length set.old + changed_blocks self.old }
-        ensures in_range { AllByRecursion (IsTarget self.old.size) (targets set.old) → AllByRecursion (IsTarget self.old.size) (targets set.new) }
+        ensures in_range { AllByRecursion (IsTarget self.old.size) (targets set.old)
+            → AllByRecursion (IsTarget self.old.size) (targets set.new) }
 
         ensures spells { (c : Contents) → SpellsTable self.old (with_puts set.old c) (with_puts set.new c) }
     {

@@ -72,7 +72,8 @@ pub fn publish_file<D: Disk>(
 ) -> Result<FileCalls>
     requires named { 0 < prime.file.name }
     ensures done { (D.state volume.new.disk.inner).honest → (f : Files File) → RestsAt (D.state volume.old.disk.inner) f
-        → OnOk result (RestsAt (D.state volume.new.disk.inner) (files_published f prime.ppn prime.file (file_of prime words.now))) }
+        → OnOk result (RestsAt (D.state volume.new.disk.inner)
+        (files_published f prime.ppn prime.file (file_of prime words.now))) }
 {
     let pending = volume.begin(alloc, prime)?;
     let begun = volume.disk().calls();

@@ -1,10 +1,14 @@
 -- How the record of a disk in memory goes on: one more call leaves the moments before it as they were.
-use Rattle.std.proofs.Common.{◌≡◌, ◌⊎◌, inl, inr, ⊎_elim, ℕ, ◌+◌, ◌<◌, ◌≤◌, Bool, true, false, List, [], ◌∷◌, ◌++◌, length, get_or, slice_set, replicate, Option, Some, None, refl, sym, ◌∙◌, ap, subst, arith, length-append}
+use Rattle.std.proofs.Common.{◌≡◌, ◌⊎◌, inl, inr, ⊎_elim, ℕ, ◌+◌, ◌<◌, ◌≤◌, Bool, true, false, List, [], ◌∷◌, ◌++◌}
+use Rattle.std.proofs.Common.{length, get_or, slice_set, replicate, Option, Some, None, refl, sym, ◌∙◌, ap, subst}
+use Rattle.std.proofs.Common.{arith, length-append}
 use Rattle.std.proofs.lemmas.Bool.{cases_lt}
-use Rattle.std.proofs.lemmas.List.{take_all, take-append-le, get_or-set_same, get_or-set_other, get_or-replicate, get_or_past, length-replicate}
+use Rattle.std.proofs.lemmas.List.{take_all, take-append-le, get_or-set_same, get_or-set_other, get_or-replicate}
+use Rattle.std.proofs.lemmas.List.{get_or_past, length-replicate}
 use Rattle.std.proofs.Math.ListN.{length-set}
 use Rattle.blockdisk.specs.Disk.{Contents, MayLeave, Passes, Writes, Syncs}
-use Rattle.blockdisk.specs.Memory.{Memory, Moment, after_call, after_calls, moment_at, Leaves, moment_now, memory_state, IsReplayed, written, synced}
+use Rattle.blockdisk.specs.Memory.{Memory, Moment, after_call, after_calls, moment_at, Leaves, moment_now, memory_state}
+use Rattle.blockdisk.specs.Memory.{IsReplayed, written, synced}
 use Rattle.blockdisk.specs.declared.memory.DiskCall.{DiskCall}
 use Rattle.blockdisk.specs.declared.memory.DiskCall.TheVariants.{Write, Sync}
 
@@ -26,33 +30,55 @@ module _ (m : Memory) (call : DiskCall) (blocks : List (Option (List ℕ))) (ope
   before : (k : ℕ) → k ≤ length m.calls → moment_at (further m call blocks opened) k ≡ moment_at m k
   before k le = ap (λ (calls : List DiskCall). after_calls (at_first m) calls) (take-append-le k m.calls (call ∷ []) le)
 
-  after : moment_at (further m call blocks opened) (length (m.calls ++ call ∷ [])) ≡ after_call (moment_at m (length m.calls)) call
+  after : moment_at (further m call blocks opened) (length (m.calls ++ call ∷ []))
+      ≡ after_call (moment_at m (length m.calls)) call
   after =
-      ap (λ (calls : List DiskCall). after_calls (at_first m) calls) (take_all (length (m.calls ++ call ∷ [])) (m.calls ++ call ∷ []) (omega arith))
+      ap (λ (calls : List DiskCall). after_calls (at_first m) calls)
+      (take_all (length (m.calls ++ call ∷ [])) (m.calls ++ call ∷ []) (omega arith))
       ∙ after_append (at_first m) m.calls (call ∷ [])
-      ∙ ap (λ (calls : List DiskCall). after_call (after_calls (at_first m) calls) call) (sym (take_all (length m.calls) m.calls (omega arith)))
+      ∙ ap (λ (calls : List DiskCall). after_call (after_calls (at_first m) calls) call)
+      (sym (take_all (length m.calls) m.calls (omega arith)))
 
   -- while there is room, the last moment of the record is now
   now_is : IsReplayed m → length m.calls < m.room → moment_at m (length m.calls) ≡ moment_now m
   now_is is room = λ i. record { blocks = is.blocks i; opened = is.opened room i }
 
-  pub passes_further : IsReplayed m → length m.calls < m.room → Passes (memory_state m) (memory_state (further m call blocks opened)) (MayLeave (memory_state (further m call blocks opened)))
+  pub passes_further : IsReplayed m → length m.calls < m.room
+      → Passes (memory_state m) (memory_state (further m call blocks opened))
+      (MayLeave (memory_state (further m call blocks opened)))
   passes_further is room = record {
     later = omega (arith, one_longer m.calls call);
-    nothing_else = λ t c le left. ⊎_elim (λ had. inl (past t c had.0 had.1 had.2 had.3 (cases_lt had.0 (length m.calls)))) (λ here. inr here) left;
-    new_since = λ t u c le le' left. ⊎_elim (λ had. inl (past t c had.0 had.1 had.2 had.3 (cases_lt had.0 (length m.calls)))) (λ here. inr (inr here)) left;
+    nothing_else = λ t c le left. ⊎_elim
+        (λ had. inl (past t c had.0 had.1 had.2 had.3 (cases_lt had.0 (length m.calls)))) (λ here. inr here) left;
+    new_since = λ t u c le le' left. ⊎_elim
+        (λ had. inl (past t c had.0 had.1 had.2 had.3 (cases_lt had.0 (length m.calls)))) (λ here. inr (inr here)) left;
     keeps = λ t c le left. ⊎_elim
-        (λ had. inl (had.0, had.1, omega (arith, one_longer m.calls call, had.2), subst (λ (n : Moment). Leaves n c) (sym (before had.0 (omega (arith, had.2)))) had.3))
-        (λ here. inl (length m.calls, le, omega (arith, one_longer m.calls call), subst (λ (n : Moment). Leaves n c) (sym (before (length m.calls) (omega arith) ∙ now_is is room)) here)) left;
+        (λ had. inl (
+          had.0,
+          had.1,
+          omega (arith, one_longer m.calls call, had.2),
+          subst (λ (n : Moment). Leaves n c) (sym (before had.0 (omega (arith, had.2)))) had.3,
+        ))
+        (λ here. inl (
+          length m.calls,
+          le,
+          omega (arith, one_longer m.calls call),
+          subst (λ (n : Moment). Leaves n c) (sym (before (length m.calls) (omega arith) ∙ now_is is room)) here,
+        )) left;
   }
     where
-      past : (t : ℕ) (c : Contents) (k : ℕ) → t ≤ k → k < length (m.calls ++ call ∷ []) → Leaves (moment_at (further m call blocks opened) k) c → (k < length m.calls) ⊎ (length m.calls ≤ k) → (memory_state m).left_since t c
-      past t c k since below leaves (inl earlier) = inl (k, since, earlier, subst (λ (n : Moment). Leaves n c) (before k (omega arith)) leaves)
+      past : (t : ℕ) (c : Contents) (k : ℕ) → t ≤ k → k < length (m.calls ++ call ∷ [])
+          → Leaves (moment_at (further m call blocks opened) k) c → (k < length m.calls) ⊎ (length m.calls ≤ k)
+          → (memory_state m).left_since t c
+      past t c k since below leaves (inl earlier) = inl
+          (k, since, earlier, subst (λ (n : Moment). Leaves n c) (before k (omega arith)) leaves)
       past t c k since below leaves (inr last) =
           let here : k ≡ length m.calls = omega (arith, one_longer m.calls call) in
-          inr (subst (λ (n : Moment). Leaves n c) (before k (omega arith) ∙ ap (moment_at m) here ∙ now_is is room) leaves)
+          inr (subst (λ (n : Moment). Leaves n c) (before k (omega arith) ∙ ap (moment_at m) here
+          ∙ now_is is room) leaves)
 
-pub writes_written : (m : Memory) (n : ℕ) (words : List ℕ) → n < length m.blocks → IsReplayed m → length m.calls < m.room → Writes n (memory_state m) (memory_state (written m n words))
+pub writes_written : (m : Memory) (n : ℕ) (words : List ℕ) → n < length m.blocks → IsReplayed m
+    → length m.calls < m.room → Writes n (memory_state m) (memory_state (written m n words))
 writes_written m n words inside is room = record {
   contents = λ k other. get_or-set_other m.blocks n k (Some words) None other;
   opened = get_or-set_same m.opened n true false (omega (arith, is.same_size));
@@ -64,21 +90,24 @@ all_closed : (n k : ℕ) → (k < n) ⊎ (n ≤ k) → get_or (replicate n false
 all_closed n k (inl less) = get_or-replicate n k false false less
 all_closed n k (inr past) = get_or_past (replicate n false) k false (omega (arith, length-replicate n false))
 
-pub syncs_synced : (m : Memory) → IsReplayed m → length m.calls < m.room → Syncs (memory_state m) (memory_state (synced m))
+pub syncs_synced : (m : Memory) → IsReplayed m → length m.calls < m.room
+    → Syncs (memory_state m) (memory_state (synced m))
 syncs_synced m is room = record {
   contents = λ k. refl;
   closed = λ k. all_closed (length m.opened) k (cases_lt k (length m.opened));
   time = passes_further m Sync m.blocks (replicate (length m.opened) false) is room;
 }
 
-pub replayed_written : (m : Memory) (n : ℕ) (words : List ℕ) → IsReplayed m → length m.calls < m.room → IsReplayed (written m n words)
+pub replayed_written : (m : Memory) (n : ℕ) (words : List ℕ) → IsReplayed m → length m.calls < m.room
+    → IsReplayed (written m n words)
 replayed_written m n words is room =
     let last = after m (Write n words) (slice_set m.blocks n (Some words)) (slice_set m.opened n true) in
     let now = now_is m (Write n words) m.blocks m.opened is room in record {
       same_size = length-set m.opened n true ∙ is.same_size ∙ sym (length-set m.blocks n (Some words));
       first_size = is.first_size ∙ sym (length-set m.blocks n (Some words));
       blocks = ap (λ (w : Moment). w.blocks) last ∙ ap (λ (w : Moment). (after_call w (Write n words)).blocks) now;
-      opened = λ more. ap (λ (w : Moment). w.opened) last ∙ ap (λ (w : Moment). (after_call w (Write n words)).opened) now;
+      opened = λ more. ap (λ (w : Moment). w.opened) last
+          ∙ ap (λ (w : Moment). (after_call w (Write n words)).opened) now;
       fits = omega (arith, one_longer m.calls (Write n words));
       few = omega (arith, is.few, length-set m.blocks n (Some words));
     }

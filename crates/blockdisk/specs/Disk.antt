@@ -38,7 +38,8 @@ pub record Passes (s s' : DiskState) (P : Contents → Type 0) : Type 0 where
   -- what was left since an earlier moment was left before s, or has P
   pub nothing_else : (t : ℕ) (c : Contents) → t ≤ s.clock → s'.left_since t c → s.left_since t c ⊎ P c
   -- what is new was left since each moment up to s
-  pub new_since : (t u : ℕ) (c : Contents) → t ≤ s.clock → u ≤ s.clock → s'.left_since t c → s.left_since t c ⊎ s'.left_since u c
+  pub new_since : (t u : ℕ) (c : Contents) → t ≤ s.clock → u ≤ s.clock → s'.left_since t c
+      → s.left_since t c ⊎ s'.left_since u c
   -- what was left stays so
   pub keeps : (t : ℕ) (c : Contents) → t ≤ s.clock → s.left_since t c → s'.left_since t c
 

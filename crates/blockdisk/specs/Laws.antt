@@ -5,7 +5,8 @@ use Rattle.std.specs.Prelude.{◌≡◌, ◌⊎◌, ◌≤◌, ℕ, false, if◌
 use Rattle.std.proofs.Common.{inl, inr, ⊎_elim, refl, sym, ◌∙◌, arith, subst}
 use Rattle.std.proofs.lemmas.Bool.{cases_eq}
 use Rattle.std.proofs.lemmas.Bool.Decides.{nat_tests}
-use Rattle.blockdisk.specs.Disk.{Contents, DiskState, MayLeave, NoneOpen, Passes, SameDisk, Keeps, Writes, Syncs, Fails, Near, Modifies, Still, LeavesOnly, Between}
+use Rattle.blockdisk.specs.Disk.{Contents, DiskState, MayLeave, NoneOpen, Passes, SameDisk, Keeps, Writes, Syncs, Fails}
+use Rattle.blockdisk.specs.Disk.{Near, Modifies, Still, LeavesOnly, Between}
 
 -- contents that agree at each block are equal
 pub same_contents : (c d : Contents) → ((n : ℕ) → d n ≡ c n) → d ≡ c
@@ -23,19 +24,28 @@ same_disk_on s s' s'' first second = record {
 -- Time
 
 pub passes_start : (s : DiskState) (P : Contents → Type 0) → Passes s s P
-passes_start s P = record { later = omega arith; nothing_else = λ t c le left. inl left; new_since = λ t u c le le' left. inl left; keeps = λ t c le left. left }
+passes_start s P = record {
+  later = omega arith;
+  nothing_else = λ t c le left. inl left;
+  new_since = λ t u c le le' left. inl left;
+  keeps = λ t c le left. left;
+}
 
-pub passes_on : (s s' s'' : DiskState) (P Q : Contents → Type 0) → Passes s s' P → Passes s' s'' Q → ((c : Contents) → Q c → P c) → Passes s s'' P
+pub passes_on : (s s' s'' : DiskState) (P Q : Contents → Type 0) → Passes s s' P → Passes s' s'' Q
+    → ((c : Contents) → Q c → P c) → Passes s s'' P
 passes_on s s' s'' P Q first second weaker = record {
   later = omega (arith, first.later, second.later);
-  nothing_else = λ t c le left. ⊎_elim (first.nothing_else t c le) (λ new. inr (weaker c new)) (second.nothing_else t c (omega (arith, le, first.later)) left);
+  nothing_else = λ t c le left. ⊎_elim (first.nothing_else t c le) (λ new. inr (weaker c new))
+      (second.nothing_else t c (omega (arith, le, first.later)) left);
   new_since = λ t u c le le' left. ⊎_elim
-      (λ was. ⊎_elim (λ before. inl before) (λ new. inr (second.keeps u c (omega (arith, le', first.later)) new)) (first.new_since t u c le le' was))
+      (λ was. ⊎_elim (λ before. inl before) (λ new. inr (second.keeps u c (omega (arith, le', first.later)) new))
+      (first.new_since t u c le le' was))
       (λ new. inr new) (second.new_since t u c (omega (arith, le, first.later)) (omega (arith, le', first.later)) left);
   keeps = λ t c le left. second.keeps t c (omega (arith, le, first.later)) (first.keeps t c le left);
 }
 
-pub passes_weaker : (s s' : DiskState) (P Q : Contents → Type 0) → Passes s s' P → ((c : Contents) → P c → Q c) → Passes s s' Q
+pub passes_weaker : (s s' : DiskState) (P Q : Contents → Type 0) → Passes s s' P → ((c : Contents) → P c → Q c)
+    → Passes s s' Q
 passes_weaker s s' P Q passes weaker = record {
   later = passes.later;
   nothing_else = λ t c le left. ⊎_elim (λ was. inl was) (λ new. inr (weaker c new)) (passes.nothing_else t c le left);
@@ -85,7 +95,8 @@ keeps_none_open s s' none keeps n = keeps.is_open n ∙ none n
 pub near_self : (In : ℕ → Type 0) (s : DiskState) (c : Contents) → MayLeave s c → Near In s c
 near_self In s c left = (c, left, λ n out. refl)
 
-pub near_wider : (In Out : ℕ → Type 0) (s : DiskState) → ((n : ℕ) → In n → Out n) → (c : Contents) → Near In s c → Near Out s c
+pub near_wider : (In Out : ℕ → Type 0) (s : DiskState) → ((n : ℕ) → In n → Out n) → (c : Contents) → Near In s c
+    → Near Out s c
 near_wider In Out s wider c near = (near.0, near.1, λ n out. near.2 n (λ is. out (wider n is)))
 
 pub near_on : (In : ℕ → Type 0) (s s' : DiskState) → Modifies In s s' → (c : Contents) → Near In s' c → Near In s c
@@ -103,7 +114,8 @@ modifies_on In s s' s'' first second = record {
   time = passes_on s s' s'' (Near In s) (Near In s') first.time second.time (near_on In s s' first);
 }
 
-pub modifies_wider : (In Out : ℕ → Type 0) (s s' : DiskState) → ((n : ℕ) → In n → Out n) → Modifies In s s' → Modifies Out s s'
+pub modifies_wider : (In Out : ℕ → Type 0) (s s' : DiskState) → ((n : ℕ) → In n → Out n) → Modifies In s s'
+    → Modifies Out s s'
 modifies_wider In Out s s' wider t = record {
   contents = λ n out. t.contents n (λ is. out (wider n is));
   crash = λ c left. near_wider In Out s wider c (t.crash c left);
@@ -132,7 +144,8 @@ writes_modifies In n s s' within writes = record {
     before : Contents → Contents
     before c m = if m == n then s.contents m else c m
 
-    at_before : (c : Contents) → MayLeave s' c → (m : ℕ) → s.is_open m ≡ false → (m ≡ n) ⊎ (m ≡ n → ⊥) → before c m ≡ s.contents m
+    at_before : (c : Contents) → MayLeave s' c → (m : ℕ) → s.is_open m ≡ false → (m ≡ n) ⊎ (m ≡ n → ⊥)
+        → before c m ≡ s.contents m
     at_before c left m closed (inl here) = grind (arith, nat_tests)
     at_before c left m closed (inr other) =
         let kept : c m ≡ s.contents m = left m (writes.is_open m other ∙ closed) ∙ writes.contents m other in
@@ -142,11 +155,17 @@ writes_modifies In n s s' within writes = record {
     elsewhere c m other = grind (arith, nat_tests)
 
     near : (c : Contents) → MayLeave s' c → Near In s c
-    near c left = (before c, λ m closed. at_before c left m closed (cases_eq m n), λ m out. elsewhere c m (λ here. out (inside m here)))
+    near c left = (
+      before c,
+      λ m closed. at_before c left m closed (cases_eq m n),
+      λ m out. elsewhere c m (λ here. out (inside m here)),
+    )
 
 -- one more call of a stretch: a write to one of its blocks
-pub modifies_write : (In : ℕ → Type 0) (n : ℕ) (s s' s'' : DiskState) → In n → Modifies In s s' → Writes n s' s'' → Modifies In s s''
-modifies_write In n s s' s'' within first writes = modifies_on In s s' s'' first (writes_modifies In n s' s'' within writes)
+pub modifies_write : (In : ℕ → Type 0) (n : ℕ) (s s' s'' : DiskState) → In n → Modifies In s s' → Writes n s' s''
+    → Modifies In s s''
+modifies_write In n s s' s'' within first writes = modifies_on In s s' s'' first
+    (writes_modifies In n s' s'' within writes)
 
 -- a read, or a sync that succeeded
 pub modifies_still : (In : ℕ → Type 0) (s s' s'' : DiskState) → Modifies In s s' → Still s' s'' → Modifies In s s''
@@ -154,23 +173,32 @@ modifies_still In s s' s'' first still = modifies_on In s s' s'' first (still_mo
 
 -- Each moment
 
-pub leaves_start : (s : DiskState) (P : Contents → Type 0) → ((c : Contents) → s.left_since s.clock c → MayLeave s c) → ((c : Contents) → MayLeave s c → P c) → LeavesOnly s s P
-leaves_start s P only_now here = record { now = here; since = λ c left. here c (only_now c left); time = passes_start s P }
+pub leaves_start : (s : DiskState) (P : Contents → Type 0) → ((c : Contents) → s.left_since s.clock c → MayLeave s c)
+    → ((c : Contents) → MayLeave s c → P c) → LeavesOnly s s P
+leaves_start s P only_now here = record {
+  now = here;
+  since = λ c left. here c (only_now c left);
+  time = passes_start s P;
+}
 
 -- what a stretch leaves that wrote only these blocks
-pub modifies_leaves : (In : ℕ → Type 0) (s s' : DiskState) (P : Contents → Type 0) → ((c : Contents) → s.left_since s.clock c → MayLeave s c) → Modifies In s s'
+pub modifies_leaves : (In : ℕ → Type 0) (s s' : DiskState) (P : Contents → Type 0)
+    → ((c : Contents) → s.left_since s.clock c → MayLeave s c) → Modifies In s s'
     → ((c : Contents) → Near In s c → P c) → LeavesOnly s s' P
 modifies_leaves In s s' P only_now t near = record {
   now = λ c left. near c (t.crash c left);
-  since = λ c left. ⊎_elim (λ was. near c (near_self In s c (only_now c was))) (near c) (t.time.nothing_else s.clock c (omega arith) left);
+  since = λ c left. ⊎_elim (λ was. near c (near_self In s c (only_now c was))) (near c)
+      (t.time.nothing_else s.clock c (omega arith) left);
   time = passes_weaker s s' (Near In s) P t.time near;
 }
 
 -- what a stretch leaves that wrote nothing
-pub leaves_still : (s s' : DiskState) (P : Contents → Type 0) → ((c : Contents) → s.left_since s.clock c → MayLeave s c) → Still s s' → ((c : Contents) → MayLeave s c → P c) → LeavesOnly s s' P
+pub leaves_still : (s s' : DiskState) (P : Contents → Type 0) → ((c : Contents) → s.left_since s.clock c → MayLeave s c)
+    → Still s s' → ((c : Contents) → MayLeave s c → P c) → LeavesOnly s s' P
 leaves_still s s' P only_now still here = record {
   now = λ c left. here c (still.crash c left);
-  since = λ c left. ⊎_elim (λ was. here c (only_now c was)) (here c) (still.time.nothing_else s.clock c (omega arith) left);
+  since = λ c left. ⊎_elim (λ was. here c (only_now c was)) (here c)
+      (still.time.nothing_else s.clock c (omega arith) left);
   time = passes_weaker s s' (MayLeave s) P still.time here;
 }
 
@@ -178,28 +206,34 @@ leaves_still s s' P only_now still here = record {
 pub fails_leave : (s s' : DiskState) → Fails s s' → (c : Contents) → MayLeave s' c → MayLeave s c
 fails_leave s s' fails c left n closed = left n (fails.is_open n ∙ closed) ∙ fails.contents n closed
 
-pub fails_leaves : (s s' : DiskState) → ((c : Contents) → s.left_since s.clock c → MayLeave s c) → Fails s s' → LeavesOnly s s' (MayLeave s)
+pub fails_leaves : (s s' : DiskState) → ((c : Contents) → s.left_since s.clock c → MayLeave s c) → Fails s s'
+    → LeavesOnly s s' (MayLeave s)
 fails_leaves s s' only_now fails = record {
   now = fails_leave s s' fails;
-  since = λ c left. ⊎_elim (only_now c) (fails_leave s s' fails c) (fails.time.nothing_else s.clock c (omega arith) left);
+  since = λ c left. ⊎_elim (only_now c) (fails_leave s s' fails c)
+      (fails.time.nothing_else s.clock c (omega arith) left);
   time = passes_weaker s s' (MayLeave s') (MayLeave s) fails.time (fails_leave s s' fails);
 }
 
 -- a sync, whatever it answered
-pub sync_leaves : {E : Type 0} (answer : Result (Unit {0}) E) (s s' : DiskState) → ((c : Contents) → s.left_since s.clock c → MayLeave s c)
+pub sync_leaves : {E : Type 0} (answer : Result (Unit {0}) E) (s s' : DiskState)
+    → ((c : Contents) → s.left_since s.clock c → MayLeave s c)
     → OnOk answer (Syncs s s') → OnErr answer (Fails s s') → LeavesOnly s s' (MayLeave s)
-sync_leaves (Ok done) s s' only_now syncs fails = leaves_still s s' (MayLeave s) only_now (syncs_still s s' syncs) (λ c left. left)
+sync_leaves (Ok done) s s' only_now syncs fails = leaves_still s s' (MayLeave s) only_now (syncs_still s s' syncs)
+    (λ c left. left)
 sync_leaves (Err fault) s s' only_now syncs fails = fails_leaves s s' only_now fails
 
 -- one stretch after another
-pub leaves_on : (s s' s'' : DiskState) (P Q : Contents → Type 0) → LeavesOnly s s' P → LeavesOnly s' s'' Q → ((c : Contents) → Q c → P c) → LeavesOnly s s'' P
+pub leaves_on : (s s' s'' : DiskState) (P Q : Contents → Type 0) → LeavesOnly s s' P → LeavesOnly s' s'' Q
+    → ((c : Contents) → Q c → P c) → LeavesOnly s s'' P
 leaves_on s s' s'' P Q first second weaker = record {
   now = λ c left. weaker c (second.now c left);
   since = λ c left. ⊎_elim (first.since c) (weaker c) (second.time.nothing_else s.clock c first.time.later left);
   time = passes_on s s' s'' P Q first.time second.time weaker;
 }
 
-pub leaves_weaker : (s s' : DiskState) (P Q : Contents → Type 0) → LeavesOnly s s' P → ((c : Contents) → P c → Q c) → LeavesOnly s s' Q
+pub leaves_weaker : (s s' : DiskState) (P Q : Contents → Type 0) → LeavesOnly s s' P → ((c : Contents) → P c → Q c)
+    → LeavesOnly s s' Q
 leaves_weaker s s' P Q leaves weaker = record {
   now = λ c left. weaker c (leaves.now c left);
   since = λ c left. weaker c (leaves.since c left);
@@ -207,23 +241,31 @@ leaves_weaker s s' P Q leaves weaker = record {
 }
 
 -- what a stretch leaves that wrote only these blocks, and another one after it
-pub modifies_near : (In : ℕ → Type 0) (s s' : DiskState) → ((c : Contents) → s.left_since s.clock c → MayLeave s c) → Modifies In s s' → LeavesOnly s s' (Near In s)
+pub modifies_near : (In : ℕ → Type 0) (s s' : DiskState) → ((c : Contents) → s.left_since s.clock c → MayLeave s c)
+    → Modifies In s s' → LeavesOnly s s' (Near In s)
 modifies_near In s s' only_now t = modifies_leaves In s s' (Near In s) only_now t (λ c near. near)
 
-pub near_then : (In : ℕ → Type 0) (s s' s'' : DiskState) → ((c : Contents) → s.left_since s.clock c → MayLeave s c) → Modifies In s s' → LeavesOnly s' s'' (Near In s') → LeavesOnly s s'' (Near In s)
-near_then In s s' s'' only_now t leaves = leaves_on s s' s'' (Near In s) (Near In s') (modifies_near In s s' only_now t) leaves (near_on In s s' t)
+pub near_then : (In : ℕ → Type 0) (s s' s'' : DiskState) → ((c : Contents) → s.left_since s.clock c → MayLeave s c)
+    → Modifies In s s' → LeavesOnly s' s'' (Near In s') → LeavesOnly s s'' (Near In s)
+near_then In s s' s'' only_now t leaves = leaves_on s s' s'' (Near In s) (Near In s')
+    (modifies_near In s s' only_now t) leaves (near_on In s s' t)
 
 -- the end of such a stretch is a sync, whatever it answered
-pub near_sync : {E : Type 0} (answer : Result (Unit {0}) E) (In : ℕ → Type 0) (s s' s'' : DiskState) → ((c : Contents) → s.left_since s.clock c → MayLeave s c)
-    → ((c : Contents) → s'.left_since s'.clock c → MayLeave s' c) → Modifies In s s' → OnOk answer (Syncs s' s'') → OnErr answer (Fails s' s'') → LeavesOnly s s'' (Near In s)
+pub near_sync : {E : Type 0} (answer : Result (Unit {0}) E) (In : ℕ → Type 0) (s s' s'' : DiskState)
+    → ((c : Contents) → s.left_since s.clock c → MayLeave s c)
+    → ((c : Contents) → s'.left_since s'.clock c → MayLeave s' c) → Modifies In s s' → OnOk answer (Syncs s' s'')
+    → OnErr answer (Fails s' s'') → LeavesOnly s s'' (Near In s)
 near_sync answer In s s' s'' only_now only_now' t syncs fails =
-    leaves_on s s' s'' (Near In s) (MayLeave s') (modifies_near In s s' only_now t) (sync_leaves answer s' s'' only_now' syncs fails) t.crash
+    leaves_on s s' s'' (Near In s) (MayLeave s') (modifies_near In s s' only_now t)
+    (sync_leaves answer s' s'' only_now' syncs fails) t.crash
 
-pub leaves_wider : (In Out : ℕ → Type 0) (s s' : DiskState) → ((n : ℕ) → In n → Out n) → LeavesOnly s s' (Near In s) → LeavesOnly s s' (Near Out s)
+pub leaves_wider : (In Out : ℕ → Type 0) (s s' : DiskState) → ((n : ℕ) → In n → Out n) → LeavesOnly s s' (Near In s)
+    → LeavesOnly s s' (Near Out s)
 leaves_wider In Out s s' wider leaves = leaves_weaker s s' (Near In s) (Near Out s) leaves (near_wider In Out s wider)
 
 -- what a crash left between two moments goes on to be all that it left there
-pub between_on : (s s' : DiskState) (P Q : Contents → Type 0) (t u : ℕ) → t ≤ s.clock → u ≤ s.clock → Passes s s' Q → Between s t u P → Between s' t u P
+pub between_on : (s s' : DiskState) (P Q : Contents → Type 0) (t u : ℕ) → t ≤ s.clock → u ≤ s.clock → Passes s s' Q
+    → Between s t u P → Between s' t u P
 between_on s s' P Q t u le le' passes between c left = ⊎_elim
     (λ was. ⊎_elim (λ later. inl (passes.keeps u c le' later)) (λ here. inr here) (between c was))
     (λ new. inl new) (passes.new_since t u c le le' left)

@@ -1,6 +1,7 @@
 -- A disk in memory: its blocks, which of them are open, and the record of its writes and syncs, from
 -- which each earlier moment can be told.
-use Rattle.std.specs.Prelude.{◌<◌, ◌≡◌, ◌⊎◌, ◌≤◌, ◌^◌, ℕ, Bool, true, false, List, [], ◌∷◌, ◌++◌, Option, Some, None, get_or, take, length, replicate, slice_set}
+use Rattle.std.specs.Prelude.{◌<◌, ◌≡◌, ◌⊎◌, ◌≤◌, ◌^◌, ℕ, Bool, true, false, List, [], ◌∷◌, ◌++◌, Option, Some, None}
+use Rattle.std.specs.Prelude.{get_or, take, length, replicate, slice_set}
 use Rattle.blockdisk.specs.Disk.{Contents, DiskState, one_more}
 use Rattle.blockdisk.specs.declared.memory.DiskCall.{DiskCall}
 use Rattle.blockdisk.specs.declared.memory.DiskCall.TheVariants.{Write, Sync}

@@ -13,5 +13,7 @@ only_now m c left = ⊎_elim (λ had. absurd (nothing_since (length m.calls) had
 further : (t u k : ℕ) → t ≤ u → u ≤ k → t ≤ k
 further t u k le le' = omega arith
 
-pub reaches_back : (m : Memory) (t u : ℕ) (c : Contents) → t ≤ u → (memory_state m).left_since u c → (memory_state m).left_since t c
-reaches_back m t u c le left = ⊎_elim (λ had. inl (had.0, further t u had.0 le had.1, had.2, had.3)) (λ now. inr now) left
+pub reaches_back : (m : Memory) (t u : ℕ) (c : Contents) → t ≤ u → (memory_state m).left_since u c
+    → (memory_state m).left_since t c
+reaches_back m t u c le left = ⊎_elim (λ had. inl (had.0, further t u had.0 le had.1, had.2, had.3))
+    (λ now. inr now) left

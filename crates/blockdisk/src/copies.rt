@@ -15,8 +15,10 @@ pub fn write_through<D: Disk>(disk: &mut D, n: u32, block: &Block) -> Result<(),
     requires { n < (D.state disk.old).size }
     ensures put { (D.state disk.new).honest → OnOk result ((D.state disk.new).contents n ≡ Some block.now) }
     ensures settled { (D.state disk.new).honest → OnOk result (NoneOpen (D.state disk.new)) }
-    ensures modified { (D.state disk.new).honest → OnOk result (Modifies (λ m. m ≡ n) (D.state disk.old) (D.state disk.new)) }
-    ensures near { (D.state disk.new).honest → LeavesOnly (D.state disk.old) (D.state disk.new) (Near (λ m. m ≡ n) (D.state disk.old)) }
+    ensures modified { (D.state disk.new).honest
+        → OnOk result (Modifies (λ m. m ≡ n) (D.state disk.old) (D.state disk.new)) }
+    ensures near { (D.state disk.new).honest
+        → LeavesOnly (D.state disk.old) (D.state disk.new) (Near (λ m. m ≡ n) (D.state disk.old)) }
     ensures same { SameDisk (D.state disk.old) (D.state disk.new) }
     ensures device { IsErrOf result Damaged → ⊥ }
     ensures failed { IsErrOf result Device → (D.state disk.new).failures ≡ one_more (D.state disk.old).failures }
@@ -41,10 +43,12 @@ pub fn write_copies<D: Disk>(
     requires first_inside { first < (D.state disk.old).size }
     requires second_inside { second < (D.state disk.old).size }
     requires apart { first ≢ second }
-    ensures new { (D.state disk.new).honest → OnOk result (BothAreNew first second block.now (D.state disk.old).contents (D.state disk.new).contents) }
+    ensures new { (D.state disk.new).honest
+        → OnOk result (BothAreNew first second block.now (D.state disk.old).contents (D.state disk.new).contents) }
     ensures settled { (D.state disk.new).honest → OnOk result (NoneOpen (D.state disk.new)) }
     ensures leaves { (D.state disk.new).honest → NoneOpen (D.state disk.old)
-        → LeavesOnly (D.state disk.old) (D.state disk.new) (OneIsWhole first second block.now (D.state disk.old).contents) }
+        → LeavesOnly (D.state disk.old) (D.state disk.new)
+        (OneIsWhole first second block.now (D.state disk.old).contents) }
     ensures same { SameDisk (D.state disk.old) (D.state disk.new) }
     ensures device { IsErrOf result Damaged → ⊥ }
     ensures failed { IsErrOf result Device → (D.state disk.new).failures ≡ one_more (D.state disk.old).failures }

@@ -1,4 +1,5 @@
-ghost use Rattle.std.specs.Prelude.{◌≡◌, ◌<◌, ◌≤◌, ◌+◌, ℕ, Some, None, IfOk, IfErr, OnOk, OnErr, IsErrOf, length, replicate};
+ghost use Rattle.std.specs.Prelude.{◌≡◌, ◌<◌, ◌≤◌, ◌+◌, ℕ, Some, None, IfOk, IfErr, OnOk, OnErr, IsErrOf, length};
+ghost use Rattle.std.specs.Prelude.{replicate};
 ghost use Rattle.std.proofs.Common.{inr};
 ghost use Rattle.blockdisk.specs.declared.fault.Fault.TheVariants.{Device, Damaged};
 ghost use Rattle.blockdisk.specs.Disk.{Writes, Syncs};
@@ -38,11 +39,25 @@ impl Model for MemDisk {
 
     ghost Value = { Memory };
 
-    ghost view = { λ m. record { blocks = m.blocks.items; first = m.first.items; calls = m.calls.items; opened = m.opened.items; room = m.room; failures = m.failures } };
+    ghost view = { λ m. record {
+      blocks = m.blocks.items;
+      first = m.first.items;
+      calls = m.calls.items;
+      opened = m.opened.items;
+      room = m.room;
+      failures = m.failures;
+    } };
 
     ghost invariant = { λ m. (m.room ≤ vec_capacity m.calls)
         × (m.none_open ≡ true → m.opened.items ≡ replicate (length m.opened.items) false)
-        × IsReplayed (record { blocks = m.blocks.items; first = m.first.items; calls = m.calls.items; opened = m.opened.items; room = m.room; failures = m.failures }) };
+        × IsReplayed (record {
+          blocks = m.blocks.items;
+          first = m.first.items;
+          calls = m.calls.items;
+          opened = m.opened.items;
+          room = m.room;
+          failures = m.failures;
+        }) };
 }
 
 impl MemDisk {

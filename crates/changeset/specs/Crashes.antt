@@ -31,7 +31,8 @@ pub record SettlesAs (size : ℕ) (wanted c : Contents) : Type 0 where
 
 -- a crash during a commit: none of the puts is made, or all are
 abbrev pub AllOrNone : List Put → DiskState → Contents → Type 0
-AllOrNone puts s c = ((d : Contents) × MayLeave s d × SettlesAs s.size d c) ⊎ SettlesAs s.size (with_puts puts s.contents) c
+AllOrNone puts s c = ((d : Contents) × MayLeave s d × SettlesAs s.size d c)
+    ⊎ SettlesAs s.size (with_puts puts s.contents) c
 
 -- where d settles, c settles to the same
 abbrev pub SettlesLike : ℕ → Contents → Contents → Type 0
@@ -64,4 +65,5 @@ pub record IsRecovered (size : ℕ) (before now : Contents) : Type 0 where
 -- from then on a crash left only what has P.
 abbrev pub SyncsFirst : {D : Type 0} → (D → DiskState) → D → D → Type 0 → (Contents → Type 0) → Type 0
 SyncsFirst {D} state old new fault P =
-    (fault × Fails (state old) (state new)) ⊎ ((mid : D) × Syncs (state old) (state mid) × LeavesOnly (state mid) (state new) P)
+    (fault × Fails (state old) (state new))
+    ⊎ ((mid : D) × Syncs (state old) (state mid) × LeavesOnly (state mid) (state new) P)

@@ -14,7 +14,8 @@ use Rattle.changeset.specs.Puts.{IsPutIn, AreDistinct, replaced}
 pub replaced_here : (new put : Put) (puts : List Put) → put.block ≡ new.block → replaced new (put ∷ puts) ≡ new ∷ puts
 replaced_here new put puts is = grind (arith, nat_tests)
 
-pub replaced_later : (new put : Put) (puts : List Put) → (put.block ≡ new.block → ⊥) → replaced new (put ∷ puts) ≡ put ∷ replaced new puts
+pub replaced_later : (new put : Put) (puts : List Put) → (put.block ≡ new.block → ⊥)
+    → replaced new (put ∷ puts) ≡ put ∷ replaced new puts
 replaced_later new put puts other = grind (arith, nat_tests)
 
 pub times_head : (n m : ℕ) (ns : List ℕ) → n ≡ m → times n (m ∷ ns) ≡ suc (times n ns)
@@ -23,52 +24,69 @@ times_head n m ns is = grind (arith, nat_tests)
 pub times_tail : (n m : ℕ) (ns : List ℕ) → (n ≡ m → ⊥) → times n (m ∷ ns) ≡ times n ns
 times_tail n m ns other = grind (arith, nat_tests)
 
-pub with_puts_here : (put : Put) (puts : List Put) (c : Contents) (n : ℕ) → n ≡ put.block → with_puts (put ∷ puts) c n ≡ Some put.words
+pub with_puts_here : (put : Put) (puts : List Put) (c : Contents) (n : ℕ) → n ≡ put.block
+    → with_puts (put ∷ puts) c n ≡ Some put.words
 with_puts_here put puts c n is = grind (arith, nat_tests)
 
-pub with_puts_later : (put : Put) (puts : List Put) (c : Contents) (n : ℕ) → (n ≡ put.block → ⊥) → with_puts (put ∷ puts) c n ≡ with_puts puts c n
+pub with_puts_later : (put : Put) (puts : List Put) (c : Contents) (n : ℕ) → (n ≡ put.block → ⊥)
+    → with_puts (put ∷ puts) c n ≡ with_puts puts c n
 with_puts_later put puts c n other = grind (arith, nat_tests)
 
 -- a put for a new block is the last one
-pub replaced-new : (new : Put) (puts : List Put) → times new.block (targets puts) ≡ 0 → replaced new puts ≡ puts ++ new ∷ []
+pub replaced-new : (new : Put) (puts : List Put) → times new.block (targets puts) ≡ 0
+    → replaced new puts ≡ puts ++ new ∷ []
 replaced-new new [] none = grind arith
 replaced-new new (put ∷ puts) none = by_case (cases_eq put.block new.block) (replaced-new new puts)
   where
-    by_case : (put.block ≡ new.block) ⊎ (put.block ≡ new.block → ⊥) → (times new.block (targets puts) ≡ 0 → replaced new puts ≡ puts ++ new ∷ []) → replaced new (put ∷ puts) ≡ put ∷ puts ++ new ∷ []
+    by_case : (put.block ≡ new.block) ⊎ (put.block ≡ new.block → ⊥) → (times new.block (targets puts) ≡ 0
+        → replaced new puts ≡ puts ++ new ∷ []) → replaced new (put ∷ puts) ≡ put ∷ puts ++ new ∷ []
     by_case (inl is) rest = absurd (let e = times_head new.block put.block (targets puts) (sym is) in omega arith)
-    by_case (inr other) rest = let e = times_tail new.block put.block (targets puts) (λ is. other (sym is)) in replaced_later new put puts other ∙ ap (λ (l : List Put). put ∷ l) (rest (sym e ∙ none))
+    by_case (inr other) rest = let e = times_tail new.block put.block (targets puts) (λ is. other (sym is)) in
+        replaced_later new put puts other ∙ ap (λ (l : List Put). put ∷ l) (rest (sym e ∙ none))
 
 -- one for a block that is there takes its place
-pub targets-replaced : (new : Put) (puts : List Put) → 0 < times new.block (targets puts) → targets (replaced new puts) ≡ targets puts
+pub targets-replaced : (new : Put) (puts : List Put) → 0 < times new.block (targets puts)
+    → targets (replaced new puts) ≡ targets puts
 targets-replaced new [] there = absurd (omega arith)
 targets-replaced new (put ∷ puts) there = by_case (cases_eq put.block new.block) (targets-replaced new puts)
   where
-    by_case : (put.block ≡ new.block) ⊎ (put.block ≡ new.block → ⊥) → (0 < times new.block (targets puts) → targets (replaced new puts) ≡ targets puts) → targets (replaced new (put ∷ puts)) ≡ targets (put ∷ puts)
+    by_case : (put.block ≡ new.block) ⊎ (put.block ≡ new.block → ⊥) → (0 < times new.block (targets puts)
+        → targets (replaced new puts) ≡ targets puts) → targets (replaced new (put ∷ puts)) ≡ targets (put ∷ puts)
     by_case (inl is) rest = ap targets (replaced_here new put puts is) ∙ ap (λ (n : ℕ). n ∷ targets puts) (sym is)
     by_case (inr other) rest =
         let e = times_tail new.block put.block (targets puts) (λ is. other (sym is)) in
-        ap targets (replaced_later new put puts other) ∙ ap (λ (l : List ℕ). put.block ∷ l) (rest (subst (λ (k : ℕ). 0 < k) e there))
+        ap targets (replaced_later new put puts other)
+        ∙ ap (λ (l : List ℕ). put.block ∷ l) (rest (subst (λ (k : ℕ). 0 < k) e there))
 
 -- its block has the new words, and the other blocks what they had
-pub with_puts-replaced : (new : Put) (puts : List Put) (c : Contents) (n : ℕ) → with_puts (replaced new puts) c n ≡ with_puts (new ∷ puts) c n
+pub with_puts-replaced : (new : Put) (puts : List Put) (c : Contents) (n : ℕ)
+    → with_puts (replaced new puts) c n ≡ with_puts (new ∷ puts) c n
 with_puts-replaced new [] c n = grind arith
-with_puts-replaced new (put ∷ puts) c n = by_case (cases_eq put.block new.block) (cases_eq n new.block) (cases_eq n put.block) (with_puts-replaced new puts c n)
+with_puts-replaced new (put ∷ puts) c n = by_case (cases_eq put.block new.block) (cases_eq n new.block)
+    (cases_eq n put.block) (with_puts-replaced new puts c n)
   where
-    by_case : (put.block ≡ new.block) ⊎ (put.block ≡ new.block → ⊥) → (n ≡ new.block) ⊎ (n ≡ new.block → ⊥) → (n ≡ put.block) ⊎ (n ≡ put.block → ⊥)
-        → with_puts (replaced new puts) c n ≡ with_puts (new ∷ puts) c n → with_puts (replaced new (put ∷ puts)) c n ≡ with_puts (new ∷ put ∷ puts) c n
-    by_case (inl is) (inl here) in_put rest = ap (λ (l : List Put). with_puts l c n) (replaced_here new put puts is) ∙ with_puts_here new puts c n here ∙ sym (with_puts_here new (put ∷ puts) c n here)
+    by_case : (put.block ≡ new.block) ⊎ (put.block ≡ new.block → ⊥) → (n ≡ new.block) ⊎ (n ≡ new.block → ⊥)
+        → (n ≡ put.block) ⊎ (n ≡ put.block → ⊥)
+        → with_puts (replaced new puts) c n ≡ with_puts (new ∷ puts) c n
+        → with_puts (replaced new (put ∷ puts)) c n ≡ with_puts (new ∷ put ∷ puts) c n
+    by_case (inl is) (inl here) in_put rest = ap (λ (l : List Put). with_puts l c n) (replaced_here new put puts is)
+        ∙ with_puts_here new puts c n here ∙ sym (with_puts_here new (put ∷ puts) c n here)
     by_case (inl is) (inr out) in_put rest =
         ap (λ (l : List Put). with_puts l c n) (replaced_here new put puts is) ∙ with_puts_later new puts c n out
         ∙ sym (with_puts_later put puts c n (λ here. out (here ∙ is))) ∙ sym (with_puts_later new (put ∷ puts) c n out)
     by_case (inr other) (inl here) in_put rest =
-        ap (λ (l : List Put). with_puts l c n) (replaced_later new put puts other) ∙ with_puts_later put (replaced new puts) c n (λ is. other (sym is ∙ here))
+        ap (λ (l : List Put). with_puts l c n) (replaced_later new put puts other)
+        ∙ with_puts_later put (replaced new puts) c n (λ is. other (sym is ∙ here))
         ∙ rest ∙ with_puts_here new puts c n here ∙ sym (with_puts_here new (put ∷ puts) c n here)
     by_case (inr other) (inr out) (inl here) rest =
-        ap (λ (l : List Put). with_puts l c n) (replaced_later new put puts other) ∙ with_puts_here put (replaced new puts) c n here
+        ap (λ (l : List Put). with_puts l c n) (replaced_later new put puts other)
+        ∙ with_puts_here put (replaced new puts) c n here
         ∙ sym (with_puts_here put puts c n here) ∙ sym (with_puts_later new (put ∷ puts) c n out)
     by_case (inr other) (inr out) (inr away) rest =
-        ap (λ (l : List Put). with_puts l c n) (replaced_later new put puts other) ∙ with_puts_later put (replaced new puts) c n away
-        ∙ rest ∙ with_puts_later new puts c n out ∙ sym (with_puts_later put puts c n away) ∙ sym (with_puts_later new (put ∷ puts) c n out)
+        ap (λ (l : List Put). with_puts l c n) (replaced_later new put puts other)
+        ∙ with_puts_later put (replaced new puts) c n away
+        ∙ rest ∙ with_puts_later new puts c n out ∙ sym (with_puts_later put puts c n away)
+        ∙ sym (with_puts_later new (put ∷ puts) c n out)
 
 pub all_behind : (P : ℕ → Type 0) (ns : List ℕ) (n : ℕ) → AllByRecursion P ns → P n → AllByRecursion P (ns ++ n ∷ [])
 all_behind P [] n all is = (is, tt)
@@ -83,13 +101,16 @@ some_or_none zero = inr refl
 some_or_none (suc n) = inl (omega arith)
 
 -- what holds of each target holds with one more
-pub all_replaced : (P : ℕ → Type 0) (new : Put) (puts : List Put) → AllByRecursion P (targets puts) → P new.block → AllByRecursion P (targets (replaced new puts))
+pub all_replaced : (P : ℕ → Type 0) (new : Put) (puts : List Put) → AllByRecursion P (targets puts) → P new.block
+    → AllByRecursion P (targets (replaced new puts))
 all_replaced P new puts all is = ⊎_elim
     (λ there. subst (AllByRecursion P) (sym (targets-replaced new puts there)) all)
-    (λ none. subst (AllByRecursion P) (sym (ap targets (replaced-new new puts none) ∙ targets-behind puts new)) (all_behind P (targets puts) new.block all is))
+    (λ none. subst (AllByRecursion P) (sym (ap targets (replaced-new new puts none) ∙ targets-behind puts new))
+    (all_behind P (targets puts) new.block all is))
     (some_or_none (times new.block (targets puts)))
 
-pub distinct_behind : (puts : List Put) (new : Put) → AreDistinct puts → times new.block (targets puts) ≡ 0 → AreDistinct (puts ++ new ∷ [])
+pub distinct_behind : (puts : List Put) (new : Put) → AreDistinct puts → times new.block (targets puts) ≡ 0
+    → AreDistinct (puts ++ new ∷ [])
 distinct_behind puts new distinct none n = by_case (cases_eq n new.block)
   where
     whole : times n (targets (puts ++ new ∷ [])) ≡ times n (targets puts) + times n (new.block ∷ [])
@@ -109,12 +130,16 @@ distinct_replaced new puts distinct = ⊎_elim
     (some_or_none (times new.block (targets puts)))
 
 -- what is put with one more
-pub put_in_replaced : (new : Put) (puts : List Put) (n : ℕ) → IsPutIn (replaced new puts) n → (n ≡ new.block) ⊎ IsPutIn puts n
-put_in_replaced new puts n there = ⊎_elim (λ is. inl is) (λ other. inr (⊎_elim (λ is. subst (λ (l : List ℕ). 0 < times n l) (targets-replaced new puts is) there) (λ none. last other none) (some_or_none (times new.block (targets puts))))) (cases_eq n new.block)
+pub put_in_replaced : (new : Put) (puts : List Put) (n : ℕ) → IsPutIn (replaced new puts) n
+    → (n ≡ new.block) ⊎ IsPutIn puts n
+put_in_replaced new puts n there = ⊎_elim (λ is. inl is)
+    (λ other. inr (⊎_elim (λ is. subst (λ (l : List ℕ). 0 < times n l) (targets-replaced new puts is) there)
+    (λ none. last other none) (some_or_none (times new.block (targets puts))))) (cases_eq n new.block)
   where
     last : (n ≡ new.block → ⊥) → times new.block (targets puts) ≡ 0 → IsPutIn puts n
     last other none =
-        let whole : times n (targets (replaced new puts)) ≡ times n (targets puts ++ new.block ∷ []) = ap (times n) (ap targets (replaced-new new puts none) ∙ targets-behind puts new) in
+        let whole : times n (targets (replaced new puts)) ≡ times n (targets puts ++ new.block ∷ []) = ap
+        (times n) (ap targets (replaced-new new puts none) ∙ targets-behind puts new) in
         let tail = times_tail n new.block [] other in
         omega (arith, times-append n (targets puts) (new.block ∷ []), whole, there)
 
@@ -123,4 +148,5 @@ pub length-replaced : (new : Put) (puts : List Put) → length (replaced new put
 length-replaced new [] = omega arith
 length-replaced new (put ∷ puts) = ⊎_elim
     (λ is. let e = ap (λ (l : List Put). length l) (replaced_here new put puts is) in omega arith)
-    (λ other. let e = ap (λ (l : List Put). length l) (replaced_later new put puts other) in omega (arith, length-replaced new puts)) (cases_eq put.block new.block)
+    (λ other. let e = ap (λ (l : List Put). length l) (replaced_later new put puts other) in
+    omega (arith, length-replaced new puts)) (cases_eq put.block new.block)

@@ -1,4 +1,5 @@
-ghost use Rattle.std.specs.Prelude.{ℕ, ◌≡◌, ◌<◌, ◌≤◌, [], length, take, slice_get, Some, IsSome, IfSome, IfNone, OnOk, OnErr, IfErr};
+ghost use Rattle.std.specs.Prelude.{ℕ, ◌≡◌, ◌<◌, ◌≤◌, [], length, take, slice_get, Some, IsSome, IfSome, IfNone, OnOk};
+ghost use Rattle.std.specs.Prelude.{OnErr, IfErr};
 ghost use Rattle.changeset.specs.Puts.{most_puts, IsPutIn, AreDistinct, replaced};
 ghost use Rattle.changeset.specs.declared.error.LogError.TheVariants.{TooMany};
 ghost use Rattle.meaning.specs.Log.{targets};
@@ -65,7 +66,8 @@ impl ChangeSet {
         ensures ok { OnOk result (self.new ≡ replaced (record { block = block; words = words.now }) self.old) }
         ensures few { OnOk result (length self.new ≤ most_puts) }
         ensures err { OnErr result (self.new ≡ self.old) }
-        ensures full { IfErr result (λ error. (error ≡ TooMany) × (length self.old ≡ most_puts) × (times block (targets self.old) ≡ 0)) }
+        ensures full { IfErr result (λ error. (error ≡ TooMany) × (length self.old ≡ most_puts)
+            × (times block (targets self.old) ≡ 0)) }
     {
         put_in(
             &mut self.puts,
@@ -82,7 +84,8 @@ fn put_in(puts: &mut ArrayVec<Put, MAX_PUTS>, put: Put) -> Result<(), LogError>
     ensures ok { OnOk result (puts.new.items ≡ replaced put puts.old.items) }
     ensures few { OnOk result (length puts.new.items ≤ most_puts) }
     ensures err { OnErr result (puts.new.items ≡ puts.old.items) }
-    ensures full { IfErr result (λ error. (error ≡ TooMany) × (length puts.old.items ≡ most_puts) × (times put.block (targets puts.old.items) ≡ 0)) }
+    ensures full { IfErr result (λ error. (error ≡ TooMany) × (length puts.old.items ≡ most_puts)
+        × (times put.block (targets puts.old.items) ≡ 0)) }
 {
     match place_of(puts.as_slice(), put.block) {
         Some(i) => {

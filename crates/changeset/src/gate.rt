@@ -19,7 +19,8 @@ const OPEN_WORD: u64 = 0o252525252525;
 /// `Device` where the device failed.
 pub fn has_open_words<D: Disk>(disk: &mut D) -> Result<bool, Fault>
     requires { 3 < (D.state disk.old).size }
-    ensures answer { (D.state disk.new).honest → IfOk result (λ is_open. IsTrue is_open ↔ ((D.state disk.old).contents 3 ≡ Some open_gate)) }
+    ensures answer { (D.state disk.new).honest
+        → IfOk result (λ is_open. IsTrue is_open ↔ ((D.state disk.old).contents 3 ≡ Some open_gate)) }
     ensures keeps { (D.state disk.new).honest → Keeps (D.state disk.old) (D.state disk.new) }
     ensures same { SameDisk (D.state disk.old) (D.state disk.new) }
     ensures device { IsErrOf result Damaged → ⊥ }
@@ -44,7 +45,8 @@ pub fn open_gate<D: Disk>(disk: &mut D) -> Result<(), Fault>
     ensures gate { (D.state disk.new).honest → OnOk result ((D.state disk.new).contents 3 ≡ Some open_gate) }
     ensures settled { (D.state disk.new).honest → OnOk result (NoneOpen (D.state disk.new)) }
     ensures modified { (D.state disk.new).honest → OnOk result (Modifies IsGate (D.state disk.old) (D.state disk.new)) }
-    ensures near { (D.state disk.new).honest → LeavesOnly (D.state disk.old) (D.state disk.new) (Near IsGate (D.state disk.old)) }
+    ensures near { (D.state disk.new).honest
+        → LeavesOnly (D.state disk.old) (D.state disk.new) (Near IsGate (D.state disk.old)) }
     ensures same { SameDisk (D.state disk.old) (D.state disk.new) }
     ensures device { IsErrOf result Damaged → ⊥ }
     ensures failed { IsErrOf result Device → (D.state disk.new).failures ≡ one_more (D.state disk.old).failures }
@@ -63,7 +65,8 @@ pub fn close_gate<D: Disk>(disk: &mut D) -> Result<(), Fault>
     ensures gate { (D.state disk.new).honest → OnOk result ((D.state disk.new).contents 3 ≡ Some (replicate 128 0)) }
     ensures settled { (D.state disk.new).honest → OnOk result (NoneOpen (D.state disk.new)) }
     ensures modified { (D.state disk.new).honest → OnOk result (Modifies IsGate (D.state disk.old) (D.state disk.new)) }
-    ensures near { (D.state disk.new).honest → LeavesOnly (D.state disk.old) (D.state disk.new) (Near IsGate (D.state disk.old)) }
+    ensures near { (D.state disk.new).honest
+        → LeavesOnly (D.state disk.old) (D.state disk.new) (Near IsGate (D.state disk.old)) }
     ensures same { SameDisk (D.state disk.old) (D.state disk.new) }
     ensures device { IsErrOf result Damaged → ⊥ }
     ensures failed { IsErrOf result Device → (D.state disk.new).failures ≡ one_more (D.state disk.old).failures }

@@ -1,4 +1,5 @@
-ghost use Rattle.std.specs.Prelude.{ℕ, List, ◌≡◌, ◌⊎◌, ◌+◌, ◌<◌, ◌≤◌, ◌^◌, ◌↔◌, IsTrue, IfOk, OnOk, IsErrOf, Some, length};
+ghost use Rattle.std.specs.Prelude.{ℕ, List, ◌≡◌, ◌⊎◌, ◌+◌, ◌<◌, ◌≤◌, ◌^◌, ◌↔◌, IsTrue, IfOk, OnOk, IsErrOf, Some};
+ghost use Rattle.std.specs.Prelude.{length};
 ghost use Rattle.std.specs.List.{AllByRecursion};
 ghost use Rattle.blockdisk.specs.Disk.{Near, Modifies, LeavesOnly, NoneOpen, SameDisk, one_more};
 ghost use Rattle.blockdisk.specs.declared.fault.Fault.TheVariants.{Device, Damaged};
@@ -52,16 +53,23 @@ fn header_of(puts: &[Put]) -> Block
 ///
 /// `Device` where the device failed; the log may then hold anything, and so may the blocks that were open.
 pub fn write_log<D: Disk>(disk: &mut D, puts: &[Put]) -> Result<(), Fault>
+    // What the caller sees to.
     requires volume { IsVolumeSize (D.state disk.old).size }
     requires some { 0 < length puts.now }
     requires few { length puts.now ≤ log_images (D.state disk.old).size }
     requires distinct { AreDistinct puts.now }
     requires in_range { AllByRecursion (IsTarget (D.state disk.old).size) (targets puts.now) }
-    ensures logged { (D.state disk.new).honest → OnOk result (IsLog (D.state disk.old).size (D.state disk.new).contents puts.now) }
+    // At Ok the log is on the disk.
+    ensures logged { (D.state disk.new).honest
+        → OnOk result (IsLog (D.state disk.old).size (D.state disk.new).contents puts.now) }
     ensures settled { (D.state disk.new).honest → OnOk result (NoneOpen (D.state disk.new)) }
-    ensures modified { (D.state disk.new).honest → OnOk result (Modifies (IsInLog (D.state disk.old).size) (D.state disk.old) (D.state disk.new)) }
-    ensures near { (D.state disk.new).honest → LeavesOnly (D.state disk.old) (D.state disk.new) (Near (IsInLog (D.state disk.old).size) (D.state disk.old)) }
+    // Only the log is written, whatever is answered.
+    ensures modified { (D.state disk.new).honest
+        → OnOk result (Modifies (IsInLog (D.state disk.old).size) (D.state disk.old) (D.state disk.new)) }
+    ensures near { (D.state disk.new).honest
+        → LeavesOnly (D.state disk.old) (D.state disk.new) (Near (IsInLog (D.state disk.old).size) (D.state disk.old)) }
     ensures same { SameDisk (D.state disk.old) (D.state disk.new) }
+    // The device: what failed, and how often.
     ensures device { IsErrOf result Damaged → ⊥ }
     ensures failed { IsErrOf result Device → (D.state disk.new).failures ≡ one_more (D.state disk.old).failures }
     ensures served { OnOk result ((D.state disk.new).failures ≡ (D.state disk.old).failures) }
@@ -76,8 +84,10 @@ pub fn write_log<D: Disk>(disk: &mut D, puts: &[Put]) -> Result<(), Fault>
 fn write_images<D: Disk>(disk: &mut D, puts: &[Put]) -> Result<(), Fault>
     requires few { length puts.now ≤ most_puts }
     requires room { log_start + length puts.now ≤ (D.state disk.old).size }
-    ensures images { (D.state disk.new).honest → OnOk result (AreImages (D.state disk.new).contents log_start puts.now) }
-    ensures modified { (D.state disk.new).honest → Modifies (λ n. (log_start ≤ n) × (n < log_start + length puts.now)) (D.state disk.old) (D.state disk.new) }
+    ensures images { (D.state disk.new).honest
+        → OnOk result (AreImages (D.state disk.new).contents log_start puts.now) }
+    ensures modified { (D.state disk.new).honest
+        → Modifies (λ n. (log_start ≤ n) × (n < log_start + length puts.now)) (D.state disk.old) (D.state disk.new) }
     ensures same { SameDisk (D.state disk.old) (D.state disk.new) }
     ensures device { IsErrOf result Damaged → ⊥ }
     ensures failed { IsErrOf result Device → (D.state disk.new).failures ≡ one_more (D.state disk.old).failures }
@@ -98,7 +108,8 @@ pub fn read_log<D: Disk>(disk: &mut D, size: u32) -> Result<ArrayVec<Put, MAX_PU
     requires size { size ≡ (D.state disk.old).size }
     requires volume { IsVolumeSize size }
     ensures log { (D.state disk.new).honest → IfOk result (λ puts. IsLog size (D.state disk.old).contents puts.items) }
-    ensures bad { (D.state disk.new).honest → IsErrOf result BadLog → (puts : List Put) → IsLog size (D.state disk.old).contents puts → ⊥ }
+    ensures bad { (D.state disk.new).honest → IsErrOf result BadLog → (puts : List Put)
+        → IsLog size (D.state disk.old).contents puts → ⊥ }
     ensures distinct { IfOk result (λ puts. AreDistinct puts.items) }
     ensures in_range { IfOk result (λ puts. AllByRecursion (IsTarget size) (targets puts.items)) }
     ensures reads { (D.state disk.new).honest → OnlyReads (D.state disk.old) (D.state disk.new) }
@@ -134,8 +145,10 @@ fn read_put<D: Disk>(
     requires volume { IsVolumeSize size }
     requires few { i < log_images size }
     ensures target { IfOk result (λ put. IsNextTarget size header.now before.now i put.block) }
-    ensures image { (D.state disk.new).honest → IfOk result (λ put. (D.state disk.old).contents (log_start + i) ≡ Some put.words) }
-    ensures bad { (D.state disk.new).honest → IsErrOf result BadLog → (put : Put) → IsNextTarget size header.now before.now i put.block
+    ensures image { (D.state disk.new).honest
+        → IfOk result (λ put. (D.state disk.old).contents (log_start + i) ≡ Some put.words) }
+    ensures bad { (D.state disk.new).honest → IsErrOf result BadLog → (put : Put)
+        → IsNextTarget size header.now before.now i put.block
         → (D.state disk.old).contents (log_start + i) ≡ Some put.words → ⊥ }
     ensures reads { (D.state disk.new).honest → OnlyReads (D.state disk.old) (D.state disk.new) }
     ensures same { SameDisk (D.state disk.old) (D.state disk.new) }

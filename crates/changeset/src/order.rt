@@ -1,6 +1,7 @@
 ghost use Rattle.std.specs.Prelude.{ℕ, ◌≡◌, ◌⊎◌, ◌<◌, ◌≤◌, ◌↔◌, [], OnOk, IsErrOf, Some, length, replicate};
 ghost use Rattle.std.specs.List.{AllByRecursion};
-ghost use Rattle.blockdisk.specs.Disk.{MayLeave, Near, Modifies, Still, NoneOpen, SameDisk, SameOutside, LeavesOnly, one_more};
+ghost use Rattle.blockdisk.specs.Disk.{MayLeave, Near, Modifies, Still, NoneOpen, SameDisk, SameOutside, LeavesOnly};
+ghost use Rattle.blockdisk.specs.Disk.{one_more};
 ghost use Rattle.blockdisk.specs.declared.fault.Fault.TheVariants.{Device, Damaged};
 ghost use Rattle.changeset.specs.Crashes.{IsGate, IsGateOrLog, IsShut, SettlesAs, AllOrNone, ArePending};
 ghost use Rattle.changeset.specs.Puts.{IsPutIn, AreDistinct};
@@ -27,20 +28,30 @@ pub fn commit<D: Disk>(disk: &mut D, set: &ChangeSet) -> Result<(), LogError>
 
     // A crash at any moment leaves contents that settle, but for gate and log, to some that a crash could
     // leave before, or to those read before with all puts.
-    ensures crash { (D.state disk.new).honest → IsShut (D.state disk.old) → LeavesOnly (D.state disk.old) (D.state disk.new) (AllOrNone set.now (D.state disk.old)) }
+    ensures crash { (D.state disk.new).honest → IsShut (D.state disk.old)
+        → LeavesOnly (D.state disk.old) (D.state disk.new) (AllOrNone set.now (D.state disk.old)) }
 
     // At Ok they are the latter.
-    ensures all { (D.state disk.new).honest → OnOk result (SameOutside (IsGateOrLog (D.state disk.old).size) (with_puts set.now (D.state disk.old).contents) (D.state disk.new).contents) }
+    ensures all { (D.state disk.new).honest
+        → OnOk result (SameOutside (IsGateOrLog (D.state disk.old).size) (with_puts set.now (D.state disk.old).contents)
+        (D.state disk.new).contents) }
     ensures settled { (D.state disk.new).honest → OnOk result (NoneOpen (D.state disk.new)) }
-    ensures gate { (D.state disk.new).honest → 0 < length set.now → OnOk result ((D.state disk.new).contents 3 ≡ Some (replicate 128 0)) }
+    ensures gate { (D.state disk.new).honest → 0 < length set.now
+        → OnOk result ((D.state disk.new).contents 3 ≡ Some (replicate 128 0)) }
     ensures shut { (D.state disk.new).honest → IsShut (D.state disk.old) → OnOk result (IsShut (D.state disk.new)) }
 
     // No other block is written, and none at all where there are no puts. Where a sync failed, the blocks that
     // were open before may be anything, too.
-    ensures modified { (D.state disk.new).honest → OnOk result (Modifies (λ n. IsGateOrLog (D.state disk.old).size n ⊎ IsPutIn set.now n) (D.state disk.old) (D.state disk.new)) }
-    ensures near { (D.state disk.new).honest → LeavesOnly (D.state disk.old) (D.state disk.new) (Near (λ n. IsGateOrLog (D.state disk.old).size n ⊎ IsPutIn set.now n) (D.state disk.old)) }
-    ensures nothing { (D.state disk.new).honest → set.now ≡ [] → OnOk result (Still (D.state disk.old) (D.state disk.new)) }
-    ensures unwritten { (D.state disk.new).honest → set.now ≡ [] → LeavesOnly (D.state disk.old) (D.state disk.new) (MayLeave (D.state disk.old)) }
+    ensures modified { (D.state disk.new).honest
+        → OnOk result (Modifies (λ n. IsGateOrLog (D.state disk.old).size n ⊎ IsPutIn set.now n) (D.state disk.old)
+        (D.state disk.new)) }
+    ensures near { (D.state disk.new).honest
+        → LeavesOnly (D.state disk.old) (D.state disk.new) (Near (λ n. IsGateOrLog (D.state disk.old).size n
+        ⊎ IsPutIn set.now n) (D.state disk.old)) }
+    ensures nothing { (D.state disk.new).honest → set.now ≡ []
+        → OnOk result (Still (D.state disk.old) (D.state disk.new)) }
+    ensures unwritten { (D.state disk.new).honest → set.now ≡ []
+        → LeavesOnly (D.state disk.old) (D.state disk.new) (MayLeave (D.state disk.old)) }
 
     // On every disk.
     ensures many { IsErrOf result TooMany ↔ (log_images (D.state disk.old).size < length set.now) }
@@ -63,18 +74,29 @@ pub fn commit<D: Disk>(disk: &mut D, set: &ChangeSet) -> Result<(), LogError>
 
 /// Makes all these puts, or none.
 fn commit_some<D: Disk>(disk: &mut D, puts: &[Put]) -> Result<(), Fault>
+    // What the caller sees to.
     requires volume { IsVolumeSize (D.state disk.old).size }
     requires some { 0 < length puts.now }
     requires few { length puts.now ≤ log_images (D.state disk.old).size }
     requires distinct { AreDistinct puts.now }
     requires in_range { AllByRecursion (IsTarget (D.state disk.old).size) (targets puts.now) }
-    ensures crash { (D.state disk.new).honest → IsShut (D.state disk.old) → LeavesOnly (D.state disk.old) (D.state disk.new) (AllOrNone puts.now (D.state disk.old)) }
-    ensures all { (D.state disk.new).honest → OnOk result (SameOutside (IsGateOrLog (D.state disk.old).size) (with_puts puts.now (D.state disk.old).contents) (D.state disk.new).contents) }
+    // What a crash leaves, and what there is at Ok.
+    ensures crash { (D.state disk.new).honest → IsShut (D.state disk.old)
+        → LeavesOnly (D.state disk.old) (D.state disk.new) (AllOrNone puts.now (D.state disk.old)) }
+    ensures all { (D.state disk.new).honest
+        → OnOk result (SameOutside (IsGateOrLog (D.state disk.old).size)
+        (with_puts puts.now (D.state disk.old).contents) (D.state disk.new).contents) }
     ensures settled { (D.state disk.new).honest → OnOk result (NoneOpen (D.state disk.new)) }
     ensures gate { (D.state disk.new).honest → OnOk result ((D.state disk.new).contents 3 ≡ Some (replicate 128 0)) }
-    ensures modified { (D.state disk.new).honest → OnOk result (Modifies (λ n. IsGateOrLog (D.state disk.old).size n ⊎ IsPutIn puts.now n) (D.state disk.old) (D.state disk.new)) }
-    ensures near { (D.state disk.new).honest → LeavesOnly (D.state disk.old) (D.state disk.new) (Near (λ n. IsGateOrLog (D.state disk.old).size n ⊎ IsPutIn puts.now n) (D.state disk.old)) }
+    // Which blocks are written, whatever is answered.
+    ensures modified { (D.state disk.new).honest
+        → OnOk result (Modifies (λ n. IsGateOrLog (D.state disk.old).size n ⊎ IsPutIn puts.now n) (D.state disk.old)
+        (D.state disk.new)) }
+    ensures near { (D.state disk.new).honest
+        → LeavesOnly (D.state disk.old) (D.state disk.new) (Near (λ n. IsGateOrLog (D.state disk.old).size n
+        ⊎ IsPutIn puts.now n) (D.state disk.old)) }
     ensures same { SameDisk (D.state disk.old) (D.state disk.new) }
+    // The device: what failed, and how often.
     ensures device { IsErrOf result Damaged → ⊥ }
     ensures failed { IsErrOf result Device → (D.state disk.new).failures ≡ one_more (D.state disk.old).failures }
     ensures served { OnOk result ((D.state disk.new).failures ≡ (D.state disk.old).failures) }
@@ -95,14 +117,23 @@ pub fn redo<D: Disk>(disk: &mut D, puts: &[Put]) -> Result<(), Fault>
     requires in_range { AllByRecursion (IsTarget (D.state disk.old).size) (targets puts.now) }
 
     // Whatever a crash leaves settles to the contents with all puts.
-    ensures crash { (D.state disk.new).honest → NoneOpen (D.state disk.old) → (size : ℕ) → ArePending size (D.state disk.old).contents puts.now
-        → LeavesOnly (D.state disk.old) (D.state disk.new) (SettlesAs size (with_puts puts.now (D.state disk.old).contents)) }
-    ensures all { (D.state disk.new).honest → OnOk result (SameOutside IsGate (with_puts puts.now (D.state disk.old).contents) (D.state disk.new).contents) }
+    ensures crash { (D.state disk.new).honest → NoneOpen (D.state disk.old) → (size : ℕ)
+        → ArePending size (D.state disk.old).contents puts.now
+        → LeavesOnly (D.state disk.old) (D.state disk.new)
+        (SettlesAs size (with_puts puts.now (D.state disk.old).contents)) }
+    ensures all { (D.state disk.new).honest
+        → OnOk result (SameOutside IsGate (with_puts puts.now (D.state disk.old).contents)
+        (D.state disk.new).contents) }
     ensures settled { (D.state disk.new).honest → OnOk result (NoneOpen (D.state disk.new)) }
     ensures gate { (D.state disk.new).honest → OnOk result ((D.state disk.new).contents 3 ≡ Some (replicate 128 0)) }
-    ensures modified { (D.state disk.new).honest → OnOk result (Modifies (λ n. IsGate n ⊎ IsPutIn puts.now n) (D.state disk.old) (D.state disk.new)) }
-    ensures near { (D.state disk.new).honest → LeavesOnly (D.state disk.old) (D.state disk.new) (Near (λ n. IsGate n ⊎ IsPutIn puts.now n) (D.state disk.old)) }
+    // Which blocks are written, whatever is answered.
+    ensures modified { (D.state disk.new).honest
+        → OnOk result (Modifies (λ n. IsGate n ⊎ IsPutIn puts.now n) (D.state disk.old) (D.state disk.new)) }
+    ensures near { (D.state disk.new).honest
+        → LeavesOnly (D.state disk.old) (D.state disk.new)
+        (Near (λ n. IsGate n ⊎ IsPutIn puts.now n) (D.state disk.old)) }
     ensures same { SameDisk (D.state disk.old) (D.state disk.new) }
+    // The device: what failed, and how often.
     ensures device { IsErrOf result Damaged → ⊥ }
     ensures failed { IsErrOf result Device → (D.state disk.new).failures ≡ one_more (D.state disk.old).failures }
     ensures served { OnOk result ((D.state disk.new).failures ≡ (D.state disk.old).failures) }
@@ -115,10 +146,13 @@ pub fn redo<D: Disk>(disk: &mut D, puts: &[Put]) -> Result<(), Fault>
 fn write_places<D: Disk>(disk: &mut D, puts: &[Put]) -> Result<(), Fault>
     requires distinct { AreDistinct puts.now }
     requires in_range { AllByRecursion (λ n. n < (D.state disk.old).size) (targets puts.now) }
-    ensures placed { (D.state disk.new).honest → OnOk result ((n : ℕ) → (D.state disk.new).contents n ≡ with_puts puts.now (D.state disk.old).contents n) }
+    ensures placed { (D.state disk.new).honest
+        → OnOk result ((n : ℕ) → (D.state disk.new).contents n ≡ with_puts puts.now (D.state disk.old).contents n) }
     ensures settled { (D.state disk.new).honest → OnOk result (NoneOpen (D.state disk.new)) }
-    ensures modified { (D.state disk.new).honest → OnOk result (Modifies (IsPutIn puts.now) (D.state disk.old) (D.state disk.new)) }
-    ensures near { (D.state disk.new).honest → LeavesOnly (D.state disk.old) (D.state disk.new) (Near (IsPutIn puts.now) (D.state disk.old)) }
+    ensures modified { (D.state disk.new).honest
+        → OnOk result (Modifies (IsPutIn puts.now) (D.state disk.old) (D.state disk.new)) }
+    ensures near { (D.state disk.new).honest
+        → LeavesOnly (D.state disk.old) (D.state disk.new) (Near (IsPutIn puts.now) (D.state disk.old)) }
     ensures same { SameDisk (D.state disk.old) (D.state disk.new) }
     ensures device { IsErrOf result Damaged → ⊥ }
     ensures failed { IsErrOf result Device → (D.state disk.new).failures ≡ one_more (D.state disk.old).failures }

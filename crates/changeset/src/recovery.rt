@@ -27,23 +27,29 @@ use meaning::layout::is_volume_size;
 /// device failed.
 pub fn recover<D: Disk>(disk: &mut D) -> Result<(), LogError>
     // A crash at any moment leaves what settles like something that a crash could leave before.
-    ensures crash { (D.state disk.new).honest → LeavesOnly (D.state disk.old) (D.state disk.new) (SettlesLikeBefore (D.state disk.old)) }
+    ensures crash { (D.state disk.new).honest
+        → LeavesOnly (D.state disk.old) (D.state disk.new) (SettlesLikeBefore (D.state disk.old)) }
 
     // Where the first sync failed nothing else was done; from its end on a crash leaves what settles like
     // the contents read before.
     ensures synced { (D.state disk.new).honest
-        → SyncsFirst D.state disk.old disk.new (IsErrOf result Device) (SettlesLike (D.state disk.old).size (D.state disk.old).contents) }
+        → SyncsFirst D.state disk.old disk.new (IsErrOf result Device)
+        (SettlesLike (D.state disk.old).size (D.state disk.old).contents) }
 
     // At Ok the contents are the settled ones, with the gate closed.
-    ensures recovered { (D.state disk.new).honest → OnOk result (IsRecovered (D.state disk.old).size (D.state disk.old).contents (D.state disk.new).contents) }
+    ensures recovered { (D.state disk.new).honest
+        → OnOk result (IsRecovered (D.state disk.old).size (D.state disk.old).contents (D.state disk.new).contents) }
     ensures settled { (D.state disk.new).honest → OnOk result (NoneOpen (D.state disk.new)) }
 
     // The log is bad only where nothing settles. Nothing is written but where the gate is open and the
     // log good: a first sync that failed may have changed open blocks, and nothing else did.
-    ensures bad { (D.state disk.new).honest → IsErrOf result BadLog → IsLost (D.state disk.old).size (D.state disk.old).contents }
-    ensures unmodified { (D.state disk.new).honest → ((puts : List Put) → ArePending (D.state disk.old).size (D.state disk.old).contents puts → ⊥)
+    ensures bad { (D.state disk.new).honest → IsErrOf result BadLog
+        → IsLost (D.state disk.old).size (D.state disk.old).contents }
+    ensures unmodified { (D.state disk.new).honest
+        → ((puts : List Put) → ArePending (D.state disk.old).size (D.state disk.old).contents puts → ⊥)
         → (IsErrOf result Device → ⊥) → Still (D.state disk.old) (D.state disk.new) }
-    ensures unwritten { (D.state disk.new).honest → ((puts : List Put) → ArePending (D.state disk.old).size (D.state disk.old).contents puts → ⊥)
+    ensures unwritten { (D.state disk.new).honest
+        → ((puts : List Put) → ArePending (D.state disk.old).size (D.state disk.old).contents puts → ⊥)
         → LeavesOnly (D.state disk.old) (D.state disk.new) (MayLeave (D.state disk.old)) }
 
     // On every disk.
@@ -59,11 +65,17 @@ pub fn recover<D: Disk>(disk: &mut D) -> Result<(), LogError>
 /// Recovers a disk that has no open block.
 fn recover_synced<D: Disk>(disk: &mut D) -> Result<(), LogError>
     ensures crash { (D.state disk.new).honest → NoneOpen (D.state disk.old)
-        → LeavesOnly (D.state disk.old) (D.state disk.new) (SettlesLike (D.state disk.old).size (D.state disk.old).contents) }
-    ensures recovered { (D.state disk.new).honest → OnOk result (IsRecovered (D.state disk.old).size (D.state disk.old).contents (D.state disk.new).contents) }
-    ensures settled { (D.state disk.new).honest → NoneOpen (D.state disk.old) → OnOk result (NoneOpen (D.state disk.new)) }
-    ensures bad { (D.state disk.new).honest → IsErrOf result BadLog → IsLost (D.state disk.old).size (D.state disk.old).contents }
-    ensures unmodified { (D.state disk.new).honest → ((puts : List Put) → ArePending (D.state disk.old).size (D.state disk.old).contents puts → ⊥) → Still (D.state disk.old) (D.state disk.new) }
+        → LeavesOnly (D.state disk.old) (D.state disk.new)
+        (SettlesLike (D.state disk.old).size (D.state disk.old).contents) }
+    ensures recovered { (D.state disk.new).honest
+        → OnOk result (IsRecovered (D.state disk.old).size (D.state disk.old).contents (D.state disk.new).contents) }
+    ensures settled { (D.state disk.new).honest → NoneOpen (D.state disk.old)
+        → OnOk result (NoneOpen (D.state disk.new)) }
+    ensures bad { (D.state disk.new).honest → IsErrOf result BadLog
+        → IsLost (D.state disk.old).size (D.state disk.old).contents }
+    ensures unmodified { (D.state disk.new).honest
+        → ((puts : List Put) → ArePending (D.state disk.old).size (D.state disk.old).contents puts → ⊥)
+        → Still (D.state disk.old) (D.state disk.new) }
     ensures many { IsErrOf result TooMany → ⊥ }
     ensures same { SameDisk (D.state disk.old) (D.state disk.new) }
     ensures failed { IsErrOf result Device → (D.state disk.new).failures ≡ one_more (D.state disk.old).failures }
@@ -84,12 +96,17 @@ fn recover_synced<D: Disk>(disk: &mut D) -> Result<(), LogError>
 ///
 /// `BadLog` where the gate is open and the log isn't good, `Device` where the device failed.
 fn pending_puts<D: Disk>(disk: &mut D) -> Result<Option<ArrayVec<Put, MAX_PUTS>>, LogError>
-    ensures closed { (D.state disk.new).honest → IfOk result (λ found. IfNone found (IsGateOpen (D.state disk.old).size (D.state disk.old).contents → ⊥)) }
-    ensures pending { (D.state disk.new).honest → IfOk result (λ found. IfSome found (λ puts. ArePending (D.state disk.old).size (D.state disk.old).contents puts.items)) }
+    ensures closed { (D.state disk.new).honest
+        → IfOk result (λ found. IfNone found (IsGateOpen (D.state disk.old).size (D.state disk.old).contents → ⊥)) }
+    ensures pending { (D.state disk.new).honest
+        → IfOk result (λ found.
+        IfSome found (λ puts. ArePending (D.state disk.old).size (D.state disk.old).contents puts.items)) }
     ensures volume { IfOk result (λ found. IfSome found (λ puts. IsVolumeSize (D.state disk.old).size)) }
     ensures distinct { IfOk result (λ found. IfSome found (λ puts. AreDistinct puts.items)) }
-    ensures in_range { IfOk result (λ found. IfSome found (λ puts. AllByRecursion (IsTarget (D.state disk.old).size) (targets puts.items))) }
-    ensures bad { (D.state disk.new).honest → IsErrOf result BadLog → IsLost (D.state disk.old).size (D.state disk.old).contents }
+    ensures in_range { IfOk result
+        (λ found. IfSome found (λ puts. AllByRecursion (IsTarget (D.state disk.old).size) (targets puts.items))) }
+    ensures bad { (D.state disk.new).honest → IsErrOf result BadLog
+        → IsLost (D.state disk.old).size (D.state disk.old).contents }
     ensures reads { (D.state disk.new).honest → OnlyReads (D.state disk.old) (D.state disk.new) }
     ensures many { IsErrOf result TooMany → ⊥ }
     ensures same { SameDisk (D.state disk.old) (D.state disk.new) }

@@ -1,5 +1,6 @@
 -- What a line is answered with.
-use Rattle.std.proofs.Common.{◌≡◌, ◌≢◌, ℕ, ◌||◌, Bool, true, false, List, [], ◌∷◌, refl, sym, ◌∙◌, ap, subst, Option, Some, None, Result, Ok, Err, IfOk, unwrap_or}
+use Rattle.std.proofs.Common.{◌≡◌, ◌≢◌, ℕ, ◌||◌, Bool, true, false, List, [], ◌∷◌, refl, sym, ◌∙◌, ap, subst, Option}
+use Rattle.std.proofs.Common.{Some, None, Result, Ok, Err, IfOk, unwrap_or}
 use Rattle.std.specs.Prelude.{codes}
 use Rattle.words36.specs.declared.moment.Moment.{Moment}
 use Rattle.meaning.specs.Texts.{Spoken, complains, refuses, prints, refusal, is_broken, greeting, listing, line}
@@ -10,7 +11,8 @@ use Rattle.meaning.specs.declared.command.Command.{Command}
 use Rattle.meaning.specs.declared.command.Command.TheVariants.{Login as LoginLine, Directory as DirectoryLine}
 use Rattle.meaning.specs.declared.call.Event.TheVariants.{Login, Login as LogsIn}
 use Rattle.meaning.specs.declared.call.Reply.{Reply}
-use Rattle.meaning.specs.declared.call.Reply.TheVariants.{Done, Value, Refused, Stopped, NoChannel, AddressCheck, NoJob, NoMemory, Device, Failed, DateRange}
+use Rattle.meaning.specs.declared.call.Reply.TheVariants.{Done, Value, Refused, Stopped, NoChannel, AddressCheck, NoJob}
+use Rattle.meaning.specs.declared.call.Reply.TheVariants.{NoMemory, Device, Failed, DateRange}
 use Rattle.commands.specs.Machines.{Machine, AlwaysStands, IsAnswered, IsListed, GoesBy}
 use Rattle.commands.specs.Asking.{Led, Concludes}
 use Rattle.commands.specs.Sessions.{Spoke}
@@ -23,16 +25,30 @@ pub or-true : (b : Bool) → true ≡ b || true
 or-true true = refl
 or-true false = refl
 
-module _ {V E S : Type 0} (machine : S → Machine) (stands : AlwaysStands machine) (bytes : V → List ℕ) (result : Result V E) (moment : Moment) (tally counted : Tally) where
+module _ {V E S : Type 0} (machine : S → Machine) (stands : AlwaysStands machine) (bytes : V
+    → List ℕ) (result : Result V E) (moment : Moment) (tally counted : Tally) where
   -- Refusals: without a call, and after one.
 
-  pub spoke_complaint : (m : S) (who : Option ℕ) (meant : Option Command) (words : List ℕ) → Speaks moment who meant [] (complains words) who
-      → counted.refused ≡ true → counted.broke ≡ tally.broke || false → IfOk result (λ v. bytes v ≡ line words) → Spoke bytes result machine m m moment who who tally counted meant
+  pub spoke_complaint : (m : S) (who : Option ℕ) (meant : Option Command) (words : List ℕ)
+      → Speaks moment who meant [] (complains words) who
+      → counted.refused ≡ true → counted.broke ≡ tally.broke || false → IfOk result (λ v. bytes v ≡ line words)
+      → Spoke bytes result machine m m moment who who tally counted meant
   spoke_complaint m who meant words speaks refused broke text =
-      record { acts = []; said = complains words; speaks = speaks; goes = goes_nowhere machine stands m; refused = refused ∙ or-true tally.refused; broke = broke; text = text }
+      record {
+        acts = [];
+        said = complains words;
+        speaks = speaks;
+        goes = goes_nowhere machine stands m;
+        refused = refused ∙ or-true tally.refused;
+        broke = broke;
+        text = text;
+      }
 
-  spoke_refusal : (old new : S) (who : Option ℕ) (meant : Option Command) (acts : List Act) (reply : Reply) (words : List ℕ) (broken : Bool) → Speaks moment who meant acts (refuses reply) who → GoesBy machine old new acts
-      → words ≡ refusal reply → broken ≡ is_broken reply → counted.refused ≡ true → counted.broke ≡ tally.broke || broken → IfOk result (λ v. bytes v ≡ line words) → Spoke bytes result machine old new moment who who tally counted meant
+  spoke_refusal : (old new : S) (who : Option ℕ) (meant : Option Command) (acts : List Act) (reply : Reply)
+      (words : List ℕ) (broken : Bool) → Speaks moment who meant acts (refuses reply) who → GoesBy machine old new acts
+      → words ≡ refusal reply → broken ≡ is_broken reply → counted.refused ≡ true
+      → counted.broke ≡ tally.broke || broken → IfOk result (λ v. bytes v ≡ line words)
+      → Spoke bytes result machine old new moment who who tally counted meant
   spoke_refusal old new who meant acts reply words broken speaks goes same_words same_broken refused broke text =
       record {
         acts = acts;
@@ -44,20 +60,27 @@ module _ {V E S : Type 0} (machine : S → Machine) (stands : AlwaysStands machi
         text = subst (λ (l : List ℕ). IfOk result (λ v. bytes v ≡ line l)) same_words text;
       }
 
-  pub spoke_unknown : (m : S) (who : Option ℕ) (meant : Option Command) → meant ≡ None → counted.refused ≡ true → counted.broke ≡ tally.broke || false → IfOk result (λ v. bytes v ≡ line (codes "?Command error"))
+  pub spoke_unknown : (m : S) (who : Option ℕ) (meant : Option Command) → meant ≡ None → counted.refused ≡ true
+      → counted.broke ≡ tally.broke || false → IfOk result (λ v. bytes v ≡ line (codes "?Command error"))
       → Spoke bytes result machine m m moment who who tally counted meant
   spoke_unknown m who meant e refused broke text =
-      subst (λ (o : Option Command). Spoke bytes result machine m m moment who who tally counted o) (sym e) (spoke_complaint m who None (codes "?Command error") (refl, refl, refl) refused broke text)
+      subst (λ (o : Option Command). Spoke bytes result machine m m moment who who tally counted o) (sym e)
+      (spoke_complaint m who None (codes "?Command error") (refl, refl, refl) refused broke text)
 
   -- a line that needs a job, of which this is said without one
-  pub spoke_stranger : (m : S) (who : Option ℕ) (command : Command) → Speaks moment None (Some command) [] (complains (codes "?Not logged in")) None → who ≡ None → counted.refused ≡ true → counted.broke ≡ tally.broke || false
-      → IfOk result (λ v. bytes v ≡ line (codes "?Not logged in")) → Spoke bytes result machine m m moment who who tally counted (Some command)
+  pub spoke_stranger : (m : S) (who : Option ℕ) (command : Command)
+      → Speaks moment None (Some command) [] (complains (codes "?Not logged in")) None → who ≡ None
+      → counted.refused ≡ true → counted.broke ≡ tally.broke || false
+      → IfOk result (λ v. bytes v ≡ line (codes "?Not logged in"))
+      → Spoke bytes result machine m m moment who who tally counted (Some command)
   spoke_stranger m who command speaks e refused broke text =
-      subst (λ (o : Option ℕ). Spoke bytes result machine m m moment o o tally counted (Some command)) (sym e) (spoke_complaint m None (Some command) (codes "?Not logged in") speaks refused broke text)
+      subst (λ (o : Option ℕ). Spoke bytes result machine m m moment o o tally counted (Some command))
+      (sym e) (spoke_complaint m None (Some command) (codes "?Not logged in") speaks refused broke text)
 
   -- LOGIN.
 
-  login_refused : (who : Option ℕ) (owner : ℕ) (reply : Reply) → reply ≢ Done → Speaks moment who (Some (LoginLine owner)) (Asks (Login 1 owner core_words) reply ∷ []) (refuses reply) who
+  login_refused : (who : Option ℕ) (owner : ℕ) (reply : Reply) → reply ≢ Done
+      → Speaks moment who (Some (LoginLine owner)) (Asks (Login 1 owner core_words) reply ∷ []) (refuses reply) who
   login_refused who owner Done h = absurd (h refl)
   login_refused who owner (Value word) h = (Value word, refl, refl, refl)
   login_refused who owner (Refused code) h = (Refused code, refl, refl, refl)
@@ -70,25 +93,34 @@ module _ {V E S : Type 0} (machine : S → Machine) (stands : AlwaysStands machi
   login_refused who owner Failed h = (Failed, refl, refl, refl)
   login_refused who owner DateRange h = (DateRange, refl, refl, refl)
 
-  pub spoke_login_refused : (old new : S) (who : Option ℕ) (owner : ℕ) (reply : Reply) (words : List ℕ) (broken : Bool) → reply ≢ Done → IsAnswered (machine old) (machine new) (LogsIn 1 owner core_words) reply
-      → words ≡ refusal reply → broken ≡ is_broken reply → counted.refused ≡ true → counted.broke ≡ tally.broke || broken → IfOk result (λ v. bytes v ≡ line words)
+  pub spoke_login_refused : (old new : S) (who : Option ℕ) (owner : ℕ) (reply : Reply) (words : List ℕ) (broken : Bool)
+      → reply ≢ Done → IsAnswered (machine old) (machine new) (LogsIn 1 owner core_words) reply
+      → words ≡ refusal reply → broken ≡ is_broken reply → counted.refused ≡ true
+      → counted.broke ≡ tally.broke || broken → IfOk result (λ v. bytes v ≡ line words)
       → Spoke bytes result machine old new moment who who tally counted (Some (LoginLine owner))
   spoke_login_refused old new who owner reply words broken h answered same_words same_broken refused broke text =
-      spoke_refusal old new who (Some (LoginLine owner)) (Asks (Login 1 owner core_words) reply ∷ []) reply words broken (login_refused who owner reply h) (goes_answered machine stands old new (LogsIn 1 owner core_words) reply (served_always (LogsIn 1 owner core_words) (λ s. tt)) answered)
+      spoke_refusal old new who (Some (LoginLine owner)) (Asks (Login 1 owner core_words) reply ∷ []) reply words broken
+      (login_refused who owner reply h) (goes_answered machine stands old new (LogsIn 1 owner core_words) reply
+      (served_always (LogsIn 1 owner core_words) (λ s. tt)) answered)
       same_words same_broken refused broke text
 
   -- DIRECTORY.
 
-  pub spoke_list_refused : (old new : S) (me : ℕ) (place : Option ℕ) (owner : ℕ) (reply : Reply) (words : List ℕ) (broken : Bool) → owner ≡ unwrap_or place me → IsListed (machine old) (machine new) 1 owner (Err reply)
-      → words ≡ refusal reply → broken ≡ is_broken reply → counted.refused ≡ true → counted.broke ≡ tally.broke || broken → IfOk result (λ v. bytes v ≡ line words)
+  pub spoke_list_refused : (old new : S) (me : ℕ) (place : Option ℕ) (owner : ℕ) (reply : Reply) (words : List ℕ)
+      (broken : Bool) → owner ≡ unwrap_or place me → IsListed (machine old) (machine new) 1 owner (Err reply)
+      → words ≡ refusal reply → broken ≡ is_broken reply → counted.refused ≡ true
+      → counted.broke ≡ tally.broke || broken → IfOk result (λ v. bytes v ≡ line words)
       → Spoke bytes result machine old new moment (Some me) (Some me) tally counted (Some (DirectoryLine place))
   spoke_list_refused old new me place owner reply words broken e listed same_words same_broken refused broke text =
-      spoke_refusal old new (Some me) (Some (DirectoryLine place)) (Looks owner (Err reply) ∷ []) reply words broken ((e, refl), refl) (goes_listed machine stands old new owner (Err reply) listed)
+      spoke_refusal old new (Some me) (Some (DirectoryLine place)) (Looks owner (Err reply) ∷ []) reply words broken
+      ((e, refl), refl) (goes_listed machine stands old new owner (Err reply) listed)
       same_words same_broken refused broke text
 
   -- What is left of a line where a call was not done.
-  pub concludes_refusal : (old new : S) (reply : Reply) (words : List ℕ) (broken : Bool) → Led machine old new (fails moment reply) (Say (refuses reply))
-      → words ≡ refusal reply → broken ≡ is_broken reply → counted.refused ≡ true → counted.broke ≡ tally.broke || broken → IfOk result (λ v. bytes v ≡ line words)
+  pub concludes_refusal : (old new : S) (reply : Reply) (words : List ℕ) (broken : Bool)
+      → Led machine old new (fails moment reply) (Say (refuses reply))
+      → words ≡ refusal reply → broken ≡ is_broken reply → counted.refused ≡ true
+      → counted.broke ≡ tally.broke || broken → IfOk result (λ v. bytes v ≡ line words)
       → Concludes bytes result machine old new (fails moment reply) tally counted
   concludes_refusal old new reply words broken led same_words same_broken refused broke text =
       record {
@@ -100,29 +132,47 @@ module _ {V E S : Type 0} (machine : S → Machine) (stands : AlwaysStands machi
       }
 
   -- A line that needs a job, led to its end.
-  pub spoke_concluded : (old mid new : S) (me : ℕ) (command : Command) (rest : Plan) → ((acts : List Act) (said : Spoken) → Conducts (begins moment me command) acts said → Speaks moment (Some me) (Some command) acts said (Some me))
-      → Led machine old mid (begins moment me command) rest → Concludes bytes result machine mid new rest tally counted → Spoke bytes result machine old new moment (Some me) (Some me) tally counted (Some command)
+  pub spoke_concluded : (old mid new : S) (me : ℕ) (command : Command) (rest : Plan)
+      → ((acts : List Act) (said : Spoken) → Conducts (begins moment me command) acts said
+      → Speaks moment (Some me) (Some command) acts said (Some me))
+      → Led machine old mid (begins moment me command) rest → Concludes bytes result machine mid new rest tally counted
+      → Spoke bytes result machine old new moment (Some me) (Some me) tally counted (Some command)
   spoke_concluded old mid new me command rest speaks led p =
       let whole = led_on machine old mid new (begins moment me command) rest (Say p.said) led p.led in
-      record { acts = whole.acts; said = p.said; speaks = speaks whole.acts p.said whole.leads; goes = whole.goes; refused = p.refused; broke = p.broke; text = p.text }
+      record {
+        acts = whole.acts;
+        said = p.said;
+        speaks = speaks whole.acts p.said whole.leads;
+        goes = whole.goes;
+        refused = p.refused;
+        broke = p.broke;
+        text = p.text;
+      }
 
 -- The same where it was done: nothing is counted.
-module _ {V E S : Type 0} (machine : S → Machine) (stands : AlwaysStands machine) (bytes : V → List ℕ) (result : Result V E) (moment : Moment) (tally : Tally) where
-  pub spoke_login : (old new : S) (who : Option ℕ) (owner : ℕ) (reply : Reply) → reply ≡ Done → IsAnswered (machine old) (machine new) (LogsIn 1 owner core_words) reply → IfOk result (λ v. bytes v ≡ greeting owner)
+module _ {V E S : Type 0} (machine : S → Machine) (stands : AlwaysStands machine) (bytes : V
+    → List ℕ) (result : Result V E) (moment : Moment) (tally : Tally) where
+  pub spoke_login : (old new : S) (who : Option ℕ) (owner : ℕ) (reply : Reply) → reply ≡ Done
+      → IsAnswered (machine old) (machine new) (LogsIn 1 owner core_words) reply
+      → IfOk result (λ v. bytes v ≡ greeting owner)
       → Spoke bytes result machine old new moment who (Some owner) tally tally (Some (LoginLine owner))
   spoke_login old new who owner reply e answered text =
       record {
         acts = Asks (Login 1 owner core_words) Done ∷ [];
         said = prints (greeting owner);
         speaks = (Done, refl, refl, refl);
-        goes = goes_answered machine stands old new (LogsIn 1 owner core_words) Done (served_always (LogsIn 1 owner core_words) (λ s. tt)) (subst (IsAnswered (machine old) (machine new) (LogsIn 1 owner core_words)) e answered);
+        goes = goes_answered machine stands old new (LogsIn 1 owner core_words) Done
+            (served_always (LogsIn 1 owner core_words) (λ s. tt))
+            (subst (IsAnswered (machine old) (machine new) (LogsIn 1 owner core_words)) e answered);
         refused = or-false tally.refused;
         broke = or-false tally.broke;
         text = text;
       }
 
-  pub spoke_list : (old new : S) (me : ℕ) (place : Option ℕ) (owner : ℕ) (entries shown : List Entry) → owner ≡ unwrap_or place me → IsListed (machine old) (machine new) 1 owner (Ok entries) → shown ≡ entries
-      → IfOk result (λ v. bytes v ≡ listing owner shown) → Spoke bytes result machine old new moment (Some me) (Some me) tally tally (Some (DirectoryLine place))
+  pub spoke_list : (old new : S) (me : ℕ) (place : Option ℕ) (owner : ℕ) (entries shown : List Entry)
+      → owner ≡ unwrap_or place me → IsListed (machine old) (machine new) 1 owner (Ok entries) → shown ≡ entries
+      → IfOk result (λ v. bytes v ≡ listing owner shown)
+      → Spoke bytes result machine old new moment (Some me) (Some me) tally tally (Some (DirectoryLine place))
   spoke_list old new me place owner entries shown e listed same text =
       record {
         acts = Looks owner (Ok entries) ∷ [];
@@ -135,5 +185,13 @@ module _ {V E S : Type 0} (machine : S → Machine) (stands : AlwaysStands machi
       }
 
   -- What is left of a line that prints OK, all calls of which were done.
-  pub concludes_ok : (old new : S) → Led machine old new (ends moment ok) (Say ok) → IfOk result (λ v. bytes v ≡ line (codes "OK")) → Concludes bytes result machine old new (ends moment ok) tally tally
-  concludes_ok old new led text = record { said = ok; led = led; refused = or-false tally.refused; broke = or-false tally.broke; text = text }
+  pub concludes_ok : (old new : S) → Led machine old new (ends moment ok) (Say ok)
+      → IfOk result (λ v. bytes v ≡ line (codes "OK"))
+      → Concludes bytes result machine old new (ends moment ok) tally tally
+  concludes_ok old new led text = record {
+    said = ok;
+    led = led;
+    refused = or-false tally.refused;
+    broke = or-false tally.broke;
+    text = text;
+  }

@@ -1,7 +1,9 @@
 -- How a file is copied: its plan, step by step.
-use Rattle.std.proofs.Common.{◌≡◌, ◌≢◌, ℕ, zero, suc, ◌+◌, ◌-◌, ◌<◌, ◌≤◌, List, [], ◌∷◌, ◌++◌, map, refl, sym, ◌∙◌, ap, subst, arith}
+use Rattle.std.proofs.Common.{◌≡◌, ◌≢◌, ℕ, zero, suc, ◌+◌, ◌-◌, ◌<◌, ◌≤◌, List, [], ◌∷◌, ◌++◌, map, refl, sym, ◌∙◌, ap}
+use Rattle.std.proofs.Common.{subst, arith}
 use Rattle.words36.specs.declared.moment.Moment.{Moment}
-use Rattle.meaning.specs.Plans.{Plan, each, examines, fails, finds, writes, lists, takes, puts, calls, copies_blocks, copies_last, copies_body, until_end, blocks_said, file_words}
+use Rattle.meaning.specs.Plans.{Plan, each, examines, fails, finds, writes, lists, takes, puts, calls, copies_blocks}
+use Rattle.meaning.specs.Plans.{copies_last, copies_body, until_end, blocks_said, file_words}
 use Rattle.meaning.specs.declared.command.Spec.{Spec}
 use Rattle.meaning.specs.declared.call.Call.TheVariants.{Close}
 use Rattle.meaning.specs.declared.call.Reply.{Reply}
@@ -20,10 +22,13 @@ all_less : (m i : ℕ) → m ≤ i → m - i ≡ 0
 all_less m i h = omega arith
 
 -- what is asked of events and of those behind them
-pub each_both : (moment : Moment) (asked : List Event) (events more : List Event) (next : Plan) → asked ≡ events → each moment (events ++ more) next ≡ each moment asked (each moment more next)
-each_both moment asked events more next e = each_append moment events more next ∙ ap (λ (l : List Event). each moment l (each moment more next)) (sym e)
+pub each_both : (moment : Moment) (asked : List Event) (events more : List Event) (next : Plan) → asked ≡ events
+    → each moment (events ++ more) next ≡ each moment asked (each moment more next)
+each_both moment asked events more next e = each_append moment events more next
+    ∙ ap (λ (l : List Event). each moment l (each moment more next)) (sym e)
 
-block_copied : (moment : Moment) (more : ℕ) (next : Plan) → copies_blocks moment (suc more) next ≡ each moment (takes moment ∷ puts moment ∷ []) (copies_blocks moment more next)
+block_copied : (moment : Moment) (more : ℕ) (next : Plan) → copies_blocks moment (suc more) next
+    ≡ each moment (takes moment ∷ puts moment ∷ []) (copies_blocks moment more next)
 unfolding copies_blocks
 block_copied moment more next = refl
 
@@ -34,70 +39,105 @@ none_copied moment next = refl
 one_before : (more : ℕ) → more ≡ suc more - 1
 one_before more = omega arith
 
-body_copied : (moment : Moment) (blocks size : ℕ) (next : Plan) → 0 < blocks → copies_body moment blocks size next ≡ copies_blocks moment (blocks - 1) (copies_last moment blocks size next)
+body_copied : (moment : Moment) (blocks size : ℕ) (next : Plan) → 0 < blocks
+    → copies_body moment blocks size next ≡ copies_blocks moment (blocks - 1) (copies_last moment blocks size next)
 body_copied moment zero size next h = absurd (omega arith)
-body_copied moment (suc more) size next h = ap (λ (k : ℕ). copies_blocks moment k (copies_last moment (suc more) size next)) (one_before more)
+body_copied moment (suc more) size next h = ap
+    (λ (k : ℕ). copies_blocks moment k (copies_last moment (suc more) size next)) (one_before more)
 
-none_in_body : (moment : Moment) (blocks size : ℕ) (next : Plan) → blocks ≡ 0 → copies_body moment blocks size next ≡ next
+none_in_body : (moment : Moment) (blocks size : ℕ) (next : Plan) → blocks ≡ 0
+    → copies_body moment blocks size next ≡ next
 none_in_body moment blocks size next e = ap (λ (k : ℕ). copies_body moment k size next) e
 
 module _ {S : Type 0} (machine : S → Machine) where
   -- events that were asked for a plan that begins with these
-  pub led_each : (a b : S) (moment : Moment) (asked : List Event) (events : List Event) (next rest : Plan) → asked ≡ events → Led machine a b (each moment asked next) rest → Led machine a b (each moment events next) rest
-  led_each a b moment asked events next rest e p = subst (λ (l : List Event). Led machine a b (each moment l next) rest) e p
+  pub led_each : (a b : S) (moment : Moment) (asked : List Event) (events : List Event) (next rest : Plan)
+      → asked ≡ events → Led machine a b (each moment asked next) rest → Led machine a b (each moment events next) rest
+  led_each a b moment asked events next rest e p = subst (λ (l : List Event). Led machine a b (each moment l next) rest)
+      e p
 
   -- the same where others come behind them
-  pub led_first : (a b : S) (moment : Moment) (asked : List Event) (events more : List Event) (next rest : Plan) → asked ≡ events → Led machine a b (each moment asked (each moment more next)) rest
+  pub led_first : (a b : S) (moment : Moment) (asked : List Event) (events more : List Event) (next rest : Plan)
+      → asked ≡ events → Led machine a b (each moment asked (each moment more next)) rest
       → Led machine a b (each moment (events ++ more) next) rest
-  led_first a b moment asked events more next rest e p = subst (λ (l : Plan). Led machine a b l rest) (sym (each_both moment asked events more next e)) p
+  led_first a b moment asked events more next rest e p = subst (λ (l : Plan). Led machine a b l rest)
+      (sym (each_both moment asked events more next e)) p
 
   -- Blocks.
 
-  module _ (a b c : S) (moment : Moment) (count i : ℕ) (asked : List Event) (is_asked : asked ≡ takes moment ∷ puts moment ∷ []) (h : i < count)
-      (before : (next : Plan) → Led machine a b (copies_blocks moment count next) (copies_blocks moment (count - i) next)) where
-    block_led : (next rest : Plan) → Led machine b c (each moment asked (copies_blocks moment (count - (i + 1)) next)) rest → Led machine a c (copies_blocks moment count next) rest
+  module _ (a b c : S) (moment : Moment) (count i : ℕ) (asked : List Event) (is_asked : asked
+      ≡ takes moment ∷ puts moment ∷ []) (h : i < count)
+      (before : (next : Plan)
+      → Led machine a b (copies_blocks moment count next) (copies_blocks moment (count - i) next)) where
+    block_led : (next rest : Plan) → Led machine b c (each moment asked (copies_blocks moment (count - (i + 1)) next))
+        rest → Led machine a c (copies_blocks moment count next) rest
     block_led next rest p =
-        led_on machine a b c (copies_blocks moment count next) (copies_blocks moment (count - i) next) rest (before next)
-        (subst (λ (l : Plan). Led machine b c l rest) (sym (ap (λ (k : ℕ). copies_blocks moment k next) (one_less count i h) ∙ block_copied moment (count - (i + 1)) next))
-        (led_each b c moment asked (takes moment ∷ puts moment ∷ []) (copies_blocks moment (count - (i + 1)) next) rest is_asked p))
+        led_on machine a b c (copies_blocks moment count next) (copies_blocks moment (count - i) next) rest
+        (before next)
+        (subst (λ (l : Plan). Led machine b c l rest)
+        (sym (ap (λ (k : ℕ). copies_blocks moment k next) (one_less count i h)
+        ∙ block_copied moment (count - (i + 1)) next))
+        (led_each b c moment asked (takes moment ∷ puts moment ∷ []) (copies_blocks moment (count - (i + 1)) next)
+        rest is_asked p))
 
-    pub blocks_more : ((next : Plan) → Led machine b c (each moment asked next) next) → (next : Plan) → Led machine a c (copies_blocks moment count next) (copies_blocks moment (count - (i + 1)) next)
-    blocks_more p next = block_led next (copies_blocks moment (count - (i + 1)) next) (p (copies_blocks moment (count - (i + 1)) next))
+    pub blocks_more : ((next : Plan) → Led machine b c (each moment asked next) next) → (next : Plan)
+        → Led machine a c (copies_blocks moment count next) (copies_blocks moment (count - (i + 1)) next)
+    blocks_more p next = block_led next (copies_blocks moment (count - (i + 1)) next)
+        (p (copies_blocks moment (count - (i + 1)) next))
 
-    pub blocks_fail : (reply : Reply) → ((next : Plan) → Led machine b c (each moment asked next) (fails moment reply)) → (next : Plan) → Led machine a c (copies_blocks moment count next) (fails moment reply)
+    pub blocks_fail : (reply : Reply) → ((next : Plan) → Led machine b c (each moment asked next) (fails moment reply))
+        → (next : Plan) → Led machine a c (copies_blocks moment count next) (fails moment reply)
     blocks_fail reply p next = block_led next (fails moment reply) (p (copies_blocks moment (count - (i + 1)) next))
 
-  pub blocks_all : (a b : S) (moment : Moment) (count i : ℕ) → count ≤ i → ((next : Plan) → Led machine a b (copies_blocks moment count next) (copies_blocks moment (count - i) next))
+  pub blocks_all : (a b : S) (moment : Moment) (count i : ℕ) → count ≤ i
+      → ((next : Plan) → Led machine a b (copies_blocks moment count next) (copies_blocks moment (count - i) next))
       → (next : Plan) → Led machine a b (copies_blocks moment count next) next
-  blocks_all a b moment count i h p next = subst (λ (l : Plan). Led machine a b (copies_blocks moment count next) l) (ap (λ (k : ℕ). copies_blocks moment k next) (all_less count i h) ∙ none_copied moment next) (p next)
+  blocks_all a b moment count i h p next = subst (λ (l : Plan). Led machine a b (copies_blocks moment count next) l)
+      (ap (λ (k : ℕ). copies_blocks moment k next) (all_less count i h) ∙ none_copied moment next) (p next)
 
-  pub blocks_none : AlwaysStands machine → (a : S) (moment : Moment) (count : ℕ) (next : Plan) → Led machine a a (copies_blocks moment count next) (copies_blocks moment (count - 0) next)
-  blocks_none stands a moment count next = subst (λ (k : ℕ). Led machine a a (copies_blocks moment count next) (copies_blocks moment k next)) (sym (none_less count)) (led_still machine stands a (copies_blocks moment count next))
+  pub blocks_none : AlwaysStands machine → (a : S) (moment : Moment) (count : ℕ) (next : Plan)
+      → Led machine a a (copies_blocks moment count next) (copies_blocks moment (count - 0) next)
+  blocks_none stands a moment count next = subst
+      (λ (k : ℕ). Led machine a a (copies_blocks moment count next) (copies_blocks moment k next))
+      (sym (none_less count)) (led_still machine stands a (copies_blocks moment count next))
 
   -- A body.
 
-  pub body_none : AlwaysStands machine → (a : S) (moment : Moment) (blocks size : ℕ) (next : Plan) → blocks ≡ 0 → Led machine a a (copies_body moment blocks size next) next
-  body_none stands a moment blocks size next e = subst (λ (l : Plan). Led machine a a l next) (sym (none_in_body moment blocks size next e)) (led_still machine stands a next)
+  pub body_none : AlwaysStands machine → (a : S) (moment : Moment) (blocks size : ℕ) (next : Plan) → blocks ≡ 0
+      → Led machine a a (copies_body moment blocks size next) next
+  body_none stands a moment blocks size next e = subst (λ (l : Plan). Led machine a a l next)
+      (sym (none_in_body moment blocks size next e)) (led_still machine stands a next)
 
   -- whole blocks come first
-  pub body_led : (a b : S) (moment : Moment) (blocks size : ℕ) (next rest : Plan) → 0 < blocks → Led machine a b (copies_blocks moment (blocks - 1) (copies_last moment blocks size next)) rest → Led machine a b (copies_body moment blocks size next) rest
-  body_led a b moment blocks size next rest h p = subst (λ (l : Plan). Led machine a b l rest) (sym (body_copied moment blocks size next h)) p
+  pub body_led : (a b : S) (moment : Moment) (blocks size : ℕ) (next rest : Plan) → 0 < blocks
+      → Led machine a b (copies_blocks moment (blocks - 1) (copies_last moment blocks size next)) rest
+      → Led machine a b (copies_body moment blocks size next) rest
+  body_led a b moment blocks size next rest h p = subst (λ (l : Plan). Led machine a b l rest)
+      (sym (body_copied moment blocks size next h)) p
 
 -- Lists of events that follow one another.
 module _ {S : Type 0} (machine : S → Machine) (moment : Moment) where
-  pub second_led : (a b c : S) (first second : List Event) (f s t : List Event) (next rest : Plan) → first ≡ f → second ≡ s → ((then : Plan) → Led machine a b (each moment first then) then)
-      → Led machine b c (each moment second (each moment t next)) rest → Led machine a c (each moment (f ++ (s ++ t)) next) rest
+  pub second_led : (a b c : S) (first second : List Event) (f s t : List Event) (next rest : Plan) → first ≡ f
+      → second ≡ s → ((then : Plan) → Led machine a b (each moment first then) then)
+      → Led machine b c (each moment second (each moment t next)) rest
+      → Led machine a c (each moment (f ++ (s ++ t)) next) rest
   second_led a b c first second f s t next rest is_first is_second p q =
       led_on machine a b c (each moment (f ++ (s ++ t)) next) (each moment (s ++ t) next) rest
-      (led_first machine a b moment first f (s ++ t) next (each moment (s ++ t) next) is_first (p (each moment (s ++ t) next))) (led_first machine b c moment second s t next rest is_second q)
+      (led_first machine a b moment first f (s ++ t) next (each moment (s ++ t) next) is_first
+      (p (each moment (s ++ t) next))) (led_first machine b c moment second s t next rest is_second q)
 
-  pub third_led : (a b c d : S) (first second third : List Event) (f s t : List Event) (next rest : Plan) → first ≡ f → second ≡ s → third ≡ t
-      → ((then : Plan) → Led machine a b (each moment first then) then) → ((then : Plan) → Led machine b c (each moment second then) then) → Led machine c d (each moment third next) rest
+  pub third_led : (a b c d : S) (first second third : List Event) (f s t : List Event) (next rest : Plan)
+      → first ≡ f → second ≡ s → third ≡ t
+      → ((then : Plan) → Led machine a b (each moment first then) then)
+      → ((then : Plan) → Led machine b c (each moment second then) then) → Led machine c d (each moment third next) rest
       → Led machine a d (each moment (f ++ (s ++ t)) next) rest
   third_led a b c d first second third f s t next rest is_first is_second is_third p q r =
       led_on machine a b d (each moment (f ++ (s ++ t)) next) (each moment (s ++ t) next) rest
-      (led_first machine a b moment first f (s ++ t) next (each moment (s ++ t) next) is_first (p (each moment (s ++ t) next)))
-      (led_on machine b c d (each moment (s ++ t) next) (each moment t next) rest (led_first machine b c moment second s t next (each moment t next) is_second (q (each moment t next))) (led_each machine c d moment third t next rest is_third r))
+      (led_first machine a b moment first f (s ++ t) next (each moment (s ++ t) next) is_first
+      (p (each moment (s ++ t) next)))
+      (led_on machine b c d (each moment (s ++ t) next) (each moment t next) rest
+      (led_first machine b c moment second s t next (each moment t next) is_second (q (each moment t next)))
+      (led_each machine c d moment third t next rest is_third r))
 
 pub not_none : (n : ℕ) → n ≢ 0 → 0 < n
 not_none n h = omega arith
@@ -111,4 +151,5 @@ abbrev pub copied_then : Moment → Plan → ℕ → Plan
 copied_then moment next size = copies_body moment (blocks_said size) size (until_end moment (closed_then moment next))
 
 abbrev pub copied_all : Moment → Spec → Spec → Plan → Plan
-copied_all moment to from next = each moment (finds moment from ++ writes moment to ++ lists 128) (examines moment (file_words + 3) (copied_then moment next))
+copied_all moment to from next = each moment (finds moment from ++ writes moment to ++ lists 128)
+    (examines moment (file_words + 3) (copied_then moment next))

@@ -11,103 +11,172 @@ use Rattle.meaning.specs.declared.call.Reply.{Reply}
 use Rattle.monitor.specs.Runs.{IsServedIn, IsServedAt}
 use Rattle.meaning.specs.declared.call.Event.{Event}
 use Rattle.commands.specs.Languages.{Goes}
-use Rattle.commands.specs.Machines.{Machine, IsAnswered, IsListed, AlwaysStands, ActsBy, GoesBy, AreServedActs, GoesServed}
+use Rattle.commands.specs.Machines.{Machine, IsAnswered, IsListed, AlwaysStands, ActsBy, GoesBy, AreServedActs}
+use Rattle.commands.specs.Machines.{GoesServed}
 use Rattle.commands.specs.declared.language.Language.{Language}
 use Rattle.commands.specs.declared.language.Language.TheVariants.{Commands, Events}
 
-went-append : (pack : Pack) (first : Service) (acts more : List Act) (mid last : Service) → Went pack first acts mid → Went pack mid more last → Went pack first (acts ++ more) last
+went-append : (pack : Pack) (first : Service) (acts more : List Act) (mid last : Service) → Went pack first acts mid
+    → Went pack mid more last → Went pack first (acts ++ more) last
 went-append pack first [] more mid last p q = subst (λ (s : Service). Went pack s more last) p q
 went-append pack first (act ∷ acts) more mid last p q = (p.0, p.1, went-append pack p.0 acts more mid last p.2 q)
 
-pub went_apart : (pack : Pack) (first : Service) (acts more : List Act) (last : Service) → Went pack first (acts ++ more) last → (mid : Service) × Went pack first acts mid × Went pack mid more last
+pub went_apart : (pack : Pack) (first : Service) (acts more : List Act) (last : Service)
+    → Went pack first (acts ++ more) last → (mid : Service) × Went pack first acts mid × Went pack mid more last
 went_apart pack first [] more last p = (first, refl, p)
-went_apart pack first (act ∷ acts) more last p = let rest = went_apart pack p.0 acts more last p.2 in (rest.0, (p.0, p.1, rest.1), rest.2)
+went_apart pack first (act ∷ acts) more last p = let rest = went_apart pack p.0 acts more last p.2 in
+    (rest.0, (p.0, p.1, rest.1), rest.2)
 
 -- after a fault each act tells of it
 went_broken : (pack : Pack) (acts : List Act) (last : Service) → Went pack Broken acts last → last ≡ Broken
 went_broken pack [] last p = p
 went_broken pack (Asks event reply ∷ acts) last (Broken, answers, rest) = went_broken pack acts last rest
 went_broken pack (Asks event reply ∷ acts) last (Serving s, answers, rest) = absurd answers
-went_broken pack (Looks owner answer ∷ acts) last (mid, lists, rest) = went_broken pack acts last (subst (λ (s : Service). Went pack s acts last) lists.1 rest)
+went_broken pack (Looks owner answer ∷ acts) last (mid, lists, rest) = went_broken pack acts last
+    (subst (λ (s : Service). Went pack s acts last) lists.1 rest)
 
 module _ {S : Type 0} (machine : S → Machine) where
   -- what the service went through, without its moments
-  pub acts_went : (pack : Pack) (old : S) (first : Service) (acts : List Act) (new : S) (last : Service) → ActsBy machine pack old first acts new last → Went pack first acts last
+  pub acts_went : (pack : Pack) (old : S) (first : Service) (acts : List Act) (new : S) (last : Service)
+      → ActsBy machine pack old first acts new last → Went pack first acts last
   acts_went pack old Broken acts new last p = p.1
   acts_went pack old (Serving s) [] new last p = p.1
-  acts_went pack old (Serving s) (Asks event reply ∷ acts) new last p = (p.2, p.3, acts_went pack p.1 p.2 acts new last p.5)
-  acts_went pack old (Serving s) (Looks owner answer ∷ acts) new last p = (p.2, p.3, acts_went pack p.1 p.2 acts new last p.5)
+  acts_went pack old (Serving s) (Asks event reply ∷ acts) new last p =
+      (p.2, p.3, acts_went pack p.1 p.2 acts new last p.5)
+  acts_went pack old (Serving s) (Looks owner answer ∷ acts) new last p =
+      (p.2, p.3, acts_went pack p.1 p.2 acts new last p.5)
 
-  acts_on : (pack : Pack) (old mid new : S) (first then last : Service) (acts more : List Act) → ActsBy machine pack old first acts mid then → ActsBy machine pack mid then more new last → ActsBy machine pack old first (acts ++ more) new last
+  acts_on : (pack : Pack) (old mid new : S) (first then last : Service) (acts more : List Act)
+      → ActsBy machine pack old first acts mid then → ActsBy machine pack mid then more new last
+      → ActsBy machine pack old first (acts ++ more) new last
   acts_on pack old mid new Broken then last acts more p q =
-      let rest = subst (λ (s : Service). ActsBy machine pack mid s more new last) (went_broken pack acts then p.1) q in
-      (still_on (machine old).disk (machine mid).disk (machine new).disk p.0 rest.0, went-append pack Broken acts more Broken last (subst (λ (s : Service). Went pack Broken acts s) (went_broken pack acts then p.1) p.1) rest.1)
+      let rest = subst (λ (s : Service). ActsBy machine pack mid s more new last) (went_broken pack acts then p.1) q in (
+        still_on (machine old).disk (machine mid).disk (machine new).disk p.0 rest.0,
+        went-append pack Broken acts more Broken last
+            (subst (λ (s : Service). Went pack Broken acts s) (went_broken pack acts then p.1) p.1) rest.1,
+      )
   acts_on pack old mid new (Serving s) then last [] more p q =
-      subst (λ (v : S). ActsBy machine pack v (Serving s) more new last) p.0 (subst (λ (x : Service). ActsBy machine pack mid x more new last) p.1 q)
-  acts_on pack old mid new (Serving s) then last (Asks event reply ∷ acts) more p q = (p.0, p.1, p.2, p.3, p.4, acts_on pack p.1 mid new p.2 then last acts more p.5 q)
-  acts_on pack old mid new (Serving s) then last (Looks owner answer ∷ acts) more p q = (p.0, p.1, p.2, p.3, p.4, acts_on pack p.1 mid new p.2 then last acts more p.5 q)
+      subst (λ (v : S). ActsBy machine pack v (Serving s) more new last) p.0
+      (subst (λ (x : Service). ActsBy machine pack mid x more new last) p.1 q)
+  acts_on pack old mid new (Serving s)
+      then last (Asks event reply ∷ acts) more p q = (
+        p.0,
+        p.1,
+        p.2,
+        p.3,
+        p.4,
+        acts_on pack p.1 mid new p.2 then last acts more p.5 q,
+      )
+  acts_on pack old mid new (Serving s)
+      then last (Looks owner answer ∷ acts) more p q = (
+        p.0,
+        p.1,
+        p.2,
+        p.3,
+        p.4,
+        acts_on pack p.1 mid new p.2 then last acts more p.5 q,
+      )
 
-  pub goes_on : (a b c : S) (acts more : List Act) → GoesBy machine a b acts → GoesBy machine b c more → GoesBy machine a c (acts ++ more)
+  pub goes_on : (a b c : S) (acts more : List Act) → GoesBy machine a b acts → GoesBy machine b c more
+      → GoesBy machine a c (acts ++ more)
   goes_on a b c acts more p q = record {
     pack = q.pack ∙ p.pack;
     was_honest = λ h. p.was_honest (q.was_honest h);
     went = λ h first s.
         let one = p.went (q.was_honest h) first s in
-        let next = q.went h one.0 one.1 in
-        (next.0, next.1, acts_on (machine a).pack a b c first one.0 next.0 acts more one.2 (subst (λ (k : Pack). ActsBy machine k b one.0 more c next.0) p.pack next.2));
+        let next = q.went h one.0 one.1 in (
+          next.0,
+          next.1,
+          acts_on (machine a).pack a b c first one.0 next.0 acts more one.2
+              (subst (λ (k : Pack). ActsBy machine k b one.0 more c next.0) p.pack next.2),
+        );
   }
 
   -- The same where the acts are of events that are served.
 
-  served_before : (pack : Pack) (first : Service) (acts more : List Act) → AreServedActs pack first (acts ++ more) → AreServedActs pack first acts
+  served_before : (pack : Pack) (first : Service) (acts more : List Act) → AreServedActs pack first (acts ++ more)
+      → AreServedActs pack first acts
   served_before pack first [] more p = tt
-  served_before pack first (Asks event reply ∷ acts) more p = (p.0, λ mid a. served_before pack mid acts more (p.1 mid a))
+  served_before pack first (Asks event reply ∷ acts) more p =
+      (p.0, λ mid a. served_before pack mid acts more (p.1 mid a))
   served_before pack first (Looks owner answer ∷ acts) more p = λ mid a. served_before pack mid acts more (p mid a)
 
-  served_behind : (pack : Pack) (first : Service) (acts more : List Act) (mid : Service) → Went pack first acts mid → AreServedActs pack first (acts ++ more) → AreServedActs pack mid more
+  served_behind : (pack : Pack) (first : Service) (acts more : List Act) (mid : Service) → Went pack first acts mid
+      → AreServedActs pack first (acts ++ more) → AreServedActs pack mid more
   served_behind pack first [] more mid w p = subst (λ (s : Service). AreServedActs pack s more) (sym w) p
-  served_behind pack first (Asks event reply ∷ acts) more mid w p = served_behind pack w.0 acts more mid w.2 (p.1 w.0 w.1)
-  served_behind pack first (Looks owner answer ∷ acts) more mid w p = served_behind pack w.0 acts more mid w.2 (p w.0 w.1)
+  served_behind pack first (Asks event reply ∷ acts) more mid w p = served_behind pack w.0 acts more mid w.2
+      (p.1 w.0 w.1)
+  served_behind pack first (Looks owner answer ∷ acts) more mid w p = served_behind pack w.0 acts more mid w.2
+      (p w.0 w.1)
 
-  goes_served_on : (a b c : S) (acts more : List Act) → GoesServed machine a b acts → GoesServed machine b c more → GoesServed machine a c (acts ++ more)
+  goes_served_on : (a b c : S) (acts more : List Act) → GoesServed machine a b acts → GoesServed machine b c more
+      → GoesServed machine a c (acts ++ more)
   goes_served_on a b c acts more p q = record {
     pack = q.pack ∙ p.pack;
     was_honest = λ h. p.was_honest (q.was_honest h);
     went = λ h first s served.
         let one = p.went (q.was_honest h) first s (served_before (machine a).pack first acts more served) in
-        let rest = served_behind (machine a).pack first acts more one.0 (acts_went (machine a).pack a first acts b one.0 one.2) served in
-        let next = q.went h one.0 one.1 (subst (λ (k : Pack). AreServedActs k one.0 more) (sym p.pack) rest) in
-        (next.0, next.1, acts_on (machine a).pack a b c first one.0 next.0 acts more one.2 (subst (λ (k : Pack). ActsBy machine k b one.0 more c next.0) p.pack next.2));
+        let rest = served_behind (machine a).pack first acts more one.0
+        (acts_went (machine a).pack a first acts b one.0 one.2) served in
+        let next = q.went h one.0 one.1 (subst (λ (k : Pack). AreServedActs k one.0 more) (sym p.pack) rest) in (
+          next.0,
+          next.1,
+          acts_on (machine a).pack a b c first one.0 next.0 acts more one.2
+              (subst (λ (k : Pack). ActsBy machine k b one.0 more c next.0) p.pack next.2),
+        );
   }
 
-  pub goes_further : (language : Language) (a b c : S) (acts more : List Act) → Goes language machine a b acts → Goes language machine b c more → Goes language machine a c (acts ++ more)
+  pub goes_further : (language : Language) (a b c : S) (acts more : List Act) → Goes language machine a b acts
+      → Goes language machine b c more → Goes language machine a c (acts ++ more)
   goes_further Commands a b c acts more p q = goes_on a b c acts more p q
   goes_further Events a b c acts more p q = goes_served_on a b c acts more p q
 
   module _ (stands : AlwaysStands machine) where
-    acts_none : (a : S) (first : Service) → (machine a).honest → (machine a).serves first → ActsBy machine (machine a).pack a first [] a first
+    acts_none : (a : S) (first : Service) → (machine a).honest → (machine a).serves first
+        → ActsBy machine (machine a).pack a first [] a first
     acts_none a Broken h serves = (still_start (machine a).disk, refl)
     acts_none a (Serving s) h serves = (refl, refl, stands a h s serves)
 
     pub goes_nowhere : (a : S) → GoesBy machine a a []
-    goes_nowhere a = record { pack = refl; was_honest = λ h. h; went = λ h first serves. (first, serves, acts_none a first h serves) }
+    goes_nowhere a = record {
+      pack = refl;
+      was_honest = λ h. h;
+      went = λ h first serves. (first, serves, acts_none a first h serves);
+    }
 
     pub goes_still : (language : Language) (a : S) → Goes language machine a a []
     goes_still Commands a = goes_nowhere a
-    goes_still Events a = record { pack = refl; was_honest = λ h. h; went = λ h first serves served. (first, serves, acts_none a first h serves) }
+    goes_still Events a = record {
+      pack = refl;
+      was_honest = λ h. h;
+      went = λ h first serves served. (first, serves, acts_none a first h serves);
+    }
 
     -- Nothing more was done behind an act.
-    acts_end : (a b : S) (last : Service) → (machine b).pack ≡ (machine a).pack → (machine b).honest → (machine b).serves last → ActsBy machine (machine a).pack b last [] b last
-    acts_end a b last same h serves = subst (λ (k : Pack). ActsBy machine k b last [] b last) same (acts_none b last h serves)
+    acts_end : (a b : S) (last : Service) → (machine b).pack ≡ (machine a).pack → (machine b).honest
+        → (machine b).serves last → ActsBy machine (machine a).pack b last [] b last
+    acts_end a b last same h serves = subst (λ (k : Pack). ActsBy machine k b last [] b last) same
+        (acts_none b last h serves)
 
-    module _ (a b : S) (event : Event) (reply : Reply) (p : IsAnswered (machine a) (machine b) event reply) (h : (machine b).honest) where
-      answered_acts : (first last : Service) → (machine a).serves first → (machine b).serves last → Answers (machine a).pack first event reply last
+    module _ (a b : S) (event : Event) (reply : Reply) (p : IsAnswered (machine a) (machine b) event reply)
+        (h : (machine b).honest) where
+      answered_acts : (first last : Service) → (machine a).serves first → (machine b).serves last
+          → Answers (machine a).pack first event reply last
           → ActsBy machine (machine a).pack a first (Asks event reply ∷ []) b last
       answered_acts Broken last serves then answers = (p.broken h serves, (last, answers, refl))
-      answered_acts (Serving s) last serves then answers = (stands a (p.was_honest h) s serves, b, last, answers, p.crash h s serves, acts_end a b last p.pack h then)
+      answered_acts (Serving s) last serves
+          then answers = (
+            stands a (p.was_honest h) s serves,
+            b,
+            last,
+            answers,
+            p.crash h s serves,
+            acts_end a b last p.pack h then,
+          )
 
     -- an event that every service serves
-    pub goes_answered : (a b : S) (event : Event) (reply : Reply) → ((first : Service) → IsServedIn first event) → IsAnswered (machine a) (machine b) event reply → GoesBy machine a b (Asks event reply ∷ [])
+    pub goes_answered : (a b : S) (event : Event) (reply : Reply) → ((first : Service) → IsServedIn first event)
+        → IsAnswered (machine a) (machine b) event reply → GoesBy machine a b (Asks event reply ∷ [])
     goes_answered a b event reply served p = record {
       pack = p.pack;
       was_honest = p.was_honest;
@@ -117,20 +186,27 @@ module _ {S : Type 0} (machine : S → Machine) where
     }
 
     -- an event that is served where the acts before it lead
-    pub goes_then : (a b c : S) (acts : List Act) (event : Event) (reply : Reply) → GoesBy machine a b acts → ((pack : Pack) (first last : Service) → Went pack first acts last → IsServedIn last event)
+    pub goes_then : (a b c : S) (acts : List Act) (event : Event) (reply : Reply) → GoesBy machine a b acts
+        → ((pack : Pack) (first last : Service) → Went pack first acts last → IsServedIn last event)
         → IsAnswered (machine b) (machine c) event reply → GoesBy machine a c (acts ++ Asks event reply ∷ [])
     goes_then a b c acts event reply before served p = record {
       pack = p.pack ∙ before.pack;
       was_honest = λ h. before.was_honest (p.was_honest h);
       went = λ h first serves.
           let one = before.went (p.was_honest h) first serves in
-          let then = p.answers h one.0 one.1 (served (machine a).pack first one.0 (acts_went (machine a).pack a first acts b one.0 one.2)) in
-          let act = answered_acts b c event reply p h one.0 then.0 one.1 then.1 then.2 in
-          (then.0, then.1, acts_on (machine a).pack a b c first one.0 then.0 acts (Asks event reply ∷ []) one.2 (subst (λ (k : Pack). ActsBy machine k b one.0 (Asks event reply ∷ []) c then.0) before.pack act));
+          let then = p.answers h one.0 one.1
+          (served (machine a).pack first one.0 (acts_went (machine a).pack a first acts b one.0 one.2)) in
+          let act = answered_acts b c event reply p h one.0 then.0 one.1 then.1 then.2 in (
+            then.0,
+            then.1,
+            acts_on (machine a).pack a b c first one.0 then.0 acts (Asks event reply ∷ []) one.2
+                (subst (λ (k : Pack). ActsBy machine k b one.0 (Asks event reply ∷ []) c then.0) before.pack act),
+          );
     }
 
     -- any event
-    pub goes_ordered : (a b : S) (event : Event) (reply : Reply) → IsAnswered (machine a) (machine b) event reply → GoesServed machine a b (Asks event reply ∷ [])
+    pub goes_ordered : (a b : S) (event : Event) (reply : Reply) → IsAnswered (machine a) (machine b) event reply
+        → GoesServed machine a b (Asks event reply ∷ [])
     goes_ordered a b event reply p = record {
       pack = p.pack;
       was_honest = p.was_honest;
@@ -139,12 +215,16 @@ module _ {S : Type 0} (machine : S → Machine) where
           (one.0, one.1, answered_acts a b event reply p h first one.0 serves one.1 one.2);
     }
 
-    module _ (a b : S) (owner : ℕ) (answer : Result (List Entry) Reply) (p : IsListed (machine a) (machine b) 1 owner answer) (h : (machine b).honest) where
-      listed_acts : (first last : Service) → (machine a).serves first → (machine b).serves last → Lists first 1 owner answer last → ActsBy machine (machine a).pack a first (Looks owner answer ∷ []) b last
+    module _ (a b : S) (owner : ℕ) (answer : Result (List Entry) Reply)
+        (p : IsListed (machine a) (machine b) 1 owner answer) (h : (machine b).honest) where
+      listed_acts : (first last : Service) → (machine a).serves first → (machine b).serves last
+          → Lists first 1 owner answer last → ActsBy machine (machine a).pack a first (Looks owner answer ∷ []) b last
       listed_acts Broken last serves then lists = (p.still, (last, lists, refl))
-      listed_acts (Serving s) last serves then lists = (stands a (p.was_honest h) s serves, b, last, lists, p.still, acts_end a b last p.pack h then)
+      listed_acts (Serving s) last serves
+          then lists = (stands a (p.was_honest h) s serves, b, last, lists, p.still, acts_end a b last p.pack h then)
 
-    pub goes_listed : (a b : S) (owner : ℕ) (answer : Result (List Entry) Reply) → IsListed (machine a) (machine b) 1 owner answer → GoesBy machine a b (Looks owner answer ∷ [])
+    pub goes_listed : (a b : S) (owner : ℕ) (answer : Result (List Entry) Reply)
+        → IsListed (machine a) (machine b) 1 owner answer → GoesBy machine a b (Looks owner answer ∷ [])
     goes_listed a b owner answer p = record {
       pack = p.pack;
       was_honest = p.was_honest;

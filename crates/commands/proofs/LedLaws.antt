@@ -1,14 +1,17 @@
 -- Plans that are led on by what a service answers.
-use Rattle.std.proofs.Common.{◌≡◌, ◌≢◌, ℕ, ◌+◌, ◌<◌, ◌≤◌, List, [], ◌∷◌, ◌++◌, length, map, take, drop, get_or, refl, sym, ◌∙◌, ap, subst, append_assoc, append-nil}
+use Rattle.std.proofs.Common.{◌≡◌, ◌≢◌, ℕ, ◌+◌, ◌<◌, ◌≤◌, List, [], ◌∷◌, ◌++◌, length, map, take, drop, get_or, refl}
+use Rattle.std.proofs.Common.{sym, ◌∙◌, ap, subst, append_assoc, append-nil}
 use Rattle.std.proofs.lemmas.List.{take_more, take_all, take-append-drop, map-append}
 use Rattle.std.specs.List.{AllByRecursion}
 use Rattle.words36.specs.declared.moment.Moment.{Moment}
-use Rattle.meaning.specs.Plans.{Act, Asks, Looks, Plan, Ask, Show, Say, Leads, each, if_done, if_told, examines, fails, ends}
+use Rattle.meaning.specs.Plans.{Act, Asks, Looks, Plan, Ask, Show, Say, Leads, each, if_done, if_told, examines, fails}
+use Rattle.meaning.specs.Plans.{ends}
 use Rattle.meaning.specs.Room.{Pack}
 use Rattle.meaning.specs.Runs.{Service, Answers}
 use Rattle.meaning.specs.Texts.{Spoken, list_said}
 use Rattle.meaning.specs.declared.call.Reply.{Reply}
-use Rattle.meaning.specs.declared.call.Reply.TheVariants.{Done, Value, Refused, Stopped, NoChannel, AddressCheck, NoJob, NoMemory, Device, Failed, DateRange}
+use Rattle.meaning.specs.declared.call.Reply.TheVariants.{Done, Value, Refused, Stopped, NoChannel, AddressCheck, NoJob}
+use Rattle.meaning.specs.declared.call.Reply.TheVariants.{NoMemory, Device, Failed, DateRange}
 use Rattle.meaning.specs.declared.call.Call.TheVariants.{Reset}
 use Rattle.meaning.specs.declared.call.Event.{Event}
 use Rattle.meaning.specs.declared.call.Event.TheVariants.{Examine, Call as Calls}
@@ -16,26 +19,35 @@ use Rattle.commands.specs.Asking.{IsAlwaysServed, ServedAlong, AreServedFrom, Le
 use Rattle.commands.specs.Machines.{Machine, AlwaysStands, IsAnswered, GoesBy}
 use Rattle.commands.proofs.GoingLaws.{goes_nowhere, goes_on, goes_answered, goes_then, served_always, went_apart}
 
-pub leads_on : (plan mid rest : Plan) (acts more : List Act) → Leads plan acts mid → Leads mid more rest → Leads plan (acts ++ more) rest
+pub leads_on : (plan mid rest : Plan) (acts more : List Act) → Leads plan acts mid → Leads mid more rest
+    → Leads plan (acts ++ more) rest
 leads_on plan mid rest [] more p q = subst (λ (x : Plan). Leads x more rest) p q
-leads_on (Ask event next) mid rest (Asks asked reply ∷ acts) more p q = (p.0, leads_on (next reply) mid rest acts more p.1 q)
+leads_on (Ask event next) mid rest (Asks asked reply ∷ acts) more p q =
+    (p.0, leads_on (next reply) mid rest acts more p.1 q)
 leads_on (Ask event next) mid rest (Looks owner answer ∷ acts) more p q = absurd p
 leads_on (Show owner) mid rest (Asks asked reply ∷ acts) more p q = absurd p
-leads_on (Show owner) mid rest (Looks shown answer ∷ acts) more p q = (p.0, leads_on (Say (list_said owner answer)) mid rest acts more p.1 q)
+leads_on (Show owner) mid rest (Looks shown answer ∷ acts) more p q =
+    (p.0, leads_on (Say (list_said owner answer)) mid rest acts more p.1 q)
 leads_on (Say said) mid rest (act ∷ acts) more p q = absurd p
 
-pub each_append : (moment : Moment) (events more : List Event) (next : Plan) → each moment (events ++ more) next ≡ each moment events (each moment more next)
+pub each_append : (moment : Moment) (events more : List Event) (next : Plan)
+    → each moment (events ++ more) next ≡ each moment events (each moment more next)
 unfolding each
 each_append moment [] more next = refl
-each_append moment (event ∷ events) more next = ap (λ (p : Plan). Ask event (if_done moment p)) (each_append moment events more next)
+each_append moment (event ∷ events) more next = ap (λ (p : Plan). Ask event (if_done moment p))
+    (each_append moment events more next)
 
 -- Events that are served in each state are served from any service.
 pub always_along : (events : List Event) → AllByRecursion IsAlwaysServed events → AreServedFrom events
 always_along [] all pack service = tt
-always_along (event ∷ events) all pack service = (served_always event all.0 service, λ mid answers. always_along events all.1 pack mid)
+always_along (event ∷ events) all pack service = (
+  served_always event all.0 service,
+  λ mid answers. always_along events all.1 pack mid,
+)
 
 -- what comes behind a reply that is not Done, and behind one that is no word
-if_other : (moment : Moment) (next : Plan) (reply : Reply) → reply ≢ Done → if_done moment next reply ≡ fails moment reply
+if_other : (moment : Moment) (next : Plan) (reply : Reply) → reply ≢ Done
+    → if_done moment next reply ≡ fails moment reply
 if_other moment next Done h = absurd (h refl)
 if_other moment next (Value word) h = refl
 if_other moment next (Refused code) h = refl
@@ -48,7 +60,8 @@ if_other moment next Device h = refl
 if_other moment next Failed h = refl
 if_other moment next DateRange h = refl
 
-if_untold : (moment : Moment) (next : ℕ → Plan) (reply : Reply) → ((word : ℕ) → reply ≡ Value word → ⊥) → if_told moment next reply ≡ fails moment reply
+if_untold : (moment : Moment) (next : ℕ → Plan) (reply : Reply) → ((word : ℕ) → reply ≡ Value word → ⊥)
+    → if_told moment next reply ≡ fails moment reply
 if_untold moment next Done h = refl
 if_untold moment next (Value word) h = absurd (h word refl)
 if_untold moment next (Refused code) h = refl
@@ -61,38 +74,54 @@ if_untold moment next Device h = refl
 if_untold moment next Failed h = refl
 if_untold moment next DateRange h = refl
 
-events_more : (events : List Event) (i : ℕ) (event : Event) → i < length events → event ≡ get_or events i event → take (i + 1) events ≡ take i events ++ event ∷ []
+events_more : (events : List Event) (i : ℕ) (event : Event) → i < length events → event ≡ get_or events i event
+    → take (i + 1) events ≡ take i events ++ event ∷ []
 events_more events i event h is = take_more events i event h ∙ ap (λ e. take i events ++ e ∷ []) (sym is)
 
-events_split : (events : List Event) (i : ℕ) (event : Event) → i < length events → event ≡ get_or events i event → take i events ++ event ∷ drop (i + 1) events ≡ events
+events_split : (events : List Event) (i : ℕ) (event : Event) → i < length events → event ≡ get_or events i event
+    → take i events ++ event ∷ drop (i + 1) events ≡ events
 events_split events i event h is =
-    sym (append_assoc (take i events) (event ∷ []) (drop (i + 1) events)) ∙ ap (λ l. l ++ drop (i + 1) events) (sym (events_more events i event h is)) ∙ take-append-drop (i + 1) events
+    sym (append_assoc (take i events) (event ∷ []) (drop (i + 1) events))
+    ∙ ap (λ l. l ++ drop (i + 1) events) (sym (events_more events i event h is)) ∙ take-append-drop (i + 1) events
 
 -- one event of a list, done, and not done
-one_done : (moment : Moment) (event : Event) (rest : List Event) (next : Plan) (reply : Reply) → reply ≡ Done → Leads (each moment (event ∷ rest) next) (Asks event reply ∷ []) (each moment rest next)
+one_done : (moment : Moment) (event : Event) (rest : List Event) (next : Plan) (reply : Reply) → reply ≡ Done
+    → Leads (each moment (event ∷ rest) next) (Asks event reply ∷ []) (each moment rest next)
 unfolding each
 one_done moment event rest next reply is = (refl, sym (ap (if_done moment (each moment rest next)) is))
 
-one_other : (moment : Moment) (event : Event) (rest : List Event) (next : Plan) (reply : Reply) → reply ≢ Done → Leads (each moment (event ∷ rest) next) (Asks event reply ∷ []) (fails moment reply)
+one_other : (moment : Moment) (event : Event) (rest : List Event) (next : Plan) (reply : Reply) → reply ≢ Done
+    → Leads (each moment (event ∷ rest) next) (Asks event reply ∷ []) (fails moment reply)
 unfolding each
 one_other moment event rest next reply h = (refl, sym (if_other moment (each moment rest next) reply h))
 
-none_left : (moment : Moment) (events : List Event) (acts : List Act) (next : Plan) → Leads (each moment events next) acts (each moment [] next) → Leads (each moment events next) acts next
+none_left : (moment : Moment) (events : List Event) (acts : List Act) (next : Plan)
+    → Leads (each moment events next) acts (each moment [] next) → Leads (each moment events next) acts next
 unfolding each
 none_left moment events acts next p = p
 
 module _ {S : Type 0} (machine : S → Machine) where
-  pub led_on : (a b c : S) (plan mid rest : Plan) → Led machine a b plan mid → Led machine b c mid rest → Led machine a c plan rest
-  led_on a b c plan mid rest p q = record { acts = p.acts ++ q.acts; goes = goes_on machine a b c p.acts q.acts p.goes q.goes; leads = leads_on plan mid rest p.acts q.acts p.leads q.leads }
+  pub led_on : (a b c : S) (plan mid rest : Plan) → Led machine a b plan mid → Led machine b c mid rest
+      → Led machine a c plan rest
+  led_on a b c plan mid rest p q = record {
+    acts = p.acts ++ q.acts;
+    goes = goes_on machine a b c p.acts q.acts p.goes q.goes;
+    leads = leads_on plan mid rest p.acts q.acts p.leads q.leads;
+  }
 
   module _ (stands : AlwaysStands machine) where
     pub led_still : (a : S) (plan : Plan) → Led machine a a plan plan
     led_still a plan = record { acts = []; goes = goes_nowhere machine stands a; leads = refl }
 
     -- an event that is served in each state
-    pub led_asked : (a b : S) (event : Event) (reply : Reply) (next : Reply → Plan) → IsAlwaysServed event → IsAnswered (machine a) (machine b) event reply → Led machine a b (Ask event next) (next reply)
+    pub led_asked : (a b : S) (event : Event) (reply : Reply) (next : Reply → Plan) → IsAlwaysServed event
+        → IsAnswered (machine a) (machine b) event reply → Led machine a b (Ask event next) (next reply)
     led_asked a b event reply next served answered =
-        record { acts = Asks event reply ∷ []; goes = goes_answered machine stands a b event reply (served_always event served) answered; leads = (refl, refl) }
+        record {
+          acts = Asks event reply ∷ [];
+          goes = goes_answered machine stands a b event reply (served_always event served) answered;
+          leads = (refl, refl);
+        }
 
     pub done_none : (a : S) → HasDone machine a a []
     done_none a = record {
@@ -102,16 +131,19 @@ module _ {S : Type 0} (machine : S → Machine) where
       leads = λ moment rest next. refl;
     }
 
-    module _ (a b c : S) (events : List Event) (i : ℕ) (item : Event) (reply : Reply) (h : i < length events) (is_item : item ≡ get_or events i item) (all : AreServedFrom events) (p : HasDone machine a b (take i events))
+    module _ (a b c : S) (events : List Event) (i : ℕ) (item : Event) (reply : Reply) (h : i < length events)
+        (is_item : item ≡ get_or events i item) (all : AreServedFrom events) (p : HasDone machine a b (take i events))
         (answered : IsAnswered (machine b) (machine c) item reply) where
       abbrev behind : List Event
       behind = drop (i + 1) events
 
       from_all : (pack : Pack) (first : Service) → ServedAlong pack first (take i events ++ item ∷ behind)
-      from_all pack first = subst (λ (l : List Event). ServedAlong pack first l) (sym (events_split events i item h is_item)) (all pack first)
+      from_all pack first = subst (λ (l : List Event). ServedAlong pack first l)
+          (sym (events_split events i item h is_item)) (all pack first)
 
       goes : GoesBy machine a c (p.acts ++ Asks item reply ∷ [])
-      goes = goes_then machine stands a b c p.acts item reply p.goes (λ pack first last went. (p.along pack first last (item ∷ behind) went (from_all pack first)).0) answered
+      goes = goes_then machine stands a b c p.acts item reply p.goes
+          (λ pack first last went. (p.along pack first last (item ∷ behind) went (from_all pack first)).0) answered
 
       pub done_more : reply ≡ Done → HasDone machine a c (take (i + 1) events)
       done_more is = record {
@@ -119,45 +151,67 @@ module _ {S : Type 0} (machine : S → Machine) where
         goes = goes;
         along = λ pack first last rest went served.
             let apart = went_apart pack first p.acts (Asks item reply ∷ []) last went in
-            let before = p.along pack first apart.0 (item ∷ rest) apart.1 (subst (λ (l : List Event). ServedAlong pack first l) (ap (λ (l : List Event). l ++ rest) (events_more events i item h is_item) ∙ append_assoc (take i events) (item ∷ []) rest) served) in
+            let before = p.along pack first apart.0 (item ∷ rest) apart.1
+            (subst (λ (l : List Event). ServedAlong pack first l) (ap (λ (l : List Event). l ++ rest)
+            (events_more events i item h is_item) ∙ append_assoc (take i events) (item ∷ []) rest) served) in
             let answers = subst (λ (r : Reply). Answers pack apart.0 item r apart.2.0) is apart.2.1 in
             subst (λ (s : Service). ServedAlong pack s rest) (sym apart.2.2) (before.1 apart.2.0 answers);
         leads = λ moment rest next.
             let spelled : take (i + 1) events ++ rest ≡ take i events ++ item ∷ rest
-            = ap (λ (l : List Event). l ++ rest) (events_more events i item h is_item) ∙ append_assoc (take i events) (item ∷ []) rest in
+            = ap (λ (l : List Event). l ++ rest) (events_more events i item h is_item)
+            ∙ append_assoc (take i events) (item ∷ []) rest in
             let first = p.leads moment (item ∷ rest) next in
-            let whole = leads_on (each moment (take i events ++ item ∷ rest) next) (each moment (item ∷ rest) next) (each moment rest next) p.acts (Asks item reply ∷ []) first
+            let whole = leads_on (each moment (take i events ++ item ∷ rest) next) (each moment (item ∷ rest) next)
+            (each moment rest next) p.acts (Asks item reply ∷ []) first
             (one_done moment item rest next reply is) in
-            subst (λ (l : List Event). Leads (each moment l next) (p.acts ++ Asks item reply ∷ []) (each moment rest next)) (sym spelled) whole;
+            subst (λ (l : List Event). Leads (each moment l next) (p.acts ++ Asks item reply ∷ [])
+            (each moment rest next)) (sym spelled) whole;
       }
 
-      pub asked_until : reply ≢ Done → (moment : Moment) (next : Plan) → Led machine a c (each moment events next) (fails moment reply)
+      pub asked_until : reply ≢ Done → (moment : Moment) (next : Plan)
+          → Led machine a c (each moment events next) (fails moment reply)
       asked_until other moment next = record {
         acts = p.acts ++ Asks item reply ∷ [];
         goes = goes;
         leads =
             let spelled : take i events ++ item ∷ behind ≡ events = events_split events i item h is_item in
             let first = p.leads moment (item ∷ behind) next in
-            subst (λ (l : List Event). Leads (each moment l next) (p.acts ++ Asks item reply ∷ []) (fails moment reply)) spelled
-            (leads_on (each moment (take i events ++ item ∷ behind) next) (each moment (item ∷ behind) next) (fails moment reply) p.acts (Asks item reply ∷ []) first
+            subst (λ (l : List Event). Leads (each moment l next) (p.acts ++ Asks item reply ∷ []) (fails moment reply))
+            spelled
+            (leads_on (each moment (take i events ++ item ∷ behind) next) (each moment (item ∷ behind) next)
+            (fails moment reply) p.acts (Asks item reply ∷ []) first
             (one_other moment item behind next reply other));
       }
 
-    pub asked_all : (a b : S) (events : List Event) (i : ℕ) → length events ≤ i → HasDone machine a b (take i events) → (moment : Moment) (next : Plan) → Led machine a b (each moment events next) next
+    pub asked_all : (a b : S) (events : List Event) (i : ℕ) → length events ≤ i → HasDone machine a b (take i events)
+        → (moment : Moment) (next : Plan) → Led machine a b (each moment events next) next
     asked_all a b events i h p moment next =
         let q = subst (λ l. HasDone machine a b l) (take_all i events h) p in
-        record { acts = q.acts; goes = q.goes; leads = subst (λ (l : List Event). Leads (each moment l next) q.acts next) (append-nil events) (none_left moment (events ++ []) q.acts next (q.leads moment [] next)) }
+        record {
+          acts = q.acts;
+          goes = q.goes;
+          leads = subst (λ (l : List Event). Leads (each moment l next) q.acts next) (append-nil events)
+              (none_left moment (events ++ []) q.acts next (q.leads moment [] next));
+        }
 
     -- a word that is told, and another reply
-    pub led_told : (a b : S) (address : ℕ) (reply : Reply) (word : ℕ) (moment : Moment) (next : ℕ → Plan) → reply ≡ Value word → IsAnswered (machine a) (machine b) (Examine 1 address) reply → Led machine a b (examines moment address next) (next word)
+    pub led_told : (a b : S) (address : ℕ) (reply : Reply) (word : ℕ) (moment : Moment) (next : ℕ → Plan)
+        → reply ≡ Value word → IsAnswered (machine a) (machine b) (Examine 1 address) reply
+        → Led machine a b (examines moment address next) (next word)
     led_told a b address reply word moment next is answered =
-        subst (λ (p : Plan). Led machine a b (examines moment address next) p) (ap (if_told moment next) is) (led_asked a b (Examine 1 address) reply (if_told moment next) (λ s. tt) answered)
+        subst (λ (p : Plan). Led machine a b (examines moment address next) p) (ap (if_told moment next) is)
+        (led_asked a b (Examine 1 address) reply (if_told moment next) (λ s. tt) answered)
 
-    pub led_untold : (a b : S) (address : ℕ) (reply : Reply) (moment : Moment) (next : ℕ → Plan) → ((word : ℕ) → reply ≡ Value word → ⊥) → IsAnswered (machine a) (machine b) (Examine 1 address) reply
+    pub led_untold : (a b : S) (address : ℕ) (reply : Reply) (moment : Moment) (next : ℕ → Plan)
+        → ((word : ℕ) → reply ≡ Value word → ⊥) → IsAnswered (machine a) (machine b) (Examine 1 address) reply
         → Led machine a b (examines moment address next) (fails moment reply)
     led_untold a b address reply moment next other answered =
-        subst (λ (p : Plan). Led machine a b (examines moment address next) p) (if_untold moment next reply other) (led_asked a b (Examine 1 address) reply (if_told moment next) (λ s. tt) answered)
+        subst (λ (p : Plan). Led machine a b (examines moment address next) p) (if_untold moment next reply other)
+        (led_asked a b (Examine 1 address) reply (if_told moment next) (λ s. tt) answered)
 
     -- all channels are closed
-    pub led_reset : (a b : S) (moment : Moment) (answer : Reply) (said : Spoken) → IsAnswered (machine a) (machine b) (Calls 1 Reset moment) answer → Led machine a b (ends moment said) (Say said)
-    led_reset a b moment answer said answered = led_asked a b (Calls 1 Reset moment) answer (λ reply. Say said) (λ s. tt) answered
+    pub led_reset : (a b : S) (moment : Moment) (answer : Reply) (said : Spoken)
+        → IsAnswered (machine a) (machine b) (Calls 1 Reset moment) answer
+        → Led machine a b (ends moment said) (Say said)
+    led_reset a b moment answer said answered = led_asked a b (Calls 1 Reset moment) answer (λ reply. Say said)
+        (λ s. tt) answered

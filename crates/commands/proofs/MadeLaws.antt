@@ -1,5 +1,6 @@
 -- What is found in [p,n]<PROT>.
-use Rattle.std.proofs.Common.{◌≡◌, ℕ, ◌^◌, ◌<◌, ◌≤◌, List, [], ◌∷◌, ◌++◌, length, take, drop, get_or, refl, sym, ◌∙◌, subst, Option, Some, None, IfNone, arith}
+use Rattle.std.proofs.Common.{◌≡◌, ℕ, ◌^◌, ◌<◌, ◌≤◌, List, [], ◌∷◌, ◌++◌, length, take, drop, get_or, refl, sym, ◌∙◌}
+use Rattle.std.proofs.Common.{subst, Option, Some, None, IfNone, arith}
 use Rattle.std.proofs.Math.Nat.{pow-le-pow_right}
 use Rattle.std.proofs.lemmas.List.{take-append-drop}
 use Rattle.meaning.specs.Spellings.{Are, IsNumber, IsSmall, IsBracketed}
@@ -23,22 +24,28 @@ number_small text n a = record { number = a; small = omega (arith, number_fits t
 pub protection_none : (text : List ℕ) → text ≡ [] → IsProtection text 0
 protection_none text e = subst (λ l. IsProtection l 0) (sym e) refl
 
-pub protection_is : (text inner : List ℕ) (n : ℕ) → text ≡ 60 ∷ (inner ++ 62 ∷ []) → IsSmall 3 inner n → IsProtection text n
-protection_is text inner n e a = subst (λ l. IsProtection l n) (sym e) (record { digits = inner; number = a.number; spelled = refl })
+pub protection_is : (text inner : List ℕ) (n : ℕ) → text ≡ 60 ∷ (inner ++ 62 ∷ []) → IsSmall 3 inner n
+    → IsProtection text n
+protection_is text inner n e a = subst (λ l. IsProtection l n) (sym e)
+    (record { digits = inner; number = a.number; spelled = refl })
 
 angled : (text : List ℕ) (n : ℕ) → 0 < length text → IsProtection text n → IsAngled text n
 angled [] n some a = absurd (omega (arith, some))
 angled (c ∷ cs) n some a = a
 
-pub no_angles : (text : List ℕ) (n : ℕ) → 0 < length text → ((inner : List ℕ) → text ≡ 60 ∷ (inner ++ 62 ∷ []) → ⊥) → IsProtection text n → ⊥
+pub no_angles : (text : List ℕ) (n : ℕ) → 0 < length text → ((inner : List ℕ) → text ≡ 60 ∷ (inner ++ 62 ∷ []) → ⊥)
+    → IsProtection text n → ⊥
 no_angles text n some none a = let b = angled text n some a in none b.digits b.spelled
 
-no_number : (text inner : List ℕ) (n : ℕ) → text ≡ 60 ∷ (inner ++ 62 ∷ []) → ((m : ℕ) → IsSmall 3 inner m → ⊥) → IsProtection text n → ⊥
+no_number : (text inner : List ℕ) (n : ℕ) → text ≡ 60 ∷ (inner ++ 62 ∷ []) → ((m : ℕ) → IsSmall 3 inner m → ⊥)
+    → IsProtection text n → ⊥
 no_number text inner n e none a =
     let b : IsAngled (60 ∷ (inner ++ 62 ∷ [])) n = subst (λ l. IsProtection l n) e a in
-    none n (number_small inner n (subst (λ l. IsNumber 3 l n) (same_but_last 62 b.digits inner (same_tail (sym b.spelled))) b.number))
+    none n (number_small inner n
+    (subst (λ l. IsNumber 3 l n) (same_but_last 62 b.digits inner (same_tail (sym b.spelled))) b.number))
 
-pub none_in_angles : (found : Option ℕ) (text inner : List ℕ) → text ≡ 60 ∷ (inner ++ 62 ∷ []) → IfNone found ((m : ℕ) → IsSmall 3 inner m → ⊥) → IfNone found ((n : ℕ) → IsProtection text n → ⊥)
+pub none_in_angles : (found : Option ℕ) (text inner : List ℕ) → text ≡ 60 ∷ (inner ++ 62 ∷ [])
+    → IfNone found ((m : ℕ) → IsSmall 3 inner m → ⊥) → IfNone found ((n : ℕ) → IsProtection text n → ⊥)
 none_in_angles (Some m) text inner e none = tt
 none_in_angles None text inner e none = λ n. no_number text inner n e none
 
@@ -52,21 +59,33 @@ pub record AreParted (mark : ℕ) (text front back : List ℕ) : Type 0 where
   pub plain : Are (is_other_than mark) front
   pub stops : Stops (is_other_than mark) back
 
-pub are_parted : (mark : ℕ) (text front back : List ℕ) (n : ℕ) → front ≡ take n text → back ≡ drop n text → Are (is_other_than mark) (take n text) → (n < length text → get_or text n 0 ≡ mark) → AreParted mark text front back
+pub are_parted : (mark : ℕ) (text front back : List ℕ) (n : ℕ) → front ≡ take n text → back ≡ drop n text
+    → Are (is_other_than mark) (take n text) → (n < length text → get_or text n 0 ≡ mark)
+    → AreParted mark text front back
 are_parted mark text front back n e f plain stop = record {
   whole = sym (take-append-drop n text) ∙ (λ i. sym e i ++ sym f i);
   plain = subst (Are (is_other_than mark)) (sym e) plain;
   stops = subst (Stops (is_other_than mark)) (sym f) (mark_stops text n mark stop);
 }
 
-pub made_is : (text front back : List ℕ) (p n : ℕ) → AreParted 60 text front back → IsBracketed front p → IsProtection back n → IsMade text p n
-made_is text front back p n parted a b = record { before = front; behind = back; left = a; right = b; spelled = parted.whole }
+pub made_is : (text front back : List ℕ) (p n : ℕ) → AreParted 60 text front back → IsBracketed front p
+    → IsProtection back n → IsMade text p n
+made_is text front back p n parted a b = record {
+  before = front;
+  behind = back;
+  left = a;
+  right = b;
+  spelled = parted.whole;
+}
 
 protection_stops : (text : List ℕ) (n : ℕ) → IsProtection text n → Stops (is_other_than 60) text
 protection_stops [] n a = tt
 protection_stops (c ∷ cs) n a = subst (Stops (is_other_than 60)) (sym a.spelled) refl
 
-pub made_parts : (text front back : List ℕ) (p n : ℕ) → AreParted 60 text front back → IsMade text p n → IsBracketed front p × IsProtection back n
+pub made_parts : (text front back : List ℕ) (p n : ℕ) → AreParted 60 text front back → IsMade text p n
+    → IsBracketed front p × IsProtection back n
 made_parts text front back p n parted m =
-    let r = stretch (is_other_than 60) front back m.before m.behind parted.plain (bracketed_other 60 m.before p refl refl refl refl m.left) parted.stops (protection_stops m.behind n m.right) (sym parted.whole ∙ m.spelled) in
+    let r = stretch (is_other_than 60) front back m.before m.behind parted.plain
+    (bracketed_other 60 m.before p refl refl refl refl m.left) parted.stops (protection_stops m.behind n m.right)
+    (sym parted.whole ∙ m.spelled) in
     (subst (λ l. IsBracketed l p) (sym r.0) m.left, subst (λ l. IsProtection l n) (sym r.1) m.right)

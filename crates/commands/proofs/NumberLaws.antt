@@ -1,5 +1,6 @@
 -- What digits stand for, and what is found in [p,n].
-use Rattle.std.proofs.Common.{◌≡◌, ℕ, ◌+◌, ◌*◌, ◌-◌, ◌^◌, ◌<◌, ◌≤◌, true, List, [], ◌∷◌, ◌++◌, length, take, get_or, refl, sym, Option, Some, None, IfSome, IfNone, IsSome, ◌∙◌, ap, subst, arith}
+use Rattle.std.proofs.Common.{◌≡◌, ℕ, ◌+◌, ◌*◌, ◌-◌, ◌^◌, ◌<◌, ◌≤◌, true, List, [], ◌∷◌, ◌++◌, length, take, get_or}
+use Rattle.std.proofs.Common.{refl, sym, Option, Some, None, IfSome, IfNone, IsSome, ◌∙◌, ap, subst, arith}
 use Rattle.std.proofs.Math.Nat.{pow-succ', mul-le-mul_right, mul_assoc, pow-le-pow_right}
 use Rattle.std.proofs.lemmas.List.{take_more, take_all, length-take}
 use Rattle.std.proofs.lemmas.Bool.Decides.{nat_tests}
@@ -25,8 +26,10 @@ below_power high (x ∷ xs) a =
     let d = digit_is x a.0 in
     let m : ℕ = high * 8 + (x - 48) in
     let first : octal_after m xs + 1 ≤ (m + 1) * 8 ^ length xs = below_power m xs a.1 in
-    let next : (m + 1) * 8 ^ length xs ≤ ((high + 1) * 8) * 8 ^ length xs = mul-le-mul_right (8 ^ length xs) (omega (arith, d.0, d.1)) in
-    let same : ((high + 1) * 8) * 8 ^ length xs ≡ (high + 1) * 8 ^ length (x ∷ xs) = mul_assoc (high + 1) 8 (8 ^ length xs) ∙ ap (λ n. (high + 1) * n) (sym (pow-succ' 8 (length xs))) in
+    let next : (m + 1) * 8 ^ length xs
+    ≤ ((high + 1) * 8) * 8 ^ length xs = mul-le-mul_right (8 ^ length xs) (omega (arith, d.0, d.1)) in
+    let same : ((high + 1) * 8) * 8 ^ length xs ≡ (high + 1) * 8 ^ length (x ∷ xs) = mul_assoc (high + 1) 8
+    (8 ^ length xs) ∙ ap (λ n. (high + 1) * n) (sym (pow-succ' 8 (length xs))) in
     omega (arith, first, next, same)
 
 -- what is read of digits so far
@@ -34,19 +37,23 @@ pub record Reads (n : ℕ) (text : List ℕ) : Type 0 where
   pub digits : Are is_octal text
   pub value : n ≡ octal text
 
-pub reads_more : (n : ℕ) (text : List ℕ) (i : ℕ) → i < length text → 48 ≤ get_or text i 0 → get_or text i 0 ≤ 55 → Reads n (take i text) → Reads (n * 8 + (get_or text i 0 - 48)) (take (i + 1) text)
+pub reads_more : (n : ℕ) (text : List ℕ) (i : ℕ) → i < length text → 48 ≤ get_or text i 0 → get_or text i 0 ≤ 55
+    → Reads n (take i text) → Reads (n * 8 + (get_or text i 0 - 48)) (take (i + 1) text)
 reads_more n text i h low high r = record {
   digits = are_more is_octal text i h (is_digit (get_or text i 0) low high) r.digits;
-  value = ap (λ m. m * 8 + (get_or text i 0 - 48)) r.value ∙ sym (octal-append 0 (take i text) (get_or text i 0)) ∙ ap octal (sym (take_more text i 0 h));
+  value = ap (λ m. m * 8 + (get_or text i 0 - 48)) r.value ∙ sym (octal-append 0 (take i text) (get_or text i 0))
+      ∙ ap octal (sym (take_more text i 0 h));
 }
 
-pub reads_small : (n : ℕ) (text : List ℕ) (i most : ℕ) → i < length text → length text ≤ most → most ≤ 12 → Reads n (take i text) → n < 2 ^ 36
+pub reads_small : (n : ℕ) (text : List ℕ) (i most : ℕ) → i < length text → length text ≤ most → most ≤ 12
+    → Reads n (take i text) → n < 2 ^ 36
 reads_small n text i most h few bound r =
     let l : length (take i text) ≤ 12 = omega (arith, length-take i text) in
     let p : 8 ^ length (take i text) ≤ 8 ^ 12 = pow-le-pow_right (omega arith) l in
     omega (arith, below_power 0 (take i text) r.digits, p, r.value)
 
-pub number_is : (n most : ℕ) (text : List ℕ) (i : ℕ) → length text ≤ i → 0 < length text → length text ≤ most → Reads n (take i text) → IsNumber most text n
+pub number_is : (n most : ℕ) (text : List ℕ) (i : ℕ) → length text ≤ i → 0 < length text → length text ≤ most
+    → Reads n (take i text) → IsNumber most text n
 number_is n most text i h some few r = record {
   some = some;
   few = few;
@@ -54,7 +61,8 @@ number_is n most text i h some few r = record {
   value = r.value ∙ ap octal (take_all i text h);
 }
 
-pub no_digit : (most n : ℕ) (text : List ℕ) (i : ℕ) → IsNumber most text n → i < length text → (48 ≤ get_or text i 0) × (get_or text i 0 ≤ 55)
+pub no_digit : (most n : ℕ) (text : List ℕ) (i : ℕ) → IsNumber most text n → i < length text
+    → (48 ≤ get_or text i 0) × (get_or text i 0 ≤ 55)
 no_digit most n text i s h = digit_is (get_or text i 0) (are_at is_octal text i h s.digits)
 
 pub same_value : (most n m : ℕ) (text : List ℕ) → IsNumber most text n → IsNumber most text m → n ≡ m
@@ -80,9 +88,11 @@ pub record AreParts (most : ℕ) (left right : List ℕ) (p : ℕ) : Type 0 wher
   pub some_programmer : 0 < programmer
   pub value : p ≡ join project programmer
 
-pub pair_parts : (text left right : List ℕ) (most p : ℕ) → Are (other_than 44) left → text ≡ left ++ 44 ∷ right → IsPair most text p → AreParts most left right p
+pub pair_parts : (text left right : List ℕ) (most p : ℕ) → Are (other_than 44) left → text ≡ left ++ 44 ∷ right
+    → IsPair most text p → AreParts most left right p
 pair_parts text left right most p a e s =
-    let r = stretch (other_than 44) left (44 ∷ right) s.before (44 ∷ s.behind) a (are_other is_octal 44 refl s.before s.left.number.digits) refl refl (sym e ∙ s.spelled) in
+    let r = stretch (other_than 44) left (44 ∷ right) s.before (44 ∷ s.behind) a
+    (are_other is_octal 44 refl s.before s.left.number.digits) refl refl (sym e ∙ s.spelled) in
     record {
       project = s.project;
       programmer = s.programmer;
@@ -96,7 +106,8 @@ pair_parts text left right most p a e s =
 pub small_value : (most n m : ℕ) (text : List ℕ) → IsSmall most text n → IsSmall most text m → n ≡ m
 small_value most n m text a b = same_value most n m text a.number b.number
 
-pub pair_is : (text left right : List ℕ) (most m n p : ℕ) → text ≡ left ++ 44 ∷ right → IsSmall most left m → IsSmall most right n → 0 < m → 0 < n → p ≡ join m n → IsPair most text p
+pub pair_is : (text left right : List ℕ) (most m n p : ℕ) → text ≡ left ++ 44 ∷ right → IsSmall most left m
+    → IsSmall most right n → 0 < m → 0 < n → p ≡ join m n → IsPair most text p
 pair_is text left right most m n p e a b some_m some_n v = record {
   project = m;
   programmer = n;
@@ -112,11 +123,14 @@ pair_is text left right most m n p e a b some_m some_n v = record {
 
 -- [p,n]
 
-pub bracketed_is : (text inner : List ℕ) (p : ℕ) → text ≡ 91 ∷ (inner ++ 93 ∷ []) → IsPair 6 inner p → IsBracketed text p
+pub bracketed_is : (text inner : List ℕ) (p : ℕ) → text ≡ 91 ∷ (inner ++ 93 ∷ []) → IsPair 6 inner p
+    → IsBracketed text p
 bracketed_is text inner p e s = record { pair = inner; named = s; spelled = e }
 
-pub bracketed_inner : (text inner : List ℕ) (p : ℕ) → text ≡ 91 ∷ (inner ++ 93 ∷ []) → IsBracketed text p → IsPair 6 inner p
-bracketed_inner text inner p e s = subst (λ (l : List ℕ). IsPair 6 l p) (same_but_last 93 s.pair inner (same_tail (sym s.spelled ∙ e))) s.named
+pub bracketed_inner : (text inner : List ℕ) (p : ℕ) → text ≡ 91 ∷ (inner ++ 93 ∷ []) → IsBracketed text p
+    → IsPair 6 inner p
+bracketed_inner text inner p e s = subst (λ (l : List ℕ). IsPair 6 l p)
+    (same_but_last 93 s.pair inner (same_tail (sym s.spelled ∙ e))) s.named
 
 -- Where the two numbers make a project and a programmer, they are the pair.
 
@@ -124,21 +138,30 @@ pub if_none : {X : Type 0} (found : Option X) (P : Type 0) → P → IfNone foun
 if_none (Some x) P p = tt
 if_none None P p = p
 
-pub pair_some : (found : Option ℕ) (text left right : List ℕ) (most m n : ℕ) → text ≡ left ++ 44 ∷ right → IsSmall most left m → IsSmall most right n → IfSome found (λ p. p ≡ join m n)
+pub pair_some : (found : Option ℕ) (text left right : List ℕ) (most m n : ℕ) → text ≡ left ++ 44 ∷ right
+    → IsSmall most left m → IsSmall most right n → IfSome found (λ p. p ≡ join m n)
     → (IsSome found → (0 < m) × (m < 2 ^ 18) × (0 < n) × (n < 2 ^ 18)) → IfSome found (λ p. IsPair most text p)
 pair_some None text left right most m n e a b v fits = tt
-pair_some (Some p) text left right most m n e a b v fits = let f = fits refl in pair_is text left right most m n p e a b f.0 f.2 v
+pair_some (Some p) text left right most m n e a b v fits = let f = fits refl in
+    pair_is text left right most m n p e a b f.0 f.2 v
 
-pub pair_none : (found : Option ℕ) (text left right : List ℕ) (most m n : ℕ) → Are (other_than 44) left → text ≡ left ++ 44 ∷ right → IsSmall most left m → IsSmall most right n
+pub pair_none : (found : Option ℕ) (text left right : List ℕ) (most m n : ℕ) → Are (other_than 44) left
+    → text ≡ left ++ 44 ∷ right → IsSmall most left m → IsSmall most right n
     → ((0 < m) × (m < 2 ^ 18) × (0 < n) × (n < 2 ^ 18) → IsSome found) → IfNone found ((p : ℕ) → IsPair most text p → ⊥)
 pair_none (Some p) text left right most m n plain e a b fits = tt
 pair_none None text left right most m n plain e a b fits = λ p s.
     let parts = pair_parts text left right most p plain e s in
     let x : parts.project ≡ m = small_value most _ _ left parts.before a in
     let y : parts.programmer ≡ n = small_value most _ _ right parts.behind b in
-    let wrong = fits (subst (λ (k : ℕ). 0 < k) x parts.some_project, a.small, subst (λ (k : ℕ). 0 < k) y parts.some_programmer, b.small) in
+    let wrong = fits (
+      subst (λ (k : ℕ). 0 < k) x parts.some_project,
+      a.small,
+      subst (λ (k : ℕ). 0 < k) y parts.some_programmer,
+      b.small,
+    ) in
     cc
 
-pub bracketed_none : (found : Option ℕ) (text inner : List ℕ) → text ≡ 91 ∷ (inner ++ 93 ∷ []) → IfNone found ((p : ℕ) → IsPair 6 inner p → ⊥) → IfNone found ((p : ℕ) → IsBracketed text p → ⊥)
+pub bracketed_none : (found : Option ℕ) (text inner : List ℕ) → text ≡ 91 ∷ (inner ++ 93 ∷ [])
+    → IfNone found ((p : ℕ) → IsPair 6 inner p → ⊥) → IfNone found ((p : ℕ) → IsBracketed text p → ⊥)
 bracketed_none (Some q) text inner e none = tt
 bracketed_none None text inner e none = λ p s. none p (bracketed_inner text inner p e s)

@@ -1,5 +1,6 @@
 -- What a line of a call script is answered with.
-use Rattle.std.proofs.Common.{◌≡◌, ℕ, ◌||◌, Bool, true, false, [], ◌∷◌, List, refl, sym, ◌∙◌, subst, Option, Some, None, Result, IfOk}
+use Rattle.std.proofs.Common.{◌≡◌, ℕ, ◌||◌, Bool, true, false, [], ◌∷◌, List, refl, sym, ◌∙◌, subst, Option, Some, None}
+use Rattle.std.proofs.Common.{Result, IfOk}
 use Rattle.words36.specs.declared.moment.Moment.{Moment}
 use Rattle.meaning.specs.Scripts.{written, wrong}
 use Rattle.meaning.specs.Transcripts.{is_good, refused_unless, reports}
@@ -20,28 +21,38 @@ or-true : (b : Bool) → true ≡ b || true
 or-true true = refl
 or-true false = refl
 
-module _ {V E S : Type 0} (machine : S → Machine) (stands : AlwaysStands machine) (bytes : V → List ℕ) (result : Result V E) (moment : Moment) (who : Option ℕ) (tally counted : Tally) (order : Option Event) where
+module _ {V E S : Type 0} (machine : S → Machine) (stands : AlwaysStands machine) (bytes : V
+    → List ℕ) (result : Result V E) (moment : Moment) (who : Option ℕ) (tally counted : Tally)
+    (order : Option Event) where
   -- a line that orders nothing
-  pub replied_wrong : (m : S) → order ≡ None → counted.refused ≡ true → counted.broke ≡ tally.broke → IfOk result (λ v. bytes v ≡ line wrong) → Replied bytes result machine m m moment who who tally counted (Ordered order)
-  replied_wrong m e refused broke text = subst (λ (o : Option Event). Replied bytes result machine m m moment who who tally counted (Ordered o)) (sym e) (record {
-    acts = [];
-    said = complains wrong;
-    hears = ((refl, refl), refl);
-    goes = λ language in_it. goes_still machine stands language m;
-    refused = refused ∙ or-true tally.refused;
-    broke = broke ∙ or-false tally.broke;
-    text = text;
-  })
+  pub replied_wrong : (m : S) → order ≡ None → counted.refused ≡ true → counted.broke ≡ tally.broke
+      → IfOk result (λ v. bytes v ≡ line wrong)
+      → Replied bytes result machine m m moment who who tally counted (Ordered order)
+  replied_wrong m e refused broke text = subst (λ (o : Option Event).
+      Replied bytes result machine m m moment who who tally counted (Ordered o)) (sym e) (record {
+        acts = [];
+        said = complains wrong;
+        hears = ((refl, refl), refl);
+        goes = λ language in_it. goes_still machine stands language m;
+        refused = refused ∙ or-true tally.refused;
+        broke = broke ∙ or-false tally.broke;
+        text = text;
+      })
 
   -- and one that orders an event
-  pub replied_to : (a b : S) (event : Event) (reply : Reply) → order ≡ Some event → IsAnswered (machine a) (machine b) event reply → counted.refused ≡ tally.refused || refused_unless (is_good reply) → counted.broke ≡ tally.broke || is_broken reply
-      → IfOk result (λ v. bytes v ≡ line (written reply)) → Replied bytes result machine a b moment who who tally counted (Ordered order)
-  replied_to a b event reply e answered refused broke text = subst (λ (o : Option Event). Replied bytes result machine a b moment who who tally counted (Ordered o)) (sym e) (record {
-    acts = Asks event reply ∷ [];
-    said = reports reply;
-    hears = ((reply, refl, refl), refl);
-    goes = λ language in_it. subst (λ (l : Language). Goes l machine a b (Asks event reply ∷ [])) (sym in_it) (goes_ordered machine stands a b event reply answered);
-    refused = refused;
-    broke = broke;
-    text = text;
-  })
+  pub replied_to : (a b : S) (event : Event) (reply : Reply) → order ≡ Some event
+      → IsAnswered (machine a) (machine b) event reply → counted.refused ≡ tally.refused
+      || refused_unless (is_good reply) → counted.broke ≡ tally.broke || is_broken reply
+      → IfOk result (λ v. bytes v ≡ line (written reply))
+      → Replied bytes result machine a b moment who who tally counted (Ordered order)
+  replied_to a b event reply e answered refused broke text = subst (λ (o : Option Event).
+      Replied bytes result machine a b moment who who tally counted (Ordered o)) (sym e) (record {
+        acts = Asks event reply ∷ [];
+        said = reports reply;
+        hears = ((reply, refl, refl), refl);
+        goes = λ language in_it. subst (λ (l : Language). Goes l machine a b (Asks event reply ∷ [])) (sym in_it)
+            (goes_ordered machine stands a b event reply answered);
+        refused = refused;
+        broke = broke;
+        text = text;
+      })

@@ -38,7 +38,8 @@ means_form TooLong (Some command) m = m
 
 abbrev Forms : List Line → List Line → Type 0
 Forms [] forms = forms ≡ []
-Forms (line ∷ lines) forms = (meant : Option Command) × MeansServed line meant × (rest : List Line) × Forms lines rest × (forms ≡ form meant line ∷ rest)
+Forms (line ∷ lines) forms = (meant : Option Command) × MeansServed line meant × (rest : List Line) × Forms lines rest
+    × (forms ≡ form meant line ∷ rest)
 
 same_forms : (lines x y : List Line) → Forms lines x → Forms lines y → x ≡ y
 same_forms [] x y a b = a ∙ sym b
@@ -47,29 +48,60 @@ same_forms (line ∷ lines) x y a b =
     let r = same_forms lines a.2 b.2 a.3 b.3 in
     a.4 ∙ (λ i. form (m i) line ∷ r i) ∙ sym b.4
 
-transcript_forms : (moment : Moment) (who : Option ℕ) (lines : List Line) (acts : List Act) (said : Spoken) (after : Option ℕ) → IsServedTranscript Commands moment who lines acts said after
+transcript_forms : (moment : Moment) (who : Option ℕ) (lines : List Line) (acts : List Act) (said : Spoken)
+    (after : Option ℕ) → IsServedTranscript Commands moment who lines acts said after
     → (forms : List Line) × Forms lines forms × IsTranscript moment who forms acts said after
 transcript_forms moment who [] acts said after p = ([], refl, p)
-transcript_forms moment who (line ∷ lines) acts said after (first, more, here, there, mid, (meant, m, speaks), rest, split, text) =
-    let r = transcript_forms moment mid lines more there after rest in
-    (form meant line ∷ r.0, (meant, m, r.0, r.1, refl), (meant, means_form line meant m, first, more, here, there, mid, speaks, r.2, split, text))
+transcript_forms moment who (line ∷ lines) acts said after (
+  first,
+  more,
+  here,
+  there,
+  mid,
+  (meant, m, speaks),
+  rest,
+  split,
+  text,
+) =
+    let r = transcript_forms moment mid lines more there after rest in (
+      form meant line ∷ r.0,
+      (meant, m, r.0, r.1, refl),
+      (meant, means_form line meant m, first, more, here, there, mid, speaks, r.2, split, text),
+    )
 
-pub one_served_text : (pack : Pack) (moment : Moment) (lines : List Line) (who : Option ℕ) (s t u : State) (acts others : List Act) (one other : Spoken) (x y : Option ℕ)
-    → IsServedTranscript Commands moment who lines acts one x → Served pack s acts t → IsServedTranscript Commands moment who lines others other y → Served pack s others u → one ≡ other
+pub one_served_text : (pack : Pack) (moment : Moment) (lines : List Line) (who : Option ℕ) (s t u : State)
+    (acts others : List Act) (one other : Spoken) (x y : Option ℕ)
+    → IsServedTranscript Commands moment who lines acts one x → Served pack s acts t
+    → IsServedTranscript Commands moment who lines others other y → Served pack s others u → one ≡ other
 one_served_text pack moment lines who s t u acts others one other x y a p b q =
     let f = transcript_forms moment who lines acts one x a in
     let g = transcript_forms moment who lines others other y b in
-    one_text pack moment f.0 who s t u acts others one other x y f.2 p (subst (λ (l : List Line). IsTranscript moment who l others other y) (same_forms lines g.0 f.0 g.1 f.1) g.2) q
+    one_text pack moment f.0 who s t u acts others one other x y f.2 p
+    (subst (λ (l : List Line). IsTranscript moment who l others other y) (same_forms lines g.0 f.0 g.1 f.1) g.2) q
 
 -- The same of call scripts.
 
 -- a script by its lines alone, since it does not matter who is logged in
-script_of : (moment : Moment) (who : Option ℕ) (lines : List Line) (acts : List Act) (said : Spoken) (after : Option ℕ) → IsServedTranscript Events moment who lines acts said after → Scripts moment lines acts said
+script_of : (moment : Moment) (who : Option ℕ) (lines : List Line) (acts : List Act) (said : Spoken) (after : Option ℕ)
+    → IsServedTranscript Events moment who lines acts said after → Scripts moment lines acts said
 script_of moment who [] acts said after p = (p.0, p.1)
-script_of moment who (line ∷ lines) acts said after (first, more, here, there, mid, (meant, m, orders, same), rest, split, text) =
+script_of moment who (line ∷ lines) acts said after (
+  first,
+  more,
+  here,
+  there,
+  mid,
+  (meant, m, orders, same),
+  rest,
+  split,
+  text,
+) =
     (meant, m, first, more, here, there, orders, script_of moment mid lines more there after rest, split, text)
 
-pub one_served_script : (pack : Pack) (moment : Moment) (lines : List Line) (who : Option ℕ) (s t u : State) (acts others : List Act) (one other : Spoken) (x y : Option ℕ)
-    → IsServedTranscript Events moment who lines acts one x → Served pack s acts t → IsServedTranscript Events moment who lines others other y → Served pack s others u → one ≡ other
+pub one_served_script : (pack : Pack) (moment : Moment) (lines : List Line) (who : Option ℕ) (s t u : State)
+    (acts others : List Act) (one other : Spoken) (x y : Option ℕ)
+    → IsServedTranscript Events moment who lines acts one x → Served pack s acts t
+    → IsServedTranscript Events moment who lines others other y → Served pack s others u → one ≡ other
 one_served_script pack moment lines who s t u acts others one other x y a p b q =
-    one_script pack moment lines s t u acts others one other (script_of moment who lines acts one x a) p (script_of moment who lines others other y b) q
+    one_script pack moment lines s t u acts others one other (script_of moment who lines acts one x a) p
+    (script_of moment who lines others other y b) q

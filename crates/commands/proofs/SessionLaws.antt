@@ -1,5 +1,6 @@
 -- A session or a call script, from its first byte to its end.
-use Rattle.std.proofs.Common.{◌≡◌, ◌<◌, ℕ, false, List, [], ◌∷◌, ◌++◌, length, take, refl, sym, ◌∙◌, ap, subst, append-nil, inl, inr, Option, None, Result, Ok, Err, IfOk, IfErr}
+use Rattle.std.proofs.Common.{◌≡◌, ◌<◌, ℕ, false, List, [], ◌∷◌, ◌++◌, length, take, refl, sym, ◌∙◌, ap, subst}
+use Rattle.std.proofs.Common.{append-nil, inl, inr, Option, None, Result, Ok, Err, IfOk, IfErr}
 use Rattle.std.specs.Io.KnownBytes.{Appends, Consumes, Keeps, IsAtEnd}
 use Rattle.std.proofs.KnownBytes.{Appends-nil, Appends-trans, Consumes-trans, Consumes-nil, Consumes-kept}
 use Rattle.words36.specs.declared.moment.Moment.{Moment}
@@ -24,7 +25,8 @@ use Rattle.commands.proofs.GoingLaws.{goes_still, goes_further, went_apart, acts
 use Rattle.commands.proofs.TranscriptLaws.{events_who}
 
 -- how far it is with its reader, its writer and its service
-pub record Streams {S : Type 0} (language : Language) (source left sink full : Option (List ℕ)) (machine : S → Machine) (old now : S) (moment : Moment) (talk : Talk) : Type 0 where
+pub record Streams {S : Type 0} (language : Language) (source left sink full : Option (List ℕ)) (machine : S
+    → Machine) (old now : S) (moment : Moment) (talk : Talk) : Type 0 where
   pub read : List ℕ
   pub written : List ℕ
   pub acts : List Act
@@ -33,7 +35,9 @@ pub record Streams {S : Type 0} (language : Language) (source left sink full : O
   pub goes : Goes language machine old now acts
   pub so : SoFar language moment talk read written acts
 
-pub stream_starts : {S : Type 0} (language : Language) (machine : S → Machine) (stands : AlwaysStands machine) (source sink : Option (List ℕ)) (m : S) (moment : Moment) (talk : Talk) → IsPartialLine talk.held [] → talk.who ≡ None → talk.tally.refused ≡ false → talk.tally.broke ≡ false
+pub stream_starts : {S : Type 0} (language : Language) (machine : S
+    → Machine) (stands : AlwaysStands machine) (source sink : Option (List ℕ)) (m : S) (moment : Moment) (talk : Talk)
+    → IsPartialLine talk.held [] → talk.who ≡ None → talk.tally.refused ≡ false → talk.tally.broke ≡ false
     → Streams language source source sink sink machine m m moment talk
 stream_starts language machine stands source sink m moment talk held who refused broke = record {
   read = [];
@@ -42,11 +46,22 @@ stream_starts language machine stands source sink m moment talk held who refused
   consumed = Consumes-nil source;
   appended = Appends-nil sink;
   goes = goes_still machine stands language m;
-  so = record { front = []; seen = []; parted = refl; ended = inl refl; unended = tt; held = held; transcript = (refl, (λ i. record { text = []; refused = refused i; broke = broke i }), who) };
+  so = record {
+    front = [];
+    seen = [];
+    parted = refl;
+    ended = inl refl;
+    unended = tt;
+    held = held;
+    transcript = (refl, (λ i. record { text = []; refused = refused i; broke = broke i }), who);
+  };
 }
 
-pub stream_more : {S : Type 0} (language : Language) (machine : S → Machine) (source left rest sink full over : Option (List ℕ)) (old now new : S) (moment : Moment) (talk after : Talk) (bytes : List ℕ) → Streams language source left sink full machine old now moment talk
-    → Consumes left rest bytes → StepsOn language machine now new full over moment talk after bytes → Streams language source rest sink over machine old new moment after
+pub stream_more : {S : Type 0} (language : Language) (machine : S
+    → Machine) (source left rest sink full over : Option (List ℕ)) (old now new : S) (moment : Moment)
+    (talk after : Talk) (bytes : List ℕ) → Streams language source left sink full machine old now moment talk
+    → Consumes left rest bytes → StepsOn language machine now new full over moment talk after bytes
+    → Streams language source rest sink over machine old new moment after
 stream_more language machine source left rest sink full over old now new moment talk after bytes s c t = record {
   read = s.read ++ bytes;
   written = s.written ++ t.written;
@@ -58,7 +73,9 @@ stream_more language machine source left rest sink full over old now new moment 
 }
 
 -- the reader failed
-pub stream_stops : {S : Type 0} (language : Language) (machine : S → Machine) (source left rest sink full : Option (List ℕ)) (old now : S) (moment : Moment) (talk : Talk) → Streams language source left sink full machine old now moment talk → Keeps left rest
+pub stream_stops : {S : Type 0} (language : Language) (machine : S
+    → Machine) (source left rest sink full : Option (List ℕ)) (old now : S) (moment : Moment) (talk : Talk)
+    → Streams language source left sink full machine old now moment talk → Keeps left rest
     → Talked language source rest sink full machine old now moment (Err Read)
 stream_stops language machine source left rest sink full old now moment talk s k = record {
   read = s.read;
@@ -67,15 +84,29 @@ stream_stops language machine source left rest sink full old now moment talk s k
   consumed = Consumes-kept source left rest s.read s.consumed k;
   appended = s.appended;
   goes = s.goes;
-  ends = record { front = s.so.front; seen = s.so.seen; parted = s.so.parted; ended = s.so.ended; unended = s.so.unended; said = spoken s.written talk.tally; who = talk.who; transcript = s.so.transcript; whole = refl };
+  ends = record {
+    front = s.so.front;
+    seen = s.so.seen;
+    parted = s.so.parted;
+    ended = s.so.ended;
+    unended = s.so.unended;
+    said = spoken s.written talk.tally;
+    who = talk.who;
+    transcript = s.so.transcript;
+    whole = refl;
+  };
 }
 
-ends_unfinished : (language : Language) (at_end : Type 0) (moment : Moment) (error : SessionError) (read written : List ℕ) (acts : List Act) → Unfinished language at_end moment error read written acts → Ends language at_end moment read written acts (Err error)
+ends_unfinished : (language : Language) (at_end : Type 0) (moment : Moment) (error : SessionError)
+    (read written : List ℕ) (acts : List Act) → Unfinished language at_end moment error read written acts
+    → Ends language at_end moment read written acts (Err error)
 ends_unfinished language at_end moment Read read written acts u = absurd u.cut
 ends_unfinished language at_end moment Write read written acts u = u
 ends_unfinished language at_end moment NoMemory read written acts u = u
 
-unfinished_at : (language : Language) (a b : Type 0) (moment : Moment) (error : SessionError) (read written : List ℕ) (acts : List Act) → (a → b) → Unfinished language a moment error read written acts → Unfinished language b moment error read written acts
+unfinished_at : (language : Language) (a b : Type 0) (moment : Moment) (error : SessionError) (read written : List ℕ)
+    (acts : List Act) → (a → b) → Unfinished language a moment error read written acts
+    → Unfinished language b moment error read written acts
 unfinished_at language a b moment error read written acts f u = record {
   front = u.front;
   behind = u.behind;
@@ -101,41 +132,58 @@ unfinished_at language a b moment error read written acts f u = record {
 }
 
 -- it broke off in the bytes that were read last
-pub stream_breaks : {S : Type 0} (language : Language) (machine : S → Machine) (at_end : Type 0) (source left rest sink full over : Option (List ℕ)) (old now new : S) (moment : Moment) (talk : Talk) (error : SessionError) (bytes : List ℕ) → (at_end → IsAtEnd rest)
-    → Streams language source left sink full machine old now moment talk → Consumes left rest bytes → BreaksOff language at_end machine now new full over moment talk error bytes → Talked language source rest sink over machine old new moment (Err error)
-stream_breaks language machine at_end source left rest sink full over old now new moment talk error bytes end s c t = record {
-  read = s.read ++ bytes;
-  written = s.written ++ t.written;
-  acts = s.acts ++ t.acts;
-  consumed = Consumes-trans source left rest s.read bytes s.consumed c;
-  appended = Appends-trans sink full over s.written t.written s.appended t.appended;
-  goes = goes_further machine language old now new s.acts t.acts s.goes t.goes;
-  ends = ends_unfinished language (IsAtEnd rest) moment error (s.read ++ bytes) (s.written ++ t.written) (s.acts ++ t.acts)
-      (unfinished_at language at_end (IsAtEnd rest) moment error (s.read ++ bytes) (s.written ++ t.written) (s.acts ++ t.acts) end (t.breaks s.read s.written s.acts s.so));
-}
+pub stream_breaks : {S : Type 0} (language : Language) (machine : S
+    → Machine) (at_end : Type 0) (source left rest sink full over : Option (List ℕ)) (old now new : S)
+    (moment : Moment) (talk : Talk) (error : SessionError) (bytes : List ℕ) → (at_end → IsAtEnd rest)
+    → Streams language source left sink full machine old now moment talk → Consumes left rest bytes
+    → BreaksOff language at_end machine now new full over moment talk error bytes
+    → Talked language source rest sink over machine old new moment (Err error)
+stream_breaks language machine at_end source left rest sink full over old now new moment talk error bytes end s c t =
+    record {
+      read = s.read ++ bytes;
+      written = s.written ++ t.written;
+      acts = s.acts ++ t.acts;
+      consumed = Consumes-trans source left rest s.read bytes s.consumed c;
+      appended = Appends-trans sink full over s.written t.written s.appended t.appended;
+      goes = goes_further machine language old now new s.acts t.acts s.goes t.goes;
+      ends = ends_unfinished language (IsAtEnd rest) moment error (s.read ++ bytes) (s.written ++ t.written)
+          (s.acts ++ t.acts)
+          (unfinished_at language at_end (IsAtEnd rest) moment error (s.read ++ bytes) (s.written ++ t.written)
+          (s.acts ++ t.acts) end (t.breaks s.read s.written s.acts s.so));
+    }
 
-pub stream_ends : {S : Type 0} (language : Language) (machine : S → Machine) (source left rest sink full over : Option (List ℕ)) (old now new : S) (moment : Moment) (talk : Talk) (result : Result Tally SessionError) → Streams language source left sink full machine old now moment talk
-    → Consumes left rest [] → IsAtEnd rest → IfOk result (λ tally. EndsWell language machine now new full over moment talk tally) → IfErr result (λ error. BreaksOff language (Unit {0}) machine now new full over moment talk error [])
+pub stream_ends : {S : Type 0} (language : Language) (machine : S
+    → Machine) (source left rest sink full over : Option (List ℕ)) (old now new : S) (moment : Moment) (talk : Talk)
+    (result : Result Tally SessionError) → Streams language source left sink full machine old now moment talk
+    → Consumes left rest [] → IsAtEnd rest
+    → IfOk result (λ tally. EndsWell language machine now new full over moment talk tally)
+    → IfErr result (λ error. BreaksOff language (Unit {0}) machine now new full over moment talk error [])
     → Talked language source rest sink over machine old new moment result
 stream_ends language machine source left rest sink full over old now new moment talk (Ok tally) s c end t broke =
     record {
       read = s.read;
       written = s.written ++ t.written;
       acts = s.acts ++ t.acts;
-      consumed = subst (λ (l : List ℕ). Consumes source rest l) (append-nil s.read) (Consumes-trans source left rest s.read [] s.consumed c);
+      consumed = subst (λ (l : List ℕ). Consumes source rest l) (append-nil s.read)
+          (Consumes-trans source left rest s.read [] s.consumed c);
       appended = Appends-trans sink full over s.written t.written s.appended t.appended;
       goes = goes_further machine language old now new s.acts t.acts s.goes t.goes;
       ends = (end, t.ends s.read s.written s.acts s.so);
     }
-stream_ends language machine source left rest sink full over old now new moment talk (Err error) s c end ok t = stream_breaks language machine (Unit {0}) source left rest sink full over old now new moment talk error [] (λ u. end) s c t
+stream_ends language machine source left rest sink full over old now new moment talk
+    (Err error) s c end ok t = stream_breaks language machine (Unit {0}) source left rest sink full over
+    old now new moment talk error [] (λ u. end) s c t
 
 -- Where it finished, it was a session.
 
-served_session : (pack : Pack) (moment : Moment) (read written : List ℕ) (acts : List Act) (tally : Tally) (first last : Service) → Finished Commands moment read written acts tally → Went pack first acts last
+served_session : (pack : Pack) (moment : Moment) (read written : List ℕ) (acts : List Act) (tally : Tally)
+    (first last : Service) → Finished Commands moment read written acts tally → Went pack first acts last
     → IsServedSession pack moment read first last (spoken written tally)
 served_session pack moment read written acts tally first last f w =
-    let all : acts ≡ f.talked ++ Asks (calls moment Reset) f.closes.0 ∷ [] = f.acts_are ∙ ap (λ (l : List Act). f.talked ++ l) f.closes.1 in
-    let parts = went_apart pack first f.talked (Asks (calls moment Reset) f.closes.0 ∷ []) last (subst (λ (l : List Act). Went pack first l last) all w) in
+    let all : acts ≡ f.talked ++ Asks (calls moment Reset) f.closes.0 ∷ [] = f.acts_are
+    ∙ ap (λ (l : List Act). f.talked ++ l) f.closes.1 in
+    let parts = went_apart pack first f.talked (Asks (calls moment Reset) f.closes.0 ∷ []) last
+    (subst (λ (l : List Act). Went pack first l last) all w) in
     record {
       acts = f.talked;
       mid = parts.0;
@@ -147,28 +195,42 @@ served_session pack moment read written acts tally first last f w =
     }
 
 -- or a call script
-served_script : (pack : Pack) (moment : Moment) (read written : List ℕ) (acts : List Act) (tally : Tally) (first last : Service) → Finished Events moment read written acts tally → Went pack first acts last
+served_script : (pack : Pack) (moment : Moment) (read written : List ℕ) (acts : List Act) (tally : Tally)
+    (first last : Service) → Finished Events moment read written acts tally → Went pack first acts last
     → IsServedScript pack moment read first last (spoken written tally)
 served_script pack moment read written acts tally first last f w =
     let all : acts ≡ f.talked = f.acts_are ∙ ap (λ (l : List Act). f.talked ++ l) f.closes ∙ append-nil f.talked in
     record {
       acts = f.talked;
-      ordered = subst (λ (o : Option ℕ). IsServedTranscript Events moment None (lines read) f.talked (spoken written tally) o) (events_who moment None (lines read) f.talked (spoken written tally) f.who f.transcript) f.transcript;
+      ordered = subst (λ (o : Option ℕ). IsServedTranscript Events moment None (lines read) f.talked
+          (spoken written tally) o)
+          (events_who moment None (lines read) f.talked (spoken written tally) f.who f.transcript) f.transcript;
       went = subst (λ (l : List Act). Went pack first l last) all w;
     }
 
-module _ {S : Type 0} (machine : S → Machine) (source left sink full : Option (List ℕ)) (old new : S) (moment : Moment) where
-  was_session : (result : Result Tally SessionError) (t : Talked Commands source left sink full machine old new moment result) (first last : Service) → Went (machine old).pack first t.acts last → (machine new).serves last
-      → IfOk result (λ tally. (last : Service) × (machine new).serves last × IsServedSession (machine old).pack moment t.read first last (spoken t.written tally))
-  was_session (Ok tally) t first last w at = (last, at, served_session (machine old).pack moment t.read t.written t.acts tally first last t.ends.1 w)
+module _ {S : Type 0} (machine : S → Machine) (source left sink full : Option (List ℕ)) (old new : S)
+    (moment : Moment) where
+  was_session : (result : Result Tally SessionError)
+      (t : Talked Commands source left sink full machine old new moment result) (first last : Service)
+      → Went (machine old).pack first t.acts last → (machine new).serves last
+      → IfOk result (λ tally. (last : Service) × (machine new).serves last
+      × IsServedSession (machine old).pack moment t.read first last (spoken t.written tally))
+  was_session (Ok tally) t first last w at =
+      (last, at, served_session (machine old).pack moment t.read t.written t.acts tally first last t.ends.1 w)
   was_session (Err error) t first last w at = tt
 
-  was_script : (result : Result Tally SessionError) (t : Talked Events source left sink full machine old new moment result) (first last : Service) → Went (machine old).pack first t.acts last → (machine new).serves last
-      → IfOk result (λ tally. (last : Service) × (machine new).serves last × IsServedScript (machine old).pack moment t.read first last (spoken t.written tally))
-  was_script (Ok tally) t first last w at = (last, at, served_script (machine old).pack moment t.read t.written t.acts tally first last t.ends.1 w)
+  was_script : (result : Result Tally SessionError)
+      (t : Talked Events source left sink full machine old new moment result) (first last : Service)
+      → Went (machine old).pack first t.acts last → (machine new).serves last
+      → IfOk result (λ tally. (last : Service) × (machine new).serves last
+      × IsServedScript (machine old).pack moment t.read first last (spoken t.written tally))
+  was_script (Ok tally) t first last w at =
+      (last, at, served_script (machine old).pack moment t.read t.written t.acts tally first last t.ends.1 w)
   was_script (Err error) t first last w at = tt
 
-  pub as_session : (result : Result Tally SessionError) → Talked Commands source left sink full machine old new moment result → Session source left sink full machine old new moment result
+  pub as_session : (result : Result Tally SessionError)
+      → Talked Commands source left sink full machine old new moment result
+      → Session source left sink full machine old new moment result
   as_session result t = record {
     read = t.read;
     written = t.written;
@@ -182,7 +244,9 @@ module _ {S : Type 0} (machine : S → Machine) (source left sink full : Option 
         was_session result t first w.0 (acts_went machine (machine old).pack old first t.acts new w.0 w.2) w.1;
   }
 
-  pub as_script : (result : Result Tally SessionError) → Talked Events source left sink full machine old new moment result → Script source left sink full machine old new moment result
+  pub as_script : (result : Result Tally SessionError)
+      → Talked Events source left sink full machine old new moment result
+      → Script source left sink full machine old new moment result
   as_script result t = record {
     read = t.read;
     written = t.written;
@@ -197,5 +261,7 @@ module _ {S : Type 0} (machine : S → Machine) (source left sink full : Option 
   }
 
 -- a read that gave nothing
-pub reads_none : (left rest : Option (List ℕ)) (n : ℕ) (buffer : List ℕ) → n ≡ 0 → 0 < length buffer → Consumes left rest (take n buffer) × (n ≡ 0 → 0 < length buffer → IsAtEnd rest) → Consumes left rest [] × IsAtEnd rest
+pub reads_none : (left rest : Option (List ℕ)) (n : ℕ) (buffer : List ℕ) → n ≡ 0 → 0 < length buffer
+    → Consumes left rest (take n buffer) × (n ≡ 0 → 0 < length buffer → IsAtEnd rest) → Consumes left rest []
+    × IsAtEnd rest
 reads_none left rest n buffer e room p = (subst (λ (m : ℕ). Consumes left rest (take m buffer)) e p.0, p.1 e room)

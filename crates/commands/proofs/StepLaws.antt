@@ -1,5 +1,7 @@
 -- The steps of a session: a byte, a piece, the end.
-use Rattle.std.proofs.Common.{◌≡◌, ◌≢◌, ℕ, ◌+◌, ◌<◌, ◌≤◌, List, [], ◌∷◌, ◌++◌, length, take, drop, get_or, refl, sym, ◌∙◌, ap, subst, append_assoc, append-nil, inl, inr, Option, None, ◌⊎◌, Result, Ok, Err, IfErr, OnOk, OnErr}
+use Rattle.std.proofs.Common.{◌≡◌, ◌≢◌, ℕ, ◌+◌, ◌<◌, ◌≤◌, List, [], ◌∷◌, ◌++◌, length, take, drop, get_or, refl, sym}
+use Rattle.std.proofs.Common.{◌∙◌, ap, subst, append_assoc, append-nil, inl, inr, Option, None, ◌⊎◌, Result, Ok, Err}
+use Rattle.std.proofs.Common.{IfErr, OnOk, OnErr}
 use Rattle.std.proofs.lemmas.List.{take-append-drop, take_more, take_all}
 use Rattle.std.specs.Io.KnownBytes.{Appends}
 use Rattle.std.proofs.KnownBytes.{Appends-nil, Appends-trans}
@@ -19,7 +21,8 @@ use Rattle.meaning.specs.declared.call.Event.TheVariants.{Call as Calls}
 use Rattle.commands.specs.Languages.{Goes}
 use Rattle.commands.specs.Machines.{Machine, AlwaysStands, IsAnswered}
 use Rattle.commands.specs.Streams.{IsServedTranscript, spoken, AreWholeLines, Unfinished, IsCut}
-use Rattle.commands.specs.Sessions.{HeardIn, IsHeardIn, Hears, Replied, Puts, Told, Closed, SoFar, StepsOn, BreaksOff, EndsWell, Spoke}
+use Rattle.commands.specs.Sessions.{HeardIn, IsHeardIn, Hears, Replied, Puts, Told, Closed, SoFar, StepsOn, BreaksOff}
+use Rattle.commands.specs.Sessions.{EndsWell, Spoke}
 use Rattle.commands.specs.declared.error.SessionError.{SessionError}
 use Rattle.commands.specs.declared.answer.Tally.{Tally}
 use Rattle.commands.specs.declared.input.PartialLine.{PartialLine}
@@ -36,17 +39,24 @@ use Rattle.commands.proofs.TranscriptLaws.{transcript_on, transcript_heard, hear
 
 -- Steps one after another.
 
-pub steps_none : {S : Type 0} (language : Language) (machine : S → Machine) (stands : AlwaysStands machine) (m : S) (sink : Option (List ℕ)) (moment : Moment) (talk : Talk) → StepsOn language machine m m sink sink moment talk talk []
+pub steps_none : {S : Type 0} (language : Language) (machine : S
+    → Machine) (stands : AlwaysStands machine) (m : S) (sink : Option (List ℕ)) (moment : Moment) (talk : Talk)
+    → StepsOn language machine m m sink sink moment talk talk []
 steps_none language machine stands m sink moment talk = record {
   acts = [];
   goes = goes_still machine stands language m;
   written = [];
   appended = Appends-nil sink;
-  steps = λ read past done so. subst (λ (l : List Act). SoFar language moment talk (read ++ []) (past ++ []) l) (sym (append-nil done))
-      (subst (λ (l : List ℕ). SoFar language moment talk l (past ++ []) done) (sym (append-nil read)) (subst (λ (l : List ℕ). SoFar language moment talk read l done) (sym (append-nil past)) so));
+  steps = λ read past done so. subst (λ (l : List Act). SoFar language moment talk (read ++ []) (past ++ []) l)
+      (sym (append-nil done))
+      (subst (λ (l : List ℕ). SoFar language moment talk l (past ++ []) done) (sym (append-nil read))
+      (subst (λ (l : List ℕ). SoFar language moment talk read l done) (sym (append-nil past)) so));
 }
 
-steps_more : {S : Type 0} (language : Language) (machine : S → Machine) (a b c : S) (p q r : Option (List ℕ)) (moment : Moment) (x y z : Talk) (bytes more : List ℕ) → StepsOn language machine a b p q moment x y bytes → StepsOn language machine b c q r moment y z more → StepsOn language machine a c p r moment x z (bytes ++ more)
+steps_more : {S : Type 0} (language : Language) (machine : S
+    → Machine) (a b c : S) (p q r : Option (List ℕ)) (moment : Moment) (x y z : Talk) (bytes more : List ℕ)
+    → StepsOn language machine a b p q moment x y bytes → StepsOn language machine b c q r moment y z more
+    → StepsOn language machine a c p r moment x z (bytes ++ more)
 steps_more language machine a b c p q r moment x y z bytes more s t = record {
   acts = s.acts ++ t.acts;
   goes = goes_further machine language a b c s.acts t.acts s.goes t.goes;
@@ -54,12 +64,17 @@ steps_more language machine a b c p q r moment x y z bytes more s t = record {
   appended = Appends-trans p q r s.written t.written s.appended t.appended;
   steps = λ read past done so.
       let last = t.steps (read ++ bytes) (past ++ s.written) (done ++ s.acts) (s.steps read past done so) in
-      subst (λ (l : List Act). SoFar language moment z (read ++ (bytes ++ more)) (past ++ (s.written ++ t.written)) l) (append_assoc done s.acts t.acts)
-      (subst (λ (l : List ℕ). SoFar language moment z l (past ++ (s.written ++ t.written)) ((done ++ s.acts) ++ t.acts)) (append_assoc read bytes more)
-      (subst (λ (l : List ℕ). SoFar language moment z ((read ++ bytes) ++ more) l ((done ++ s.acts) ++ t.acts)) (append_assoc past s.written t.written) last));
+      subst (λ (l : List Act). SoFar language moment z (read ++ (bytes ++ more)) (past ++ (s.written ++ t.written)) l)
+      (append_assoc done s.acts t.acts)
+      (subst (λ (l : List ℕ). SoFar language moment z l (past ++ (s.written ++ t.written)) ((done ++ s.acts) ++ t.acts))
+      (append_assoc read bytes more)
+      (subst (λ (l : List ℕ). SoFar language moment z ((read ++ bytes) ++ more) l ((done ++ s.acts) ++ t.acts))
+      (append_assoc past s.written t.written) last));
 }
 
-unfinished_behind : (language : Language) (error : SessionError) (moment : Moment) (read written more : List ℕ) (acts : List Act) → Unfinished language ⊥ moment error read written acts → Unfinished language ⊥ moment error (read ++ more) written acts
+unfinished_behind : (language : Language) (error : SessionError) (moment : Moment) (read written more : List ℕ)
+    (acts : List Act) → Unfinished language ⊥ moment error read written acts
+    → Unfinished language ⊥ moment error (read ++ more) written acts
 unfinished_behind language error moment read written more acts u = record {
   front = u.front;
   behind = u.behind ++ more;
@@ -84,7 +99,10 @@ unfinished_behind language error moment read written more acts u = record {
   cut = u.cut;
 }
 
-breaks_more : {S : Type 0} (language : Language) (machine : S → Machine) (a b c : S) (p q r : Option (List ℕ)) (moment : Moment) (x y : Talk) (error : SessionError) (bytes more rest : List ℕ) → StepsOn language machine a b p q moment x y bytes → BreaksOff language ⊥ machine b c q r moment y error more
+breaks_more : {S : Type 0} (language : Language) (machine : S
+    → Machine) (a b c : S) (p q r : Option (List ℕ)) (moment : Moment) (x y : Talk) (error : SessionError)
+    (bytes more rest : List ℕ) → StepsOn language machine a b p q moment x y bytes
+    → BreaksOff language ⊥ machine b c q r moment y error more
     → BreaksOff language ⊥ machine a c p r moment x error ((bytes ++ more) ++ rest)
 breaks_more language machine a b c p q r moment x y error bytes more rest s t = record {
   acts = s.acts ++ t.acts;
@@ -92,30 +110,51 @@ breaks_more language machine a b c p q r moment x y error bytes more rest s t = 
   written = s.written ++ t.written;
   appended = Appends-trans p q r s.written t.written s.appended t.appended;
   breaks = λ read past done so.
-      let last = unfinished_behind language error moment ((read ++ bytes) ++ more) ((past ++ s.written) ++ t.written) rest ((done ++ s.acts) ++ t.acts) (t.breaks (read ++ bytes) (past ++ s.written) (done ++ s.acts) (s.steps read past done so)) in
+      let last = unfinished_behind language error moment ((read ++ bytes) ++ more) ((past ++ s.written)
+      ++ t.written) rest ((done ++ s.acts) ++ t.acts)
+      (t.breaks (read ++ bytes) (past ++ s.written) (done ++ s.acts) (s.steps read past done so)) in
       let same : ((read ++ bytes) ++ more) ++ rest ≡ read ++ ((bytes ++ more) ++ rest) = simp append_assoc in
-      subst (λ (l : List Act). Unfinished language ⊥ moment error (read ++ ((bytes ++ more) ++ rest)) (past ++ (s.written ++ t.written)) l) (append_assoc done s.acts t.acts)
-      (subst (λ (l : List ℕ). Unfinished language ⊥ moment error l (past ++ (s.written ++ t.written)) ((done ++ s.acts) ++ t.acts)) same
-      (subst (λ (l : List ℕ). Unfinished language ⊥ moment error (((read ++ bytes) ++ more) ++ rest) l ((done ++ s.acts) ++ t.acts)) (append_assoc past s.written t.written) last));
+      subst (λ (l : List Act). Unfinished language ⊥ moment error (read ++ ((bytes ++ more) ++ rest))
+      (past ++ (s.written ++ t.written)) l) (append_assoc done s.acts t.acts)
+      (subst (λ (l : List ℕ). Unfinished language ⊥ moment error l (past ++ (s.written ++ t.written))
+      ((done ++ s.acts) ++ t.acts)) same
+      (subst (λ (l : List ℕ). Unfinished language ⊥ moment error (((read ++ bytes) ++ more) ++ rest) l
+      ((done ++ s.acts) ++ t.acts)) (append_assoc past s.written t.written) last));
 }
 
 -- over the bytes of a piece
-pub steps_at : {S : Type 0} (language : Language) (machine : S → Machine) (a b c : S) (p q r : Option (List ℕ)) (moment : Moment) (x y z : Talk) (piece : List ℕ) (i : ℕ) → i < length piece → StepsOn language machine a b p q moment x y (take i piece)
-    → StepsOn language machine b c q r moment y z (get_or piece i 0 ∷ []) → StepsOn language machine a c p r moment x z (take (i + 1) piece)
+pub steps_at : {S : Type 0} (language : Language) (machine : S
+    → Machine) (a b c : S) (p q r : Option (List ℕ)) (moment : Moment) (x y z : Talk) (piece : List ℕ) (i : ℕ)
+    → i < length piece → StepsOn language machine a b p q moment x y (take i piece)
+    → StepsOn language machine b c q r moment y z (get_or piece i 0 ∷ [])
+    → StepsOn language machine a c p r moment x z (take (i + 1) piece)
 steps_at language machine a b c p q r moment x y z piece i h s t =
-    subst (λ (l : List ℕ). StepsOn language machine a c p r moment x z l) (sym (take_more piece i 0 h)) (steps_more language machine a b c p q r moment x y z (take i piece) (get_or piece i 0 ∷ []) s t)
+    subst (λ (l : List ℕ). StepsOn language machine a c p r moment x z l) (sym (take_more piece i 0 h))
+    (steps_more language machine a b c p q r moment x y z (take i piece) (get_or piece i 0 ∷ []) s t)
 
-pub breaks_at : {S : Type 0} (language : Language) (machine : S → Machine) (a b c : S) (p q r : Option (List ℕ)) (moment : Moment) (x y : Talk) (error : SessionError) (piece : List ℕ) (i : ℕ) → i < length piece → StepsOn language machine a b p q moment x y (take i piece)
-    → BreaksOff language ⊥ machine b c q r moment y error (get_or piece i 0 ∷ []) → BreaksOff language ⊥ machine a c p r moment x error piece
+pub breaks_at : {S : Type 0} (language : Language) (machine : S
+    → Machine) (a b c : S) (p q r : Option (List ℕ)) (moment : Moment) (x y : Talk) (error : SessionError)
+    (piece : List ℕ) (i : ℕ) → i < length piece → StepsOn language machine a b p q moment x y (take i piece)
+    → BreaksOff language ⊥ machine b c q r moment y error (get_or piece i 0 ∷ [])
+    → BreaksOff language ⊥ machine a c p r moment x error piece
 breaks_at language machine a b c p q r moment x y error piece i h s t =
-    subst (λ (l : List ℕ). BreaksOff language ⊥ machine a c p r moment x error l) (ap (λ (l : List ℕ). l ++ drop (i + 1) piece) (sym (take_more piece i 0 h)) ∙ take-append-drop (i + 1) piece)
-    (breaks_more language machine a b c p q r moment x y error (take i piece) (get_or piece i 0 ∷ []) (drop (i + 1) piece) s t)
+    subst (λ (l : List ℕ). BreaksOff language ⊥ machine a c p r moment x error l)
+    (ap (λ (l : List ℕ). l ++ drop (i + 1) piece) (sym (take_more piece i 0 h)) ∙ take-append-drop (i + 1) piece)
+    (breaks_more language machine a b c p q r moment x y error (take i piece) (get_or piece i 0 ∷ [])
+    (drop (i + 1) piece) s t)
 
-pub steps_all : {S : Type 0} (language : Language) (machine : S → Machine) (a c : S) (p r : Option (List ℕ)) (moment : Moment) (x z : Talk) (piece : List ℕ) (i : ℕ) → length piece ≤ i → StepsOn language machine a c p r moment x z (take i piece) → StepsOn language machine a c p r moment x z piece
-steps_all language machine a c p r moment x z piece i h s = subst (λ (l : List ℕ). StepsOn language machine a c p r moment x z l) (take_all i piece h) s
+pub steps_all : {S : Type 0} (language : Language) (machine : S
+    → Machine) (a c : S) (p r : Option (List ℕ)) (moment : Moment) (x z : Talk) (piece : List ℕ) (i : ℕ)
+    → length piece ≤ i → StepsOn language machine a c p r moment x z (take i piece)
+    → StepsOn language machine a c p r moment x z piece
+steps_all language machine a c p r moment x z piece i h s = subst
+    (λ (l : List ℕ). StepsOn language machine a c p r moment x z l) (take_all i piece h) s
 
 -- A byte that is no line feed.
-pub step_byte : {S : Type 0} (language : Language) (machine : S → Machine) (stands : AlwaysStands machine) (m : S) (sink : Option (List ℕ)) (moment : Moment) (talk : Talk) (held : PartialLine) (b : ℕ) → b ≢ 10 → ((seen : List ℕ) → IsPartialLine talk.held seen → IsPartialLine held (seen ++ b ∷ []))
+pub step_byte : {S : Type 0} (language : Language) (machine : S
+    → Machine) (stands : AlwaysStands machine) (m : S) (sink : Option (List ℕ)) (moment : Moment) (talk : Talk)
+    (held : PartialLine) (b : ℕ) → b ≢ 10
+    → ((seen : List ℕ) → IsPartialLine talk.held seen → IsPartialLine held (seen ++ b ∷ []))
     → StepsOn language machine m m sink sink moment talk (record talk { held = held }) (b ∷ [])
 step_byte language machine stands m sink moment talk held b other keeps = record {
   acts = [];
@@ -129,14 +168,20 @@ step_byte language machine stands m sink moment talk held b other keeps = record
     ended = so.ended;
     unended = are_append (is_other_than 10) so.seen (b ∷ []) so.unended (is_other b 10 other, tt);
     held = keeps so.seen so.held;
-    transcript = subst (λ (l : List Act). IsServedTranscript language moment None (lines so.front) l (spoken (past ++ []) talk.tally) talk.who) (sym (append-nil done))
-        (subst (λ (l : List ℕ). IsServedTranscript language moment None (lines so.front) done (spoken l talk.tally) talk.who) (sym (append-nil past)) so.transcript);
+    transcript = subst (λ (l : List Act). IsServedTranscript language moment None (lines so.front) l
+        (spoken (past ++ []) talk.tally) talk.who) (sym (append-nil done))
+        (subst (λ (l : List ℕ). IsServedTranscript language moment None (lines so.front) done
+        (spoken l talk.tally) talk.who) (sym (append-nil past)) so.transcript);
   };
 }
 
 -- A line feed.
-pub step_feed : {S : Type 0} (language : Language) (machine : S → Machine) (result : Result (Unit {0}) SessionError) (a b : S) (p q : Option (List ℕ)) (moment : Moment) (talk after : Talk) (heard : Heard) (byte : ℕ) → byte ≡ 10 → IsPartialLine after.held [] → IsHeardIn language heard
-    → ((seen : List ℕ) → IsPartialLine talk.held seen → HeardIn language moment (fitting seen (without_return seen)) heard) → Told result machine a b p q moment talk.who after.who talk.tally after.tally heard
+pub step_feed : {S : Type 0} (language : Language) (machine : S
+    → Machine) (result : Result (Unit {0}) SessionError) (a b : S) (p q : Option (List ℕ)) (moment : Moment)
+    (talk after : Talk) (heard : Heard) (byte : ℕ) → byte ≡ 10 → IsPartialLine after.held [] → IsHeardIn language heard
+    → ((seen : List ℕ) → IsPartialLine talk.held seen
+    → HeardIn language moment (fitting seen (without_return seen)) heard)
+    → Told result machine a b p q moment talk.who after.who talk.tally after.tally heard
     → OnOk result (StepsOn language machine a b p q moment talk after (byte ∷ []))
 step_feed language machine (Err error) a b p q moment talk after heard byte feed none in_it hears t = tt
 step_feed language machine (Ok v) a b p q moment talk after heard byte feed none in_it hears t = record {
@@ -151,11 +196,16 @@ step_feed language machine (Ok v) a b p q moment talk after heard byte feed none
     ended = inr (read, ap (λ (n : ℕ). read ++ n ∷ []) feed);
     unended = tt;
     held = none;
-    transcript = subst (λ (l : List Line). IsServedTranscript language moment None l (done ++ t.acts) (spoken (past ++ t.written) after.tally) after.who) (sym (lines_fed read so.front so.seen byte feed so.parted so.ended so.unended))
-        (subst (λ (s : Spoken). IsServedTranscript language moment None (lines so.front ++ fitting so.seen (without_return so.seen)) (done ++ t.acts) s after.who)
+    transcript = subst (λ (l : List Line). IsServedTranscript language moment None l (done ++ t.acts)
+        (spoken (past ++ t.written) after.tally) after.who)
+        (sym (lines_fed read so.front so.seen byte feed so.parted so.ended so.unended))
+        (subst (λ (s : Spoken). IsServedTranscript language moment None (lines so.front
+        ++ fitting so.seen (without_return so.seen)) (done ++ t.acts) s after.who)
         (spoken_more past talk.tally after.tally t.said t.written t.unwritten t.parts t.whole t.refused t.broke)
-        (transcript_on language moment None (lines so.front) (fitting so.seen (without_return so.seen)) done t.acts (spoken past talk.tally) t.said talk.who after.who so.transcript
-        (transcript_heard language moment talk.who (fitting so.seen (without_return so.seen)) heard t.acts t.said after.who (hears so.seen so.held) t.hears)));
+        (transcript_on language moment None (lines so.front) (fitting so.seen (without_return so.seen)) done t.acts
+        (spoken past talk.tally) t.said talk.who after.who so.transcript
+        (transcript_heard language moment talk.who (fitting so.seen (without_return so.seen)) heard t.acts
+        t.said after.who (hears so.seen so.held) t.hears)));
   };
 }
 
@@ -163,10 +213,16 @@ abbrev no_bytes : List ℕ
 no_bytes = []
 
 -- It broke off in the line that was answered last.
-unfinished : {S : Type 0} (language : Language) (machine : S → Machine) (at_end : Type 0) (error : SessionError) (a b : S) (p q : Option (List ℕ)) (moment : Moment) (talk after : Talk) (heard : Heard) (here : List Line) (read bytes past : List ℕ) (done : List Act)
-    → (so : SoFar language moment talk read past done) → AreWholeLines (read ++ bytes) ⊎ ((no_bytes ≡ no_bytes) × at_end) → lines (read ++ bytes) ≡ lines so.front ++ here → HeardIn language moment here heard
-    → (t : Told (Err error) machine a b p q moment talk.who after.who talk.tally after.tally heard) → Unfinished language at_end moment error (read ++ bytes) (past ++ t.written) (done ++ t.acts)
-unfinished language machine at_end error a b p q moment talk after heard here read bytes past done so ended same hears t =
+unfinished : {S : Type 0} (language : Language) (machine : S
+    → Machine) (at_end : Type 0) (error : SessionError) (a b : S) (p q : Option (List ℕ)) (moment : Moment)
+    (talk after : Talk) (heard : Heard) (here : List Line) (read bytes past : List ℕ) (done : List Act)
+    → (so : SoFar language moment talk read past done) → AreWholeLines (read ++ bytes)
+    ⊎ ((no_bytes ≡ no_bytes) × at_end) → lines (read ++ bytes) ≡ lines so.front ++ here
+    → HeardIn language moment here heard
+    → (t : Told (Err error) machine a b p q moment talk.who after.who talk.tally after.tally heard)
+    → Unfinished language at_end moment error (read ++ bytes) (past ++ t.written) (done ++ t.acts)
+unfinished language machine at_end error a b p q moment talk after heard here read bytes past done so
+    ended same hears t =
     let l = heard_line language moment talk.who here heard t.acts t.said after.who t.line hears t.hears in
     record {
       front = read ++ bytes;
@@ -192,8 +248,12 @@ unfinished language machine at_end error a b p q moment talk after heard here re
       cut = t.cut;
     }
 
-pub break_feed : {S : Type 0} (language : Language) (machine : S → Machine) (result : Result (Unit {0}) SessionError) (a b : S) (p q : Option (List ℕ)) (moment : Moment) (talk after : Talk) (heard : Heard) (byte : ℕ) → byte ≡ 10 → IsHeardIn language heard
-    → ((seen : List ℕ) → IsPartialLine talk.held seen → HeardIn language moment (fitting seen (without_return seen)) heard) → Told result machine a b p q moment talk.who after.who talk.tally after.tally heard
+pub break_feed : {S : Type 0} (language : Language) (machine : S
+    → Machine) (result : Result (Unit {0}) SessionError) (a b : S) (p q : Option (List ℕ)) (moment : Moment)
+    (talk after : Talk) (heard : Heard) (byte : ℕ) → byte ≡ 10 → IsHeardIn language heard
+    → ((seen : List ℕ) → IsPartialLine talk.held seen
+    → HeardIn language moment (fitting seen (without_return seen)) heard)
+    → Told result machine a b p q moment talk.who after.who talk.tally after.tally heard
     → IfErr result (λ error. BreaksOff language ⊥ machine a b p q moment talk error (byte ∷ []))
 break_feed language machine (Ok v) a b p q moment talk after heard byte feed in_it hears t = tt
 break_feed language machine (Err error) a b p q moment talk after heard byte feed in_it hears t = record {
@@ -201,25 +261,34 @@ break_feed language machine (Err error) a b p q moment talk after heard byte fee
   goes = t.goes language in_it;
   written = t.written;
   appended = t.appended;
-  breaks = λ read past done so. unfinished language machine ⊥ error a b p q moment talk after heard (fitting so.seen (without_return so.seen)) read (byte ∷ []) past done so
-      (inl (inr (read, ap (λ (n : ℕ). read ++ n ∷ []) feed))) (lines_fed read so.front so.seen byte feed so.parted so.ended so.unended) (hears so.seen so.held) t;
+  breaks = λ read past done so. unfinished language machine ⊥ error a b p q moment talk after heard
+      (fitting so.seen (without_return so.seen)) read (byte ∷ []) past done so
+      (inl (inr (read, ap (λ (n : ℕ). read ++ n ∷ []) feed)))
+      (lines_fed read so.front so.seen byte feed so.parted so.ended so.unended) (hears so.seen so.held) t;
 }
 
 -- The end of the input.
-pub break_end : {S : Type 0} (language : Language) (machine : S → Machine) (error : SessionError) (a b : S) (p q : Option (List ℕ)) (moment : Moment) (talk after : Talk) (heard : Heard) → IsHeardIn language heard
-    → ((seen : List ℕ) → IsPartialLine talk.held seen → HeardIn language moment (fitting seen seen) heard) → Told (Err error) machine a b p q moment talk.who after.who talk.tally after.tally heard
+pub break_end : {S : Type 0} (language : Language) (machine : S → Machine) (error : SessionError) (a b : S)
+    (p q : Option (List ℕ)) (moment : Moment) (talk after : Talk) (heard : Heard) → IsHeardIn language heard
+    → ((seen : List ℕ) → IsPartialLine talk.held seen → HeardIn language moment (fitting seen seen) heard)
+    → Told (Err error) machine a b p q moment talk.who after.who talk.tally after.tally heard
     → BreaksOff language (Unit {0}) machine a b p q moment talk error []
 break_end language machine error a b p q moment talk after heard in_it hears t = record {
   acts = t.acts;
   goes = t.goes language in_it;
   written = t.written;
   appended = t.appended;
-  breaks = λ read past done so. unfinished language machine (Unit {0}) error a b p q moment talk after heard (fitting so.seen so.seen) read [] past done so
-      (inr (refl, tt)) (ap lines (append-nil read) ∙ lines_ended read so.front so.seen so.parted so.ended so.unended) (hears so.seen so.held) t;
+  breaks = λ read past done so. unfinished language machine (Unit {0}) error a b p q moment talk after heard
+      (fitting so.seen so.seen) read [] past done so
+      (inr (refl, tt)) (ap lines (append-nil read) ∙ lines_ended read so.front so.seen so.parted so.ended so.unended)
+      (hears so.seen so.held) t;
 }
 
-pub end_well : {S : Type 0} (language : Language) (machine : S → Machine) (v : Unit {0}) (a b c : S) (p q : Option (List ℕ)) (moment : Moment) (talk after : Talk) (heard : Heard) → IsHeardIn language heard
-    → ((seen : List ℕ) → IsPartialLine talk.held seen → HeardIn language moment (fitting seen seen) heard) → Told (Ok v) machine a b p q moment talk.who after.who talk.tally after.tally heard → Closed language machine b c moment
+pub end_well : {S : Type 0} (language : Language) (machine : S → Machine) (v : Unit {0}) (a b c : S)
+    (p q : Option (List ℕ)) (moment : Moment) (talk after : Talk) (heard : Heard) → IsHeardIn language heard
+    → ((seen : List ℕ) → IsPartialLine talk.held seen → HeardIn language moment (fitting seen seen) heard)
+    → Told (Ok v) machine a b p q moment talk.who after.who talk.tally after.tally heard
+    → Closed language machine b c moment
     → EndsWell language machine a c p q moment talk after.tally
 end_well language machine v a b c p q moment talk after heard in_it hears t end = record {
   acts = t.acts ++ end.acts;
@@ -229,11 +298,16 @@ end_well language machine v a b c p q moment talk after heard in_it hears t end 
   ends = λ read past done so. record {
     talked = done ++ t.acts;
     who = after.who;
-    transcript = subst (λ (l : List Line). IsServedTranscript language moment None l (done ++ t.acts) (spoken (past ++ t.written) after.tally) after.who) (sym (lines_ended read so.front so.seen so.parted so.ended so.unended))
-        (subst (λ (s : Spoken). IsServedTranscript language moment None (lines so.front ++ fitting so.seen so.seen) (done ++ t.acts) s after.who)
+    transcript = subst (λ (l : List Line). IsServedTranscript language moment None l (done ++ t.acts)
+        (spoken (past ++ t.written) after.tally) after.who)
+        (sym (lines_ended read so.front so.seen so.parted so.ended so.unended))
+        (subst (λ (s : Spoken). IsServedTranscript language moment None (lines so.front ++ fitting so.seen so.seen)
+        (done ++ t.acts) s after.who)
         (spoken_more past talk.tally after.tally t.said t.written t.unwritten t.parts t.whole t.refused t.broke)
-        (transcript_on language moment None (lines so.front) (fitting so.seen so.seen) done t.acts (spoken past talk.tally) t.said talk.who after.who so.transcript
-        (transcript_heard language moment talk.who (fitting so.seen so.seen) heard t.acts t.said after.who (hears so.seen so.held) t.hears)));
+        (transcript_on language moment None (lines so.front) (fitting so.seen so.seen) done t.acts
+        (spoken past talk.tally) t.said talk.who after.who so.transcript
+        (transcript_heard language moment talk.who (fitting so.seen so.seen) heard t.acts t.said after.who
+        (hears so.seen so.held) t.hears)));
     closing = end.acts;
     closes = end.closes;
     acts_are = sym (append_assoc done t.acts end.acts);
@@ -242,25 +316,34 @@ end_well language machine v a b c p q moment talk after heard in_it hears t end 
 
 -- What is done at the end.
 
-pub closed_reset : {S : Type 0} (machine : S → Machine) (stands : AlwaysStands machine) (language : Language) (a b : S) (moment : Moment) (reply : Reply) → language ≡ Commands → IsAnswered (machine a) (machine b) (Calls 1 Reset moment) reply → Closed language machine a b moment
-closed_reset machine stands language a b moment reply e answered = subst (λ (l : Language). Closed l machine a b moment) (sym e) (record {
-  acts = Asks (calls moment played.Reset) reply ∷ [];
-  closes = (reply, refl);
-  goes = goes_answered machine stands a b (Calls 1 Reset moment) reply (served_always (Calls 1 Reset moment) (λ s. tt)) answered;
-})
+pub closed_reset : {S : Type 0} (machine : S → Machine) (stands : AlwaysStands machine) (language : Language)
+    (a b : S) (moment : Moment) (reply : Reply) → language ≡ Commands
+    → IsAnswered (machine a) (machine b) (Calls 1 Reset moment) reply → Closed language machine a b moment
+closed_reset machine stands language a b moment reply e answered = subst (λ (l : Language). Closed l machine a b moment)
+    (sym e) (record {
+      acts = Asks (calls moment played.Reset) reply ∷ [];
+      closes = (reply, refl);
+      goes = goes_answered machine stands a b (Calls 1 Reset moment) reply
+          (served_always (Calls 1 Reset moment) (λ s. tt)) answered;
+    })
 
-pub closed_still : {S : Type 0} (machine : S → Machine) (stands : AlwaysStands machine) (language : Language) (a : S) (moment : Moment) → language ≡ Events → Closed language machine a a moment
-closed_still machine stands language a moment e = subst (λ (l : Language). Closed l machine a a moment) (sym e) (record { acts = []; closes = refl; goes = goes_still machine stands Events a })
+pub closed_still : {S : Type 0} (machine : S → Machine) (stands : AlwaysStands machine) (language : Language)
+    (a : S) (moment : Moment) → language ≡ Events → Closed language machine a a moment
+closed_still machine stands language a moment e = subst (λ (l : Language). Closed l machine a a moment)
+    (sym e) (record { acts = []; closes = refl; goes = goes_still machine stands Events a })
 
 -- What was heard is told.
 
-pub is_heard_in : (language : Language) (moment : Moment) (lines : List Line) (heard : Heard) → HeardIn language moment lines heard → IsHeardIn language heard
+pub is_heard_in : (language : Language) (moment : Moment) (lines : List Line) (heard : Heard)
+    → HeardIn language moment lines heard → IsHeardIn language heard
 is_heard_in language moment [] heard h = subst (IsHeardIn language) (sym h) tt
 is_heard_in language moment (line ∷ lines) Nothing h = tt
 is_heard_in language moment (line ∷ lines) (Said meant) h = h.0
 is_heard_in language moment (line ∷ lines) (Ordered order) h = h.0
 
-pub told_nothing : {S : Type 0} (machine : S → Machine) (stands : AlwaysStands machine) (m : S) (sink : Option (List ℕ)) (moment : Moment) (who : Option ℕ) (tally : Tally) (heard : Heard) → heard ≡ Nothing → Told (Ok tt) machine m m sink sink moment who who tally tally heard
+pub told_nothing : {S : Type 0} (machine : S → Machine) (stands : AlwaysStands machine) (m : S) (sink : Option (List ℕ))
+    (moment : Moment) (who : Option ℕ) (tally : Tally) (heard : Heard) → heard ≡ Nothing
+    → Told (Ok tt) machine m m sink sink moment who who tally tally heard
 told_nothing machine stands m sink moment who tally heard e = record {
   acts = [];
   said = silent;
@@ -277,8 +360,11 @@ told_nothing machine stands m sink moment who tally heard e = record {
   line = tt;
 }
 
-module _ {V E S : Type 0} (machine : S → Machine) (bytes : V → List ℕ) (a b : S) (p q : Option (List ℕ)) (moment : Moment) (who after : Option ℕ) (tally counted : Tally) (heard : Heard) (some : heard ≢ Nothing) where
-  told_put : (result : Result (Unit {0}) SessionError) (text : Result V E) → Replied bytes text machine a b moment who after tally counted heard → Puts bytes result p q text → Told result machine a b p q moment who after tally counted heard
+module _ {V E S : Type 0} (machine : S → Machine) (bytes : V → List ℕ) (a b : S) (p q : Option (List ℕ))
+    (moment : Moment) (who after : Option ℕ) (tally counted : Tally) (heard : Heard) (some : heard ≢ Nothing) where
+  told_put : (result : Result (Unit {0}) SessionError) (text : Result V E)
+      → Replied bytes text machine a b moment who after tally counted heard → Puts bytes result p q text
+      → Told result machine a b p q moment who after tally counted heard
   told_put (Ok u) (Ok v) s put = record {
     acts = s.acts;
     said = s.said;
@@ -321,7 +407,8 @@ module _ {V E S : Type 0} (machine : S → Machine) (bytes : V → List ℕ) (a 
     appended = subst (λ (l : Option (List ℕ)). Appends p l []) (sym put.1) (Appends-nil p);
     parts = refl;
     whole = subst (λ (x : Result (Unit {0}) SessionError). OnOk x (s.said.text ≡ [])) (sym put.0) tt;
-    cut = subst (λ (x : Result (Unit {0}) SessionError). IfErr x (λ error. IsCut error [] s.said.text)) (sym put.0) refl;
+    cut = subst (λ (x : Result (Unit {0}) SessionError). IfErr x (λ error. IsCut error [] s.said.text))
+        (sym put.0) refl;
     line = subst (λ (x : Result (Unit {0}) SessionError). OnErr x (heard ≢ Nothing)) (sym put.0) some;
   }
 
@@ -331,17 +418,27 @@ is_something heard meant e n = let wrong = sym e ∙ n in cc
 is_an_order : (heard : Heard) (order : Option Event) → heard ≡ Ordered order → heard ≢ Nothing
 is_an_order heard order e n = let wrong = sym e ∙ n in cc
 
-module _ {V E S : Type 0} (machine : S → Machine) (bytes : V → List ℕ) (result : Result (Unit {0}) SessionError) (text : Result V E) (a b : S) (p q : Option (List ℕ)) (moment : Moment) (who after : Option ℕ) (tally counted : Tally) (heard : Heard) where
-  pub told_said : (meant : Option Command) → heard ≡ Said meant → Spoke bytes text machine a b moment who after tally counted (served meant) → Puts bytes result p q text → Told result machine a b p q moment who after tally counted heard
-  told_said meant e s put = told_put machine bytes a b p q moment who after tally counted heard (is_something heard meant e) result text (subst (Replied bytes text machine a b moment who after tally counted) (sym e) (record {
-    acts = s.acts;
-    said = s.said;
-    hears = s.speaks;
-    goes = λ language in_it. subst (λ (l : Language). Goes l machine a b s.acts) (sym in_it) s.goes;
-    refused = s.refused;
-    broke = s.broke;
-    text = s.text;
-  })) put
+module _ {V E S : Type 0} (machine : S → Machine) (bytes : V
+    → List ℕ) (result : Result (Unit {0}) SessionError) (text : Result V E) (a b : S) (p q : Option (List ℕ))
+    (moment : Moment) (who after : Option ℕ) (tally counted : Tally) (heard : Heard) where
+  pub told_said : (meant : Option Command) → heard ≡ Said meant
+      → Spoke bytes text machine a b moment who after tally counted (served meant) → Puts bytes result p q text
+      → Told result machine a b p q moment who after tally counted heard
+  told_said meant e s put = told_put machine bytes a b p q moment who after tally counted heard
+      (is_something heard meant e) result text
+      (subst (Replied bytes text machine a b moment who after tally counted) (sym e) (record {
+        acts = s.acts;
+        said = s.said;
+        hears = s.speaks;
+        goes = λ language in_it. subst (λ (l : Language). Goes l machine a b s.acts) (sym in_it) s.goes;
+        refused = s.refused;
+        broke = s.broke;
+        text = s.text;
+      })) put
 
-  pub told_ordered : (order : Option Event) → heard ≡ Ordered order → Replied bytes text machine a b moment who after tally counted (Ordered order) → Puts bytes result p q text → Told result machine a b p q moment who after tally counted heard
-  told_ordered order e s put = told_put machine bytes a b p q moment who after tally counted heard (is_an_order heard order e) result text (subst (Replied bytes text machine a b moment who after tally counted) (sym e) s) put
+  pub told_ordered : (order : Option Event) → heard ≡ Ordered order
+      → Replied bytes text machine a b moment who after tally counted (Ordered order) → Puts bytes result p q text
+      → Told result machine a b p q moment who after tally counted heard
+  told_ordered order e s put = told_put machine bytes a b p q moment who after tally counted heard
+      (is_an_order heard order e) result text
+      (subst (Replied bytes text machine a b moment who after tally counted) (sym e) s) put

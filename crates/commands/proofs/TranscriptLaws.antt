@@ -1,5 +1,6 @@
 -- Lines that are answered one after another.
-use Rattle.std.proofs.Common.{◌≡◌, ◌≢◌, ℕ, ◌||◌, Bool, true, false, List, [], ◌∷◌, ◌++◌, refl, sym, ◌∙◌, ap, subst, append_assoc, append-nil, Option}
+use Rattle.std.proofs.Common.{◌≡◌, ◌≢◌, ℕ, ◌||◌, Bool, true, false, List, [], ◌∷◌, ◌++◌, refl, sym, ◌∙◌, ap, subst}
+use Rattle.std.proofs.Common.{append_assoc, append-nil, Option}
 use Rattle.std.specs.Prelude.{option_map}
 use Rattle.words36.specs.declared.moment.Moment.{Moment}
 use Rattle.meaning.specs.Lines.{Line}
@@ -46,7 +47,9 @@ joined_assoc a b c =
     λ i. record { text = e i; refused = f i; broke = h i }
 
 module _ (language : Language) (moment : Moment) where
-  pub transcript_on : (who : Option ℕ) (lines more : List Line) (acts next : List Act) (said here : Spoken) (mid after : Option ℕ) → IsServedTranscript language moment who lines acts said mid → IsServedTranscript language moment mid more next here after
+  pub transcript_on : (who : Option ℕ) (lines more : List Line) (acts next : List Act) (said here : Spoken)
+      (mid after : Option ℕ) → IsServedTranscript language moment who lines acts said mid
+      → IsServedTranscript language moment mid more next here after
       → IsServedTranscript language moment who (lines ++ more) (acts ++ next) (joined said here) after
   transcript_on who [] more acts next said here mid after p q =
       let w : mid ≡ who = p.2 in
@@ -67,50 +70,77 @@ module _ (language : Language) (moment : Moment) where
     ap (λ (v : Spoken). joined v here) p.8 ∙ joined_assoc p.2 p.3 here,
   )
 
-  transcript_one : (who : Option ℕ) (line : Line) (acts : List Act) (said : Spoken) (after : Option ℕ) → Says language moment who line acts said after → IsServedTranscript language moment who (line ∷ []) acts said after
-  transcript_one who line acts said after p = (acts, [], said, silent, after, p, (refl, refl, refl), sym (append-nil acts), joined-end said)
+  transcript_one : (who : Option ℕ) (line : Line) (acts : List Act) (said : Spoken) (after : Option ℕ)
+      → Says language moment who line acts said after
+      → IsServedTranscript language moment who (line ∷ []) acts said after
+  transcript_one who line acts said after p = (
+    acts,
+    [],
+    said,
+    silent,
+    after,
+    p,
+    (refl, refl, refl),
+    sym (append-nil acts),
+    joined-end said,
+  )
 
   -- What was heard is what the line says.
 
-  says_said : (who : Option ℕ) (line : Line) (meant : Option Command) (acts : List Act) (said : Spoken) (after : Option ℕ) → language ≡ Commands → MeansServed line meant → Speaks moment who (served meant) acts said after
+  says_said : (who : Option ℕ) (line : Line) (meant : Option Command) (acts : List Act) (said : Spoken)
+      (after : Option ℕ) → language ≡ Commands → MeansServed line meant
+      → Speaks moment who (served meant) acts said after
       → Says language moment who line acts said after
   says_said who line meant acts said after e m p =
-      subst (λ (l : Language). Says l moment who line acts said after) (sym e) (meant, m, subst (λ (o : Option Command). Speaks moment who o acts said after) (means_served line meant m) p)
+      subst (λ (l : Language). Says l moment who line acts said after) (sym e)
+      (meant, m, subst (λ (o : Option Command). Speaks moment who o acts said after) (means_served line meant m) p)
 
-  says_ordered : (who : Option ℕ) (line : Line) (order : Option Event) (acts : List Act) (said : Spoken) (after : Option ℕ) → language ≡ Events → MeansEvent line moment order → Orders order acts said × (after ≡ who)
+  says_ordered : (who : Option ℕ) (line : Line) (order : Option Event) (acts : List Act) (said : Spoken)
+      (after : Option ℕ) → language ≡ Events → MeansEvent line moment order → Orders order acts said × (after ≡ who)
       → Says language moment who line acts said after
   says_ordered who line order acts said after e m p =
       subst (λ (l : Language). Says l moment who line acts said after) (sym e) (order, m, p.0, p.1)
 
   -- where something was heard there is a line
-  pub heard_line : (who : Option ℕ) (lines : List Line) (heard : Heard) (acts : List Act) (said : Spoken) (after : Option ℕ) → heard ≢ Nothing → HeardIn language moment lines heard → Hears moment who heard acts said after
+  pub heard_line : (who : Option ℕ) (lines : List Line) (heard : Heard) (acts : List Act) (said : Spoken)
+      (after : Option ℕ) → heard ≢ Nothing → HeardIn language moment lines heard
+      → Hears moment who heard acts said after
       → (line : Line) × Says language moment who line acts said after × (lines ≡ line ∷ [])
   heard_line who [] heard acts said after n h p = absurd (n h)
   heard_line who (line ∷ lines) Nothing acts said after n h p = absurd h
-  heard_line who (line ∷ lines) (Said meant) acts said after n h p = (line, says_said who line meant acts said after h.0 h.1 p, ap (λ (l : List Line). line ∷ l) h.2)
-  heard_line who (line ∷ lines) (Ordered order) acts said after n h p = (line, says_ordered who line order acts said after h.0 h.1 p, ap (λ (l : List Line). line ∷ l) h.2)
+  heard_line who (line ∷ lines) (Said meant) acts said after n h p =
+      (line, says_said who line meant acts said after h.0 h.1 p, ap (λ (l : List Line). line ∷ l) h.2)
+  heard_line who (line ∷ lines) (Ordered order) acts said after n h p =
+      (line, says_ordered who line order acts said after h.0 h.1 p, ap (λ (l : List Line). line ∷ l) h.2)
 
   -- what was heard is what the lines say
-  pub transcript_heard : (who : Option ℕ) (lines : List Line) (heard : Heard) (acts : List Act) (said : Spoken) (after : Option ℕ) → HeardIn language moment lines heard → Hears moment who heard acts said after
+  pub transcript_heard : (who : Option ℕ) (lines : List Line) (heard : Heard) (acts : List Act) (said : Spoken)
+      (after : Option ℕ) → HeardIn language moment lines heard → Hears moment who heard acts said after
       → IsServedTranscript language moment who lines acts said after
   transcript_heard who [] heard acts said after h p = subst (λ (x : Heard). Hears moment who x acts said after) h p
   transcript_heard who (line ∷ lines) Nothing acts said after h p = absurd h
   transcript_heard who (line ∷ lines) (Said meant) acts said after h p =
-      subst (λ (l : List Line). IsServedTranscript language moment who (line ∷ l) acts said after) (sym h.2) (transcript_one who line acts said after (says_said who line meant acts said after h.0 h.1 p))
+      subst (λ (l : List Line). IsServedTranscript language moment who (line ∷ l) acts said after) (sym h.2)
+      (transcript_one who line acts said after (says_said who line meant acts said after h.0 h.1 p))
   transcript_heard who (line ∷ lines) (Ordered order) acts said after h p =
-      subst (λ (l : List Line). IsServedTranscript language moment who (line ∷ l) acts said after) (sym h.2) (transcript_one who line acts said after (says_ordered who line order acts said after h.0 h.1 p))
+      subst (λ (l : List Line). IsServedTranscript language moment who (line ∷ l) acts said after) (sym h.2)
+      (transcript_one who line acts said after (says_ordered who line order acts said after h.0 h.1 p))
 
 -- of events nobody is logged in
-pub events_who : (moment : Moment) (who : Option ℕ) (lines : List Line) (acts : List Act) (said : Spoken) (after : Option ℕ) → IsServedTranscript Events moment who lines acts said after → after ≡ who
+pub events_who : (moment : Moment) (who : Option ℕ) (lines : List Line) (acts : List Act) (said : Spoken)
+    (after : Option ℕ) → IsServedTranscript Events moment who lines acts said after → after ≡ who
 events_who moment who [] acts said after p = p.2
-events_who moment who (line ∷ lines) acts said after (first, more, here, there, mid, says, rest, split, text) = events_who moment mid lines more there after rest ∙ says.3
+events_who moment who (line ∷ lines) acts said after (first, more, here, there, mid, says, rest, split, text) =
+    events_who moment mid lines more there after rest ∙ says.3
 
 -- what is said when a line is added to what was said
-pub spoken_more : (past : List ℕ) (tally counted : Tally) (said : Spoken) (written unwritten : List ℕ) → said.text ≡ written ++ unwritten → unwritten ≡ []
+pub spoken_more : (past : List ℕ) (tally counted : Tally) (said : Spoken) (written unwritten : List ℕ)
+    → said.text ≡ written ++ unwritten → unwritten ≡ []
     → counted.refused ≡ tally.refused || said.refused → counted.broke ≡ tally.broke || said.broke
     → joined (spoken past tally) said ≡ spoken (past ++ written) counted
 spoken_more past tally counted said written unwritten e n f h =
-    let t : past ++ said.text ≡ past ++ written = ap (λ (l : List ℕ). past ++ l) (e ∙ ap (λ (l : List ℕ). written ++ l) n ∙ append-nil written) in
+    let t : past ++ said.text ≡ past ++ written = ap (λ (l : List ℕ). past ++ l) (e
+    ∙ ap (λ (l : List ℕ). written ++ l) n ∙ append-nil written) in
     let f' = sym f in
     let h' = sym h in
     λ i. record { text = t i; refused = f' i; broke = h' i }

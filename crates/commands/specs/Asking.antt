@@ -23,7 +23,8 @@ IsAlwaysServed event = (s : State) → IsServedAt s event
 
 abbrev pub ServedAlong : Pack → Service → List Event → Type 0
 ServedAlong pack service [] = Unit {0}
-ServedAlong pack service (event ∷ events) = IsServedIn service event × ((mid : Service) → Answers pack service event Done mid → ServedAlong pack mid events)
+ServedAlong pack service (event ∷ events) = IsServedIn service event
+    × ((mid : Service) → Answers pack service event Done mid → ServedAlong pack mid events)
 
 abbrev pub AreServedFrom : List Event → Type 0
 AreServedFrom events = (pack : Pack) (service : Service) → ServedAlong pack service events
@@ -43,11 +44,14 @@ followed moment (Err reply) next = fails moment reply
 pub record HasDone {S : Type 0} (machine : S → Machine) (old new : S) (events : List Event) : Type 0 where
   pub acts : List Act
   pub goes : GoesBy machine old new acts
-  pub along : (pack : Pack) (first last : Service) (rest : List Event) → Went pack first acts last → ServedAlong pack first (events ++ rest) → ServedAlong pack last rest
-  pub leads : (moment : Moment) (rest : List Event) (next : Plan) → Leads (each moment (events ++ rest) next) acts (each moment rest next)
+  pub along : (pack : Pack) (first last : Service) (rest : List Event) → Went pack first acts last
+      → ServedAlong pack first (events ++ rest) → ServedAlong pack last rest
+  pub leads : (moment : Moment) (rest : List Event) (next : Plan)
+      → Leads (each moment (events ++ rest) next) acts (each moment rest next)
 
 -- What is left of a plan was done, to its end: what is said is counted, and its text is what is answered.
-pub record Concludes {V E S : Type 0} (bytes : V → List ℕ) (result : Result V E) (machine : S → Machine) (old new : S) (plan : Plan) (tally counted : Tally) : Type 0 where
+pub record Concludes {V E S : Type 0} (bytes : V → List ℕ) (result : Result V E) (machine : S
+    → Machine) (old new : S) (plan : Plan) (tally counted : Tally) : Type 0 where
   pub said : Spoken
   pub led : Led machine old new plan (Say said)
   pub refused : counted.refused ≡ tally.refused || said.refused
@@ -59,7 +63,9 @@ abbrev pub AreTyped : Bool → List ℕ → List ℕ → Type 0
 AreTyped is_whole bytes words = is_whole ≡ true → bytes ≡ typed words
 
 -- Words of a body were read by what a plan asks for them, and their characters put behind those before.
-pub record HasTyped {S X : Type 0} (machine : S → Machine) (old new : S) (moment : Moment) (plan : (List ℕ → Plan) → Plan) (result : Result X Reply) (before after : Typed) : Type 0 where
+pub record HasTyped {S X : Type 0} (machine : S → Machine) (old new : S) (moment : Moment) (plan : (List ℕ → Plan)
+    → Plan) (result : Result X Reply) (before after : Typed) : Type 0 where
   pub words : List ℕ
-  pub types : (seen : List ℕ) → AreTyped before.is_whole before.bytes.items seen → AreTyped after.is_whole after.bytes.items (seen ++ words)
+  pub types : (seen : List ℕ) → AreTyped before.is_whole before.bytes.items seen
+      → AreTyped after.is_whole after.bytes.items (seen ++ words)
   pub led : (next : List ℕ → Plan) → Led machine old new (plan next) (followed moment result (λ x. next words))

@@ -18,8 +18,10 @@ use Rattle.commands.specs.declared.language.Language.TheVariants.{Commands, Even
 -- What a line asks and says: one with a command or an event that is not served says nothing. Of an event it does not
 -- matter who is logged in.
 abbrev pub Says : Language → Moment → Option ℕ → Line → List Act → Spoken → Option ℕ → Type 0
-Says Commands moment who line acts said then_who = (meant : Option Command) × MeansServed line meant × Speaks moment who meant acts said then_who
-Says Events moment who line acts said then_who = (meant : Option Event) × MeansEvent line moment meant × Orders meant acts said × (then_who ≡ who)
+Says Commands moment who line acts said then_who = (meant : Option Command) × MeansServed line meant
+    × Speaks moment who meant acts said then_who
+Says Events moment who line acts said then_who = (meant : Option Event) × MeansEvent line moment meant
+    × Orders meant acts said × (then_who ≡ who)
 
 -- At the end of commands job 1 is reset.
 abbrev pub Closes : Language → Moment → List Act → Type 0

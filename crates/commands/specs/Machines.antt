@@ -21,33 +21,39 @@ pub record Machine : Type 1 where
   pub disk : DiskState
   pub serves : Service → Type 0
 
--- It answered an event: at any moment of it a crash left the files from before, or those after it where its answer is one
--- that may change files.
+-- It answered an event: at any moment of it a crash left the files from before, or those after it where its answer is
+-- one that may change files.
 pub record IsAnswered (old new : Machine) (event : Event) (reply : Reply) : Type 0 where
   pub pack : new.pack ≡ old.pack
   pub was_honest : new.honest → old.honest
-  pub crash : new.honest → (s : State) → old.serves (Serving s) → LeavesOnly old.disk new.disk (StandsForEither old.pack s event reply)
+  pub crash : new.honest → (s : State) → old.serves (Serving s)
+      → LeavesOnly old.disk new.disk (StandsForEither old.pack s event reply)
   pub broken : new.honest → old.serves Broken → Still old.disk new.disk
-  pub answers : new.honest → (first : Service) → old.serves first → IsServedIn first event → (last : Service) × new.serves last × Answers old.pack first event reply last
+  pub answers : new.honest → (first : Service) → old.serves first → IsServedIn first event
+      → (last : Service) × new.serves last × Answers old.pack first event reply last
 
 -- It listed a directory for a job, for which it asks the disk for nothing.
 pub record IsListed (old new : Machine) (job owner : ℕ) (answer : Result (List Entry) Reply) : Type 0 where
   pub pack : new.pack ≡ old.pack
   pub was_honest : new.honest → old.honest
   pub still : Still old.disk new.disk
-  pub lists : new.honest → (first : Service) → old.serves first → (last : Service) × new.serves last × Lists first job owner answer last
+  pub lists : new.honest → (first : Service) → old.serves first → (last : Service) × new.serves last
+      × Lists first job owner answer last
 
 -- All that a crash may leave of a service stands for the files of the state that it serves from.
 abbrev pub AlwaysStands : {S : Type 0} → (S → Machine) → Type 0
-AlwaysStands {S} machine = (service : S) → (machine service).honest → (s : State) → (machine service).serves (Serving s) → StandsNow (machine service).pack (machine service).disk s
+AlwaysStands {S} machine = (service : S) → (machine service).honest → (s : State) → (machine service).serves (Serving s)
+    → StandsNow (machine service).pack (machine service).disk s
 
 -- From a value of the service on job 1 went by these acts, and `end` is the value after them. At each moment, that
 -- before the first act and that after each of them, all that a crash may leave stands for the files after the acts so
 -- far; from one moment to the next a crash left these, or those after one act more, where its answer is one that may
 -- change files. A list of a directory leaves the disk alone, and from a fault of the disk on nothing is written.
 abbrev pub ActsBy : {S : Type 0} → (S → Machine) → Pack → S → Service → List Act → S → Service → Type 0
-ActsBy machine pack service Broken acts end new = Still (machine service).disk (machine end).disk × Went pack Broken acts new
-ActsBy machine pack service (Serving s) [] end new = (end ≡ service) × (new ≡ Serving s) × StandsNow pack (machine service).disk s
+ActsBy machine pack service Broken acts end new = Still (machine service).disk (machine end).disk
+    × Went pack Broken acts new
+ActsBy machine pack service (Serving s) [] end new = (end ≡ service) × (new ≡ Serving s)
+    × StandsNow pack (machine service).disk s
 ActsBy {S} machine pack service (Serving s) (Asks event reply ∷ acts) end new =
     StandsNow pack (machine service).disk s
     × (mid : S) × (after : Service) × Answers pack (Serving s) event reply after
@@ -60,8 +66,8 @@ ActsBy {S} machine pack service (Serving s) (Looks owner answer ∷ acts) end ne
     × ActsBy machine pack mid after acts end new
 
 -- The files of the state that a start finds over what a crash left in the course of these acts: those after some of
--- them, none left out, or those after these and the next one, which was running, where its answer is one that may change
--- files; and no third.
+-- them, none left out, or those after these and the next one, which was running, where its answer is one that may
+-- change files; and no third.
 abbrev pub IsAlongActs : Pack → Service → List Act → State → Type 0
 IsAlongActs pack Broken acts found = ⊥
 IsAlongActs pack (Serving s) [] found = found ≡ s
@@ -82,20 +88,36 @@ pub record GoesBy {S : Type 0} (machine : S → Machine) (old new : S) (acts : L
 
 abbrev pub AreServedActs : Pack → Service → List Act → Type 0
 AreServedActs pack service [] = Unit {0}
-AreServedActs pack service (Asks event reply ∷ acts) = IsServedIn service event × ((mid : Service) → Answers pack service event reply mid → AreServedActs pack mid acts)
-AreServedActs pack service (Looks owner answer ∷ acts) = (mid : Service) → Lists service 1 owner answer mid → AreServedActs pack mid acts
+AreServedActs pack service (Asks event reply ∷ acts) = IsServedIn service event
+    × ((mid : Service) → Answers pack service event reply mid → AreServedActs pack mid acts)
+AreServedActs pack service (Looks owner answer ∷ acts) = (mid : Service) → Lists service 1 owner answer mid
+    → AreServedActs pack mid acts
 
 -- It went by these acts, moment by moment, where they are of events that are served.
 pub record GoesServed {S : Type 0} (machine : S → Machine) (old new : S) (acts : List Act) : Type 0 where
   pub pack : (machine new).pack ≡ (machine old).pack
   pub was_honest : (machine new).honest → (machine old).honest
-  pub went : (machine new).honest → (first : Service) → (machine old).serves first → AreServedActs (machine old).pack first acts
+  pub went : (machine new).honest → (first : Service) → (machine old).serves first
+      → AreServedActs (machine old).pack first acts
       → (last : Service) × (machine new).serves last × ActsBy machine (machine old).pack old first acts new last
 
 -- a disk of which nothing is known
 abbrev pub unknown_disk : DiskState
-unknown_disk = record { size = 64; honest = ⊥; failures = 0; contents = λ n. None; is_open = λ n. false; clock = 0; left_since = λ t c. ⊥ }
+unknown_disk = record {
+  size = 64;
+  honest = ⊥;
+  failures = 0;
+  contents = λ n. None;
+  is_open = λ n. false;
+  clock = 0;
+  left_since = λ t c. ⊥;
+}
 
 -- a service of which nothing is known
 abbrev pub unknown_machine : Machine
-unknown_machine = record { pack = record { layout = 1; blocks = 64 }; honest = ⊥; disk = unknown_disk; serves = λ service. ⊥ }
+unknown_machine = record {
+  pack = record { layout = 1; blocks = 64 };
+  honest = ⊥;
+  disk = unknown_disk;
+  serves = λ service. ⊥;
+}

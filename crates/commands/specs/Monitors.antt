@@ -7,4 +7,9 @@ use Rattle.monitor.specs.declared.job.Job.{Job}
 use Rattle.commands.specs.Machines.{Machine}
 
 abbrev pub machine_of : DiskState → VolumeCore → Bool → List (Option Job) → Machine
-machine_of d map failed jobs = record { pack = pack_of d; honest = d.honest; disk = d; serves = Serves d map failed jobs }
+machine_of d map failed jobs = record {
+  pack = pack_of d;
+  honest = d.honest;
+  disk = d;
+  serves = Serves d map failed jobs;
+}

@@ -1,5 +1,6 @@
 -- A whole session, a whole call script, and the parts that they are made of.
-use Rattle.std.specs.Prelude.{◌≡◌, ◌≢◌, ◌<◌, ◌||◌, ℕ, List, [], ◌∷◌, ◌++◌, length, Option, None, option_map, Result, Ok, Err, IfOk, IfErr, OnOk, OnErr}
+use Rattle.std.specs.Prelude.{◌≡◌, ◌≢◌, ◌<◌, ◌||◌, ℕ, List, [], ◌∷◌, ◌++◌, length, Option, None, option_map, Result, Ok}
+use Rattle.std.specs.Prelude.{Err, IfOk, IfErr, OnOk, OnErr}
 use Rattle.std.specs.Io.KnownBytes.{Consumes, Appends, IsAtEnd}
 use Rattle.words36.specs.declared.moment.Moment.{Moment}
 use Rattle.meaning.specs.Lines.{Line, lines}
@@ -13,7 +14,8 @@ use Rattle.commands.specs.Served.{MeansServed, served, Fits}
 use Rattle.commands.specs.Languages.{Closes, Goes}
 use Rattle.commands.specs.Machines.{Machine, GoesBy, GoesServed, AreServedActs}
 use Rattle.meaning.specs.Scripts.{MeansEvent}
-use Rattle.commands.specs.Streams.{IsServedTranscript, IsServedSession, IsServedScript, spoken, HasNoFeed, AreWholeLines, Finished, CutShort, IsCut, Unfinished}
+use Rattle.commands.specs.Streams.{IsServedTranscript, IsServedSession, IsServedScript, spoken, HasNoFeed}
+use Rattle.commands.specs.Streams.{AreWholeLines, Finished, CutShort, IsCut, Unfinished}
 use Rattle.commands.specs.declared.error.SessionError.{SessionError}
 use Rattle.commands.specs.declared.error.SessionError.TheVariants.{Read, Write, NoMemory}
 use Rattle.commands.specs.declared.answer.Tally.{Tally}
@@ -26,7 +28,9 @@ use Rattle.commands.specs.declared.run.Talk.{Talk}
 -- One line.
 
 -- The calls of a line were made, and its text is what was said.
-pub record Spoke {V E S : Type 0} (bytes : V → List ℕ) (result : Result V E) (machine : S → Machine) (old new : S) (moment : Moment) (who after : Option ℕ) (tally counted : Tally) (meant : Option Command) : Type 0 where
+pub record Spoke {V E S : Type 0} (bytes : V → List ℕ) (result : Result V E) (machine : S
+    → Machine) (old new : S) (moment : Moment) (who after : Option ℕ) (tally counted : Tally)
+    (meant : Option Command) : Type 0 where
   pub acts : List Act
   pub said : Spoken
   pub speaks : Speaks moment who meant acts said after
@@ -40,7 +44,8 @@ abbrev pub HeardIn : Language → Moment → List Line → Heard → Type 0
 HeardIn language moment [] heard = heard ≡ Nothing
 HeardIn language moment (line ∷ lines) Nothing = ⊥
 HeardIn language moment (line ∷ lines) (Said meant) = (language ≡ Commands) × MeansServed line meant × (lines ≡ [])
-HeardIn language moment (line ∷ lines) (Ordered order) = (language ≡ Events) × MeansEvent line moment order × (lines ≡ [])
+HeardIn language moment (line ∷ lines) (Ordered order) = (language ≡ Events) × MeansEvent line moment order
+    × (lines ≡ [])
 
 abbrev pub IsHeardIn : Language → Heard → Type 0
 IsHeardIn language Nothing = Unit {0}
@@ -59,7 +64,9 @@ Hears moment who (Said meant) acts said after = Speaks moment who (served meant)
 Hears moment who (Ordered order) acts said after = Orders order acts said × (after ≡ who)
 
 -- The calls of what was heard were made, and its text is what was said.
-pub record Replied {V E S : Type 0} (bytes : V → List ℕ) (result : Result V E) (machine : S → Machine) (old new : S) (moment : Moment) (who after : Option ℕ) (tally counted : Tally) (heard : Heard) : Type 0 where
+pub record Replied {V E S : Type 0} (bytes : V → List ℕ) (result : Result V E) (machine : S
+    → Machine) (old new : S) (moment : Moment) (who after : Option ℕ) (tally counted : Tally)
+    (heard : Heard) : Type 0 where
   pub acts : List Act
   pub said : Spoken
   pub hears : Hears moment who heard acts said after
@@ -69,14 +76,18 @@ pub record Replied {V E S : Type 0} (bytes : V → List ℕ) (result : Result V 
   pub text : IfOk result (λ v. bytes v ≡ said.text)
 
 -- A text that there is was written, or a beginning of it; without one nothing was.
-abbrev pub Puts : {V E : Type 0} → (V → List ℕ) → Result (Unit {0}) SessionError → Option (List ℕ) → Option (List ℕ) → Result V E → Type 0
+abbrev pub Puts : {V E : Type 0} → (V → List ℕ) → Result (Unit {0}) SessionError → Option (List ℕ) → Option (List ℕ)
+    → Result V E → Type 0
 Puts bytes result sink full (Ok v) =
     OnOk result (Appends sink full (bytes v))
-    × IfErr result (λ error. (error ≡ Write) × ((written : List ℕ) × (unwritten : List ℕ) × Appends sink full written × (bytes v ≡ written ++ unwritten) × (0 < length unwritten)))
+    × IfErr result (λ error. (error ≡ Write) × ((written : List ℕ) × (unwritten : List ℕ) × Appends sink full written
+    × (bytes v ≡ written ++ unwritten) × (0 < length unwritten)))
 Puts bytes result sink full (Err error) = (result ≡ Err NoMemory) × (full ≡ sink)
 
 -- What was heard was answered, and a beginning of its text was written.
-pub record Told {S : Type 0} (result : Result (Unit {0}) SessionError) (machine : S → Machine) (old new : S) (sink full : Option (List ℕ)) (moment : Moment) (who after : Option ℕ) (tally counted : Tally) (heard : Heard) : Type 0 where
+pub record Told {S : Type 0} (result : Result (Unit {0}) SessionError) (machine : S
+    → Machine) (old new : S) (sink full : Option (List ℕ)) (moment : Moment) (who after : Option ℕ)
+    (tally counted : Tally) (heard : Heard) : Type 0 where
   pub acts : List Act
   pub said : Spoken
   pub hears : Hears moment who heard acts said after
@@ -92,7 +103,8 @@ pub record Told {S : Type 0} (result : Result (Unit {0}) SessionError) (machine 
   pub line : OnErr result (heard ≢ Nothing)
 
 -- What is done at the end of the input was done.
-pub record Closed {S : Type 0} (language : Language) (machine : S → Machine) (old new : S) (moment : Moment) : Type 0 where
+pub record Closed {S : Type 0} (language : Language) (machine : S
+    → Machine) (old new : S) (moment : Moment) : Type 0 where
   pub acts : List Act
   pub closes : Closes language moment acts
   pub goes : Goes language machine old new acts
@@ -100,7 +112,8 @@ pub record Closed {S : Type 0} (language : Language) (machine : S → Machine) (
 -- Bytes of the input.
 
 -- In mid-stream: what was read, and what was written for its lines that have ended.
-pub record SoFar (language : Language) (moment : Moment) (talk : Talk) (read written : List ℕ) (acts : List Act) : Type 0 where
+pub record SoFar (language : Language) (moment : Moment) (talk : Talk) (read written : List ℕ)
+    (acts : List Act) : Type 0 where
   pub front : List ℕ
   pub seen : List ℕ
   pub parted : read ≡ front ++ seen
@@ -110,28 +123,35 @@ pub record SoFar (language : Language) (moment : Moment) (talk : Talk) (read wri
   pub transcript : IsServedTranscript language moment None (lines front) acts (spoken written talk.tally) talk.who
 
 -- Whatever there was so far, it goes on by these bytes,
-pub record StepsOn {S : Type 0} (language : Language) (machine : S → Machine) (old new : S) (sink full : Option (List ℕ)) (moment : Moment) (talk after : Talk) (bytes : List ℕ) : Type 0 where
+pub record StepsOn {S : Type 0} (language : Language) (machine : S → Machine) (old new : S)
+    (sink full : Option (List ℕ)) (moment : Moment) (talk after : Talk) (bytes : List ℕ) : Type 0 where
   pub acts : List Act
   pub goes : Goes language machine old new acts
   pub written : List ℕ
   pub appended : Appends sink full written
-  pub steps : (read past : List ℕ) (done : List Act) → SoFar language moment talk read past done → SoFar language moment after (read ++ bytes) (past ++ written) (done ++ acts)
+  pub steps : (read past : List ℕ) (done : List Act) → SoFar language moment talk read past done
+      → SoFar language moment after (read ++ bytes) (past ++ written) (done ++ acts)
 
 -- or breaks off in them,
-pub record BreaksOff {S : Type 0} (language : Language) (at_end : Type 0) (machine : S → Machine) (old new : S) (sink full : Option (List ℕ)) (moment : Moment) (talk : Talk) (error : SessionError) (bytes : List ℕ) : Type 0 where
+pub record BreaksOff {S : Type 0} (language : Language) (at_end : Type 0) (machine : S
+    → Machine) (old new : S) (sink full : Option (List ℕ)) (moment : Moment) (talk : Talk) (error : SessionError)
+    (bytes : List ℕ) : Type 0 where
   pub acts : List Act
   pub goes : Goes language machine old new acts
   pub written : List ℕ
   pub appended : Appends sink full written
-  pub breaks : (read past : List ℕ) (done : List Act) → SoFar language moment talk read past done → Unfinished language at_end moment error (read ++ bytes) (past ++ written) (done ++ acts)
+  pub breaks : (read past : List ℕ) (done : List Act) → SoFar language moment talk read past done
+      → Unfinished language at_end moment error (read ++ bytes) (past ++ written) (done ++ acts)
 
 -- or ends.
-pub record EndsWell {S : Type 0} (language : Language) (machine : S → Machine) (old new : S) (sink full : Option (List ℕ)) (moment : Moment) (talk : Talk) (tally : Tally) : Type 0 where
+pub record EndsWell {S : Type 0} (language : Language) (machine : S → Machine) (old new : S)
+    (sink full : Option (List ℕ)) (moment : Moment) (talk : Talk) (tally : Tally) : Type 0 where
   pub acts : List Act
   pub goes : Goes language machine old new acts
   pub written : List ℕ
   pub appended : Appends sink full written
-  pub ends : (read past : List ℕ) (done : List Act) → SoFar language moment talk read past done → Finished language moment read (past ++ written) (done ++ acts) tally
+  pub ends : (read past : List ℕ) (done : List Act) → SoFar language moment talk read past done
+      → Finished language moment read (past ++ written) (done ++ acts) tally
 
 -- The whole of it.
 
@@ -139,10 +159,12 @@ abbrev pub Ends : Language → Type 0 → Moment → List ℕ → List ℕ → L
 Ends language at_end moment read written acts (Ok tally) = at_end × Finished language moment read written acts tally
 Ends language at_end moment read written acts (Err Read) = CutShort language moment read written acts
 Ends language at_end moment read written acts (Err Write) = Unfinished language at_end moment Write read written acts
-Ends language at_end moment read written acts (Err NoMemory) = Unfinished language at_end moment NoMemory read written acts
+Ends language at_end moment read written acts (Err NoMemory) = Unfinished language at_end moment NoMemory
+    read written acts
 
 -- What was taken from the reader and put into the writer, and what became of the service.
-pub record Talked {S : Type 0} (language : Language) (source left sink full : Option (List ℕ)) (machine : S → Machine) (old new : S) (moment : Moment) (result : Result Tally SessionError) : Type 0 where
+pub record Talked {S : Type 0} (language : Language) (source left sink full : Option (List ℕ)) (machine : S
+    → Machine) (old new : S) (moment : Moment) (result : Result Tally SessionError) : Type 0 where
   pub read : List ℕ
   pub written : List ℕ
   pub acts : List Act
@@ -152,7 +174,8 @@ pub record Talked {S : Type 0} (language : Language) (source left sink full : Op
   pub ends : Ends language (IsAtEnd left) moment read written acts result
 
 -- The same of a session: at Ok it is a session of all that the reader had.
-pub record Session {S : Type 0} (source left sink full : Option (List ℕ)) (machine : S → Machine) (old new : S) (moment : Moment) (result : Result Tally SessionError) : Type 0 where
+pub record Session {S : Type 0} (source left sink full : Option (List ℕ)) (machine : S
+    → Machine) (old new : S) (moment : Moment) (result : Result Tally SessionError) : Type 0 where
   pub read : List ℕ
   pub written : List ℕ
   pub acts : List Act
@@ -160,10 +183,13 @@ pub record Session {S : Type 0} (source left sink full : Option (List ℕ)) (mac
   pub appended : Appends sink full written
   pub goes : GoesBy machine old new acts
   pub ends : Ends Commands (IsAtEnd left) moment read written acts result
-  pub served : (machine new).honest → (first : Service) → (machine old).serves first → IfOk result (λ tally. (last : Service) × (machine new).serves last × IsServedSession (machine old).pack moment read first last (spoken written tally))
+  pub served : (machine new).honest → (first : Service) → (machine old).serves first
+      → IfOk result (λ tally. (last : Service) × (machine new).serves last
+      × IsServedSession (machine old).pack moment read first last (spoken written tally))
 
 -- And of a call script, where its events are served.
-pub record Script {S : Type 0} (source left sink full : Option (List ℕ)) (machine : S → Machine) (old new : S) (moment : Moment) (result : Result Tally SessionError) : Type 0 where
+pub record Script {S : Type 0} (source left sink full : Option (List ℕ)) (machine : S
+    → Machine) (old new : S) (moment : Moment) (result : Result Tally SessionError) : Type 0 where
   pub read : List ℕ
   pub written : List ℕ
   pub acts : List Act
@@ -171,5 +197,7 @@ pub record Script {S : Type 0} (source left sink full : Option (List ℕ)) (mach
   pub appended : Appends sink full written
   pub goes : GoesServed machine old new acts
   pub ends : Ends Events (IsAtEnd left) moment read written acts result
-  pub served : (machine new).honest → (first : Service) → (machine old).serves first → AreServedActs (machine old).pack first acts
-      → IfOk result (λ tally. (last : Service) × (machine new).serves last × IsServedScript (machine old).pack moment read first last (spoken written tally))
+  pub served : (machine new).honest → (first : Service) → (machine old).serves first
+      → AreServedActs (machine old).pack first acts
+      → IfOk result (λ tally. (last : Service) × (machine new).serves last
+      × IsServedScript (machine old).pack moment read first last (spoken written tally))

@@ -23,11 +23,13 @@ abbrev pub IsServedTranscript : Language → Moment → Option ℕ → List Line
 IsServedTranscript language moment who [] acts said then_who = (acts ≡ []) × (said ≡ silent) × (then_who ≡ who)
 IsServedTranscript language moment who (line ∷ lines) acts said then_who =
     (first : List Act) × (more : List Act) × (here : Spoken) × (there : Spoken) × (mid : Option ℕ)
-    × Says language moment who line first here mid × IsServedTranscript language moment mid lines more there then_who × (acts ≡ first ++ more) × (said ≡ joined here there)
+    × Says language moment who line first here mid × IsServedTranscript language moment mid lines more there then_who
+    × (acts ≡ first ++ more) × (said ≡ joined here there)
 
 -- A whole input, answered at a moment by a service that was `old` before it and is `new` after it.
 
-pub record IsServedSession (pack : Pack) (moment : Moment) (input : List ℕ) (old new : Service) (said : Spoken) : Type 0 where
+pub record IsServedSession (pack : Pack) (moment : Moment) (input : List ℕ) (old new : Service)
+    (said : Spoken) : Type 0 where
   pub acts : List Act
   pub mid : Service
   pub who : Option ℕ
@@ -36,7 +38,8 @@ pub record IsServedSession (pack : Pack) (moment : Moment) (input : List ℕ) (o
   pub answer : Reply
   pub reset : Answers pack mid (calls moment Reset) answer new
 
-pub record IsServedScript (pack : Pack) (moment : Moment) (input : List ℕ) (old new : Service) (said : Spoken) : Type 0 where
+pub record IsServedScript (pack : Pack) (moment : Moment) (input : List ℕ) (old new : Service)
+    (said : Spoken) : Type 0 where
   pub acts : List Act
   pub ordered : IsServedTranscript Events moment None (lines input) acts said None
   pub went : Went pack old acts new
@@ -53,7 +56,8 @@ abbrev pub AreWholeLines : List ℕ → Type 0
 AreWholeLines bytes = (bytes ≡ []) ⊎ ((before : List ℕ) × (bytes ≡ before ++ feed ∷ []))
 
 -- All was answered and written, and then what is done at the end, for which nothing is written.
-pub record Finished (language : Language) (moment : Moment) (read written : List ℕ) (acts : List Act) (tally : Tally) : Type 0 where
+pub record Finished (language : Language) (moment : Moment) (read written : List ℕ) (acts : List Act)
+    (tally : Tally) : Type 0 where
   pub talked : List Act
   pub who : Option ℕ
   pub transcript : IsServedTranscript language moment None (lines read) talked (spoken written tally) who
@@ -80,7 +84,8 @@ IsCut Write written unwritten = 0 < length unwritten
 IsCut NoMemory written unwritten = written ≡ []
 
 -- Lines were answered, and written but for the end of the last one's text; these lines had ended, or the input had.
-pub record Unfinished (language : Language) (at_end : Type 0) (moment : Moment) (error : SessionError) (read written : List ℕ) (acts : List Act) : Type 0 where
+pub record Unfinished (language : Language) (at_end : Type 0) (moment : Moment) (error : SessionError)
+    (read written : List ℕ) (acts : List Act) : Type 0 where
   pub front : List ℕ
   pub behind : List ℕ
   pub parted : read ≡ front ++ behind

@@ -1,6 +1,8 @@
 ghost use Rattle.std.specs.Prelude.{◌≡◌, ◌<◌, ◌||◌, IfOk, Some, codes, false, true};
 ghost use Rattle.meaning.specs.Texts.{line, is_broken};
-ghost use Rattle.meaning.specs.declared.command.Command.TheVariants.{Login as LoginLine, Directory as DirectoryLine, Copy as CopyLine, TypeOut as TypeLine, MakeDir as MakeLine};
+ghost use Rattle.meaning.specs.declared.command.Command.TheVariants.{Login as LoginLine, Directory as DirectoryLine};
+ghost use Rattle.meaning.specs.declared.command.Command.TheVariants.{Copy as CopyLine, TypeOut as TypeLine};
+ghost use Rattle.meaning.specs.declared.command.Command.TheVariants.{MakeDir as MakeLine};
 ghost use Rattle.commands.specs.Served.{served, Fits};
 ghost use Rattle.commands.specs.Sessions.{Spoke};
 
@@ -80,7 +82,8 @@ fn log_in<S: FileService>(
     tally: &mut Tally,
     owner: Ppn,
 ) -> Result<Vec<u8>, AllocError>
-    ensures { Spoke (λ bytes. bytes.items) result S.machine service.old service.new moment who.old who.new tally.old tally.new (Some (LoginLine owner)) }
+    ensures { Spoke (λ bytes. bytes.items) result S.machine service.old service.new moment who.old who.new
+        tally.old tally.new (Some (LoginLine owner)) }
 {
     let reply = service.event(alloc, &Event::Login(SESSION_JOB, owner, CORE_WORDS));
     match reply {
@@ -101,7 +104,8 @@ fn list<S: FileService>(
     tally: &mut Tally,
     place: Option<Ppn>,
 ) -> Result<Vec<u8>, AllocError>
-    ensures { Spoke (λ bytes. bytes.items) result S.machine service.old service.new moment (Some me) (Some me) tally.old tally.new (Some (DirectoryLine place)) }
+    ensures { Spoke (λ bytes. bytes.items) result S.machine service.old service.new moment (Some me)
+        (Some me) tally.old tally.new (Some (DirectoryLine place)) }
 {
     let owner = place.unwrap_or(me);
     match service.list(alloc, SESSION_JOB, owner) {
@@ -119,7 +123,8 @@ fn list_for<S: FileService>(
     tally: &mut Tally,
     place: Option<Ppn>,
 ) -> Result<Vec<u8>, AllocError>
-    ensures { Spoke (λ bytes. bytes.items) result S.machine service.old service.new moment who who tally.old tally.new (Some (DirectoryLine place)) }
+    ensures { Spoke (λ bytes. bytes.items) result S.machine service.old service.new moment who who tally.old tally.new
+        (Some (DirectoryLine place)) }
 {
     match who {
         Some(me) => list(alloc, service, moment, me, tally, place),
@@ -138,7 +143,8 @@ fn make_dir_for<S: FileService>(
     protection: u32,
 ) -> Result<Vec<u8>, AllocError>
     requires { protection < 512 }
-    ensures { Spoke (λ bytes. bytes.items) result S.machine service.old service.new moment who who tally.old tally.new (Some (MakeLine owner protection)) }
+    ensures { Spoke (λ bytes. bytes.items) result S.machine service.old service.new moment who who tally.old tally.new
+        (Some (MakeLine owner protection)) }
 {
     match who {
         Some(me) => make_dir(alloc, service, moment, me, tally, owner, protection),
@@ -156,7 +162,8 @@ fn copy_for<S: FileService>(
     to: Spec,
     from: Spec,
 ) -> Result<Vec<u8>, AllocError>
-    ensures { Spoke (λ bytes. bytes.items) result S.machine service.old service.new moment who who tally.old tally.new (Some (CopyLine to from)) }
+    ensures { Spoke (λ bytes. bytes.items) result S.machine service.old service.new moment who who tally.old tally.new
+        (Some (CopyLine to from)) }
 {
     match who {
         Some(me) => copy(alloc, service, moment, me, tally, to, from),
@@ -173,7 +180,8 @@ fn type_for<S: FileService>(
     tally: &mut Tally,
     spec: Spec,
 ) -> Result<Vec<u8>, AllocError>
-    ensures { Spoke (λ bytes. bytes.items) result S.machine service.old service.new moment who who tally.old tally.new (Some (TypeLine spec)) }
+    ensures { Spoke (λ bytes. bytes.items) result S.machine service.old service.new moment who who tally.old tally.new
+        (Some (TypeLine spec)) }
 {
     match who {
         Some(me) => type_out(alloc, service, moment, me, tally, spec),
@@ -191,7 +199,8 @@ pub fn answer<S: FileService>(
     meant: Option<Command>,
 ) -> Result<Vec<u8>, AllocError>
     requires { Fits meant }
-    ensures { Spoke (λ bytes. bytes.items) result S.machine service.old service.new moment who.old who.new tally.old tally.new (served meant) }
+    ensures { Spoke (λ bytes. bytes.items) result S.machine service.old service.new moment who.old who.new
+        tally.old tally.new (served meant) }
 {
     let Some(command) = meant else {
         return refuse(alloc, tally, "?Command error", false);

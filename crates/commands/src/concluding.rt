@@ -17,7 +17,8 @@ pub fn conclude<S: FileService>(
     tally: &mut Tally,
     outcome: Result<(), Reply>,
 ) -> Result<Vec<u8>, AllocError>
-    ensures { Concludes (λ bytes. bytes.items) result S.machine service.old service.new (followed moment outcome (λ unit. ends moment ok)) tally.old tally.new }
+    ensures { Concludes (λ bytes. bytes.items) result S.machine service.old service.new
+        (followed moment outcome (λ unit. ends moment ok)) tally.old tally.new }
 {
     reset(alloc, service, moment);
     match outcome {

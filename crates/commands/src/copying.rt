@@ -1,5 +1,7 @@
 ghost use Rattle.std.specs.Prelude.{◌++◌, ◌∷◌, [], ◌+◌, ℕ, Some};
-ghost use Rattle.meaning.specs.Plans.{Plan, each, examines, finds as found, writes as written, lists as listed, file_words, copies_blocks, copies_last, copies_body, blocks_said as said_blocks, until_end, calls};
+ghost use Rattle.meaning.specs.Plans.{Plan, each, examines, finds as found, writes as written, lists as listed};
+ghost use Rattle.meaning.specs.Plans.{file_words, copies_blocks, copies_last, copies_body, blocks_said as said_blocks};
+ghost use Rattle.meaning.specs.Plans.{until_end, calls};
 ghost use Rattle.meaning.specs.declared.call.Call.TheVariants.{Close};
 ghost use Rattle.meaning.specs.declared.command.Command.TheVariants.{Copy as CopyLine};
 ghost use Rattle.commands.specs.Asking.{Led, followed};
@@ -78,7 +80,8 @@ fn open_both<S: FileService>(
     from: Spec,
 ) -> Result<Word, Reply>
     ensures { (next : ℕ → Plan) → Led S.machine service.old service.new
-        (each moment (found moment from ++ written moment to ++ listed 128) (examines moment (file_words + 3) next)) (followed moment result next) }
+        (each moment (found moment from ++ written moment to ++ listed 128) (examines moment (file_words + 3) next))
+        (followed moment result next) }
 {
     ask_all(alloc, service, &finds(moment, from))?;
     ask_all(alloc, service, &writes(moment, to))?;
@@ -95,8 +98,10 @@ fn copy_file<S: FileService>(
     from: Spec,
 ) -> Result<(), Reply>
     ensures { (next : Plan) → Led S.machine service.old service.new
-        (each moment (found moment from ++ written moment to ++ listed 128) (examines moment (file_words + 3) (λ size. copies_body moment (said_blocks size) size
-        (until_end moment (each moment (calls moment (Close 2 0) ∷ []) next))))) (followed moment result (λ unit. next)) }
+        (each moment (found moment from ++ written moment to ++ listed 128)
+        (examines moment (file_words + 3) (λ size. copies_body moment (said_blocks size) size
+        (until_end moment (each moment (calls moment (Close 2 0) ∷ []) next)))))
+        (followed moment result (λ unit. next)) }
 {
     let size = open_both(alloc, service, moment, to, from)?;
     copy_body(alloc, service, moment, size)?;
@@ -114,7 +119,8 @@ pub fn copy<S: FileService>(
     to: Spec,
     from: Spec,
 ) -> Result<Vec<u8>, AllocError>
-    ensures { Spoke (λ bytes. bytes.items) result S.machine service.old service.new moment (Some me) (Some me) tally.old tally.new (Some (CopyLine to from)) }
+    ensures { Spoke (λ bytes. bytes.items) result S.machine service.old service.new moment (Some me)
+        (Some me) tally.old tally.new (Some (CopyLine to from)) }
 {
     let copied = copy_file(alloc, service, moment, to, from);
     conclude(alloc, service, moment, tally, copied)

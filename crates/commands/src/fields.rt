@@ -1,4 +1,5 @@
-ghost use Rattle.std.specs.Prelude.{◌≡◌, ◌≢◌, ◌<◌, ◌≤◌, ◌++◌, ◌∷◌, [], length, slice_index, take, IfSome, IfNone, ℕ, List};
+ghost use Rattle.std.specs.Prelude.{◌≡◌, ◌≢◌, ◌<◌, ◌≤◌, ◌++◌, ◌∷◌, [], length, slice_index, take, IfSome, IfNone, ℕ};
+ghost use Rattle.std.specs.Prelude.{List};
 ghost use Rattle.meaning.specs.Spellings.{is_space, is_visible, Are, AreFields, IsNumber, IsSmall, IsPair};
 ghost use Rattle.commands.specs.Characters.{is_other_than};
 ghost use Rattle.commands.specs.Orders.{Begins};
@@ -92,7 +93,8 @@ pub(crate) fn small_number(text: &[u8], most: usize) -> Option<u32>
 
 /// What stands before the first comma and behind it.
 fn at_comma(text: &[u8]) -> Option<(&[u8], &[u8])>
-    ensures some { IfSome result (λ parts. Are (is_other_than 44) parts.0.now × (text.now ≡ parts.0.now ++ 44 ∷ parts.1.now)) }
+    ensures some { IfSome result (λ parts. Are (is_other_than 44) parts.0.now
+        × (text.now ≡ parts.0.now ++ 44 ∷ parts.1.now)) }
     ensures none { IfNone result (Are (is_other_than 44) text.now) }
 {
     for (i, byte) in text.iter().enumerate() {

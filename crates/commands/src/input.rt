@@ -52,7 +52,8 @@ impl PartialLine {
     /// The line that a line feed ends here, without a carriage return just before the feed; none where
     /// it is empty.
     pub fn ended(&self) -> Option<InputLine<'_>>
-        ensures { (seen : List ℕ) → IsPartialLine self.now seen → line_list result ≡ fitting seen (without_return seen) }
+        ensures { (seen : List ℕ) → IsPartialLine self.now seen
+            → line_list result ≡ fitting seen (without_return seen) }
     {
         input_line(self.is_too_long, without_return(self.bytes.as_slice()))
     }

@@ -16,19 +16,25 @@ ghost use Rattle.commands.specs.declared.language.Language.TheVariants.{Commands
 
 /// What a line says that is served is what it means, where that is served, and nothing where it is not.
 pub fn lines_say_what_is_served()
-    ensures { (line : Line) (meant said : Option Command) → Means line meant → MeansServed line said → said ≡ served meant }
+    ensures { (line : Line) (meant said : Option Command) → Means line meant → MeansServed line said
+        → said ≡ served meant }
 {}
 
 /// The text of lines, of a session or of a call script, and what is counted of them, is a function of the lines,
 /// the state and the moment, where no act met want of memory or a fault of the disk.
 pub fn served_texts_are_functions()
-    ensures session { (pack : Pack) (moment : Moment) (lines : List Line) (who : Option ℕ) (s t u : State) (acts others : List Act) (one other : Spoken) (x y : Option ℕ)
-        → IsServedTranscript Commands moment who lines acts one x → Served pack s acts t → IsServedTranscript Commands moment who lines others other y → Served pack s others u → one ≡ other }
-    ensures script { (pack : Pack) (moment : Moment) (lines : List Line) (who : Option ℕ) (s t u : State) (acts others : List Act) (one other : Spoken) (x y : Option ℕ)
-        → IsServedTranscript Events moment who lines acts one x → Served pack s acts t → IsServedTranscript Events moment who lines others other y → Served pack s others u → one ≡ other }
+    ensures session { (pack : Pack) (moment : Moment) (lines : List Line) (who : Option ℕ) (s t u : State)
+        (acts others : List Act) (one other : Spoken) (x y : Option ℕ)
+        → IsServedTranscript Commands moment who lines acts one x → Served pack s acts t
+        → IsServedTranscript Commands moment who lines others other y → Served pack s others u → one ≡ other }
+    ensures script { (pack : Pack) (moment : Moment) (lines : List Line) (who : Option ℕ) (s t u : State)
+        (acts others : List Act) (one other : Spoken) (x y : Option ℕ)
+        → IsServedTranscript Events moment who lines acts one x → Served pack s acts t
+        → IsServedTranscript Events moment who lines others other y → Served pack s others u → one ≡ other }
 {}
 
 /// A line of a call script orders one event at a moment, or nothing.
 pub fn orders_have_one_reading()
-    ensures { (text : List ℕ) (moment : Moment) (said other : Option Event) → SaysEvent text moment said → SaysEvent text moment other → said ≡ other }
+    ensures { (text : List ℕ) (moment : Moment) (said other : Option Event) → SaysEvent text moment said
+        → SaysEvent text moment other → said ≡ other }
 {}

@@ -10,7 +10,8 @@
 //!    replies so far, and writes what they print: at Ok the writer got the text of all that the reader had,
 //!    the service went by these calls and a RESET of job 1 that prints nothing, and the tally is that of the
 //!    lines. (`ends`, `goes`, `served`) COPY and TYPE move a whole body by INs and OUTs until an IN tells its
-//!    end, and a refused line leaves nothing of it. (`Plan`, `Led`) At the moment before the first call and after each, all that a crash
+//!    end, and a refused line leaves nothing of it. (`Plan`, `Led`) At the moment before the first call and after each,
+//! all that a crash
 //!    may leave stands for the files after the calls so far; from one moment to the next a crash leaves
 //!    these, or those after one call more. (`ActsBy`)
 //! 5. The text is a function of the lines, the state and the moment, where no call met want of memory or a
@@ -26,7 +27,8 @@
 //!    what is said of a session is said of it, where its events are served in the states that they meet. No job is
 //!    reset. (`Script`)
 //! 10. A start over what a crash left in the course of a session or a script, or of starts after it that were stopped
-//!    themselves, finds the files after some of its acts, or after these and the one that was running. (`start_after_acts`)
+//!    themselves, finds the files after some of its acts, or after these and the one that was running.
+//! (`start_after_acts`)
 #![tactic(auto)]
 
 mod answer;

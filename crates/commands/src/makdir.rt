@@ -21,7 +21,8 @@ pub fn make_dir<S: FileService>(
     protection: u32,
 ) -> Result<Vec<u8>, AllocError>
     requires { protection < 512 }
-    ensures { Spoke (λ bytes. bytes.items) result S.machine service.old service.new moment (Some me) (Some me) tally.old tally.new (Some (MakeLine owner protection)) }
+    ensures { Spoke (λ bytes. bytes.items) result S.machine service.old service.new moment (Some me)
+        (Some me) tally.old tally.new (Some (MakeLine owner protection)) }
 {
     let made = ask_all(alloc, service, &makes(moment, owner, protection));
     conclude(alloc, service, moment, tally, made)

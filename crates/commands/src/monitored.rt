@@ -48,14 +48,16 @@ pub fn session<R: Read, W: Write, D: Disk>(
     moment: Moment,
 ) -> Result<Tally, SessionError>
     ensures { Session (R.remaining reader.old) (R.remaining reader.new) (W.contents writer.old) (W.contents writer.new)
-        (λ (m : MonitorState D). machine_of (D.state m.disk) m.map m.failed m.jobs) monitor.old monitor.new moment result }
+        (λ (m : MonitorState D). machine_of (D.state m.disk) m.map m.failed m.jobs) monitor.old monitor.new
+        moment result }
 {
     converse(alloc, reader, writer, monitor, moment)
 }
 
 /// Serves a call script: each line of the reader is one event, at a moment, and one line is written for its
-/// reply. A line that is none of the grammar is answered with `SYNTAX`, and nothing is asked for it. No job is reset at the end. The tally tells whether a line was
-/// answered with other than `DONE` and `VALUE`, and whether one was `DEVICE` or `FAILED`.
+/// reply. A line that is none of the grammar is answered with `SYNTAX`, and nothing is asked for it. No job is reset at
+/// the end. The tally tells whether a line was answered with other than `DONE` and `VALUE`, and whether one was
+/// `DEVICE` or `FAILED`.
 ///
 /// # Errors
 ///
@@ -68,7 +70,8 @@ pub fn script<R: Read, W: Write, D: Disk>(
     moment: Moment,
 ) -> Result<Tally, SessionError>
     ensures { Script (R.remaining reader.old) (R.remaining reader.new) (W.contents writer.old) (W.contents writer.new)
-        (λ (m : MonitorState D). machine_of (D.state m.disk) m.map m.failed m.jobs) monitor.old monitor.new moment result }
+        (λ (m : MonitorState D). machine_of (D.state m.disk) m.map m.failed m.jobs) monitor.old monitor.new
+        moment result }
 {
     play(alloc, reader, writer, monitor, moment)
 }

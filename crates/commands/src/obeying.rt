@@ -39,7 +39,9 @@ pub fn obey<S: FileService>(
     tally: &mut Tally,
     order: Option<Event>,
 ) -> Result<Vec<u8>, AllocError>
-    ensures { (moment : Moment) (who : Option ℕ) → Replied (λ bytes. bytes.items) result S.machine service.old service.new moment who who tally.old tally.new (Ordered order) }
+    ensures { (moment : Moment) (who : Option ℕ)
+        → Replied (λ bytes. bytes.items) result S.machine service.old service.new moment who who tally.old tally.new
+        (Ordered order) }
 {
     let Some(event) = order else {
         tally.refused = true;

@@ -102,7 +102,8 @@ fn order_with_one(job: u32, word: &[u8], number: &[u8], moment: Moment) -> Optio
 
 /// The login of a job: its project and programmer, and how many words of core it has.
 fn login(job: u32, owner: &[u8], words: &[u8]) -> Option<Event>
-    ensures { (field : List ℕ) (moment : Moment) → IsPlace field job → FieldsSay (field ∷ codes "LOGIN" ∷ owner.now ∷ words.now ∷ []) moment result }
+    ensures { (field : List ℕ) (moment : Moment) → IsPlace field job
+        → FieldsSay (field ∷ codes "LOGIN" ∷ owner.now ∷ words.now ∷ []) moment result }
 {
     let owner = pair(owner, DIGITS)?;
     let words = small_number(words, DIGITS)?;
@@ -117,7 +118,8 @@ fn order_with_two(
     second: &[u8],
     moment: Moment,
 ) -> Option<Event>
-    ensures { (field : List ℕ) → IsPlace field job → FieldsSay (field ∷ word.now ∷ first.now ∷ second.now ∷ []) moment result }
+    ensures { (field : List ℕ) → IsPlace field job
+        → FieldsSay (field ∷ word.now ∷ first.now ∷ second.now ∷ []) moment result }
 {
     if is_word(word, "LOGIN") {
         return login(job, first, second);

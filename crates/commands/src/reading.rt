@@ -1,8 +1,10 @@
-ghost use Rattle.std.specs.Prelude.{◌≡◌, ◌<◌, ◌≤◌, ◌-◌, ◌^◌, ℕ, List, if◌then◌else◌, IfOk, Some, None, length, take, replicate};
+ghost use Rattle.std.specs.Prelude.{◌≡◌, ◌<◌, ◌≤◌, ◌-◌, ◌^◌, ℕ, List, if◌then◌else◌, IfOk, Some, None, length, take};
+ghost use Rattle.std.specs.Prelude.{replicate};
 ghost use Rattle.words36.specs.Words.{left};
 ghost use Rattle.words36.specs.declared.moment.Moment as moments;
 ghost use Rattle.meaning.specs.Plans as plans;
-ghost use Rattle.meaning.specs.Plans.{Plan, each, fetches, deposits, takes_over, sizes, until_end, says_words, block_address};
+ghost use Rattle.meaning.specs.Plans.{Plan, each, fetches, deposits, takes_over, sizes, until_end, says_words};
+ghost use Rattle.meaning.specs.Plans.{block_address};
 ghost use Rattle.commands.specs.Asking.{Led, followed};
 
 use crate::asking::{ask_all, examine};

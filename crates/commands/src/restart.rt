@@ -33,18 +33,24 @@ pub fn start_after_acts<D: Disk, E: Disk>(
 ) -> Result<Monitor<E>, (StartError, E)>
     ensures session { (D.state stopped.now.disk).honest → (begun : MonitorState D) (acts : List Act)
         → GoesBy (λ (m : MonitorState D). machine_of (D.state m.disk) m.map m.failed m.jobs) begun stopped.now acts
-        → (E.state left).size ≡ (D.state begun.disk).size → (s : State) → Serves (D.state begun.disk) begun.map begun.failed begun.jobs (Serving s)
-        → (starts : List (E × E)) → AreStopped E.state (D.state stopped.now.disk) (D.state begun.disk).clock starts (E.state left).contents
+        → (E.state left).size ≡ (D.state begun.disk).size → (s : State)
+        → Serves (D.state begun.disk) begun.map begun.failed begun.jobs (Serving s)
+        → (starts : List (E × E))
+        → AreStopped E.state (D.state stopped.now.disk) (D.state begun.disk).clock starts (E.state left).contents
         → (found : State) × IsAlongActs (pack_of (D.state begun.disk)) (Serving s) acts found
-        × IfOk result (λ m. (E.state m.disk).honest → ServesFiles (E.state m.disk) m.map m.failed m.jobs (without_serials found.files))
+        × IfOk result (λ m. (E.state m.disk).honest
+        → ServesFiles (E.state m.disk) m.map m.failed m.jobs (without_serials found.files))
         × IfErr result (λ refused. (E.state refused.1).honest → (refused.0 ≡ NoMemory) ⊎ (refused.0 ≡ Device)) }
     ensures script { (D.state stopped.now.disk).honest → (begun : MonitorState D) (acts : List Act)
         → GoesServed (λ (m : MonitorState D). machine_of (D.state m.disk) m.map m.failed m.jobs) begun stopped.now acts
-        → (E.state left).size ≡ (D.state begun.disk).size → (s : State) → Serves (D.state begun.disk) begun.map begun.failed begun.jobs (Serving s)
+        → (E.state left).size ≡ (D.state begun.disk).size → (s : State)
+        → Serves (D.state begun.disk) begun.map begun.failed begun.jobs (Serving s)
         → AreServedActs (pack_of (D.state begun.disk)) (Serving s) acts
-        → (starts : List (E × E)) → AreStopped E.state (D.state stopped.now.disk) (D.state begun.disk).clock starts (E.state left).contents
+        → (starts : List (E × E))
+        → AreStopped E.state (D.state stopped.now.disk) (D.state begun.disk).clock starts (E.state left).contents
         → (found : State) × IsAlongActs (pack_of (D.state begun.disk)) (Serving s) acts found
-        × IfOk result (λ m. (E.state m.disk).honest → ServesFiles (E.state m.disk) m.map m.failed m.jobs (without_serials found.files))
+        × IfOk result (λ m. (E.state m.disk).honest
+        → ServesFiles (E.state m.disk) m.map m.failed m.jobs (without_serials found.files))
         × IfErr result (λ refused. (E.state refused.1).honest → (refused.0 ≡ NoMemory) ⊎ (refused.0 ≡ Device)) }
 {
     Monitor::start(alloc, left)

@@ -1,6 +1,7 @@
 ghost use Rattle.std.specs.Prelude.{◌≡◌, ◌∷◌, [], ℕ, OnOk, IfOk, IfErr, MatchResult};
 ghost use Rattle.commands.specs.PartialLines.{line_list};
-ghost use Rattle.commands.specs.Sessions.{HeardIn, IsHeardIn, FitsIn, Puts, Told, Closed, StepsOn, BreaksOff, EndsWell, Talked, Session, Script};
+ghost use Rattle.commands.specs.Sessions.{HeardIn, IsHeardIn, FitsIn, Puts, Told, Closed, StepsOn, BreaksOff, EndsWell};
+ghost use Rattle.commands.specs.Sessions.{Talked, Session, Script};
 
 use crate::SessionError;
 use crate::answer::{SESSION_JOB, Tally, answer};
@@ -106,8 +107,10 @@ fn take_byte<S: FileService, W: Write>(
     talk: &mut Talk,
     byte: u8,
 ) -> Result<(), SessionError>
-    ensures ok { OnOk result (StepsOn language S.machine service.old service.new (W.contents writer.old) (W.contents writer.new) moment talk.old talk.new (byte ∷ [])) }
-    ensures err { IfErr result (λ error. BreaksOff language ⊥ S.machine service.old service.new (W.contents writer.old) (W.contents writer.new) moment talk.old error (byte ∷ [])) }
+    ensures ok { OnOk result (StepsOn language S.machine service.old service.new (W.contents writer.old)
+        (W.contents writer.new) moment talk.old talk.new (byte ∷ [])) }
+    ensures err { IfErr result (λ error. BreaksOff language ⊥ S.machine service.old service.new (W.contents writer.old)
+        (W.contents writer.new) moment talk.old error (byte ∷ [])) }
 {
     if byte != b'\n' {
         talk.held.push(byte);
@@ -128,8 +131,10 @@ fn take_piece<S: FileService, W: Write>(
     talk: &mut Talk,
     piece: &[u8],
 ) -> Result<(), SessionError>
-    ensures ok { OnOk result (StepsOn language S.machine service.old service.new (W.contents writer.old) (W.contents writer.new) moment talk.old talk.new piece.now) }
-    ensures err { IfErr result (λ error. BreaksOff language ⊥ S.machine service.old service.new (W.contents writer.old) (W.contents writer.new) moment talk.old error piece.now) }
+    ensures ok { OnOk result (StepsOn language S.machine service.old service.new (W.contents writer.old)
+        (W.contents writer.new) moment talk.old talk.new piece.now) }
+    ensures err { IfErr result (λ error. BreaksOff language ⊥ S.machine service.old service.new (W.contents writer.old)
+        (W.contents writer.new) moment talk.old error piece.now) }
 {
     for byte in piece {
         take_byte(alloc, service, writer, moment, language, talk, *byte)?;
@@ -158,8 +163,10 @@ fn finish<S: FileService, W: Write>(
     language: Language,
     talk: &mut Talk,
 ) -> Result<Tally, SessionError>
-    ensures ok { IfOk result (λ tally. EndsWell language S.machine service.old service.new (W.contents writer.old) (W.contents writer.new) moment talk.old tally) }
-    ensures err { IfErr result (λ error. BreaksOff language (Unit {0}) S.machine service.old service.new (W.contents writer.old) (W.contents writer.new) moment talk.old error []) }
+    ensures ok { IfOk result (λ tally. EndsWell language S.machine service.old service.new (W.contents writer.old)
+        (W.contents writer.new) moment talk.old tally) }
+    ensures err { IfErr result (λ error. BreaksOff language (Unit {0}) S.machine service.old service.new
+        (W.contents writer.old) (W.contents writer.new) moment talk.old error []) }
 {
     let heard = heard_of(language, moment, talk.held.last());
     tell(alloc, service, writer, moment, talk, heard)?;
@@ -176,7 +183,8 @@ fn talk_in<R: Read, W: Write, S: FileService>(
     moment: Moment,
     language: Language,
 ) -> Result<Tally, SessionError>
-    ensures { Talked language (R.remaining reader.old) (R.remaining reader.new) (W.contents writer.old) (W.contents writer.new)
+    ensures { Talked language (R.remaining reader.old) (R.remaining reader.new) (W.contents writer.old)
+        (W.contents writer.new)
         S.machine service.old service.new moment result }
 {
     let mut talk = Talk {

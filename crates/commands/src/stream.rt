@@ -13,7 +13,8 @@ use std::io::Write;
 pub fn write_text<W: Write>(writer: &mut W, text: &[u8]) -> Result<(), SessionError>
     ensures ok { OnOk result (Appends (W.contents writer.old) (W.contents writer.new) text.now) }
     ensures err { IfErr result (λ error. (error ≡ WriteFault) × ((written : List ℕ) × (unwritten : List ℕ)
-        × Appends (W.contents writer.old) (W.contents writer.new) written × (text.now ≡ written ++ unwritten) × (0 < length unwritten))) }
+        × Appends (W.contents writer.old) (W.contents writer.new) written × (text.now ≡ written ++ unwritten)
+        × (0 < length unwritten))) }
 {
     let mut place = 0;
     while place < text.len() {

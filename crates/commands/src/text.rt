@@ -1,7 +1,8 @@
 ghost use Rattle.std.specs.Prelude.{◌≡◌, ◌++◌, IfOk, OnOk, codes, string_bytes};
 ghost use Rattle.words36.specs.Sixbit.{characters};
 ghost use Rattle.meaning.specs.Scripts.{written};
-ghost use Rattle.meaning.specs.Texts.{line, refusal, code_text, greeting, right_in, three_digits, extension_text, month_text, day_text, entry_text, blocks_in, total_text, listing};
+ghost use Rattle.meaning.specs.Texts.{line, refusal, code_text, greeting, right_in, three_digits, extension_text};
+ghost use Rattle.meaning.specs.Texts.{month_text, day_text, entry_text, blocks_in, total_text, listing};
 
 use meaning::{Entry, Reply};
 use std::alloc::{AllocError, Global};
@@ -121,7 +122,8 @@ fn push_entry(alloc: Global, bytes: &mut Vec<u8>, entry: Entry) -> Result<(), Al
 
 /// Puts a name and an extension behind the bytes, with a blank between them.
 fn push_name(bytes: &mut Vec<u8>, name: FileName) -> Result<(), AllocError>
-    ensures { OnOk result (bytes.new.items ≡ bytes.old.items ++ (characters name.name ++ codes " " ++ extension_text name.ext)) }
+    ensures { OnOk result (bytes.new.items ≡ bytes.old.items
+        ++ (characters name.name ++ codes " " ++ extension_text name.ext)) }
 {
     bytes.extend_from_slice(&text_of(name.name))?;
     bytes.push(b' ')?;

@@ -1,5 +1,6 @@
 ghost use Rattle.std.specs.Prelude.{◌+◌, ◌++◌, ℕ, List, [], Some};
-ghost use Rattle.meaning.specs.Plans.{Plan, each, examines, finds as found, lists as listed, file_words, types_blocks, types_last, types_body, blocks_said as said_blocks, until_end};
+ghost use Rattle.meaning.specs.Plans.{Plan, each, examines, finds as found, lists as listed, file_words, types_blocks};
+ghost use Rattle.meaning.specs.Plans.{types_last, types_body, blocks_said as said_blocks, until_end};
 ghost use Rattle.meaning.specs.declared.command.Command.TheVariants.{TypeOut as TypeLine};
 ghost use Rattle.commands.specs.Asking.{Led, followed, AreTyped, HasTyped};
 ghost use Rattle.commands.specs.Sessions.{Spoke};
@@ -35,7 +36,8 @@ impl Typed {
 
     /// Puts the characters of words behind, where there is memory for them.
     fn push(&mut self, alloc: Global, words: &[Word])
-        ensures { (seen : List ℕ) → AreTyped self.old.is_whole self.old.bytes.items seen → AreTyped self.new.is_whole self.new.bytes.items (seen ++ words.now) }
+        ensures { (seen : List ℕ) → AreTyped self.old.is_whole self.old.bytes.items seen
+            → AreTyped self.new.is_whole self.new.bytes.items (seen ++ words.now) }
     {
         let Ok(characters) = unpack_ascii(alloc, words) else {
             self.is_whole = false;
@@ -98,7 +100,8 @@ fn type_body<S: FileService>(
     size: Word,
     typed: &mut Typed,
 ) -> Result<(), Reply>
-    ensures { HasTyped S.machine service.old service.new moment (types_body moment (said_blocks size) size) result typed.old typed.new }
+    ensures { HasTyped S.machine service.old service.new moment (types_body moment (said_blocks size) size)
+        result typed.old typed.new }
 {
     let blocks = blocks_said(size);
     if blocks == 0 {
@@ -116,7 +119,8 @@ fn open_one<S: FileService>(
     spec: Spec,
 ) -> Result<Word, Reply>
     ensures { (next : ℕ → Plan) → Led S.machine service.old service.new
-        (each moment (found moment spec ++ listed 128) (examines moment (file_words + 3) next)) (followed moment result next) }
+        (each moment (found moment spec ++ listed 128) (examines moment (file_words + 3) next))
+        (followed moment result next) }
 {
     ask_all(alloc, service, &finds(moment, spec))?;
     ask_all(alloc, service, &lists(BLOCK_WORDS as u32))?;
@@ -131,7 +135,10 @@ fn type_file<S: FileService>(
     spec: Spec,
     typed: &mut Typed,
 ) -> Result<(), Reply>
-    ensures { HasTyped S.machine service.old service.new moment (λ next. each moment (found moment spec ++ listed 128) (examines moment (file_words + 3) (λ size. types_body moment (said_blocks size) size (λ words. until_end moment (next words))))) result typed.old typed.new }
+    ensures { HasTyped S.machine service.old service.new moment
+        (λ next. each moment (found moment spec ++ listed 128)
+        (examines moment (file_words + 3) (λ size. types_body moment (said_blocks size) size
+        (λ words. until_end moment (next words))))) result typed.old typed.new }
 {
     let size = open_one(alloc, service, moment, spec)?;
     type_body(alloc, service, moment, size, typed)?;
@@ -147,7 +154,8 @@ pub fn type_out<S: FileService>(
     tally: &mut Tally,
     spec: Spec,
 ) -> Result<Vec<u8>, AllocError>
-    ensures { Spoke (λ bytes. bytes.items) result S.machine service.old service.new moment (Some me) (Some me) tally.old tally.new (Some (TypeLine spec)) }
+    ensures { Spoke (λ bytes. bytes.items) result S.machine service.old service.new moment (Some me)
+        (Some me) tally.old tally.new (Some (TypeLine spec)) }
 {
     let mut typed = Typed::new(alloc);
     let read = type_file(alloc, service, moment, spec, &mut typed);

@@ -32,8 +32,10 @@ fn in_by_ring(
     status: IoStatus,
     words: &[Word],
 ) -> Result<(), CoreError>
-    ensures filled { (c : Channel) → c.input_header ≡ header → byte_size c.mode ≡ bits_of bytes → cleared c.status ≡ status.0
-        → OnOk result (core.new ≡ buffer_filled core.old c (in_ready core.old c.input_header (byte_size c.mode)) words.now) }
+    ensures filled { (c : Channel) → c.input_header ≡ header → byte_size c.mode ≡ bits_of bytes
+        → cleared c.status ≡ status.0
+        → OnOk result (core.new
+        ≡ buffer_filled core.old c (in_ready core.old c.input_header (byte_size c.mode)) words.now) }
     ensures none { (c : Channel) → c.input_header ≡ header → byte_size c.mode ≡ bits_of bytes
         → OnErr result (in_ready core.old c.input_header (byte_size c.mode) ≡ None) }
     ensures kept { OnErr result (core.new ≡ core.old) }
@@ -59,7 +61,8 @@ fn out_by_ring(core: &mut Core, header: u32, bytes: ByteSize) -> Result<Area, Co
 
 /// An IN by a command list, as the file machine has it.
 fn in_by_list(core: &mut Core, address: u32, words: &[Word]) -> Result<(), CoreError>
-    ensures filled { OnOk result (core.new ≡ after_writes core.old (dealt (areas_or_none (dump_list core.old address)) words.now)) }
+    ensures filled { OnOk result (core.new
+        ≡ after_writes core.old (dealt (areas_or_none (dump_list core.old address)) words.now)) }
     ensures none { OnErr result (dump_list core.old address ≡ None) }
     ensures kept { OnErr result (core.new ≡ core.old) }
 {
@@ -80,7 +83,8 @@ fn out_by_list(alloc: Global, core: &Core, address: u32) -> Result<Vec<Word>, Co
 
 /// A CLOSE of sides, as the file machine has it.
 fn close_sides(core: &mut Core, output: u32, output_closes: bool, input: u32, input_closes: bool)
-    ensures { core.new ≡ after_writes core.old (header_closed core.old output output_closes ++ header_closed core.old input input_closes) }
+    ensures { core.new ≡ after_writes core.old (header_closed core.old output output_closes
+        ++ header_closed core.old input input_closes) }
 {
     let output = if output_closes { output } else { 0 };
     let input = if input_closes { input } else { 0 };

@@ -1,6 +1,7 @@
 -- Edits of a chain: what its entries are afterwards, and that the puts spell them.
 -- In each section `o` says that the order of the keys is total, and `exact` that only equal keys tie in it.
-use Rattle.std.proofs.Common.{◌≡◌, ◌⊎◌, ℕ, zero, suc, ◌+◌, ◌-◌, ◌*◌, ◌/◌, ◌<◌, ◌≤◌, List, [], ◌∷◌, ◌++◌, length, take, get_or, slice_set, refl, sym, ap, ◌∙◌, arith, inl, inr, length-append}
+use Rattle.std.proofs.Common.{◌≡◌, ◌⊎◌, ℕ, zero, suc, ◌+◌, ◌-◌, ◌*◌, ◌/◌, ◌<◌, ◌≤◌, List, [], ◌∷◌, ◌++◌, length, take}
+use Rattle.std.proofs.Common.{get_or, slice_set, refl, sym, ap, ◌∙◌, arith, inl, inr, length-append}
 use Rattle.std.proofs.lemmas.List.{get_or_append_left}
 use Rattle.std.specs.List.{AllByRecursion}
 use Rattle.meaning.specs.declared.put.Put.{Put}
@@ -41,22 +42,32 @@ block_side j i (inr h) = inr (omega arith)
 
 module _ {K V : Type 0} (words : K × V → List ℕ) where
   -- one entry is another
-  pub put_replaced : (ns : List ℕ) (es : List (K × V)) (i : ℕ) (e : K × V) (puts : List Put) → length ns ≡ directory_cost (length es) → ((n : ℕ) → times n ns ≤ 1) → i < length es
-      → PutsChain words (record { blocks = ns; entries = es }) (record { blocks = ns; entries = slice_set es i e }) puts (replaced (block_put words (record { blocks = ns; entries = slice_set es i e }) (i / 42)) puts)
+  pub put_replaced : (ns : List ℕ) (es : List (K × V)) (i : ℕ) (e : K × V) (puts : List Put)
+      → length ns ≡ directory_cost (length es) → ((n : ℕ) → times n ns ≤ 1) → i < length es
+      → PutsChain words (record { blocks = ns; entries = es }) (record { blocks = ns; entries = slice_set es i e }) puts
+      (replaced (block_put words (record { blocks = ns; entries = slice_set es i e }) (i / 42)) puts)
   put_replaced ns es i e puts counted once inside =
       let old : ChainState (K × V) = record { blocks = ns; entries = es } in
       let new : ChainState (K × V) = record { blocks = ns; entries = slice_set es i e } in
       let here : i / 42 < length ns = omega arith in
       record {
         spells = one_spells words old new once puts (i / 42) here
-            (λ j h other. (h, refl, ap (λ fs. directory_block words (get_or ns (suc j) 0) fs) (window_set (42 * j) 42 es i e (block_side j i (below_or_above j (i / 42) other)))));
+            (λ j h other. (
+              h,
+              refl,
+              ap (λ fs. directory_block words (get_or ns (suc j) 0) fs)
+                  (window_set (42 * j) 42 es i e (block_side j i (below_or_above j (i / 42) other))),
+            ));
         others = put_others words new puts (i / 42) here;
-        in_range = λ size all are. put_in_range (IsTarget size) words new puts (i / 42) here (all_targets size ns all) are;
+        in_range = λ size all are. put_in_range (IsTarget size) words new puts (i / 42) here
+            (all_targets size ns all) are;
       }
 
   -- an entry more, in the last block
-  pub put_appended : (ns : List ℕ) (es : List (K × V)) (e : K × V) (puts : List Put) → length ns ≡ directory_cost (length es) → ((n : ℕ) → times n ns ≤ 1) → (length es ≡ 42 * length ns → ⊥)
-      → PutsChain words (record { blocks = ns; entries = es }) (record { blocks = ns; entries = es ++ e ∷ [] }) puts (replaced (block_put words (record { blocks = ns; entries = es ++ e ∷ [] }) (length ns - 1)) puts)
+  pub put_appended : (ns : List ℕ) (es : List (K × V)) (e : K × V) (puts : List Put)
+      → length ns ≡ directory_cost (length es) → ((n : ℕ) → times n ns ≤ 1) → (length es ≡ 42 * length ns → ⊥)
+      → PutsChain words (record { blocks = ns; entries = es }) (record { blocks = ns; entries = es ++ e ∷ [] }) puts
+      (replaced (block_put words (record { blocks = ns; entries = es ++ e ∷ [] }) (length ns - 1)) puts)
   put_appended ns es e puts counted once room =
       let old : ChainState (K × V) = record { blocks = ns; entries = es } in
       let new : ChainState (K × V) = record { blocks = ns; entries = es ++ e ∷ [] } in
@@ -64,15 +75,22 @@ module _ {K V : Type 0} (words : K × V → List ℕ) where
       let here : last < length ns = omega arith in
       record {
         spells = one_spells words old new once puts last here
-            (λ j h other. let full : 42 * j + 42 ≤ length es = omega arith in (h, refl, ap (λ fs. directory_block words (get_or ns (suc j) 0) fs) (window_more (42 * j) 42 es (e ∷ []) full)));
+            (λ j h other. let full : 42 * j + 42 ≤ length es = omega arith in (
+              h,
+              refl,
+              ap (λ fs. directory_block words (get_or ns (suc j) 0) fs) (window_more (42 * j) 42 es (e ∷ []) full),
+            ));
         others = put_others words new puts last here;
         in_range = λ size all are. put_in_range (IsTarget size) words new puts last here (all_targets size ns all) are;
       }
 
   -- an entry more, in a new block
-  pub put_grown : (ns : List ℕ) (es : List (K × V)) (n : ℕ) (e : K × V) (puts : List Put) → length ns ≡ directory_cost (length es) → ((m : ℕ) → times m (ns ++ n ∷ []) ≤ 1) → length es ≡ 42 * length ns
-      → PutsChain words (record { blocks = ns; entries = es }) (record { blocks = ns ++ n ∷ []; entries = es ++ e ∷ [] }) puts
-      (replaced (block_put words (record { blocks = ns ++ n ∷ []; entries = es ++ e ∷ [] }) (length ns)) (replaced (block_put words (record { blocks = ns ++ n ∷ []; entries = es ++ e ∷ [] }) (length ns - 1)) puts))
+  pub put_grown : (ns : List ℕ) (es : List (K × V)) (n : ℕ) (e : K × V) (puts : List Put)
+      → length ns ≡ directory_cost (length es) → ((m : ℕ) → times m (ns ++ n ∷ []) ≤ 1) → length es ≡ 42 * length ns
+      → PutsChain words (record { blocks = ns; entries = es })
+      (record { blocks = ns ++ n ∷ []; entries = es ++ e ∷ [] }) puts
+      (replaced (block_put words (record { blocks = ns ++ n ∷ []; entries = es ++ e ∷ [] }) (length ns))
+      (replaced (block_put words (record { blocks = ns ++ n ∷ []; entries = es ++ e ∷ [] }) (length ns - 1)) puts))
   put_grown ns es n e puts counted once full =
       let old : ChainState (K × V) = record { blocks = ns; entries = es } in
       let new : ChainState (K × V) = record { blocks = ns ++ n ∷ []; entries = es ++ e ∷ [] } in
@@ -86,45 +104,67 @@ module _ {K V : Type 0} (words : K × V → List ℕ) where
             (λ j h not_before not_last.
             let inside : j < length ns = omega arith in
             let next : suc j < length ns = omega arith in
-            let whole : 42 * j + 42 ≤ length es = omega arith in
-            (inside, get_or_append_left ns (n ∷ []) 0 j inside, (λ k. directory_block words (get_or_append_left ns (n ∷ []) 0 (suc j) next k) (window_more (42 * j) 42 es (e ∷ []) whole k))));
-        others = λ c m none. put_others words new first (length ns) new_last c m none ∙ put_others words new puts before old_last c m none;
-        in_range = λ size all are. put_in_range (IsTarget size) words new first (length ns) new_last (all_targets size (ns ++ n ∷ []) all) (put_in_range (IsTarget size) words new puts before old_last (all_targets size (ns ++ n ∷ []) all) are);
+            let whole : 42 * j + 42 ≤ length es = omega arith in (
+              inside,
+              get_or_append_left ns (n ∷ []) 0 j inside,
+              (λ k. directory_block words (get_or_append_left ns (n ∷ []) 0 (suc j) next k)
+                  (window_more (42 * j) 42 es (e ∷ []) whole k)),
+            ));
+        others = λ c m none. put_others words new first (length ns) new_last c m none
+            ∙ put_others words new puts before old_last c m none;
+        in_range = λ size all are. put_in_range (IsTarget size) words new first (length ns) new_last
+            (all_targets size (ns ++ n ∷ []) all)
+            (put_in_range (IsTarget size) words new puts before old_last (all_targets size (ns ++ n ∷ []) all) are);
       }
 
   -- an entry out, the last one in its place, and perhaps the last block out
-  module _ (ns ms freed : List ℕ) (es : List (K × V)) (i : ℕ) (x : K × V) (puts : List Put) (kept : ns ≡ ms ++ freed) (counted : length ns ≡ directory_cost (length es)) (now_counted : length ms ≡ directory_cost (length es - 1))
+  module _ (ns ms freed : List ℕ) (es : List (K × V)) (i : ℕ) (x : K × V) (puts : List Put) (kept : ns ≡ ms ++ freed)
+      (counted : length ns ≡ directory_cost (length es)) (now_counted : length ms ≡ directory_cost (length es - 1))
       (once : (n : ℕ) → times n ms ≤ 1) (inside : i < length es) where
     abbrev pub without : ChainState (K × V)
     without = record { blocks = ms; entries = take (length es - 1) (slice_set es i x) }
 
-    untouched : (j : ℕ) → j < length ms → (j ≡ i / 42 → ⊥) → (j ≡ length ms - 1 → ⊥) → (j < length ns) × (get_or ms j 0 ≡ get_or ns j 0) × (block_words words without j ≡ block_words words (record { blocks = ns; entries = es }) j)
+    untouched : (j : ℕ) → j < length ms → (j ≡ i / 42 → ⊥) → (j ≡ length ms - 1 → ⊥) → (j < length ns)
+        × (get_or ms j 0 ≡ get_or ns j 0)
+        × (block_words words without j ≡ block_words words (record { blocks = ns; entries = es }) j)
     untouched j h not_here not_last =
         let many = ap length kept ∙ length-append ms freed in
         let next : suc j < length ms = omega arith in
         let whole : 42 * j + 42 ≤ length es - 1 = omega arith in (
           omega arith,
           sym (get_or_append_left ms freed 0 j h) ∙ ap (λ ks. get_or ks j 0) (sym kept),
-          (λ k. directory_block words ((sym (get_or_append_left ms freed 0 (suc j) next) ∙ ap (λ ks. get_or ks (suc j) 0) (sym kept)) k)
-              ((window_fewer (42 * j) 42 (length es - 1) (slice_set es i x) whole ∙ window_set (42 * j) 42 es i x (block_side j i (below_or_above j (i / 42) not_here))) k)),
+          (λ k. directory_block words ((sym (get_or_append_left ms freed 0 (suc j) next)
+              ∙ ap (λ ks. get_or ks (suc j) 0) (sym kept)) k)
+              ((window_fewer (42 * j) 42 (length es - 1) (slice_set es i x) whole
+              ∙ window_set (42 * j) 42 es i x (block_side j i (below_or_above j (i / 42) not_here))) k)),
         )
 
-    pub put_removed : i / 42 < length ms - 1 → PutsChain words (record { blocks = ns; entries = es }) without puts (replaced (block_put words without (length ms - 1)) (replaced (block_put words without (i / 42)) puts))
+    pub put_removed : i / 42 < length ms - 1
+        → PutsChain words (record { blocks = ns; entries = es }) without puts
+        (replaced (block_put words without (length ms - 1)) (replaced (block_put words without (i / 42)) puts))
     put_removed two =
         let first = replaced (block_put words without (i / 42)) puts in
         let last : length ms - 1 < length ms = omega arith in
         let here : i / 42 < length ms = omega arith in
         record {
-          spells = two_spell words (record { blocks = ns; entries = es }) without once puts (i / 42) (length ms - 1) here last untouched;
-          others = λ c m none. put_others words without first (length ms - 1) last c m none ∙ put_others words without puts (i / 42) here c m none;
-          in_range = λ size all are. put_in_range (IsTarget size) words without first (length ms - 1) last (all_targets size ms all) (put_in_range (IsTarget size) words without puts (i / 42) here (all_targets size ms all) are);
+          spells = two_spell words (record { blocks = ns; entries = es }) without once puts (i / 42)
+              (length ms - 1) here last untouched;
+          others = λ c m none. put_others words without first (length ms - 1) last c m none
+              ∙ put_others words without puts (i / 42) here c m none;
+          in_range = λ size all are. put_in_range (IsTarget size) words without first (length ms - 1) last
+              (all_targets size ms all) (put_in_range (IsTarget size) words without puts (i / 42) here
+              (all_targets size ms all) are);
         }
 
-    pub put_shortened : length ms - 1 ≤ i / 42 → PutsChain words (record { blocks = ns; entries = es }) without puts (replaced (block_put words without (length ms - 1)) puts)
+    pub put_shortened : length ms - 1 ≤ i / 42
+        → PutsChain words (record { blocks = ns; entries = es }) without puts
+        (replaced (block_put words without (length ms - 1)) puts)
     put_shortened end =
         let last : length ms - 1 < length ms = omega arith in
         record {
-          spells = one_spells words (record { blocks = ns; entries = es }) without once puts (length ms - 1) last (λ j h other. untouched j h (λ e. other (omega arith)) other);
+          spells = one_spells words (record { blocks = ns; entries = es }) without once puts (length ms - 1) last
+              (λ j h other. untouched j h (λ e. other (omega arith)) other);
           others = put_others words without puts (length ms - 1) last;
-          in_range = λ size all are. put_in_range (IsTarget size) words without puts (length ms - 1) last (all_targets size ms all) are;
+          in_range = λ size all are. put_in_range (IsTarget size) words without puts (length ms - 1) last
+              (all_targets size ms all) are;
         }

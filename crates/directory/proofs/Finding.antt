@@ -1,5 +1,7 @@
 -- The entry with a key, and where it stands.
-use Rattle.std.proofs.Common.{◌≡◌, ℕ, zero, suc, ◌+◌, ◌*◌, ◌%◌, ◌<◌, Bool, true, false, cond, List, [], ◌∷◌, ◌++◌, map, length, take, get_or, slice_get, Option, Some, None, refl, sym, ap, subst, ◌∙◌, Ordering, arith}
+use Rattle.std.proofs.Common.{◌≡◌, ℕ, zero, suc, ◌+◌, ◌*◌, ◌%◌, ◌<◌, Bool, true, false, cond, List, [], ◌∷◌, ◌++◌, map}
+use Rattle.std.proofs.Common.{length, take, get_or, slice_get, Option, Some, None, refl, sym, ap, subst, ◌∙◌, Ordering}
+use Rattle.std.proofs.Common.{arith}
 use Rattle.std.proofs.lemmas.List.{take_more, length-map, get_or-map}
 use Rattle.std.specs.Ordering.{eq_by_cmp, is_eq}
 use Rattle.std.specs.Option.{option_or}
@@ -24,12 +26,15 @@ true_false : true ≡ false → ⊥
 true_false e = cc
 
 module _ {K V : Type 0} {R : K → K → Ordering} (o : IsTotalOrder R) where
-  find_at : (items : List (K × V)) (i : ℕ) (k : K) (v : V) → slice_get items i ≡ Some (k, v) → find R k (take i items) ≡ None → find R k items ≡ Some v
+  find_at : (items : List (K × V)) (i : ℕ) (k : K) (v : V) → slice_get items i ≡ Some (k, v)
+      → find R k (take i items) ≡ None → find R k items ≡ Some v
   find_at [] i k v is none = absurd (some_none (sym is))
-  find_at (y ∷ ys) zero k v is none = let e : y ≡ (k, v) = some_same is in subst (λ (x : K × V). find R k (x ∷ ys) ≡ Some v) (sym e) (find_first o (k, v) ys)
+  find_at (y ∷ ys) zero k v is none = let e : y ≡ (k, v) = some_same is in
+      subst (λ (x : K × V). find R k (x ∷ ys) ≡ Some v) (sym e) (find_first o (k, v) ys)
   find_at (y ∷ ys) (suc i) k v is none = step (eq_by_cmp R k y.0) none (find_at ys i k v is)
     where
-      step : (b : Bool) → cond b (Some y.1) (find R k (take i ys)) ≡ None → (find R k (take i ys) ≡ None → find R k ys ≡ Some v) → cond b (Some y.1) (find R k ys) ≡ Some v
+      step : (b : Bool) → cond b (Some y.1) (find R k (take i ys)) ≡ None
+          → (find R k (take i ys) ≡ None → find R k ys ≡ Some v) → cond b (Some y.1) (find R k ys) ≡ Some v
       step true n rest = absurd (some_none n)
       step false n rest = rest n
 
@@ -37,25 +42,34 @@ module _ {K V : Type 0} {R : K → K → Ordering} (o : IsTotalOrder R) where
   not_tied b v e = ap (λ (c : Bool). option_or None (cond c (Some v) None)) e
 
   -- where this entry has another key, none so far has the key
-  pub not_yet : {E : Type 0} (view : E → K × V) (es : List E) (i : ℕ) (d : E) (k : K) → i < length es → d ≡ get_or es i d → find R k (take i (map view es)) ≡ None → is_eq (R (view d).0 k) ≡ false → find R k (take (i + 1) (map view es)) ≡ None
+  pub not_yet : {E : Type 0} (view : E → K × V) (es : List E) (i : ℕ) (d : E) (k : K) → i < length es
+      → d ≡ get_or es i d → find R k (take i (map view es)) ≡ None → is_eq (R (view d).0 k) ≡ false
+      → find R k (take (i + 1) (map view es)) ≡ None
   not_yet view es i d k within at none other =
       let many = length-map es view in
       let here : get_or (map view es) i (view d) ≡ view d = get_or-map view es i d (view d) within ∙ ap view (sym at) in
-      ap (find R k) (take_more (map view es) i (view d) (omega arith) ∙ ap (λ (x : K × V). take i (map view es) ++ x ∷ []) here)
+      ap (find R k) (take_more (map view es) i (view d) (omega arith)
+      ∙ ap (λ (x : K × V). take i (map view es) ++ x ∷ []) here)
       ∙ find-append_both R (take i (map view es)) (view d ∷ []) k
       ∙ ap (λ (x : Option V). option_or x (find R k (view d ∷ []))) none
       ∙ not_tied (eq_by_cmp R k (view d).0) (view d).1 (untied (eq_by_cmp R k (view d).0) refl)
     where
       untied : (b : Bool) → eq_by_cmp R k (view d).0 ≡ b → b ≡ false
-      untied true t = absurd (true_false (sym (ap is_eq (tied_back o k (view d).0 ((Equal-is (R k (view d).0)).0 t))) ∙ other))
+      untied true t = absurd (true_false (sym (ap is_eq (tied_back o k (view d).0 ((Equal-is (R k (view d).0)).0 t)))
+          ∙ other))
       untied false t = refl
 
   -- the first entry whose key is not told apart
-  pub found_at : (exact : IsAntisymmetric R) {E : Type 0} (view : E → K × V) (es : List E) (i : ℕ) (d : E) (k : K) → i < length es → d ≡ get_or es i d → find R k (take i (map view es)) ≡ None → is_eq (R (view d).0 k) ≡ true → (v : V) × StandsAt R (map view es) k v i
+  pub found_at : (exact : IsAntisymmetric R) {E : Type 0} (view : E → K × V) (es : List E) (i : ℕ) (d : E) (k : K)
+      → i < length es → d ≡ get_or es i d → find R k (take i (map view es)) ≡ None → is_eq (R (view d).0 k) ≡ true
+      → (v : V) × StandsAt R (map view es) k v i
   found_at exact view es i d k within at none tie =
       let many = length-map es view in
       let inside : i < length (map view es) = omega arith in
       let here : get_or (map view es) i (view d) ≡ view d = get_or-map view es i d (view d) within ∙ ap view (sym at) in
       let key : (view d).0 ≡ k = exact (view d).0 k ((Equal-is (R (view d).0 k)).0 tie) in
-      let is : slice_get (map view es) i ≡ Some (k, (view d).1) = read_at (map view es) i (view d) inside ∙ ap Some here ∙ ap (λ (q : K). Some (q, (view d).1)) key in
-      ((view d).1, record { within = inside; is = is; found = find_at (map view es) i k (view d).1 is none; before = none })
+      let is : slice_get (map view es) i ≡ Some (k, (view d).1) = read_at (map view es) i (view d) inside
+      ∙ ap Some here ∙ ap (λ (q : K). Some (q, (view d).1)) key in (
+        (view d).1,
+        record { within = inside; is = is; found = find_at (map view es) i k (view d).1 is none; before = none },
+      )

@@ -1,10 +1,12 @@
 -- Words of an entry that names a block past any disk.
-use Rattle.std.proofs.Common.{◌≡◌, ℕ, ◌+◌, ◌*◌, ◌/◌, ◌%◌, ◌^◌, ◌<◌, ◌≤◌, List, [], ◌∷◌, length, get_or, refl, ◌∙◌, arith}
+use Rattle.std.proofs.Common.{◌≡◌, ℕ, ◌+◌, ◌*◌, ◌/◌, ◌%◌, ◌^◌, ◌<◌, ◌≤◌, List, [], ◌∷◌, length, get_or, refl, ◌∙◌}
+use Rattle.std.proofs.Common.{arith}
 use Rattle.words36.specs.Words.{left, right, IsPpn}
 use Rattle.meaning.specs.Directories.{MasterEntry, master_words, FileEntry, file_words, IsFileEntry}
 use Rattle.meaning.specs.Faults.{IsMasterEntryOf}
 
-three_words : (words : List ℕ) (d e f : ℕ) → length words ≡ 3 → get_or words 0 d ∷ get_or words 1 e ∷ get_or words 2 f ∷ [] ≡ words
+three_words : (words : List ℕ) (d e f : ℕ) → length words ≡ 3
+    → get_or words 0 d ∷ get_or words 1 e ∷ get_or words 2 f ∷ [] ≡ words
 three_words [] d e f n = absurd (omega arith)
 three_words (x ∷ []) d e f n = absurd (omega arith)
 three_words (x ∷ y ∷ []) d e f n = absurd (omega arith)
@@ -12,15 +14,33 @@ three_words (x ∷ y ∷ z ∷ []) d e f n = refl
 three_words (x ∷ y ∷ z ∷ w ∷ ws) d e f n = absurd (omega arith)
 
 module _ (words : List ℕ) (d e f : ℕ) (many : length words ≡ 3) where
-  pub file_outside : (name ext prime : ℕ) → name ≡ get_or words 0 d → ext ≡ get_or words 1 e → prime ≡ get_or words 2 f → 0 < name → name < 2 ^ 36 → left ext < 2 ^ 18 → right ext ≡ 0 → 2 ^ 32 ≤ prime
+  pub file_outside : (name ext prime : ℕ) → name ≡ get_or words 0 d → ext ≡ get_or words 1 e → prime ≡ get_or words 2 f
+      → 0 < name → name < 2 ^ 36 → left ext < 2 ^ 18 → right ext ≡ 0 → 2 ^ 32 ≤ prime
       → (e : FileEntry) × IsFileEntry e × (file_words e ≡ words) × (2 ^ 32 ≤ e.1)
   file_outside name ext prime a b c some fits fits' plain far =
       let entry : FileEntry = (record { name = name; ext = ext / 2 ^ 18 }, prime) in
-      let joined : (ext / 2 ^ 18) * 2 ^ 18 + 0 ≡ ext = omega arith in
-      (entry, record { name = some; name_fits = fits; ext_fits = fits' }, (λ i. a i ∷ (joined ∙ b) i ∷ c i ∷ []) ∙ three_words words d e f many, far)
+      let joined : (ext / 2 ^ 18) * 2 ^ 18 + 0 ≡ ext = omega arith in (
+        entry,
+        record { name = some; name_fits = fits; ext_fits = fits' },
+        (λ i. a i ∷ (joined ∙ b) i ∷ c i ∷ [])
+            ∙ three_words words d e f many,
+        far,
+      )
 
-  pub master_outside : (ppn word first : ℕ) → ppn ≡ get_or words 0 d → word ≡ get_or words 1 e → first ≡ get_or words 2 f → IsPpn ppn → word < 2 ^ 36 → word % 2 ^ 27 ≡ 0 → 2 ^ 32 ≤ first
+  pub master_outside : (ppn word first : ℕ) → ppn ≡ get_or words 0 d → word ≡ get_or words 1 e
+      → first ≡ get_or words 2 f → IsPpn ppn → word < 2 ^ 36 → word % 2 ^ 27 ≡ 0 → 2 ^ 32 ≤ first
       → (e : MasterEntry) × IsMasterEntryOf 1 e × (master_words e ≡ words) × (2 ^ 32 ≤ e.1.1)
   master_outside ppn word first a b c good fits plain far =
-      let entry : MasterEntry = (ppn, (word, first)) in
-      (entry, record { ppn = good; protection = word / 2 ^ 27; quota = 0; protection_fits = omega arith; quota_fits = omega arith; word = omega arith }, (λ i. a i ∷ b i ∷ c i ∷ []) ∙ three_words words d e f many, far)
+      let entry : MasterEntry = (ppn, (word, first)) in (
+        entry,
+        record {
+          ppn = good;
+          protection = word / 2 ^ 27;
+          quota = 0;
+          protection_fits = omega arith;
+          quota_fits = omega arith;
+          word = omega arith;
+        },
+        (λ i. a i ∷ b i ∷ c i ∷ []) ∙ three_words words d e f many,
+        far,
+      )

@@ -1,6 +1,8 @@
 -- What an edit of a list leaves of a stretch of it.
-use Rattle.std.proofs.Common.{◌≡◌, ◌⊎◌, ℕ, ◌+◌, ◌-◌, ◌<◌, ◌≤◌, List, ◌++◌, length, take, drop, slice_set, map, min, sym, ap, ◌∙◌, arith, inl, inr}
-use Rattle.std.proofs.lemmas.List.{drop-take, take-take, take-append-le, take-set-le, drop-set-lt, take_rest, take_min, take-map, drop-map}
+use Rattle.std.proofs.Common.{◌≡◌, ◌⊎◌, ℕ, ◌+◌, ◌-◌, ◌<◌, ◌≤◌, List, ◌++◌, length, take, drop, slice_set, map, min, sym}
+use Rattle.std.proofs.Common.{ap, ◌∙◌, arith, inl, inr}
+use Rattle.std.proofs.lemmas.List.{drop-take, take-take, take-append-le, take-set-le, drop-set-lt, take_rest, take_min}
+use Rattle.std.proofs.lemmas.List.{take-map, drop-map}
 
 module _ {X : Type 0} where
   -- a stretch ends with the first n + m elements
@@ -8,10 +10,12 @@ module _ {X : Type 0} where
   window n m xs = sym (drop-take n m xs)
 
   -- where the first elements are the same, so is a stretch of them
-  pub window_front : (n m : ℕ) (xs ys : List X) → take (n + m) xs ≡ take (n + m) ys → take m (drop n xs) ≡ take m (drop n ys)
+  pub window_front : (n m : ℕ) (xs ys : List X) → take (n + m) xs ≡ take (n + m) ys
+      → take m (drop n xs) ≡ take m (drop n ys)
   window_front n m xs ys e = window n m xs ∙ ap (drop n) e ∙ sym (window n m ys)
 
-  pub window_set : (n m : ℕ) (xs : List X) (i : ℕ) (x : X) → (n + m ≤ i) ⊎ (i < n) → take m (drop n (slice_set xs i x)) ≡ take m (drop n xs)
+  pub window_set : (n m : ℕ) (xs : List X) (i : ℕ) (x : X) → (n + m ≤ i) ⊎ (i < n)
+      → take m (drop n (slice_set xs i x)) ≡ take m (drop n xs)
   window_set n m xs i x (inl behind) = window_front n m (slice_set xs i x) xs (take-set-le (n + m) xs i x behind)
   window_set n m xs i x (inr before) = ap (take m) (drop-set-lt n xs i x before)
 
@@ -22,7 +26,9 @@ module _ {X : Type 0} where
   window_fewer n m k xs h = window_front n m (take k xs) xs (take-take (n + m) k xs h)
 
 -- the entries of a block, as they are sliced
-pub sliced : {E X : Type 0} (view : E → X) (es : List E) (n m count : ℕ) → count ≡ min (length (take (length es - n) (drop n es))) m → map view (take count (take (length es - n) (drop n es))) ≡ take m (drop n (map view es))
+pub sliced : {E X : Type 0} (view : E → X) (es : List E) (n m count : ℕ)
+    → count ≡ min (length (take (length es - n) (drop n es))) m
+    → map view (take count (take (length es - n) (drop n es))) ≡ take m (drop n (map view es))
 sliced view es n m count is =
     let rest = drop n es in
     let whole : take (length es - n) rest ≡ rest = take_rest es n in

@@ -9,7 +9,8 @@ use Rattle.std.proofs.Math.Seq.{take-append_seam, drop-append_seam}
 use Rattle.blockdisk.specs.Disk.{Contents}
 use Rattle.meaning.specs.Blocks.{AgreeOn}
 use Rattle.meaning.specs.Costs.{directory_cost}
-use Rattle.meaning.specs.Directories.{Node, numbers, items, directory_block, IsSpelled, IsFilled, IsDirectory, MasterEntry, IsMasterEntry}
+use Rattle.meaning.specs.Directories.{Node, numbers, items, directory_block, IsSpelled, IsFilled, IsDirectory}
+use Rattle.meaning.specs.Directories.{MasterEntry, IsMasterEntry}
 use Rattle.meaning.specs.Faults.{IsMasterEntryOf}
 use Rattle.meaning.specs.Maps.{EachOnce, from_entries, times}
 use Rattle.meaning.specs.Readings.{IsChainRead}
@@ -26,9 +27,11 @@ module _ {E : Type 0} where
   pub items_of : (ns : List ℕ) (es : List E) → length es ≤ 42 * length ns → items (nodes_of ns es) ≡ es
   items_of [] [] few = refl
   items_of [] (e ∷ es) few = absurd (omega arith)
-  items_of (n ∷ ns) es few = let rest = length-drop 42 es in ap (λ fs. take 42 es ++ fs) (items_of ns (drop 42 es) (omega arith)) ∙ take-append-drop 42 es
+  items_of (n ∷ ns) es few = let rest = length-drop 42 es in
+      ap (λ fs. take 42 es ++ fs) (items_of ns (drop 42 es) (omega arith)) ∙ take-append-drop 42 es
 
-  filled_more : (n : ℕ) (ns : List ℕ) (es : List E) → 42 * length ns < length es → length es ≤ 42 * length ns + 42 → (0 < length (take 42 es)) × IsFilled (nodes_of (n ∷ ns) es)
+  filled_more : (n : ℕ) (ns : List ℕ) (es : List E) → 42 * length ns < length es → length es ≤ 42 * length ns + 42
+      → (0 < length (take 42 es)) × IsFilled (nodes_of (n ∷ ns) es)
   filled_more n [] es low high = let first = length-take 42 es in (omega arith, omega arith)
   filled_more n (m ∷ ns) es low high =
       let first = length-take-le 42 es (omega arith) in
@@ -58,7 +61,8 @@ module _ {E : Type 0} where
       let left : drop 42 (a.1 ++ rest) ≡ rest = ap (λ k. drop k (a.1 ++ rest)) (sym full) ∙ drop-append_seam a.1 rest in
       ap (λ xs. a ∷ xs) (flat (b ∷ nodes) f.2) ∙ (λ i. (a.0, sym first i) ∷ nodes_of (numbers (b ∷ nodes)) (sym left i))
 
-  filled_bounds : (a : Node E) (xs : List (Node E)) → 0 < length a.1 → IsFilled (a ∷ xs) → (42 * length xs < length (items (a ∷ xs))) × (length (items (a ∷ xs)) ≤ 42 * length xs + 42)
+  filled_bounds : (a : Node E) (xs : List (Node E)) → 0 < length a.1 → IsFilled (a ∷ xs)
+      → (42 * length xs < length (items (a ∷ xs))) × (length (items (a ∷ xs)) ≤ 42 * length xs + 42)
   filled_bounds a [] some f = let e = length-append a.1 [] in (omega arith, omega arith)
   filled_bounds a (b ∷ xs) some f =
       let r = filled_bounds b xs f.1 f.2 in
@@ -76,32 +80,43 @@ module _ {E : Type 0} where
       omega arith
 
   -- there are as many of them as the entries cost
-  pub filled_cost : (nodes : List (Node E)) → IsFilled nodes → length (numbers nodes) ≡ directory_cost (length (items nodes))
+  pub filled_cost : (nodes : List (Node E)) → IsFilled nodes
+      → length (numbers nodes) ≡ directory_cost (length (items nodes))
   filled_cost nodes f = length-map nodes (λ node. node.0) ∙ nodes_cost nodes f
 
 -- What is so of each entry.
 
-all_weaker : {E : Type 0} {P Q : E → Type 0} → ((e : E) → P e → Q e) → (es : List E) → AllByRecursion P es → AllByRecursion Q es
+all_weaker : {E : Type 0} {P Q : E → Type 0} → ((e : E) → P e → Q e) → (es : List E) → AllByRecursion P es
+    → AllByRecursion Q es
 all_weaker weaker [] all = tt
 all_weaker weaker (e ∷ es) all = (weaker e all.0, all_weaker weaker es all.1)
 
 -- a chain whose entries keep more keeps less
-pub chain_weaker : {K V : Type 0} {R : K → K → Ordering} {P Q : K × V → Type 0} → ((e : K × V) → P e → Q e) → (chain : ChainState (K × V)) → IsChain R P chain → IsChain R Q chain
-chain_weaker weaker chain c = record { counted = c.counted; are_entries = all_weaker weaker chain.entries c.are_entries; each_once = c.each_once; blocks_once = c.blocks_once }
+pub chain_weaker : {K V : Type 0} {R : K → K → Ordering} {P Q : K × V → Type 0} → ((e : K × V) → P e → Q e)
+    → (chain : ChainState (K × V)) → IsChain R P chain → IsChain R Q chain
+chain_weaker weaker chain c = record {
+  counted = c.counted;
+  are_entries = all_weaker weaker chain.entries c.are_entries;
+  each_once = c.each_once;
+  blocks_once = c.blocks_once;
+}
 
 -- a chain of the master directory in layout 1 is one where its entries need a project-programmer number alone
-pub master_chain : (chain : ChainState MasterEntry) → IsChain nat_cmp (IsMasterEntryOf 1) chain → IsChain nat_cmp IsMasterEntry chain
+pub master_chain : (chain : ChainState MasterEntry) → IsChain nat_cmp (IsMasterEntryOf 1) chain
+    → IsChain nat_cmp IsMasterEntry chain
 master_chain = chain_weaker (λ e good. good.ppn)
 
 -- What the contents spell.
 
 module _ {K V : Type 0} {R : K → K → Ordering} (words : K × V → List ℕ) (IsEntry : K × V → Type 0) where
   -- the entries of the blocks are the chain's
-  pub chain_items : (chain : ChainState (K × V)) → IsChain R IsEntry chain → items (nodes_of chain.blocks chain.entries) ≡ chain.entries
+  pub chain_items : (chain : ChainState (K × V)) → IsChain R IsEntry chain
+      → items (nodes_of chain.blocks chain.entries) ≡ chain.entries
   chain_items chain c = let counted = c.counted in items_of chain.blocks chain.entries (omega arith)
 
   -- a chain that the contents spell was read from them
-  pub chain_read : (contents : Contents) (chain : ChainState (K × V)) → IsChain R IsEntry chain → IsOn words contents chain → IsChainRead R words IsEntry contents (nodes_of chain.blocks chain.entries)
+  pub chain_read : (contents : Contents) (chain : ChainState (K × V)) → IsChain R IsEntry chain
+      → IsOn words contents chain → IsChainRead R words IsEntry contents (nodes_of chain.blocks chain.entries)
   chain_read contents chain c on =
       let all = chain_items chain c in
       record {
@@ -112,7 +127,8 @@ module _ {K V : Type 0} {R : K → K → Ordering} (words : K × V → List ℕ)
       }
 
   -- a chain that the contents spell is a directory there, with the map of its entries
-  pub chain_stands : (contents : Contents) (chain : ChainState (K × V)) → IsChain R IsEntry chain → IsOn words contents chain → IsDirectory R words IsEntry contents chain.blocks (from_entries chain.entries)
+  pub chain_stands : (contents : Contents) (chain : ChainState (K × V)) → IsChain R IsEntry chain
+      → IsOn words contents chain → IsDirectory R words IsEntry contents chain.blocks (from_entries chain.entries)
   chain_stands contents chain c on =
       let read = chain_read contents chain c on in
       record {
@@ -126,26 +142,40 @@ module _ {K V : Type 0} {R : K → K → Ordering} (words : K × V → List ℕ)
       }
 
   -- what was read, with no block twice, is a chain
-  pub read_chain : (contents : Contents) (nodes : List (Node (K × V))) → IsChainRead R words IsEntry contents nodes → ((n : ℕ) → times n (numbers nodes) ≤ 1) → IsChain R IsEntry (record { blocks = numbers nodes; entries = items nodes })
-  read_chain contents nodes read once = record { counted = filled_cost nodes read.filled; are_entries = read.are_entries; each_once = read.each_once; blocks_once = once }
+  pub read_chain : (contents : Contents) (nodes : List (Node (K × V))) → IsChainRead R words IsEntry contents nodes
+      → ((n : ℕ) → times n (numbers nodes) ≤ 1)
+      → IsChain R IsEntry (record { blocks = numbers nodes; entries = items nodes })
+  read_chain contents nodes read once = record {
+    counted = filled_cost nodes read.filled;
+    are_entries = read.are_entries;
+    each_once = read.each_once;
+    blocks_once = once;
+  }
 
   -- and the contents spell it
-  pub read_on : (contents : Contents) (nodes : List (Node (K × V))) → IsChainRead R words IsEntry contents nodes → IsOn words contents (record { blocks = numbers nodes; entries = items nodes })
+  pub read_on : (contents : Contents) (nodes : List (Node (K × V))) → IsChainRead R words IsEntry contents nodes
+      → IsOn words contents (record { blocks = numbers nodes; entries = items nodes })
   read_on contents nodes read = subst (IsSpelled words contents) (flat nodes read.filled) read.spelled
 
 module _ {K V : Type 0} (words : K × V → List ℕ) where
-  spelled_kept : (old new : Contents) (nodes : List (Node (K × V))) → IsSpelled words old nodes → AgreeOn (numbers nodes) old new → IsSpelled words new nodes
+  spelled_kept : (old new : Contents) (nodes : List (Node (K × V))) → IsSpelled words old nodes
+      → AgreeOn (numbers nodes) old new → IsSpelled words new nodes
   spelled_kept old new [] s agree = tt
-  spelled_kept old new (node ∷ nodes) s agree =
-      (agree node.0 (times_here node.0 (numbers nodes)) ∙ s.0, spelled_kept old new nodes s.1 (λ n h. agree n (times_later n node.0 (numbers nodes) h)))
+  spelled_kept old new (node ∷ nodes) s agree = (
+    agree node.0 (times_here node.0 (numbers nodes)) ∙ s.0,
+    spelled_kept old new nodes s.1 (λ n h. agree n (times_later n node.0 (numbers nodes) h)),
+  )
 
   -- a chain is spelled as long as its blocks stay
-  pub on_kept : (old new : Contents) (chain : ChainState (K × V)) → IsOn words old chain → AgreeOn chain.blocks old new → IsOn words new chain
-  on_kept old new chain on agree = spelled_kept old new (nodes_of chain.blocks chain.entries) on (subst (λ ns. AgreeOn ns old new) (sym (numbers_of chain.blocks chain.entries)) agree)
+  pub on_kept : (old new : Contents) (chain : ChainState (K × V)) → IsOn words old chain → AgreeOn chain.blocks old new
+      → IsOn words new chain
+  on_kept old new chain on agree = spelled_kept old new (nodes_of chain.blocks chain.entries) on
+      (subst (λ ns. AgreeOn ns old new) (sym (numbers_of chain.blocks chain.entries)) agree)
 
   -- a block of zeros is a chain of no entries
   pub bare_words : directory_block words 0 [] ≡ replicate 128 0
   bare_words = refl
 
-  pub bare_on : (contents : Contents) (n : ℕ) → contents n ≡ Some (replicate 128 0) → IsOn words contents (record { blocks = n ∷ []; entries = [] })
+  pub bare_on : (contents : Contents) (n : ℕ) → contents n ≡ Some (replicate 128 0)
+      → IsOn words contents (record { blocks = n ∷ []; entries = [] })
   bare_on contents n zeros = (zeros, tt)

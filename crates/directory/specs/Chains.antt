@@ -17,7 +17,8 @@ pub record ChainState (E : Type 0) : Type 0 where
 
 abbrev pub chain_code : {E : Type 0} → Coded E → Coded (ChainState E)
 chain_code {E} code =
-    code_by (List ℕ × List E) (coded× (coded_list coded_ℕ) (coded_list code)) (λ c. (c.blocks, c.entries)) (λ p. record { blocks = p.0; entries = p.1 }) (λ _. refl)
+    code_by (List ℕ × List E) (coded× (coded_list coded_ℕ) (coded_list code)) (λ c. (c.blocks, c.entries))
+    (λ p. record { blocks = p.0; entries = p.1 }) (λ _. refl)
 
 -- the chain with each entry seen as a key and what stands there
 abbrev pub viewed : {E K V : Type 0} → (E → K × V) → ChainState E → ChainState (K × V)
@@ -29,7 +30,8 @@ nodes_of [] es = []
 nodes_of (n ∷ ns) es = (n, take 42 es) ∷ nodes_of ns (drop 42 es)
 
 -- What is so of a chain in core, whatever the disk holds.
-pub record IsChain {K V : Type 0} (R : K → K → Ordering) (IsEntry : K × V → Type 0) (chain : ChainState (K × V)) : Type 0 where
+pub record IsChain {K V : Type 0} (R : K → K → Ordering) (IsEntry : K × V
+    → Type 0) (chain : ChainState (K × V)) : Type 0 where
   pub counted : length chain.blocks ≡ directory_cost (length chain.entries)
   pub are_entries : AllByRecursion IsEntry chain.entries
   pub each_once : EachOnce R chain.entries

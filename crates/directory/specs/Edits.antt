@@ -1,5 +1,6 @@
 -- What an edit makes of the entries of a chain, and which puts it takes.
-use Rattle.std.specs.Prelude.{◌≡◌, ℕ, suc, ◌-◌, ◌*◌, ◌<◌, List, [], ◌∷◌, ◌++◌, length, get_or, take, drop, cond, slice_get, Some, None}
+use Rattle.std.specs.Prelude.{◌≡◌, ℕ, suc, ◌-◌, ◌*◌, ◌<◌, List, [], ◌∷◌, ◌++◌, length, get_or, take, drop, cond}
+use Rattle.std.specs.Prelude.{slice_get, Some, None}
 use Rattle.std.specs.List.{AllByRecursion}
 use Rattle.std.specs.declared.cmp.Ordering.{Ordering}
 use Rattle.std.specs.Ordering.{eq_by_cmp}
@@ -32,7 +33,8 @@ module _ {K V : Type 0} (R : K → K → Ordering) where
   pub record IsReserve (chain : ChainState (K × V)) (k : K) (reserve : ChainState (K × V)) : Type 0 where
     pub entry : find R k chain.entries ≡ None → (e : K × V) × (reserve.entries ≡ chain.entries ++ e ∷ [])
     pub grown : TakesBlock chain k → (n : ℕ) × (reserve.blocks ≡ chain.blocks ++ n ∷ [])
-    pub kept : find R k chain.entries ≡ None → (length chain.entries ≡ 42 * length chain.blocks → ⊥) → reserve.blocks ≡ chain.blocks
+    pub kept : find R k chain.entries ≡ None → (length chain.entries ≡ 42 * length chain.blocks → ⊥)
+        → reserve.blocks ≡ chain.blocks
 
   -- the entries with this one: in the place of the one with its key, or at the end
   abbrev pub inserted : List (K × V) → K × V → List (K × V)
@@ -51,16 +53,19 @@ module _ {K V : Type 0} (R : K → K → Ordering) where
 
 -- the words of block k of a chain
 abbrev pub block_words : {E : Type 0} → (E → List ℕ) → ChainState E → ℕ → List ℕ
-block_words words chain k = directory_block words (get_or chain.blocks (suc k) 0) (take 42 (drop (42 * k) chain.entries))
+block_words words chain k = directory_block words (get_or chain.blocks (suc k) 0)
+    (take 42 (drop (42 * k) chain.entries))
 
 -- the put of block k of a chain
 abbrev pub block_put : {E : Type 0} → (E → List ℕ) → ChainState E → ℕ → Put
 block_put words chain k = record { block = get_or chain.blocks k 0; words = block_words words chain k }
 
 -- The puts `after` are those of `before` and such as make the new chain of the old one.
-pub record PutsChain {K V : Type 0} (words : K × V → List ℕ) (old new : ChainState (K × V)) (before after : List Put) : Type 0 where
+pub record PutsChain {K V : Type 0} (words : K × V
+    → List ℕ) (old new : ChainState (K × V)) (before after : List Put) : Type 0 where
   -- where a disk with the puts before spells the old chain, with the puts after it spells the new one
   pub spells : (c : Contents) → IsOn words (with_puts before c) old → IsOn words (with_puts after c) new
   -- nothing else changes
   pub others : (c : Contents) (n : ℕ) → times n new.blocks ≡ 0 → with_puts after c n ≡ with_puts before c n
-  pub in_range : (size : ℕ) → AllByRecursion (InSpace size) new.blocks → AllByRecursion (IsTarget size) (targets before) → AllByRecursion (IsTarget size) (targets after)
+  pub in_range : (size : ℕ) → AllByRecursion (InSpace size) new.blocks → AllByRecursion (IsTarget size) (targets before)
+      → AllByRecursion (IsTarget size) (targets after)

@@ -22,7 +22,8 @@ impl<E: Entry> Model for Chain<E> {
 
     ghost view = { λ c. record { blocks = c.blocks.items; entries = c.entries.items } };
 
-    ghost invariant = { λ c. IsChain E.order E.IsEntry (viewed E.view (record { blocks = c.blocks.items; entries = c.entries.items })) };
+    ghost invariant = { λ c. IsChain E.order E.IsEntry
+        (viewed E.view (record { blocks = c.blocks.items; entries = c.entries.items })) };
 }
 
 impl<E: Entry> Chain<E> {

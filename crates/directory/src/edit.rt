@@ -1,4 +1,6 @@
-ghost use Rattle.std.specs.Prelude.{◌≡◌, ◌+◌, ◌*◌, ◌/◌, ◌-◌, ◌<◌, ◌≤◌, ◌⊎◌, ◌++◌, ◌∷◌, [], ℕ, suc, length, map, take, drop, get_or, slice_set, option_to_list, MatchOption, Some, None, IsTrue, IsFalse, IsOk, IsSome, IfErr, OnOk, OnErr};
+ghost use Rattle.std.specs.Prelude.{◌≡◌, ◌+◌, ◌*◌, ◌/◌, ◌-◌, ◌<◌, ◌≤◌, ◌⊎◌, ◌++◌, ◌∷◌, [], ℕ, suc, length, map, take};
+ghost use Rattle.std.specs.Prelude.{drop, get_or, slice_set, option_to_list, MatchOption, Some, None, IsTrue, IsFalse};
+ghost use Rattle.std.specs.Prelude.{IsOk, IsSome, IfErr, OnOk, OnErr};
 ghost use Rattle.std.specs.FinMap.Entries.{find};
 ghost use Rattle.changeset.specs.Puts.{most_puts, replaced};
 ghost use Rattle.meaning.specs.Costs.{directory_cost};
@@ -26,13 +28,18 @@ impl<E: Entry> Chain<E> {
         fresh: Option<u32>,
         set: &mut ChangeSet,
     ) -> Result<(), DirectoryError>
-        requires fresh { TakesBlock E.order (viewed E.view self.old) (E.view entry).0 → (n : ℕ) × (fresh ≡ Some n) × (times n self.old.blocks ≡ 0) }
+        requires fresh { TakesBlock E.order (viewed E.view self.old) (E.view entry).0 → (n : ℕ) × (fresh ≡ Some n)
+            × (times n self.old.blocks ≡ 0) }
         requires room { length set.old + 2 ≤ most_puts }
 
-        ensures items { OnOk result (map E.view self.new.entries ≡ inserted E.order (map E.view self.old.entries) (E.view entry)) }
-        ensures kept { (TakesBlock E.order (viewed E.view self.old) (E.view entry).0 → ⊥) → self.new.blocks ≡ self.old.blocks }
-        ensures grown { (n : ℕ) → OnOk result (TakesBlock E.order (viewed E.view self.old) (E.view entry).0 → fresh ≡ Some n → self.new.blocks ≡ self.old.blocks ++ n ∷ []) }
-        ensures map { OnOk result (from_entries {R = E.order} (map E.view self.new.entries) ≡ insert (from_entries (map E.view self.old.entries)) (E.view entry).0 (E.view entry).1) }
+        ensures items { OnOk result (map E.view self.new.entries
+            ≡ inserted E.order (map E.view self.old.entries) (E.view entry)) }
+        ensures kept { (TakesBlock E.order (viewed E.view self.old) (E.view entry).0 → ⊥)
+            → self.new.blocks ≡ self.old.blocks }
+        ensures grown { (n : ℕ) → OnOk result (TakesBlock E.order (viewed E.view self.old) (E.view entry).0
+            → fresh ≡ Some n → self.new.blocks ≡ self.old.blocks ++ n ∷ []) }
+        ensures map { OnOk result (from_entries {R = E.order} (map E.view self.new.entries)
+            ≡ insert (from_entries (map E.view self.old.entries)) (E.view entry).0 (E.view entry).1) }
 
         ensures put { PutsChain E.words_of (viewed E.view self.old) (viewed E.view self.new) set.old set.new }
         ensures few { length set.new ≤ length set.old + 2 }
@@ -53,12 +60,15 @@ impl<E: Entry> Chain<E> {
     /// Puts an entry in the place of the one with this key. It has the same key, or one that isn't there.
     pub fn rename(&mut self, key: &E::Key, entry: E, set: &mut ChangeSet)
         requires there { IsSome (find E.order key.now (map E.view self.old.entries)) }
-        requires free { (key.now ≡ (E.view entry).0) ⊎ (find E.order (E.view entry).0 (map E.view self.old.entries) ≡ None) }
+        requires free { (key.now ≡ (E.view entry).0)
+            ⊎ (find E.order (E.view entry).0 (map E.view self.old.entries) ≡ None) }
         requires room { length set.old < most_puts }
 
-        ensures items { map E.view self.new.entries ≡ renamed E.order (map E.view self.old.entries) key.now (E.view entry) }
+        ensures items { map E.view self.new.entries
+            ≡ renamed E.order (map E.view self.old.entries) key.now (E.view entry) }
         ensures blocks { self.new.blocks ≡ self.old.blocks }
-        ensures map { from_entries {R = E.order} (map E.view self.new.entries) ≡ insert (remove (from_entries (map E.view self.old.entries)) key.now) (E.view entry).0 (E.view entry).1 }
+        ensures map { from_entries {R = E.order} (map E.view self.new.entries)
+            ≡ insert (remove (from_entries (map E.view self.old.entries)) key.now) (E.view entry).0 (E.view entry).1 }
 
         ensures put { PutsChain E.words_of (viewed E.view self.old) (viewed E.view self.new) set.old set.new }
         ensures few { length set.new ≤ length set.old + 1 }
@@ -77,7 +87,8 @@ impl<E: Entry> Chain<E> {
 
         ensures items { map E.view self.new.entries ≡ removed E.order (map E.view self.old.entries) key.now }
         ensures blocks { self.old.blocks ≡ self.new.blocks ++ option_to_list result }
-        ensures map { from_entries {R = E.order} (map E.view self.new.entries) ≡ remove (from_entries (map E.view self.old.entries)) key.now }
+        ensures map { from_entries {R = E.order} (map E.view self.new.entries)
+            ≡ remove (from_entries (map E.view self.old.entries)) key.now }
 
         ensures put { PutsChain E.words_of (viewed E.view self.old) (viewed E.view self.new) set.old set.new }
         ensures few { length set.new ≤ length set.old + 2 }
@@ -106,7 +117,8 @@ impl<E: Entry> Chain<E> {
     /// Puts an entry whose key stands nowhere else in the place of another.
     pub(crate) fn replace(&mut self, i: usize, entry: E, set: &mut ChangeSet)
         requires within { i < length self.old.entries }
-        requires alone { find E.order (E.view entry).0 (take i (map E.view self.old.entries) ++ drop (suc i) (map E.view self.old.entries)) ≡ None }
+        requires alone { find E.order (E.view entry).0 (take i (map E.view self.old.entries)
+            ++ drop (suc i) (map E.view self.old.entries)) ≡ None }
         requires room { length set.old < most_puts }
         ensures done { self.new ≡ record self.old { entries = slice_set self.old.entries i entry } }
         ensures put { PutsChain E.words_of (viewed E.view self.old) (viewed E.view self.new) set.old set.new }
@@ -130,7 +142,8 @@ impl<E: Entry> Chain<E> {
         set: &mut ChangeSet,
     ) -> Result<(), DirectoryError>
         requires absent { find E.order (E.view entry).0 (map E.view self.old.entries) ≡ None }
-        requires block { MatchOption block (length self.old.entries ≡ 42 * length self.old.blocks → ⊥) (λ n. (length self.old.entries ≡ 42 * length self.old.blocks) × (times n self.old.blocks ≡ 0)) }
+        requires block { MatchOption block (length self.old.entries ≡ 42 * length self.old.blocks
+            → ⊥) (λ n. (length self.old.entries ≡ 42 * length self.old.blocks) × (times n self.old.blocks ≡ 0)) }
         requires room { length set.old + 2 ≤ most_puts }
         ensures entries { OnOk result (map E.view self.new.entries ≡ map E.view self.old.entries ++ E.view entry ∷ []) }
         ensures blocks { OnOk result (self.new.blocks ≡ self.old.blocks ++ option_to_list block) }
@@ -163,8 +176,13 @@ fn pop_empty(blocks: &mut Vec<u32>, count: usize) -> Option<u32>
 fn put_hole<E: Entry>(blocks: &[u32], entries: &[E], k: usize, set: &mut ChangeSet)
     requires counted { length blocks.now ≡ directory_cost (length entries.now) }
     requires room { length set.old + 2 ≤ most_puts }
-    ensures one { length blocks.now - 1 ≤ k → set.new ≡ replaced (block_put E.words_of (record { blocks = blocks.now; entries = map E.view entries.now }) (length blocks.now - 1)) set.old }
-    ensures both { k < length blocks.now - 1 → set.new ≡ replaced (block_put E.words_of (record { blocks = blocks.now; entries = map E.view entries.now }) (length blocks.now - 1)) (replaced (block_put E.words_of (record { blocks = blocks.now; entries = map E.view entries.now }) k) set.old) }
+    ensures one { length blocks.now - 1 ≤ k
+        → set.new ≡ replaced (block_put E.words_of (record { blocks = blocks.now; entries = map E.view entries.now })
+        (length blocks.now - 1)) set.old }
+    ensures both { k < length blocks.now - 1
+        → set.new ≡ replaced (block_put E.words_of (record { blocks = blocks.now; entries = map E.view entries.now })
+        (length blocks.now - 1)) (replaced
+        (block_put E.words_of (record { blocks = blocks.now; entries = map E.view entries.now }) k) set.old) }
     ensures few { length set.new ≤ length set.old + 2 }
 {
     let last = blocks.len() - 1;
@@ -210,8 +228,14 @@ pub(crate) fn put_end<E: Entry>(blocks: &[u32], entries: &[E], is_new: bool, set
     requires some { 0 < length blocks.now }
     requires two { IsTrue is_new → 1 < length blocks.now }
     requires room { length set.old + 2 ≤ most_puts }
-    ensures one { IsFalse is_new → set.new ≡ replaced (block_put E.words_of (record { blocks = blocks.now; entries = map E.view entries.now }) (length blocks.now - 1)) set.old }
-    ensures both { IsTrue is_new → set.new ≡ replaced (block_put E.words_of (record { blocks = blocks.now; entries = map E.view entries.now }) (length blocks.now - 1)) (replaced (block_put E.words_of (record { blocks = blocks.now; entries = map E.view entries.now }) (length blocks.now - 2)) set.old) }
+    ensures one { IsFalse is_new → set.new
+        ≡ replaced (block_put E.words_of (record { blocks = blocks.now; entries = map E.view entries.now })
+        (length blocks.now - 1)) set.old }
+    ensures both { IsTrue is_new → set.new
+        ≡ replaced (block_put E.words_of (record { blocks = blocks.now; entries = map E.view entries.now })
+        (length blocks.now - 1)) (replaced
+        (block_put E.words_of (record { blocks = blocks.now; entries = map E.view entries.now })
+        (length blocks.now - 2)) set.old) }
     ensures few { length set.new ≤ length set.old + 2 }
 {
     let last = blocks.len() - 1;
@@ -234,7 +258,8 @@ fn put_block<E: Entry>(blocks: &[u32], entries: &[E], k: usize, set: &mut Change
     requires within { k < length blocks.now }
     requires begun { 42 * k ≤ length entries.now }
     requires room { length set.old < most_puts }
-    ensures set { set.new ≡ replaced (block_put E.words_of (record { blocks = blocks.now; entries = map E.view entries.now }) k) set.old }
+    ensures set { set.new
+        ≡ replaced (block_put E.words_of (record { blocks = blocks.now; entries = map E.view entries.now }) k) set.old }
     ensures few { length set.new ≤ length set.old + 1 }
 {
     let rest = &entries[BLOCK_ENTRIES * k..];

@@ -56,7 +56,8 @@ pub trait Entry: Copy {
         ensures value { IfOk result (λ entry. words_of (view entry) ≡ words) }
         ensures good { IfOk result (λ entry. IsEntry (view entry)) }
         ensures malformed { IsErrOf result Malformed → (e : Self.Key × Stored) → IsEntry e → words_of e ≡ words → ⊥ }
-        ensures outside { IsErrOf result Outside → (e : Self.Key × Stored) × IsEntry e × (words_of e ≡ words) × (2 ^ 32 ≤ target e) };
+        ensures outside { IsErrOf result Outside → (e : Self.Key × Stored) × IsEntry e × (words_of e ≡ words)
+            × (2 ^ 32 ≤ target e) };
 
     /// The number of the block that the entry names.
     fn target(&self) -> u32

@@ -10,7 +10,8 @@ impl<E: Entry> Chain<E> {
     /// The place of the entry with this key, counted from 0 in the order of the disk, or `None` where there is
     /// no such entry.
     pub fn find(&self, key: &E::Key) -> Option<usize>
-        ensures found { IfSome result (λ i. (v : E.Stored) × StandsAt E.order (map E.view self.now.entries) key.now v i) }
+        ensures found { IfSome result (λ i. (v : E.Stored)
+            × StandsAt E.order (map E.view self.now.entries) key.now v i) }
         ensures none { IfNone result (find E.order key.now (map E.view self.now.entries) ≡ None) }
         ensures sound { IsChain E.order E.IsEntry (viewed E.view self.now) }
     {

@@ -11,9 +11,13 @@ use crate::{Chain, Entry};
 /// A chain in core, where the contents of a disk spell it: it is a directory there with the map of its
 /// entries, it is as a reader finds it, and it stays as long as its blocks do.
 pub fn chain_stands<E: Entry>(chain: &Chain<E>)
-    ensures stands { (contents : Contents) → IsOn E.words_of contents (viewed E.view chain.now) → IsDirectory E.order E.words_of E.IsEntry contents chain.now.blocks (from_entries (map E.view chain.now.entries)) }
-    ensures read { (contents : Contents) → IsOn E.words_of contents (viewed E.view chain.now) → IsChainRead E.order E.words_of E.IsEntry contents (nodes_of chain.now.blocks (map E.view chain.now.entries)) }
-    ensures kept { (old new : Contents) → IsOn E.words_of old (viewed E.view chain.now) → AgreeOn chain.now.blocks old new → IsOn E.words_of new (viewed E.view chain.now) }
+    ensures stands { (contents : Contents) → IsOn E.words_of contents (viewed E.view chain.now)
+        → IsDirectory E.order E.words_of E.IsEntry contents chain.now.blocks
+        (from_entries (map E.view chain.now.entries)) }
+    ensures read { (contents : Contents) → IsOn E.words_of contents (viewed E.view chain.now)
+        → IsChainRead E.order E.words_of E.IsEntry contents (nodes_of chain.now.blocks (map E.view chain.now.entries)) }
+    ensures kept { (old new : Contents) → IsOn E.words_of old (viewed E.view chain.now)
+        → AgreeOn chain.now.blocks old new → IsOn E.words_of new (viewed E.view chain.now) }
 {
     let _blocks = chain.blocks();
 }

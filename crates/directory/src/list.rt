@@ -12,7 +12,8 @@ impl<E: Entry> Chain<E> {
     ///
     /// `NoMemory` where the list finds no memory.
     pub fn list_sorted(&self, alloc: Global) -> Result<Vec<E>, NoMemory>
-        ensures { IfOk result (λ list. map E.view list.items ≡ entries (from_entries {R = E.order} (map E.view self.now.entries))) }
+        ensures { IfOk result (λ list. map E.view list.items
+            ≡ entries (from_entries {R = E.order} (map E.view self.now.entries))) }
     {
         let mut list = Vec::new(alloc);
         list.extend_from_slice(self.entries())?;

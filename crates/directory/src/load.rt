@@ -1,4 +1,5 @@
-ghost use Rattle.std.specs.Prelude.{◌≡◌, ◌<◌, ◌≤◌, ◌↔◌, ◌⊎◌, ◌++◌, ◌∷◌, [], ℕ, List, IsTrue, true, false, Some, None, IfOk, OnOk, IsErrOf, length, map, slice_set};
+ghost use Rattle.std.specs.Prelude.{◌≡◌, ◌<◌, ◌≤◌, ◌↔◌, ◌⊎◌, ◌++◌, ◌∷◌, [], ℕ, List, IsTrue, true, false, Some, None};
+ghost use Rattle.std.specs.Prelude.{IfOk, OnOk, IsErrOf, length, map, slice_set};
 ghost use Rattle.std.specs.List.{AllByRecursion};
 ghost use Rattle.std.specs.FinMap.Entries.{find};
 ghost use Rattle.blockdisk.specs.Disk.{SameDisk, one_more};
@@ -46,10 +47,13 @@ fn is_new<E: Entry>(entries: &[E], key: &E::Key) -> bool
 fn push_entry<E: Entry>(words: [Word; 3], size: u32, entries: &mut Vec<E>) -> Result<(), AddError>
     requires volume { IsVolumeSize size }
     requires good { AreGood E.order E.IsEntry E.target size (map E.view entries.old.items) }
-    ensures ok { OnOk result ((e : E.Key × E.Stored) → E.words_of e ≡ words → map E.view entries.new.items ≡ map E.view entries.old.items ++ e ∷ []) }
+    ensures ok { OnOk result ((e : E.Key × E.Stored) → E.words_of e ≡ words
+        → map E.view entries.new.items ≡ map E.view entries.old.items ++ e ∷ []) }
     ensures good { OnOk result (AreGood E.order E.IsEntry E.target size (map E.view entries.new.items)) }
-    ensures outside { IsErrOf result Outside → (e : E.Key × E.Stored) → E.IsEntry e → E.words_of e ≡ words → InSpace size (E.target e) → ⊥ }
-    ensures again { IsErrOf result Again → (e : E.Key × E.Stored) → E.words_of e ≡ words → find E.order e.0 (map E.view entries.old.items) ≡ None → ⊥ }
+    ensures outside { IsErrOf result Outside → (e : E.Key × E.Stored) → E.IsEntry e → E.words_of e ≡ words
+        → InSpace size (E.target e) → ⊥ }
+    ensures again { IsErrOf result Again → (e : E.Key × E.Stored) → E.words_of e ≡ words
+        → find E.order e.0 (map E.view entries.old.items) ≡ None → ⊥ }
 {
     let Ok(entry) = E::parse(words) else {
         return Err(AddError::Outside);
@@ -76,10 +80,16 @@ fn push_entries<E: Entry>(
     requires volume { IsVolumeSize size }
     requires few { count ≤ 42 }
     requires good { AreGood E.order E.IsEntry E.target size (map E.view entries.old.items) }
-    ensures ok { OnOk result ((next : ℕ) (es : List (E.Key × E.Stored)) → SpellsBlock E.words_of E.IsEntry block.now next es → length es ≡ count → map E.view entries.new.items ≡ map E.view entries.old.items ++ es) }
+    ensures ok { OnOk result ((next : ℕ) (es : List (E.Key × E.Stored))
+        → SpellsBlock E.words_of E.IsEntry block.now next es → length es ≡ count
+        → map E.view entries.new.items ≡ map E.view entries.old.items ++ es) }
     ensures good { OnOk result (AreGood E.order E.IsEntry E.target size (map E.view entries.new.items)) }
-    ensures outside { IsErrOf result Outside → (next : ℕ) (es : List (E.Key × E.Stored)) → SpellsBlock E.words_of E.IsEntry block.now next es → length es ≡ count → AllByRecursion (λ e. InSpace size (E.target e)) es → ⊥ }
-    ensures again { IsErrOf result Again → (next : ℕ) (es : List (E.Key × E.Stored)) → SpellsBlock E.words_of E.IsEntry block.now next es → length es ≡ count → EachOnce E.order (map E.view entries.old.items ++ es) → ⊥ }
+    ensures outside { IsErrOf result Outside → (next : ℕ) (es : List (E.Key × E.Stored))
+        → SpellsBlock E.words_of E.IsEntry block.now next es → length es ≡ count
+        → AllByRecursion (λ e. InSpace size (E.target e)) es → ⊥ }
+    ensures again { IsErrOf result Again → (next : ℕ) (es : List (E.Key × E.Stored))
+        → SpellsBlock E.words_of E.IsEntry block.now next es → length es ≡ count
+        → EachOnce E.order (map E.view entries.old.items ++ es) → ⊥ }
 {
     for i in 0..count {
         push_entry(entry_words(block, i), size, entries)?;
@@ -96,8 +106,10 @@ fn add_block<E: Entry>(
 ) -> Result<u32, DirectoryError>
     requires volume { IsVolumeSize size }
     requires good { AreGood E.order E.IsEntry E.target size (map E.view entries.old.items) }
-    ensures ok { IfOk result (λ next. Adds E.order E.words_of E.IsEntry E.target size block.now next (map E.view entries.old.items) (map E.view entries.new.items)) }
-    ensures bad { (k : ℕ) → IsErrOf result (BadDirectory k) → (k ≡ n) × IsBadWords E.order E.words_of E.IsEntry E.target size block.now (map E.view entries.old.items) }
+    ensures ok { IfOk result (λ next. Adds E.order E.words_of E.IsEntry E.target size block.now next
+        (map E.view entries.old.items) (map E.view entries.new.items)) }
+    ensures bad { (k : ℕ) → IsErrOf result (BadDirectory k)
+        → (k ≡ n) × IsBadWords E.order E.words_of E.IsEntry E.target size block.now (map E.view entries.old.items) }
     ensures twice { (k : ℕ) → IsErrOf result (BlockTwice k) → ⊥ }
     ensures device { IsErrOf result Device → ⊥ }
 {
@@ -125,7 +137,8 @@ fn add_block<E: Entry>(
 fn read_block<D: Disk>(disk: &mut D, n: u32) -> Result<Block, DirectoryError>
     requires { n < (D.state disk.old).size }
     ensures words { (D.state disk.new).honest → IfOk result (λ block. (D.state disk.old).contents n ≡ Some block) }
-    ensures bad { (D.state disk.new).honest → (k : ℕ) → IsErrOf result (BadDirectory k) → (k ≡ n) × ((D.state disk.old).contents n ≡ None) }
+    ensures bad { (D.state disk.new).honest → (k : ℕ) → IsErrOf result (BadDirectory k)
+        → (k ≡ n) × ((D.state disk.old).contents n ≡ None) }
     ensures named { (k : ℕ) → IsErrOf result (BadDirectory k) → k ≡ n }
     ensures twice { (k : ℕ) → IsErrOf result (BlockTwice k) → ⊥ }
     ensures memory { IsErrOf result NoMemory → ⊥ }
@@ -151,18 +164,25 @@ fn read_on<E: Entry, D: Disk>(
     blocks: &mut Vec<u32>,
     entries: &mut Vec<E>,
 ) -> Result<u32, DirectoryError>
+    // What the caller sees to.
     requires size { size ≡ (D.state disk.old).size }
     requires volume { IsVolumeSize size }
     requires inside { n < size }
     requires marks { length reached.old ≡ size }
     requires good { AreGood E.order E.IsEntry E.target size (map E.view entries.old.items) }
-    ensures ok { IfOk result (λ next. ReadsOn E.order E.words_of E.IsEntry E.target size (D.state disk.new).honest (D.state disk.old).contents n next (map E.view entries.old.items) (map E.view entries.new.items)) }
+    // What was read of the block, and its mark.
+    ensures ok { IfOk result (λ next. ReadsOn E.order E.words_of E.IsEntry E.target size (D.state disk.new).honest
+        (D.state disk.old).contents n next (map E.view entries.old.items) (map E.view entries.new.items)) }
     ensures blocks { IfOk result (λ next. blocks.new.items ≡ blocks.old.items ++ n ∷ []) }
     ensures fresh { IfOk result (λ next. flag_at reached.old n ≡ false) }
     ensures marked { reached.new ≡ slice_set reached.old n true }
-    ensures bad { (D.state disk.new).honest → (k : ℕ) → IsErrOf result (BadDirectory k) → (k ≡ n) × IsBadAt E.order E.words_of E.IsEntry E.target size (D.state disk.old).contents n (map E.view entries.old.items) }
+    // Which refusal comes when.
+    ensures bad { (D.state disk.new).honest → (k : ℕ) → IsErrOf result (BadDirectory k)
+        → (k ≡ n) × IsBadAt E.order E.words_of E.IsEntry E.target size (D.state disk.old).contents n
+        (map E.view entries.old.items) }
     ensures named { (k : ℕ) → IsErrOf result (BadDirectory k) → k ≡ n }
     ensures twice { (k : ℕ) → IsErrOf result (BlockTwice k) → (k ≡ n) × (flag_at reached.old n ≡ true) }
+    // The device: what failed, and how often.
     ensures reads { (D.state disk.new).honest → OnlyReads (D.state disk.old) (D.state disk.new) }
     ensures same { SameDisk (D.state disk.old) (D.state disk.new) }
     ensures failed { IsErrOf result Device → (D.state disk.new).failures ≡ one_more (D.state disk.old).failures }
@@ -204,26 +224,44 @@ impl<E: Entry> Chain<E> {
         first: u32,
         reached: &mut Reached,
     ) -> Result<Self, DirectoryError>
+        // What the caller sees to.
         requires volume { IsVolumeSize (D.state disk.old).size }
         requires first { InSpace (D.state disk.old).size first }
         requires marks { length reached.old ≡ (D.state disk.old).size }
-        ensures on { (D.state disk.new).honest → IfOk result (λ chain. IsOn E.words_of (D.state disk.old).contents (viewed E.view chain)) }
-        ensures walk { (D.state disk.new).honest → IfOk result (λ chain. Leads E.words_of (D.state disk.old).contents first (nodes_of chain.blocks (map E.view chain.entries)) 0) }
+        // The chain that was read, as the disk spells it.
+        ensures on { (D.state disk.new).honest
+            → IfOk result (λ chain. IsOn E.words_of (D.state disk.old).contents (viewed E.view chain)) }
+        ensures walk { (D.state disk.new).honest
+            → IfOk result (λ chain. Leads E.words_of (D.state disk.old).contents first
+            (nodes_of chain.blocks (map E.view chain.entries)) 0) }
         ensures first { IfOk result (λ chain. head_or_zero chain.blocks ≡ first) }
         ensures chain { IfOk result (λ chain. IsChain E.order E.IsEntry (viewed E.view chain)) }
+        // It lies in the free space, and its blocks are marked.
         ensures inside { IfOk result (λ chain. AllByRecursion (InSpace (D.state disk.old).size) chain.blocks) }
-        ensures targets { IfOk result (λ chain. AllByRecursion (λ e. InSpace (D.state disk.old).size (E.target e)) (map E.view chain.entries)) }
-        ensures marked { IfOk result (λ chain. (n : ℕ) → digit_at reached.new n ≡ digit_at reached.old n + times n chain.blocks) }
+        ensures targets { IfOk result (λ chain. AllByRecursion (λ e. InSpace (D.state disk.old).size (E.target e))
+            (map E.view chain.entries)) }
+        ensures marked { IfOk result (λ chain. (n : ℕ)
+            → digit_at reached.new n ≡ digit_at reached.old n + times n chain.blocks) }
         ensures length { length reached.new ≡ length reached.old }
-        ensures bad { (D.state disk.new).honest → (k : ℕ) → IsErrOf result (BadDirectory k) → IsBadChain E.order E.words_of E.IsEntry E.target (D.state disk.old).size (D.state disk.old).contents first k }
-        ensures twice { (D.state disk.new).honest → (k : ℕ) → IsErrOf result (BlockTwice k) → IsTwiceInChain E.words_of (D.state disk.old).contents reached.old first k }
-        ensures whole { (D.state disk.new).honest → (nodes : List (Node (E.Key × E.Stored))) → IsWholeChain E.order E.words_of E.IsEntry E.target (D.state disk.old).size (D.state disk.old).contents reached.old first nodes
+        // Which refusal comes when.
+        ensures bad { (D.state disk.new).honest → (k : ℕ) → IsErrOf result (BadDirectory k)
+            → IsBadChain E.order E.words_of E.IsEntry E.target (D.state disk.old).size
+            (D.state disk.old).contents first k }
+        ensures twice { (D.state disk.new).honest → (k : ℕ) → IsErrOf result (BlockTwice k)
+            → IsTwiceInChain E.words_of (D.state disk.old).contents reached.old first k }
+        ensures whole { (D.state disk.new).honest → (nodes : List (Node (E.Key × E.Stored)))
+            → IsWholeChain E.order E.words_of E.IsEntry E.target (D.state disk.old).size
+            (D.state disk.old).contents reached.old first nodes
             → (k : ℕ) → IsErrOf result (BadDirectory k) → ⊥ }
-        ensures once { (D.state disk.new).honest → (nodes : List (Node (E.Key × E.Stored))) → IsWholeChain E.order E.words_of E.IsEntry E.target (D.state disk.old).size (D.state disk.old).contents reached.old first nodes
+        ensures once { (D.state disk.new).honest → (nodes : List (Node (E.Key × E.Stored)))
+            → IsWholeChain E.order E.words_of E.IsEntry E.target (D.state disk.old).size
+            (D.state disk.old).contents reached.old first nodes
             → (k : ℕ) → IsErrOf result (BlockTwice k) → ⊥ }
 
         // Whatever the disk answers, a block that is named lies in the free space.
-        ensures named { (k : ℕ) → IsErrOf result (BadDirectory k) ⊎ IsErrOf result (BlockTwice k) → InSpace (D.state disk.old).size k }
+        ensures named { (k : ℕ) → IsErrOf result (BadDirectory k) ⊎ IsErrOf result (BlockTwice k)
+            → InSpace (D.state disk.old).size k }
+        // The device: what failed, and how often.
         ensures reads { (D.state disk.new).honest → OnlyReads (D.state disk.old) (D.state disk.new) }
         ensures same { SameDisk (D.state disk.old) (D.state disk.new) }
         ensures failed { IsErrOf result Device → (D.state disk.new).failures ≡ one_more (D.state disk.old).failures }

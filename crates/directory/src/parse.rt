@@ -29,8 +29,10 @@ fn is_entry<E: Entry>(words: [Word; 3]) -> bool
 /// Whether a block has so many entries.
 fn are_entries<E: Entry>(block: &Block, count: usize) -> bool
     requires { count ≤ 42 }
-    ensures yes { IsTrue result → (es : List (E.Key × E.Stored)) × (length es ≡ count) × SpellsEntries E.words_of E.IsEntry (take (3 * count) (drop 2 block.now)) es }
-    ensures no { (es : List (E.Key × E.Stored)) → length es ≡ count → SpellsEntries E.words_of E.IsEntry (take (3 * count) (drop 2 block.now)) es → IsTrue result }
+    ensures yes { IsTrue result → (es : List (E.Key × E.Stored)) × (length es ≡ count)
+        × SpellsEntries E.words_of E.IsEntry (take (3 * count) (drop 2 block.now)) es }
+    ensures no { (es : List (E.Key × E.Stored)) → length es ≡ count
+        → SpellsEntries E.words_of E.IsEntry (take (3 * count) (drop 2 block.now)) es → IsTrue result }
 {
     for i in 0..count {
         if !is_entry::<E>(entry_words(block, i)) {
@@ -42,8 +44,10 @@ fn are_entries<E: Entry>(block: &Block, count: usize) -> bool
 
 /// Whether the words of a block are those of a directory block.
 pub fn is_directory_block<E: Entry>(block: &Block) -> bool
-    ensures yes { IsTrue result → (next : ℕ) × (es : List (E.Key × E.Stored)) × SpellsBlock E.words_of E.IsEntry block.now next es }
-    ensures no { (next : ℕ) (es : List (E.Key × E.Stored)) → SpellsBlock E.words_of E.IsEntry block.now next es → IsTrue result }
+    ensures yes { IsTrue result → (next : ℕ) × (es : List (E.Key × E.Stored))
+        × SpellsBlock E.words_of E.IsEntry block.now next es }
+    ensures no { (next : ℕ) (es : List (E.Key × E.Stored)) → SpellsBlock E.words_of E.IsEntry block.now next es
+        → IsTrue result }
 {
     let count = block[1].bits();
     if count > BLOCK_ENTRIES as u64 {

@@ -1,4 +1,5 @@
-ghost use Rattle.std.specs.Prelude.{◌≡◌, ◌+◌, ◌*◌, ◌-◌, ◌<◌, ◌≤◌, ◌++◌, ◌∷◌, [], ℕ, length, map, slice_set, option_to_list, MatchOption, Some, None, IfSome, IfNone, IfOk, IfErr};
+ghost use Rattle.std.specs.Prelude.{◌≡◌, ◌+◌, ◌*◌, ◌-◌, ◌<◌, ◌≤◌, ◌++◌, ◌∷◌, [], ℕ, length, map, slice_set};
+ghost use Rattle.std.specs.Prelude.{option_to_list, MatchOption, Some, None, IfSome, IfNone, IfOk, IfErr};
 ghost use Rattle.std.specs.FinMap.Entries.{find};
 ghost use Rattle.changeset.specs.Puts.{most_puts};
 ghost use Rattle.meaning.specs.Maps.{times, from_entries, insert};
@@ -61,7 +62,8 @@ impl<E: Entry> Chain<E> {
     ///
     /// `NoMemory` where the copies find no memory.
     pub fn reserve_for(&self, alloc: Global, entry: &E) -> Result<Reserve<E>, DirectoryError>
-        ensures reserve { IfOk result (λ reserve. IsReserve E.order (viewed E.view self.now) (E.view entry.now).0 (viewed E.view reserve)) }
+        ensures reserve { IfOk result (λ reserve. IsReserve E.order (viewed E.view self.now) (E.view entry.now).0
+            (viewed E.view reserve)) }
         ensures err { IfErr result (λ error. error ≡ NoMemory) }
     {
         let mut blocks = Vec::new(alloc);
@@ -86,13 +88,17 @@ impl<E: Entry> Chain<E> {
         set: &mut ChangeSet,
     )
         requires reserve { IsReserve E.order (viewed E.view self.old) (E.view entry).0 (viewed E.view reserve) }
-        requires fresh { TakesBlock E.order (viewed E.view self.old) (E.view entry).0 → (n : ℕ) × (fresh ≡ Some n) × (times n self.old.blocks ≡ 0) }
+        requires fresh { TakesBlock E.order (viewed E.view self.old) (E.view entry).0 → (n : ℕ) × (fresh ≡ Some n)
+            × (times n self.old.blocks ≡ 0) }
         requires puts { length set.old + 2 ≤ most_puts }
 
         ensures items { map E.view self.new.entries ≡ inserted E.order (map E.view self.old.entries) (E.view entry) }
-        ensures kept { (TakesBlock E.order (viewed E.view self.old) (E.view entry).0 → ⊥) → self.new.blocks ≡ self.old.blocks }
-        ensures grown { (n : ℕ) → TakesBlock E.order (viewed E.view self.old) (E.view entry).0 → fresh ≡ Some n → self.new.blocks ≡ self.old.blocks ++ n ∷ [] }
-        ensures map { from_entries {R = E.order} (map E.view self.new.entries) ≡ insert (from_entries (map E.view self.old.entries)) (E.view entry).0 (E.view entry).1 }
+        ensures kept { (TakesBlock E.order (viewed E.view self.old) (E.view entry).0 → ⊥)
+            → self.new.blocks ≡ self.old.blocks }
+        ensures grown { (n : ℕ) → TakesBlock E.order (viewed E.view self.old) (E.view entry).0 → fresh ≡ Some n
+            → self.new.blocks ≡ self.old.blocks ++ n ∷ [] }
+        ensures map { from_entries {R = E.order} (map E.view self.new.entries)
+            ≡ insert (from_entries (map E.view self.old.entries)) (E.view entry).0 (E.view entry).1 }
 
         ensures put { PutsChain E.words_of (viewed E.view self.old) (viewed E.view self.new) set.old set.new }
         ensures few { length set.new ≤ length set.old + 2 }
@@ -115,7 +121,8 @@ impl<E: Entry> Chain<E> {
     )
         requires absent { find E.order (E.view entry).0 (map E.view self.old.entries) ≡ None }
         requires reserve { IsReserve E.order (viewed E.view self.old) (E.view entry).0 (viewed E.view reserve) }
-        requires block { MatchOption block (length self.old.entries ≡ 42 * length self.old.blocks → ⊥) (λ n. (length self.old.entries ≡ 42 * length self.old.blocks) × (times n self.old.blocks ≡ 0)) }
+        requires block { MatchOption block (length self.old.entries ≡ 42 * length self.old.blocks
+            → ⊥) (λ n. (length self.old.entries ≡ 42 * length self.old.blocks) × (times n self.old.blocks ≡ 0)) }
         requires puts { length set.old + 2 ≤ most_puts }
         ensures entries { map E.view self.new.entries ≡ map E.view self.old.entries ++ E.view entry ∷ [] }
         ensures blocks { self.new.blocks ≡ self.old.blocks ++ option_to_list block }

@@ -87,9 +87,13 @@ fn read_back<S: SystemCalls>(
     back: &mut [u8],
 ) -> Result<(), Fault>
     requires long { length back.old ≡ length bytes.now }
-    requires inside { IsHonestRecord (unseen_of (calls_of file.old)) (S.history (system_of (calls_of file.old))) → at + length bytes.now ≤ size_of (unseen_of (calls_of file.old)) }
-    ensures same { IsHonestRecord (unseen_of (calls_of file.new)) (S.history (system_of (calls_of file.new))) → OnOk result (back.new ≡ bytes.now) }
-    ensures closed { IsHonestRecord (unseen_of (calls_of file.new)) (S.history (system_of (calls_of file.new))) → OnOk result ((p : ℕ) → (after_calls (unseen_of (calls_of file.new)) (S.history (system_of (calls_of file.new)))).is_open p ≡ false) }
+    requires inside { IsHonestRecord (unseen_of (calls_of file.old)) (S.history (system_of (calls_of file.old)))
+        → at + length bytes.now ≤ size_of (unseen_of (calls_of file.old)) }
+    ensures same { IsHonestRecord (unseen_of (calls_of file.new)) (S.history (system_of (calls_of file.new)))
+        → OnOk result (back.new ≡ bytes.now) }
+    ensures closed { IsHonestRecord (unseen_of (calls_of file.new)) (S.history (system_of (calls_of file.new)))
+        → OnOk result ((p : ℕ) → (after_calls (unseen_of (calls_of file.new))
+        (S.history (system_of (calls_of file.new)))).is_open p ≡ false) }
 {
     file.write_at(at, bytes)?;
     file.sync()?;

@@ -175,7 +175,8 @@ fn expect_bytes(rt: &impl Abort, memory: &mut MemFile, bytes: &[u8]) {
     assert!(rt; bytes == wanted.as_slice());
 }
 
-/// A real file and one in memory that begin with the same bytes answer alike, call by call, and end with the same bytes.
+/// A real file and one in memory that begin with the same bytes answer alike, call by call, and end with the same
+/// bytes.
 #[test]
 fn a_real_file_and_one_in_memory(rt: HostRuntime) -> Result<(), Fail> {
     let mut bytes = [0; LENGTH];

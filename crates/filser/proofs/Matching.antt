@@ -1,8 +1,10 @@
 -- From what `clap` matched to what is asked for.
-use Rattle.std.proofs.Common.{◌≡◌, ◌≤◌, ◌<◌, ◌^◌, ◌∙◌, sym, ap, subst, refl, List, ℕ, length, codes, Option, Some, None, Err, arith, true, inl, inr}
+use Rattle.std.proofs.Common.{◌≡◌, ◌≤◌, ◌<◌, ◌^◌, ◌∙◌, sym, ap, subst, refl, List, ℕ, length, codes, Option, Some, None}
+use Rattle.std.proofs.Common.{Err, arith, true, inl, inr}
 use Rattle.std.specs.Prelude.{[], option_map, MatchOption, IsErrOf}
 use Rattle.std.specs.Str.Parse.{IsNumeral, digits_value, without_leading_plus}
-use Rattle.clap.specs.Words.{Text, Row, App, one_of, first_value, one_text, rows_of, is_simple, kind_of, fault_of, is_simple_and_free, HasKind, IsAmong, HasMatchesOf, subcommand_of, subcommand_rows_of}
+use Rattle.clap.specs.Words.{Text, Row, App, one_of, first_value, one_text, rows_of, is_simple, kind_of, fault_of}
+use Rattle.clap.specs.Words.{is_simple_and_free, HasKind, IsAmong, HasMatchesOf, subcommand_of, subcommand_rows_of}
 use Rattle.clap.specs.declared.parser.matches.ArgMatches.{ArgMatches}
 use Rattle.clap.specs.declared.parser.matches.Found.{Found}
 use Rattle.clap.specs.declared.error.Error.{Error}
@@ -34,7 +36,8 @@ some_is_none x e = cc
 same_some : {X : Type 0} (x y : X) → Some x ≡ Some y → x ≡ y
 same_some x y e = cc
 
-pub text_matched : {X : Type 0} (f : Found) (id : Text) (now : X → Text) (result : Option X) → option_map now result ≡ first_value f id
+pub text_matched : {X : Type 0} (f : Found) (id : Text) (now : X → Text) (result : Option X)
+    → option_map now result ≡ first_value f id
     → MatchOption result ((t : Text) → HasText (rows_of f) id t → ⊥) (λ t. HasText (rows_of f) id (now t))
 text_matched f id now None e = λ t has. some_is_none t (sym has ∙ sym (first_value-rows f id) ∙ sym e)
 text_matched f id now (Some t) e = sym (e ∙ first_value-rows f id)
@@ -44,35 +47,49 @@ abbrev pub Parsed : Option Text → Option ℕ → Type 0
 Parsed text None = (t : Text) (n : ℕ) → text ≡ Some t → n < 2 ^ 32 → Spells t n → ⊥
 Parsed text (Some n) = (t : Text) × (text ≡ Some t) × Spells t n
 
-parsed_some : (text : Option Text) (n : ℕ) → (text ≡ None → Some n ≡ None) → ((t : Text) → text ≡ Some t → (IsNumeral 10 (without_leading_plus t) × (digits_value 10 (without_leading_plus t) < 2 ^ 32)) × (n ≡ digits_value 10 (without_leading_plus t))) → Parsed text (Some n)
+parsed_some : (text : Option Text) (n : ℕ) → (text ≡ None → Some n ≡ None)
+    → ((t : Text) → text ≡ Some t → (IsNumeral 10 (without_leading_plus t)
+    × (digits_value 10 (without_leading_plus t) < 2 ^ 32)) × (n ≡ digits_value 10 (without_leading_plus t)))
+    → Parsed text (Some n)
 parsed_some None n gone read = absurd (some_is_none n (gone refl))
 parsed_some (Some t) n gone read = (t, refl, ((read t refl).0.0, sym (read t refl).1))
 
-parsed_none : (text : Option Text) → ((t : Text) → text ≡ Some t → IsNumeral 10 (without_leading_plus t) × (digits_value 10 (without_leading_plus t) < 2 ^ 32) → ⊥) → Parsed text None
-parsed_none text refused t n is small spells = refused t is (spells.0, (let P : ℕ → Type 0 = λ k. k < 2 ^ 32 in subst P (sym spells.1) small))
+parsed_none : (text : Option Text) → ((t : Text) → text ≡ Some t → IsNumeral 10 (without_leading_plus t)
+    × (digits_value 10 (without_leading_plus t) < 2 ^ 32) → ⊥) → Parsed text None
+parsed_none text refused t n is small spells = refused t is
+    (spells.0, (let P : ℕ → Type 0 = λ k. k < 2 ^ 32 in subst P (sym spells.1) small))
 
 -- the text that `get_one` reads is that of the row
-pub read_some : (f : Found) (id : Text) (n : ℕ) → (one_text f id ≡ None → Some n ≡ None) → ((t : Text) → one_text f id ≡ Some t → (IsNumeral 10 (without_leading_plus t) × (digits_value 10 (without_leading_plus t) < 2 ^ 32)) × (n ≡ digits_value 10 (without_leading_plus t))) → Parsed (one_of id (rows_of f)) (Some n)
+pub read_some : (f : Found) (id : Text) (n : ℕ) → (one_text f id ≡ None → Some n ≡ None)
+    → ((t : Text) → one_text f id ≡ Some t
+    → (IsNumeral 10 (without_leading_plus t) × (digits_value 10 (without_leading_plus t) < 2 ^ 32))
+    × (n ≡ digits_value 10 (without_leading_plus t))) → Parsed (one_of id (rows_of f)) (Some n)
 read_some f id n gone read =
     let P : Option Text → Type 0 = λ text. Parsed text (Some n) in
     subst P (one_text-rows f id) (parsed_some (one_text f id) n gone read)
 
-pub read_none : (f : Found) (id : Text) → ((t : Text) → one_text f id ≡ Some t → IsNumeral 10 (without_leading_plus t) × (digits_value 10 (without_leading_plus t) < 2 ^ 32) → ⊥) → Parsed (one_of id (rows_of f)) None
+pub read_none : (f : Found) (id : Text) → ((t : Text) → one_text f id ≡ Some t → IsNumeral 10 (without_leading_plus t)
+    × (digits_value 10 (without_leading_plus t) < 2 ^ 32) → ⊥) → Parsed (one_of id (rows_of f)) None
 read_none f id refused =
     let P : Option Text → Type 0 = λ text. Parsed text None in
     subst P (one_text-rows f id) (parsed_none (one_text f id) refused)
 
-pub number_in_range : (rows : List Row) (id : Text) (least most n : ℕ) → Parsed (one_of id rows) (Some n) → least ≤ n → n ≤ most → HasNumber rows id least most n
+pub number_in_range : (rows : List Row) (id : Text) (least most n : ℕ) → Parsed (one_of id rows) (Some n)
+    → least ≤ n → n ≤ most → HasNumber rows id least most n
 number_in_range rows id least most n parsed above below = (parsed, above, below)
 
-pub no_number : (rows : List Row) (id : Text) (least most : ℕ) → most < 2 ^ 32 → Parsed (one_of id rows) None → (n : ℕ) → HasNumber rows id least most n → ⊥
+pub no_number : (rows : List Row) (id : Text) (least most : ℕ) → most < 2 ^ 32 → Parsed (one_of id rows) None
+    → (n : ℕ) → HasNumber rows id least most n → ⊥
 no_number rows id least most fits parsed n has = parsed has.0.0 n has.0.1 (omega (arith, fits, has.2)) has.0.2
 
-one_spelled : (text : Option Text) (m n : ℕ) → Parsed text (Some m) → ((t : Text) × (text ≡ Some t) × Spells t n) → m ≡ n
+one_spelled : (text : Option Text) (m n : ℕ) → Parsed text (Some m) → ((t : Text) × (text ≡ Some t) × Spells t n)
+    → m ≡ n
 one_spelled text m n parsed has =
-    sym parsed.2.1 ∙ ap (λ t. digits_value 10 (without_leading_plus t)) (same_some parsed.0 has.0 (sym parsed.1 ∙ has.1)) ∙ has.2.1
+    sym parsed.2.1
+    ∙ ap (λ t. digits_value 10 (without_leading_plus t)) (same_some parsed.0 has.0 (sym parsed.1 ∙ has.1)) ∙ has.2.1
 
-pub out_of_range : (rows : List Row) (id : Text) (least most m : ℕ) → Parsed (one_of id rows) (Some m) → (least ≤ m → m ≤ most → ⊥) → (n : ℕ) → HasNumber rows id least most n → ⊥
+pub out_of_range : (rows : List Row) (id : Text) (least most m : ℕ) → Parsed (one_of id rows) (Some m)
+    → (least ≤ m → m ≤ most → ⊥) → (n : ℕ) → HasNumber rows id least most n → ⊥
 out_of_range rows id least most m parsed outside n has =
     let same = sym (one_spelled (one_of id rows) m n parsed has.0) in
     let above : least ≤ m = (let P : ℕ → Type 0 = λ k. least ≤ k in subst P same has.1) in
@@ -94,31 +111,36 @@ init_is_not_calls name = differ name (codes "init") (codes "calls") 4 5 refl ref
 run_is_not_calls : (name : Text) → name ≡ codes "run" → name ≡ codes "calls" → ⊥
 run_is_not_calls name = differ name (codes "run") (codes "calls") 3 5 refl refl (λ e. omega arith)
 
-pub no_init : (name : Text) (rows : List Row) → name ≡ codes "init" → ((n : ℕ) → HasNumber rows (codes "BLOCKS") 64 131072 n → ⊥) → (r : Request) → IsAsked name rows r → ⊥
+pub no_init : (name : Text) (rows : List Row) → name ≡ codes "init"
+    → ((n : ℕ) → HasNumber rows (codes "BLOCKS") 64 131072 n → ⊥) → (r : Request) → IsAsked name rows r → ⊥
 no_init name rows is none Fresh asked = asked
 no_init name rows is none (Init image blocks) asked = none blocks asked.2
 no_init name rows is none (Run image date minute) asked = init_is_not_run name is asked.0
 no_init name rows is none (Calls image date minute) asked = init_is_not_calls name is asked.0
 
-pub no_date : (name : Text) (rows : List Row) → name ≡ codes "run" → ((n : ℕ) → HasNumber rows (codes "date") 0 32767 n → ⊥) → (r : Request) → IsAsked name rows r → ⊥
+pub no_date : (name : Text) (rows : List Row) → name ≡ codes "run"
+    → ((n : ℕ) → HasNumber rows (codes "date") 0 32767 n → ⊥) → (r : Request) → IsAsked name rows r → ⊥
 no_date name rows is none Fresh asked = asked
 no_date name rows is none (Init image blocks) asked = init_is_not_run name asked.0 is
 no_date name rows is none (Run image date minute) asked = none date asked.2
 no_date name rows is none (Calls image date minute) asked = run_is_not_calls name is asked.0
 
-pub no_minute : (name : Text) (rows : List Row) → name ≡ codes "run" → ((n : ℕ) → HasNumber rows (codes "minute") 0 1439 n → ⊥) → (r : Request) → IsAsked name rows r → ⊥
+pub no_minute : (name : Text) (rows : List Row) → name ≡ codes "run"
+    → ((n : ℕ) → HasNumber rows (codes "minute") 0 1439 n → ⊥) → (r : Request) → IsAsked name rows r → ⊥
 no_minute name rows is none Fresh asked = asked
 no_minute name rows is none (Init image blocks) asked = init_is_not_run name asked.0 is
 no_minute name rows is none (Run image date minute) asked = none minute asked.3
 no_minute name rows is none (Calls image date minute) asked = run_is_not_calls name is asked.0
 
-pub no_date_of_calls : (name : Text) (rows : List Row) → name ≡ codes "calls" → ((n : ℕ) → HasNumber rows (codes "date") 0 32767 n → ⊥) → (r : Request) → IsAsked name rows r → ⊥
+pub no_date_of_calls : (name : Text) (rows : List Row) → name ≡ codes "calls"
+    → ((n : ℕ) → HasNumber rows (codes "date") 0 32767 n → ⊥) → (r : Request) → IsAsked name rows r → ⊥
 no_date_of_calls name rows is none Fresh asked = asked
 no_date_of_calls name rows is none (Init image blocks) asked = init_is_not_calls name asked.0 is
 no_date_of_calls name rows is none (Run image date minute) asked = run_is_not_calls name asked.0 is
 no_date_of_calls name rows is none (Calls image date minute) asked = none date asked.2
 
-pub no_minute_of_calls : (name : Text) (rows : List Row) → name ≡ codes "calls" → ((n : ℕ) → HasNumber rows (codes "minute") 0 1439 n → ⊥) → (r : Request) → IsAsked name rows r → ⊥
+pub no_minute_of_calls : (name : Text) (rows : List Row) → name ≡ codes "calls"
+    → ((n : ℕ) → HasNumber rows (codes "minute") 0 1439 n → ⊥) → (r : Request) → IsAsked name rows r → ⊥
 no_minute_of_calls name rows is none Fresh asked = asked
 no_minute_of_calls name rows is none (Init image blocks) asked = init_is_not_calls name asked.0 is
 no_minute_of_calls name rows is none (Run image date minute) asked = run_is_not_calls name asked.0 is
@@ -129,34 +151,42 @@ no_minute_of_calls name rows is none (Calls image date minute) asked = none minu
 same_error : (x y : RequestError) → IsErrOf {T = Request} {E = RequestError} (Err x) y → x ≡ y
 same_error x y e = cc
 
-pub of_usage : (app : App) (words : List Text) (error e : Error) (refused : RequestError) → app ≡ command_line → (is_simple_and_free app ≡ true → HasKind (fault_of app words) error)
+pub of_usage : (app : App) (words : List Text) (error e : Error) (refused : RequestError) → app ≡ command_line
+    → (is_simple_and_free app ≡ true → HasKind (fault_of app words) error)
     → ((u : Error) → refused ≡ Usage u → (error ≡ u) × (kind_of error ≡ OutOfMemory → ⊥))
-    → IsErrOf {T = Request} {E = RequestError} (Err refused) (Usage e) → IsAmong (kind_of e) (fault_of command_line words)
+    → IsErrOf {T = Request} {E = RequestError} (Err refused) (Usage e)
+    → IsAmong (kind_of e) (fault_of command_line words)
 of_usage app words error e refused is fails shows same =
     let free : is_simple_and_free app ≡ true = ap is_simple_and_free is ∙ line-free in
     let kept = shows e (same_error refused (Usage e) same) in
     let P : App → Type 0 = λ a. IsAmong (kind_of error) (fault_of a words) in
     let Q : Error → Type 0 = λ x. IsAmong (kind_of x) (fault_of command_line words) in
-    let among : IsAmong (kind_of error) (fault_of app words) = elim (fails free) as (λ h. IsAmong (kind_of error) (fault_of app words)) [
+    let among : IsAmong (kind_of error) (fault_of app words) = elim (fails free) as (λ h.
+    IsAmong (kind_of error) (fault_of app words)) [
       | inl memory ↦ absurd (kept.1 memory)
       | inr found ↦ found
     ] in
     subst Q kept.0 (subst P is among)
 
-pub of_taken : (app : App) (words : List Text) → app ≡ command_line → (is_simple_and_free app ≡ true → fault_of app words ≡ []) → fault_of command_line words ≡ []
+pub of_taken : (app : App) (words : List Text) → app ≡ command_line
+    → (is_simple_and_free app ≡ true → fault_of app words ≡ []) → fault_of command_line words ≡ []
 of_taken app words is taken =
     sym (ap (λ a. fault_of a words) is) ∙ taken (ap is_simple_and_free is ∙ line-free)
 
-pub of_matches : (app : App) (words : List Text) (m : ArgMatches) → app ≡ command_line → HasMatchesOf app words m → subcommand_rows_of m ≡ subcommand_of command_line words
+pub of_matches : (app : App) (words : List Text) (m : ArgMatches) → app ≡ command_line → HasMatchesOf app words m
+    → subcommand_rows_of m ≡ subcommand_of command_line words
 of_matches app words m is has =
     (has (ap is_simple is ∙ line-simple)).1 ∙ ap (λ a. subcommand_of a words) is
 
-pub of_found : (app : App) (words : List Text) (m : ArgMatches) (r : Request) → app ≡ command_line → HasMatchesOf app words m → Asks (subcommand_rows_of m) r → Asks (subcommand_of command_line words) r
+pub of_found : (app : App) (words : List Text) (m : ArgMatches) (r : Request) → app ≡ command_line
+    → HasMatchesOf app words m → Asks (subcommand_rows_of m) r → Asks (subcommand_of command_line words) r
 of_found app words m r is has asks =
     let P : Option (Text × List Row) → Type 0 = λ found. Asks found r in
     subst P (of_matches app words m is has) asks
 
-pub of_none : (app : App) (words : List Text) (m : ArgMatches) → app ≡ command_line → HasMatchesOf app words m → ((r : Request) → Asks (subcommand_rows_of m) r → ⊥) → (r : Request) → Asks (subcommand_of command_line words) r → ⊥
+pub of_none : (app : App) (words : List Text) (m : ArgMatches) → app ≡ command_line → HasMatchesOf app words m
+    → ((r : Request) → Asks (subcommand_rows_of m) r → ⊥) → (r : Request) → Asks (subcommand_of command_line words) r
+    → ⊥
 of_none app words m is has none r asks =
     let P : Option (Text × List Row) → Type 0 = λ found. Asks found r in
     none r (subst P (sym (of_matches app words m is has)) asks)

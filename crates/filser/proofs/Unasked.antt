@@ -13,7 +13,8 @@ use Rattle.filser.specs.declared.status.Status.TheVariants.{Done, BadArguments, 
 pub ends_mistaken : (kinds : Kinds) (error : RequestError) (s : Status) → EndsUnasked error s
     → ((e : Error) → IsErrOf {T = Request} {E = RequestError} (Err error) (Usage e) → IsAmong (kind_of e) kinds)
     → AreMistaken kinds → (s ≡ BadArguments) ⊎ (s ≡ Fault)
-ends_mistaken kinds (Usage e) s ends usage mistaken = inl (ends.1 (λ shown. mistaken.1 (kind_of e) (usage e refl) shown))
+ends_mistaken kinds (Usage e) s ends usage mistaken = inl
+    (ends.1 (λ shown. mistaken.1 (kind_of e) (usage e refl) shown))
 ends_mistaken kinds BadArgument s ends usage mistaken = inl ends
 ends_mistaken kinds NoMemory s ends usage mistaken = inr ends
 

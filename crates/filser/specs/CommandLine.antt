@@ -13,7 +13,12 @@ numbered id least most = record (wanted id) { parser = Some (vp.Signed (pos leas
 
 -- a number from 0 on that may be left out, and is 0 then
 abbrev pub optional : Text → ℕ → Rule
-optional id most = record (new_rule id) { long = Some id; value_names = 1; defaults = codes "0" ∷ []; parser = Some (vp.Signed (pos 0) (pos most)) }
+optional id most = record (new_rule id) {
+  long = Some id;
+  value_names = 1;
+  defaults = codes "0" ∷ [];
+  parser = Some (vp.Signed (pos 0) (pos most));
+}
 
 unfoldable pub init_app : App
 init_app = with_rule (with_rule (new_app (codes "init")) (wanted (codes "IMAGE"))) (numbered (codes "BLOCKS") 64 131072)

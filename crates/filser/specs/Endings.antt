@@ -13,7 +13,8 @@ abbrev pub IsShown : ErrorKind → Type 0
 IsShown kind = (kind ≡ DisplayHelp) ⊎ (kind ≡ DisplayVersion)
 
 abbrev pub EndsUnasked : RequestError → Status → Type 0
-EndsUnasked (Usage e) s = (IsShown (kind_of e) → (s ≡ Done) ⊎ (s ≡ Fault)) × ((IsShown (kind_of e) → ⊥) → s ≡ BadArguments)
+EndsUnasked (Usage e) s = (IsShown (kind_of e) → (s ≡ Done) ⊎ (s ≡ Fault))
+    × ((IsShown (kind_of e) → ⊥) → s ≡ BadArguments)
 EndsUnasked BadArgument s = s ≡ BadArguments
 EndsUnasked NoMemory s = s ≡ Fault
 

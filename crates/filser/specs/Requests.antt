@@ -15,7 +15,8 @@ Spells text n = IsNumeral 10 (without_leading_plus text) × (digits_value 10 (wi
 
 -- the number of an argument, from one to another
 abbrev pub HasNumber : List Row → Text → ℕ → ℕ → ℕ → Type 0
-HasNumber rows id least most n = ((text : Text) × (one_of id rows ≡ Some text) × Spells text n) × (least ≤ n) × (n ≤ most)
+HasNumber rows id least most n = ((text : Text) × (one_of id rows ≡ Some text) × Spells text n) × (least ≤ n)
+    × (n ≤ most)
 
 abbrev pub IsAsked : Text → List Row → Request → Type 0
 IsAsked name rows Fresh = ⊥

@@ -33,11 +33,13 @@ IsEnding status (Err error) = status ≡ Fault
 
 -- the refusal is printed, and the status is its own, unless the writer failed
 abbrev pub IsSaid : Option (List ℕ) → Option (List ℕ) → Status → Refusal → Type 0
-IsSaid sink full status refusal = (status ≡ Fault) ⊎ ((status_code status ≡ refusal_code refusal) × Appends sink full (refusal_text refusal ++ feed ∷ []))
+IsSaid sink full status refusal = (status ≡ Fault)
+    ⊎ ((status_code status ≡ refusal_code refusal) × Appends sink full (refusal_text refusal ++ feed ∷ []))
 
--- A service was started from these files with nobody logged in, and went from its first value to its last as `IsTranscript`
--- says; the disk of the last is what is handed back.
-pub record IsServed {D : Type 0} (state : D → DiskState) (disk end : D) (status : Status) (files : Files File) (IsTranscript : MonitorState D → MonitorState D → Result Tally SessionError → Type 0) : Type 0 where
+-- A service was started from these files with nobody logged in, and went from its first value to its last as
+-- `IsTranscript` says; the disk of the last is what is handed back.
+pub record IsServed {D : Type 0} (state : D → DiskState) (disk end : D) (status : Status) (files : Files File)
+    (IsTranscript : MonitorState D → MonitorState D → Result Tally SessionError → Type 0) : Type 0 where
   pub first : MonitorState D
   pub last : MonitorState D
   pub result : Result Tally SessionError
@@ -49,7 +51,8 @@ pub record IsServed {D : Type 0} (state : D → DiskState) (disk end : D) (statu
   pub ended : end ≡ last.disk
 
 -- None was started, for want of memory or for a fault of the device, as is said, and a crash left the same files.
-pub record IsUnserved {D : Type 0} (state : D → DiskState) (disk end : D) (status : Status) (sink full : Option (List ℕ)) : Type 0 where
+pub record IsUnserved {D : Type 0} (state : D → DiskState) (disk end : D) (status : Status)
+    (sink full : Option (List ℕ)) : Type 0 where
   pub error : VolumeError
   pub why : (error ≡ NoMemory) ⊎ (error ≡ Device)
   pub said : IsSaid sink full status (Start error)

@@ -51,7 +51,8 @@ impl HostFault {
     }
 }
 
-/// Why an image isn't served: the line that is printed, with the status, and what the host has to do with it, if it has.
+/// Why an image isn't served: the line that is printed, with the status, and what the host has to do with it, if it
+/// has.
 #[derive(Clone, Copy, Debug)]
 pub struct ImageFault {
     /// What is printed.

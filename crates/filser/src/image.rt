@@ -78,7 +78,8 @@ fn claim<E: Write>(file: &File, path: &str, errors: &mut E) -> Result<(), ImageF
 /// `NotVolume` where its length is not that of an image, `Device` where the device failed.
 pub(crate) fn image_in(file: File, supposed: Supposition) -> Result<Image, ImageFault>
     requires { IsApart file }
-    ensures holds { IfOk result (λ image. HoldsFile (unseen_in supposed) (⟦<ImageDisk<HostFile> as Disk>⟧.state image)) }
+    ensures holds { IfOk result
+        (λ image. HoldsFile (unseen_in supposed) (⟦<ImageDisk<HostFile> as Disk>⟧.state image)) }
     ensures refused { IfErr result (λ fault. IsFileRefusal fault.refusal) }
 {
     match ImageDisk::new(HostFile::from_file(file, supposed)) {

@@ -67,7 +67,8 @@ fn answer<F: Files<File = File>, R: Read, W: Write, E: Write>(
     writer: &mut W,
     errors: &mut E,
 ) -> Status
-    ensures mistaken { AreMistaken (fault_of command_line (map (λ w. w.now) words.now)) → (result ≡ BadArguments) ⊎ (result ≡ Fault) }
+    ensures mistaken { AreMistaken (fault_of command_line (map (λ w. w.now) words.now))
+        → (result ≡ BadArguments) ⊎ (result ≡ Fault) }
     ensures shown { AskToSee (fault_of command_line (map (λ w. w.now) words.now)) → (result ≡ Done) ⊎ (result ≡ Fault) }
     ensures asked { (r : Asked) → Asks (subcommand_of command_line (map (λ w. w.now) words.now)) r
         → fault_of command_line (map (λ w. w.now) words.now) ≡ [] → result ≢ BadArguments }
@@ -175,8 +176,10 @@ fn refuse_image<W: Write, E: Write>(
     errors: &mut E,
 ) -> Status
     ensures serving { result ≢ BadArguments }
-    ensures unsaid { IfSome fault.host (λ host. forbids_output host ≡ true → W.contents writer.new ≡ W.contents writer.old) }
-    ensures untold { IfSome fault.host (λ host. forbids_errors host ≡ true → E.contents errors.new ≡ E.contents errors.old) }
+    ensures unsaid { IfSome fault.host (λ host. forbids_output host ≡ true
+        → W.contents writer.new ≡ W.contents writer.old) }
+    ensures untold { IfSome fault.host (λ host. forbids_errors host ≡ true
+        → E.contents errors.new ≡ E.contents errors.old) }
 {
     let Some(host) = fault.host else {
         return say(writer, fault.refusal);

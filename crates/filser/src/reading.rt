@@ -1,5 +1,7 @@
-ghost use Rattle.std.specs.Prelude.{◌≡◌, ◌≤◌, List, ℕ, [], map, codes, IfOk, MatchOption, option_map, IsErrOf, Err, Some};
-ghost use Rattle.clap.specs.Words.{Row, found_of, rows_of, first_of, subcommand_of, subcommand_rows_of, fault_of, kind_of, IsAmong};
+ghost use Rattle.std.specs.Prelude.{◌≡◌, ◌≤◌, List, ℕ, [], map, codes, IfOk, MatchOption, option_map, IsErrOf, Err};
+ghost use Rattle.std.specs.Prelude.{Some};
+ghost use Rattle.clap.specs.Words.{Row, found_of, rows_of, first_of, subcommand_of, subcommand_rows_of, fault_of};
+ghost use Rattle.clap.specs.Words.{kind_of, IsAmong};
 ghost use Rattle.clap.specs.declared.error.Error.{Error as ClapError};
 ghost use Rattle.clap.specs.declared.error.kind.ErrorKind.TheVariants.{OutOfMemory};
 ghost use Rattle.filser.specs.CommandLine.{command_line};
@@ -23,7 +25,8 @@ pub fn request<'a>(alloc: Global, words: &'a [&'a str]) -> Result<Request<'a>, R
     ensures asked { IfOk result (λ r. Asks (subcommand_of command_line (map (λ w. w.now) words.entry.now)) r) }
     ensures range { IfOk result InRange }
     ensures taken { IfOk result (λ _. fault_of command_line (map (λ w. w.now) words.entry.now) ≡ []) }
-    ensures usage { (e : ClapError) → IsErrOf result (Usage e) → IsAmong (kind_of e) (fault_of command_line (map (λ w. w.now) words.entry.now)) }
+    ensures usage { (e : ClapError) → IsErrOf result (Usage e)
+        → IsAmong (kind_of e) (fault_of command_line (map (λ w. w.now) words.entry.now)) }
     ensures bad { IsErrOf result BadArgument → (fault_of command_line (map (λ w. w.now) words.entry.now) ≡ [])
         × ((r : Asked) → Asks (subcommand_of command_line (map (λ w. w.now) words.entry.now)) r → ⊥) }
 {
@@ -53,7 +56,8 @@ fn refusal(error: Error) -> RequestError
 
 /// What the matches ask for.
 fn matched<'a>(matches: &ArgMatches<'a>) -> Option<Request<'a>>
-    ensures { MatchOption result ((r : Asked) → Asks (subcommand_rows_of matches.entry.now) r → ⊥) (λ r. Asks (subcommand_rows_of matches.entry.now) r) }
+    ensures { MatchOption result ((r : Asked) → Asks (subcommand_rows_of matches.entry.now) r
+        → ⊥) (λ r. Asks (subcommand_rows_of matches.entry.now) r) }
 {
     match matches.subcommand() {
         Some((name, inner)) => subcommand(name, inner),
@@ -63,7 +67,8 @@ fn matched<'a>(matches: &ArgMatches<'a>) -> Option<Request<'a>>
 
 /// What a subcommand with its matches asks for.
 fn subcommand<'a>(name: &'a str, matches: &ArgMatches<'a>) -> Option<Request<'a>>
-    ensures { MatchOption result ((r : Asked) → IsAsked name.entry.now (rows_of (found_of matches.entry.now)) r → ⊥) (IsAsked name.entry.now (rows_of (found_of matches.entry.now))) }
+    ensures { MatchOption result ((r : Asked) → IsAsked name.entry.now (rows_of (found_of matches.entry.now)) r
+        → ⊥) (IsAsked name.entry.now (rows_of (found_of matches.entry.now))) }
 {
     let image = text(matches, "IMAGE")?;
     match name {
@@ -82,14 +87,16 @@ fn subcommand<'a>(name: &'a str, matches: &ArgMatches<'a>) -> Option<Request<'a>
 
 /// The text of an argument.
 fn text<'a>(matches: &ArgMatches<'a>, id: &str) -> Option<&'a str>
-    ensures { MatchOption result ((t : List ℕ) → HasText (rows_of (found_of matches.now)) id.now t → ⊥) (λ t. HasText (rows_of (found_of matches.now)) id.now t.now) }
+    ensures { MatchOption result ((t : List ℕ) → HasText (rows_of (found_of matches.now)) id.now t
+        → ⊥) (λ t. HasText (rows_of (found_of matches.now)) id.now t.now) }
 {
     matches.get_str(id)
 }
 
 /// The number of an argument, where it lies in its range.
 fn number(matches: &ArgMatches, id: &str, least: u32, most: u32) -> Option<u32>
-    ensures { MatchOption result ((n : ℕ) → HasNumber (rows_of (found_of matches.now)) id.now least most n → ⊥) (HasNumber (rows_of (found_of matches.now)) id.now least most) }
+    ensures { MatchOption result ((n : ℕ) → HasNumber (rows_of (found_of matches.now)) id.now least most n
+        → ⊥) (HasNumber (rows_of (found_of matches.now)) id.now least most) }
 {
     match matches.get_one::<u32>(id) {
         Some(n) if least <= n && n <= most => Some(n),

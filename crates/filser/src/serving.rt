@@ -79,8 +79,11 @@ pub(crate) fn serve<D: Disk + Drop, R: Read, W: Write>(
     ensures serving { result.0 ≢ BadArguments }
     ensures was_honest { (D.state result.1).honest → (D.state disk).honest }
     // Where the disk has been honest up to the end, and stood for some files: these are served, or nothing is.
-    ensures served { (D.state result.1).honest → (files : Files StoredFile) → Stands (D.state disk).size (D.state disk).contents files
-        → IsServed D.state disk result.1 result.0 files (λ first last. Session (R.remaining reader.old) (R.remaining reader.new) (W.contents writer.old) (W.contents writer.new) (machine_over D.state) first last moment)
+    ensures served { (D.state result.1).honest → (files : Files StoredFile)
+        → Stands (D.state disk).size (D.state disk).contents files
+        → IsServed D.state disk result.1 result.0 files
+        (λ first last. Session (R.remaining reader.old) (R.remaining reader.new) (W.contents writer.old)
+        (W.contents writer.new) (machine_over D.state) first last moment)
         ⊎ IsUnserved D.state disk result.1 result.0 (W.contents writer.old) (W.contents writer.new) }
 {
     match Monitor::start(alloc, disk) {
@@ -104,8 +107,11 @@ pub(crate) fn serve_calls<D: Disk + Drop, R: Read, W: Write>(
     ensures serving { result.0 ≢ BadArguments }
     ensures was_honest { (D.state result.1).honest → (D.state disk).honest }
     // Where the disk has been honest up to the end, and stood for some files: these are served, or nothing is.
-    ensures served { (D.state result.1).honest → (files : Files StoredFile) → Stands (D.state disk).size (D.state disk).contents files
-        → IsServed D.state disk result.1 result.0 files (λ first last. Script (R.remaining reader.old) (R.remaining reader.new) (W.contents writer.old) (W.contents writer.new) (machine_over D.state) first last moment)
+    ensures served { (D.state result.1).honest → (files : Files StoredFile)
+        → Stands (D.state disk).size (D.state disk).contents files
+        → IsServed D.state disk result.1 result.0 files
+        (λ first last. Script (R.remaining reader.old) (R.remaining reader.new) (W.contents writer.old)
+        (W.contents writer.new) (machine_over D.state) first last moment)
         ⊎ IsUnserved D.state disk result.1 result.0 (W.contents writer.old) (W.contents writer.new) }
 {
     match Monitor::start(alloc, disk) {
@@ -135,10 +141,14 @@ pub(crate) fn serve_file<R: Read, W: Write>(
     requires { IsApart file }
     ensures serving { IfOk result (λ done. done.0 ≢ BadArguments) }
     ensures refused { IfErr result (λ fault. IsFileRefusal fault.refusal) }
-    ensures served { IfOk result (λ done. (⟦<ImageDisk<HostFile> as Disk>⟧.state done.1).honest → (blocks : ℕ) (files : Files StoredFile) → size_of (unseen_in supposed) ≡ 1024 * blocks
+    ensures served { IfOk result (λ done. (⟦<ImageDisk<HostFile> as Disk>⟧.state done.1).honest
+        → (blocks : ℕ) (files : Files StoredFile) → size_of (unseen_in supposed) ≡ 1024 * blocks
         → Stands blocks (image_contents (first_bytes (unseen_in supposed))) files
-        → (image : _) × (IsServed (⟦<ImageDisk<HostFile> as Disk>⟧.state) image done.1 done.0 files (λ first last. Session (R.remaining reader.old) (R.remaining reader.new) (W.contents writer.old) (W.contents writer.new) (machine_over (⟦<ImageDisk<HostFile> as Disk>⟧.state)) first last moment)
-        ⊎ IsUnserved (⟦<ImageDisk<HostFile> as Disk>⟧.state) image done.1 done.0 (W.contents writer.old) (W.contents writer.new))) }
+        → (image : _) × (IsServed (⟦<ImageDisk<HostFile> as Disk>⟧.state) image done.1 done.0 files
+        (λ first last. Session (R.remaining reader.old) (R.remaining reader.new) (W.contents writer.old)
+        (W.contents writer.new) (machine_over (⟦<ImageDisk<HostFile> as Disk>⟧.state)) first last moment)
+        ⊎ IsUnserved (⟦<ImageDisk<HostFile> as Disk>⟧.state) image done.1 done.0 (W.contents writer.old)
+        (W.contents writer.new))) }
 {
     let image = image_in(file, supposed)?;
     Ok(serve(alloc, image, moment, reader, writer))
@@ -162,10 +172,14 @@ pub(crate) fn serve_calls_in_file<R: Read, W: Write>(
     requires { IsApart file }
     ensures serving { IfOk result (λ done. done.0 ≢ BadArguments) }
     ensures refused { IfErr result (λ fault. IsFileRefusal fault.refusal) }
-    ensures served { IfOk result (λ done. (⟦<ImageDisk<HostFile> as Disk>⟧.state done.1).honest → (blocks : ℕ) (files : Files StoredFile) → size_of (unseen_in supposed) ≡ 1024 * blocks
+    ensures served { IfOk result (λ done. (⟦<ImageDisk<HostFile> as Disk>⟧.state done.1).honest
+        → (blocks : ℕ) (files : Files StoredFile) → size_of (unseen_in supposed) ≡ 1024 * blocks
         → Stands blocks (image_contents (first_bytes (unseen_in supposed))) files
-        → (image : _) × (IsServed (⟦<ImageDisk<HostFile> as Disk>⟧.state) image done.1 done.0 files (λ first last. Script (R.remaining reader.old) (R.remaining reader.new) (W.contents writer.old) (W.contents writer.new) (machine_over (⟦<ImageDisk<HostFile> as Disk>⟧.state)) first last moment)
-        ⊎ IsUnserved (⟦<ImageDisk<HostFile> as Disk>⟧.state) image done.1 done.0 (W.contents writer.old) (W.contents writer.new))) }
+        → (image : _) × (IsServed (⟦<ImageDisk<HostFile> as Disk>⟧.state) image done.1 done.0 files
+        (λ first last. Script (R.remaining reader.old) (R.remaining reader.new) (W.contents writer.old)
+        (W.contents writer.new) (machine_over (⟦<ImageDisk<HostFile> as Disk>⟧.state)) first last moment)
+        ⊎ IsUnserved (⟦<ImageDisk<HostFile> as Disk>⟧.state) image done.1 done.0 (W.contents writer.old)
+        (W.contents writer.new))) }
 {
     let image = image_in(file, supposed)?;
     Ok(serve_calls(alloc, image, moment, reader, writer))

@@ -3,7 +3,8 @@
 ghost use Rattle.std.specs.Prelude.{◌≡◌, IfOk, codes, false};
 ghost use Rattle.clap.specs.Words.{app_of, rule_of, with_rule, with_subcommand};
 ghost use Rattle.clap.specs.declared.builder.command.Command.TheViews.{out-Command as fields_of};
-ghost use Rattle.filser.specs.CommandLine.{calls_app, command_line, dated, init_app, numbered, optional, run_app, served, versioned, wanted};
+ghost use Rattle.filser.specs.CommandLine.{calls_app, command_line, dated, init_app, numbered, optional, run_app};
+ghost use Rattle.filser.specs.CommandLine.{served, versioned, wanted};
 
 use clap::{Arg, Command};
 use std::alloc::{AllocError, Global};

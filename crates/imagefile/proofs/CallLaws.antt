@@ -1,8 +1,12 @@
 -- What one more call makes of a record, and a call at a place.
-use Rattle.std.proofs.Common.{◌≡◌, inl, inr, ⊎_elim, ℕ, zero, suc, ◌+◌, ◌-◌, ◌<◌, ◌≤◌, ◌||◌, true, false, List, ◌∷◌, length, get_or, take, Option, Some, None, Result, Ok, Err, IfOk, OnErr, is_ok, refl, sym, ◌∙◌, ap, subst, arith, length-take, unwrap_or}
-use Rattle.std.proofs.lemmas.Bool.{leb-true, le-leb, and_parts, and_from, or_left, cond-true, cond-false, false_from_ne_true}
+use Rattle.std.proofs.Common.{◌≡◌, inl, inr, ⊎_elim, ℕ, zero, suc, ◌+◌, ◌-◌, ◌<◌, ◌≤◌, ◌||◌, true, false, List, ◌∷◌}
+use Rattle.std.proofs.Common.{length, get_or, take, Option, Some, None, Result, Ok, Err, IfOk, OnErr, is_ok, refl, sym}
+use Rattle.std.proofs.Common.{◌∙◌, ap, subst, arith, length-take, unwrap_or}
+use Rattle.std.proofs.lemmas.Bool.{leb-true, le-leb, and_parts, and_from, or_left, cond-true, cond-false}
+use Rattle.std.proofs.lemmas.Bool.{false_from_ne_true}
 use Rattle.std.proofs.lemmas.List.{get_or-take}
-use Rattle.imagefile.specs.File.{Bytes, MayRemain, Inside, window, FilePasses, FileKeeps, FileWrites, FileSyncs, FileFails}
+use Rattle.imagefile.specs.File.{Bytes, MayRemain, Inside, window, FilePasses, FileKeeps, FileWrites, FileSyncs}
+use Rattle.imagefile.specs.File.{FileFails}
 use Rattle.imagefile.specs.Calls.{Call, SeekStart, SeekEnd, Read, Write, Sync, answer, came}
 use Rattle.imagefile.specs.Unseen.{Unseen, left_by}
 use Rattle.imagefile.specs.Recorded.{is_inside, bytes_after, after_calls, IsHonestRecord, recorded}
@@ -13,7 +17,8 @@ use Rattle.imagefile.proofs.Record.{window-list}
 
 inside_is : (at n p : ℕ) → is_inside at n p ≡ true → Inside at n p
 unfolding is_inside
-inside_is at n p is = let both = and_parts _ _ is in record { low = leb-true _ _ both.0; high = omega (arith, leb-true _ _ both.1) }
+inside_is at n p is = let both = and_parts _ _ is in
+    record { low = leb-true _ _ both.0; high = omega (arith, leb-true _ _ both.1) }
 
 is_inside-of : (at n p : ℕ) → Inside at n p → is_inside at n p ≡ true
 unfolding is_inside
@@ -33,24 +38,29 @@ module _ (at : ℕ) (given : List ℕ) (count : ℕ) (left b : Bytes) where
   given_there : (p : ℕ) → Inside at count p → bytes_after at given count left b p ≡ get_or given (p - at) 0
   given_there p inside = cond-true (is_inside at count p) _ _ (is_inside-of at count p inside)
 
-  others_stay : count ≤ length given → (p : ℕ) → (Inside at (length given) p → ⊥) → bytes_after at given count left b p ≡ b p
+  others_stay : count ≤ length given → (p : ℕ) → (Inside at (length given) p → ⊥)
+      → bytes_after at given count left b p ≡ b p
   others_stay few p out =
-      cond-false (is_inside at count p) _ _ (not_inside at count p (λ inside. out (record { low = inside.low; high = omega (arith, few, inside.high) })))
+      cond-false (is_inside at count p) _ _
+      (not_inside at count p (λ inside. out (record { low = inside.low; high = omega (arith, few, inside.high) })))
       ∙ cond-false (is_inside at (length given) p) _ _ (not_inside at (length given) p out)
 
   pub given_read : count ≤ length given → window (bytes_after at given count left b) at count ≡ take count given
   given_read few =
       let part = take count given in
       let long : length part ≡ count = omega (arith, length-take count given, few) in
-      sym (ap (window (bytes_after at given count left b) at) long) ∙ window-list (bytes_after at given count left b) at part (λ i less.
+      sym (ap (window (bytes_after at given count left b) at) long)
+      ∙ window-list (bytes_after at given count left b) at part (λ i less.
       let inside : i < count = omega (arith, less, long) in
       let back : at + i - at ≡ i = omega arith in
-      given_there (at + i) (record { low = omega arith; high = omega (arith, inside) }) ∙ ap (λ k. get_or given k 0) back ∙ sym (get_or-take count given i 0 inside))
+      given_there (at + i) (record { low = omega arith; high = omega (arith, inside) })
+      ∙ ap (λ k. get_or given k 0) back ∙ sym (get_or-take count given i 0 inside))
 
 -- One more call
 
 module _ (u : Unseen) (earlier : List Call) where
-  passes_call : (call : Call) → FilePasses (recorded u earlier) (recorded u (call ∷ earlier)) (MayRemain (recorded u (call ∷ earlier)))
+  passes_call : (call : Call)
+      → FilePasses (recorded u earlier) (recorded u (call ∷ earlier)) (MayRemain (recorded u (call ∷ earlier)))
   passes_call call = record {
     later = omega arith;
     nothing_else = λ t r le left. ⊎_elim (λ was. inl was) (λ new. inr new.1) left;
@@ -58,18 +68,21 @@ module _ (u : Unseen) (earlier : List Call) where
     keeps = λ t r le left. inl left;
   }
 
-  pub keeps_seek_start : (at : ℕ) (place : Option ℕ) → FileKeeps (recorded u earlier) (recorded u (SeekStart at place ∷ earlier))
+  pub keeps_seek_start : (at : ℕ) (place : Option ℕ)
+      → FileKeeps (recorded u earlier) (recorded u (SeekStart at place ∷ earlier))
   keeps_seek_start at place = record { bytes = λ p. refl; is_open = λ p. refl; time = passes_call (SeekStart at place) }
 
   pub keeps_seek_end : (place : Option ℕ) → FileKeeps (recorded u earlier) (recorded u (SeekEnd place ∷ earlier))
   keeps_seek_end place = record { bytes = λ p. refl; is_open = λ p. refl; time = passes_call (SeekEnd place) }
 
-  keeps_read : (asked : ℕ) (bytes : Option (List ℕ)) → FileKeeps (recorded u earlier) (recorded u (Read asked bytes ∷ earlier))
+  keeps_read : (asked : ℕ) (bytes : Option (List ℕ))
+      → FileKeeps (recorded u earlier) (recorded u (Read asked bytes ∷ earlier))
   keeps_read asked bytes = record { bytes = λ p. refl; is_open = λ p. refl; time = passes_call (Read asked bytes) }
 
   pub fails_sync : FileFails (recorded u earlier) (recorded u (Sync false ∷ earlier))
   fails_sync = record {
-    bytes = λ p closed. cond-false ((after_calls u earlier).is_open p) (left_by u (length earlier) p) ((after_calls u earlier).bytes p) closed;
+    bytes = λ p closed. cond-false ((after_calls u earlier).is_open p) (left_by u (length earlier) p)
+        ((after_calls u earlier).bytes p) closed;
     is_open = λ p. refl;
     time = passes_call (Sync false);
   }
@@ -77,20 +90,25 @@ module _ (u : Unseen) (earlier : List Call) where
   pub syncs_sync : FileSyncs (recorded u earlier) (recorded u (Sync true ∷ earlier))
   syncs_sync = record { bytes = λ p. refl; closed = λ p. refl; time = passes_call (Sync true) }
 
-  writes_write : (at : ℕ) (given : List ℕ) (count : Option ℕ) → unwrap_or (after_calls u earlier).position 0 ≡ at → unwrap_or count 0 ≤ length given
+  writes_write : (at : ℕ) (given : List ℕ) (count : Option ℕ) → unwrap_or (after_calls u earlier).position 0 ≡ at
+      → unwrap_or count 0 ≤ length given
       → FileWrites at (length given) (recorded u earlier) (recorded u (Write given count ∷ earlier))
   writes_write at given count here few =
       let to = unwrap_or (after_calls u earlier).position 0 in
       let b = after_calls u earlier in
       record {
-        bytes = λ p out. others_stay to given (unwrap_or count 0) (left_by u (length earlier)) b.bytes few p (λ inside. out (subst (λ k. Inside k (length given) p) here inside));
-        opened = λ p inside. or_left (is_inside to (length given) p) (b.is_open p) (is_inside-of to (length given) p (subst (λ k. Inside k (length given) p) (sym here) inside));
-        is_open = λ p out. ap (λ o. o || b.is_open p) (not_inside to (length given) p (λ inside. out (subst (λ k. Inside k (length given) p) here inside)));
+        bytes = λ p out. others_stay to given (unwrap_or count 0) (left_by u (length earlier)) b.bytes few p
+            (λ inside. out (subst (λ k. Inside k (length given) p) here inside));
+        opened = λ p inside. or_left (is_inside to (length given) p) (b.is_open p)
+            (is_inside-of to (length given) p (subst (λ k. Inside k (length given) p) (sym here) inside));
+        is_open = λ p out. ap (λ o. o || b.is_open p)
+            (not_inside to (length given) p (λ inside. out (subst (λ k. Inside k (length given) p) here inside)));
         time = passes_call (Write given count);
       }
 
 -- a sync, as it answered
-pub failed_said : {E : Type 0} (u : Unseen) (earlier : List Call) (result : Result (Unit {0}) E) → OnErr result (FileFails (recorded u earlier) (recorded u (Sync (is_ok result) ∷ earlier)))
+pub failed_said : {E : Type 0} (u : Unseen) (earlier : List Call) (result : Result (Unit {0}) E)
+    → OnErr result (FileFails (recorded u earlier) (recorded u (Sync (is_ok result) ∷ earlier)))
 failed_said u earlier (Ok done) = tt
 failed_said u earlier (Err error) = fails_sync u earlier
 
@@ -100,40 +118,55 @@ same_place : (place at : ℕ) → Some place ≡ Some at → place ≡ at
 same_place place at is = cc
 
 module _ (u : Unseen) (at place : ℕ) (earlier : List Call) where
-  pub keeps_read_at : (asked : ℕ) (bytes : Option (List ℕ)) → FileKeeps (recorded u earlier) (recorded u (Read asked bytes ∷ SeekStart at (Some place) ∷ earlier))
-  keeps_read_at asked bytes = keeps_on _ _ _ (keeps_seek_start u earlier at (Some place)) (keeps_read u (SeekStart at (Some place) ∷ earlier) asked bytes)
+  pub keeps_read_at : (asked : ℕ) (bytes : Option (List ℕ))
+      → FileKeeps (recorded u earlier) (recorded u (Read asked bytes ∷ SeekStart at (Some place) ∷ earlier))
+  keeps_read_at asked bytes = keeps_on _ _ _ (keeps_seek_start u earlier at (Some place))
+      (keeps_read u (SeekStart at (Some place) ∷ earlier) asked bytes)
 
-  pub read_is : (asked count : ℕ) (buffer : List ℕ) → count ≤ length buffer → IsHonestRecord u (Read asked (Some (take count buffer)) ∷ SeekStart at (Some place) ∷ earlier)
+  pub read_is : (asked count : ℕ) (buffer : List ℕ) → count ≤ length buffer
+      → IsHonestRecord u (Read asked (Some (take count buffer)) ∷ SeekStart at (Some place) ∷ earlier)
       → take count buffer ≡ window (after_calls u earlier).bytes at count
   read_is asked count buffer few honest =
       let long : length (take count buffer) ≡ count = omega (arith, length-take count buffer, few) in
       let b = (after_calls u earlier).bytes in
-      honest.1.1 ∙ ap (λ p. window b p (length (take count buffer))) (same_place place at honest.0.1) ∙ ap (window b at) long
+      honest.1.1 ∙ ap (λ p. window b p (length (take count buffer))) (same_place place at honest.0.1)
+      ∙ ap (window b at) long
 
-  pub writes_at : (given : List ℕ) (count : Option ℕ) → unwrap_or count 0 ≤ length given → IsHonestRecord u (Write given count ∷ SeekStart at (Some place) ∷ earlier)
-      → FileWrites at (length given) (recorded u earlier) (recorded u (Write given count ∷ SeekStart at (Some place) ∷ earlier))
+  pub writes_at : (given : List ℕ) (count : Option ℕ) → unwrap_or count 0 ≤ length given
+      → IsHonestRecord u (Write given count ∷ SeekStart at (Some place) ∷ earlier)
+      → FileWrites at (length given) (recorded u earlier)
+      (recorded u (Write given count ∷ SeekStart at (Some place) ∷ earlier))
   writes_at given count few honest =
-      writes_after at (length given) _ _ _ (keeps_seek_start u earlier at (Some place)) (writes_write u (SeekStart at (Some place) ∷ earlier) at given count (same_place place at honest.0.1) few)
+      writes_after at (length given) _ _ _ (keeps_seek_start u earlier at (Some place))
+      (writes_write u (SeekStart at (Some place) ∷ earlier) at given count (same_place place at honest.0.1) few)
 
-  pub put_at : (given : List ℕ) (count : ℕ) → count ≤ length given → IsHonestRecord u (Write given (Some count) ∷ SeekStart at (Some place) ∷ earlier)
-      → window (after_calls u (Write given (Some count) ∷ SeekStart at (Some place) ∷ earlier)).bytes at count ≡ take count given
+  pub put_at : (given : List ℕ) (count : ℕ) → count ≤ length given
+      → IsHonestRecord u (Write given (Some count) ∷ SeekStart at (Some place) ∷ earlier)
+      → window (after_calls u (Write given (Some count) ∷ SeekStart at (Some place) ∷ earlier)).bytes at count
+      ≡ take count given
   put_at given count few honest =
       let left = left_by u (length (SeekStart at (Some place) ∷ earlier)) in
       let b = (after_calls u earlier).bytes in
-      subst (λ (p : ℕ). window (bytes_after p given count left b) at count ≡ take count given) (sym (same_place place at honest.0.1)) (given_read at given count left b few)
+      subst (λ (p : ℕ). window (bytes_after p given count left b) at count ≡ take count given)
+      (sym (same_place place at honest.0.1)) (given_read at given count left b few)
 
 module _ {E : Type 0} (u : Unseen) (at place : ℕ) (earlier : List Call) where
-  pub read_said : (asked : ℕ) (result : Result ℕ E) (buffer : List ℕ) → IfOk result (λ count. count ≤ length buffer) → IsHonestRecord u (Read asked (came result buffer) ∷ SeekStart at (Some place) ∷ earlier)
+  pub read_said : (asked : ℕ) (result : Result ℕ E) (buffer : List ℕ) → IfOk result (λ count. count ≤ length buffer)
+      → IsHonestRecord u (Read asked (came result buffer) ∷ SeekStart at (Some place) ∷ earlier)
       → IfOk result (λ count. take count buffer ≡ window (after_calls u earlier).bytes at count)
   read_said asked (Ok count) buffer few honest = read_is u at place earlier asked count buffer few honest
   read_said asked (Err error) buffer few honest = tt
 
-  pub write_said : (result : Result ℕ E) (given : List ℕ) → IfOk result (λ count. count ≤ length given) → IsHonestRecord u (Write given (answer result) ∷ SeekStart at (Some place) ∷ earlier)
-      → IfOk result (λ count. window (after_calls u (Write given (answer result) ∷ SeekStart at (Some place) ∷ earlier)).bytes at count ≡ take count given)
+  pub write_said : (result : Result ℕ E) (given : List ℕ) → IfOk result (λ count. count ≤ length given)
+      → IsHonestRecord u (Write given (answer result) ∷ SeekStart at (Some place) ∷ earlier)
+      → IfOk result (λ count. window (after_calls u (Write given (answer result) ∷ SeekStart at (Some place)
+      ∷ earlier)).bytes at count ≡ take count given)
   write_said (Ok count) given few honest = put_at u at place earlier given count few honest
   write_said (Err error) given few honest = tt
 
-  pub writes_said : (result : Result ℕ E) (given : List ℕ) → IfOk result (λ count. count ≤ length given) → IsHonestRecord u (Write given (answer result) ∷ SeekStart at (Some place) ∷ earlier)
-      → FileWrites at (length given) (recorded u earlier) (recorded u (Write given (answer result) ∷ SeekStart at (Some place) ∷ earlier))
+  pub writes_said : (result : Result ℕ E) (given : List ℕ) → IfOk result (λ count. count ≤ length given)
+      → IsHonestRecord u (Write given (answer result) ∷ SeekStart at (Some place) ∷ earlier)
+      → FileWrites at (length given) (recorded u earlier)
+      (recorded u (Write given (answer result) ∷ SeekStart at (Some place) ∷ earlier))
   writes_said (Ok count) given few honest = writes_at u at place earlier given (Some count) few honest
   writes_said (Err error) given few honest = writes_at u at place earlier given None (omega arith) honest

@@ -1,6 +1,9 @@
 -- What a block's bytes hold: its words, or damage, exactly by the format.
-use Rattle.std.proofs.Common.{◌≡◌, ◌∙◌, ◌⊎◌, ◌*◌, ◌/◌, ◌^◌, ◌<◌, ◌≤◌, ◌-◌, ◌==◌, ◌↔◌, ℕ, zero, suc, true, false, List, [], ◌∷◌, All, length, get_or, Some, None, inl, inr, ⊎_elim, refl, sym, ap, arith, length-append}
-use Rattle.std.proofs.lemmas.Bool.{cases_Bool, and_parts, and_from, eqb-true, eq-eqb, eqb-false, cond-true, cond-false, cases_lt}
+use Rattle.std.proofs.Common.{◌≡◌, ◌∙◌, ◌⊎◌, ◌*◌, ◌/◌, ◌^◌, ◌<◌, ◌≤◌, ◌-◌, ◌==◌, ◌↔◌, ℕ, zero, suc, true, false, List}
+use Rattle.std.proofs.Common.{[], ◌∷◌, All, length, get_or, Some, None, inl, inr, ⊎_elim, refl, sym, ap, arith}
+use Rattle.std.proofs.Common.{length-append}
+use Rattle.std.proofs.lemmas.Bool.{cases_Bool, and_parts, and_from, eqb-true, eq-eqb, eqb-false, cond-true, cond-false}
+use Rattle.std.proofs.lemmas.Bool.{cases_lt}
 use Rattle.std.proofs.lemmas.List.{get_or_append_left, get_or-append_right, get_or_past, ext_get_or}
 use Rattle.words36.specs.Words.{IsWord}
 use Rattle.words36.specs.Blocks.{IsBlock, IsFirstBadWord, block_bytes, number_at}
@@ -37,7 +40,8 @@ words_are : (bytes : List ℕ) (n : ℕ) → ((k : ℕ) → k < n → IsWord (nu
 unfolding are_words
 words_are bytes zero each = refl
 words_are bytes (suc n) each =
-    and_from (are_words bytes n) (number_at bytes n / 2 ^ 36 == 0) (words_are bytes n (λ k less. each k (omega arith))) (zero_top (number_at bytes n) (each n (omega arith)))
+    and_from (are_words bytes n) (number_at bytes n / 2 ^ 36 == 0) (words_are bytes n (λ k less. each k (omega arith)))
+    (zero_top (number_at bytes n) (each n (omega arith)))
 
 -- the first place whose word is none, where there is one
 first_bad : (bytes : List ℕ) (n : ℕ) → n ≤ 128 → (are_words bytes n ≡ true) ⊎ ((place : ℕ) × IsFirstBadWord bytes place)
@@ -46,7 +50,14 @@ first_bad bytes zero few = inl refl
 first_bad bytes (suc n) few =
     ⊎_elim
     (λ good. ⊎_elim (λ zero_bits. inl (and_from (are_words bytes n) (number_at bytes n / 2 ^ 36 == 0) good zero_bits))
-    (λ bits. inr (n, record { inside = omega arith; bad = top_set (number_at bytes n) bits; first = words_below bytes n good })) (cases_Bool (number_at bytes n / 2 ^ 36 == 0)))
+    (λ bits. inr (
+      n,
+      record {
+        inside = omega arith;
+        bad = top_set (number_at bytes n) bits;
+        first = words_below bytes n good;
+      },
+    )) (cases_Bool (number_at bytes n / 2 ^ 36 == 0)))
     (λ bad. inr bad) (first_bad bytes n (omega arith))
 
 -- Words
@@ -54,7 +65,11 @@ first_bad bytes (suc n) few =
 length-first_words : (bytes : List ℕ) (n : ℕ) → length (first_words bytes n) ≡ n
 unfolding first_words
 length-first_words bytes zero = refl
-length-first_words bytes (suc n) = omega (arith, length-append (first_words bytes n) (number_at bytes n ∷ []), length-first_words bytes n)
+length-first_words bytes (suc n) = omega (
+  arith,
+  length-append (first_words bytes n) (number_at bytes n ∷ []),
+  length-first_words bytes n,
+)
 
 first_words-at : (bytes : List ℕ) (n k d : ℕ) → k < n → get_or (first_words bytes n) k d ≡ number_at bytes k
 unfolding first_words
@@ -64,11 +79,13 @@ first_words-at bytes zero k d less = absurd (none_below k less)
     none_below k less = omega arith
 first_words-at bytes (suc n) k d less =
     ⊎_elim
-    (λ before. get_or_append_left (first_words bytes n) (number_at bytes n ∷ []) d k (omega (arith, length-first_words bytes n)) ∙ first_words-at bytes n k d before)
+    (λ before. get_or_append_left (first_words bytes n) (number_at bytes n ∷ []) d k
+    (omega (arith, length-first_words bytes n)) ∙ first_words-at bytes n k d before)
     (λ last.
     let here : k ≡ n = omega arith in
     let back : k - n ≡ 0 = omega arith in
-    get_or-append_right (first_words bytes n) (number_at bytes n ∷ []) n k d (length-first_words bytes n) last ∙ ap (λ j. get_or (number_at bytes n ∷ []) j d) back ∙ ap (number_at bytes) (sym here)) (cases_lt k n)
+    get_or-append_right (first_words bytes n) (number_at bytes n ∷ []) n k d (length-first_words bytes n) last
+    ∙ ap (λ j. get_or (number_at bytes n ∷ []) j d) back ∙ ap (number_at bytes) (sym here)) (cases_lt k n)
 
 -- Contents
 
@@ -83,14 +100,17 @@ pub content_block : (words : List ℕ) → IsBlock words → block_content (bloc
 content_block words block = content_good (block_bytes words) (words_are (block_bytes words) 128 each) ∙ ap Some same
   where
     value : (k : ℕ) → k < 128 → number_at (block_bytes words) k ≡ get_or words k 0
-    value k less = number_at-block_bytes words k (omega (arith, block.long)) (block.each k 0 (omega (arith, block.long)))
+    value k less = number_at-block_bytes words k (omega (arith, block.long))
+        (block.each k 0 (omega (arith, block.long)))
 
     each : (k : ℕ) → k < 128 → IsWord (number_at (block_bytes words) k)
     each k less = let word = block.each k 0 (omega (arith, block.long)) in omega (arith, value k less)
 
     same : first_words (block_bytes words) 128 ≡ words
-    same = ext_get_or 0 (first_words (block_bytes words) 128) words (length-first_words (block_bytes words) 128 ∙ sym block.long)
-        (λ i h. let less : i < 128 = omega (arith, length-first_words (block_bytes words) 128) in first_words-at (block_bytes words) 128 i 0 less ∙ value i less)
+    same = ext_get_or 0 (first_words (block_bytes words) 128) words (length-first_words (block_bytes words) 128
+        ∙ sym block.long)
+        (λ i h. let less : i < 128 = omega (arith, length-first_words (block_bytes words) 128) in
+        first_words-at (block_bytes words) 128 i 0 less ∙ value i less)
 
 -- a block that was read
 pub content_read : (words bytes : List ℕ) → IsBlock words → block_bytes words ≡ bytes → block_content bytes ≡ Some words
@@ -99,13 +119,16 @@ content_read words bytes block same = rw (← same) (content_block words block)
 -- a block that is damaged
 pub content_refused : (bytes : List ℕ) (place : ℕ) → IsFirstBadWord bytes place → block_content bytes ≡ None
 content_refused bytes place bad =
-    content_bad bytes (⊎_elim (λ good. absurd (no_word (number_at bytes place) bad.bad (words_below bytes 128 good place bad.inside))) (λ wrong. wrong) (cases_Bool (are_words bytes 128)))
+    content_bad bytes (⊎_elim (λ good.
+    absurd (no_word (number_at bytes place) bad.bad (words_below bytes 128 good place bad.inside))) (λ wrong. wrong)
+    (cases_Bool (are_words bytes 128)))
   where
     no_word : (w : ℕ) → 2 ^ 36 ≤ w → IsWord w → ⊥
     no_word w high low = omega arith
 
 -- what bytes hold is the block that has them
-pub content_is : (words bytes : List ℕ) → ((j : ℕ) → get_or bytes j 0 < 256) → length bytes ≡ 1024 → block_content bytes ≡ Some words → IsBlock words × (block_bytes words ≡ bytes)
+pub content_is : (words bytes : List ℕ) → ((j : ℕ) → get_or bytes j 0 < 256) → length bytes ≡ 1024
+    → block_content bytes ≡ Some words → IsBlock words × (block_bytes words ≡ bytes)
 content_is words bytes small long is = ⊎_elim good bad (cases_Bool (are_words bytes 128))
   where
     is_word : (v w : ℕ) → w ≡ v → IsWord v → IsWord w
@@ -119,12 +142,17 @@ content_is words bytes small long is = ⊎_elim good bad (cases_Bool (are_words 
 
     good : are_words bytes 128 ≡ true → IsBlock words × (block_bytes words ≡ bytes)
     good are =
-        let same : first_words bytes 128 ≡ words = some_words (first_words bytes 128) words (sym (content_good bytes are) ∙ is) in
+        let same : first_words bytes 128
+        ≡ words = some_words (first_words bytes 128) words (sym (content_good bytes are) ∙ is) in
         let block : IsBlock (first_words bytes 128) = record {
           long = length-first_words bytes 128;
-          each = λ i d h. is_word (number_at bytes i) (get_or (first_words bytes 128) i d) (first_words-at bytes 128 i d (omega (arith, length-first_words bytes 128))) (words_below bytes 128 are i (omega (arith, length-first_words bytes 128)));
+          each = λ i d h. is_word (number_at bytes i) (get_or (first_words bytes 128) i d)
+              (first_words-at bytes 128 i d (omega (arith, length-first_words bytes 128)))
+              (words_below bytes 128 are i (omega (arith, length-first_words bytes 128)));
         } in
-        let read : block_bytes (first_words bytes 128) ≡ bytes = block_bytes-read bytes (first_words bytes 128) 128 small (omega (arith, long)) (length-first_words bytes 128)
+        let read : block_bytes (first_words bytes 128)
+        ≡ bytes = block_bytes-read bytes (first_words bytes 128) 128 small (omega (arith, long))
+        (length-first_words bytes 128)
         (record { value = λ k less. first_words-at bytes 128 k 0 less; fits = words_below bytes 128 are }) in
         rw (← same) (block, read)
 
@@ -137,19 +165,27 @@ module _ (b : Bytes) (n at len : ℕ) (bytes : List ℕ) (place : at ≡ 1024 * 
   spelled : bytes ≡ window b at len → image_contents b n ≡ block_content bytes
   spelled is = ap block_content (sym (is ∙ ap (λ k. window b k len) place ∙ ap (window b (1024 * n)) long))
 
-  pub image_read : (words : List ℕ) → bytes ≡ window b at len → IsBlock words → block_bytes words ≡ bytes → image_contents b n ≡ Some words
+  pub image_read : (words : List ℕ) → bytes ≡ window b at len → IsBlock words → block_bytes words ≡ bytes
+      → image_contents b n ≡ Some words
   image_read words is block same = spelled is ∙ content_read words bytes block same
 
-  pub image_refused : (error : WordError) → bytes ≡ window b at len → ((place : ℕ) × (error ≡ BadWord place)) → ((place : ℕ) → (error ≡ BadWord place) → IsFirstBadWord bytes place) → image_contents b n ≡ None
+  pub image_refused : (error : WordError) → bytes ≡ window b at len → ((place : ℕ) × (error ≡ BadWord place))
+      → ((place : ℕ) → (error ≡ BadWord place) → IsFirstBadWord bytes place) → image_contents b n ≡ None
   image_refused error is which bad = spelled is ∙ content_refused bytes which.0 (bad which.0 which.1)
 
-  pub image_put : (words : List ℕ) → window b at len ≡ bytes → bytes ≡ block_bytes words → IsBlock words → image_contents b n ≡ Some words
+  pub image_put : (words : List ℕ) → window b at len ≡ bytes → bytes ≡ block_bytes words → IsBlock words
+      → image_contents b n ≡ Some words
   image_put words is same block = spelled (sym is) ∙ content_read words bytes block (sym same)
 
 -- The law of the format.
 
-pub damaged_exactly : (words bytes : List ℕ) → All (λ byte. byte < 256) bytes → length bytes ≡ 1024 → (block_content bytes ≡ Some words ↔ (IsBlock words × (block_bytes words ≡ bytes)))
-damaged_exactly words bytes each long = (content_is words bytes (λ j. ⊎_elim (λ inside. each j 0 inside) (λ past. small_past j past) (cases_lt j (length bytes))) long, λ (block, same). content_read words bytes block same)
+pub damaged_exactly : (words bytes : List ℕ) → All (λ byte. byte < 256) bytes → length bytes ≡ 1024
+    → (block_content bytes ≡ Some words ↔ (IsBlock words × (block_bytes words ≡ bytes)))
+damaged_exactly words bytes each long = (
+  content_is words bytes (λ j. ⊎_elim (λ inside. each j 0 inside) (λ past. small_past j past)
+      (cases_lt j (length bytes))) long,
+  λ (block, same). content_read words bytes block same,
+)
   where
     small_past : (j : ℕ) → length bytes ≤ j → get_or bytes j 0 < 256
     small_past j past = omega (arith, get_or_past bytes j 0 past)

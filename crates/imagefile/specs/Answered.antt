@@ -25,7 +25,8 @@ IsWithin size SyncAll = Unit {0}
 -- the record after one thing more was asked and answered
 abbrev pub one_answered : Unseen → Asked → List Call → List Call
 one_answered u Measure earlier = SeekEnd (Some (size_of u)) ∷ earlier
-one_answered u (ReadAt at count) earlier = asked_at at (Some at) (Read count (Some (window (after_calls u earlier).bytes at count))) earlier
+one_answered u (ReadAt at count) earlier = asked_at at (Some at)
+    (Read count (Some (window (after_calls u earlier).bytes at count))) earlier
 one_answered u (WriteAt at given) earlier = asked_at at (Some at) (Write given (Some (length given))) earlier
 one_answered u SyncAll earlier = Sync true ∷ earlier
 

@@ -52,4 +52,7 @@ from_parts-to_parts (Write bytes count) = refl
 from_parts-to_parts (Sync done) = refl
 
 abbrev pub calls_code : Coded (List Call)
-calls_code = coded_list (code_by Parts (coded⊎ (coded× coded_ℕ (coded_option coded_ℕ)) (coded⊎ (coded_option coded_ℕ) (coded⊎ (coded× coded_ℕ (coded_option (coded_list coded_ℕ))) (coded⊎ (coded× (coded_list coded_ℕ) (coded_option coded_ℕ)) coded_bool)))) to_parts from_parts from_parts-to_parts)
+calls_code = coded_list (code_by Parts
+    (coded⊎ (coded× coded_ℕ (coded_option coded_ℕ))
+    (coded⊎ (coded_option coded_ℕ) (coded⊎ (coded× coded_ℕ (coded_option (coded_list coded_ℕ)))
+    (coded⊎ (coded× (coded_list coded_ℕ) (coded_option coded_ℕ)) coded_bool)))) to_parts from_parts from_parts-to_parts)

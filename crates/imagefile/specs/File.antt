@@ -48,7 +48,8 @@ pub record FilePasses (s s' : FileState) (P : Remains → Type 0) : Type 0 where
   -- what was left since an earlier moment was left before s, or has P
   pub nothing_else : (t : ℕ) (r : Remains) → t ≤ s.clock → s'.left_since t r → s.left_since t r ⊎ P r
   -- what is new was left since each moment up to s
-  pub new_since : (t u : ℕ) (r : Remains) → t ≤ s.clock → u ≤ s.clock → s'.left_since t r → s.left_since t r ⊎ s'.left_since u r
+  pub new_since : (t u : ℕ) (r : Remains) → t ≤ s.clock → u ≤ s.clock → s'.left_since t r
+      → s.left_since t r ⊎ s'.left_since u r
   -- what was left stays so
   pub keeps : (t : ℕ) (r : Remains) → t ≤ s.clock → s.left_since t r → s'.left_since t r
 

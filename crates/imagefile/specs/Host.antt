@@ -4,11 +4,27 @@ use Rattle.imagefile.specs.File.{FileState}
 
 -- a file of which so many calls failed
 abbrev pub with_failures : FileState → ℕ → FileState
-with_failures s failures = record { size = s.size; honest = s.honest; failures = failures; bytes = s.bytes; is_open = s.is_open; clock = s.clock; left_since = s.left_since }
+with_failures s failures = record {
+  size = s.size;
+  honest = s.honest;
+  failures = failures;
+  bytes = s.bytes;
+  is_open = s.is_open;
+  clock = s.clock;
+  left_since = s.left_since;
+}
 
 -- A file of which nothing is known. Nobody can prove that it has kept to the model.
 abbrev pub unknown_file : FileState
-unknown_file = record { size = 0; honest = ⊥; failures = 0; bytes = λ p. 0; is_open = λ p. true; clock = 0; left_since = λ t r. ⊥ }
+unknown_file = record {
+  size = 0;
+  honest = ⊥;
+  failures = 0;
+  bytes = λ p. 0;
+  is_open = λ p. true;
+  clock = 0;
+  left_since = λ t r. ⊥;
+}
 
 -- what is kept of two, one after the other: the first
 abbrev pub the_first_of : {X : Type 0} → Option X → X → Option X

@@ -1,6 +1,7 @@
 -- An image: block n of the disk is the 1024 bytes from place 1024 * n on, and a block with a word whose
 -- top 28 bits aren't zero is damaged.
-use Rattle.std.specs.Prelude.{◌≡◌, ◌<◌, ◌+◌, ◌*◌, ◌/◌, ◌^◌, ◌==◌, ◌&&◌, ◌||◌, if◌then◌else◌, ℕ, zero, suc, Bool, true, false, List, [], ◌∷◌, ◌++◌, Option, Some, None}
+use Rattle.std.specs.Prelude.{◌≡◌, ◌<◌, ◌+◌, ◌*◌, ◌/◌, ◌^◌, ◌==◌, ◌&&◌, ◌||◌, if◌then◌else◌, ℕ, zero, suc, Bool, true}
+use Rattle.std.specs.Prelude.{false, List, [], ◌∷◌, ◌++◌, Option, Some, None}
 use Rattle.words36.specs.Blocks.{number_at}
 use Rattle.blockdisk.specs.Disk.{Contents, DiskState}
 use Rattle.imagefile.specs.File.{Bytes, Remains, FileState, Inside, window}

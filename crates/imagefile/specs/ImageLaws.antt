@@ -3,7 +3,8 @@ use Rattle.std.specs.Prelude.{◌≡◌, ◌+◌, ◌*◌, ◌||◌, ℕ, zero, 
 use Rattle.std.proofs.Common.{inl, inr, ⊎_elim, refl, sym, ◌∙◌, ap, arith}
 use Rattle.std.proofs.lemmas.Bool.{cases_eq, or_parts, or_from, or_left, cond-true, cond-false, false_from_ne_true}
 use Rattle.blockdisk.specs.Disk.{Contents, MayLeave, Passes, Keeps, Writes, Syncs, Fails}
-use Rattle.imagefile.specs.File.{Bytes, Remains, FileState, MayRemain, Inside, window, FilePasses, FileKeeps, FileWrites, FileSyncs, FileFails}
+use Rattle.imagefile.specs.File.{Bytes, Remains, FileState, MayRemain, Inside, window, FilePasses, FileKeeps}
+use Rattle.imagefile.specs.File.{FileWrites, FileSyncs, FileFails}
 use Rattle.imagefile.specs.Image.{block_content, image_contents, opened_in, ReadsAs, image_state}
 
 -- Windows
@@ -13,11 +14,13 @@ unfolding window
 window-same b c at zero same = refl
 window-same b c at (suc n) same =
     let here : c at ≡ b at = same at (record { low = omega arith; high = omega arith }) in
-    let rest : window c (at + 1) n ≡ window b (at + 1) n = window-same b c (at + 1) n (λ p inside. same p (record { low = omega (arith, inside.low); high = omega (arith, inside.high) })) in
+    let rest : window c (at + 1) n ≡ window b (at + 1) n = window-same b c (at + 1) n
+    (λ p inside. same p (record { low = omega (arith, inside.low); high = omega (arith, inside.high) })) in
     ap (λ x. x ∷ window c (at + 1) n) here ∙ ap (λ xs. b at ∷ xs) rest
 
 -- the contents of a block depend on its bytes alone
-pub content-same : (b c : Bytes) (n : ℕ) → ((p : ℕ) → Inside (1024 * n) 1024 p → c p ≡ b p) → image_contents c n ≡ image_contents b n
+pub content-same : (b c : Bytes) (n : ℕ) → ((p : ℕ) → Inside (1024 * n) 1024 p → c p ≡ b p)
+    → image_contents c n ≡ image_contents b n
 content-same b c n same = ap block_content (window-same b c (1024 * n) 1024 same)
 
 -- Open blocks
@@ -37,19 +40,22 @@ closed_each o at zero closed p inside = absurd (nothing_inside at p inside)
 closed_each o at (suc n) closed p inside =
     let parts = or_parts (o at) (opened_in o (at + 1) n) closed in
     ⊎_elim (λ here. ap o here ∙ parts.0)
-    (λ other. closed_each o (at + 1) n parts.1 p (record { low = omega (arith, inside.low, other); high = omega (arith, inside.high) })) (cases_eq p at)
+    (λ other. closed_each o (at + 1) n parts.1 p
+    (record { low = omega (arith, inside.low, other); high = omega (arith, inside.high) })) (cases_eq p at)
 
 pub all_closed : (o : ℕ → Bool) (at n : ℕ) → ((p : ℕ) → Inside at n p → o p ≡ false) → opened_in o at n ≡ false
 unfolding opened_in
 all_closed o at zero each = refl
 all_closed o at (suc n) each =
-    or_from (o at) (opened_in o (at + 1) n) (each at (first_inside at n)) (all_closed o (at + 1) n (λ p inside. each p (rest_inside at n p inside)))
+    or_from (o at) (opened_in o (at + 1) n) (each at (first_inside at n))
+    (all_closed o (at + 1) n (λ p inside. each p (rest_inside at n p inside)))
 
 pub some_open : (o : ℕ → Bool) (at n m : ℕ) → n ≡ suc m → o at ≡ true → opened_in o at n ≡ true
 unfolding opened_in
 some_open o at n m is opened = ap (opened_in o at) is ∙ or_left (o at) (opened_in o (at + 1) m) opened
 
-pub opened-same : (o o' : ℕ → Bool) (at n : ℕ) → ((p : ℕ) → Inside at n p → o' p ≡ o p) → opened_in o' at n ≡ opened_in o at n
+pub opened-same : (o o' : ℕ → Bool) (at n : ℕ) → ((p : ℕ) → Inside at n p → o' p ≡ o p)
+    → opened_in o' at n ≡ opened_in o at n
 unfolding opened_in
 opened-same o o' at zero same = refl
 opened-same o o' at (suc n) same =
@@ -60,8 +66,10 @@ opened-same o o' at (suc n) same =
 
 module _ (blocks : ℕ) where
   -- what a crash leaves of the file, read as an image, is what it may leave of the disk
-  pub image_may_leave : (s : FileState) (r : Remains) (c : Contents) → MayRemain s r → ReadsAs r c → MayLeave (image_state blocks s) c
-  image_may_leave s r c may reads n closed = reads n s.bytes (λ p inside. may p (closed_each s.is_open (1024 * n) 1024 closed p inside))
+  pub image_may_leave : (s : FileState) (r : Remains) (c : Contents) → MayRemain s r → ReadsAs r c
+      → MayLeave (image_state blocks s) c
+  image_may_leave s r c may reads n closed = reads n s.bytes
+      (λ p inside. may p (closed_each s.is_open (1024 * n) 1024 closed p inside))
 
   known_or_not : FileState → Remains
   known_or_not s p = if s.is_open p then None else Some (s.bytes p)
@@ -81,30 +89,38 @@ module _ (blocks : ℕ) where
 
   known_reads : (s : FileState) (c : Contents) → MayLeave (image_state blocks s) c → ReadsAs (known_or_not s) c
   known_reads s c left n b all =
-      let closed : opened_in s.is_open (1024 * n) 1024 ≡ false = all_closed s.is_open (1024 * n) 1024 (λ p inside. known_closed s p (b p) (all p inside)) in
+      let closed : opened_in s.is_open (1024 * n) 1024
+      ≡ false = all_closed s.is_open (1024 * n) 1024 (λ p inside. known_closed s p (b p) (all p inside)) in
       left n closed
-      ∙ content-same b s.bytes n (λ p inside. same_byte (s.bytes p) (b p) (sym (known s p (known_closed s p (b p) (all p inside))) ∙ all p inside))
+      ∙ content-same b s.bytes n (λ p inside. same_byte (s.bytes p) (b p)
+      (sym (known s p (known_closed s p (b p) (all p inside))) ∙ all p inside))
     where
       same_byte : (x y : ℕ) → Some x ≡ Some y → x ≡ y
       same_byte x y h = cc
 
-  pub image_counts_now : (s : FileState) (t : ℕ) (c : Contents) → ((r : Remains) → MayRemain s r → s.left_since t r) → MayLeave (image_state blocks s) c → (image_state blocks s).left_since t c
+  pub image_counts_now : (s : FileState) (t : ℕ) (c : Contents) → ((r : Remains) → MayRemain s r → s.left_since t r)
+      → MayLeave (image_state blocks s) c → (image_state blocks s).left_since t c
   image_counts_now s t c counts left = (known_or_not s, counts (known_or_not s) (known s), known_reads s c left)
 
-  pub image_only_now : (s : FileState) (c : Contents) → ((r : Remains) → s.left_since s.clock r → MayRemain s r) → (image_state blocks s).left_since s.clock c → MayLeave (image_state blocks s) c
+  pub image_only_now : (s : FileState) (c : Contents) → ((r : Remains) → s.left_since s.clock r → MayRemain s r)
+      → (image_state blocks s).left_since s.clock c → MayLeave (image_state blocks s) c
   image_only_now s c only left = image_may_leave s left.0 c (only left.0 left.1) left.2
 
-  pub image_reaches_back : (s : FileState) (t u : ℕ) (c : Contents) → ((r : Remains) → s.left_since u r → s.left_since t r) → (image_state blocks s).left_since u c → (image_state blocks s).left_since t c
+  pub image_reaches_back : (s : FileState) (t u : ℕ) (c : Contents) → ((r : Remains) → s.left_since u r
+      → s.left_since t r) → (image_state blocks s).left_since u c → (image_state blocks s).left_since t c
   image_reaches_back s t u c back left = (left.0, back left.0 left.1, left.2)
 
   -- Calls
 
   module _ (s s' : FileState) where
-    image_passes : FilePasses s s' (MayRemain s') → Passes (image_state blocks s) (image_state blocks s') (MayLeave (image_state blocks s'))
+    image_passes : FilePasses s s' (MayRemain s')
+        → Passes (image_state blocks s) (image_state blocks s') (MayLeave (image_state blocks s'))
     image_passes time = record {
       later = time.later;
-      nothing_else = λ t c le left. ⊎_elim (λ was. inl (left.0, was, left.2)) (λ may. inr (image_may_leave s' left.0 c may left.2)) (time.nothing_else t left.0 le left.1);
-      new_since = λ t u c le le' left. ⊎_elim (λ was. inl (left.0, was, left.2)) (λ new. inr (left.0, new, left.2)) (time.new_since t u left.0 le le' left.1);
+      nothing_else = λ t c le left. ⊎_elim (λ was. inl (left.0, was, left.2))
+          (λ may. inr (image_may_leave s' left.0 c may left.2)) (time.nothing_else t left.0 le left.1);
+      new_since = λ t u c le le' left. ⊎_elim (λ was. inl (left.0, was, left.2)) (λ new. inr (left.0, new, left.2))
+          (time.new_since t u left.0 le le' left.1);
       keeps = λ t c le left. (left.0, time.keeps t left.0 le left.1, left.2);
     }
 
@@ -118,17 +134,21 @@ module _ (blocks : ℕ) where
     apart : (n m p : ℕ) → (m ≡ n → ⊥) → Inside (1024 * m) 1024 p → Inside (1024 * n) 1024 p → ⊥
     apart n m p other there here = other (omega (arith, there.low, there.high, here.low, here.high))
 
-    pub image_writes : (n : ℕ) → FileWrites (1024 * n) 1024 s s' → Writes n (image_state blocks s) (image_state blocks s')
+    pub image_writes : (n : ℕ) → FileWrites (1024 * n) 1024 s s'
+        → Writes n (image_state blocks s) (image_state blocks s')
     image_writes n writes = record {
       contents = λ m other. content-same s.bytes s'.bytes m (λ p inside. writes.bytes p (apart n m p other inside));
-      opened = some_open s'.is_open (1024 * n) 1024 1023 refl (writes.opened (1024 * n) (record { low = omega arith; high = omega arith }));
-      is_open = λ m other. opened-same s.is_open s'.is_open (1024 * m) 1024 (λ p inside. writes.is_open p (apart n m p other inside));
+      opened = some_open s'.is_open (1024 * n) 1024 1023 refl
+          (writes.opened (1024 * n) (record { low = omega arith; high = omega arith }));
+      is_open = λ m other. opened-same s.is_open s'.is_open (1024 * m) 1024
+          (λ p inside. writes.is_open p (apart n m p other inside));
       time = image_passes writes.time;
     }
 
     pub image_fails : FileFails s s' → Fails (image_state blocks s) (image_state blocks s')
     image_fails fails = record {
-      contents = λ n closed. content-same s.bytes s'.bytes n (λ p inside. fails.bytes p (closed_each s.is_open (1024 * n) 1024 closed p inside));
+      contents = λ n closed. content-same s.bytes s'.bytes n
+          (λ p inside. fails.bytes p (closed_each s.is_open (1024 * n) 1024 closed p inside));
       is_open = λ n. opened-same s.is_open s'.is_open (1024 * n) 1024 (λ p inside. fails.is_open p);
       time = image_passes fails.time;
     }

@@ -1,6 +1,7 @@
 -- A file in memory: its bytes, which of them are open, and the record of its writes and syncs, from
 -- which each earlier moment can be told.
-use Rattle.std.specs.Prelude.{◌<◌, ◌+◌, ◌≡◌, ◌⊎◌, ◌≤◌, ◌*◌, ℕ, Bool, true, false, List, [], ◌∷◌, ◌++◌, Some, get_or, take, drop, length, replicate}
+use Rattle.std.specs.Prelude.{◌<◌, ◌+◌, ◌≡◌, ◌⊎◌, ◌≤◌, ◌*◌, ℕ, Bool, true, false, List, [], ◌∷◌, ◌++◌, Some, get_or}
+use Rattle.std.specs.Prelude.{take, drop, length, replicate}
 use Rattle.blockdisk.specs.Disk.{one_more}
 use Rattle.imagefile.specs.File.{Remains, FileState}
 use Rattle.imagefile.specs.declared.memory.FileCall.{FileCall}
@@ -127,7 +128,11 @@ bytes_written m at xs = record m {
 
 -- the bytes are open all the same, and the record is closed
 abbrev pub write_refused : Memory → ℕ → ℕ → Memory
-write_refused m at n = record m { opened = put at (replicate n true) m.opened; room = length m.steps; failures = one_more m.failures }
+write_refused m at n = record m {
+  opened = put at (replicate n true) m.opened;
+  room = length m.steps;
+  failures = one_more m.failures;
+}
 
 abbrev pub bytes_synced : Memory → Memory
 bytes_synced m = record m { steps = m.steps ++ Synced ∷ []; opened = replicate (length m.opened) false }

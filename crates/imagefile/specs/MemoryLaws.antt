@@ -13,5 +13,7 @@ only_now m r left = ⊎_elim (λ had. absurd (nothing_since (length m.steps) had
 further : (t u k : ℕ) → t ≤ u → u ≤ k → t ≤ k
 further t u k le le' = omega arith
 
-pub reaches_back : (m : Memory) (t u : ℕ) (r : Remains) → t ≤ u → (memory_state m).left_since u r → (memory_state m).left_since t r
-reaches_back m t u r le left = ⊎_elim (λ had. inl (had.0, further t u had.0 le had.1, had.2, had.3)) (λ now. inr now) left
+pub reaches_back : (m : Memory) (t u : ℕ) (r : Remains) → t ≤ u → (memory_state m).left_since u r
+    → (memory_state m).left_since t r
+reaches_back m t u r le left = ⊎_elim (λ had. inl (had.0, further t u had.0 le had.1, had.2, had.3))
+    (λ now. inr now) left

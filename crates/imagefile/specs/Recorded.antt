@@ -1,6 +1,7 @@
 -- A file as the record of its calls shows it, and when that record is one that a file gives which keeps
 -- to the model.
-use Rattle.std.specs.Prelude.{◌≡◌, ◌⊎◌, ◌+◌, ◌-◌, ◌≤◌, ℕ, suc, nat_le, Bool, true, false, ◌&&◌, ◌||◌, if◌then◌else◌, unwrap_or, List, [], ◌∷◌, length, get_or, Option, Some, None, IfSome, IsSome, IsSomeAnd}
+use Rattle.std.specs.Prelude.{◌≡◌, ◌⊎◌, ◌+◌, ◌-◌, ◌≤◌, ℕ, suc, nat_le, Bool, true, false, ◌&&◌, ◌||◌, if◌then◌else◌}
+use Rattle.std.specs.Prelude.{unwrap_or, List, [], ◌∷◌, length, get_or, Option, Some, None, IfSome, IsSome, IsSomeAnd}
 use Rattle.imagefile.specs.File.{Bytes, Remains, FileState, window}
 use Rattle.imagefile.specs.Calls.{Call, SeekStart, SeekEnd, Read, Write, Sync}
 use Rattle.imagefile.specs.Unseen.{Unseen, size_of, first_bytes, first_open, left_by}
@@ -39,14 +40,22 @@ bytes_lost b left p = if b.is_open p then left p else b.bytes p
 abbrev pub after_call : Unseen → ℕ → Call → Between → Between
 after_call u n (SeekStart at place) b = record { bytes = b.bytes; is_open = b.is_open; position = place }
 after_call u n (SeekEnd place) b = record { bytes = b.bytes; is_open = b.is_open; position = place }
-after_call u n (Read asked bytes) b = record { bytes = b.bytes; is_open = b.is_open; position = moved b.position (count_of bytes) }
+after_call u n (Read asked bytes) b = record {
+  bytes = b.bytes;
+  is_open = b.is_open;
+  position = moved b.position (count_of bytes);
+}
 after_call u n (Write given count) b = record {
   bytes = bytes_after (unwrap_or b.position 0) given (unwrap_or count 0) (left_by u n) b.bytes;
   is_open = λ p. is_inside (unwrap_or b.position 0) (length given) p || b.is_open p;
   position = moved b.position count;
 }
 after_call u n (Sync true) b = record { bytes = b.bytes; is_open = λ p. false; position = b.position }
-after_call u n (Sync false) b = record { bytes = bytes_lost b (left_by u n); is_open = b.is_open; position = b.position }
+after_call u n (Sync false) b = record {
+  bytes = bytes_lost b (left_by u n);
+  is_open = b.is_open;
+  position = b.position;
+}
 
 -- after all calls of a record, of which the newest comes first
 abbrev pub after_calls : Unseen → List Call → Between
@@ -59,8 +68,10 @@ after_calls u (call ∷ earlier) = after_call u (length earlier) call (after_cal
 abbrev pub IsAllowed : Unseen → Between → Call → Type 0
 IsAllowed u b (SeekStart at place) = place ≡ Some at
 IsAllowed u b (SeekEnd place) = IfSome place (λ p. p ≡ size_of u)
-IsAllowed u b (Read asked bytes) = IfSome bytes (λ came. IsSomeAnd b.position (λ at. (at + length came ≤ size_of u) × (came ≡ window b.bytes at (length came))))
-IsAllowed u b (Write given count) = IsSomeAnd b.position (λ at. (at + length given ≤ size_of u) × IfSome count (λ n. n ≤ length given))
+IsAllowed u b (Read asked bytes) = IfSome bytes (λ came. IsSomeAnd b.position (λ at. (at + length came ≤ size_of u)
+    × (came ≡ window b.bytes at (length came))))
+IsAllowed u b (Write given count) = IsSomeAnd b.position (λ at. (at + length given ≤ size_of u)
+    × IfSome count (λ n. n ≤ length given))
 IsAllowed u b (Sync done) = Unit {0}
 
 -- each answer on record is one that such a file may give
@@ -75,7 +86,8 @@ MayStay b r = (p : ℕ) → b.is_open p ≡ false → r p ≡ Some (b.bytes p)
 -- what a crash may have left since there were so many calls
 abbrev pub LeftSince : Unseen → List Call → ℕ → Remains → Type 0
 LeftSince u [] t r = (t ≤ 0) × MayStay (after_calls u []) r
-LeftSince u (call ∷ earlier) t r = LeftSince u earlier t r ⊎ ((t ≤ length (call ∷ earlier)) × MayStay (after_calls u (call ∷ earlier)) r)
+LeftSince u (call ∷ earlier) t r = LeftSince u earlier t r
+    ⊎ ((t ≤ length (call ∷ earlier)) × MayStay (after_calls u (call ∷ earlier)) r)
 
 -- the file; its failed calls are counted elsewhere
 abbrev pub recorded : Unseen → List Call → FileState

@@ -44,4 +44,5 @@ pub from_parts-to_parts : (u : Unseen) → from_parts (to_parts u) ≡ u
 from_parts-to_parts u = refl
 
 abbrev pub unseen_code : Coded Unseen
-unseen_code = code_by Parts (coded× (coded_list coded_ℕ) (coded× (coded_list coded_bool) (coded_list (coded_list coded_ℕ)))) to_parts from_parts from_parts-to_parts
+unseen_code = code_by Parts (coded× (coded_list coded_ℕ)
+    (coded× (coded_list coded_bool) (coded_list (coded_list coded_ℕ)))) to_parts from_parts from_parts-to_parts

@@ -1,5 +1,6 @@
 ghost use Rattle.std.specs.Prelude.{◌≡◌, ◌+◌, ◌<◌, ◌≤◌, ℕ, length, take, is_ok, IfOk, OnOk, OnErr};
-ghost use Rattle.imagefile.specs.File.{Remains, FileState, MayRemain, SameFile, FileKeeps, FileWrites, FileSyncs, FileFails, window};
+ghost use Rattle.imagefile.specs.File.{Remains, FileState, MayRemain, SameFile, FileKeeps, FileWrites, FileSyncs};
+ghost use Rattle.imagefile.specs.File.{FileFails, window};
 
 use std::io;
 
@@ -29,7 +30,8 @@ pub trait FileCalls {
     fn read_some(&mut self, at: u64, bytes: &mut [u8]) -> io::Result<usize>
         requires { (state self.old).honest → at + length bytes.old ≤ (state self.old).size }
         ensures few { IfOk result (λ count. count ≤ length bytes.old) }
-        ensures read { (state self.new).honest → IfOk result (λ count. take count bytes.new ≡ window (state self.old).bytes at count) }
+        ensures read { (state self.new).honest
+            → IfOk result (λ count. take count bytes.new ≡ window (state self.old).bytes at count) }
         ensures keeps { (state self.new).honest → FileKeeps (state self.old) (state self.new) }
         ensures same { SameFile (state self.old) (state self.new) };
 
@@ -42,7 +44,8 @@ pub trait FileCalls {
     fn write_some(&mut self, at: u64, bytes: &[u8]) -> io::Result<usize>
         requires { (state self.old).honest → at + length bytes.now ≤ (state self.old).size }
         ensures few { IfOk result (λ count. count ≤ length bytes.now) }
-        ensures put { (state self.new).honest → IfOk result (λ count. window (state self.new).bytes at count ≡ take count bytes.now) }
+        ensures put { (state self.new).honest
+            → IfOk result (λ count. window (state self.new).bytes at count ≡ take count bytes.now) }
         ensures moves { (state self.new).honest → OnOk result ((state self.old).clock < (state self.new).clock) }
         ensures writes { (state self.new).honest → FileWrites at (length bytes.now) (state self.old) (state self.new) }
         ensures same { SameFile (state self.old) (state self.new) };

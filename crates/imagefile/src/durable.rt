@@ -1,16 +1,18 @@
 ghost use Rattle.std.specs.Prelude.{◌≡◌, ◌+◌, ◌<◌, ◌≤◌, ℕ, length, IfOk, OnOk, OnErr, IsErrOf};
 ghost use Rattle.blockdisk.specs.Disk.{one_more};
 ghost use Rattle.blockdisk.specs.declared.fault.Fault.TheVariants.{Device, Damaged};
-ghost use Rattle.imagefile.specs.File.{Remains, FileState, MayRemain, SameFile, FileKeeps, FileWrites, FileSyncs, FileFails, window};
+ghost use Rattle.imagefile.specs.File.{Remains, FileState, MayRemain, SameFile, FileKeeps, FileWrites, FileSyncs};
+ghost use Rattle.imagefile.specs.File.{FileFails, window};
 
 use blockdisk::Fault;
 
 /// A file of a fixed number of bytes, counted from 0, that keeps to the disk's model byte by byte.
 ///
 /// Between two syncs a byte that was written may after a crash be anything; the other bytes stay.
-/// A sync that fails may do to the bytes what a crash may. A file is `honest` while it has kept to this so far: nobody else wrote it, and it returned what was
-/// written. An answer may end that, and none brings it back. So nobody has to know answers to come: what
-/// a call ensures of the bytes it ensures where the file is honest *after* it. The rest holds of every file.
+/// A sync that fails may do to the bytes what a crash may. A file is `honest` while it has kept to this so far: nobody
+/// else wrote it, and it returned what was written. An answer may end that, and none brings it back. So nobody has to
+/// know answers to come: what a call ensures of the bytes it ensures where the file is honest *after* it. The rest
+/// holds of every file.
 pub trait Durable {
     ghost state: { Self → FileState };
 
@@ -34,7 +36,8 @@ pub trait Durable {
     /// `Device` where the device failed; `bytes` may then hold anything.
     fn read_at(&mut self, at: u64, bytes: &mut [u8]) -> Result<(), Fault>
         requires { (state self.old).honest → at + length bytes.old ≤ (state self.old).size }
-        ensures read { (state self.new).honest → OnOk result (bytes.new ≡ window (state self.old).bytes at (length bytes.old)) }
+        ensures read { (state self.new).honest
+            → OnOk result (bytes.new ≡ window (state self.old).bytes at (length bytes.old)) }
         ensures keeps { (state self.new).honest → FileKeeps (state self.old) (state self.new) }
         ensures same { SameFile (state self.old) (state self.new) }
         ensures device { IsErrOf result Damaged → ⊥ }
@@ -49,7 +52,8 @@ pub trait Durable {
     /// `Device` where the device failed; those places may then hold anything.
     fn write_at(&mut self, at: u64, bytes: &[u8]) -> Result<(), Fault>
         requires { (state self.old).honest → at + length bytes.now ≤ (state self.old).size }
-        ensures put { (state self.new).honest → OnOk result (window (state self.new).bytes at (length bytes.now) ≡ bytes.now) }
+        ensures put { (state self.new).honest
+            → OnOk result (window (state self.new).bytes at (length bytes.now) ≡ bytes.now) }
         ensures moves { (state self.new).honest → OnOk result ((state self.old).clock < (state self.new).clock) }
         ensures writes { (state self.new).honest → FileWrites at (length bytes.now) (state self.old) (state self.new) }
         ensures same { SameFile (state self.old) (state self.new) }

@@ -90,7 +90,8 @@ impl<C: FileCalls> HostFile<C> {
     ///
     /// `Device` where it isn't, or the call failed.
     fn keep_size(&mut self) -> Result<(), Fault>
-        ensures keeps { (C.state (calls_of self.new)).honest → FileKeeps (C.state (calls_of self.old)) (C.state (calls_of self.new)) }
+        ensures keeps { (C.state (calls_of self.new)).honest
+            → FileKeeps (C.state (calls_of self.old)) (C.state (calls_of self.new)) }
         ensures same { SameFile (C.state (calls_of self.old)) (C.state (calls_of self.new)) }
         ensures device { IsErrOf result Damaged → ⊥ }
         ensures failed { IsErrOf result Device → failures_of self.new ≡ one_more (failures_of self.old) }
@@ -113,11 +114,14 @@ impl<C: FileCalls> HostFile<C> {
     ///
     /// `Device` where the call failed, or read none.
     fn get_some(&mut self, at: u64, bytes: &mut [u8]) -> Result<usize, Fault>
-        requires inside { (C.state (calls_of self.old)).honest → at + length bytes.old ≤ (C.state (calls_of self.old)).size }
+        requires inside { (C.state (calls_of self.old)).honest
+            → at + length bytes.old ≤ (C.state (calls_of self.old)).size }
         requires some { 0 < length bytes.old }
         ensures few { IfOk result (λ count. (0 < count) × (count ≤ length bytes.old)) }
-        ensures read { (C.state (calls_of self.new)).honest → IfOk result (λ count. take count bytes.new ≡ window (C.state (calls_of self.old)).bytes at count) }
-        ensures keeps { (C.state (calls_of self.new)).honest → FileKeeps (C.state (calls_of self.old)) (C.state (calls_of self.new)) }
+        ensures read { (C.state (calls_of self.new)).honest
+            → IfOk result (λ count. take count bytes.new ≡ window (C.state (calls_of self.old)).bytes at count) }
+        ensures keeps { (C.state (calls_of self.new)).honest
+            → FileKeeps (C.state (calls_of self.old)) (C.state (calls_of self.new)) }
         ensures same { SameFile (C.state (calls_of self.old)) (C.state (calls_of self.new)) }
         ensures device { IsErrOf result Damaged → ⊥ }
         ensures failed { IsErrOf result Device → failures_of self.new ≡ one_more (failures_of self.old) }
@@ -140,9 +144,12 @@ impl<C: FileCalls> HostFile<C> {
     fn put_some(&mut self, at: u64, bytes: &[u8]) -> Result<usize, Fault>
         requires { (C.state (calls_of self.old)).honest → at + length bytes.now ≤ (C.state (calls_of self.old)).size }
         ensures few { IfOk result (λ count. (0 < length bytes.now → 0 < count) × (count ≤ length bytes.now)) }
-        ensures put { (C.state (calls_of self.new)).honest → IfOk result (λ count. window (C.state (calls_of self.new)).bytes at count ≡ take count bytes.now) }
-        ensures moves { (C.state (calls_of self.new)).honest → OnOk result ((C.state (calls_of self.old)).clock < (C.state (calls_of self.new)).clock) }
-        ensures writes { (C.state (calls_of self.new)).honest → FileWrites at (length bytes.now) (C.state (calls_of self.old)) (C.state (calls_of self.new)) }
+        ensures put { (C.state (calls_of self.new)).honest
+            → IfOk result (λ count. window (C.state (calls_of self.new)).bytes at count ≡ take count bytes.now) }
+        ensures moves { (C.state (calls_of self.new)).honest
+            → OnOk result ((C.state (calls_of self.old)).clock < (C.state (calls_of self.new)).clock) }
+        ensures writes { (C.state (calls_of self.new)).honest
+            → FileWrites at (length bytes.now) (C.state (calls_of self.old)) (C.state (calls_of self.new)) }
         ensures same { SameFile (C.state (calls_of self.old)) (C.state (calls_of self.new)) }
         ensures device { IsErrOf result Damaged → ⊥ }
         ensures failed { IsErrOf result Device → failures_of self.new ≡ one_more (failures_of self.old) }
@@ -169,8 +176,10 @@ impl<C: FileCalls> Durable for HostFile<C> {
     ghost reaches_back = { λ file t u r h le left. C.reaches_back file.calls t u r h le left };
 
     fn len(&mut self) -> Result<u64, Fault>
-        ensures size { (C.state (calls_of self.new)).honest → IfOk result (λ size. size ≡ (C.state (calls_of self.old)).size) }
-        ensures keeps { (C.state (calls_of self.new)).honest → FileKeeps (C.state (calls_of self.old)) (C.state (calls_of self.new)) }
+        ensures size { (C.state (calls_of self.new)).honest
+            → IfOk result (λ size. size ≡ (C.state (calls_of self.old)).size) }
+        ensures keeps { (C.state (calls_of self.new)).honest
+            → FileKeeps (C.state (calls_of self.old)) (C.state (calls_of self.new)) }
         ensures same { SameFile (C.state (calls_of self.old)) (C.state (calls_of self.new)) }
         ensures device { IsErrOf result Damaged → ⊥ }
         ensures failed { IsErrOf result Device → failures_of self.new ≡ one_more (failures_of self.old) }
@@ -188,8 +197,10 @@ impl<C: FileCalls> Durable for HostFile<C> {
 
     fn read_at(&mut self, at: u64, bytes: &mut [u8]) -> Result<(), Fault>
         requires { (C.state (calls_of self.old)).honest → at + length bytes.old ≤ (C.state (calls_of self.old)).size }
-        ensures read { (C.state (calls_of self.new)).honest → OnOk result (bytes.new ≡ window (C.state (calls_of self.old)).bytes at (length bytes.old)) }
-        ensures keeps { (C.state (calls_of self.new)).honest → FileKeeps (C.state (calls_of self.old)) (C.state (calls_of self.new)) }
+        ensures read { (C.state (calls_of self.new)).honest
+            → OnOk result (bytes.new ≡ window (C.state (calls_of self.old)).bytes at (length bytes.old)) }
+        ensures keeps { (C.state (calls_of self.new)).honest
+            → FileKeeps (C.state (calls_of self.old)) (C.state (calls_of self.new)) }
         ensures same { SameFile (C.state (calls_of self.old)) (C.state (calls_of self.new)) }
         ensures device { IsErrOf result Damaged → ⊥ }
         ensures failed { IsErrOf result Device → failures_of self.new ≡ one_more (failures_of self.old) }
@@ -208,9 +219,12 @@ impl<C: FileCalls> Durable for HostFile<C> {
 
     fn write_at(&mut self, at: u64, bytes: &[u8]) -> Result<(), Fault>
         requires { (C.state (calls_of self.old)).honest → at + length bytes.now ≤ (C.state (calls_of self.old)).size }
-        ensures put { (C.state (calls_of self.new)).honest → OnOk result (window (C.state (calls_of self.new)).bytes at (length bytes.now) ≡ bytes.now) }
-        ensures moves { (C.state (calls_of self.new)).honest → OnOk result ((C.state (calls_of self.old)).clock < (C.state (calls_of self.new)).clock) }
-        ensures writes { (C.state (calls_of self.new)).honest → FileWrites at (length bytes.now) (C.state (calls_of self.old)) (C.state (calls_of self.new)) }
+        ensures put { (C.state (calls_of self.new)).honest
+            → OnOk result (window (C.state (calls_of self.new)).bytes at (length bytes.now) ≡ bytes.now) }
+        ensures moves { (C.state (calls_of self.new)).honest
+            → OnOk result ((C.state (calls_of self.old)).clock < (C.state (calls_of self.new)).clock) }
+        ensures writes { (C.state (calls_of self.new)).honest
+            → FileWrites at (length bytes.now) (C.state (calls_of self.old)) (C.state (calls_of self.new)) }
         ensures same { SameFile (C.state (calls_of self.old)) (C.state (calls_of self.new)) }
         ensures device { IsErrOf result Damaged → ⊥ }
         ensures failed { IsErrOf result Device → failures_of self.new ≡ one_more (failures_of self.old) }
@@ -228,9 +242,12 @@ impl<C: FileCalls> Durable for HostFile<C> {
     }
 
     fn sync(&mut self) -> Result<(), Fault>
-        ensures syncs { (C.state (calls_of self.new)).honest → OnOk result (FileSyncs (C.state (calls_of self.old)) (C.state (calls_of self.new))) }
-        ensures moves { (C.state (calls_of self.new)).honest → OnOk result ((C.state (calls_of self.old)).clock < (C.state (calls_of self.new)).clock) }
-        ensures fails { (C.state (calls_of self.new)).honest → OnErr result (FileFails (C.state (calls_of self.old)) (C.state (calls_of self.new))) }
+        ensures syncs { (C.state (calls_of self.new)).honest
+            → OnOk result (FileSyncs (C.state (calls_of self.old)) (C.state (calls_of self.new))) }
+        ensures moves { (C.state (calls_of self.new)).honest
+            → OnOk result ((C.state (calls_of self.old)).clock < (C.state (calls_of self.new)).clock) }
+        ensures fails { (C.state (calls_of self.new)).honest
+            → OnErr result (FileFails (C.state (calls_of self.old)) (C.state (calls_of self.new))) }
         ensures same { SameFile (C.state (calls_of self.old)) (C.state (calls_of self.new)) }
         ensures device { IsErrOf result Damaged → ⊥ }
         ensures failed { IsErrOf result Device → failures_of self.new ≡ one_more (failures_of self.old) }

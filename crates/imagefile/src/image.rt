@@ -1,4 +1,5 @@
-ghost use Rattle.std.specs.Prelude.{◌≡◌, ◌+◌, ◌*◌, ◌<◌, ◌≤◌, ◌^◌, ◌↔◌, ℕ, Some, None, IfOk, IfErr, OnOk, OnErr, IsErrOf, IsOk, List, All, length};
+ghost use Rattle.std.specs.Prelude.{◌≡◌, ◌+◌, ◌*◌, ◌<◌, ◌≤◌, ◌^◌, ◌↔◌, ℕ, Some, None, IfOk, IfErr, OnOk, OnErr};
+ghost use Rattle.std.specs.Prelude.{IsErrOf, IsOk, List, All, length};
 ghost use Rattle.words36.specs.Blocks.{IsBlock, block_bytes};
 ghost use Rattle.blockdisk.specs.Disk.{DiskState, MayLeave, Keeps, Writes, Syncs, Fails, SameDisk, one_more};
 ghost use Rattle.blockdisk.specs.declared.fault.Fault.TheVariants.{Device, Damaged};
@@ -58,16 +59,22 @@ impl<F: Durable> ImageDisk<F> {
     /// The file is handed back: `BadSize` where its length is not that of an image, `Device` where the
     /// device failed.
     pub fn new(file: F) -> Result<Self, (ImageError, F)>
-        ensures sized { IfOk result (λ disk. (F.state (file_of disk)).honest → (F.state file).size ≡ 1024 * blocks_of disk) }
+        ensures sized { IfOk result (λ disk. (F.state (file_of disk)).honest
+            → (F.state file).size ≡ 1024 * blocks_of disk) }
         ensures few { IfOk result (λ disk. blocks_of disk < 2 ^ 32) }
-        ensures keeps { IfOk result (λ disk. (F.state (file_of disk)).honest → FileKeeps (F.state file) (F.state (file_of disk))) }
+        ensures keeps { IfOk result (λ disk. (F.state (file_of disk)).honest
+            → FileKeeps (F.state file) (F.state (file_of disk))) }
         ensures same { IfOk result (λ disk. SameFile (F.state file) (F.state (file_of disk))) }
         ensures served { IfOk result (λ disk. (F.state (file_of disk)).failures ≡ (F.state file).failures) }
-        ensures kept { IfErr result (λ refused. (F.state refused.1).honest → FileKeeps (F.state file) (F.state refused.1)) }
+        ensures kept { IfErr result (λ refused. (F.state refused.1).honest
+            → FileKeeps (F.state file) (F.state refused.1)) }
         ensures stays { IfErr result (λ refused. SameFile (F.state file) (F.state refused.1)) }
-        ensures bad { IfErr result (λ refused. (F.state refused.1).honest → refused.0 ≡ ImageError.BadSize → IsImageSize (F.state file).size → ⊥) }
-        ensures failed { IfErr result (λ refused. refused.0 ≡ ImageError.Device → (F.state refused.1).failures ≡ one_more (F.state file).failures) }
-        ensures counted { IfErr result (λ refused. refused.0 ≡ ImageError.BadSize → (F.state refused.1).failures ≡ (F.state file).failures) }
+        ensures bad { IfErr result (λ refused. (F.state refused.1).honest → refused.0 ≡ ImageError.BadSize
+            → IsImageSize (F.state file).size → ⊥) }
+        ensures failed { IfErr result (λ refused. refused.0 ≡ ImageError.Device
+            → (F.state refused.1).failures ≡ one_more (F.state file).failures) }
+        ensures counted { IfErr result (λ refused. refused.0 ≡ ImageError.BadSize
+            → (F.state refused.1).failures ≡ (F.state file).failures) }
     {
         let mut file = file;
         let size = match file.len() {
@@ -105,11 +112,14 @@ fn place_of(n: u32) -> u64
 impl<F: Durable> Disk for ImageDisk<F> {
     ghost state = { λ disk. image_state disk.blocks (F.state disk.file) };
 
-    ghost counts_now = { λ disk t c h le left. image_counts_now disk.blocks (F.state disk.file) t c (λ r may. F.counts_now disk.file t r h le may) left };
+    ghost counts_now = { λ disk t c h le left. image_counts_now disk.blocks (F.state disk.file) t c
+        (λ r may. F.counts_now disk.file t r h le may) left };
 
-    ghost only_now = { λ disk c h left. image_only_now disk.blocks (F.state disk.file) c (λ r was. F.only_now disk.file r h was) left };
+    ghost only_now = { λ disk c h left. image_only_now disk.blocks (F.state disk.file) c
+        (λ r was. F.only_now disk.file r h was) left };
 
-    ghost reaches_back = { λ disk t u c h le left. image_reaches_back disk.blocks (F.state disk.file) t u c (λ r was. F.reaches_back disk.file t u r h le was) left };
+    ghost reaches_back = { λ disk t u c h le left. image_reaches_back disk.blocks (F.state disk.file) t u c
+        (λ r was. F.reaches_back disk.file t u r h le was) left };
 
     fn blocks(&self) -> u32 {
         self.blocks

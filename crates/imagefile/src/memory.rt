@@ -1,8 +1,11 @@
-ghost use Rattle.std.specs.Prelude.{◌≡◌, ◌<◌, ◌≤◌, ◌+◌, ◌*◌, ◌++◌, ◌∷◌, ℕ, Ok, IsOk, IsTrue, ◌↔◌, get_or, [], true, false, Some, None, IfOk, IfErr, OnOk, OnErr, IsErrOf, length, replicate, vec_len, vec_capacity};
+ghost use Rattle.std.specs.Prelude.{◌≡◌, ◌<◌, ◌≤◌, ◌+◌, ◌*◌, ◌++◌, ◌∷◌, ℕ, Ok, IsOk, IsTrue, ◌↔◌, get_or, [], true};
+ghost use Rattle.std.specs.Prelude.{false, Some, None, IfOk, IfErr, OnOk, OnErr, IsErrOf, length, replicate, vec_len};
+ghost use Rattle.std.specs.Prelude.{vec_capacity};
 ghost use Rattle.std.proofs.Common.{inr};
 ghost use Rattle.blockdisk.specs.declared.fault.Fault.TheVariants.{Device, Damaged};
 ghost use Rattle.imagefile.specs.File.{FileWrites, FileSyncs, window};
-ghost use Rattle.imagefile.specs.Memory.{memory_state, put, begun, bytes_written, write_refused, bytes_synced, sync_refused, HasRoom};
+ghost use Rattle.imagefile.specs.Memory.{memory_state, put, begun, bytes_written, write_refused, bytes_synced};
+ghost use Rattle.imagefile.specs.Memory.{sync_refused, HasRoom};
 ghost use Rattle.imagefile.specs.MemoryLaws.{only_now, reaches_back};
 
 use crate::Durable;
@@ -40,12 +43,14 @@ impl Model for MemFile {
 
     ghost Value = { Memory };
 
-    ghost view = { λ m. memory_of m.bytes.items m.first.items m.calls.items m.written.items m.opened.items m.room m.byte_room m.failures };
+    ghost view = { λ m. memory_of m.bytes.items m.first.items m.calls.items m.written.items m.opened.items
+        m.room m.byte_room m.failures };
 
     ghost invariant = { λ m. (m.room ≤ vec_capacity m.calls)
         × (m.byte_room ≤ vec_capacity m.written)
         × (bytes_in m.calls.items ≡ length m.written.items)
-        × IsReplayed (memory_of m.bytes.items m.first.items m.calls.items m.written.items m.opened.items m.room m.byte_room m.failures) };
+        × IsReplayed (memory_of m.bytes.items m.first.items m.calls.items m.written.items m.opened.items
+        m.room m.byte_room m.failures) };
 }
 
 impl MemFile {

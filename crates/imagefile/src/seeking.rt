@@ -34,21 +34,29 @@ impl<S: SystemCalls> SeekingFile<S> {
 /// A law: where calls are answered as the model says, an honest record stays one, whatever the file
 /// held and whatever was asked before.
 pub fn answers_by_the_model_are_honest()
-    ensures sized { (u : Unseen) (calls : List Call) → IsHonestRecord u calls → IsHonestRecord u (SeekEnd (Some (size_of u)) ∷ calls) }
-    ensures read { (u : Unseen) (calls : List Call) (at asked count : ℕ) → at + count ≤ size_of u → IsHonestRecord u calls
-        → IsHonestRecord u (asked_at at (Some at) (Read asked (Some (window (after_calls u calls).bytes at count))) calls) }
-    ensures written { (u : Unseen) (calls : List Call) (at count : ℕ) (given : List ℕ) → at + length given ≤ size_of u → count ≤ length given → IsHonestRecord u calls
+    ensures sized { (u : Unseen) (calls : List Call) → IsHonestRecord u calls
+        → IsHonestRecord u (SeekEnd (Some (size_of u)) ∷ calls) }
+    ensures read { (u : Unseen) (calls : List Call) (at asked count : ℕ) → at + count ≤ size_of u
+        → IsHonestRecord u calls
+        → IsHonestRecord u
+        (asked_at at (Some at) (Read asked (Some (window (after_calls u calls).bytes at count))) calls) }
+    ensures written { (u : Unseen) (calls : List Call) (at count : ℕ) (given : List ℕ) → at + length given ≤ size_of u
+        → count ≤ length given → IsHonestRecord u calls
         → IsHonestRecord u (asked_at at (Some at) (Write given (Some count)) calls) }
-    ensures failed { (u : Unseen) (calls : List Call) (at asked : ℕ) (given : List ℕ) → at + length given ≤ size_of u → IsHonestRecord u calls
-        → IsHonestRecord u (asked_at at (Some at) (Read asked None) calls) × IsHonestRecord u (asked_at at (Some at) (Write given None) calls) }
-    ensures synced { (u : Unseen) (calls : List Call) (done : Bool) → IsHonestRecord u calls → IsHonestRecord u (Sync done ∷ calls) }
+    ensures failed { (u : Unseen) (calls : List Call) (at asked : ℕ) (given : List ℕ) → at + length given ≤ size_of u
+        → IsHonestRecord u calls
+        → IsHonestRecord u (asked_at at (Some at) (Read asked None) calls)
+        × IsHonestRecord u (asked_at at (Some at) (Write given None) calls) }
+    ensures synced { (u : Unseen) (calls : List Call) (done : Bool) → IsHonestRecord u calls
+        → IsHonestRecord u (Sync done ∷ calls) }
 {}
 
 /// A law: a file that answers all that it is asked by the model, whole and at once, has an honest record,
 /// however it began and whatever it was asked within its length. So what is supposed of a record is met
 /// by each such file.
 pub fn a_file_by_the_model_is_honest()
-    ensures { (u : Unseen) (asked : List Asked) → All (IsWithin (size_of u)) asked → IsHonestRecord u (answered u asked) }
+    ensures { (u : Unseen) (asked : List Asked) → All (IsWithin (size_of u)) asked
+        → IsHonestRecord u (answered u asked) }
 {}
 
 impl<S: SystemCalls> FileCalls for SeekingFile<S> {
@@ -56,11 +64,13 @@ impl<S: SystemCalls> FileCalls for SeekingFile<S> {
 
     ghost state = { λ file. recorded (unseen_of file) (S.history (system_of file)) };
 
-    ghost counts_now = { λ file t r h le may. recorded_counts_now (unseen_of file) (S.history (system_of file)) t r le may };
+    ghost counts_now = { λ file t r h le may. recorded_counts_now (unseen_of file)
+        (S.history (system_of file)) t r le may };
 
     ghost only_now = { λ file r h left. recorded_only_now (unseen_of file) (S.history (system_of file)) r left };
 
-    ghost reaches_back = { λ file t s r h le left. recorded_reaches_back (unseen_of file) (S.history (system_of file)) t s r le left };
+    ghost reaches_back = { λ file t s r h le left. recorded_reaches_back (unseen_of file)
+        (S.history (system_of file)) t s r le left };
 
     fn size(&mut self) -> io::Result<u64>
         ensures asked { S.history (system_of self.new) ≡ SeekEnd (answer result) ∷ S.history (system_of self.old) }
@@ -71,8 +81,11 @@ impl<S: SystemCalls> FileCalls for SeekingFile<S> {
 
     fn read_some(&mut self, at: u64, bytes: &mut [u8]) -> io::Result<usize>
         ensures few { IfOk result (λ count. count ≤ length bytes.old) }
-        ensures read { (u : Unseen) → IsHonestRecord u (S.history (system_of self.new)) → IfOk result (λ count. take count bytes.new ≡ window (recorded u (S.history (system_of self.old))).bytes at count) }
-        ensures asked { AsksAt at (Read (length bytes.old) (came result bytes.new)) (is_ok result) (S.history (system_of self.old)) (S.history (system_of self.new)) }
+        ensures read { (u : Unseen) → IsHonestRecord u (S.history (system_of self.new))
+            → IfOk result (λ count. take count bytes.new
+            ≡ window (recorded u (S.history (system_of self.old))).bytes at count) }
+        ensures asked { AsksAt at (Read (length bytes.old) (came result bytes.new)) (is_ok result)
+            (S.history (system_of self.old)) (S.history (system_of self.new)) }
         ensures supposed { unseen_of self.new ≡ unseen_of self.old }
     {
         self.calls.seek_start(at)?;
@@ -81,10 +94,17 @@ impl<S: SystemCalls> FileCalls for SeekingFile<S> {
 
     fn write_some(&mut self, at: u64, bytes: &[u8]) -> io::Result<usize>
         ensures few { IfOk result (λ count. count ≤ length bytes.now) }
-        ensures put { (u : Unseen) → IsHonestRecord u (S.history (system_of self.new)) → IfOk result (λ count. window (recorded u (S.history (system_of self.new))).bytes at count ≡ take count bytes.now) }
-        ensures writes { (u : Unseen) → IsHonestRecord u (S.history (system_of self.new)) → FileWrites at (length bytes.now) (recorded u (S.history (system_of self.old))) (recorded u (S.history (system_of self.new))) }
-        ensures as_supposed { IsHonestRecord (unseen_of self.new) (S.history (system_of self.new)) → FileWrites at (length bytes.now) (recorded (unseen_of self.old) (S.history (system_of self.old))) (recorded (unseen_of self.new) (S.history (system_of self.new))) }
-        ensures asked { AsksAt at (Write bytes.now (answer result)) (is_ok result) (S.history (system_of self.old)) (S.history (system_of self.new)) }
+        ensures put { (u : Unseen) → IsHonestRecord u (S.history (system_of self.new))
+            → IfOk result (λ count. window (recorded u (S.history (system_of self.new))).bytes at count
+            ≡ take count bytes.now) }
+        ensures writes { (u : Unseen) → IsHonestRecord u (S.history (system_of self.new))
+            → FileWrites at (length bytes.now) (recorded u (S.history (system_of self.old)))
+            (recorded u (S.history (system_of self.new))) }
+        ensures as_supposed { IsHonestRecord (unseen_of self.new) (S.history (system_of self.new))
+            → FileWrites at (length bytes.now) (recorded (unseen_of self.old) (S.history (system_of self.old)))
+            (recorded (unseen_of self.new) (S.history (system_of self.new))) }
+        ensures asked { AsksAt at (Write bytes.now (answer result)) (is_ok result) (S.history (system_of self.old))
+            (S.history (system_of self.new)) }
         ensures supposed { unseen_of self.new ≡ unseen_of self.old }
     {
         self.calls.seek_start(at)?;

@@ -4,8 +4,8 @@ ghost use Rattle.imagefile.specs.Unseen.{Unseen, unseen_code};
 use std::marker::Model;
 
 /// What is supposed of a file that no call shows: its bytes before the first call, which of them were
-/// open, what a write left that took less than it was given, and what a sync left that failed. Proofs alone read it: it takes no memory
-/// and costs no time.
+/// open, what a write left that took less than it was given, and what a sync left that failed. Proofs alone read it: it
+/// takes no memory and costs no time.
 ///
 /// What is proved of a function that is given one, or a file that has one, is proved for every beginning.
 #[derive(Drop)]

@@ -2,7 +2,8 @@ ghost use Rattle.std.specs.Prelude.{◌≡◌, ◌≤◌, List, ◌∷◌, [], l
 ghost use Rattle.std.specs.Io.KnownBytes.{ReadConsumes, WriteAppends};
 ghost use Rattle.std.specs.Io.Seek.{SeekMoves};
 ghost use Rattle.std.specs.declared.io.traits.SeekFrom.TheVariants as from;
-ghost use Rattle.imagefile.specs.Calls.{Call, SeekStart, SeekEnd, Read as ReadCall, Write as WriteCall, Sync, answer, came};
+ghost use Rattle.imagefile.specs.Calls.{Call, SeekStart, SeekEnd, Read as ReadCall, Write as WriteCall, Sync, answer};
+ghost use Rattle.imagefile.specs.Calls.{came};
 
 use crate::call_record::{CallMade, CallRecord};
 use std::fs::{File, OpenFile};
@@ -90,7 +91,8 @@ impl<F: Read + Write + Seek + OpenFile> SystemCalls for HostCalls<F> {
 
     fn seek_start(&mut self, at: u64) -> io::Result<u64>
         ensures noted { history_of self.new ≡ SeekStart at (answer result) ∷ history_of self.old }
-        ensures made { SeekMoves (F.Seek.stream_position (file_of self.old)) (F.Seek.stream_position (file_of self.new)) (F.Seek.stream_bytes (file_of self.old)) (from.Start at) result }
+        ensures made { SeekMoves (F.Seek.stream_position (file_of self.old)) (F.Seek.stream_position (file_of self.new))
+            (F.Seek.stream_bytes (file_of self.old)) (from.Start at) result }
     {
         let place = self.file.seek(SeekFrom::Start(at));
         self.history = self.history.then(&CallMade::SeekStart(at, place.ok()));
@@ -99,7 +101,8 @@ impl<F: Read + Write + Seek + OpenFile> SystemCalls for HostCalls<F> {
 
     fn seek_end(&mut self) -> io::Result<u64>
         ensures noted { history_of self.new ≡ SeekEnd (answer result) ∷ history_of self.old }
-        ensures made { SeekMoves (F.Seek.stream_position (file_of self.old)) (F.Seek.stream_position (file_of self.new)) (F.Seek.stream_bytes (file_of self.old)) (from.End (pos 0)) result }
+        ensures made { SeekMoves (F.Seek.stream_position (file_of self.old)) (F.Seek.stream_position (file_of self.new))
+            (F.Seek.stream_bytes (file_of self.old)) (from.End (pos 0)) result }
     {
         let place = self.file.seek(SeekFrom::End(0));
         self.history = self.history.then(&CallMade::SeekEnd(place.ok()));
@@ -108,8 +111,10 @@ impl<F: Read + Write + Seek + OpenFile> SystemCalls for HostCalls<F> {
 
     fn read(&mut self, bytes: &mut [u8]) -> io::Result<usize>
         ensures few { IfOk result (λ count. count ≤ length bytes.old) }
-        ensures noted { history_of self.new ≡ ReadCall (length bytes.old) (came result bytes.new) ∷ history_of self.old }
-        ensures made { ReadConsumes (F.Read.remaining (file_of self.old)) (F.Read.remaining (file_of self.new)) result bytes.new }
+        ensures noted { history_of self.new ≡ ReadCall (length bytes.old) (came result bytes.new)
+            ∷ history_of self.old }
+        ensures made { ReadConsumes (F.Read.remaining (file_of self.old))
+            (F.Read.remaining (file_of self.new)) result bytes.new }
     {
         let asked = bytes.len();
         let count = self.file.read(bytes);
@@ -125,7 +130,8 @@ impl<F: Read + Write + Seek + OpenFile> SystemCalls for HostCalls<F> {
     fn write(&mut self, bytes: &[u8]) -> io::Result<usize>
         ensures few { IfOk result (λ count. count ≤ length bytes.now) }
         ensures noted { history_of self.new ≡ WriteCall bytes.now (answer result) ∷ history_of self.old }
-        ensures made { WriteAppends (F.Write.contents (file_of self.old)) (F.Write.contents (file_of self.new)) result bytes.now }
+        ensures made { WriteAppends (F.Write.contents (file_of self.old))
+            (F.Write.contents (file_of self.new)) result bytes.now }
     {
         let count = self.file.write(bytes);
         self.history = self.history.then(&CallMade::Write(bytes, count.ok()));

@@ -1,5 +1,6 @@
 -- Sums over output sides, and what is booked, where a job's record changes.
-use Rattle.std.proofs.Common.{◌≡◌, ℕ, zero, suc, ◌+◌, ◌≤◌, Bool, true, false, List, [], ◌∷◌, ◌++◌, length, Option, Some, None, refl, sym, ap, subst, ◌∙◌, ◌⊎◌, inl, inr, arith}
+use Rattle.std.proofs.Common.{◌≡◌, ℕ, zero, suc, ◌+◌, ◌≤◌, Bool, true, false, List, [], ◌∷◌, ◌++◌, length, Option, Some}
+use Rattle.std.proofs.Common.{None, refl, sym, ap, subst, ◌∙◌, ◌⊎◌, inl, inr, arith}
 use Rattle.std.specs.List.{AllByRecursion, cons_option}
 use Rattle.std.specs.Prelude.{slice_set, flat_map, filter_map, ◌==◌, ◌||◌}
 use Rattle.std.proofs.lemmas.Bool.{eq-eqb}
@@ -23,15 +24,19 @@ abbrev pub item : {Y : Type 0} → (Y → ℕ) → Option Y → ℕ
 item f None = 0
 item f (Some y) = f y
 
-total-cons_option : {Y : Type 0} (f : Y → ℕ) (o : Option Y) (ys : List Y) → total f (cons_option o ys) ≡ item f o + total f ys
+total-cons_option : {Y : Type 0} (f : Y → ℕ) (o : Option Y) (ys : List Y)
+    → total f (cons_option o ys) ≡ item f o + total f ys
 total-cons_option f None ys = omega arith
 total-cons_option f (Some y) ys = refl
 
-total-filter_map : {X Y : Type 0} (f : Y → ℕ) (h : X → Option Y) (xs : List X) → total f (filter_map h xs) ≡ total (λ x. item f (h x)) xs
+total-filter_map : {X Y : Type 0} (f : Y → ℕ) (h : X → Option Y) (xs : List X)
+    → total f (filter_map h xs) ≡ total (λ x. item f (h x)) xs
 total-filter_map f h [] = refl
-total-filter_map f h (x ∷ xs) = total-cons_option f (h x) (filter_map h xs) ∙ ap (λ k. item f (h x) + k) (total-filter_map f h xs)
+total-filter_map f h (x ∷ xs) = total-cons_option f (h x) (filter_map h xs)
+    ∙ ap (λ k. item f (h x) + k) (total-filter_map f h xs)
 
-total-flat_map : {X Y : Type 0} (f : Y → ℕ) (h : X → List Y) (xs : List X) → total f (flat_map h xs) ≡ total (λ x. total f (h x)) xs
+total-flat_map : {X Y : Type 0} (f : Y → ℕ) (h : X → List Y) (xs : List X)
+    → total f (flat_map h xs) ≡ total (λ x. total f (h x)) xs
 total-flat_map f h [] = refl
 total-flat_map f h (x ∷ xs) = total-append f (h x) (flat_map h xs) ∙ ap (λ k. total f (h x) + k) (total-flat_map f h xs)
 
@@ -39,13 +44,15 @@ plus_swap : (a b t : ℕ) → (a + t) + b ≡ (b + t) + a
 plus_swap a b t = omega arith
 
 -- a slot that is full gets another value
-total-set : {X : Type 0} (g : Option X → ℕ) (xs : List (Option X)) (n : ℕ) (x : Option X) (y : X) → slot xs n ≡ Some y → total g (slice_set xs n x) + g (Some y) ≡ total g xs + g x
+total-set : {X : Type 0} (g : Option X → ℕ) (xs : List (Option X)) (n : ℕ) (x : Option X) (y : X) → slot xs n ≡ Some y
+    → total g (slice_set xs n x) + g (Some y) ≡ total g xs + g x
 total-set g [] n x y e = absurd (none_some e)
 total-set g (z ∷ xs) zero x y e = ap (λ k. (g x + total g xs) + g k) (sym e) ∙ plus_swap (g x) (g z) (total g xs)
 total-set g (z ∷ xs) (suc n) x y e = let r = total-set g xs n x y e in omega arith
 
 -- any slot does
-total-set_le : {X : Type 0} (g : Option X → ℕ) (xs : List (Option X)) (n : ℕ) (x : Option X) → total g (slice_set xs n x) ≤ total g xs + g x
+total-set_le : {X : Type 0} (g : Option X → ℕ) (xs : List (Option X)) (n : ℕ) (x : Option X)
+    → total g (slice_set xs n x) ≤ total g xs + g x
 total-set_le g [] n x = omega arith
 total-set_le g (z ∷ xs) zero x = omega arith
 total-set_le g (z ∷ xs) (suc n) x = let r = total-set_le g xs n x in omega arith
@@ -69,24 +76,31 @@ module _ (f : Output → ℕ) where
 
   -- a job that is there gets another record
   replaced : (s : State) (files : Files Version) (n : ℕ) (job new : Job) → job_at s n ≡ Some job
-      → sum_of (record s { files = files; jobs = slice_set s.jobs n (Some new) }) + of_job (Some job) ≡ sum_of s + of_job (Some new)
+      → sum_of (record s { files = files; jobs = slice_set s.jobs n (Some new) }) + of_job (Some job)
+      ≡ sum_of s + of_job (Some new)
   replaced s files n job new there =
-      ap (λ k. k + of_job (Some job)) (of_jobs (record s { files = files; jobs = slice_set s.jobs n (Some new) })) ∙ total-set of_job s.jobs n (Some new) job there ∙ ap (λ k. k + of_job (Some new)) (sym (of_jobs s))
+      ap (λ k. k + of_job (Some job)) (of_jobs (record s { files = files; jobs = slice_set s.jobs n (Some new) }))
+      ∙ total-set of_job s.jobs n (Some new) job there ∙ ap (λ k. k + of_job (Some new)) (sym (of_jobs s))
 
-  replaced_le : (s : State) (n : ℕ) (new : Job) → sum_of (record s { jobs = slice_set s.jobs n (Some new) }) ≤ sum_of s + of_job (Some new)
+  replaced_le : (s : State) (n : ℕ) (new : Job) → sum_of (record s { jobs = slice_set s.jobs n (Some new) })
+      ≤ sum_of s + of_job (Some new)
   replaced_le s n new =
       let a = of_jobs (record s { jobs = slice_set s.jobs n (Some new) }) in
       let b = of_jobs s in
       let c = total-set_le of_job s.jobs n (Some new) in
       omega (arith, a, b, c)
 
-  channel_replaced : (job : Job) (core : List ℕ) (ch : ℕ) (c : Channel) (x : Option Channel) → channel_at job ch ≡ Some c
-      → of_job (Some (with_channel (record job { core = core }) ch x)) + item f c.output ≡ of_job (Some job) + item f (output_of x)
+  channel_replaced : (job : Job) (core : List ℕ) (ch : ℕ) (c : Channel) (x : Option Channel)
+      → channel_at job ch ≡ Some c
+      → of_job (Some (with_channel (record job { core = core }) ch x)) + item f c.output
+      ≡ of_job (Some job) + item f (output_of x)
   channel_replaced job core ch c x is =
       ap (λ k. k + item f c.output) (of_channels (with_channel (record job { core = core }) ch x))
-      ∙ total-set (λ c. item f (output_of c)) job.channels ch x c is ∙ ap (λ k. k + item f (output_of x)) (sym (of_channels job))
+      ∙ total-set (λ c. item f (output_of c)) job.channels ch x c is
+      ∙ ap (λ k. k + item f (output_of x)) (sym (of_channels job))
 
-  channel_le : (job : Job) (core : List ℕ) (ch : ℕ) (x : Option Channel) → of_job (Some (with_channel (record job { core = core }) ch x)) ≤ of_job (Some job) + item f (output_of x)
+  channel_le : (job : Job) (core : List ℕ) (ch : ℕ) (x : Option Channel)
+      → of_job (Some (with_channel (record job { core = core }) ch x)) ≤ of_job (Some job) + item f (output_of x)
   channel_le job core ch x =
       let a = of_channels (with_channel (record job { core = core }) ch x) in
       let b = of_channels job in
@@ -94,16 +108,22 @@ module _ (f : Output → ℕ) where
       omega (arith, a, b, c)
 
   -- a channel that is open becomes another one, or is closed
-  pub sum_channel : (s : State) (files : Files Version) (n : ℕ) (job : Job) (core : List ℕ) (ch : ℕ) (c : Channel) (x : Option Channel) → job_at s n ≡ Some job → channel_at job ch ≡ Some c
-      → sum_of (record s { files = files; jobs = slice_set s.jobs n (Some (with_channel (record job { core = core }) ch x)) }) + item f c.output ≡ sum_of s + item f (output_of x)
+  pub sum_channel : (s : State) (files : Files Version) (n : ℕ) (job : Job) (core : List ℕ) (ch : ℕ) (c : Channel)
+      (x : Option Channel) → job_at s n ≡ Some job → channel_at job ch ≡ Some c
+      → sum_of (record s {
+        files = files;
+        jobs = slice_set s.jobs n (Some (with_channel (record job { core = core }) ch x));
+      }) + item f c.output ≡ sum_of s + item f (output_of x)
   sum_channel s files n job core ch c x there is =
       let a = replaced s files n job (with_channel (record job { core = core }) ch x) there in
       let b = channel_replaced job core ch c x is in
       omega (arith, a, b)
 
   -- a channel with no output side is opened
-  pub sum_opened : (s : State) (n : ℕ) (job : Job) (core : List ℕ) (ch : ℕ) (d : Channel) → job_at s n ≡ Some job → d.output ≡ None
-      → sum_of (record s { jobs = slice_set s.jobs n (Some (with_channel (record job { core = core }) ch (Some d))) }) ≤ sum_of s
+  pub sum_opened : (s : State) (n : ℕ) (job : Job) (core : List ℕ) (ch : ℕ) (d : Channel) → job_at s n ≡ Some job
+      → d.output ≡ None
+      → sum_of (record s { jobs = slice_set s.jobs n (Some (with_channel (record job { core = core }) ch (Some d))) })
+      ≤ sum_of s
   sum_opened s n job core ch d there none =
       let a = replaced s s.files n job (with_channel (record job { core = core }) ch (Some d)) there in
       let b = channel_le job core ch (Some d) in
@@ -115,7 +135,10 @@ module _ (f : Output → ℕ) where
   none_of ppn core = refl
 
   -- a job with all its channels closed
-  pub sum_closed : (s : State) (n ppn : ℕ) (core : List ℕ) → sum_of (record s { jobs = slice_set s.jobs n (Some (record { ppn = ppn; core = core; channels = all_closed })) }) ≤ sum_of s
+  pub sum_closed : (s : State) (n ppn : ℕ) (core : List ℕ)
+      → sum_of
+      (record s { jobs = slice_set s.jobs n (Some (record { ppn = ppn; core = core; channels = all_closed })) })
+      ≤ sum_of s
   sum_closed s n ppn core =
       let a = replaced_le s n (record { ppn = ppn; core = core; channels = all_closed }) in
       let b = none_of ppn core in
@@ -130,44 +153,59 @@ module _ (s s' : State) (sound : IsSound s) where
       decide : (b : Bool) → has_serial w.serial (current s ++ held s) ≡ b → b ≡ true
       decide true e = refl
       decide false e =
-          let h = version_of_all s (λ v. (v.serial == w.serial) ≡ false) (none_passes (λ v. v.serial == w.serial) (current s ++ held s) e) w there in
+          let h = version_of_all s (λ v. (v.serial == w.serial) ≡ false)
+          (none_passes (λ v. v.serial == w.serial) (current s ++ held s) e) w there in
           let wrong = sym h ∙ eq-eqb w.serial w.serial refl in cc
 
   cost_alike : (v w : Version) → AreAlike v w → cost v ≡ cost w
   cost_alike v w a = ap (λ body. version_cost (length body)) a.body
 
-  same_cost : (w : Version) → Known s w → AllByRecursion (λ y. y.serial ≡ w.serial → cost y ≡ cost w) (current s ++ held s)
+  same_cost : (w : Version) → Known s w
+      → AllByRecursion (λ y. y.serial ≡ w.serial → cost y ≡ cost w) (current s ++ held s)
   same_cost w at = all_versions s (λ y. y.serial ≡ w.serial → cost y ≡ cost w)
       (λ y is e. cost_alike y at.0 (sound.serials y at.0 is at.1 (e ∙ sym at.2)) ∙ cost_alike at.0 w at.3)
 
   serial_known : (w : Version) → Known s w → has_serial w.serial (current s ++ held s) ≡ true
   serial_known w at = subst (λ k. has_serial k (current s ++ held s) ≡ true) at.2 (serial_there at.0 at.1)
 
-  pub costs_kept : ((w : Version) → Exists s' w → Known s w) → distinct_cost (current s' ++ held s') ≤ distinct_cost (current s ++ held s)
-  costs_kept was = distinct_le (current s' ++ held s') (current s ++ held s) (all_versions s' (Fits (current s ++ held s)) (λ w there. (serial_known w (was w there), same_cost w (was w there))))
+  pub costs_kept : ((w : Version) → Exists s' w → Known s w) → distinct_cost (current s' ++ held s')
+      ≤ distinct_cost (current s ++ held s)
+  costs_kept was = distinct_le (current s' ++ held s') (current s ++ held s)
+      (all_versions s' (Fits (current s ++ held s))
+      (λ w there. (serial_known w (was w there), same_cost w (was w there))))
 
   module _ (v : Version) (fresh : IsFresh s v.serial) where
     another : (w : Version) → Exists s w → w.serial ≡ v.serial → ⊥
     another w there e =
-        let h = version_of_all s (λ u. (u.serial == v.serial) ≡ false) (none_passes (λ u. u.serial == v.serial) (current s ++ held s) fresh) w there in
+        let h = version_of_all s (λ u. (u.serial == v.serial) ≡ false)
+        (none_passes (λ u. u.serial == v.serial) (current s ++ held s) fresh) w there in
         let wrong = sym h ∙ eq-eqb w.serial v.serial e in cc
 
     fits_new : (w : Version) → Known s w ⊎ (w ≡ v) → Fits (v ∷ (current s ++ held s)) w
-    fits_new w (inl at) = (passes (v.serial == w.serial) (serial_known w at), ((λ e. absurd (another at.0 at.1 (at.2 ∙ sym e))), same_cost w at))
+    fits_new w (inl at) = (
+      passes (v.serial == w.serial) (serial_known w at),
+      ((λ e. absurd (another at.0 at.1 (at.2 ∙ sym e))), same_cost w at),
+    )
       where
         passes : (a : Bool) {b : Bool} → b ≡ true → (a || b) ≡ true
         passes true e = refl
         passes false e = e
     fits_new w (inr same) = (
       subst (λ u. has_serial u.serial (v ∷ (current s ++ held s)) ≡ true) (sym same) (first v (current s ++ held s)),
-      ((λ e. ap cost (sym same)), all_versions s (λ y. y.serial ≡ w.serial → cost y ≡ cost w) (λ y is e. absurd (another y is (e ∙ ap (λ (u : Version). u.serial) same)))),
+      (
+        (λ e. ap cost (sym same)),
+        all_versions s (λ y. y.serial ≡ w.serial
+            → cost y ≡ cost w) (λ y is e. absurd (another y is (e ∙ ap (λ (u : Version). u.serial) same))),
+      ),
     )
       where
         first : (v : Version) (vs : List Version) → has_serial v.serial (v ∷ vs) ≡ true
         first v vs = let e = eq-eqb v.serial v.serial refl in rw e refl
 
-    pub costs_new : ((w : Version) → Exists s' w → Known s w ⊎ (w ≡ v)) → distinct_cost (current s' ++ held s') ≤ cost v + distinct_cost (current s ++ held s)
+    pub costs_new : ((w : Version) → Exists s' w → Known s w ⊎ (w ≡ v))
+        → distinct_cost (current s' ++ held s') ≤ cost v + distinct_cost (current s ++ held s)
     costs_new was =
-        let a = distinct_le (current s' ++ held s') (v ∷ (current s ++ held s)) (all_versions s' (Fits (v ∷ (current s ++ held s))) (λ w there. fits_new w (was w there))) in
+        let a = distinct_le (current s' ++ held s') (v ∷ (current s ++ held s))
+        (all_versions s' (Fits (v ∷ (current s ++ held s))) (λ w there. fits_new w (was w there))) in
         let b = distinct_more v (current s ++ held s) in
         omega (arith, a, b)

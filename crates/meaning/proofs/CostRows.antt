@@ -11,10 +11,16 @@ abbrev large : Pack
 large = record { layout = 1; blocks = 512 }
 
 abbrev version : ℕ → List ℕ → Version
-version serial body = record { file = record { protection = 0o057; mode = 0o17; time = 0; date = 0; body = body }; serial = serial }
+version serial body = record {
+  file = record { protection = 0o057; mode = 0o17; time = 0; date = 0; body = body };
+  serial = serial;
+}
 
 abbrev with_names : FinMap name_cmp Version → State
-with_names files = record { files = insert empty ten_twenty (record { protection = 0o775; quota = 0; files = files }); jobs = no_jobs }
+with_names files = record {
+  files = insert empty ten_twenty (record { protection = 0o775; quota = 0; files = files });
+  jobs = no_jobs;
+}
 
 abbrev with_foo : List ℕ → FinMap name_cmp Version
 with_foo body = insert empty (record { name = foo; ext = 0o647064 }) (version 1 body)
@@ -28,6 +34,7 @@ unfolding empty insert get entries size
 one body e = rw e refl
 
 two : (body other : List ℕ) → length body ≡ 112 * 128 → length other ≡ 113 * 128
-    → room large (with_names (insert (with_foo body) (record { name = bar; ext = 0o647064 }) (version 2 other))) ≡ pos 267
+    → room large (with_names (insert (with_foo body) (record { name = bar; ext = 0o647064 }) (version 2 other)))
+    ≡ pos 267
 unfolding empty insert get entries size
 two body other e f = rw e (rw f refl)

@@ -1,5 +1,6 @@
 -- Lists of blocks and of words.
-use Rattle.std.proofs.Common.{◌≡◌, ℕ, suc, ◌<◌, List, [], ◌∷◌, ◌++◌, length, flat_map, refl, sym, subst, ◌∙◌, arith, append_assoc}
+use Rattle.std.proofs.Common.{◌≡◌, ℕ, suc, ◌<◌, List, [], ◌∷◌, ◌++◌, length, flat_map, refl, sym, subst, ◌∙◌, arith}
+use Rattle.std.proofs.Common.{append_assoc}
 use Rattle.std.proofs.lemmas.Bool.{eq-eqb}
 use Rattle.meaning.specs.Maps.{times}
 
@@ -17,7 +18,8 @@ pub not_first : (n : ℕ) (ns : List ℕ) → 0 ≡ n → times 0 (n ∷ ns) ≡
 not_first n ns e h = let p : 0 < times 0 (n ∷ ns) = subst (λ m. 0 < times 0 (m ∷ ns)) e (times_here 0 ns) in omega arith
 
 -- what is in front and what is behind, where the fronts are of one length
-pub front_same : {A : Type 0} (xs ys us vs : List A) → length xs ≡ length ys → xs ++ us ≡ ys ++ vs → (xs ≡ ys) × (us ≡ vs)
+pub front_same : {A : Type 0} (xs ys us vs : List A) → length xs ≡ length ys → xs ++ us ≡ ys ++ vs
+    → (xs ≡ ys) × (us ≡ vs)
 front_same [] [] us vs n e = (refl, e)
 front_same [] (y ∷ ys) us vs n e = absurd (omega arith)
 front_same (x ∷ xs) [] us vs n e = absurd (omega arith)
@@ -33,12 +35,15 @@ pub record TellsApart {E : Type 0} (words : E → List ℕ) : Type 0 where
   pub three : (e : E) → length (words e) ≡ 3
   pub same : (e f : E) → words e ≡ words f → e ≡ f
 
-pub flat_same : {E : Type 0} (words : E → List ℕ) → TellsApart words → (es fs : List E) (x y : List ℕ) → length es ≡ length fs → flat_map words es ++ x ≡ flat_map words fs ++ y → es ≡ fs
+pub flat_same : {E : Type 0} (words : E → List ℕ) → TellsApart words → (es fs : List E) (x y : List ℕ)
+    → length es ≡ length fs → flat_map words es ++ x ≡ flat_map words fs ++ y → es ≡ fs
 flat_same words a [] [] x y n e = refl
 flat_same words a [] (f ∷ fs) x y n e = absurd (omega arith)
 flat_same words a (d ∷ es) [] x y n e = absurd (omega arith)
 flat_same words a (d ∷ es) (f ∷ fs) x y n e =
-    let parts = front_same (words d) (words f) (flat_map words es ++ x) (flat_map words fs ++ y) (a.three d ∙ sym (a.three f)) (sym (append_assoc (words d) (flat_map words es) x) ∙ e ∙ append_assoc (words f) (flat_map words fs) y) in
+    let parts = front_same (words d) (words f) (flat_map words es ++ x) (flat_map words fs ++ y) (a.three d
+    ∙ sym (a.three f)) (sym (append_assoc (words d) (flat_map words es) x) ∙ e
+    ∙ append_assoc (words f) (flat_map words fs) y) in
     let head : d ≡ f = a.same d f parts.0 in
     let rest : es ≡ fs = flat_same words a es fs x y (omega arith) parts.1 in
     cc

@@ -1,5 +1,6 @@
 -- What a LOOKUP found is what the channel reads from then on, over every run that leaves it its input side.
-use Rattle.std.proofs.Common.{◌≡◌, ℕ, Bool, true, false, if◌then◌else◌, List, [], ◌∷◌, Option, Some, None, refl, sym, ap, subst, ◌∙◌, ◌≢◌, option_map, ⊎_elim}
+use Rattle.std.proofs.Common.{◌≡◌, ℕ, Bool, true, false, if◌then◌else◌, List, [], ◌∷◌, Option, Some, None, refl, sym}
+use Rattle.std.proofs.Common.{ap, subst, ◌∙◌, ◌≢◌, option_map, ⊎_elim}
 use Rattle.std.specs.Prelude.{nat_lt, ◌==◌, ◌||◌, not, is_none, is_some}
 use Rattle.words36.specs.declared.moment.Moment.{Moment}
 use Rattle.meaning.specs.Files.{Place}
@@ -9,12 +10,14 @@ use Rattle.meaning.specs.Rights.{may_look}
 use Rattle.meaning.specs.Cores.{lies_outside}
 use Rattle.meaning.specs.Jobs.{Channel, Job, Input, Output, State, channel_at, job_at}
 use Rattle.meaning.specs.Room.{Pack}
-use Rattle.meaning.specs.Looking.{lookup, lookup_answer, lookup_done, looked_up, place_at, has_no_directory, is_absent, directory_digit_at}
+use Rattle.meaning.specs.Looking.{lookup, lookup_answer, lookup_done, looked_up, place_at, has_no_directory, is_absent}
+use Rattle.meaning.specs.Looking.{directory_digit_at}
 use Rattle.meaning.specs.Inputs.{in_answer, in_done, core_filled, words_ahead, reads}
 use Rattle.meaning.specs.Outcomes.{stopped_in, refused_at}
 use Rattle.meaning.specs.Step.{step, last_date, on_job, on_channel, of_job}
 use Rattle.meaning.specs.Runs.{Service, Serving, Broken, Answers, Run}
-use Rattle.meaning.specs.Holding.{SparesEvent, SpareAll, version_read, held_on, held_in, held_for, held_at, FoundBy, MovesWordsOf}
+use Rattle.meaning.specs.Holding.{SparesEvent, SpareAll, version_read, held_on, held_in, held_for, held_at, FoundBy}
+use Rattle.meaning.specs.Holding.{MovesWordsOf}
 use Rattle.meaning.specs.declared.call.Call.TheVariants.{Lookup, In}
 use Rattle.meaning.specs.declared.call.Event.{Event}
 use Rattle.meaning.specs.declared.call.Event.TheVariants.{Call as Calls}
@@ -36,7 +39,8 @@ serving_same {s} e = ap served e
 pub not_broken : {s : State} → Serving s ≡ Broken → ⊥
 not_broken e = cc
 
-pub broken_stays : (pack : Pack) (events : List Event) (replies : List Reply) (new : Service) → Run pack Broken events replies new → new ≡ Broken
+pub broken_stays : (pack : Pack) (events : List Event) (replies : List Reply) (new : Service)
+    → Run pack Broken events replies new → new ≡ Broken
 broken_stays pack [] [] new r = r
 broken_stays pack [] (reply ∷ replies) new r = absurd r
 broken_stays pack (event ∷ events) [] new r = absurd r
@@ -44,23 +48,27 @@ broken_stays pack (event ∷ events) (reply ∷ replies) new (Serving after, a, 
 broken_stays pack (event ∷ events) (reply ∷ replies) new (Broken, a, r) = broken_stays pack events replies new r
 
 answers_held : (pack : Pack) (s t : State) (event : Event) (reply : Reply) (n ch : ℕ) (v : Version)
-    → Answers pack (Serving s) event reply (Serving t) → SparesEvent n ch event → held_at s n ch ≡ Some v → held_at t n ch ≡ Some v
+    → Answers pack (Serving s) event reply (Serving t) → SparesEvent n ch event → held_at s n ch ≡ Some v
+    → held_at t n ch ≡ Some v
 answers_held pack s t event reply n ch v a spared h = ⊎_elim
     (λ steps. subst (λ r. held_at r.1 n ch ≡ Some v) steps.2 (event_held pack steps.0 s n ch v event spared h))
     (λ none. subst (λ x. held_at x n ch ≡ Some v) (sym none.1) h) a
 
 pub run_held : (pack : Pack) (s t : State) (events : List Event) (replies : List Reply) (n ch : ℕ) (v : Version)
-    → Run pack (Serving s) events replies (Serving t) → SpareAll n ch events → held_at s n ch ≡ Some v → held_at t n ch ≡ Some v
+    → Run pack (Serving s) events replies (Serving t) → SpareAll n ch events → held_at s n ch ≡ Some v
+    → held_at t n ch ≡ Some v
 run_held pack s t [] [] n ch v r spared h = subst (λ x. held_at x n ch ≡ Some v) (sym (serving_same r)) h
 run_held pack s t [] (reply ∷ replies) n ch v r spared h = absurd r
 run_held pack s t (event ∷ events) [] n ch v r spared h = absurd r
 run_held pack s t (event ∷ events) (reply ∷ replies) n ch v (Serving mid, a, r) spared h =
     run_held pack mid t events replies n ch v r spared.1 (answers_held pack s mid event reply n ch v a spared.0 h)
-run_held pack s t (event ∷ events) (reply ∷ replies) n ch v (Broken, a, r) spared h = absurd (not_broken (broken_stays pack events replies (Serving t) r))
+run_held pack s t (event ∷ events) (reply ∷ replies) n ch v (Broken, a, r) spared h = absurd
+    (not_broken (broken_stays pack events replies (Serving t) r))
 
 -- A LOOKUP that is done.
 
-pub passed : (b : Bool) (stop rest : Reply) → stop ≢ Done → (if b then stop else rest) ≡ Done → (b ≡ false) × (rest ≡ Done)
+pub passed : (b : Bool) (stop rest : Reply) → stop ≢ Done → (if b then stop else rest) ≡ Done
+    → (b ≡ false) × (rest ≡ Done)
 passed true stop rest differs e = absurd (differs e)
 passed false stop rest differs e = (refl, e)
 
@@ -73,11 +81,14 @@ is_there None e = let wrong = e in cc
 is_there (Some y) e = (y, refl)
 
 -- what the channel holds after it, by what was found
-looked_up_holds : (pack : Pack) (job : Job) (ch : ℕ) (c : Channel) (e : ℕ) (place : Place) (found : Option Version) (v : Version)
-    → channel_at job ch ≡ Some c → c.output ≡ None → found ≡ Some v → held_in (looked_up pack job ch c e place found) ch ≡ Some v
+looked_up_holds : (pack : Pack) (job : Job) (ch : ℕ) (c : Channel) (e : ℕ) (place : Place) (found : Option Version)
+    (v : Version)
+    → channel_at job ch ≡ Some c → c.output ≡ None → found ≡ Some v → held_in (looked_up pack job ch c e place found) ch
+    ≡ Some v
 looked_up_holds pack job ch c e place None v there none f = let wrong = f in cc
 looked_up_holds pack job ch c e place (Some w) v there none f =
-    ap held_on (slot-set_same job.channels ch _ c there) ∙ ap (λ o. version_read o (Some (record { place = place; version = w; next = 1 }))) none ∙ f
+    ap held_on (slot-set_same job.channels ch _ c there)
+    ∙ ap (λ o. version_read o (Some (record { place = place; version = w; next = 1 }))) none ∙ f
 
 pub is_none_of : {X : Type 0} (x : Option X) → is_some x ≡ false → x ≡ None
 is_none_of None e = refl
@@ -97,20 +108,28 @@ lookup_needs s job c e place done =
 
 -- the row
 abbrev Looked : State → Job → ℕ → ℕ → Reply × Job → Type 0
-Looked s job ch e r = r.0 ≡ Done → (v : Version) × (file_at s.files (place_at job e) ≡ Some v) × (held_in r.1 ch ≡ Some v)
+Looked s job ch e r = r.0 ≡ Done → (v : Version) × (file_at s.files (place_at job e) ≡ Some v)
+    × (held_in r.1 ch ≡ Some v)
 
-row_looks : (pack : Pack) (s : State) (job : Job) (ch : ℕ) (c : Channel) (e : ℕ) → channel_at job ch ≡ Some c → Looked s job ch e (lookup pack s job ch c e)
+row_looks : (pack : Pack) (s : State) (job : Job) (ch : ℕ) (c : Channel) (e : ℕ) → channel_at job ch ≡ Some c
+    → Looked s job ch e (lookup pack s job ch c e)
 row_looks pack s job ch c e there =
-    settled_by (Looked s job ch e) (lookup_answer s job c e (place_at job e)) (lookup_done pack s job ch c e (place_at job e)) (refused_at job e)
-    (λ is done. let needs = lookup_needs s job c e (place_at job e) is in
-    (needs.1, needs.2, looked_up_holds pack job ch c e (place_at job e) (file_at s.files (place_at job e)) needs.1 there needs.0 needs.2))
+    settled_by (Looked s job ch e) (lookup_answer s job c e (place_at job e))
+    (lookup_done pack s job ch c e (place_at job e)) (refused_at job e)
+    (λ is done. let needs = lookup_needs s job c e (place_at job e) is in (
+      needs.1,
+      needs.2,
+      looked_up_holds pack job ch c e (place_at job e)
+          (file_at s.files (place_at job e)) needs.1 there needs.0 needs.2,
+    ))
     (λ differs done. absurd (differs done))
 
 -- the event
 abbrev Finds : State → ℕ → ℕ → ℕ → Reply × State → Type 0
 Finds s n ch e r = r.0 ≡ Done → (v : Version) × FoundBy s n e v × (held_at r.1 n ch ≡ Some v)
 
-finds_on_channel : (pack : Pack) (s : State) (n : ℕ) (job : Job) (ch e : ℕ) → job_at s n ≡ Some job → (o : Option Channel) → channel_at job ch ≡ o
+finds_on_channel : (pack : Pack) (s : State) (n : ℕ) (job : Job) (ch e : ℕ) → job_at s n ≡ Some job
+    → (o : Option Channel) → channel_at job ch ≡ o
     → Finds s n ch e (on_channel s o (λ c. of_job s n (lookup pack s job ch c e)))
 finds_on_channel pack s n job ch e there None f done = let wrong = done in cc
 finds_on_channel pack s n job ch e there (Some c) f done =
@@ -122,11 +141,13 @@ finds_on_job : (pack : Pack) (s : State) (n ch e : ℕ) (o : Option Job) → job
 finds_on_job pack s n ch e None f done = let wrong = done in cc
 finds_on_job pack s n ch e (Some job) f done = finds_on_channel pack s n job ch e f (channel_at job ch) refl done
 
-finds_if : (s : State) (n ch e : ℕ) (late : Bool) (r : Reply × State) → Finds s n ch e r → Finds s n ch e (if late then (DateRange, s) else r)
+finds_if : (s : State) (n ch e : ℕ) (late : Bool) (r : Reply × State) → Finds s n ch e r
+    → Finds s n ch e (if late then (DateRange, s) else r)
 finds_if s n ch e true r h done = let wrong = done in cc
 finds_if s n ch e false r h done = h done
 
-pub lookup_finds : (pack : Pack) (serial : ℕ) (s : State) (n ch e : ℕ) (moment : Moment) → Finds s n ch e (step pack serial s (Calls n (Lookup ch e) moment))
+pub lookup_finds : (pack : Pack) (serial : ℕ) (s : State) (n ch e : ℕ) (moment : Moment)
+    → Finds s n ch e (step pack serial s (Calls n (Lookup ch e) moment))
 lookup_finds pack serial s n ch e moment =
     finds_if s n ch e (nat_lt (last_date pack.layout) moment.date) _ (finds_on_job pack s n ch e (job_at s n) refl)
 
@@ -136,10 +157,12 @@ abbrev Filled : Job → Channel → ℕ → Reply × Job → Type 0
 Filled job c a r = r.0 ≡ Done → r.1.core ≡ core_filled job c a (words_ahead c.input c.output)
 
 row_fills : (job : Job) (ch : ℕ) (c : Channel) (a : ℕ) → Filled job c a (reads job ch c a)
-row_fills job ch c a = settled_by (Filled job c a) (in_answer job c a) (in_done job ch c a) (stopped_in job ch c) (λ is done. refl) (λ differs done. absurd (differs done))
+row_fills job ch c a = settled_by (Filled job c a) (in_answer job c a) (in_done job ch c a) (stopped_in job ch c)
+    (λ is done. refl) (λ differs done. absurd (differs done))
 
 -- the input side of a channel that holds a version
-side_of : (o : Option Output) (i : Option Input) (v : Version) → version_read o i ≡ Some v → (side : Input) × (i ≡ Some side)
+side_of : (o : Option Output) (i : Option Input) (v : Version) → version_read o i ≡ Some v
+    → (side : Input) × (i ≡ Some side)
 side_of (Some o) i v e = let wrong = e in cc
 side_of None None v e = let wrong = e in cc
 side_of None (Some i) v e = (i, refl)
@@ -147,12 +170,15 @@ side_of None (Some i) v e = (i, refl)
 abbrev Moves : State → ℕ → ℕ → ℕ → Version → Reply × State → Type 0
 Moves s n ch a v r = r.0 ≡ Done → MovesWordsOf s r.1 n ch a v
 
-moves_on_channel : (s : State) (n : ℕ) (job : Job) (ch a : ℕ) (v : Version) → job_at s n ≡ Some job → (o : Option Channel) → channel_at job ch ≡ o → held_on o ≡ Some v
+moves_on_channel : (s : State) (n : ℕ) (job : Job) (ch a : ℕ) (v : Version) → job_at s n ≡ Some job
+    → (o : Option Channel) → channel_at job ch ≡ o → held_on o ≡ Some v
     → Moves s n ch a v (on_channel s o (λ c. of_job s n (reads job ch c a)))
 moves_on_channel s n job ch a v there None f h done = let wrong = done in cc
 moves_on_channel s n job ch a v there (Some c) f h done =
     let side = side_of c.output c.input v h in
-    let words : words_ahead c.input c.output ≡ words_from v.file.body side.0.next = words_held v c.output c.input h side.0.next (ap (option_map (λ i. i.next)) side.1) in
+    let words : words_ahead c.input c.output
+    ≡ words_from v.file.body side.0.next = words_held v c.output c.input h side.0.next
+    (ap (option_map (λ i. i.next)) side.1) in
     record {
       job = job;
       channel = c;
@@ -170,22 +196,28 @@ moves_on_job : (s : State) (n ch a : ℕ) (v : Version) (o : Option Job) → job
 moves_on_job s n ch a v None f h done = let wrong = done in cc
 moves_on_job s n ch a v (Some job) f h done = moves_on_channel s n job ch a v f (channel_at job ch) refl h done
 
-moves_if : (s : State) (n ch a : ℕ) (v : Version) (late : Bool) (r : Reply × State) → Moves s n ch a v r → Moves s n ch a v (if late then (DateRange, s) else r)
+moves_if : (s : State) (n ch a : ℕ) (v : Version) (late : Bool) (r : Reply × State) → Moves s n ch a v r
+    → Moves s n ch a v (if late then (DateRange, s) else r)
 moves_if s n ch a v true r h done = let wrong = done in cc
 moves_if s n ch a v false r h done = h done
 
-pub in_moves : (pack : Pack) (serial : ℕ) (s : State) (n ch a : ℕ) (v : Version) (moment : Moment) → held_at s n ch ≡ Some v → Moves s n ch a v (step pack serial s (Calls n (In ch a) moment))
+pub in_moves : (pack : Pack) (serial : ℕ) (s : State) (n ch a : ℕ) (v : Version) (moment : Moment)
+    → held_at s n ch ≡ Some v → Moves s n ch a v (step pack serial s (Calls n (In ch a) moment))
 in_moves pack serial s n ch a v moment h =
     moves_if s n ch a v (nat_lt (last_date pack.layout) moment.date) _ (moves_on_job s n ch a v (job_at s n) refl h)
 
 -- Both, with a run between them.
 
-done_steps : (pack : Pack) (s t : State) (event : Event) → Answers pack (Serving s) event Done (Serving t) → (serial : ℕ) × (step pack serial s event ≡ (Done, t))
+done_steps : (pack : Pack) (s t : State) (event : Event) → Answers pack (Serving s) event Done (Serving t)
+    → (serial : ℕ) × (step pack serial s event ≡ (Done, t))
 done_steps pack s t event a = ⊎_elim (λ steps. (steps.0, steps.2)) (λ none. let wrong = none.0 in cc) a
 
-pub reading_holds : (pack : Pack) (s s' t u : State) (n ch e a : ℕ) (first last : Moment) (events : List Event) (replies : List Reply)
-    → Answers pack (Serving s) (Calls n (Lookup ch e) first) Done (Serving s') → Run pack (Serving s') events replies (Serving t) → SpareAll n ch events
-    → Answers pack (Serving t) (Calls n (In ch a) last) Done (Serving u) → (v : Version) × FoundBy s n e v × MovesWordsOf t u n ch a v
+pub reading_holds : (pack : Pack) (s s' t u : State) (n ch e a : ℕ) (first last : Moment) (events : List Event)
+    (replies : List Reply)
+    → Answers pack (Serving s) (Calls n (Lookup ch e) first) Done (Serving s')
+    → Run pack (Serving s') events replies (Serving t) → SpareAll n ch events
+    → Answers pack (Serving t) (Calls n (In ch a) last) Done (Serving u) → (v : Version) × FoundBy s n e v
+    × MovesWordsOf t u n ch a v
 reading_holds pack s s' t u n ch e a first last events replies look run spared take =
     let l = done_steps pack s s' (Calls n (Lookup ch e) first) look in
     let i = done_steps pack t u (Calls n (In ch a) last) take in

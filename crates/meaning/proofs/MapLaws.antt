@@ -1,13 +1,15 @@
 -- Laws of finite maps: what each operation answers, and equations between maps.
 -- In each section `o` says that the order of the keys is total, and `exact` that only equal keys tie in it.
 -- MapLists has maps made of a list, MapEdits an edit of that list, and MapSums sums and sizes.
-use Rattle.std.proofs.Common.{◌≡◌, Bool, true, false, cond, not, T, List, [], length, Option, Some, None, ◌≢◌, ◌⊎◌, inl, inr, refl, sym, ap, ◌∙◌, Ordering}
+use Rattle.std.proofs.Common.{◌≡◌, Bool, true, false, cond, not, T, List, [], length, Option, Some, None, ◌≢◌, ◌⊎◌, inl}
+use Rattle.std.proofs.Common.{inr, refl, sym, ap, ◌∙◌, Ordering}
 use mathlib.Core.HLevel.{Σ_prop_path}
 use lib.Dec.{T_prop}
 use Rattle.std.specs.Ordering.{eq_by_cmp, is_eq}
 use Rattle.std.specs.Cmp.{IsTotalOrder, tied_itself, alike_right, eq_by_cmp_equiv, Equal-is}
 use Rattle.std.specs.FinMap.{IsAntisymmetric}
-use Rattle.std.specs.FinMap.Entries.{find, put, is_sorted, where_key, is_sorted-put, find-put, find-where_key, same_entries}
+use Rattle.std.specs.FinMap.Entries.{find, put, is_sorted, where_key, is_sorted-put, find-put, find-where_key}
+use Rattle.std.specs.FinMap.Entries.{same_entries}
 use Rattle.meaning.specs.Maps.{FinMap, entries, empty, checked, get, insert, remove, size}
 
 pub some_same : {A : Type 0} {x y : A} → Some x ≡ Some y → x ≡ y
@@ -28,7 +30,8 @@ twice true x y z = refl
 twice false x y z = refl
 
 -- two tests change places, where both give one answer or at most one of them holds
-swapped : {A : Type 0} (a b : Bool) (x y z : A) → (a ≡ true → b ≡ true → x ≡ y) → cond a x (cond b y z) ≡ cond b y (cond a x z)
+swapped : {A : Type 0} (a b : Bool) (x y z : A) → (a ≡ true → b ≡ true → x ≡ y)
+    → cond a x (cond b y z) ≡ cond b y (cond a x z)
 swapped true true x y z both = both refl refl
 swapped true false x y z both = refl
 swapped false b x y z both = refl
@@ -77,7 +80,8 @@ module _ {K X : Type 0} {R : K → K → Ordering} where
   pub same_entries_map : (m n : FinMap R X) → entries m ≡ entries n → m ≡ n
   unfolding entries
   same_entries_map m n e =
-      let pairs : ◌≡◌ {A = (es : List (K × X)) × T (is_sorted R es)} (m.list, m.sorted) (n.list, n.sorted) = Σ_prop_path (λ es. T_prop _) e in
+      let pairs : ◌≡◌ {A = (es : List (K × X)) × T (is_sorted R es)} (m.list, m.sorted) (n.list, n.sorted) = Σ_prop_path
+      (λ es. T_prop _) e in
       λ i. record { list = (pairs i).0; sorted = (pairs i).1 }
 
   pub get-entries : (m : FinMap R X) (q : K) → get m q ≡ find R q (entries m)
@@ -88,7 +92,8 @@ module _ {K X : Type 0} {R : K → K → Ordering} where
   unfolding size
   size-entries m = refl
 
-  pub entries-remove : (m : FinMap R X) (k : K) → entries (remove m k) ≡ where_key R (λ q. not (eq_by_cmp R k q)) (entries m)
+  pub entries-remove : (m : FinMap R X) (k : K)
+      → entries (remove m k) ≡ where_key R (λ q. not (eq_by_cmp R k q)) (entries m)
   unfolding remove entries
   entries-remove m k = refl
 
@@ -106,7 +111,8 @@ module _ {K : Type 0} (R : K → K → Ordering) (X : Type 0) where
   get-empty q = refl
 
 module _ {K X : Type 0} {R : K → K → Ordering} (o : IsTotalOrder R) where
-  entries-checked : (es : List (K × X)) (b : Bool) (e : is_sorted R es ≡ b) (m : FinMap R X) → T b → entries (checked es b e m) ≡ es
+  entries-checked : (es : List (K × X)) (b : Bool) (e : is_sorted R es ≡ b) (m : FinMap R X) → T b
+      → entries (checked es b e m) ≡ es
   unfolding entries
   entries-checked es true e m h = refl
   entries-checked es false e m h = absurd h
@@ -115,7 +121,8 @@ module _ {K X : Type 0} {R : K → K → Ordering} (o : IsTotalOrder R) where
   unfolding insert
   entries-insert m k v = entries-checked _ _ refl m (is_sorted-put R o k v (entries m) (entries_sorted m))
 
-  pub get-insert : (m : FinMap R X) (k : K) (v : X) (q : K) → get (insert m k v) q ≡ cond (eq_by_cmp R q k) (Some v) (get m q)
+  pub get-insert : (m : FinMap R X) (k : K) (v : X) (q : K)
+      → get (insert m k v) q ≡ cond (eq_by_cmp R q k) (Some v) (get m q)
   unfolding get
   get-insert m k v q = ap (find R q) (entries-insert m k v) ∙ find-put R o q k v (entries m)
 
@@ -125,7 +132,8 @@ module _ {K X : Type 0} {R : K → K → Ordering} (o : IsTotalOrder R) where
   pub get-remove : (m : FinMap R X) (k q : K) → get (remove m k) q ≡ cond (eq_by_cmp R q k) None (get m q)
   unfolding get
   get-remove m k q = ap (find R q) (entries-remove m k)
-      ∙ find-where_key R (λ x. not (eq_by_cmp R k x)) q (λ x t. ap (λ r. not (is_eq r)) (sym (alike_right o q x k t))) (entries m)
+      ∙ find-where_key R (λ x. not (eq_by_cmp R k x)) q (λ x t. ap (λ r. not (is_eq r)) (sym (alike_right o q x k t)))
+      (entries m)
       ∙ turned (eq_by_cmp R k q) _ _ ∙ ap (λ b. cond b None (get m q)) ((eq_by_cmp_equiv o).symm k q)
 
   pub get-removed : (m : FinMap R X) (k : K) → get (remove m k) k ≡ None
@@ -133,16 +141,19 @@ module _ {K X : Type 0} {R : K → K → Ordering} (o : IsTotalOrder R) where
 
 module _ {K X : Type 0} {R : K → K → Ordering} (o : IsTotalOrder R) (exact : IsAntisymmetric R) where
   pub get-insert_other : (m : FinMap R X) (k : K) (v : X) (q : K) → q ≢ k → get (insert m k v) q ≡ get m q
-  get-insert_other m k v q differ = get-insert o m k v q ∙ ap (λ b. cond b (Some v) (get m q)) (not_tied o exact q k differ)
+  get-insert_other m k v q differ = get-insert o m k v q
+      ∙ ap (λ b. cond b (Some v) (get m q)) (not_tied o exact q k differ)
 
   pub get-remove_other : (m : FinMap R X) (k q : K) → q ≢ k → get (remove m k) q ≡ get m q
   get-remove_other m k q differ = get-remove o m k q ∙ ap (λ b. cond b None (get m q)) (not_tied o exact q k differ)
 
   -- what stands in a map after an insertion: the new value at its key, or what stood there before at another
-  pub inserted : (m : FinMap R X) (k : K) (v : X) (q : K) (x : X) → get (insert m k v) q ≡ Some x → ((q ≡ k) × (x ≡ v)) ⊎ ((q ≢ k) × (get m q ≡ Some x))
+  pub inserted : (m : FinMap R X) (k : K) (v : X) (q : K) (x : X) → get (insert m k v) q ≡ Some x
+      → ((q ≡ k) × (x ≡ v)) ⊎ ((q ≢ k) × (get m q ≡ Some x))
   inserted m k v q x is = split (eq_by_cmp R q k) refl (sym (get-insert o m k v q) ∙ is)
     where
-      split : (b : Bool) → eq_by_cmp R q k ≡ b → cond b (Some v) (get m q) ≡ Some x → ((q ≡ k) × (x ≡ v)) ⊎ ((q ≢ k) × (get m q ≡ Some x))
+      split : (b : Bool) → eq_by_cmp R q k ≡ b → cond b (Some v) (get m q) ≡ Some x → ((q ≡ k) × (x ≡ v))
+          ⊎ ((q ≢ k) × (get m q ≡ Some x))
       split true e h = inl (tied o exact q k e, sym (some_same h))
       split false e h = inr (apart o q k e, h)
 
@@ -158,10 +169,12 @@ module _ {K X : Type 0} {R : K → K → Ordering} (o : IsTotalOrder R) (exact :
 
   -- maps that answer alike are equal
   pub same_map : (m n : FinMap R X) → ((q : K) → get m q ≡ get n q) → m ≡ n
-  same_map m n is = same_entries_map m n (same_entries R o exact (entries m) (entries n) (entries_sorted m) (entries_sorted n) (λ q. sym (get-entries m q) ∙ is q ∙ get-entries n q))
+  same_map m n is = same_entries_map m n (same_entries R o exact (entries m) (entries n) (entries_sorted m)
+      (entries_sorted n) (λ q. sym (get-entries m q) ∙ is q ∙ get-entries n q))
 
   -- what stands at a key is put there again
-  kept : (m : FinMap R X) (k : K) (old : Option X) → get m k ≡ old → (q : K) (b : Bool) → eq_by_cmp R q k ≡ b → cond b old (get m q) ≡ get m q
+  kept : (m : FinMap R X) (k : K) (old : Option X) → get m k ≡ old → (q : K) (b : Bool) → eq_by_cmp R q k ≡ b
+      → cond b old (get m q) ≡ get m q
   kept m k old is q true t = sym is ∙ ap (get m) (sym (tied o exact q k t))
   kept m k old is q false t = refl
 
@@ -175,19 +188,26 @@ module _ {K X : Type 0} {R : K → K → Ordering} (o : IsTotalOrder R) (exact :
   insert-insert_same m k v w = same_map _ _ (λ q. simp (get-insert {X = X} o) (twice (eq_by_cmp R q k) _ _ _))
 
   pub insert-removed : (m : FinMap R X) (k : K) (v : X) → insert (remove m k) k v ≡ insert m k v
-  insert-removed m k v = same_map _ _ (λ q. simp (get-insert {X = X} o, get-remove {X = X} o) (twice (eq_by_cmp R q k) _ _ _))
+  insert-removed m k v = same_map _ _
+      (λ q. simp (get-insert {X = X} o, get-remove {X = X} o) (twice (eq_by_cmp R q k) _ _ _))
 
   pub remove-insert_same : (m : FinMap R X) (k : K) (v : X) → remove (insert m k v) k ≡ remove m k
-  remove-insert_same m k v = same_map _ _ (λ q. simp (get-insert {X = X} o, get-remove {X = X} o) (twice (eq_by_cmp R q k) _ _ _))
+  remove-insert_same m k v = same_map _ _
+      (λ q. simp (get-insert {X = X} o, get-remove {X = X} o) (twice (eq_by_cmp R q k) _ _ _))
 
   pub remove-insert_new : (m : FinMap R X) (k : K) (v : X) → get m k ≡ None → remove (insert m k v) k ≡ m
   remove-insert_new m k v is = remove-insert_same m k v ∙ remove_none m k is
 
   pub remove-remove : (m : FinMap R X) (k q : K) → remove (remove m k) q ≡ remove (remove m q) k
-  remove-remove m k q = same_map _ _ (λ x. simp (get-remove {X = X} o) (swapped (eq_by_cmp R x q) (eq_by_cmp R x k) _ _ _ (λ a b. refl)))
+  remove-remove m k q = same_map _ _
+      (λ x. simp (get-remove {X = X} o) (swapped (eq_by_cmp R x q) (eq_by_cmp R x k) _ _ _ (λ a b. refl)))
 
-  pub insert-insert_other : (m : FinMap R X) (k : K) (v : X) (q : K) (w : X) → q ≢ k → insert (insert m k v) q w ≡ insert (insert m q w) k v
-  insert-insert_other m k v q w differ = same_map _ _ (λ x. simp (get-insert {X = X} o) (swapped (eq_by_cmp R x q) (eq_by_cmp R x k) _ _ _ (λ a b. absurd (not_both o exact x k q differ a b))))
+  pub insert-insert_other : (m : FinMap R X) (k : K) (v : X) (q : K) (w : X) → q ≢ k
+      → insert (insert m k v) q w ≡ insert (insert m q w) k v
+  insert-insert_other m k v q w differ = same_map _ _ (λ x. simp (get-insert {X = X} o)
+      (swapped (eq_by_cmp R x q) (eq_by_cmp R x k) _ _ _ (λ a b. absurd (not_both o exact x k q differ a b))))
 
-  pub remove-insert_other : (m : FinMap R X) (k : K) (v : X) (q : K) → q ≢ k → remove (insert m k v) q ≡ insert (remove m q) k v
-  remove-insert_other m k v q differ = same_map _ _ (λ x. simp (get-insert {X = X} o, get-remove {X = X} o) (swapped (eq_by_cmp R x q) (eq_by_cmp R x k) _ _ _ (λ a b. absurd (not_both o exact x k q differ a b))))
+  pub remove-insert_other : (m : FinMap R X) (k : K) (v : X) (q : K) → q ≢ k
+      → remove (insert m k v) q ≡ insert (remove m q) k v
+  remove-insert_other m k v q differ = same_map _ _ (λ x. simp (get-insert {X = X} o, get-remove {X = X} o)
+      (swapped (eq_by_cmp R x q) (eq_by_cmp R x k) _ _ _ (λ a b. absurd (not_both o exact x k q differ a b))))

@@ -2,7 +2,8 @@
 use Rattle.std.proofs.Common.{◌≡◌, ℕ, ◌*◌, [], ◌∷◌, Some, None, refl, nat_cmp}
 use Rattle.words36.specs.declared.names.FileName.{FileName}
 use Rattle.meaning.specs.Files.{name_cmp}
-use Rattle.meaning.specs.Maps.{FinMap, entries, empty, get, insert, remove, size, keys, values, from_entries, map_values, sum_over, sum_entries, times}
+use Rattle.meaning.specs.Maps.{FinMap, entries, empty, get, insert, remove, size, keys, values, from_entries}
+use Rattle.meaning.specs.Maps.{map_values, sum_over, sum_entries, times}
 
 abbrev two : FinMap nat_cmp ℕ
 two = insert (insert empty 3 7) 1 5

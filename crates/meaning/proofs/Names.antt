@@ -7,7 +7,8 @@ use Rattle.words36.specs.declared.names.FileName.{FileName}
 use Rattle.meaning.specs.Files.{name_cmp}
 
 pub name_total : IsTotalOrder name_cmp
-name_total = then_total (on_total (λ (k : FileName). k.name) nat_cmp_total) (on_total (λ (k : FileName). k.ext) nat_cmp_total)
+name_total = then_total (on_total (λ (k : FileName). k.name) nat_cmp_total)
+    (on_total (λ (k : FileName). k.ext) nat_cmp_total)
 
 pub name_exact : IsAntisymmetric name_cmp
 name_exact a b e = split (nat_cmp a.name b.name) refl e

@@ -3,7 +3,8 @@ use Rattle.std.proofs.Common.{◌≡◌, ◌≢◌, ℕ, List, Some, refl}
 use Rattle.meaning.specs.Jobs.{Channel, Job, with_channel}
 use Rattle.meaning.specs.Outcomes.{settled, stopped_in, refused_at}
 use Rattle.meaning.specs.declared.call.Reply.{Reply}
-use Rattle.meaning.specs.declared.call.Reply.TheVariants.{Done, Value, Refused, Stopped, NoChannel, AddressCheck, NoJob, NoMemory, Device, Failed, DateRange}
+use Rattle.meaning.specs.declared.call.Reply.TheVariants.{Done, Value, Refused, Stopped, NoChannel, AddressCheck, NoJob}
+use Rattle.meaning.specs.declared.call.Reply.TheVariants.{NoMemory, Device, Failed, DateRange}
 
 -- by whether it is Done
 pub settled_by : {A : Type 0} (P : Reply × A → Type 0) (reply : Reply) (done : A) (other : Reply → A)
@@ -22,7 +23,8 @@ settled_by P DateRange done other d o = o (λ e. cc)
 
 -- two outcomes of one answer
 pub settled_both : {A : Type 0} (P : Reply × A → Reply × A → Type 0) (reply : Reply) (one two : A) (other : Reply → A)
-    → P (Done, one) (Done, two) → ((r : Reply) → P (r, other r) (r, other r)) → P (settled reply one other) (settled reply two other)
+    → P (Done, one) (Done, two) → ((r : Reply) → P (r, other r) (r, other r))
+    → P (settled reply one other) (settled reply two other)
 settled_both P Done one two other d o = d
 settled_both P (Value w) one two other d o = o (Value w)
 settled_both P (Refused w) one two other d o = o (Refused w)
@@ -37,7 +39,8 @@ settled_both P DateRange one two other d o = o DateRange
 
 -- by whether it gives a channel a status
 pub stopped_by : (P : Job → Type 0) (job : Job) (number : ℕ) (c : Channel) (reply : Reply)
-    → P job → ((status : ℕ) → P (with_channel job number (Some (record c { status = status })))) → P (stopped_in job number c reply)
+    → P job → ((status : ℕ) → P (with_channel job number (Some (record c { status = status }))))
+    → P (stopped_in job number c reply)
 stopped_by P job number c Done h s = h
 stopped_by P job number c (Value w) h s = h
 stopped_by P job number c (Refused w) h s = h
@@ -51,7 +54,8 @@ stopped_by P job number c Failed h s = h
 stopped_by P job number c DateRange h s = h
 
 -- whatever it leaves of the core
-pub refused_by : (P : Job → Type 0) (job : Job) (e : ℕ) (reply : Reply) → ((core : List ℕ) → P (record job { core = core })) → P (refused_at job e reply)
+pub refused_by : (P : Job → Type 0) (job : Job) (e : ℕ) (reply : Reply)
+    → ((core : List ℕ) → P (record job { core = core })) → P (refused_at job e reply)
 refused_by P job e Done h = h job.core
 refused_by P job e (Value w) h = h job.core
 refused_by P job e (Refused w) h = h _

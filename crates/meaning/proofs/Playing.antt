@@ -48,7 +48,10 @@ abbrev pub no_files : State
 no_files = record { files = empty; jobs = no_jobs }
 
 abbrev pub fresh : State
-fresh = record { files = insert empty ten_twenty (record { protection = 0o775; quota = 0; files = empty }); jobs = no_jobs }
+fresh = record {
+  files = insert empty ten_twenty (record { protection = 0o775; quota = 0; files = empty });
+  jobs = no_jobs;
+}
 
 abbrev pub foo : ℕ
 foo = 0o465757000000
@@ -62,7 +65,11 @@ foo_of protection words = record {
   files = insert empty ten_twenty (record {
     protection = 0o775;
     quota = 0;
-    files = insert empty (record { name = foo; ext = 0o647064 }) (record { file = record { protection = protection; mode = 0o17; time = 0; date = 0; body = replicate words 7 }; serial = 1 });
+    files = insert empty (record { name = foo; ext = 0o647064 })
+        (record {
+          file = record { protection = protection; mode = 0o17; time = 0; date = 0; body = replicate words 7 };
+          serial = 1;
+        });
   });
   jobs = no_jobs;
 }
@@ -93,7 +100,8 @@ names_words count address = join (2 ^ 18 - count) (address - 1)
 
 -- a job of [10,20] logs in with a core of so many words and opens channel 1 in mode 17, by words at 200
 abbrev pub ready_with : ℕ → ℕ → ℕ → List Event
-ready_with n ppn words = Login n ppn words ∷ deposits n 0o200 (0o17 ∷ 0o446353000000 ∷ 0 ∷ []) ++ by n (Open 1 0o200) ∷ []
+ready_with n ppn words = Login n ppn words ∷ deposits n 0o200 (0o17 ∷ 0o446353000000 ∷ 0 ∷ [])
+    ++ by n (Open 1 0o200) ∷ []
 
 abbrev pub ready : ℕ → List Event
 ready n = ready_with n ten_twenty 0o1000

@@ -6,8 +6,10 @@ use Rattle.meaning.specs.Maps.{from_entries, EachOnce, times, total}
 use Rattle.meaning.specs.Home.{IsHome}
 use Rattle.meaning.specs.Table.{fixed}
 use Rattle.meaning.specs.Directories.{numbers}
-use Rattle.meaning.specs.Stands.{StoredFile, reaches_in_file, reaches_in_directory, reaches, place_of, entry_of, IsVersion, IsWhole}
-use Rattle.meaning.specs.Readings.{FoundDirectoryIsWhole, FoundDirectoryReaches, found_map, FoundMapIsMapped, FoundMapReaches, FoundMapStands}
+use Rattle.meaning.specs.Stands.{StoredFile, reaches_in_file, reaches_in_directory, reaches, place_of, entry_of}
+use Rattle.meaning.specs.Stands.{IsVersion, IsWhole}
+use Rattle.meaning.specs.Readings.{FoundDirectoryIsWhole, FoundDirectoryReaches, found_map, FoundMapIsMapped}
+use Rattle.meaning.specs.Readings.{FoundMapReaches, FoundMapStands}
 use Rattle.meaning.proofs.MapLists.{mapped-from_entries, each_in_map, EachOnce-from_map}
 use Rattle.meaning.proofs.MapSums.{sum-from_entries}
 use Rattle.meaning.proofs.Names.{name_total, name_exact}
@@ -24,17 +26,20 @@ directory_whole layout contents ppn protection quota nodes files small limit cha
     blocks_are = refl;
     are_entries = chain.are_entries;
     each_once = chain.each_once;
-    map_is = ap from_entries (sym are) ∙ sym (mapped-from_entries name_total name_exact (λ (f : StoredFile). f.prime) files);
+    map_is = ap from_entries (sym are)
+        ∙ sym (mapped-from_entries name_total name_exact (λ (f : StoredFile). f.prime) files);
   };
   files = each_in_map name_total name_exact (λ name f. IsVersion layout contents (place_of ppn name) f) files versions;
 }
 
 pub directory_reaches : FoundDirectoryReaches
-directory_reaches n protection quota nodes files u = ap (λ k. times n (numbers nodes) + k) (sum-from_entries name_total name_exact (reaches_in_file n) files u)
+directory_reaches n protection quota nodes files u = ap (λ k. times n (numbers nodes) + k)
+    (sum-from_entries name_total name_exact (reaches_in_file n) files u)
 
 pub map_mapped : FoundMapIsMapped
 map_mapped size layout contents nodes directories home chain are whole = record {
-  home = subst (λ first. IsHome size contents (record { layout = layout; master = first })) (sym (head-numbers nodes)) home;
+  home = subst (λ first. IsHome size contents (record { layout = layout; master = first }))
+      (sym (head-numbers nodes)) home;
   master = record {
     nodes = nodes;
     spelled = chain.spelled;
@@ -42,18 +47,22 @@ map_mapped size layout contents nodes directories home chain are whole = record 
     blocks_are = refl;
     are_entries = chain.are_entries;
     each_once = chain.each_once;
-    map_is = ap from_entries (sym are) ∙ sym (mapped-from_entries nat_cmp_total nat_cmp-IsAntisymmetric entry_of directories);
+    map_is = ap from_entries (sym are)
+        ∙ sym (mapped-from_entries nat_cmp_total nat_cmp-IsAntisymmetric entry_of directories);
   };
-  directories = each_in_map nat_cmp_total nat_cmp-IsAntisymmetric (λ ppn d. IsWhole layout contents ppn d) directories whole;
+  directories = each_in_map nat_cmp_total nat_cmp-IsAntisymmetric (λ ppn d. IsWhole layout contents ppn d)
+      directories whole;
 }
 
 pub map_reaches : FoundMapReaches
-map_reaches n layout nodes directories once = ap (λ k. times n (numbers nodes) + k) (sum-from_entries nat_cmp_total nat_cmp-IsAntisymmetric (reaches_in_directory n) directories once)
+map_reaches n layout nodes directories once = ap (λ k. times n (numbers nodes) + k)
+    (sum-from_entries nat_cmp_total nat_cmp-IsAntisymmetric (reaches_in_directory n) directories once)
 
 pub map_stands : FoundMapStands
 map_stands size layout contents nodes directories volume home chain are whole table outside bits =
     let once = EachOnce-from_map nat_cmp entry_of directories (subst (EachOnce nat_cmp) (sym are) chain.each_once) in
-    let reached : (n : ℕ) → reaches n (found_map layout nodes directories) ≡ times n (numbers nodes) + total (λ e. reaches_in_directory n e.1) directories =
+    let reached : (n : ℕ) → reaches n (found_map layout nodes directories)
+    ≡ times n (numbers nodes) + total (λ e. reaches_in_directory n e.1) directories =
     λ n. map_reaches n layout nodes directories once in
     record {
       volume = volume;

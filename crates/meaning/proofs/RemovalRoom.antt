@@ -1,5 +1,6 @@
 -- RENAME and DeleteDir that are done cost no more than before, or no more than there is room for.
-use Rattle.std.proofs.Common.{◌≡◌, ◌≢◌, ℕ, ◌+◌, ◌≤◌, Bool, true, false, if◌then◌else◌, ◌++◌, Option, Some, None, refl, sym, ap, subst, ◌∙◌, ◌⊎◌, inl, inr, ⊎_elim, arith}
+use Rattle.std.proofs.Common.{◌≡◌, ◌≢◌, ℕ, ◌+◌, ◌≤◌, Bool, true, false, if◌then◌else◌, ◌++◌, Option, Some, None, refl}
+use Rattle.std.proofs.Common.{sym, ap, subst, ◌∙◌, ◌⊎◌, inl, inr, ⊎_elim, arith}
 use Rattle.std.specs.Prelude.{◌==◌, ◌&&◌, not, slice_set, is_none}
 use Rattle.std.specs.Cmp.{nat_cmp_total}
 use Rattle.std.specs.FinMap.{nat_cmp-IsAntisymmetric}
@@ -8,12 +9,15 @@ use Rattle.meaning.specs.Maps.{FinMap, size, get, insert, remove}
 use Rattle.meaning.specs.Files.{Files, Directory, Place, name_cmp}
 use Rattle.words36.specs.declared.names.FileName.{FileName}
 use Rattle.meaning.specs.Costs.{directory_cost}
-use Rattle.meaning.specs.Published.{Version, file_at, with_file, with_file_in, without_file, without_file_in, with_protection}
+use Rattle.meaning.specs.Published.{Version, file_at, with_file, with_file_in, without_file, without_file_in}
+use Rattle.meaning.specs.Published.{with_protection}
 use Rattle.meaning.specs.Jobs.{Channel, Job, Output, State, channel_at, job_at}
-use Rattle.meaning.specs.Room.{Pack, names_in, entry_count, pending_creations, directories_cost, distinct_cost, current, held, booked, has_no_room, growth}
+use Rattle.meaning.specs.Room.{Pack, names_in, entry_count, pending_creations, directories_cost, distinct_cost, current}
+use Rattle.meaning.specs.Room.{held, booked, has_no_room, growth}
 use Rattle.meaning.specs.Outcomes.{clean}
 use Rattle.meaning.specs.Looking.{place_at, has_no_directory}
-use Rattle.meaning.specs.Renaming.{deletes_at, protection_at, crowds, rename_answer, rename_done, files_moved, files_from, files_renamed}
+use Rattle.meaning.specs.Renaming.{deletes_at, protection_at, crowds, rename_answer, rename_done, files_moved}
+use Rattle.meaning.specs.Renaming.{files_from, files_renamed}
 use Rattle.meaning.specs.Making.{remove_answer, owner_at}
 use Rattle.meaning.specs.Sound.{IsSound}
 use Rattle.meaning.specs.declared.call.Reply.TheVariants.{Done}
@@ -41,7 +45,8 @@ not_false true e = refl
 not_false false e = let wrong = e in cc
 
 -- another directory grows by no block, or there is room
-split_crowds : (same none full : Bool) → (not same && not none && full) ≡ false → same ≡ false → (none ≡ true) ⊎ (full ≡ false)
+split_crowds : (same none full : Bool) → (not same && not none && full) ≡ false → same ≡ false
+    → (none ≡ true) ⊎ (full ≡ false)
 split_crowds true none full e f = let wrong = f in cc
 split_crowds false true full e f = inl refl
 split_crowds false false true e f = let wrong = e in cc
@@ -50,7 +55,8 @@ split_crowds false false false e f = inr refl
 grows_by_one : (n : ℕ) → growth n ≤ 1
 grows_by_one n = omega arith
 
-module _ (pack : Pack) (s : State) (sound : IsSound s) (n : ℕ) (job : Job) (there : job_at s n ≡ Some job) (ch : ℕ) (c : Channel) (is : channel_at job ch ≡ Some c) where
+module _ (pack : Pack) (s : State) (sound : IsSound s) (n : ℕ) (job : Job) (there : job_at s n
+    ≡ Some job) (ch : ℕ) (c : Channel) (is : channel_at job ch ≡ Some c) where
   -- the state with these files
   abbrev with_files : Files Version → State
   with_files files = record s { files = files; jobs = slice_set s.jobs n (Some (rename_done job ch c)) }
@@ -60,7 +66,8 @@ module _ (pack : Pack) (s : State) (sound : IsSound s) (n : ℕ) (job : Job) (th
       let h = sum_channel f s files n job job.core ch c (Some (record (clean c) { input = None })) there is in
       omega (arith, h)
 
-  module _ (old : Place) (d : Directory Version) (w : Version) (at : get s.files old.ppn ≡ Some d) (here : get d.files old.name ≡ Some w) where
+  module _ (old : Place) (d : Directory Version) (w : Version) (at : get s.files old.ppn ≡ Some d)
+      (here : get d.files old.name ≡ Some w) where
     -- the old place's directory without the file
     abbrev thinner : Directory Version
     thinner = record d { files = remove d.files old.name }
@@ -75,7 +82,8 @@ module _ (pack : Pack) (s : State) (sound : IsSound s) (n : ℕ) (job : Job) (th
     removed_le =
         let z = fewer in
         let p = sums_stay (creation old.ppn) (without_file s.files old) in
-        directories_changed s (with_files (without_file s.files old)) old.ppn d thinner at files_without (omega (arith, z, p)) (λ ppn differs. same_le (sums_stay (creation ppn) (without_file s.files old)))
+        directories_changed s (with_files (without_file s.files old)) old.ppn d thinner at files_without
+        (omega (arith, z, p)) (λ ppn differs. same_le (sums_stay (creation ppn) (without_file s.files old)))
 
     module _ (new : Place) (v : Version) where
       abbrev moved : Files Version
@@ -89,45 +97,59 @@ module _ (pack : Pack) (s : State) (sound : IsSound s) (n : ℕ) (job : Job) (th
       within_le same =
           let both : Directory Version = record thinner { files = insert thinner.files new.name v } in
           let files : moved ≡ insert s.files old.ppn both =
-          ap (λ q. with_file_in q (without_file s.files old) new v) (ap (get (without_file s.files old)) same ∙ there_after)
-          ∙ ap (λ fs. insert fs new.ppn both) files_without ∙ ap (λ k. insert (insert s.files old.ppn thinner) k both) same
+          ap (λ q. with_file_in q (without_file s.files old) new v) (ap (get (without_file s.files old)) same
+          ∙ there_after)
+          ∙ ap (λ fs. insert fs new.ppn both) files_without
+          ∙ ap (λ k. insert (insert s.files old.ppn thinner) k both) same
           ∙ insert-insert_same nat_cmp_total nat_cmp-IsAntisymmetric s.files old.ppn thinner both in
           let z = fewer in
           let l = size-insert_le thinner.files new.name v in
           let p = sums_stay (creation old.ppn) moved in
-          directories_changed s (with_files moved) old.ppn d both at files (omega (arith, z, l, p)) (λ ppn differs. same_le (sums_stay (creation ppn) moved))
+          directories_changed s (with_files moved) old.ppn d both at files (omega (arith, z, l, p))
+          (λ ppn differs. same_le (sums_stay (creation ppn) moved))
 
       -- into another one
-      across_le : new.ppn ≢ old.ppn → (t : Directory Version) → get s.files new.ppn ≡ Some t → directories_cost (with_files moved) ≤ directories_cost s + growth (entry_count s new.ppn)
+      across_le : new.ppn ≢ old.ppn → (t : Directory Version) → get s.files new.ppn ≡ Some t
+          → directories_cost (with_files moved) ≤ directories_cost s + growth (entry_count s new.ppn)
       across_le other t is_there =
           let s1 = with_files (without_file s.files old) in
           let both : Directory Version = record t { files = insert t.files new.name v } in
           let now : get (without_file s.files old) new.ppn ≡ Some t =
-          ap (λ fs. get fs new.ppn) files_without ∙ get-insert_other nat_cmp_total nat_cmp-IsAntisymmetric s.files old.ppn thinner new.ppn other ∙ is_there in
-          let files : moved ≡ insert (without_file s.files old) new.ppn both = ap (λ q. with_file_in q (without_file s.files old) new v) now in
+          ap (λ fs. get fs new.ppn) files_without
+          ∙ get-insert_other nat_cmp_total nat_cmp-IsAntisymmetric s.files old.ppn thinner new.ppn other ∙ is_there in
+          let files : moved ≡ insert (without_file s.files old) new.ppn both = ap
+          (λ q. with_file_in q (without_file s.files old) new v) now in
           let l = size-insert_le t.files new.name v in
-          let m = directories_more s1 (with_files moved) new.ppn t both now files (omega (arith, l)) (λ ppn differs. same_le refl) in
+          let m = directories_more s1 (with_files moved) new.ppn t both now files (omega (arith, l))
+          (λ ppn differs. same_le refl) in
           let count : growth (size t.files + pending_creations s1 new.ppn) ≡ growth (entry_count s new.ppn) =
-          ap (λ k. growth (size t.files + k)) (sums_stay (creation new.ppn) (without_file s.files old)) ∙ ap (λ q. growth (names_in q + pending_creations s new.ppn)) (sym is_there) in
+          ap (λ k. growth (size t.files + k)) (sums_stay (creation new.ppn) (without_file s.files old))
+          ∙ ap (λ q. growth (names_in q + pending_creations s new.ppn)) (sym is_there) in
           let r = removed_le in
           omega (arith, m, count, r)
 
   -- what is booked besides directories doesn't rise
-  booked_by : (files : Files Version) (more : ℕ) → ((v : Version) → Goes s (with_files files) v n ch) → directories_cost (with_files files) ≤ directories_cost s + more → booked (with_files files) ≤ booked s + more
+  booked_by : (files : Files Version) (more : ℕ) → ((v : Version) → Goes s (with_files files) v n ch)
+      → directories_cost (with_files files) ≤ directories_cost s + more → booked (with_files files) ≤ booked s + more
   booked_by files more goes dirs =
       let costs = costs_kept s (with_files files) sound (was_there s (with_files files) n ch goes) in
       let pend = sums_stay pending files in
       omega (arith, dirs, costs, pend)
 
-  moved_fine : (old new : Place) (protection : ℕ) → has_no_directory s old ≡ false → has_no_directory s new ≡ false → crowds pack s old new ≡ false → (found : Option Version) → file_at s.files old ≡ found
-      → ((v : Version) → Goes s (with_files (files_moved s.files old new protection found)) v n ch) → Fine pack s (with_files (files_moved s.files old new protection found))
-  moved_fine old new protection housed to_house room None at goes = inl (let b = booked_by s.files 0 goes (same_dirs) in omega (arith, b))
+  moved_fine : (old new : Place) (protection : ℕ) → has_no_directory s old ≡ false → has_no_directory s new ≡ false
+      → crowds pack s old new ≡ false → (found : Option Version) → file_at s.files old ≡ found
+      → ((v : Version) → Goes s (with_files (files_moved s.files old new protection found)) v n ch)
+      → Fine pack s (with_files (files_moved s.files old new protection found))
+  moved_fine old new protection housed to_house room None at goes = inl (let b = booked_by s.files 0 goes (same_dirs) in
+      omega (arith, b))
     where
       same_dirs : directories_cost (with_files s.files) ≤ directories_cost s + 0
       same_dirs =
           let d = some_is (get s.files old.ppn) (is_some_there (get s.files old.ppn) housed) in
           let p = sums_stay (creation old.ppn) s.files in
-          let h = directories_changed s (with_files s.files) old.ppn d.0 d.0 d.1 (sym (insert_same nat_cmp_total nat_cmp-IsAntisymmetric s.files old.ppn d.0 d.1)) (omega (arith, p)) (λ ppn differs. same_le (sums_stay (creation ppn) s.files)) in
+          let h = directories_changed s (with_files s.files) old.ppn d.0 d.0 d.1
+          (sym (insert_same nat_cmp_total nat_cmp-IsAntisymmetric s.files old.ppn d.0 d.1)) (omega (arith, p))
+          (λ ppn differs. same_le (sums_stay (creation ppn) s.files)) in
           omega (arith, h)
   moved_fine old new protection housed to_house room (Some w) at goes =
       let d = directory_of_file s.files old w at in
@@ -136,12 +158,16 @@ module _ (pack : Pack) (s : State) (sound : IsSound s) (n : ℕ) (job : Job) (th
       v : Version
       v = with_protection w protection
 
-      decide : (d : Directory Version) → get s.files old.ppn ≡ Some d → get d.files old.name ≡ Some w → (b : Bool) → (new.ppn == old.ppn) ≡ b → Fine pack s (with_files (files_moved s.files old new protection (Some w)))
-      decide d is here true e = inl (let l = within_le old d w is here new (with_protection w protection) (eqb-true new.ppn old.ppn e) in
-          let b = booked_by (files_moved s.files old new protection (Some w)) 0 goes (omega (arith, l)) in omega (arith, b))
+      decide : (d : Directory Version) → get s.files old.ppn ≡ Some d → get d.files old.name ≡ Some w → (b : Bool)
+          → (new.ppn == old.ppn) ≡ b → Fine pack s (with_files (files_moved s.files old new protection (Some w)))
+      decide d is here true e = inl (let l = within_le old d w is here new (with_protection w protection)
+          (eqb-true new.ppn old.ppn e) in
+          let b = booked_by (files_moved s.files old new protection (Some w)) 0 goes (omega (arith, l)) in
+          omega (arith, b))
       decide d is here false e =
           let t = some_is (get s.files new.ppn) (is_some_there (get s.files new.ppn) to_house) in
-          let l = across_le old d w is here new (with_protection w protection) (λ same. let wrong = sym e ∙ eq-eqb new.ppn old.ppn same in cc) t.0 t.1 in
+          let l = across_le old d w is here new (with_protection w protection) (λ same. let wrong = sym e
+          ∙ eq-eqb new.ppn old.ppn same in cc) t.0 t.1 in
           let b = booked_by (files_moved s.files old new protection (Some w)) (growth (entry_count s new.ppn)) goes l in
           let one = grows_by_one (entry_count s new.ppn) in
           ⊎_elim
@@ -149,7 +175,9 @@ module _ (pack : Pack) (s : State) (sound : IsSound s) (n : ℕ) (job : Job) (th
           (λ full. let f = fits pack s 1 full in inr (omega (arith, b, one, f)))
           (split_crowds (new.ppn == old.ppn) (growth (entry_count s new.ppn) == 0) (has_no_room pack s) room e)
 
-  deleted_fine : (old : Place) → (found : Option Version) → file_at s.files old ≡ found → is_none found ≡ false → ((v : Version) → Goes s (with_files (without_file s.files old)) v n ch) → Fine pack s (with_files (without_file s.files old))
+  deleted_fine : (old : Place) → (found : Option Version) → file_at s.files old ≡ found → is_none found ≡ false
+      → ((v : Version) → Goes s (with_files (without_file s.files old)) v n ch)
+      → Fine pack s (with_files (without_file s.files old))
   deleted_fine old None at there goes = let wrong = there in cc
   deleted_fine old (Some w) at there goes =
       let d = directory_of_file s.files old w at in
@@ -158,34 +186,44 @@ module _ (pack : Pack) (s : State) (sound : IsSound s) (n : ℕ) (job : Job) (th
       inl (omega (arith, b))
 
   abbrev either : ℕ → Place → Bool → Files Version
-  either e old deletes = if deletes then without_file s.files old else files_moved s.files old (place_at job e) (protection_at job e) (file_at s.files old)
+  either e old deletes = if deletes then without_file s.files old
+      else files_moved s.files old (place_at job e) (protection_at job e) (file_at s.files old)
 
-  pub fine_rename : (e : ℕ) → rename_answer pack s job c e ≡ Done → Fine pack s (with_files (files_renamed s.files job e c.input))
+  pub fine_rename : (e : ℕ) → rename_answer pack s job c e ≡ Done
+      → Fine pack s (with_files (files_renamed s.files job e c.input))
   fine_rename e done =
       let needs = rename_needs pack s job c e done in
       let goes : (v : Version) → Goes s (with_files (files_from s.files job e needs.side.place)) v n ch =
-      λ v. subst (λ i. Goes s (with_files (files_renamed s.files job e i)) v n ch) needs.side_is (renamed_goes pack s n job there ch c is v e done) in
-      subst (λ i. Fine pack s (with_files (files_renamed s.files job e i))) (sym needs.side_is) (by_kind needs (deletes_at job e) refl goes)
+      λ v. subst (λ i. Goes s (with_files (files_renamed s.files job e i)) v n ch) needs.side_is
+      (renamed_goes pack s n job there ch c is v e done) in
+      subst (λ i. Fine pack s (with_files (files_renamed s.files job e i))) (sym needs.side_is)
+      (by_kind needs (deletes_at job e) refl goes)
     where
-      by_kind : (needs : Renames pack s job c e) (deletes : Bool) → deletes_at job e ≡ deletes → ((v : Version) → Goes s (with_files (either e needs.side.place deletes)) v n ch)
+      by_kind : (needs : Renames pack s job c e) (deletes : Bool) → deletes_at job e ≡ deletes
+          → ((v : Version) → Goes s (with_files (either e needs.side.place deletes)) v n ch)
           → Fine pack s (with_files (either e needs.side.place deletes))
-      by_kind needs true k goes = deleted_fine needs.side.place (file_at s.files needs.side.place) refl needs.present goes
+      by_kind needs true k goes = deleted_fine needs.side.place (file_at s.files needs.side.place) refl
+          needs.present goes
       by_kind needs false k goes =
           let moves = move_needs pack s job needs.side.place (place_at job e) (needs.moves k) in
-          moved_fine needs.side.place (place_at job e) (protection_at job e) needs.housed moves.0 moves.1 (file_at s.files needs.side.place) refl goes
+          moved_fine needs.side.place (place_at job e) (protection_at job e) needs.housed moves.0 moves.1
+          (file_at s.files needs.side.place) refl goes
 
 -- DeleteDir.
 
-pub fine_remove : (s : State) → IsSound s → (n : ℕ) (job : Job) → job_at s n ≡ Some job → (e : ℕ) → remove_answer s job e (owner_at job e) ≡ Done
+pub fine_remove : (s : State) → IsSound s → (n : ℕ) (job : Job) → job_at s n ≡ Some job → (e : ℕ)
+    → remove_answer s job e (owner_at job e) ≡ Done
     → booked (record s { files = remove s.files (owner_at job e); jobs = slice_set s.jobs n (Some job) }) ≤ booked s
 fine_remove s sound n job there e done =
     let owner = owner_at job e in
     let s' : State = record s { files = remove s.files owner; jobs = slice_set s.jobs n (Some job) } in
     let s1 : State = record s { files = remove s.files owner } in
-    let back : s' ≡ s1 = ap (λ jobs. record s { files = remove s.files owner; jobs = jobs }) (set-slot s.jobs n job there) in
+    let back : s' ≡ s1 = ap (λ jobs. record s { files = remove s.files owner; jobs = jobs })
+    (set-slot s.jobs n job there) in
     let d = some_is (get s.files owner) (is_some_there (get s.files owner) (remove_needs s job e owner done).0) in
     let costs = costs_kept s s' sound (was_there s s' n 0 (λ v. removed_goes s sound n job there v e done)) in
-    let a = sum_entries-remove nat_cmp_total nat_cmp-IsAntisymmetric (λ ppn d. directory_cost (size d.files + pending_creations s ppn)) s.files owner d.0 d.1 in
+    let a = sum_entries-remove nat_cmp_total nat_cmp-IsAntisymmetric
+    (λ ppn d. directory_cost (size d.files + pending_creations s ppn)) s.files owner d.0 d.1 in
     let z = size-remove nat_cmp_total nat_cmp-IsAntisymmetric s.files owner d.0 d.1 in
     let m = directory_cost_le (size (remove s.files owner)) (size s.files) (omega (arith, z)) in
     let dirs : directories_cost s1 ≤ directories_cost s = omega (arith, a, m) in

@@ -12,7 +12,8 @@ use Rattle.meaning.specs.declared.call.Event.{Event}
 use Rattle.meaning.specs.declared.call.Event.TheVariants.{Examine}
 use Rattle.meaning.specs.declared.call.Reply.{Reply}
 use Rattle.meaning.specs.declared.call.Reply.TheVariants.{Done, Value, Refused}
-use Rattle.meaning.proofs.Playing.{play, small, ten_twenty, fresh, foo, bar, foo_of, parts, by, deposits, ready, ready_with, named, names_words, words_at_500, enters, looks_up, takes, close}
+use Rattle.meaning.proofs.Playing.{play, small, ten_twenty, fresh, foo, bar, foo_of, parts, by, deposits, ready}
+use Rattle.meaning.proofs.Playing.{ready_with, named, names_words, words_at_500, enters, looks_up, takes, close}
 
 -- job n names a file of [10,20] at 300, with a protection in bits 0 to 8, and renames what channel 1 looked up
 abbrev protected : ℕ → ℕ → ℕ → List Event
@@ -107,7 +108,8 @@ abbrev removes : ℕ → ℕ → List Event
 removes n ppn = deposits n 0o300 (ppn ∷ 0 ∷ []) ++ by n (DeleteDir 0o300) ∷ []
 
 removed : parts small 1000 (foo_of 0o057 2) (
-    (ready 1 ++ removes 1 ten_thirty ++ ready_with 2 ten_thirty 0o1000 ++ removes 2 ten_twenty ++ removes 1 ten_twenty ++ Examine 1 0o301 ∷ [])
+    (ready 1 ++ removes 1 ten_thirty ++ ready_with 2 ten_thirty 0o1000 ++ removes 2 ten_twenty ++ removes 1 ten_twenty
+    ++ Examine 1 0o301 ∷ [])
     ∷ (looks_up 1 foo ++ renames 1 0 ++ enters 1 bar ++ removes 1 ten_twenty ++ close 1 0o40 ∷ [])
     ∷ (removes 1 ten_twenty ++ looks_up 1 foo)
     ∷ [])
@@ -139,15 +141,18 @@ full_directory : parts small 1000 fresh (
 unfolding empty insert get remove entries size dump_list areas_from
 full_directory = refl
 
-names_left : names_after fresh (ready 1 ++ enter_names 42 ++ enters 1 0o100 ++ close 1 0 ∷ looks_up 1 1 ++ renames 1 0) ≡ 42
+names_left : names_after fresh (ready 1 ++ enter_names 42 ++ enters 1 0o100 ++ close 1 0 ∷ looks_up 1 1 ++ renames 1 0)
+    ≡ 42
 unfolding empty insert get remove entries size dump_list areas_from
 names_left = refl
 
 -- Rights: another of the project may read, a stranger may not, and neither may write; [1,2] may do everything.
 rights : parts small 1000 (foo_of 0o057 300) (
-    (ready_with 2 ten_thirty 0o1000 ++ deposits 2 0o200 (0o17 ∷ 0o446353000000 ∷ 0 ∷ []) ++ by 2 (Open 2 0o200) ∷ looks_up 2 foo ++ named 2 foo ++ by 2 (Enter 2 0o300) ∷ close 2 0 ∷ [])
+    (ready_with 2 ten_thirty 0o1000 ++ deposits 2 0o200 (0o17 ∷ 0o446353000000 ∷ 0 ∷ [])
+    ++ by 2 (Open 2 0o200) ∷ looks_up 2 foo ++ named 2 foo ++ by 2 (Enter 2 0o300) ∷ close 2 0 ∷ [])
     ∷ (ready_with 3 (join 0o11 5) 0o1000 ++ looks_up 3 foo ++ enters 3 bar)
-    ∷ (ready_with 4 (join 1 2) 0o1000 ++ by 4 (Open 2 0o200) ∷ looks_up 4 foo ++ named 4 foo ++ by 4 (Enter 2 0o300) ∷ [])
+    ∷ (ready_with 4 (join 1 2) 0o1000 ++ by 4 (Open 2 0o200) ∷ looks_up 4 foo ++ named 4 foo
+    ++ by 4 (Enter 2 0o300) ∷ [])
     ∷ [])
     ≡ (Done ∷ Done ∷ Done ∷ Refused 2 ∷ Done ∷ [], pos 43)
     ∷ (Done ∷ Refused 2 ∷ Refused 2 ∷ [], pos 43)

@@ -1,5 +1,6 @@
 -- RENAME and DeleteDir go on to sound states.
-use Rattle.std.proofs.Common.{◌≡◌, ◌≢◌, ℕ, ◌+◌, Bool, true, false, if◌then◌else◌, not, List, [], ◌∷◌, Option, Some, None, refl, sym, ap, subst, ◌∙◌, inl, inr, ⊎_elim, arith}
+use Rattle.std.proofs.Common.{◌≡◌, ◌≢◌, ℕ, ◌+◌, Bool, true, false, if◌then◌else◌, not, List, [], ◌∷◌, Option, Some}
+use Rattle.std.proofs.Common.{None, refl, sym, ap, subst, ◌∙◌, inl, inr, ⊎_elim, arith}
 use Rattle.std.specs.List.{AllByRecursion}
 use Rattle.std.specs.Prelude.{◌==◌, ◌&&◌, slice_set, is_some, is_none, IsSome}
 use Rattle.std.proofs.lemmas.Bool.{eqb-true, eq-eqb}
@@ -9,10 +10,12 @@ use Rattle.meaning.specs.Published.{Version, same_place, file_at, without_file, 
 use Rattle.meaning.specs.Rights.{may_look, may_create}
 use Rattle.meaning.specs.Cores.{lies_outside}
 use Rattle.meaning.specs.Jobs.{Channel, Job, Input, Output, State, is_create, channel_at, job_at}
-use Rattle.meaning.specs.Room.{Pack, output_of, version_of, outputs, is_claimed, names_in, entry_count, pending_creations}
+use Rattle.meaning.specs.Room.{Pack, output_of, version_of, outputs, is_claimed, names_in, entry_count}
+use Rattle.meaning.specs.Room.{pending_creations}
 use Rattle.meaning.specs.Outcomes.{clean}
 use Rattle.meaning.specs.Looking.{place_at, has_no_directory, is_absent, directory_digit_at}
-use Rattle.meaning.specs.Renaming.{deletes_at, protection_at, is_forbidden, crowds, move_answer, rename_from, rename_sides, rename_answer, files_moved, files_from, files_renamed, rename_done}
+use Rattle.meaning.specs.Renaming.{deletes_at, protection_at, is_forbidden, crowds, move_answer, rename_from}
+use Rattle.meaning.specs.Renaming.{rename_sides, rename_answer, files_moved, files_from, files_renamed, rename_done}
 use Rattle.meaning.specs.Making.{remove_answer, owner_at, is_stranger}
 use Rattle.meaning.specs.Sound.{output_for, writes_at, version_for, Exists, IsSound}
 use Rattle.meaning.specs.declared.call.Reply.{Reply}
@@ -22,16 +25,20 @@ use Rattle.meaning.proofs.MapLaws.{get-empty}
 use Rattle.meaning.proofs.LookupLaws.{passed, is_none_of}
 use Rattle.meaning.proofs.SlotLaws.{slot-set_cases}
 use Rattle.meaning.proofs.SideLaws.{unclaimed, output_of_all}
-use Rattle.meaning.proofs.PlaceLaws.{some_is, directory_of_file, found_with_file, stays_with_file, keeps_with_file, found_without_file, stays_without_file, keeps_without_file, found_without_directory, stays_without_directory, keeps_without_directory}
+use Rattle.meaning.proofs.PlaceLaws.{some_is, directory_of_file, found_with_file, stays_with_file, keeps_with_file}
+use Rattle.meaning.proofs.PlaceLaws.{found_without_file, stays_without_file, keeps_without_file}
+use Rattle.meaning.proofs.PlaceLaws.{found_without_directory, stays_without_directory, keeps_without_directory}
 use Rattle.meaning.proofs.SoundLaws.{Goes, Known, known, OldSide, goes_kept}
 use Rattle.meaning.proofs.RoomLaws.{creation}
 
 -- What RENAME has seen where it is done.
 
-pub move_needs : (pack : Pack) (s : State) (job : Job) (old new : Place) → move_answer pack s job old new ≡ Done → (has_no_directory s new ≡ false) × (crowds pack s old new ≡ false)
+pub move_needs : (pack : Pack) (s : State) (job : Job) (old new : Place) → move_answer pack s job old new ≡ Done
+    → (has_no_directory s new ≡ false) × (crowds pack s old new ≡ false)
 move_needs pack s job old new done =
     let a = passed (has_no_directory s new) (Refused 1) _ (λ x. cc) done in
-    let b = passed (not (new.ppn == old.ppn) && not (may_create (directory_digit_at s job new))) (Refused 2) _ (λ x. cc) a.1 in
+    let b = passed (not (new.ppn == old.ppn) && not (may_create (directory_digit_at s job new))) (Refused 2) _
+    (λ x. cc) a.1 in
     let d = passed (not (same_place new old) && not (is_absent s new)) (Refused 4) _ (λ x. cc) b.1 in
     let f = passed (not (same_place new old) && is_claimed s new) (Refused 3) _ (λ x. cc) d.1 in
     let g = passed (crowds pack s old new) (Refused 0o14) _ (λ x. cc) f.1 in
@@ -51,18 +58,29 @@ module _ (pack : Pack) (s : State) (job : Job) (c : Channel) (e : ℕ) where
   rename_else true rest h f = let wrong = f in cc
   rename_else false rest h f = h
 
-  by_side : (i : Input) → c.input ≡ Some i → c.output ≡ None → rename_from pack s job e i.place ≡ Done → Renames pack s job c e
+  by_side : (i : Input) → c.input ≡ Some i → c.output ≡ None → rename_from pack s job e i.place ≡ Done
+      → Renames pack s job c e
   by_side i side none done =
       let a = passed (has_no_directory s i.place) (Refused 1) _ (λ x. cc) done in
       let b = passed (not (may_look (directory_digit_at s job i.place))) (Refused 2) _ (λ x. cc) a.1 in
       let d = passed (is_absent s i.place) (Refused 0) _ (λ x. cc) b.1 in
       let f = passed (is_forbidden s job e i.place) (Refused 2) _ (λ x. cc) d.1 in
       let g = passed (is_claimed s i.place) (Refused 3) _ (λ x. cc) f.1 in
-      record { side = i; side_is = side; writes_nothing = none; housed = a.0; present = d.0; free = g.0; moves = rename_else (deletes_at job e) _ g.1 }
+      record {
+        side = i;
+        side_is = side;
+        writes_nothing = none;
+        housed = a.0;
+        present = d.0;
+        free = g.0;
+        moves = rename_else (deletes_at job e) _ g.1;
+      }
 
-  by_sides : (input : Option Input) → c.input ≡ input → rename_sides pack s job e input c.output ≡ Done → Renames pack s job c e
+  by_sides : (input : Option Input) → c.input ≡ input → rename_sides pack s job e input c.output ≡ Done
+      → Renames pack s job c e
   by_sides None side done = let wrong = done in cc
-  by_sides (Some i) side done = let a = passed (is_some c.output) (Refused 5) _ (λ x. cc) done in by_side i side (is_none_of c.output a.0) a.1
+  by_sides (Some i) side done = let a = passed (is_some c.output) (Refused 5) _ (λ x. cc) done in
+      by_side i side (is_none_of c.output a.0) a.1
 
   pub rename_needs : rename_answer pack s job c e ≡ Done → Renames pack s job c e
   rename_needs done = by_sides c.input refl (passed (lies_outside job.core e 4) AddressCheck _ (λ x. cc) done).1
@@ -70,7 +88,8 @@ module _ (pack : Pack) (s : State) (job : Job) (c : Channel) (e : ℕ) where
 -- The versions that a RENAME leaves, and the places.
 
 module _ (s : State) (old : Place) where
-  found_moved : (new : Place) (protection : ℕ) (found : Option Version) → file_at s.files old ≡ found → (q : Place) (w : Version) → file_at (files_moved s.files old new protection found) q ≡ Some w → Known s w
+  found_moved : (new : Place) (protection : ℕ) (found : Option Version) → file_at s.files old ≡ found
+      → (q : Place) (w : Version) → file_at (files_moved s.files old new protection found) q ≡ Some w → Known s w
   found_moved new protection None at q w is = known s w (inl (q, is))
   found_moved new protection (Some v) at q w is =
       ⊎_elim (λ was. known s w (inl (q, found_without_file s.files old q w was)))
@@ -87,23 +106,29 @@ module _ (s : State) (old : Place) where
       ))
       (found_with_file (without_file s.files old) new (with_protection v protection) q w is)
 
-  stays_moved : (new : Place) (protection : ℕ) (found : Option Version) (q : Place) → same_place q old ≡ false → IsSome (file_at s.files q) → IsSome (file_at (files_moved s.files old new protection found) q)
+  stays_moved : (new : Place) (protection : ℕ) (found : Option Version) (q : Place) → same_place q old ≡ false
+      → IsSome (file_at s.files q) → IsSome (file_at (files_moved s.files old new protection found) q)
   stays_moved new protection None q apart is = is
-  stays_moved new protection (Some v) q apart is = stays_with_file (without_file s.files old) new (with_protection v protection) q (stays_without_file s.files old q apart is)
+  stays_moved new protection (Some v) q apart is = stays_with_file (without_file s.files old) new
+      (with_protection v protection) q (stays_without_file s.files old q apart is)
 
-  keeps_moved : (new : Place) (protection : ℕ) (found : Option Version) (q : ℕ) → IsSome (get s.files q) → IsSome (get (files_moved s.files old new protection found) q)
+  keeps_moved : (new : Place) (protection : ℕ) (found : Option Version) (q : ℕ) → IsSome (get s.files q)
+      → IsSome (get (files_moved s.files old new protection found) q)
   keeps_moved new protection None q is = is
-  keeps_moved new protection (Some v) q is = keeps_with_file (without_file s.files old) new (with_protection v protection) q (keeps_without_file s.files old q is)
+  keeps_moved new protection (Some v) q is = keeps_with_file (without_file s.files old) new
+      (with_protection v protection) q (keeps_without_file s.files old q is)
 
   module _ (new : Place) (protection : ℕ) where
     abbrev files_either : Bool → Files Version
-    files_either deletes = if deletes then without_file s.files old else files_moved s.files old new protection (file_at s.files old)
+    files_either deletes = if deletes then without_file s.files old
+        else files_moved s.files old new protection (file_at s.files old)
 
     found_either : (deletes : Bool) (q : Place) (w : Version) → file_at (files_either deletes) q ≡ Some w → Known s w
     found_either true q w is = known s w (inl (q, found_without_file s.files old q w is))
     found_either false q w is = found_moved new protection (file_at s.files old) refl q w is
 
-    stays_either : (deletes : Bool) (q : Place) → same_place q old ≡ false → IsSome (file_at s.files q) → IsSome (file_at (files_either deletes) q)
+    stays_either : (deletes : Bool) (q : Place) → same_place q old ≡ false → IsSome (file_at s.files q)
+        → IsSome (file_at (files_either deletes) q)
     stays_either true q apart is = stays_without_file s.files old q apart is
     stays_either false q apart is = stays_moved new protection (file_at s.files old) q apart is
 
@@ -111,31 +136,43 @@ module _ (s : State) (old : Place) where
     keeps_either true q is = keeps_without_file s.files old q is
     keeps_either false q is = keeps_moved new protection (file_at s.files old) q is
 
-module _ (pack : Pack) (s : State) (n : ℕ) (job : Job) (there : job_at s n ≡ Some job) (ch : ℕ) (c : Channel) (is_open : channel_at job ch ≡ Some c) where
+module _ (pack : Pack) (s : State) (n : ℕ) (job : Job) (there : job_at s n ≡ Some job) (ch : ℕ) (c : Channel)
+    (is_open : channel_at job ch ≡ Some c) where
   sides_kept : (k : ℕ) (o : Output) → output_of (channel_at (rename_done job ch c) k) ≡ Some o → OldSide s n k o
   sides_kept k o h = ⊎_elim
-      (λ here. subst (λ q. OldSide s n q o) (sym here.1) (o, ap (output_for ch) there ∙ ap output_of is_open ∙ ap output_of (sym here.0) ∙ h, refl, refl))
-      (λ other. (o, ap (output_for k) there ∙ ap output_of (sym other) ∙ h, refl, refl)) (slot-set_cases job.channels ch k (Some (record (clean c) { input = None })))
+      (λ here. subst (λ q. OldSide s n q o) (sym here.1)
+      (o, ap (output_for ch) there ∙ ap output_of is_open ∙ ap output_of (sym here.0) ∙ h, refl, refl))
+      (λ other. (o, ap (output_for k) there ∙ ap output_of (sym other) ∙ h, refl, refl))
+      (slot-set_cases job.channels ch k (Some (record (clean c) { input = None })))
 
   versions_kept : (k : ℕ) (w : Version) → version_of (channel_at (rename_done job ch c) k) ≡ Some w → Exists s w
   versions_kept k w h = ⊎_elim
       (λ here. let wrong = ap version_of (sym here.0) ∙ h in cc)
-      (λ other. inr (n, k, ap (version_for k) there ∙ ap version_of (sym other) ∙ h)) (slot-set_cases job.channels ch k (Some (record (clean c) { input = None })))
+      (λ other. inr (n, k, ap (version_for k) there ∙ ap version_of (sym other) ∙ h))
+      (slot-set_cases job.channels ch k (Some (record (clean c) { input = None })))
 
   pub renamed_goes : (v : Version) (e : ℕ) → rename_answer pack s job c e ≡ Done
-      → Goes s (record s { files = files_renamed s.files job e c.input; jobs = slice_set s.jobs n (Some (rename_done job ch c)) }) v n ch
+      → Goes s (record s {
+        files = files_renamed s.files job e c.input;
+        jobs = slice_set s.jobs n (Some (rename_done job ch c));
+      }) v n ch
   renamed_goes v e done =
       let needs = rename_needs pack s job c e done in
       let old = needs.side.place in
-      subst (λ i. Goes s (record s { files = files_renamed s.files job e i; jobs = slice_set s.jobs n (Some (rename_done job ch c)) }) v n ch) (sym needs.side_is)
+      subst (λ i. Goes s (record s {
+        files = files_renamed s.files job e i;
+        jobs = slice_set s.jobs n (Some (rename_done job ch c));
+      }) v n ch) (sym needs.side_is)
       (goes_kept s v n ch (files_from s.files job e old) (rename_done job ch c) sides_kept versions_kept
       (λ q w is. found_either s old (place_at job e) (protection_at job e) (deletes_at job e) q w is)
-      (λ m k o h is. stays_either s old (place_at job e) (protection_at job e) (deletes_at job e) o.place (unclaimed s old needs.free m k o h) is)
+      (λ m k o h is. stays_either s old (place_at job e) (protection_at job e) (deletes_at job e) o.place
+      (unclaimed s old needs.free m k o h) is)
       (λ m k o h is. keeps_either s old (place_at job e) (protection_at job e) (deletes_at job e) o.place.ppn is))
 
 -- DeleteDir.
 
-pub remove_needs : (s : State) (job : Job) (e owner : ℕ) → remove_answer s job e owner ≡ Done → (is_none (get s.files owner) ≡ false) × (entry_count s owner ≡ 0)
+pub remove_needs : (s : State) (job : Job) (e owner : ℕ) → remove_answer s job e owner ≡ Done
+    → (is_none (get s.files owner) ≡ false) × (entry_count s owner ≡ 0)
 remove_needs s job e owner done =
     let a = passed (lies_outside job.core e 2) AddressCheck _ (λ x. cc) done in
     let b = passed (is_none (get s.files owner)) (Refused 1) _ (λ x. cc) a.1 in
@@ -159,7 +196,8 @@ each_zero f (x ∷ xs) e = (first (f x) (total f xs) e, each_zero f xs (second (
 
 module _ (s : State) (sound : IsSound s) (owner : ℕ) (unused : entry_count s owner ≡ 0) where
   no_names : (d : Directory Version) → get s.files owner ≡ Some d → size d.files ≡ 0
-  no_names d is = zero_of (size d.files) (pending_creations s owner) (sym (ap (λ q. names_in q + pending_creations s owner) is) ∙ unused)
+  no_names d is = zero_of (size d.files) (pending_creations s owner)
+      (sym (ap (λ q. names_in q + pending_creations s owner) is) ∙ unused)
     where
       zero_of : (a b : ℕ) → a + b ≡ 0 → a ≡ 0
       zero_of a b e = omega (arith, e)
@@ -176,7 +214,8 @@ module _ (s : State) (sound : IsSound s) (owner : ℕ) (unused : entry_count s o
     where
       decide : (b : Bool) → is_create o.kind ≡ b → ⊥
       decide true e =
-          let zero = output_of_all s (λ o. creation owner o ≡ 0) (each_zero (creation owner) (outputs s) none_created) m k o h in
+          let zero = output_of_all s (λ o. creation owner o ≡ 0) (each_zero (creation owner) (outputs s) none_created)
+          m k o h in
           let one : creation owner o ≡ 1 = created e (eq-eqb o.place.ppn owner same) in
           let wrong = sym zero ∙ one in cc
         where
@@ -186,14 +225,17 @@ module _ (s : State) (sound : IsSound s) (owner : ℕ) (unused : entry_count s o
           let there = some_is (file_at s.files o.place) (sound.present m k o h e) in
           let at = directory_of_file s.files o.place there.0 there.1 in
           let bare = empty_of_size at.0.files (no_names at.0 (ap (get s.files) (sym same) ∙ at.1)) in
-          let wrong : None ≡ Some there.0 = sym (get-empty name_cmp Version o.place.name) ∙ ap (λ m. get m o.place.name) (sym bare) ∙ at.2 in cc
+          let wrong : None ≡ Some there.0 = sym (get-empty name_cmp Version o.place.name)
+          ∙ ap (λ m. get m o.place.name) (sym bare) ∙ at.2 in cc
 
-pub removed_goes : (s : State) → IsSound s → (n : ℕ) (job : Job) → job_at s n ≡ Some job → (v : Version) (e : ℕ) → remove_answer s job e (owner_at job e) ≡ Done
+pub removed_goes : (s : State) → IsSound s → (n : ℕ) (job : Job) → job_at s n ≡ Some job → (v : Version) (e : ℕ)
+    → remove_answer s job e (owner_at job e) ≡ Done
     → Goes s (record s { files = remove s.files (owner_at job e); jobs = slice_set s.jobs n (Some job) }) v n 0
 removed_goes s sound n job there v e done =
     let owner = owner_at job e in
     let unused = (remove_needs s job e owner done).1 in
-    goes_kept s v n 0 (remove s.files owner) job (λ k o h. (o, ap (output_for k) there ∙ h, refl, refl)) (λ k w h. inr (n, k, ap (version_for k) there ∙ h))
+    goes_kept s v n 0 (remove s.files owner) job (λ k o h. (o, ap (output_for k) there ∙ h, refl, refl))
+    (λ k w h. inr (n, k, ap (version_for k) there ∙ h))
     (λ q w is. known s w (inl (q, found_without_directory s.files owner q w is)))
     (λ m k o h is. stays_without_directory s.files owner o.place (elsewhere s sound owner unused m k o h) is)
     (λ m k o h is. keeps_without_directory s.files owner o.place.ppn (elsewhere s sound owner unused m k o h) is)

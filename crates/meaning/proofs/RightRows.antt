@@ -1,7 +1,8 @@
 -- The rights of each digit, computed: the sets of acts agree with what each digit allows.
 use Rattle.std.proofs.Common.{◌≡◌, ℕ, Bool, true, false, List, [], ◌∷◌, map, ◌==◌, bit_and, refl}
 use Rattle.words36.specs.Words.{join}
-use Rattle.meaning.specs.Rights.{acts_of, file_digit, directory_digit, may_execute, may_read, may_append, may_update, may_supersede, may_rename, may_protect, may_look, may_create}
+use Rattle.meaning.specs.Rights.{acts_of, file_digit, directory_digit, may_execute, may_read, may_append, may_update}
+use Rattle.meaning.specs.Rights.{may_supersede, may_rename, may_protect, may_look, may_create}
 
 abbrev digits : List ℕ
 digits = 0 ∷ 1 ∷ 2 ∷ 3 ∷ 4 ∷ 5 ∷ 6 ∷ 7 ∷ []
@@ -37,8 +38,10 @@ creates : map may_create digits ≡ false ∷ false ∷ true ∷ true ∷ false 
 creates = refl
 
 -- The owner, his project, another one, and [1,2], of a file 057 and of a directory 775.
-file_digits : map (λ who. file_digit 0o057 who (join 0o10 0o20)) (join 0o10 0o20 ∷ join 0o10 0o30 ∷ join 0o11 0o20 ∷ join 1 2 ∷ []) ≡ 0 ∷ 5 ∷ 7 ∷ 0 ∷ []
+file_digits : map (λ who. file_digit 0o057 who (join 0o10 0o20)) (join 0o10 0o20 ∷ join 0o10 0o30 ∷ join 0o11 0o20
+    ∷ join 1 2 ∷ []) ≡ 0 ∷ 5 ∷ 7 ∷ 0 ∷ []
 file_digits = refl
 
-directory_digits : map (λ who. directory_digit 0o775 who (join 0o10 0o20)) (join 0o10 0o20 ∷ join 0o10 0o30 ∷ join 0o11 0o20 ∷ join 1 2 ∷ []) ≡ 7 ∷ 7 ∷ 5 ∷ 7 ∷ []
+directory_digits : map (λ who. directory_digit 0o775 who (join 0o10 0o20)) (join 0o10 0o20 ∷ join 0o10 0o30
+    ∷ join 0o11 0o20 ∷ join 1 2 ∷ []) ≡ 7 ∷ 7 ∷ 5 ∷ 7 ∷ []
 directory_digits = refl

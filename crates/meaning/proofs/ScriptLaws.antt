@@ -39,7 +39,8 @@ no_deposit place value call a = let wrong = a.1 in cc
 no_examine : (place : List ℕ) (call : Call) → IsCallText (codes "EXA" ∷ place ∷ []) call → ⊥
 no_examine place call a = let wrong = a.1 in cc
 
-same_event_text : (fields : List (List ℕ)) (moment : Moment) (e f : Event) → IsEventText fields moment e → IsEventText fields moment f → e ≡ f
+same_event_text : (fields : List (List ℕ)) (moment : Moment) (e f : Event) → IsEventText fields moment e
+    → IsEventText fields moment f → e ≡ f
 same_event_text fields moment (Login n p w) (Login m q v) a b =
     let s = sym a.3 ∙ b.3 in
     let t = same_tail (same_tail s) in
@@ -65,18 +66,28 @@ same_event_text fields moment (Calls n c at) (Calls m d before) a b =
     let y = same_call_text a.1 c d a.4 (subst (λ r. IsCallText r d) (sym (same_tail s)) b.4) in
     let z = a.5 ∙ sym b.5 in
     λ i. Calls (x i) (y i) (z i)
-same_event_text fields moment (Login n p w) (Deposit m q v) a b = let wrong = same_head (same_tail (sym a.3 ∙ b.3)) in cc
-same_event_text fields moment (Deposit n p w) (Login m q v) a b = let wrong = same_head (same_tail (sym a.3 ∙ b.3)) in cc
+same_event_text fields moment (Login n p w) (Deposit m q v) a b = let wrong = same_head (same_tail (sym a.3 ∙ b.3)) in
+    cc
+same_event_text fields moment (Deposit n p w) (Login m q v) a b = let wrong = same_head (same_tail (sym a.3 ∙ b.3)) in
+    cc
 same_event_text fields moment (Login n p w) (Examine m q) a b = let wrong = same_head (same_tail (sym a.3 ∙ b.2)) in cc
 same_event_text fields moment (Examine n p) (Login m q v) a b = let wrong = same_head (same_tail (sym a.2 ∙ b.3)) in cc
-same_event_text fields moment (Deposit n p w) (Examine m q) a b = let wrong = same_head (same_tail (sym a.3 ∙ b.2)) in cc
-same_event_text fields moment (Examine n p) (Deposit m q v) a b = let wrong = same_head (same_tail (sym a.2 ∙ b.3)) in cc
-same_event_text fields moment (Login n p w) (Calls m d before) a b = absurd (no_login a.1 a.2 d (subst (λ r. IsCallText r d) (sym (same_tail (sym a.3 ∙ b.2))) b.4))
-same_event_text fields moment (Calls n c at) (Login m q v) a b = absurd (no_login b.1 b.2 c (subst (λ r. IsCallText r c) (sym (same_tail (sym b.3 ∙ a.2))) a.4))
-same_event_text fields moment (Deposit n p w) (Calls m d before) a b = absurd (no_deposit a.1 a.2 d (subst (λ r. IsCallText r d) (sym (same_tail (sym a.3 ∙ b.2))) b.4))
-same_event_text fields moment (Calls n c at) (Deposit m q v) a b = absurd (no_deposit b.1 b.2 c (subst (λ r. IsCallText r c) (sym (same_tail (sym b.3 ∙ a.2))) a.4))
-same_event_text fields moment (Examine n p) (Calls m d before) a b = absurd (no_examine a.1 d (subst (λ r. IsCallText r d) (sym (same_tail (sym a.2 ∙ b.2))) b.4))
-same_event_text fields moment (Calls n c at) (Examine m q) a b = absurd (no_examine b.1 c (subst (λ r. IsCallText r c) (sym (same_tail (sym b.2 ∙ a.2))) a.4))
+same_event_text fields moment (Deposit n p w) (Examine m q) a b = let wrong = same_head (same_tail (sym a.3 ∙ b.2)) in
+    cc
+same_event_text fields moment (Examine n p) (Deposit m q v) a b = let wrong = same_head (same_tail (sym a.2 ∙ b.3)) in
+    cc
+same_event_text fields moment (Login n p w) (Calls m d before) a b = absurd
+    (no_login a.1 a.2 d (subst (λ r. IsCallText r d) (sym (same_tail (sym a.3 ∙ b.2))) b.4))
+same_event_text fields moment (Calls n c at) (Login m q v) a b = absurd
+    (no_login b.1 b.2 c (subst (λ r. IsCallText r c) (sym (same_tail (sym b.3 ∙ a.2))) a.4))
+same_event_text fields moment (Deposit n p w) (Calls m d before) a b = absurd
+    (no_deposit a.1 a.2 d (subst (λ r. IsCallText r d) (sym (same_tail (sym a.3 ∙ b.2))) b.4))
+same_event_text fields moment (Calls n c at) (Deposit m q v) a b = absurd
+    (no_deposit b.1 b.2 c (subst (λ r. IsCallText r c) (sym (same_tail (sym b.3 ∙ a.2))) a.4))
+same_event_text fields moment (Examine n p) (Calls m d before) a b = absurd
+    (no_examine a.1 d (subst (λ r. IsCallText r d) (sym (same_tail (sym a.2 ∙ b.2))) b.4))
+same_event_text fields moment (Calls n c at) (Examine m q) a b = absurd
+    (no_examine b.1 c (subst (λ r. IsCallText r c) (sym (same_tail (sym b.2 ∙ a.2))) a.4))
 
 pub same_event : (text : List ℕ) (moment : Moment) (e f : Event) → IsEvent text moment e → IsEvent text moment f → e ≡ f
 same_event text moment e f a b =

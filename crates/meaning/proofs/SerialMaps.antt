@@ -1,5 +1,6 @@
 -- A state with other serials, and what is the same in it.
-use Rattle.std.proofs.Common.{◌≡◌, ℕ, zero, suc, ◌+◌, Bool, true, false, if◌then◌else◌, List, [], ◌∷◌, ◌++◌, map, length, Option, Some, None, refl, sym, ap, ◌∙◌, option_map}
+use Rattle.std.proofs.Common.{◌≡◌, ℕ, zero, suc, ◌+◌, Bool, true, false, if◌then◌else◌, List, [], ◌∷◌, ◌++◌, map}
+use Rattle.std.proofs.Common.{length, Option, Some, None, refl, sym, ap, ◌∙◌, option_map}
 use Rattle.std.specs.List.{list_any, cons_option}
 use Rattle.std.specs.Prelude.{◌==◌, ◌||◌, nat_lt, is_some, is_none, slice_set, flat_map, filter_map}
 use Rattle.std.specs.Cmp.{nat_cmp_total}
@@ -10,20 +11,26 @@ use Rattle.meaning.specs.Files.{Directory, Files, Place, map_directory, map_file
 use Rattle.meaning.specs.Costs.{version_cost, directory_cost}
 use Rattle.meaning.specs.Published.{Version, file_in, file_at, with_file, with_file_in, without_file, without_file_in}
 use Rattle.meaning.specs.Jobs.{Input, Output, Channel, Job, State, slot, channel_at, job_at, with_job, with_channel}
-use Rattle.meaning.specs.Room.{Pack, output_of, outputs_of, outputs, is_claimed, pending_creations, names_in, entry_count, current, version_of, held_by, held, has_serial, distinct_cost, directories_cost, booked, space, exceeds_room}
-use Rattle.meaning.specs.Looking.{has_no_directory, is_absent, digit_for_directory, directory_digit_at, digit_for_version, digit_at}
-use Rattle.meaning.proofs.MapLists.{entries-map_values, values-map_values, get-map_values, map_values-insert, map_values-remove}
+use Rattle.meaning.specs.Room.{Pack, output_of, outputs_of, outputs, is_claimed, pending_creations, names_in}
+use Rattle.meaning.specs.Room.{entry_count, current, version_of, held_by, held, has_serial, distinct_cost}
+use Rattle.meaning.specs.Room.{directories_cost, booked, space, exceeds_room}
+use Rattle.meaning.specs.Looking.{has_no_directory, is_absent, digit_for_directory, directory_digit_at}
+use Rattle.meaning.specs.Looking.{digit_for_version, digit_at}
+use Rattle.meaning.proofs.MapLists.{entries-map_values, values-map_values, get-map_values, map_values-insert}
+use Rattle.meaning.proofs.MapLists.{map_values-remove}
 use Rattle.meaning.proofs.MapSums.{size-map_values}
 use Rattle.meaning.proofs.Names.{name_total, name_exact}
 
 -- Lists and slots.
 
-pub slot-map : {X Y : Type 0} (f : X → Y) (xs : List (Option X)) (n : ℕ) → slot (map (option_map f) xs) n ≡ option_map f (slot xs n)
+pub slot-map : {X Y : Type 0} (f : X → Y) (xs : List (Option X)) (n : ℕ)
+    → slot (map (option_map f) xs) n ≡ option_map f (slot xs n)
 slot-map f [] n = refl
 slot-map f (x ∷ xs) zero = refl
 slot-map f (x ∷ xs) (suc n) = slot-map f xs n
 
-pub set-map : {X Y : Type 0} (f : X → Y) (xs : List X) (n : ℕ) (x : X) → slice_set (map f xs) n (f x) ≡ map f (slice_set xs n x)
+pub set-map : {X Y : Type 0} (f : X → Y) (xs : List X) (n : ℕ) (x : X)
+    → slice_set (map f xs) n (f x) ≡ map f (slice_set xs n x)
 set-map f [] n x = refl
 set-map f (y ∷ xs) zero x = refl
 set-map f (y ∷ xs) (suc n) x = ap (λ zs. f y ∷ zs) (set-map f xs n x)
@@ -63,39 +70,61 @@ module _ (f : ℕ → ℕ) where
 
   -- Files.
 
-  pub get-re : (files : Files Version) (ppn : ℕ) → get (re_files files) ppn ≡ option_map (map_directory re_version) (get files ppn)
+  pub get-re : (files : Files Version) (ppn : ℕ)
+      → get (re_files files) ppn ≡ option_map (map_directory re_version) (get files ppn)
   get-re files ppn = get-map_values nat_cmp_total (map_directory re_version) files ppn
 
-  in_re : (o : Option (Directory Version)) (place : Place) → file_in (option_map (map_directory re_version) o) place.name ≡ option_map re_version (file_in o place.name)
+  in_re : (o : Option (Directory Version)) (place : Place)
+      → file_in (option_map (map_directory re_version) o) place.name ≡ option_map re_version (file_in o place.name)
   in_re None place = refl
   in_re (Some d) place = get-map_values name_total re_version d.files place.name
 
-  pub file-re : (files : Files Version) (place : Place) → file_at (re_files files) place ≡ option_map re_version (file_at files place)
+  pub file-re : (files : Files Version) (place : Place)
+      → file_at (re_files files) place ≡ option_map re_version (file_at files place)
   file-re files place = ap (λ o. file_in o place.name) (get-re files place.ppn) ∙ in_re (get files place.ppn) place
 
-  pub insert-re : (files : Files Version) (ppn : ℕ) (d : Directory Version) → re_files (insert files ppn d) ≡ insert (re_files files) ppn (map_directory re_version d)
+  pub insert-re : (files : Files Version) (ppn : ℕ) (d : Directory Version)
+      → re_files (insert files ppn d) ≡ insert (re_files files) ppn (map_directory re_version d)
   insert-re files ppn d = map_values-insert nat_cmp_total nat_cmp-IsAntisymmetric (map_directory re_version) files ppn d
 
   pub remove-re : (files : Files Version) (ppn : ℕ) → re_files (remove files ppn) ≡ remove (re_files files) ppn
   remove-re files ppn = map_values-remove nat_cmp_total nat_cmp-IsAntisymmetric (map_directory re_version) files ppn
 
-  with_in : (o : Option (Directory Version)) (files : Files Version) (place : Place) (v : Version) → with_file_in (option_map (map_directory re_version) o) (re_files files) place (re_version v) ≡ re_files (with_file_in o files place v)
+  with_in : (o : Option (Directory Version)) (files : Files Version) (place : Place) (v : Version)
+      → with_file_in (option_map (map_directory re_version) o) (re_files files) place (re_version v)
+      ≡ re_files (with_file_in o files place v)
   with_in None files place v = refl
   with_in (Some d) files place v =
-      ap (insert (re_files files) place.ppn) (λ i. record { protection = d.protection; quota = d.quota; files = sym (map_values-insert name_total name_exact re_version d.files place.name v) i })
+      ap (insert (re_files files) place.ppn)
+      (λ i. record {
+        protection = d.protection;
+        quota = d.quota;
+        files = sym (map_values-insert name_total name_exact re_version d.files place.name v) i;
+      })
       ∙ sym (insert-re files place.ppn (record d { files = insert d.files place.name v }))
 
-  pub with_file-re : (files : Files Version) (place : Place) (v : Version) → with_file (re_files files) place (re_version v) ≡ re_files (with_file files place v)
-  with_file-re files place v = ap (λ o. with_file_in o (re_files files) place (re_version v)) (get-re files place.ppn) ∙ with_in (get files place.ppn) files place v
+  pub with_file-re : (files : Files Version) (place : Place) (v : Version)
+      → with_file (re_files files) place (re_version v) ≡ re_files (with_file files place v)
+  with_file-re files place v = ap (λ o. with_file_in o (re_files files) place (re_version v)) (get-re files place.ppn)
+      ∙ with_in (get files place.ppn) files place v
 
-  without_in : (o : Option (Directory Version)) (files : Files Version) (place : Place) → without_file_in (option_map (map_directory re_version) o) (re_files files) place ≡ re_files (without_file_in o files place)
+  without_in : (o : Option (Directory Version)) (files : Files Version) (place : Place)
+      → without_file_in (option_map (map_directory re_version) o) (re_files files) place
+      ≡ re_files (without_file_in o files place)
   without_in None files place = refl
   without_in (Some d) files place =
-      ap (insert (re_files files) place.ppn) (λ i. record { protection = d.protection; quota = d.quota; files = sym (map_values-remove name_total name_exact re_version d.files place.name) i })
+      ap (insert (re_files files) place.ppn)
+      (λ i. record {
+        protection = d.protection;
+        quota = d.quota;
+        files = sym (map_values-remove name_total name_exact re_version d.files place.name) i;
+      })
       ∙ sym (insert-re files place.ppn (record d { files = remove d.files place.name }))
 
-  pub without_file-re : (files : Files Version) (place : Place) → without_file (re_files files) place ≡ re_files (without_file files place)
-  without_file-re files place = ap (λ o. without_file_in o (re_files files) place) (get-re files place.ppn) ∙ without_in (get files place.ppn) files place
+  pub without_file-re : (files : Files Version) (place : Place) → without_file (re_files files) place
+      ≡ re_files (without_file files place)
+  without_file-re files place = ap (λ o. without_file_in o (re_files files) place) (get-re files place.ppn)
+      ∙ without_in (get files place.ppn) files place
 
   pub size-re : (files : Files Version) → size (re_files files) ≡ size files
   size-re files = size-map_values nat_cmp_total (map_directory re_version) files
@@ -108,17 +137,21 @@ module _ (f : ℕ → ℕ) where
   pub job-re : (s : State) (n : ℕ) → job_at (re_state s) n ≡ option_map re_job (job_at s n)
   job-re s n = slot-map re_job s.jobs n
 
-  pub with_channel-re : (job : Job) (ch : ℕ) (x : Option Channel) → with_channel (re_job job) ch (option_map re_channel x) ≡ re_job (with_channel job ch x)
-  with_channel-re job ch x = ap (λ channels. record job { channels = channels }) (set-map (option_map re_channel) job.channels ch x)
+  pub with_channel-re : (job : Job) (ch : ℕ) (x : Option Channel)
+      → with_channel (re_job job) ch (option_map re_channel x) ≡ re_job (with_channel job ch x)
+  with_channel-re job ch x = ap (λ channels. record job { channels = channels })
+      (set-map (option_map re_channel) job.channels ch x)
 
   pub with_job-re : (s : State) (n : ℕ) (job : Job) → with_job (re_state s) n (re_job job) ≡ re_state (with_job s n job)
-  with_job-re s n job = ap (λ jobs. record { files = re_files s.files; jobs = jobs }) (set-map (option_map re_job) s.jobs n (Some job))
+  with_job-re s n job = ap (λ jobs. record { files = re_files s.files; jobs = jobs })
+      (set-map (option_map re_job) s.jobs n (Some job))
 
   output-re : (c : Option Channel) → output_of (option_map re_channel c) ≡ output_of c
   output-re None = refl
   output-re (Some c) = refl
 
-  outputs_of_re : (cs : List (Option Channel)) → filter_map output_of (map (option_map re_channel) cs) ≡ filter_map output_of cs
+  outputs_of_re : (cs : List (Option Channel)) → filter_map output_of (map (option_map re_channel) cs)
+      ≡ filter_map output_of cs
   outputs_of_re [] = refl
   outputs_of_re (c ∷ cs) = λ i. cons_option (output-re c i) (outputs_of_re cs i)
 
@@ -148,37 +181,46 @@ module _ (f : ℕ → ℕ) where
 
   -- Versions.
 
-  current_re : (ds : List (Directory Version)) → flat_map (λ d. values d.files) (map (map_directory re_version) ds) ≡ map re_version (flat_map (λ (d : Directory Version). values d.files) ds)
+  current_re : (ds : List (Directory Version)) → flat_map (λ d. values d.files) (map (map_directory re_version) ds)
+      ≡ map re_version (flat_map (λ (d : Directory Version). values d.files) ds)
   current_re [] = refl
   current_re (d ∷ ds) =
-      (λ i. values-map_values name_total re_version d.files i ++ current_re ds i) ∙ sym (map-append re_version (values d.files) (flat_map (λ (d : Directory Version). values d.files) ds))
+      (λ i. values-map_values name_total re_version d.files i ++ current_re ds i)
+      ∙ sym (map-append re_version (values d.files) (flat_map (λ (d : Directory Version). values d.files) ds))
 
   pub current-re : (s : State) → current (re_state s) ≡ map re_version (current s)
-  current-re s = ap (flat_map (λ (d : Directory Version). values d.files)) (values-map_values nat_cmp_total (map_directory re_version) s.files) ∙ current_re (values s.files)
+  current-re s = ap (flat_map (λ (d : Directory Version). values d.files))
+      (values-map_values nat_cmp_total (map_directory re_version) s.files) ∙ current_re (values s.files)
 
   pub version-re : (c : Option Channel) → version_of (option_map re_channel c) ≡ option_map re_version (version_of c)
   version-re None = refl
   version-re (Some c) = input_re c.input
     where
-      input_re : (i : Option Input) → option_map (λ (i : Input). i.version) (option_map re_input i) ≡ option_map re_version (option_map (λ (i : Input). i.version) i)
+      input_re : (i : Option Input) → option_map (λ (i : Input). i.version) (option_map re_input i)
+          ≡ option_map re_version (option_map (λ (i : Input). i.version) i)
       input_re None = refl
       input_re (Some i) = refl
 
-  cons_re : (o : Option Version) (vs : List Version) → cons_option (option_map re_version o) (map re_version vs) ≡ map re_version (cons_option o vs)
+  cons_re : (o : Option Version) (vs : List Version) → cons_option (option_map re_version o) (map re_version vs)
+      ≡ map re_version (cons_option o vs)
   cons_re None vs = refl
   cons_re (Some v) vs = refl
 
-  held_by_re : (cs : List (Option Channel)) → filter_map version_of (map (option_map re_channel) cs) ≡ map re_version (filter_map version_of cs)
+  held_by_re : (cs : List (Option Channel)) → filter_map version_of (map (option_map re_channel) cs)
+      ≡ map re_version (filter_map version_of cs)
   held_by_re [] = refl
-  held_by_re (c ∷ cs) = (λ i. cons_option (version-re c i) (held_by_re cs i)) ∙ cons_re (version_of c) (filter_map version_of cs)
+  held_by_re (c ∷ cs) = (λ i. cons_option (version-re c i) (held_by_re cs i))
+      ∙ cons_re (version_of c) (filter_map version_of cs)
 
   held_job_re : (j : Option Job) → held_by (option_map re_job j) ≡ map re_version (held_by j)
   held_job_re None = refl
   held_job_re (Some job) = held_by_re job.channels
 
-  held_re : (js : List (Option Job)) → flat_map held_by (map (option_map re_job) js) ≡ map re_version (flat_map held_by js)
+  held_re : (js : List (Option Job)) → flat_map held_by (map (option_map re_job) js)
+      ≡ map re_version (flat_map held_by js)
   held_re [] = refl
-  held_re (j ∷ js) = (λ i. held_job_re j i ++ held_re js i) ∙ sym (map-append re_version (held_by j) (flat_map held_by js))
+  held_re (j ∷ js) = (λ i. held_job_re j i ++ held_re js i)
+      ∙ sym (map-append re_version (held_by j) (flat_map held_by js))
 
   pub versions-re : (s : State) → current (re_state s) ++ held (re_state s) ≡ map re_version (current s ++ held s)
   versions-re s = (λ i. current-re s i ++ held_re s.jobs i) ∙ sym (map-append re_version (current s) (held s))
@@ -203,24 +245,31 @@ module _ (f : ℕ → ℕ) where
 
     distinct_re : (vs : List Version) → distinct_cost (map re_version vs) ≡ distinct_cost vs
     distinct_re [] = refl
-    distinct_re (v ∷ vs) = λ i. (if serial-re v.serial vs i then 0 else version_cost (length v.file.body)) + distinct_re vs i
+    distinct_re (v ∷ vs) = λ i. (if serial-re v.serial vs i then 0 else version_cost (length v.file.body))
+        + distinct_re vs i
 
-    total-mapped : {X Y : Type 0} (g : X → Y) (h : Y → ℕ) (k : X → ℕ) → ((x : X) → h (g x) ≡ k x) → (xs : List X) → total h (map g xs) ≡ total k xs
+    total-mapped : {X Y : Type 0} (g : X → Y) (h : Y → ℕ) (k : X → ℕ) → ((x : X) → h (g x) ≡ k x) → (xs : List X)
+        → total h (map g xs) ≡ total k xs
     total-mapped g h k e [] = refl
     total-mapped g h k e (x ∷ xs) = λ i. e x i + total-mapped g h k e xs i
 
     directories_re : (s : State) → directories_cost (re_state s) ≡ directories_cost s
     directories_re s =
         λ i. directory_cost (size-re s.files i)
-        + (ap (total (λ e. directory_cost (size e.1.files + pending_creations (re_state s) e.0))) (entries-map_values nat_cmp_total (map_directory re_version) s.files)
-        ∙ total-mapped (λ (e : ℕ × Directory Version). (e.0, map_directory re_version e.1)) (λ e. directory_cost (size e.1.files + pending_creations (re_state s) e.0))
+        + (ap (total (λ e. directory_cost (size e.1.files + pending_creations (re_state s) e.0)))
+        (entries-map_values nat_cmp_total (map_directory re_version) s.files)
+        ∙ total-mapped (λ (e : ℕ × Directory Version). (e.0, map_directory re_version e.1))
+        (λ e. directory_cost (size e.1.files + pending_creations (re_state s) e.0))
         (λ e. directory_cost (size e.1.files + pending_creations s e.0))
-        (λ e j. directory_cost (size-map_values name_total re_version e.1.files j + creations-re s e.0 j)) (entries s.files)) i
+        (λ e j. directory_cost (size-map_values name_total re_version e.1.files j + creations-re s e.0 j))
+        (entries s.files)) i
 
     pub booked-re : (s : State) → booked (re_state s) ≡ booked s
-    booked-re s = λ i. (directories_re s i + (ap distinct_cost (versions-re s) ∙ distinct_re (current s ++ held s)) i) + ap (total (λ (o : Output). version_cost (length o.pending.body))) (outputs-re s) i
+    booked-re s = λ i. (directories_re s i + (ap distinct_cost (versions-re s) ∙ distinct_re (current s ++ held s)) i)
+        + ap (total (λ (o : Output). version_cost (length o.pending.body))) (outputs-re s) i
 
-    pub exceeds-re : (pack : Pack) (s : State) (more : ℕ) → exceeds_room pack (re_state s) more ≡ exceeds_room pack s more
+    pub exceeds-re : (pack : Pack) (s : State) (more : ℕ) → exceeds_room pack (re_state s) more
+        ≡ exceeds_room pack s more
     exceeds-re pack s more = ap (λ b. nat_lt (space pack) (b + more)) (booked-re s)
 
   -- What answers look at.
@@ -231,16 +280,22 @@ module _ (f : ℕ → ℕ) where
   pub absent-re : (s : State) (place : Place) → is_absent (re_state s) place ≡ is_absent s place
   absent-re s place = ap is_none (file-re s.files place) ∙ is_none-map _ (file_at s.files place)
 
-  directory_re : (job : Job) (ppn : ℕ) (o : Option (Directory Version)) → digit_for_directory (re_job job) ppn (option_map (map_directory re_version) o) ≡ digit_for_directory job ppn o
+  directory_re : (job : Job) (ppn : ℕ) (o : Option (Directory Version))
+      → digit_for_directory (re_job job) ppn (option_map (map_directory re_version) o) ≡ digit_for_directory job ppn o
   directory_re job ppn None = refl
   directory_re job ppn (Some d) = refl
 
-  pub directory_digit-re : (s : State) (job : Job) (place : Place) → directory_digit_at (re_state s) (re_job job) place ≡ directory_digit_at s job place
-  directory_digit-re s job place = ap (digit_for_directory job place.ppn) (get-re s.files place.ppn) ∙ directory_re job place.ppn (get s.files place.ppn)
+  pub directory_digit-re : (s : State) (job : Job) (place : Place) → directory_digit_at (re_state s) (re_job job) place
+      ≡ directory_digit_at s job place
+  directory_digit-re s job place = ap (digit_for_directory job place.ppn) (get-re s.files place.ppn)
+      ∙ directory_re job place.ppn (get s.files place.ppn)
 
-  version_re : (job : Job) (ppn : ℕ) (o : Option Version) → digit_for_version (re_job job) ppn (option_map re_version o) ≡ digit_for_version job ppn o
+  version_re : (job : Job) (ppn : ℕ) (o : Option Version) → digit_for_version (re_job job) ppn (option_map re_version o)
+      ≡ digit_for_version job ppn o
   version_re job ppn None = refl
   version_re job ppn (Some v) = refl
 
-  pub digit-re : (s : State) (job : Job) (place : Place) → digit_at (re_state s) (re_job job) place ≡ digit_at s job place
-  digit-re s job place = ap (digit_for_version job place.ppn) (file-re s.files place) ∙ version_re job place.ppn (file_at s.files place)
+  pub digit-re : (s : State) (job : Job) (place : Place) → digit_at (re_state s) (re_job job) place
+      ≡ digit_at s job place
+  digit-re s job place = ap (digit_for_version job place.ppn) (file-re s.files place)
+      ∙ version_re job place.ppn (file_at s.files place)

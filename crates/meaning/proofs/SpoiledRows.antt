@@ -1,5 +1,6 @@
 -- V1 with one change: the faults that it has.
-use Rattle.std.proofs.Common.{◌≡◌, ℕ, ◌+◌, ◌/◌, ◌^◌, ◌<◌, ◌≤◌, inl, inr, cond, List, [], ◌∷◌, length, replicate, get_or, Option, Some, refl, sym, ap, ◌∙◌, arith, lit<, lit≤}
+use Rattle.std.proofs.Common.{◌≡◌, ℕ, ◌+◌, ◌/◌, ◌^◌, ◌<◌, ◌≤◌, inl, inr, cond, List, [], ◌∷◌, length, replicate, get_or}
+use Rattle.std.proofs.Common.{Option, Some, refl, sym, ap, ◌∙◌, arith, lit<, lit≤}
 use Rattle.std.proofs.lemmas.Bool.{ne_eqb}
 use Rattle.blockdisk.specs.Disk.{Contents}
 use Rattle.meaning.specs.declared.put.Put.{Put}
@@ -13,9 +14,15 @@ use Rattle.meaning.specs.Directories.{Node, directory_block, MasterEntry, master
 use Rattle.meaning.specs.Retrieval.{Prime, prime_of, Run, attributes, prime_block, IsPrime, IsRetrieved}
 use Rattle.meaning.specs.Stands.{reaches, place_of, IsMapped, Stands}
 use Rattle.meaning.specs.Walks.{IsMasterWalk, IsDirectoryNamed, IsDirectoryWalk, IsFileNamed, IsPrimeRead}
-use Rattle.meaning.specs.Faults.{InSpace, HasName, malformed, short, of_version, malformed_prime, miscounted, ReadFile, ReadDirectory, ReadMap, IsFileRead, IsDirectoryRead, StartFault, NotVolume, BadHome, BadLog, BadDirectory, BadRetrieval, BlockTwice, TableWrong, BadData, IsSettledFault, HasFault}
+use Rattle.meaning.specs.Faults.{InSpace, HasName, malformed, short, of_version, malformed_prime, miscounted, ReadFile}
+use Rattle.meaning.specs.Faults.{ReadDirectory, ReadMap, IsFileRead, IsDirectoryRead, StartFault, NotVolume, BadHome}
+use Rattle.meaning.specs.Faults.{BadLog, BadDirectory, BadRetrieval, BlockTwice, TableWrong, BadData, IsSettledFault}
+use Rattle.meaning.specs.Faults.{HasFault}
 use Rattle.meaning.specs.Vector.{v1, home_words, master_block, file_block, foo_txt, hello, owner, v1_map}
-use Rattle.meaning.specs.Spoiled.{update, nameless_home, v1_not_volume, third_home, v1_bad_home, v1_bad_log, crowded_master, v1_too_many_entries, v1_looping_directory, late_rib, v1_late_minute, v1_too_long, v1_damaged_data, v1_shared_block, longer_table, v1_bit_past_the_end, extra_table, v1_extra_bit}
+use Rattle.meaning.specs.Spoiled.{update, nameless_home, v1_not_volume, third_home, v1_bad_home, v1_bad_log}
+use Rattle.meaning.specs.Spoiled.{crowded_master, v1_too_many_entries, v1_looping_directory, late_rib, v1_late_minute}
+use Rattle.meaning.specs.Spoiled.{v1_too_long, v1_damaged_data, v1_shared_block, longer_table, v1_bit_past_the_end}
+use Rattle.meaning.specs.Spoiled.{extra_table, v1_extra_bit}
 use Rattle.meaning.proofs.MapLaws.{some_same}
 use Rattle.meaning.proofs.DiskMaps.{once, mapped_kept}
 use Rattle.meaning.proofs.Excluded.{reached_inside}
@@ -38,7 +45,8 @@ pub zero_gate : zero_block ≡ open_gate → ⊥
 zero_gate is = let first : head_or_zero zero_block ≡ head_or_zero open_gate = ap head_or_zero is in absurd (omega arith)
 
 -- a fault of contents whose gate is zeros, as V1's is
-settled_fault : (c : Contents) (fault : StartFault) → c 3 ≡ Some zero_block → IsSettledFault 64 c fault → HasFault 64 c fault
+settled_fault : (c : Contents) (fault : StartFault) → c 3 ≡ Some zero_block → IsSettledFault 64 c fault
+    → HasFault 64 c fault
 settled_fault c fault is bad = inr (c, inl (gate_closed c zero_block is zero_gate, λ n. refl), bad)
 
 -- What a change leaves.
@@ -77,15 +85,22 @@ module _ (c : Contents) (home : c 1 ≡ Some home_words) (master : c 15 ≡ Some
   at_directory : IsDirectoryWalk 64 c 1 owner [] 16
   at_directory = record { word = 0o775000000000; first = 16; named = directory_named; walk = refl }
 
-module _ (c : Contents) (home : c 1 ≡ Some home_words) (master : c 15 ≡ Some master_block) (directory : c 16 ≡ Some file_block) where
+module _ (c : Contents) (home : c 1 ≡ Some home_words) (master : c 15 ≡ Some master_block) (directory : c 16
+    ≡ Some file_block) where
   past_directory : IsDirectoryWalk 64 c 1 owner file_nodes 0
-  past_directory = record { word = 0o775000000000; first = 16; named = directory_named c home master; walk = (refl, lit< tt, 0, directory, refl) }
+  past_directory = record {
+    word = 0o775000000000;
+    first = 16;
+    named = directory_named c home master;
+    walk = (refl, lit< tt, 0, directory, refl);
+  }
 
   file_named : IsFileNamed 64 c 1 foo_place 17
   file_named = record { nodes = file_nodes; last = 0; walk = past_directory; entry = refl }
 
 -- a prime block that names one block, which holds two words
-pub retrieved : (c : Contents) (p : Prime) (n : ℕ) → c 17 ≡ Some (prime_block p ((1, n) ∷ []) 0) → IsPrime 1 p → p.words ≡ 2 → n < 2 ^ 18 → IsRetrieved 1 c p 17 [] (n ∷ [])
+pub retrieved : (c : Contents) (p : Prime) (n : ℕ) → c 17 ≡ Some (prime_block p ((1, n) ∷ []) 0) → IsPrime 1 p
+    → p.words ≡ 2 → n < 2 ^ 18 → IsRetrieved 1 c p 17 [] (n ∷ [])
 retrieved c p n is fits two small = record {
   runs = (1, n) ∷ [];
   further = [];
@@ -116,7 +131,8 @@ nameless c n is has =
     absurd (omega arith)
 
 pub not_volume : HasFault 64 v1_not_volume NotVolume
-not_volume = settled_fault v1_not_volume NotVolume refl (inr (nameless v1_not_volume 1 refl, nameless v1_not_volume 2 refl))
+not_volume = settled_fault v1_not_volume NotVolume refl
+    (inr (nameless v1_not_volume 1 refl, nameless v1_not_volume 2 refl))
 
 no_third : (c : Contents) (n : ℕ) → c n ≡ Some third_home → (home : Home) → IsHomeCopy 64 c n home → ⊥
 no_third c n is home copy =
@@ -139,11 +155,13 @@ no_log c is puts log =
     absurd (omega arith)
 
 pub bad_log : HasFault 64 v1_bad_log BadLog
-bad_log = inl (record { open_gate = record { volume = v1_has_map.volume; gate = refl }; no_log = no_log v1_bad_log refl }, refl)
+bad_log = inl
+    (record { open_gate = record { volume = v1_has_map.volume; gate = refl }; no_log = no_log v1_bad_log refl }, refl)
 
 -- Directories.
 
-crowded : (next : ℕ) (es : List MasterEntry) → Some crowded_master ≡ Some (directory_block master_words next es) → length es ≤ 42 → ⊥
+crowded : (next : ℕ) (es : List MasterEntry) → Some crowded_master ≡ Some (directory_block master_words next es)
+    → length es ≤ 42 → ⊥
 crowded next es is few =
     let same : crowded_master ≡ directory_block master_words next es = some_same is in
     let count : 43 ≡ length es = ap (λ words. get_or words 1 0) same in
@@ -186,8 +204,11 @@ no_late p runs next is fits =
     absurd (omega arith)
 
 pub late_minute : HasFault 64 v1_late_minute (BadRetrieval 17)
-late_minute = settled_fault v1_late_minute (BadRetrieval 17) refl
-    (free 17 (lit≤ tt) (lit< tt), of_version 1 foo_place 17 (file_named v1_late_minute refl refl refl) (malformed_prime (λ p runs next read few. no_late p runs next read.words read.fits)))
+late_minute = settled_fault v1_late_minute (BadRetrieval 17) refl (
+  free 17 (lit≤ tt) (lit< tt),
+  of_version 1 foo_place 17 (file_named v1_late_minute refl refl refl)
+      (malformed_prime (λ p runs next read few. no_late p runs next read.words read.fits)),
+)
 
 abbrev long_prime : Prime
 long_prime = record { place = foo_place; protection = 0o057; mode = 0; time = 0; date = 4095; words = 129 }
@@ -202,8 +223,11 @@ long_read = record {
 }
 
 pub too_long : HasFault 64 v1_too_long (BadRetrieval 17)
-too_long = settled_fault v1_too_long (BadRetrieval 17) refl
-    (free 17 (lit≤ tt) (lit< tt), of_version 1 foo_place 17 (file_named v1_too_long refl refl refl) (miscounted long_prime ((1, 18) ∷ []) 0 [] long_read refl (λ same. absurd (omega arith))))
+too_long = settled_fault v1_too_long (BadRetrieval 17) refl (
+  free 17 (lit≤ tt) (lit< tt),
+  of_version 1 foo_place 17 (file_named v1_too_long refl refl refl)
+      (miscounted long_prime ((1, 18) ∷ []) 0 [] long_read refl (λ same. absurd (omega arith))),
+)
 
 pub damaged_data : HasFault 64 v1_damaged_data (BadData 18)
 damaged_data = settled_fault v1_damaged_data (BadData 18) refl (
@@ -233,7 +257,11 @@ abbrev shared_map : ReadMap
 shared_map = record { nodes = master_nodes; last = 0; directories = (owner, shared_directory) ∷ [] }
 
 shared_read : IsFileRead 1 v1_shared_block owner ((foo_txt, 17) ∷ []) (foo_txt, shared_file)
-shared_read = record { entry = refl; place_is = refl; retrieved = retrieved v1_shared_block hello_prime 16 refl hello_fits refl (lit< tt) }
+shared_read = record {
+  entry = refl;
+  place_is = refl;
+  retrieved = retrieved v1_shared_block hello_prime 16 refl hello_fits refl (lit< tt);
+}
 
 shared_directory_read : IsDirectoryRead 1 v1_shared_block ((owner, (0o775000000000, 16)) ∷ []) (owner, shared_directory)
 shared_directory_read = record {
@@ -250,7 +278,12 @@ shared_block = settled_fault v1_shared_block (BlockTwice 16) refl (
   free 16 (lit≤ tt) (lit< tt),
   record {
     m = shared_map;
-    read = record { layout = 1; walk = past_master v1_shared_block refl refl; once = (refl, tt); directories = (shared_directory_read, tt) };
+    read = record {
+      layout = 1;
+      walk = past_master v1_shared_block refl refl;
+      once = (refl, tt);
+      directories = (shared_directory_read, tt);
+    };
     twice = lit≤ tt;
   },
 )
@@ -264,7 +297,8 @@ module _ (words : List ℕ) where
   table_mapped : IsMapped 64 (update 14 (Some words) v1) v1_map
   table_mapped = mapped_kept 64 v1 (update 14 (Some words) v1) v1_map v1_has_map.mapped refl refl table_kept
 
-  wrong_table : (k : ℕ) → k / 4608 ≡ 0 → (table_bit 64 (update 14 (Some words) v1) k ≡ fixed 64 k + reaches k v1_map → ⊥) → HasFault 64 (update 14 (Some words) v1) (TableWrong 14)
+  wrong_table : (k : ℕ) → k / 4608 ≡ 0 → (table_bit 64 (update 14 (Some words) v1) k ≡ fixed 64 k + reaches k v1_map
+      → ⊥) → HasFault 64 (update 14 (Some words) v1) (TableWrong 14)
   wrong_table k first wrong = settled_fault (update 14 (Some words) v1) (TableWrong 14) refl (record {
     m = v1_map;
     volume = v1_has_map.volume;

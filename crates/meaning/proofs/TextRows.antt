@@ -1,5 +1,6 @@
 -- Worked rows of texts, computed: what lines ask, played on the machine, and what they print.
-use Rattle.std.proofs.Common.{◌≡◌, ℕ, ◌+◌, Bool, true, false, List, [], ◌∷◌, ◌++◌, map, replicate, Some, None, refl, ap, pos}
+use Rattle.std.proofs.Common.{◌≡◌, ℕ, ◌+◌, Bool, true, false, List, [], ◌∷◌, ◌++◌, map, replicate, Some, None, refl, ap}
+use Rattle.std.proofs.Common.{pos}
 use Rattle.std.specs.Prelude.{codes}
 use Rattle.std.specs.Fmt.{digits}
 use Rattle.words36.specs.Words.{join}
@@ -11,12 +12,16 @@ use Rattle.meaning.specs.Sessions.{list}
 use Rattle.meaning.specs.Step.{step}
 use Rattle.meaning.specs.Lines.{Bytes, TooLong, lines}
 use Rattle.meaning.specs.Texts.{Spoken, joined, silent, prints, day_text, entry_text, listing, list_said}
-use Rattle.meaning.specs.Plans.{Plan, Ask, Show, Say, each, fetches, finds, lists, counts, copies_blocks, types_blocks, begins}
+use Rattle.meaning.specs.Plans.{Plan, Ask, Show, Say, each, fetches, finds, lists, counts, copies_blocks, types_blocks}
+use Rattle.meaning.specs.Plans.{begins}
 use Rattle.meaning.specs.Transcripts.{login_said, core_words}
 use Rattle.meaning.specs.Scripts.{written}
 use Rattle.meaning.specs.declared.command.Spec.{Spec}
 use Rattle.meaning.specs.declared.command.Command.{Command}
-use Rattle.meaning.specs.declared.command.Command.TheVariants.{Login as LoginLine, Directory as DirectoryLine, Copy as CopyLine, Rename as RenameLine, Delete as DeleteLine, TypeOut as TypeLine, Protect as ProtectLine, MakeDir as MakeLine}
+use Rattle.meaning.specs.declared.command.Command.TheVariants.{Login as LoginLine, Directory as DirectoryLine}
+use Rattle.meaning.specs.declared.command.Command.TheVariants.{Copy as CopyLine, Rename as RenameLine}
+use Rattle.meaning.specs.declared.command.Command.TheVariants.{Delete as DeleteLine, TypeOut as TypeLine}
+use Rattle.meaning.specs.declared.command.Command.TheVariants.{Protect as ProtectLine, MakeDir as MakeLine}
 use Rattle.meaning.specs.declared.call.Event.{Event}
 use Rattle.meaning.specs.declared.call.Call.{Call}
 use Rattle.meaning.specs.declared.call.Call.TheVariants.{Open, Lookup, In, Reset}
@@ -36,7 +41,8 @@ speak pack s command = conduct pack 1000 s (begins at_start ten_twenty command)
 
 abbrev talk : Pack → State → List Command → Spoken × State
 talk pack s [] = (silent, s)
-talk pack s (command ∷ commands) = let a = speak pack s command in let b = talk pack a.1 commands in (joined a.0 b.0, b.1)
+talk pack s (command ∷ commands) = let a = speak pack s command in let b = talk pack a.1 commands in
+    (joined a.0 b.0, b.1)
 
 abbrev text_of : List (List ℕ) → List ℕ
 text_of [] = []
@@ -49,7 +55,16 @@ hello = record {
     protection = 0o775;
     quota = 0;
     files = insert empty (record { name = foo; ext = 0o647064 })
-        (record { file = record { protection = 0o057; mode = 0; time = 0; date = 4095; body = 0o442131446236 ∷ 0o064240000000 ∷ [] }; serial = 1 });
+        (record {
+          file = record {
+            protection = 0o057;
+            mode = 0;
+            time = 0;
+            date = 4095;
+            body = 0o442131446236 ∷ 0o064240000000 ∷ [];
+          };
+          serial = 1;
+        });
   });
   jobs = no_jobs;
 }
@@ -61,14 +76,17 @@ abbrev bar_spec : Spec
 bar_spec = record { name = record { name = bar; ext = 0o647064 }; owner = Some ten_twenty }
 
 -- A session: a copy, a list, and a file deleted twice.
-session : (talk small hello (LoginLine ten_twenty ∷ CopyLine bar_spec foo_spec ∷ DirectoryLine None ∷ DeleteLine foo_spec ∷ DeleteLine foo_spec ∷ [])).0
+session : (talk small hello (LoginLine ten_twenty ∷ CopyLine bar_spec foo_spec ∷ DirectoryLine None
+    ∷ DeleteLine foo_spec ∷ DeleteLine foo_spec ∷ [])).0
     ≡ record {
-      text = text_of (codes "Job 1 [10,20]" ∷ codes "OK" ∷ codes "BAR    TXT     1  <057>   1-Jan-1964" ∷ codes "FOO    TXT     1  <057>   4-Jan-1975" ∷ codes "Total 2 blocks in 2 files [10,20]"
+      text = text_of (codes "Job 1 [10,20]" ∷ codes "OK" ∷ codes "BAR    TXT     1  <057>   1-Jan-1964"
+          ∷ codes "FOO    TXT     1  <057>   4-Jan-1975" ∷ codes "Total 2 blocks in 2 files [10,20]"
           ∷ codes "OK" ∷ codes "?File not found" ∷ []);
       refused = true;
       broke = false;
     }
-unfolding empty insert get remove entries size dump_list areas_from each fetches copies_blocks types_blocks entry_text listing digits conduct
+unfolding empty insert get remove entries size dump_list areas_from each fetches copies_blocks types_blocks
+    entry_text listing digits conduct
 session = refl
 
 abbrev two_lines : List (List ℕ) → Bool → Spoken
@@ -76,34 +94,52 @@ two_lines texts refused = record { text = text_of texts; refused = refused; brok
 
 -- A file's characters alone are typed.
 types : (talk small hello (LoginLine ten_twenty ∷ TypeLine foo_spec ∷ TypeLine bar_spec ∷ [])).0
-    ≡ record { text = text_of (codes "Job 1 [10,20]" ∷ (codes "HELLO" ++ 13 ∷ []) ∷ codes "?File not found" ∷ []); refused = true; broke = false }
-unfolding empty insert get remove entries size dump_list areas_from each fetches copies_blocks types_blocks entry_text listing digits conduct
+    ≡ record {
+      text = text_of (codes "Job 1 [10,20]" ∷ (codes "HELLO" ++ 13 ∷ []) ∷ codes "?File not found" ∷ []);
+      refused = true;
+      broke = false;
+    }
+unfolding empty insert get remove entries size dump_list areas_from each fetches copies_blocks types_blocks
+    entry_text listing digits conduct
 types = refl
 
 -- A directory is made and listed; a file gets another protection and another name, and is not in the way of itself.
-names_change : (talk small hello (LoginLine ten_twenty ∷ MakeLine ten_twenty 0 ∷ MakeLine (join 0o10 0o30) 0 ∷ DirectoryLine (Some (join 0o10 0o30)) ∷ ProtectLine foo_spec 0o155 ∷ RenameLine bar_spec foo_spec ∷ RenameLine bar_spec foo_spec
+names_change : (talk small hello (LoginLine ten_twenty ∷ MakeLine ten_twenty 0 ∷ MakeLine (join 0o10 0o30) 0
+    ∷ DirectoryLine (Some (join 0o10 0o30)) ∷ ProtectLine foo_spec 0o155 ∷ RenameLine bar_spec foo_spec
+    ∷ RenameLine bar_spec foo_spec
     ∷ ProtectLine bar_spec 0o57 ∷ DirectoryLine None ∷ [])).0
-    ≡ two_lines (codes "Job 1 [10,20]" ∷ codes "?File name already exists" ∷ codes "?Protection failure" ∷ codes "?No such directory" ∷ codes "OK" ∷ codes "OK" ∷ codes "?File not found"
-    ∷ codes "?Protection failure" ∷ codes "BAR    TXT     1  <155>   4-Jan-1975" ∷ codes "Total 1 blocks in 1 files [10,20]" ∷ []) true
-unfolding empty insert get remove entries size dump_list areas_from each fetches copies_blocks types_blocks entry_text listing digits conduct
+    ≡ two_lines (codes "Job 1 [10,20]" ∷ codes "?File name already exists" ∷ codes "?Protection failure"
+    ∷ codes "?No such directory" ∷ codes "OK" ∷ codes "OK" ∷ codes "?File not found"
+    ∷ codes "?Protection failure" ∷ codes "BAR    TXT     1  <155>   4-Jan-1975"
+    ∷ codes "Total 1 blocks in 1 files [10,20]" ∷ []) true
+unfolding empty insert get remove entries size dump_list areas_from each fetches copies_blocks types_blocks
+    entry_text listing digits conduct
 names_change = refl
 
 -- An empty directory.
-no_files : (talk small fresh (LoginLine ten_twenty ∷ DirectoryLine None ∷ [])).0 ≡ two_lines (codes "Job 1 [10,20]" ∷ codes "No files [10,20]" ∷ []) false
-unfolding empty insert get remove entries size dump_list areas_from each fetches copies_blocks types_blocks entry_text listing digits conduct
+no_files : (talk small fresh (LoginLine ten_twenty ∷ DirectoryLine None ∷ [])).0
+    ≡ two_lines (codes "Job 1 [10,20]" ∷ codes "No files [10,20]" ∷ []) false
+unfolding empty insert get remove entries size dump_list areas_from each fetches copies_blocks types_blocks
+    entry_text listing digits conduct
 no_files = refl
 
 -- A copy of three blocks has all words of the file, and the words of a copy that finds no room are given back.
-copies_all : (copied : Spoken × State) → copied ≡ talk small (foo_of 0o057 300) (LoginLine ten_twenty ∷ CopyLine bar_spec foo_spec ∷ DirectoryLine None ∷ [])
-    → (copied.0 ≡ two_lines (codes "Job 1 [10,20]" ∷ codes "OK" ∷ codes "BAR    TXT     3  <057>   1-Jan-1964" ∷ codes "FOO    TXT     3  <057>   1-Jan-1964" ∷ codes "Total 6 blocks in 2 files [10,20]" ∷ []) false)
+copies_all : (copied : Spoken × State) → copied
+    ≡ talk small (foo_of 0o057 300) (LoginLine ten_twenty ∷ CopyLine bar_spec foo_spec ∷ DirectoryLine None ∷ [])
+    → (copied.0 ≡ two_lines (codes "Job 1 [10,20]" ∷ codes "OK" ∷ codes "BAR    TXT     3  <057>   1-Jan-1964"
+    ∷ codes "FOO    TXT     3  <057>   1-Jan-1964" ∷ codes "Total 6 blocks in 2 files [10,20]" ∷ []) false)
     × (room small copied.1 ≡ pos 39)
-unfolding empty insert get remove entries size dump_list areas_from each fetches copies_blocks types_blocks entry_text listing digits conduct
+unfolding empty insert get remove entries size dump_list areas_from each fetches copies_blocks types_blocks
+    entry_text listing digits conduct
 copies_all copied e = (ap (λ (c : Spoken × State). c.0) e, ap (λ (c : Spoken × State). room small c.1) e)
 
-no_room : (copied : Spoken × State) → copied ≡ talk small (foo_of 0o057 3072) (LoginLine ten_twenty ∷ CopyLine bar_spec foo_spec ∷ DirectoryLine None ∷ [])
-    → (copied.0 ≡ two_lines (codes "Job 1 [10,20]" ∷ codes "?No room" ∷ codes "FOO    TXT    24  <057>   1-Jan-1964" ∷ codes "Total 24 blocks in 1 files [10,20]" ∷ []) true)
+no_room : (copied : Spoken × State) → copied
+    ≡ talk small (foo_of 0o057 3072) (LoginLine ten_twenty ∷ CopyLine bar_spec foo_spec ∷ DirectoryLine None ∷ [])
+    → (copied.0 ≡ two_lines (codes "Job 1 [10,20]" ∷ codes "?No room" ∷ codes "FOO    TXT    24  <057>   1-Jan-1964"
+    ∷ codes "Total 24 blocks in 1 files [10,20]" ∷ []) true)
     × (room small copied.1 ≡ pos 22)
-unfolding empty insert get remove entries size dump_list areas_from each fetches copies_blocks types_blocks entry_text listing digits conduct
+unfolding empty insert get remove entries size dump_list areas_from each fetches copies_blocks types_blocks
+    entry_text listing digits conduct
 no_room copied e = (ap (λ (c : Spoken × State). c.0) e, ap (λ (c : Spoken × State). room small c.1) e)
 
 -- The words of a last block are counted where no reply says how many there are: 44 of 300, and all of 256.
@@ -111,9 +147,11 @@ abbrev logged_in : State → State
 logged_in s = (step small 0 s (Login 1 ten_twenty core_words)).1
 
 abbrev count_of : State → ℕ → Spoken
-count_of s n = (conduct small 1000 s (each at_start (finds at_start foo_spec ++ lists 128) (counts at_start n (λ count. Say (prints (count ∷ [])))))).0
+count_of s n = (conduct small 1000 s
+    (each at_start (finds at_start foo_spec ++ lists 128) (counts at_start n (λ count. Say (prints (count ∷ [])))))).0
 
-counted : (count_of (logged_in (foo_of 0o057 300)) 3 ≡ prints (44 ∷ [])) × (count_of (logged_in (foo_of 0o057 256)) 2 ≡ prints (128 ∷ []))
+counted : (count_of (logged_in (foo_of 0o057 300)) 3 ≡ prints (44 ∷ []))
+    × (count_of (logged_in (foo_of 0o057 256)) 2 ≡ prints (128 ∷ []))
 unfolding empty insert get remove entries size dump_list areas_from each fetches conduct
 counted = (refl, refl)
 
@@ -123,24 +161,30 @@ own call = Calls 1 call at_start
 
 abbrev script : List Event
 script =
-    Login 1 ten_twenty 0o1000 ∷ Deposit 1 0o200 0o17 ∷ Deposit 1 0o201 0o446353000000 ∷ own (Open 1 0o200) ∷ Deposit 1 0o300 foo ∷ Deposit 1 0o301 0o647064000000
-    ∷ own (Lookup 1 0o300) ∷ Examine 1 0o302 ∷ Examine 1 0o303 ∷ Deposit 1 0o400 0o777776000477 ∷ own (In 1 0o400) ∷ Examine 1 0o500 ∷ own (In 1 0o400)
+    Login 1 ten_twenty 0o1000 ∷ Deposit 1 0o200 0o17 ∷ Deposit 1 0o201 0o446353000000 ∷ own (Open 1 0o200)
+    ∷ Deposit 1 0o300 foo ∷ Deposit 1 0o301 0o647064000000
+    ∷ own (Lookup 1 0o300) ∷ Examine 1 0o302 ∷ Examine 1 0o303 ∷ Deposit 1 0o400 0o777776000477 ∷ own (In 1 0o400)
+    ∷ Examine 1 0o500 ∷ own (In 1 0o400)
     ∷ Deposit 1 0o1000 1 ∷ own (In 3 0o400) ∷ Calls 2 Reset at_start ∷ []
 
 scripted : map written (play small 1000 hello script).0
-    ≡ codes "DONE" ∷ codes "DONE" ∷ codes "DONE" ∷ codes "DONE" ∷ codes "DONE" ∷ codes "DONE" ∷ codes "DONE" ∷ codes "VALUE 057000007777" ∷ codes "VALUE 777776000000" ∷ codes "DONE" ∷ codes "DONE"
+    ≡ codes "DONE" ∷ codes "DONE" ∷ codes "DONE" ∷ codes "DONE" ∷ codes "DONE" ∷ codes "DONE" ∷ codes "DONE"
+    ∷ codes "VALUE 057000007777" ∷ codes "VALUE 777776000000" ∷ codes "DONE" ∷ codes "DONE"
     ∷ codes "VALUE 442131446236" ∷ codes "STOPPED 020017" ∷ codes "ADDRESS" ∷ codes "NOCHANNEL" ∷ codes "NOJOB" ∷ []
 unfolding empty insert get remove entries size dump_list areas_from digits
 scripted = refl
 
 -- Lines: letters in upper case, a return dropped before a feed alone, no empty lines, and one that is too long.
-lines_of : lines (codes "login [1,2]" ++ 13 ∷ 10 ∷ 10 ∷ 13 ∷ 10 ∷ codes "Foo" ++ 13 ∷ []) ≡ Bytes (codes "LOGIN [1,2]") ∷ Bytes (codes "FOO" ++ 13 ∷ []) ∷ []
+lines_of : lines (codes "login [1,2]" ++ 13 ∷ 10 ∷ 10 ∷ 13 ∷ 10 ∷ codes "Foo" ++ 13 ∷ [])
+    ≡ Bytes (codes "LOGIN [1,2]") ∷ Bytes (codes "FOO" ++ 13 ∷ []) ∷ []
 lines_of = refl
 
-too_long : lines (replicate 255 65 ++ 10 ∷ replicate 255 65 ++ 13 ∷ 10 ∷ replicate 256 65) ≡ Bytes (replicate 255 65) ∷ TooLong ∷ TooLong ∷ []
+too_long : lines (replicate 255 65 ++ 10 ∷ replicate 255 65 ++ 13 ∷ 10 ∷ replicate 256 65)
+    ≡ Bytes (replicate 255 65) ∷ TooLong ∷ TooLong ∷ []
 too_long = refl
 
 -- Days, the last ones of twelve and of fifteen bits among them.
-days : (day_text 0 ≡ codes " 1-Jan-1964") × (day_text 4095 ≡ codes " 4-Jan-1975") × (day_text 4096 ≡ codes " 5-Jan-1975") × (day_text 32767 ≡ codes " 1-Feb-2052")
+days : (day_text 0 ≡ codes " 1-Jan-1964") × (day_text 4095 ≡ codes " 4-Jan-1975")
+    × (day_text 4096 ≡ codes " 5-Jan-1975") × (day_text 32767 ≡ codes " 1-Feb-2052")
 unfolding digits
 days = (refl, refl, refl, refl)

@@ -7,7 +7,8 @@ use Rattle.meaning.specs.declared.call.Call.TheVariants.{Useti, Useto}
 use Rattle.meaning.specs.declared.call.Event.{Event}
 use Rattle.meaning.specs.declared.call.Event.TheVariants.{Deposit, Examine}
 use Rattle.meaning.specs.declared.call.Reply.TheVariants.{Done, Value, Refused, Stopped}
-use Rattle.meaning.proofs.Playing.{small, ten_twenty, foo, bar, foo_of, parts, by, ready_with, names_words, words_at_500, looks_up, enters, out, takes, close}
+use Rattle.meaning.proofs.Playing.{small, ten_twenty, foo, bar, foo_of, parts, by, ready_with, names_words}
+use Rattle.meaning.proofs.Playing.{words_at_500, looks_up, enters, out, takes, close}
 
 -- job n looks the file up on its channel 1, and enters it there
 abbrev updates : ℕ → ℕ → List Event
@@ -17,9 +18,11 @@ updates n ppn = ready_with n ppn 0o2000 ++ looks_up n foo ++ enters n foo
 ten_words : parts small 1000 (foo_of 0o057 300) (
     updates 1 ten_twenty
     ∷ (by 1 (Useto 1 2) ∷ words_at_500 1 10 ++ Deposit 1 0o500 5 ∷ Deposit 1 0o511 6 ∷ out 1 ∷ [])
-    ∷ (ready_with 2 ten_twenty 0o1000 ++ looks_up 2 foo ++ by 2 (Useti 1 2) ∷ words_at_500 2 11 ++ takes 2 ∷ Examine 2 0o500 ∷ close 2 0 ∷ [])
+    ∷ (ready_with 2 ten_twenty 0o1000 ++ looks_up 2 foo ++ by 2 (Useti 1 2) ∷ words_at_500 2 11
+    ++ takes 2 ∷ Examine 2 0o500 ∷ close 2 0 ∷ [])
     ∷ (close 1 0 ∷ [])
-    ∷ (looks_up 2 foo ++ Examine 2 0o303 ∷ by 2 (Useti 1 2) ∷ takes 2 ∷ Examine 2 0o500 ∷ Examine 2 0o511 ∷ Examine 2 0o512 ∷ [])
+    ∷ (looks_up 2 foo ++ Examine 2 0o303 ∷ by 2 (Useti 1 2) ∷ takes 2 ∷ Examine 2 0o500 ∷ Examine 2 0o511
+    ∷ Examine 2 0o512 ∷ [])
     ∷ [])
     ≡ (Done ∷ Done ∷ Done ∷ [], pos 39)
     ∷ (Done ∷ Done ∷ [], pos 39)
@@ -36,7 +39,8 @@ lengthened : parts small 1000 (foo_of 0o057 128) (
     ∷ (by 1 (Useto 1 4) ∷ words_at_500 1 1 ++ out 1 ∷ [])
     ∷ (close 1 0 ∷ looks_up 1 foo ++ Examine 1 0o303 ∷ [])
     ∷ [])
-    ≡ (Done ∷ Done ∷ Done ∷ [], pos 43) ∷ (Done ∷ Done ∷ [], pos 40) ∷ (Done ∷ Done ∷ Value 0o777177000000 ∷ [], pos 42) ∷ []
+    ≡ (Done ∷ Done ∷ Done ∷ [], pos 43) ∷ (Done ∷ Done ∷ [], pos 40) ∷ (Done ∷ Done ∷ Value 0o777177000000 ∷ [], pos 42)
+    ∷ []
 unfolding empty insert get remove entries size dump_list areas_from
 lengthened = refl
 
@@ -44,7 +48,8 @@ lengthened = refl
 appended : parts small 1000 (foo_of 0o047 300) (
     updates 2 (join 0o10 0o30)
     ∷ (by 2 (Useto 1 2) ∷ words_at_500 2 1 ++ out 2 ∷ by 2 (Useto 1 4) ∷ out 2 ∷ close 2 0 ∷ [])
-    ∷ (looks_up 2 foo ++ Examine 2 0o303 ∷ by 2 (Useti 1 3) ∷ words_at_500 2 128 ++ takes 2 ∷ Examine 2 0o553 ∷ Examine 2 0o554 ∷ Examine 2 0o677 ∷ [])
+    ∷ (looks_up 2 foo ++ Examine 2 0o303 ∷ by 2 (Useti 1 3) ∷ words_at_500 2 128 ++ takes 2 ∷ Examine 2 0o553
+    ∷ Examine 2 0o554 ∷ Examine 2 0o677 ∷ [])
     ∷ [])
     ≡ (Done ∷ Done ∷ Done ∷ [], pos 39)
     ∷ (Done ∷ Stopped 0o040017 ∷ Done ∷ Done ∷ Done ∷ [], pos 42)
@@ -53,15 +58,18 @@ appended : parts small 1000 (foo_of 0o047 300) (
 unfolding empty insert get remove entries size dump_list areas_from
 appended = refl
 
-appended_again : parts small 1000 (foo_of 0o047 300) ((updates 2 (join 0o10 0o30) ++ close 2 1 ∷ by 2 (Useto 1 2) ∷ words_at_500 2 1 ++ out 2 ∷ []) ∷ [])
+appended_again : parts small 1000 (foo_of 0o047 300)
+    ((updates 2 (join 0o10 0o30) ++ close 2 1 ∷ by 2 (Useto 1 2) ∷ words_at_500 2 1 ++ out 2 ∷ []) ∷ [])
     ≡ (Done ∷ Done ∷ Done ∷ Done ∷ Done ∷ Stopped 0o040017 ∷ [], pos 39) ∷ []
 unfolding empty insert get remove entries size dump_list areas_from
 appended_again = refl
 
 -- What was written is read back on the channel itself, and dropped by CLOSE 40.
 taken_back : parts small 1000 (foo_of 0o057 300) (
-    (updates 1 ten_twenty ++ words_at_500 1 1 ++ Deposit 1 0o500 9 ∷ out 1 ∷ words_at_500 1 128 ++ takes 1 ∷ Examine 1 0o500 ∷ Examine 1 0o501 ∷ [])
-    ∷ (ready_with 2 ten_twenty 0o1000 ++ looks_up 2 foo ++ words_at_500 2 1 ++ takes 2 ∷ Examine 2 0o500 ∷ close 2 0 ∷ [])
+    (updates 1 ten_twenty ++ words_at_500 1 1 ++ Deposit 1 0o500 9 ∷ out 1 ∷ words_at_500 1 128
+    ++ takes 1 ∷ Examine 1 0o500 ∷ Examine 1 0o501 ∷ [])
+    ∷ (ready_with 2 ten_twenty 0o1000 ++ looks_up 2 foo ++ words_at_500 2 1 ++ takes 2 ∷ Examine 2 0o500
+    ∷ close 2 0 ∷ [])
     ∷ (close 1 0o42 ∷ by 1 (Useti 1 1) ∷ takes 1 ∷ Examine 1 0o500 ∷ [])
     ∷ [])
     ≡ (Done ∷ Done ∷ Done ∷ Done ∷ Done ∷ Value 9 ∷ Value 7 ∷ [], pos 39)
@@ -85,7 +93,8 @@ unfolding empty insert get remove entries size dump_list areas_from
 overtaken = refl
 
 -- An ENTER of another name on a channel with an input side is out of order, also of no name at all.
-elsewhere : parts small 1000 (foo_of 0o057 300) ((ready_with 1 ten_twenty 0o1000 ++ looks_up 1 foo ++ enters 1 bar ++ enters 1 0) ∷ [])
+elsewhere : parts small 1000 (foo_of 0o057 300)
+    ((ready_with 1 ten_twenty 0o1000 ++ looks_up 1 foo ++ enters 1 bar ++ enters 1 0) ∷ [])
     ≡ (Done ∷ Done ∷ Refused 5 ∷ Refused 5 ∷ [], pos 43) ∷ []
 unfolding empty insert get remove entries size dump_list areas_from
 elsewhere = refl

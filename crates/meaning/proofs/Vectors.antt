@@ -1,5 +1,7 @@
 -- The vector V1 stands for its one file; with its gate open and a good log it stands for what the log makes of it.
-use Rattle.std.proofs.Common.{◌≡◌, ℕ, suc, zero, ◌+◌, ◌-◌, ◌/◌, ◌%◌, ◌^◌, ◌<◌, ◌≤◌, inl, inr, ⊎_elim, Bool, true, false, cond, List, [], ◌∷◌, replicate, get_or, Some, refl, sym, ap, subst, ◌∙◌, arith, nat_cmp, eqb, eqb-true, ltb, ltb-true, lit<, lit≤}
+use Rattle.std.proofs.Common.{◌≡◌, ℕ, suc, zero, ◌+◌, ◌-◌, ◌/◌, ◌%◌, ◌^◌, ◌<◌, ◌≤◌, inl, inr, ⊎_elim, Bool, true, false}
+use Rattle.std.proofs.Common.{cond, List, [], ◌∷◌, replicate, get_or, Some, refl, sym, ap, subst, ◌∙◌, arith, nat_cmp}
+use Rattle.std.proofs.Common.{eqb, eqb-true, ltb, ltb-true, lit<, lit≤}
 use Rattle.std.specs.Cmp.{nat_cmp_total}
 use Rattle.std.specs.FinMap.{nat_cmp-IsAntisymmetric}
 use Rattle.std.proofs.lemmas.Bool.Decides.{nat_tests, eqb_tells}
@@ -14,8 +16,10 @@ use Rattle.meaning.specs.Files.{name_cmp}
 use Rattle.meaning.specs.Table.{table_bit, bit_in, bit_of, fixed}
 use Rattle.blockdisk.specs.Disk.{Contents}
 use Rattle.meaning.specs.Log.{IsGateOpen, open_gate, IsLog, with_puts}
-use Rattle.meaning.specs.Stands.{StoredFile, StoredDirectory, reaches, place_of, IsVersion, IsWhole, IsMasterDirectory, HasMap, Stands}
-use Rattle.meaning.specs.Vector.{v1, table_words, data_block, foo_txt, owner, v1_file, v1_directory, v1_map, v1_files, v1_open, bare_master, bare_table, bare_map}
+use Rattle.meaning.specs.Stands.{StoredFile, StoredDirectory, reaches, place_of, IsVersion, IsWhole, IsMasterDirectory}
+use Rattle.meaning.specs.Stands.{HasMap, Stands}
+use Rattle.meaning.specs.Vector.{v1, table_words, data_block, foo_txt, owner, v1_file, v1_directory, v1_map, v1_files}
+use Rattle.meaning.specs.Vector.{v1_open, bare_master, bare_table, bare_map}
 use Rattle.meaning.proofs.MapLaws.{inserted, get-empty}
 use Rattle.meaning.proofs.MapLaws.{some_same}
 use Rattle.meaning.proofs.Names.{name_total, name_exact}
@@ -60,7 +64,8 @@ whole = record {
     map_is = refl;
   };
   files = λ name f is. ⊎_elim
-      (λ new. subst (λ z. IsVersion 1 v1 (place_of owner z) f) (sym new.0) (subst (IsVersion 1 v1 (place_of owner foo_txt)) (sym new.1) version))
+      (λ new. subst (λ z. IsVersion 1 v1 (place_of owner z) f) (sym new.0)
+      (subst (IsVersion 1 v1 (place_of owner foo_txt)) (sym new.1) version))
       (λ old. absurd (no_file name f old.1))
       (inserted name_total name_exact empty foo_txt v1_file name f is);
 }
@@ -87,8 +92,10 @@ below : (k : ℕ) (p : ℕ → Bool) → all_below k p ≡ true → (n : ℕ) �
 below zero p h n l = absurd (omega arith)
 below (suc k) p h n l = step (p k) refl h (λ g m. below k p g n m)
   where
-    step : (b : Bool) → p k ≡ b → cond b (all_below k p) false ≡ true → (all_below k p ≡ true → n < k → p n ≡ true) → p n ≡ true
-    step true e g r = ⊎_elim (λ same. ap p same.1 ∙ e) (λ other. r g (let differ = other.1 in omega arith)) (eqb_tells n k)
+    step : (b : Bool) → p k ≡ b → cond b (all_below k p) false ≡ true → (all_below k p ≡ true → n < k → p n ≡ true)
+        → p n ≡ true
+    step true e g r = ⊎_elim (λ same. ap p same.1 ∙ e) (λ other. r g (let differ = other.1 in omega arith))
+        (eqb_tells n k)
     step false e g r = cc
 
 abbrev want : ℕ → ℕ
@@ -183,7 +190,8 @@ unfolding empty entries
 bare_reached n = grind (arith, nat_tests)
 
 bare_first : (n : ℕ) → n < 36 → table_bit 64 settled n ≡ cond (ltb n 16) 1 0
-bare_first n h = eqb-true (table_bit 64 settled n) (cond (ltb n 16) 1 0) (below 36 (λ m. eqb (table_bit 64 settled m) (cond (ltb m 16) 1 0)) refl n h)
+bare_first n h = eqb-true (table_bit 64 settled n) (cond (ltb n 16) 1 0)
+    (below 36 (λ m. eqb (table_bit 64 settled m) (cond (ltb m 16) 1 0)) refl n h)
 
 bare_later : (n : ℕ) → 36 ≤ n → (c : Bool) → ltb n 4608 ≡ c → cond c (bit_in (settled (14 + n / 4608)) n) 0 ≡ 0
 bare_later n h true e =
@@ -233,7 +241,16 @@ bare_has_map = record {
 -- Settled, the log has taken the directory away.
 pub v1_open_stands : Stands 64 v1_open empty
 unfolding empty entries
-v1_open_stands = (settled, inr (record { volume = record { small = lit≤ tt; large = lit≤ tt }; gate = refl }, puts, log, λ n. refl), (bare_map, bare_has_map, refl))
+v1_open_stands = (
+  settled,
+  inr (
+    record { volume = record { small = lit≤ tt; large = lit≤ tt }; gate = refl },
+    puts,
+    log,
+    λ n. refl,
+  ),
+  (bare_map, bare_has_map, refl),
+)
 
 -- The master directory, the directory, the file's block and its prime block.
 pub v1_costs : cost_of_files v1_files ≡ 4

@@ -12,8 +12,10 @@ use Rattle.meaning.proofs.MapSums.{times-append}
 use Rattle.meaning.proofs.Versions.{extensions_kept, body_kept}
 
 -- The pointers and the body are the same; the extensions and the data blocks stay.
-pub version_rewritten : (layout : ℕ) (old new : Contents) (place to : Place) (f : StoredFile) (file : File) (is : IsVersion layout old place f) → file.body ≡ f.file.body → IsPrime layout (prime_of to file)
-    → new f.prime ≡ Some (prime_block (prime_of to file) is.retrieved.runs (first_extension is.retrieved.further)) → AgreeOn (f.extensions ++ f.blocks) old new
+pub version_rewritten : (layout : ℕ) (old new : Contents) (place to : Place) (f : StoredFile) (file : File)
+    (is : IsVersion layout old place f) → file.body ≡ f.file.body → IsPrime layout (prime_of to file)
+    → new f.prime ≡ Some (prime_block (prime_of to file) is.retrieved.runs (first_extension is.retrieved.further))
+    → AgreeOn (f.extensions ++ f.blocks) old new
     → IsVersion layout new to (in_place_of f file)
 version_rewritten layout old new place to f file is same fits words a = record {
   retrieved = record {
@@ -23,12 +25,15 @@ version_rewritten layout old new place to f file is same fits words a = record {
     prime_is = words;
     few = is.retrieved.few;
     full = is.retrieved.full;
-    extended = extensions_kept old new is.retrieved.further is.retrieved.extended (λ n h. a n (let e = ap (times n) is.retrieved.extensions_are in omega (arith, times-append n f.extensions f.blocks)));
+    extended = extensions_kept old new is.retrieved.further is.retrieved.extended
+        (λ n h. a n (let e = ap (times n) is.retrieved.extensions_are in
+        omega (arith, times-append n f.extensions f.blocks)));
     extensions_are = is.retrieved.extensions_are;
     nonzero = is.retrieved.nonzero;
     are_runs = is.retrieved.are_runs;
     blocks_are = is.retrieved.blocks_are;
     enough = is.retrieved.enough ∙ ap (λ body. blocks_of (length body)) (sym same);
   };
-  body = subst (HasBody new f.blocks) (sym same) (body_kept old new f.blocks f.file.body is.body (λ n h. a n (omega (arith, times-append n f.extensions f.blocks))));
+  body = subst (HasBody new f.blocks) (sym same) (body_kept old new f.blocks f.file.body is.body
+      (λ n h. a n (omega (arith, times-append n f.extensions f.blocks))));
 }

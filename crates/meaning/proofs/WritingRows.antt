@@ -8,7 +8,8 @@ use Rattle.meaning.specs.declared.call.Call.TheVariants.{Open, Enter}
 use Rattle.meaning.specs.declared.call.Event.{Event}
 use Rattle.meaning.specs.declared.call.Event.TheVariants.{Deposit, Examine}
 use Rattle.meaning.specs.declared.call.Reply.TheVariants.{Done, Value, Refused, Stopped}
-use Rattle.meaning.proofs.Playing.{play, small, ten_twenty, no_files, fresh, foo, bar, foo_of, parts, by, repeated, ready, named, names_words, words_at_500, enters, looks_up, out, takes, close}
+use Rattle.meaning.proofs.Playing.{play, small, ten_twenty, no_files, fresh, foo, bar, foo_of, parts, by, repeated}
+use Rattle.meaning.proofs.Playing.{ready, named, names_words, words_at_500, enters, looks_up, out, takes, close}
 
 -- The smallest disk: room 48, 47 with one directory, and no files in that.
 bare : room small no_files ≡ pos 48
@@ -45,7 +46,8 @@ sizes : parts small 1000 fresh (
     (ready 1 ++ makes foo 1 ++ makes bar 128 ++ makes 1 129)
     ∷ (sees_size foo ++ sees_size bar ++ sees_size 1)
     ∷ (words_at_500 1 128 ++ Deposit 1 0o501 9 ∷ takes 1 ∷ Examine 1 0o501 ∷ [])
-    ∷ (Deposit 1 0o500 8 ∷ Deposit 1 0o501 9 ∷ Deposit 1 0o677 9 ∷ takes 1 ∷ Examine 1 0o500 ∷ Examine 1 0o501 ∷ Examine 1 0o677 ∷ takes 1 ∷ [])
+    ∷ (Deposit 1 0o500 8 ∷ Deposit 1 0o501 9 ∷ Deposit 1 0o677 9 ∷ takes 1 ∷ Examine 1 0o500 ∷ Examine 1 0o501
+    ∷ Examine 1 0o677 ∷ takes 1 ∷ [])
     ∷ [])
     ≡ (replicate 10 Done, pos 40)
     ∷ (Done ∷ Value 0o777777000000 ∷ Done ∷ Value 0o777600000000 ∷ Done ∷ Value 0o777577000000 ∷ [], pos 40)
@@ -97,7 +99,8 @@ superseded = refl
 
 -- A reader keeps the version that another job supersedes; who looks the name up afterwards has the new one.
 held_version : parts small 1000 fresh (
-    (ready 1 ++ enters 1 foo ++ words_at_500 1 128 ++ Deposit 1 0o500 7 ∷ out 1 ∷ Deposit 1 0o500 8 ∷ out 1 ∷ close 1 0 ∷ [])
+    (ready 1 ++ enters 1 foo ++ words_at_500 1 128 ++ Deposit 1 0o500 7 ∷ out 1 ∷ Deposit 1 0o500 8 ∷ out 1
+    ∷ close 1 0 ∷ [])
     ∷ (ready 2 ++ looks_up 2 foo ++ words_at_500 2 128 ++ takes 2 ∷ Examine 2 0o500 ∷ [])
     ∷ enters 1 foo
     ∷ (Deposit 1 0o500 9 ∷ out 1 ∷ [])

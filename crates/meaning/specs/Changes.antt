@@ -58,10 +58,20 @@ abbrev pub without_directory : DiskMap → List ℕ → ℕ → DiskMap
 without_directory m chain ppn = record { layout = m.layout; chain = chain; directories = remove m.directories ppn }
 
 abbrev pub with_file : StoredDirectory → List ℕ → FileName → StoredFile → StoredDirectory
-with_file d chain name f = record { protection = d.protection; quota = d.quota; chain = chain; files = insert d.files name f }
+with_file d chain name f = record {
+  protection = d.protection;
+  quota = d.quota;
+  chain = chain;
+  files = insert d.files name f;
+}
 
 abbrev pub without_file : StoredDirectory → List ℕ → FileName → StoredDirectory
-without_file d chain name = record { protection = d.protection; quota = d.quota; chain = chain; files = remove d.files name }
+without_file d chain name = record {
+  protection = d.protection;
+  quota = d.quota;
+  chain = chain;
+  files = remove d.files name;
+}
 
 -- a directory with no files
 abbrev pub bare_directory : ℕ → ℕ → List ℕ → StoredDirectory

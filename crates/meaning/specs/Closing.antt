@@ -1,6 +1,7 @@
 -- CLOSE and RELEAS. The blocks of what is published were booked by OUT and the place of its name by ENTER, so
 -- that only the last buffer of a ring may find no room.
-use Rattle.std.specs.Prelude.{ℕ, ◌/◌, ◌%◌, ◌==◌, ◌&&◌, ◌||◌, not, Bool, is_some, if◌then◌else◌, List, [], ◌++◌, Option, Some, None, option_map}
+use Rattle.std.specs.Prelude.{ℕ, ◌/◌, ◌%◌, ◌==◌, ◌&&◌, ◌||◌, not, Bool, is_some, if◌then◌else◌, List, [], ◌++◌, Option}
+use Rattle.std.specs.Prelude.{Some, None, option_map}
 use Rattle.meaning.specs.Files.{Files}
 use Rattle.meaning.specs.Published.{Version, with_file}
 use Rattle.meaning.specs.Cores.{after_writes}
@@ -76,7 +77,10 @@ abbrev pub output_closed : Channel → ℕ → Option Output
 output_closed c bits = if keeps_output bits then c.output else None
 
 abbrev pub channel_closed : ℕ → Job → Channel → ℕ → Channel
-channel_closed serial job c bits = record (clean c) { input = input_closed serial job c bits; output = output_closed c bits }
+channel_closed serial job c bits = record (clean c) {
+  input = input_closed serial job c bits;
+  output = output_closed c bits;
+}
 
 -- The header of a side that closes is marked, the output's first; both are read before.
 
@@ -87,16 +91,24 @@ abbrev pub core_closed : List ℕ → Channel → ℕ → List ℕ
 core_closed core c bits =
     if not (is_buffered c.mode) || discards bits then core
     else after_writes core
-    (header_closed core c.output_header (is_some c.output && not (keeps_output bits)) ++ header_closed core c.input_header (is_some c.input && not (keeps_input bits)))
+    (header_closed core c.output_header (is_some c.output && not (keeps_output bits))
+    ++ header_closed core c.input_header (is_some c.input && not (keeps_input bits)))
 
 abbrev pub close_done : ℕ → Job → ℕ → Channel → ℕ → Job
-close_done serial job number c bits = with_channel (record job { core = core_closed job.core c bits }) number (Some (channel_closed serial job c bits))
+close_done serial job number c bits = with_channel (record job { core = core_closed job.core c bits }) number
+    (Some (channel_closed serial job c bits))
 
 abbrev pub closes : Pack → ℕ → State → Job → ℕ → Channel → ℕ → Reply × (Job × Files Version)
 closes pack serial s job number c bits =
-    settled (close_answer pack s job c bits) (close_done serial job number c bits, files_closed serial s.files job c bits) (λ reply. (stopped_in job number c reply, s.files))
+    settled (close_answer pack s job c bits) (
+      close_done serial job number c bits,
+      files_closed serial s.files job c bits,
+    ) (λ reply. (stopped_in job number c reply, s.files))
 
 -- RELEAS closes both sides, and then the channel, which stays open where they can't be closed.
 abbrev pub releases : Pack → ℕ → State → Job → ℕ → Channel → Reply × (Job × Files Version)
 releases pack serial s job number c =
-    settled (close_answer pack s job c 0) (with_channel (record job { core = core_closed job.core c 0 }) number None, files_closed serial s.files job c 0) (λ reply. (stopped_in job number c reply, s.files))
+    settled (close_answer pack s job c 0) (
+      with_channel (record job { core = core_closed job.core c 0 }) number None,
+      files_closed serial s.files job c 0,
+    ) (λ reply. (stopped_in job number c reply, s.files))

@@ -1,7 +1,8 @@
 -- The numbers of the reasons for which a call is refused. (TOPS-10 Monitor Calls Manual.)
 use Rattle.std.specs.Prelude.{ℕ}
 use Rattle.meaning.specs.declared.code.ErrorCode.{ErrorCode}
-use Rattle.meaning.specs.declared.code.ErrorCode.TheVariants.{NotFound, NoDirectory, Protection, BeingModified, NameExists, Sequence, NoRoom, NotEmpty}
+use Rattle.meaning.specs.declared.code.ErrorCode.TheVariants.{NotFound, NoDirectory, Protection, BeingModified}
+use Rattle.meaning.specs.declared.code.ErrorCode.TheVariants.{NameExists, Sequence, NoRoom, NotEmpty}
 
 abbrev pub number_of : ErrorCode → ℕ
 number_of NotFound = 0

@@ -2,7 +2,8 @@
 -- A command word with a nonzero left half names words of core: the left half is minus their count, the
 -- right half the address before the first. With a left half of 0 it names the command word that comes
 -- next. The word 0 ends the list.
-use Rattle.std.specs.Prelude.{ℕ, zero, suc, ◌+◌, ◌-◌, ◌^◌, ◌==◌, nat_lt, nat_le, if◌then◌else◌, List, [], ◌∷◌, length, Option, Some, None, option_map, slice_index}
+use Rattle.std.specs.Prelude.{ℕ, zero, suc, ◌+◌, ◌-◌, ◌^◌, ◌==◌, nat_lt, nat_le, if◌then◌else◌, List, [], ◌∷◌, length}
+use Rattle.std.specs.Prelude.{Option, Some, None, option_map, slice_index}
 use Rattle.words36.specs.Words.{left, right}
 use Rattle.meaning.specs.Maps.{total}
 use Rattle.meaning.specs.Cores.{lies_outside}

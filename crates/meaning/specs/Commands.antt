@@ -4,7 +4,8 @@ use Rattle.meaning.specs.Lines.{Line, Bytes, TooLong}
 use Rattle.meaning.specs.Spellings.{AreFields, IsNumber, IsBracketed, IsSpec}
 use Rattle.meaning.specs.declared.command.Spec.{Spec}
 use Rattle.meaning.specs.declared.command.Command.{Command}
-use Rattle.meaning.specs.declared.command.Command.TheVariants.{Login, Directory, Copy, Rename, Delete, TypeOut, Protect, MakeDir}
+use Rattle.meaning.specs.declared.command.Command.TheVariants.{Login, Directory, Copy, Rename, Delete, TypeOut, Protect}
+use Rattle.meaning.specs.declared.command.Command.TheVariants.{MakeDir}
 
 -- a word and what follows it
 abbrev pub Follows : List ℕ → List ℕ → List ℕ → Type 0
@@ -48,13 +49,17 @@ pub record IsMade (text : List ℕ) (owner protection : ℕ) : Type 0 where
 abbrev pub IsCommand : List ℕ → Command → Type 0
 IsCommand text (Login owner) = (argument : List ℕ) × Follows (codes "LOGIN") argument text × IsBracketed argument owner
 IsCommand text (Directory None) = AreFields (codes "DIRECTORY" ∷ []) text
-IsCommand text (Directory (Some owner)) = (argument : List ℕ) × Follows (codes "DIRECTORY") argument text × IsBracketed argument owner
+IsCommand text (Directory (Some owner)) = (argument : List ℕ) × Follows (codes "DIRECTORY") argument text
+    × IsBracketed argument owner
 IsCommand text (Copy to from) = (argument : List ℕ) × Follows (codes "COPY") argument text × AreSpecs argument to from
-IsCommand text (Rename to from) = (argument : List ℕ) × Follows (codes "RENAME") argument text × AreSpecs argument to from
+IsCommand text (Rename to from) = (argument : List ℕ) × Follows (codes "RENAME") argument text
+    × AreSpecs argument to from
 IsCommand text (Delete spec) = (argument : List ℕ) × Follows (codes "DELETE") argument text × IsSpec argument spec
 IsCommand text (TypeOut spec) = (argument : List ℕ) × Follows (codes "TYPE") argument text × IsSpec argument spec
-IsCommand text (Protect spec protection) = (argument : List ℕ) × Follows (codes "PROTECT") argument text × IsProtected argument spec protection
-IsCommand text (MakeDir owner protection) = (argument : List ℕ) × Follows (codes "MAKDIR") argument text × IsMade argument owner protection
+IsCommand text (Protect spec protection) = (argument : List ℕ) × Follows (codes "PROTECT") argument text
+    × IsProtected argument spec protection
+IsCommand text (MakeDir owner protection) = (argument : List ℕ) × Follows (codes "MAKDIR") argument text
+    × IsMade argument owner protection
 
 -- what a text says, where it says anything
 abbrev pub Says : List ℕ → Option Command → Type 0

@@ -1,5 +1,6 @@
 -- A job's core: a list of words, and writes into it.
-use Rattle.std.specs.Prelude.{ℕ, ◌+◌, nat_lt, Bool, List, [], ◌∷◌, ◌++◌, length, take, drop, slice_index, slice_range, slice_set}
+use Rattle.std.specs.Prelude.{ℕ, ◌+◌, nat_lt, Bool, List, [], ◌∷◌, ◌++◌, length, take, drop, slice_index, slice_range}
+use Rattle.std.specs.Prelude.{slice_set}
 use Rattle.words36.specs.Words.{left, join}
 use Rattle.meaning.specs.declared.area.Area.{Area}
 

@@ -11,7 +11,8 @@ use Rattle.meaning.specs.Step.{step}
 use Rattle.meaning.specs.Runs.{Service, Serving, Broken, Answers, Run}
 use Rattle.meaning.specs.declared.call.Event.{Event}
 use Rattle.meaning.specs.declared.call.Reply.{Reply}
-use Rattle.meaning.specs.declared.call.Reply.TheVariants.{Done, Value, Refused, Stopped, NoChannel, AddressCheck, NoJob, NoMemory, Device, Failed, DateRange}
+use Rattle.meaning.specs.declared.call.Reply.TheVariants.{Done, Value, Refused, Stopped, NoChannel, AddressCheck, NoJob}
+use Rattle.meaning.specs.declared.call.Reply.TheVariants.{NoMemory, Device, Failed, DateRange}
 
 -- these contents stand for the files of a state
 abbrev pub StandsForState : Pack → State → Contents → Type 0
@@ -31,8 +32,8 @@ may_change Device = true
 may_change Failed = false
 may_change DateRange = false
 
--- They stand for the files before an event that was answered so; or, with such an answer alone, for those that the event
--- makes of them, which are the same whatever serial is chosen.
+-- They stand for the files before an event that was answered so; or, with such an answer alone, for those that the
+-- event makes of them, which are the same whatever serial is chosen.
 abbrev pub StandsForEither : Pack → State → Event → Reply → Contents → Type 0
 StandsForEither pack s event reply contents =
     StandsForState pack s contents ⊎ (IsTrue (may_change reply) × StandsForState pack (step pack 0 s event).1 contents)
@@ -40,15 +41,19 @@ StandsForEither pack s event reply contents =
 -- how it goes on from moment t, where the event was answered and the service was `mid` after it: `rest`
 -- is what is so from a moment on and a state
 abbrev pub GoesOn : Pack → DiskState → ℕ → State → Event → Reply → Service → (ℕ → Service → Type 0) → Type 0
-GoesOn pack d t s event reply Broken rest = rest t Broken × ((c : Contents) → d.left_since t c → StandsForEither pack s event reply c)
-GoesOn pack d t s event reply (Serving after) rest = (u : ℕ) × (t ≤ u) × Between d t u (StandsForEither pack s event reply) × rest u (Serving after)
+GoesOn pack d t s event reply Broken rest = rest t Broken
+    × ((c : Contents) → d.left_since t c → StandsForEither pack s event reply c)
+GoesOn pack d t s event reply (Serving after) rest = (u : ℕ) × (t ≤ u)
+    × Between d t u (StandsForEither pack s event reply) × rest u (Serving after)
 
 -- The service gives these replies, and d is the disk after them: from moment t on there was a moment after
 -- each event. Where an event met a fault of the disk both stay possible from then on, and no event makes a third.
 abbrev pub RunsOn : Pack → DiskState → ℕ → Service → List Event → List Reply → Service → Type 0
 RunsOn pack d t Broken events replies new = Run pack Broken events replies new
-RunsOn pack d t (Serving s) [] [] new = (new ≡ Serving s) × (t ≡ d.clock) × ((c : Contents) → MayLeave d c → StandsForState pack s c)
+RunsOn pack d t (Serving s) [] [] new = (new ≡ Serving s) × (t ≡ d.clock)
+    × ((c : Contents) → MayLeave d c → StandsForState pack s c)
 RunsOn pack d t (Serving s) (event ∷ events) (reply ∷ replies) new =
-    (mid : Service) × Answers pack (Serving s) event reply mid × GoesOn pack d t s event reply mid (λ u service. RunsOn pack d u service events replies new)
+    (mid : Service) × Answers pack (Serving s) event reply mid
+    × GoesOn pack d t s event reply mid (λ u service. RunsOn pack d u service events replies new)
 RunsOn pack d t (Serving s) [] (reply ∷ replies) new = ⊥
 RunsOn pack d t (Serving s) (event ∷ events) [] new = ⊥

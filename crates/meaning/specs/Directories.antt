@@ -1,7 +1,8 @@
 -- A directory as a chain of blocks, seen as a finite map. Word 0 of a block is the next block of the
 -- chain or 0, word 1 the number of entries, 0 to 42; then come the entries, three words each, and zeros.
 -- The order of the entries is free.
-use Rattle.std.specs.Prelude.{◌≡◌, ℕ, ◌+◌, ◌*◌, ◌-◌, ◌^◌, ◌<◌, ◌≤◌, List, [], ◌∷◌, ◌++◌, map, length, replicate, flat_map, Some}
+use Rattle.std.specs.Prelude.{◌≡◌, ℕ, ◌+◌, ◌*◌, ◌-◌, ◌^◌, ◌<◌, ◌≤◌, List, [], ◌∷◌, ◌++◌, map, length, replicate}
+use Rattle.std.specs.Prelude.{flat_map, Some}
 use Rattle.std.specs.List.{AllByRecursion}
 use Rattle.std.specs.declared.cmp.Ordering.{Ordering}
 use Rattle.words36.specs.Words.{join, IsWord, IsPpn}
@@ -27,12 +28,14 @@ items (node ∷ nodes) = node.1 ++ items nodes
 
 -- the words of a directory block
 abbrev pub directory_block : {E : Type 0} → (E → List ℕ) → ℕ → List E → List ℕ
-directory_block words next entries = next ∷ length entries ∷ (flat_map words entries ++ replicate (126 - 3 * length entries) 0)
+directory_block words next entries = next ∷ length entries
+    ∷ (flat_map words entries ++ replicate (126 - 3 * length entries) 0)
 
 -- Each block of the chain stands on the disk, and names the one after it.
 abbrev pub IsSpelled : {E : Type 0} → (E → List ℕ) → Contents → List (Node E) → Type 0
 IsSpelled words contents [] = Unit {0}
-IsSpelled words contents (node ∷ nodes) = (contents node.0 ≡ Some (directory_block words (first_of nodes) node.1)) × IsSpelled words contents nodes
+IsSpelled words contents (node ∷ nodes) = (contents node.0 ≡ Some (directory_block words (first_of nodes) node.1))
+    × IsSpelled words contents nodes
 
 -- All blocks but the last are full, and the last is empty only where it is the first.
 abbrev pub IsFilled : {E : Type 0} → List (Node E) → Type 0
@@ -41,7 +44,8 @@ IsFilled (a ∷ []) = length a.1 ≤ 42
 IsFilled (a ∷ b ∷ nodes) = (length a.1 ≡ 42) × (0 < length b.1) × IsFilled (b ∷ nodes)
 
 -- The blocks are a chain on the disk, and the entries in them are the map.
-pub record IsDirectory {K V : Type 0} (R : K → K → Ordering) (words : K × V → List ℕ) (IsEntry : K × V → Type 0) (contents : Contents) (blocks : List ℕ) (m : FinMap R V) : Type 0 where
+pub record IsDirectory {K V : Type 0} (R : K → K → Ordering) (words : K × V → List ℕ) (IsEntry : K × V
+    → Type 0) (contents : Contents) (blocks : List ℕ) (m : FinMap R V) : Type 0 where
   pub nodes : List (Node (K × V))
   pub spelled : IsSpelled words contents nodes
   pub filled : IsFilled nodes

@@ -1,6 +1,7 @@
 -- ENTER, which opens a file for writing: a new one, one that will supersede a file, or, on a channel that
 -- has looked a file up, that file itself.
-use Rattle.std.specs.Prelude.{ℕ, ◌+◌, ◌/◌, ◌^◌, ◌==◌, ◌||◌, not, is_some, if◌then◌else◌, [], Option, Some, None, slice_index}
+use Rattle.std.specs.Prelude.{ℕ, ◌+◌, ◌/◌, ◌^◌, ◌==◌, ◌||◌, not, is_some, if◌then◌else◌, [], Option, Some, None}
+use Rattle.std.specs.Prelude.{slice_index}
 use Rattle.words36.specs.declared.moment.Moment.{Moment}
 use Rattle.meaning.specs.Files.{File, Place}
 use Rattle.meaning.specs.Published.{Version, file_at}
@@ -32,7 +33,8 @@ supersede_answer pack s job place =
 
 -- by whether the channel has looked a file up
 abbrev pub begin_answer : Pack → State → Job → Option Input → Place → Reply
-begin_answer pack s job None place = if is_absent s place then create_answer pack s job place else supersede_answer pack s job place
+begin_answer pack s job None place = if is_absent s place then create_answer pack s job place
+    else supersede_answer pack s job place
 begin_answer pack s job (Some i) place = update_answer pack s job place
 
 abbrev pub enter_answer : Pack → State → Job → Channel → ℕ → Place → Reply
@@ -48,19 +50,36 @@ abbrev pub protection_or : ℕ → ℕ → ℕ
 protection_or word default = if word / 2 ^ 27 == 0 then default else word / 2 ^ 27
 
 abbrev pub new_file : ℕ → Channel → Moment → File
-new_file protection c moment = record { protection = protection; mode = c.mode; time = moment.minute; date = moment.date; body = [] }
+new_file protection c moment = record {
+  protection = protection;
+  mode = c.mode;
+  time = moment.minute;
+  date = moment.date;
+  body = [];
+}
 
 -- The output side that an ENTER opens, by the version that is current: a new file's protection is the one
 -- given, a superseding one's that of the old file. `digit` is the job's for that version.
 abbrev pub output_opened : Job → Channel → ℕ → Moment → Place → ℕ → Option Input → Option Version → Output
 output_opened job c e moment place digit input None =
-    record { place = place; kind = Create; pending = new_file (protection_or (slice_index job.core (e + 2)) 0o057) c moment; next = 1 }
-output_opened job c e moment place digit None (Some v) = record { place = place; kind = Supersede; pending = new_file v.file.protection c moment; next = 1 }
+    record {
+      place = place;
+      kind = Create;
+      pending = new_file (protection_or (slice_index job.core (e + 2)) 0o057) c moment;
+      next = 1;
+    }
+output_opened job c e moment place digit None (Some v) = record {
+  place = place;
+  kind = Supersede;
+  pending = new_file v.file.protection c moment;
+  next = 1;
+}
 output_opened job c e moment place digit (Some i) (Some v) = output_updating digit place v
 
 abbrev pub entered : Pack → Job → ℕ → Channel → ℕ → Option Input → Output → Job
 entered pack job number c e input o =
-    with_channel (record job { core = with_attributes pack.layout job.core e o.pending }) number (Some (record (clean c) { input = input; output = Some o }))
+    with_channel (record job { core = with_attributes pack.layout job.core e o.pending }) number
+    (Some (record (clean c) { input = input; output = Some o }))
 
 abbrev pub enter_done : Pack → State → Job → ℕ → Channel → ℕ → Moment → Place → Job
 enter_done pack s job number c e moment place =
@@ -69,4 +88,5 @@ enter_done pack s job number c e moment place =
 
 abbrev pub enter : Pack → State → Job → ℕ → Channel → ℕ → Moment → Reply × Job
 enter pack s job number c e moment =
-    settled (enter_answer pack s job c e (place_at job e)) (enter_done pack s job number c e moment (place_at job e)) (refused_at job e)
+    settled (enter_answer pack s job c e (place_at job e)) (enter_done pack s job number c e moment (place_at job e))
+    (refused_at job e)

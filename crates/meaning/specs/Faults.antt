@@ -1,6 +1,7 @@
 -- What a start may refuse: each fault as the fact that it stands, at the block that it names. Where a disk
 -- has several, each of them stands. All but the log's are faults of the settled contents.
-use Rattle.std.specs.Prelude.{◌≡◌, ℕ, zero, suc, ◌+◌, ◌/◌, ◌<◌, ◌≤◌, ◌⊎◌, List, [], ◌∷◌, ◌++◌, length, flat_map, Some, None}
+use Rattle.std.specs.Prelude.{◌≡◌, ℕ, zero, suc, ◌+◌, ◌/◌, ◌<◌, ◌≤◌, ◌⊎◌, List, [], ◌∷◌, ◌++◌, length, flat_map, Some}
+use Rattle.std.specs.Prelude.{None}
 use Rattle.std.specs.List.{AllByRecursion}
 use Rattle.std.specs.declared.cmp.Ordering.{Ordering}
 use Rattle.std.specs.Ordering.{nat_cmp}
@@ -16,8 +17,10 @@ use Rattle.meaning.specs.Regions.{IsVolumeSize, table_blocks, table_start, space
 use Rattle.meaning.specs.Home.{filser_word, Home, IsHomeCopy}
 use Rattle.meaning.specs.Log.{IsGateOpen, IsLog, IsSettled}
 use Rattle.meaning.specs.Table.{table_bit, fixed}
-use Rattle.meaning.specs.Directories.{Node, numbers, items, directory_block, MasterEntry, master_words, master_word, FileEntry, file_words, IsFileEntry}
-use Rattle.meaning.specs.Retrieval.{Prime, Run, run_blocks, IsRun, Extension, all_runs, extension_block, prime_block, IsPrime, IsRetrieved}
+use Rattle.meaning.specs.Directories.{Node, numbers, items, directory_block, MasterEntry, master_words, master_word}
+use Rattle.meaning.specs.Directories.{FileEntry, file_words, IsFileEntry}
+use Rattle.meaning.specs.Retrieval.{Prime, Run, run_blocks, IsRun, Extension, all_runs, extension_block, prime_block}
+use Rattle.meaning.specs.Retrieval.{IsPrime, IsRetrieved}
 use Rattle.meaning.specs.Stands.{DiskMap, reaches, place_of, quota_limit, IsMapped}
 use Rattle.meaning.specs.Walks.{Leads, LeadsOn, IsMasterWalk, IsDirectoryWalk, IsFileNamed, IsPrimeRead}
 
@@ -52,24 +55,31 @@ pub record IsBadLog (size : ℕ) (contents : Contents) : Type 0 where
 -- Directory blocks.
 
 -- Block n of a chain, behind these blocks, is not as it should be.
-pub data IsBadBlock {K V : Type 0} (R : K → K → Ordering) (words : K × V → List ℕ) (IsEntry : K × V → Type 0) (target : K × V → ℕ) (size : ℕ) (contents : Contents) (before : List (Node (K × V))) (n : ℕ) : Type 0 where
+pub data IsBadBlock {K V : Type 0} (R : K → K → Ordering) (words : K × V → List ℕ) (IsEntry : K × V
+    → Type 0) (target : K × V → ℕ) (size : ℕ) (contents : Contents) (before : List (Node (K × V)))
+    (n : ℕ) : Type 0 where
   -- it is damaged, or its words are no directory block's
-  malformed : ((next : ℕ) (entries : List (K × V)) → contents n ≡ Some (directory_block words next entries) → length entries ≤ 42 → AllByRecursion IsEntry entries → ⊥)
+  malformed : ((next : ℕ) (entries : List (K × V)) → contents n ≡ Some (directory_block words next entries)
+      → length entries ≤ 42 → AllByRecursion IsEntry entries → ⊥)
       → IsBadBlock R words IsEntry target size contents before n
   -- it names a next block outside the free space
-  next_outside : (next : ℕ) (entries : List (K × V)) → contents n ≡ Some (directory_block words next entries) → 0 < next → (InSpace size next → ⊥)
+  next_outside : (next : ℕ) (entries : List (K × V)) → contents n ≡ Some (directory_block words next entries)
+      → 0 < next → (InSpace size next → ⊥)
       → IsBadBlock R words IsEntry target size contents before n
   -- an entry names a block outside the free space
-  entry_outside : (next : ℕ) (entries : List (K × V)) → contents n ≡ Some (directory_block words next entries) → (AllByRecursion (λ e. InSpace size (target e)) entries → ⊥)
+  entry_outside : (next : ℕ) (entries : List (K × V)) → contents n ≡ Some (directory_block words next entries)
+      → (AllByRecursion (λ e. InSpace size (target e)) entries → ⊥)
       → IsBadBlock R words IsEntry target size contents before n
   -- it isn't full, and has a successor
-  short : (next : ℕ) (entries : List (K × V)) → contents n ≡ Some (directory_block words next entries) → 0 < next → (length entries ≡ 42 → ⊥)
+  short : (next : ℕ) (entries : List (K × V)) → contents n ≡ Some (directory_block words next entries)
+      → 0 < next → (length entries ≡ 42 → ⊥)
       → IsBadBlock R words IsEntry target size contents before n
   -- it is empty, and isn't the first
   empty_later : (next : ℕ) → contents n ≡ Some (directory_block words next []) → 0 < length before
       → IsBadBlock R words IsEntry target size contents before n
   -- a key comes twice
-  key_again : (next : ℕ) (entries : List (K × V)) → contents n ≡ Some (directory_block words next entries) → (EachOnce R (items before ++ entries) → ⊥)
+  key_again : (next : ℕ) (entries : List (K × V)) → contents n ≡ Some (directory_block words next entries)
+      → (EachOnce R (items before ++ entries) → ⊥)
       → IsBadBlock R words IsEntry target size contents before n
 
 -- an entry of the master directory as it should be: besides the PPN a protection, and a quota where the layout has them
@@ -108,48 +118,66 @@ RunsInSpace size runs = AllByRecursion (InSpace size) (flat_map run_blocks runs)
 -- Block n, the prime block of a version or one of its extensions, is not as it should be.
 pub data IsBadVersion (size : ℕ) (contents : Contents) (layout prime : ℕ) : ℕ → Type 0 where
   -- the prime block is damaged, or its words are not those of a prime block
-  malformed_prime : ((p : Prime) (runs : List Run) (next : ℕ) → IsPrimeRead contents layout prime p runs next → length runs ≤ 112 → ⊥)
+  malformed_prime : ((p : Prime) (runs : List Run) (next : ℕ) → IsPrimeRead contents layout prime p runs next
+      → length runs ≤ 112 → ⊥)
       → IsBadVersion size contents layout prime prime
   -- a run of it leaves the free space
-  prime_run_outside : (p : Prime) (runs : List Run) (next : ℕ) → IsPrimeRead contents layout prime p runs next → (RunsInSpace size runs → ⊥)
+  prime_run_outside : (p : Prime) (runs : List Run) (next : ℕ) → IsPrimeRead contents layout prime p runs next
+      → (RunsInSpace size runs → ⊥)
       → IsBadVersion size contents layout prime prime
   -- it names an extension outside the free space
-  prime_next_outside : (p : Prime) (runs : List Run) (next : ℕ) → IsPrimeRead contents layout prime p runs next → 0 < next → (InSpace size next → ⊥)
+  prime_next_outside : (p : Prime) (runs : List Run) (next : ℕ) → IsPrimeRead contents layout prime p runs next
+      → 0 < next → (InSpace size next → ⊥)
       → IsBadVersion size contents layout prime prime
   -- it names an extension though its pointers aren't all used
-  prime_short : (p : Prime) (runs : List Run) (next : ℕ) → IsPrimeRead contents layout prime p runs next → 0 < next → (length runs ≡ 112 → ⊥)
+  prime_short : (p : Prime) (runs : List Run) (next : ℕ) → IsPrimeRead contents layout prime p runs next
+      → 0 < next → (length runs ≡ 112 → ⊥)
       → IsBadVersion size contents layout prime prime
   -- the counts don't add up to the blocks of its length
-  miscounted : (p : Prime) (runs : List Run) (next : ℕ) (extensions : List Extension) → IsPrimeRead contents layout prime p runs next
-      → LeadsOn contents next extensions 0 → (length (flat_map run_blocks (runs ++ all_runs extensions)) ≡ blocks_of p.words → ⊥)
+  miscounted : (p : Prime) (runs : List Run) (next : ℕ) (extensions : List Extension)
+      → IsPrimeRead contents layout prime p runs next
+      → LeadsOn contents next extensions 0
+      → (length (flat_map run_blocks (runs ++ all_runs extensions)) ≡ blocks_of p.words → ⊥)
       → IsBadVersion size contents layout prime prime
   -- or are too many already, as in a loop of extensions
-  too_many : (p : Prime) (runs : List Run) (next last : ℕ) (extensions : List Extension) → IsPrimeRead contents layout prime p runs next
-      → LeadsOn contents next extensions last → blocks_of p.words < length (flat_map run_blocks (runs ++ all_runs extensions))
+  too_many : (p : Prime) (runs : List Run) (next last : ℕ) (extensions : List Extension)
+      → IsPrimeRead contents layout prime p runs next
+      → LeadsOn contents next extensions last
+      → blocks_of p.words < length (flat_map run_blocks (runs ++ all_runs extensions))
       → IsBadVersion size contents layout prime prime
   -- an extension is damaged, or its words are no extension's
-  malformed_extension : (p : Prime) (runs : List Run) (next : ℕ) (extensions : List Extension) (n : ℕ) → IsPrimeRead contents layout prime p runs next
+  malformed_extension : (p : Prime) (runs : List Run) (next : ℕ) (extensions : List Extension) (n : ℕ)
+      → IsPrimeRead contents layout prime p runs next
       → LeadsOn contents next extensions n → InSpace size n
-      → ((others : List Run) (after : ℕ) → contents n ≡ Some (extension_block others after) → 0 < length others → length others ≤ 126 → AllByRecursion IsRun others → ⊥)
+      → ((others : List Run) (after : ℕ) → contents n ≡ Some (extension_block others after) → 0 < length others
+      → length others ≤ 126 → AllByRecursion IsRun others → ⊥)
       → IsBadVersion size contents layout prime n
   -- the same faults of an extension that was walked last
-  extension_run_outside : (p : Prime) (runs : List Run) (next : ℕ) (extensions : List Extension) (n : ℕ) (others : List Run) (after : ℕ)
-      → IsPrimeRead contents layout prime p runs next → LeadsOn contents next (extensions ++ (n, others) ∷ []) after → (RunsInSpace size others → ⊥)
+  extension_run_outside : (p : Prime) (runs : List Run) (next : ℕ) (extensions : List Extension) (n : ℕ)
+      (others : List Run) (after : ℕ)
+      → IsPrimeRead contents layout prime p runs next → LeadsOn contents next (extensions ++ (n, others) ∷ []) after
+      → (RunsInSpace size others → ⊥)
       → IsBadVersion size contents layout prime n
-  extension_next_outside : (p : Prime) (runs : List Run) (next : ℕ) (extensions : List Extension) (n : ℕ) (others : List Run) (after : ℕ)
-      → IsPrimeRead contents layout prime p runs next → LeadsOn contents next (extensions ++ (n, others) ∷ []) after → 0 < after → (InSpace size after → ⊥)
+  extension_next_outside : (p : Prime) (runs : List Run) (next : ℕ) (extensions : List Extension) (n : ℕ)
+      (others : List Run) (after : ℕ)
+      → IsPrimeRead contents layout prime p runs next → LeadsOn contents next (extensions ++ (n, others) ∷ []) after
+      → 0 < after → (InSpace size after → ⊥)
       → IsBadVersion size contents layout prime n
-  extension_short : (p : Prime) (runs : List Run) (next : ℕ) (extensions : List Extension) (n : ℕ) (others : List Run) (after : ℕ)
-      → IsPrimeRead contents layout prime p runs next → LeadsOn contents next (extensions ++ (n, others) ∷ []) after → 0 < after → (length others ≡ 126 → ⊥)
+  extension_short : (p : Prime) (runs : List Run) (next : ℕ) (extensions : List Extension) (n : ℕ) (others : List Run)
+      (after : ℕ)
+      → IsPrimeRead contents layout prime p runs next → LeadsOn contents next (extensions ++ (n, others) ∷ []) after
+      → 0 < after → (length others ≡ 126 → ⊥)
       → IsBadVersion size contents layout prime n
 
 -- Block n is not as it should be: the prime block of a file or one of its extensions.
 pub data IsBadRetrieval (size : ℕ) (contents : Contents) (n : ℕ) : Type 0 where
-  of_version : (layout : ℕ) (place : Place) (prime : ℕ) → IsFileNamed size contents layout place prime → IsBadVersion size contents layout prime n
+  of_version : (layout : ℕ) (place : Place) (prime : ℕ) → IsFileNamed size contents layout place prime
+      → IsBadVersion size contents layout prime n
       → IsBadRetrieval size contents n
   -- it is a prime block, though not of the place that names it
   of_another_place : (layout : ℕ) (place : Place) → IsFileNamed size contents layout place n
-      → ((p : Prime) (runs : List Run) (next : ℕ) → contents n ≡ Some (prime_block p runs next) → p.place ≡ place → IsPrime layout p → length runs ≤ 112 → AllByRecursion IsRun runs → ⊥)
+      → ((p : Prime) (runs : List Run) (next : ℕ) → contents n ≡ Some (prime_block p runs next) → p.place ≡ place
+      → IsPrime layout p → length runs ≤ 112 → AllByRecursion IsRun runs → ⊥)
       → IsBadRetrieval size contents n
 
 -- Data blocks.
@@ -201,12 +229,14 @@ abbrev pub times_in_map : ℕ → ReadMap → ℕ
 times_in_map n m = times n (walked m.nodes m.last) + total (λ e. times_in_directory n e.1) m.directories
 
 -- an entry of what was read of a directory names the file
-pub record IsFileRead (layout : ℕ) (contents : Contents) (ppn : ℕ) (entries : List FileEntry) (e : FileName × ReadFile) : Type 0 where
+pub record IsFileRead (layout : ℕ) (contents : Contents) (ppn : ℕ) (entries : List FileEntry) (e : FileName
+    × ReadFile) : Type 0 where
   pub entry : find name_cmp e.0 entries ≡ Some e.1.prime
   pub place_is : e.1.p.place ≡ place_of ppn e.0
   pub retrieved : IsRetrieved layout contents e.1.p e.1.prime e.1.extensions e.1.blocks
 
-pub record IsDirectoryRead (layout : ℕ) (contents : Contents) (entries : List MasterEntry) (e : ℕ × ReadDirectory) : Type 0 where
+pub record IsDirectoryRead (layout : ℕ) (contents : Contents) (entries : List MasterEntry) (e : ℕ
+    × ReadDirectory) : Type 0 where
   pub word : ℕ
   pub first : ℕ
   pub entry : find nat_cmp e.0 entries ≡ Some (word, first)
@@ -237,7 +267,8 @@ pub record IsWrongTable (size : ℕ) (settled : Contents) (n : ℕ) : Type 0 whe
   pub i : ℕ
   pub in_table : i < table_blocks size
   pub block : n ≡ table_start size + i
-  pub wrong : (settled n ≡ None) ⊎ ((k : ℕ) × (k / 4608 ≡ i) × (table_bit size settled k ≡ fixed size k + reaches k m → ⊥))
+  pub wrong : (settled n ≡ None)
+      ⊎ ((k : ℕ) × (k / 4608 ≡ i) × (table_bit size settled k ≡ fixed size k + reaches k m → ⊥))
 
 -- All of them.
 
@@ -266,4 +297,5 @@ IsSettledFault size settled (BadData n) = InSpace size n × IsBadData size settl
 -- The fault stands in the contents of a disk, whatever its gate.
 abbrev pub HasFault : ℕ → Contents → StartFault → Type 0
 HasFault size contents fault =
-    (IsBadLog size contents × (fault ≡ BadLog)) ⊎ ((settled : Contents) × IsSettled size contents settled × IsSettledFault size settled fault)
+    (IsBadLog size contents × (fault ≡ BadLog))
+    ⊎ ((settled : Contents) × IsSettled size contents settled × IsSettledFault size settled fault)

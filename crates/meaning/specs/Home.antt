@@ -19,7 +19,8 @@ abbrev pub IsLayout : ℕ → Type 0
 IsLayout layout = layout ≡ 1
 
 abbrev pub home_block : ℕ → Home → List ℕ
-home_block size home = filser_word ∷ home.layout ∷ size ∷ table_blocks size ∷ log_images size ∷ home.master ∷ replicate 122 0
+home_block size home = filser_word ∷ home.layout ∷ size ∷ table_blocks size ∷ log_images size ∷ home.master
+    ∷ replicate 122 0
 
 -- The copy in block n is valid, and says this.
 pub record IsHomeCopy (size : ℕ) (contents : Contents) (n : ℕ) (home : Home) : Type 0 where
@@ -31,4 +32,5 @@ pub record IsHomeCopy (size : ℕ) (contents : Contents) (n : ℕ) (home : Home)
 -- The first valid copy says this.
 abbrev pub IsHome : ℕ → Contents → Home → Type 0
 IsHome size contents home =
-    IsHomeCopy size contents 1 home ⊎ (((other : Home) → IsHomeCopy size contents 1 other → ⊥) × IsHomeCopy size contents 2 home)
+    IsHomeCopy size contents 1 home ⊎ (((other : Home) → IsHomeCopy size contents 1 other → ⊥)
+    × IsHomeCopy size contents 2 home)

@@ -1,5 +1,6 @@
 -- IN and USETI.
-use Rattle.std.specs.Prelude.{ℕ, ◌+◌, ◌==◌, ◌&&◌, ◌||◌, Bool, true, false, is_none, if◌then◌else◌, List, [], ◌∷◌, length, min, take, Option, Some, None}
+use Rattle.std.specs.Prelude.{ℕ, ◌+◌, ◌==◌, ◌&&◌, ◌||◌, Bool, true, false, is_none, if◌then◌else◌, List, [], ◌∷◌}
+use Rattle.std.specs.Prelude.{length, min, take, Option, Some, None}
 use Rattle.meaning.specs.Costs.{blocks_of}
 use Rattle.meaning.specs.Splices.{words_from}
 use Rattle.meaning.specs.Cores.{after_writes, dealt}
@@ -68,7 +69,8 @@ words_moved job c a = min (words_asked job c a) (length (words_ahead c.input c.o
 
 abbrev pub buffer_filled : List ℕ → Channel → Option (List ℕ) → List ℕ → List ℕ
 buffer_filled core c None words = core
-buffer_filled core c (Some ready) words = after_writes ready (in_writes ready c.input_header (byte_size c.mode) (cleared c.status) (take data_words words))
+buffer_filled core c (Some ready) words = after_writes ready
+    (in_writes ready c.input_header (byte_size c.mode) (cleared c.status) (take data_words words))
 
 abbrev pub core_filled : Job → Channel → ℕ → List ℕ → List ℕ
 core_filled job c a words =
@@ -81,7 +83,8 @@ moved_on (Some i) blocks = Some (record i { next = i.next + blocks })
 
 abbrev pub in_done : Job → ℕ → Channel → ℕ → Job
 in_done job number c a =
-    with_channel (record job { core = core_filled job c a (words_ahead c.input c.output) }) number (Some (record (clean c) { input = moved_on c.input (blocks_of (words_moved job c a)) }))
+    with_channel (record job { core = core_filled job c a (words_ahead c.input c.output) }) number
+    (Some (record (clean c) { input = moved_on c.input (blocks_of (words_moved job c a)) }))
 
 -- It reads and changes its own job's record alone.
 abbrev pub reads : Job → ℕ → Channel → ℕ → Reply × Job
@@ -100,4 +103,5 @@ abbrev pub useti_done : Channel → ℕ → Channel
 useti_done c n = record (clean c) { input = input_at c.input n }
 
 abbrev pub useti : Job → ℕ → Channel → ℕ → Reply × Job
-useti job number c n = settled (useti_answer c n) (with_channel job number (Some (useti_done c n))) (stopped_in job number c)
+useti job number c n = settled (useti_answer c n) (with_channel job number (Some (useti_done c n)))
+    (stopped_in job number c)

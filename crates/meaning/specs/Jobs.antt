@@ -1,5 +1,6 @@
 -- Jobs and their channels, and the state of the service.
-use Rattle.std.specs.Prelude.{ℕ, ◌%◌, ◌^◌, Bool, true, false, List, replicate, Option, Some, None, slice_set, slice_get, option_and_then}
+use Rattle.std.specs.Prelude.{ℕ, ◌%◌, ◌^◌, Bool, true, false, List, replicate, Option, Some, None, slice_set, slice_get}
+use Rattle.std.specs.Prelude.{option_and_then}
 use Rattle.meaning.specs.Files.{File, Files, Place}
 use Rattle.meaning.specs.Published.{Version}
 

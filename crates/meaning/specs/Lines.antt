@@ -34,7 +34,8 @@ fitting raw bytes = if nat_lt 255 (length raw) then TooLong ∷ [] else line_of 
 -- the lines of these bytes, which come after others without a line feed
 abbrev pub lines_after : List ℕ → List ℕ → List Line
 lines_after raw [] = fitting raw raw
-lines_after raw (b ∷ bs) = if b == feed then fitting raw (without_return raw) ++ lines_after [] bs else lines_after (raw ++ b ∷ []) bs
+lines_after raw (b ∷ bs) = if b == feed then fitting raw (without_return raw) ++ lines_after [] bs
+    else lines_after (raw ++ b ∷ []) bs
 
 abbrev pub lines : List ℕ → List Line
 lines input = lines_after [] input

@@ -1,7 +1,8 @@
 -- The gate and the log. A change of several blocks is written as images into the log; from the moment
 -- when the gate in block 3 is open the disk counts as changed, and what it then holds is `Settled`:
 -- each image at its target. On a disk whose number of blocks no volume has the gate counts as closed.
-use Rattle.std.specs.Prelude.{◌≡◌, ℕ, ◌+◌, ◌-◌, ◌<◌, ◌≤◌, ◌⊎◌, ◌==◌, if◌then◌else◌, List, [], ◌∷◌, ◌++◌, map, length, replicate, Some}
+use Rattle.std.specs.Prelude.{◌≡◌, ℕ, ◌+◌, ◌-◌, ◌<◌, ◌≤◌, ◌⊎◌, ◌==◌, if◌then◌else◌, List, [], ◌∷◌, ◌++◌, map, length}
+use Rattle.std.specs.Prelude.{replicate, Some}
 use Rattle.std.specs.List.{AllByRecursion}
 use Rattle.blockdisk.specs.Disk.{Contents}
 use Rattle.meaning.specs.declared.put.Put.{Put}
@@ -54,4 +55,5 @@ with_puts (put ∷ puts) contents n = if n == put.block then Some put.words else
 abbrev pub IsSettled : ℕ → Contents → Contents → Type 0
 IsSettled size contents settled =
     ((IsGateOpen size contents → ⊥) × ((n : ℕ) → settled n ≡ contents n))
-    ⊎ (IsGateOpen size contents × (puts : List Put) × IsLog size contents puts × ((n : ℕ) → settled n ≡ with_puts puts contents n))
+    ⊎ (IsGateOpen size contents × (puts : List Put) × IsLog size contents puts
+    × ((n : ℕ) → settled n ≡ with_puts puts contents n))

@@ -1,7 +1,8 @@
 -- LOOKUP, and what every call sees that names a file by four words at an address.
 -- The first is the name, the left half of the second the extension; the third has protection, mode, time
 -- and date; the fourth is the directory, 0 for the job's own.
-use Rattle.std.specs.Prelude.{ℕ, ◌+◌, ◌-◌, ◌*◌, ◌/◌, ◌%◌, ◌^◌, ◌==◌, ◌||◌, nat_le, not, Bool, is_some, is_none, if◌then◌else◌, List, [], ◌∷◌, length, Option, Some, None, slice_index}
+use Rattle.std.specs.Prelude.{ℕ, ◌+◌, ◌-◌, ◌*◌, ◌/◌, ◌%◌, ◌^◌, ◌==◌, ◌||◌, nat_le, not, Bool, is_some, is_none}
+use Rattle.std.specs.Prelude.{if◌then◌else◌, List, [], ◌∷◌, length, Option, Some, None, slice_index}
 use Rattle.words36.specs.Words.{left, join}
 use Rattle.meaning.specs.Maps.{get}
 use Rattle.meaning.specs.Files.{File, Directory, Place}
@@ -67,13 +68,17 @@ size_word words = join (if nat_le words 131072 then (2 ^ 18 - words) % 2 ^ 18 el
 
 -- the core with a file's attributes in the second and third word
 abbrev pub with_attributes : ℕ → List ℕ → ℕ → File → List ℕ
-with_attributes layout core e f = after_writes core ((e + 1, join (left (slice_index core (e + 1))) (high_date layout f.date)) ∷ (e + 2, attributes f) ∷ [])
+with_attributes layout core e f = after_writes core
+    ((e + 1, join (left (slice_index core (e + 1))) (high_date layout f.date)) ∷ (e + 2, attributes f) ∷ [])
 
 -- an earlier input side is given up
 abbrev pub looked_up : Pack → Job → ℕ → Channel → ℕ → Place → Option Version → Job
 looked_up pack job number c e place None = job
 looked_up pack job number c e place (Some v) =
-    with_channel (record job { core = after_writes (with_attributes pack.layout job.core e v.file) ((e + 3, size_word (length v.file.body)) ∷ []) })
+    with_channel (record job {
+      core = after_writes (with_attributes pack.layout job.core e v.file)
+          ((e + 3, size_word (length v.file.body)) ∷ []);
+    })
     number (Some (record (clean c) { input = Some (record { place = place; version = v; next = 1 }) }))
 
 abbrev pub lookup_done : Pack → State → Job → ℕ → Channel → ℕ → Place → Job
@@ -81,4 +86,5 @@ lookup_done pack s job number c e place = looked_up pack job number c e place (f
 
 abbrev pub lookup : Pack → State → Job → ℕ → Channel → ℕ → Reply × Job
 lookup pack s job number c e =
-    settled (lookup_answer s job c e (place_at job e)) (lookup_done pack s job number c e (place_at job e)) (refused_at job e)
+    settled (lookup_answer s job c e (place_at job e)) (lookup_done pack s job number c e (place_at job e))
+    (refused_at job e)

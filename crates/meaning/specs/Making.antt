@@ -31,11 +31,16 @@ make_answer pack s job e owner =
     else Done
 
 abbrev pub directory_made : Job → ℕ → Directory Version
-directory_made job e = record { protection = protection_or (slice_index job.core (e + 1)) 0o775; quota = 0; files = empty }
+directory_made job e = record {
+  protection = protection_or (slice_index job.core (e + 1)) 0o775;
+  quota = 0;
+  files = empty;
+}
 
 abbrev pub makes : Pack → State → Job → ℕ → Reply × (Job × Files Version)
 makes pack s job e =
-    settled (make_answer pack s job e (owner_at job e)) (job, insert s.files (owner_at job e) (directory_made job e)) (λ reply. (refused_at job e reply, s.files))
+    settled (make_answer pack s job e (owner_at job e)) (job, insert s.files (owner_at job e) (directory_made job e))
+    (λ reply. (refused_at job e reply, s.files))
 
 -- an entry is in the way, and so is a file that is being created
 abbrev pub remove_answer : State → Job → ℕ → ℕ → Reply
@@ -48,4 +53,5 @@ remove_answer s job e owner =
 
 abbrev pub removes : State → Job → ℕ → Reply × (Job × Files Version)
 removes s job e =
-    settled (remove_answer s job e (owner_at job e)) (job, remove s.files (owner_at job e)) (λ reply. (refused_at job e reply, s.files))
+    settled (remove_answer s job e (owner_at job e)) (job, remove s.files (owner_at job e))
+    (λ reply. (refused_at job e reply, s.files))

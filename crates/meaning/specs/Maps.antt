@@ -1,7 +1,9 @@
 -- A finite map as a value: its entries, in the order of their keys.
--- The operations compute on closed terms, in a proof with the line `unfolding entries empty get insert remove size`; laws of them stand in proofs/.
--- With it come words on a list of entries, a sum over a list or a map, and how often a number stands in a list.
-use Rattle.std.specs.Prelude.{◌≡◌, ℕ, ◌+◌, ◌==◌, Bool, true, false, cond, not, T, List, [], ◌∷◌, map, length, Option, None, refl}
+-- The operations compute on closed terms, in a proof with the line `unfolding entries empty get insert remove size`;
+-- laws of them stand in proofs/. With it come words on a list of entries, a sum over a list or a map, and how often a
+-- number stands in a list.
+use Rattle.std.specs.Prelude.{◌≡◌, ℕ, ◌+◌, ◌==◌, Bool, true, false, cond, not, T, List, [], ◌∷◌, map, length, Option}
+use Rattle.std.specs.Prelude.{None, refl}
 use mathlib.Core.Path.{sym, subst}
 use Rattle.std.specs.declared.cmp.Ordering.{Ordering}
 use Rattle.std.specs.Ordering.{eq_by_cmp}
@@ -31,7 +33,10 @@ module _ {K X : Type 0} {R : K → K → Ordering} where
   insert m k v = checked (put R k v (entries m)) _ refl m
 
   unfoldable pub remove : FinMap R X → K → FinMap R X
-  remove m k = record { list = where_key R (λ q. not (eq_by_cmp R k q)) m.list; sorted = is_sorted-where_key R (λ q. not (eq_by_cmp R k q)) m.list m.sorted }
+  remove m k = record {
+    list = where_key R (λ q. not (eq_by_cmp R k q)) m.list;
+    sorted = is_sorted-where_key R (λ q. not (eq_by_cmp R k q)) m.list m.sorted;
+  }
 
   unfoldable pub size : FinMap R X → ℕ
   size m = length (entries m)

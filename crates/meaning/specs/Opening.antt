@@ -1,5 +1,6 @@
 -- OPEN, and INBUF and OUTBUF, which set up the rings of a channel that is open.
-use Rattle.std.specs.Prelude.{ℕ, ◌+◌, ◌%◌, ◌==◌, ◌||◌, ◌&&◌, not, Bool, is_some, if◌then◌else◌, List, [], ◌++◌, Option, Some, None, slice_index}
+use Rattle.std.specs.Prelude.{ℕ, ◌+◌, ◌%◌, ◌==◌, ◌||◌, ◌&&◌, not, Bool, is_some, if◌then◌else◌, List, [], ◌++◌, Option}
+use Rattle.std.specs.Prelude.{Some, None, slice_index}
 use Rattle.words36.specs.Words.{left, right}
 use Rattle.meaning.specs.Jobs.{Channel, Job, channel_at, with_channel, improper_mode}
 use Rattle.meaning.specs.Cores.{lies_outside, after_writes}
@@ -38,13 +39,15 @@ abbrev pub misses_header : List ℕ → ℕ → Bool
 misses_header core header = not (header == 0) && lies_outside core header 3
 
 abbrev pub misses_headers : List ℕ → ℕ → Bool
-misses_headers core a = is_buffered (mode_at core a) && (misses_header core (output_header_at core a) || misses_header core (input_header_at core a))
+misses_headers core a = is_buffered (mode_at core a)
+    && (misses_header core (output_header_at core a) || misses_header core (input_header_at core a))
 
 abbrev pub open_answer : Job → ℕ → ℕ → Reply
 open_answer job number a =
     if lies_outside job.core a 3 || misses_headers job.core a then AddressCheck
     else if is_some (channel_at job number) then Refused 5
-    else if not (device_at job.core a == disk) || not (is_mode (mode_at job.core a)) then Stopped (improper_mode + mode_at job.core a)
+    else if not (device_at job.core a == disk) || not (is_mode (mode_at job.core a))
+    then Stopped (improper_mode + mode_at job.core a)
     else Done
 
 abbrev pub channel_opened : List ℕ → ℕ → Channel
@@ -64,11 +67,13 @@ header_opened mode header = if header == 0 then [] else unused_header header (by
 abbrev pub core_opened : List ℕ → ℕ → List ℕ
 core_opened core a =
     if is_buffered (mode_at core a)
-    then after_writes core (header_opened (mode_at core a) (output_header_at core a) ++ header_opened (mode_at core a) (input_header_at core a))
+    then after_writes core (header_opened (mode_at core a) (output_header_at core a)
+    ++ header_opened (mode_at core a) (input_header_at core a))
     else core
 
 abbrev pub open_done : Job → ℕ → ℕ → Job
-open_done job number a = with_channel (record job { core = core_opened job.core a }) number (Some (channel_opened job.core a))
+open_done job number a = with_channel (record job { core = core_opened job.core a }) number
+    (Some (channel_opened job.core a))
 
 -- a channel that isn't opened stays closed
 abbrev pub opens : Job → ℕ → ℕ → Reply × Job
@@ -97,4 +102,6 @@ ring_answer job c header n = if has_no_ring c.mode header then Refused 5 else fo
 
 abbrev pub sets_up : Job → ℕ → Channel → ℕ → ℕ → Reply × Job
 sets_up job number c header n =
-    settled (ring_answer job c header n) (with_channel (record job { core = core_or job.core (ring_made job c header n) }) number (Some (clean c))) (λ reply. job)
+    settled (ring_answer job c header n)
+    (with_channel (record job { core = core_or job.core (ring_made job c header n) }) number (Some (clean c)))
+    (λ reply. job)

@@ -1,11 +1,13 @@
 -- OUT and USETO.
-use Rattle.std.specs.Prelude.{ℕ, ◌+◌, ◌-◌, ◌*◌, ◌==◌, ◌&&◌, ◌||◌, nat_lt, nat_le, not, Bool, false, is_none, if◌then◌else◌, List, length, Option, Some, None, option_map}
+use Rattle.std.specs.Prelude.{ℕ, ◌+◌, ◌-◌, ◌*◌, ◌==◌, ◌&&◌, ◌||◌, nat_lt, nat_le, not, Bool, false, is_none}
+use Rattle.std.specs.Prelude.{if◌then◌else◌, List, length, Option, Some, None, option_map}
 use Rattle.meaning.specs.Costs.{blocks_of, version_cost}
 use Rattle.meaning.specs.Splices.{splice, length_after}
 use Rattle.meaning.specs.Cores.{after_writes, joined}
 use Rattle.meaning.specs.CommandLists.{dump_list}
 use Rattle.meaning.specs.Rings.{is_buffered, byte_size, out_ready, ring_words, out_writes}
-use Rattle.meaning.specs.Jobs.{Kind, Create, Supersede, Update, Append, Output, Channel, Job, State, with_channel, block_too_large}
+use Rattle.meaning.specs.Jobs.{Kind, Create, Supersede, Update, Append, Output, Channel, Job, State, with_channel}
+use Rattle.meaning.specs.Jobs.{block_too_large}
 use Rattle.meaning.specs.Room.{Pack, exceeds_room}
 use Rattle.meaning.specs.Inputs.{lacks_header}
 use Rattle.meaning.specs.Outcomes.{settled, clean, reports, stopped_in}
@@ -42,7 +44,10 @@ pub record Outgoing : Type 0 where
   pub core : List ℕ
 
 abbrev pub ring_out : Channel → List ℕ → Outgoing
-ring_out c ready = record { words = ring_words ready c.output_header; core = after_writes ready (out_writes ready c.output_header (byte_size c.mode)) }
+ring_out c ready = record {
+  words = ring_words ready c.output_header;
+  core = after_writes ready (out_writes ready c.output_header (byte_size c.mode));
+}
 
 -- by the command list at an address, or by the output side's ring. None is AddressCheck.
 abbrev pub outgoing : Job → Channel → ℕ → Option Outgoing
@@ -59,18 +64,23 @@ found_answer pack s c o (Some found) = place_answer pack s c o found.words
 
 abbrev pub put_answer : Pack → State → Channel → Option Output → Option Outgoing → Reply
 put_answer pack s c None found = Refused 5
-put_answer pack s c (Some o) found = if lacks_header c.mode c.output_header then Refused 5 else found_answer pack s c o found
+put_answer pack s c (Some o) found = if lacks_header c.mode c.output_header then Refused 5
+    else found_answer pack s c o found
 
 abbrev pub out_answer : Pack → State → Job → Channel → ℕ → Reply
 out_answer pack s job c a = put_answer pack s c c.output (outgoing job c a)
 
 abbrev pub put_on : Option Output → List ℕ → Option Output
 put_on None words = None
-put_on (Some o) words = Some (record o { pending = record o.pending { body = splice o.pending.body o.next words }; next = o.next + blocks_of (length words) })
+put_on (Some o) words = Some (record o {
+  pending = record o.pending { body = splice o.pending.body o.next words };
+  next = o.next + blocks_of (length words);
+})
 
 abbrev pub put_done : Job → ℕ → Channel → Option Outgoing → Job
 put_done job number c None = job
-put_done job number c (Some found) = with_channel (record job { core = found.core }) number (Some (record (clean c) { output = put_on c.output found.words }))
+put_done job number c (Some found) = with_channel (record job { core = found.core }) number
+    (Some (record (clean c) { output = put_on c.output found.words }))
 
 abbrev pub out_done : Job → ℕ → Channel → ℕ → Job
 out_done job number c a = put_done job number c (outgoing job c a)
@@ -91,4 +101,5 @@ abbrev pub useto_done : Channel → ℕ → Channel
 useto_done c n = record (clean c) { output = output_at c.output n }
 
 abbrev pub useto : Job → ℕ → Channel → ℕ → Reply × Job
-useto job number c n = settled (useto_answer c n) (with_channel job number (Some (useto_done c n))) (stopped_in job number c)
+useto job number c n = settled (useto_answer c n) (with_channel job number (Some (useto_done c n)))
+    (stopped_in job number c)

@@ -1,6 +1,7 @@
 -- What a line of a session asks of the service, one after the other, each by the replies so far; and what it says
 -- in the end. It acts as job 1, in dump mode, by channels, addresses and sizes that are always the same.
-use Rattle.std.specs.Prelude.{◌≡◌, ℕ, zero, suc, ◌+◌, ◌*◌, ◌-◌, ◌/◌, ◌%◌, ◌^◌, ◌==◌, Bool, nat_le, if◌then◌else◌, List, [], ◌∷◌, ◌++◌, replicate, unwrap_or, codes, Result}
+use Rattle.std.specs.Prelude.{◌≡◌, ℕ, zero, suc, ◌+◌, ◌*◌, ◌-◌, ◌/◌, ◌%◌, ◌^◌, ◌==◌, Bool, nat_le, if◌then◌else◌, List}
+use Rattle.std.specs.Prelude.{[], ◌∷◌, ◌++◌, replicate, unwrap_or, codes, Result}
 use Rattle.words36.specs.Words.{left, join}
 use Rattle.words36.specs.declared.moment.Moment.{Moment}
 use Rattle.meaning.specs.Costs.{blocks_of}
@@ -8,10 +9,14 @@ use Rattle.meaning.specs.Opening.{disk, dump_mode}
 use Rattle.meaning.specs.Texts.{Spoken, prints, refuses, line, typed, list_said}
 use Rattle.meaning.specs.declared.command.Spec.{Spec}
 use Rattle.meaning.specs.declared.command.Command.{Command}
-use Rattle.meaning.specs.declared.command.Command.TheVariants.{Login as LoginLine, Directory as DirectoryLine, Copy as CopyLine, Rename as RenameLine, Delete as DeleteLine, TypeOut as TypeLine, Protect as ProtectLine, MakeDir as MakeLine}
+use Rattle.meaning.specs.declared.command.Command.TheVariants.{Login as LoginLine, Directory as DirectoryLine}
+use Rattle.meaning.specs.declared.command.Command.TheVariants.{Copy as CopyLine, Rename as RenameLine}
+use Rattle.meaning.specs.declared.command.Command.TheVariants.{Delete as DeleteLine, TypeOut as TypeLine}
+use Rattle.meaning.specs.declared.command.Command.TheVariants.{Protect as ProtectLine, MakeDir as MakeLine}
 use Rattle.meaning.specs.declared.entry.Entry.{Entry}
 use Rattle.meaning.specs.declared.call.Call.{Call}
-use Rattle.meaning.specs.declared.call.Call.TheVariants.{Open, Lookup, Enter, Rename, In, Out, Useti, Close, Reset, MakeDir}
+use Rattle.meaning.specs.declared.call.Call.TheVariants.{Open, Lookup, Enter, Rename, In, Out, Useti, Close, Reset}
+use Rattle.meaning.specs.declared.call.Call.TheVariants.{MakeDir}
 use Rattle.meaning.specs.declared.call.Event.{Event}
 use Rattle.meaning.specs.declared.call.Event.TheVariants.{Deposit, Examine, Call as Calls}
 use Rattle.meaning.specs.declared.call.Reply.{Reply}
@@ -49,7 +54,8 @@ deposits address (w ∷ ws) = Deposit 1 address w ∷ deposits (address + 1) ws
 
 -- the four words that name a file, with a protection
 abbrev pub names : ℕ → Spec → ℕ → List Event
-names address spec protection = deposits address (spec.name.name ∷ join spec.name.ext 0 ∷ protection * 2 ^ 27 ∷ unwrap_or spec.owner 0 ∷ [])
+names address spec protection = deposits address (spec.name.name ∷ join spec.name.ext 0 ∷ protection * 2 ^ 27
+    ∷ unwrap_or spec.owner 0 ∷ [])
 
 -- a channel is opened in dump mode
 abbrev pub opens : Moment → ℕ → List Event
@@ -80,17 +86,20 @@ goes_to moment n = calls moment (Useti 1 n)
 -- The new name and place, with the protection that LOOKUP has put into the third word.
 abbrev pub renames : Moment → Spec → Spec → List Event
 renames moment to from =
-    finds moment from ++ Deposit 1 file_words to.name.name ∷ Deposit 1 (file_words + 1) (join to.name.ext 0) ∷ Deposit 1 (file_words + 3) (unwrap_or to.owner 0)
+    finds moment from ++ Deposit 1 file_words to.name.name ∷ Deposit 1 (file_words + 1) (join to.name.ext 0)
+    ∷ Deposit 1 (file_words + 3) (unwrap_or to.owner 0)
     ∷ calls moment (Rename 1 file_words) ∷ []
 
 abbrev pub deletes : Moment → Spec → List Event
 deletes moment spec = finds moment spec ++ Deposit 1 file_words 0 ∷ calls moment (Rename 1 file_words) ∷ []
 
 abbrev pub protects : Moment → Spec → ℕ → List Event
-protects moment spec protection = finds moment spec ++ names file_words spec protection ++ calls moment (Rename 1 file_words) ∷ []
+protects moment spec protection = finds moment spec ++ names file_words spec protection
+    ++ calls moment (Rename 1 file_words) ∷ []
 
 abbrev pub makes : Moment → ℕ → ℕ → List Event
-makes moment owner protection = deposits file_words (owner ∷ protection * 2 ^ 27 ∷ []) ++ calls moment (MakeDir file_words) ∷ []
+makes moment owner protection = deposits file_words (owner ∷ protection * 2 ^ 27 ∷ [])
+    ++ calls moment (MakeDir file_words) ∷ []
 
 -- Plans.
 
@@ -129,7 +138,8 @@ examines moment address next = Ask (Examine 1 address) (if_told moment next)
 -- so many words of core from an address on
 unfoldable pub fetches : Moment → ℕ → ℕ → (List ℕ → Plan) → Plan
 fetches moment zero address next = next []
-fetches moment (suc more) address next = examines moment address (λ word. fetches moment more (address + 1) (λ words. next (word ∷ words)))
+fetches moment (suc more) address next = examines moment address
+    (λ word. fetches moment more (address + 1) (λ words. next (word ∷ words)))
 
 -- How long a body is, by the word that LOOKUP has put behind the file's name: left is minus its words, or, of a longer
 -- one, how many blocks it has.
@@ -140,8 +150,8 @@ says_words size = nat_le (2 ^ 17) (left size)
 abbrev pub blocks_said : ℕ → ℕ
 blocks_said size = if says_words size then blocks_of (2 ^ 18 - left size) else left size
 
--- How many words the last block has where only the blocks are said: an IN leaves the words of core behind the body's end
--- as they are, so that of two INs over different words those that were moved are the same, and no others.
+-- How many words the last block has where only the blocks are said: an IN leaves the words of core behind the body's
+-- end as they are, so that of two INs over different words those that were moved are the same, and no others.
 
 abbrev pub same_words : List ℕ → List ℕ → ℕ
 same_words [] ys = 0
@@ -150,7 +160,8 @@ same_words (x ∷ xs) (y ∷ ys) = (if x == y then 1 else 0) + same_words xs ys
 
 -- block n is taken over words that are all this one
 abbrev pub takes_over : Moment → ℕ → ℕ → (List ℕ → Plan) → Plan
-takes_over moment n word next = each moment (deposits block_address (replicate 128 word) ++ goes_to moment n ∷ takes moment ∷ []) (fetches moment 128 block_address next)
+takes_over moment n word next = each moment (deposits block_address (replicate 128 word)
+    ++ goes_to moment n ∷ takes moment ∷ []) (fetches moment 128 block_address next)
 
 abbrev pub counts : Moment → ℕ → (ℕ → Plan) → Plan
 counts moment n next = takes_over moment n 0 (λ zeros. takes_over moment n 1 (λ ones. next (same_words zeros ones)))
@@ -184,7 +195,8 @@ copies_blocks moment zero next = next
 copies_blocks moment (suc more) next = each moment (takes moment ∷ puts moment ∷ []) (copies_blocks moment more next)
 
 abbrev pub copies_last : Moment → ℕ → ℕ → Plan → Plan
-copies_last moment n size next = sizes moment n size (λ count. each moment (lists count ++ goes_to moment n ∷ takes moment ∷ puts moment ∷ []) next)
+copies_last moment n size next = sizes moment n size
+    (λ count. each moment (lists count ++ goes_to moment n ∷ takes moment ∷ puts moment ∷ []) next)
 
 abbrev pub copies_body : Moment → ℕ → ℕ → Plan → Plan
 copies_body moment zero size next = next
@@ -192,25 +204,31 @@ copies_body moment (suc more) size next = copies_blocks moment more (copies_last
 
 abbrev pub copies : Moment → Spec → Spec → Plan
 copies moment to from =
-    each moment (finds moment from ++ writes moment to ++ lists 128) (examines moment (file_words + 3) (λ size. copies_body moment (blocks_said size) size
+    each moment (finds moment from ++ writes moment to ++ lists 128)
+    (examines moment (file_words + 3) (λ size. copies_body moment (blocks_said size) size
     (until_end moment (each moment (calls moment (Close 2 0) ∷ []) (ends moment ok)))))
 
 -- Typing: the words of whole blocks, then those of the last.
 
 unfoldable pub types_blocks : Moment → ℕ → (List ℕ → Plan) → Plan
 types_blocks moment zero next = next []
-types_blocks moment (suc more) next = each moment (takes moment ∷ []) (fetches moment 128 block_address (λ words. types_blocks moment more (λ others. next (words ++ others))))
+types_blocks moment (suc more) next = each moment (takes moment ∷ [])
+    (fetches moment 128 block_address (λ words. types_blocks moment more (λ others. next (words ++ others))))
 
 abbrev pub types_last : Moment → ℕ → ℕ → (List ℕ → Plan) → Plan
-types_last moment n size next = sizes moment n size (λ count. each moment (lists count ++ goes_to moment n ∷ takes moment ∷ []) (fetches moment count block_address next))
+types_last moment n size next = sizes moment n size
+    (λ count. each moment (lists count ++ goes_to moment n ∷ takes moment ∷ [])
+    (fetches moment count block_address next))
 
 abbrev pub types_body : Moment → ℕ → ℕ → (List ℕ → Plan) → Plan
 types_body moment zero size next = next []
-types_body moment (suc more) size next = types_blocks moment more (λ words. types_last moment (suc more) size (λ others. next (words ++ others)))
+types_body moment (suc more) size next = types_blocks moment more
+    (λ words. types_last moment (suc more) size (λ others. next (words ++ others)))
 
 abbrev pub types : Moment → Spec → Plan
 types moment spec =
-    each moment (finds moment spec ++ lists 128) (examines moment (file_words + 3) (λ size. types_body moment (blocks_said size) size
+    each moment (finds moment spec ++ lists 128)
+    (examines moment (file_words + 3) (λ size. types_body moment (blocks_said size) size
     (λ words. until_end moment (ends moment (prints (typed words))))))
 
 -- what a line plans, of a session that is logged in as `me`

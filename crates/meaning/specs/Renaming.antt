@@ -1,6 +1,7 @@
 -- RENAME, which gives the file that a channel has looked up another name, place or protection. A zero name
 -- deletes it. Who has the version open reads on.
-use Rattle.std.specs.Prelude.{ℕ, ◌+◌, ◌/◌, ◌^◌, ◌==◌, ◌&&◌, ◌||◌, not, Bool, false, is_some, if◌then◌else◌, Option, Some, None, slice_index}
+use Rattle.std.specs.Prelude.{ℕ, ◌+◌, ◌/◌, ◌^◌, ◌==◌, ◌&&◌, ◌||◌, not, Bool, false, is_some, if◌then◌else◌, Option}
+use Rattle.std.specs.Prelude.{Some, None, slice_index}
 use Rattle.meaning.specs.Files.{Files, Place}
 use Rattle.meaning.specs.Published.{Version, same_place, file_at, with_file, without_file, with_protection}
 use Rattle.meaning.specs.Rights.{may_look, may_create, may_rename, may_protect}
@@ -29,7 +30,8 @@ changes_protection protection (Some v) = not (v.file.protection == protection)
 abbrev pub is_forbidden : State → Job → ℕ → Place → Bool
 is_forbidden s job e old =
     not (may_rename (digit_at s job old))
-    || (not (deletes_at job e) && changes_protection (protection_at job e) (file_at s.files old) && not (may_protect (digit_at s job old)))
+    || (not (deletes_at job e) && changes_protection (protection_at job e) (file_at s.files old)
+    && not (may_protect (digit_at s job old)))
 
 -- another directory would get a block more, and there is none
 abbrev pub crowds : Pack → State → Place → Place → Bool
@@ -62,7 +64,8 @@ rename_sides pack s job e None output = Refused 5
 rename_sides pack s job e (Some i) output = if is_some output then Refused 5 else rename_from pack s job e i.place
 
 abbrev pub rename_answer : Pack → State → Job → Channel → ℕ → Reply
-rename_answer pack s job c e = if lies_outside job.core e 4 then AddressCheck else rename_sides pack s job e c.input c.output
+rename_answer pack s job c e = if lies_outside job.core e 4 then AddressCheck
+    else rename_sides pack s job e c.input c.output
 
 -- One change of the map: the version moves, or is gone. It keeps its serial, mode, time, date and words.
 
@@ -85,4 +88,5 @@ rename_done job number c = with_channel job number (Some (record (clean c) { inp
 
 abbrev pub renames : Pack → State → Job → ℕ → Channel → ℕ → Reply × (Job × Files Version)
 renames pack s job number c e =
-    settled (rename_answer pack s job c e) (rename_done job number c, files_renamed s.files job e c.input) (λ reply. (refused_at job e reply, s.files))
+    settled (rename_answer pack s job c e) (rename_done job number c, files_renamed s.files job e c.input)
+    (λ reply. (refused_at job e reply, s.files))

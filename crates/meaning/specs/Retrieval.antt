@@ -1,7 +1,8 @@
 -- A version of a file on the disk: its prime retrieval block says what it is and where its data lies, by
 -- pointers to runs of blocks; extensions have further pointers. What is retrieved and what body the blocks
 -- hold are two facts, since a reader needs only the second.
-use Rattle.std.specs.Prelude.{◌≡◌, ℕ, suc, zero, ◌+◌, ◌*◌, ◌-◌, ◌/◌, ◌%◌, ◌^◌, ◌<◌, ◌≤◌, ◌⊎◌, ◌==◌, if◌then◌else◌, List, [], ◌∷◌, ◌++◌, map, length, replicate, take, flat_map, Some}
+use Rattle.std.specs.Prelude.{◌≡◌, ℕ, suc, zero, ◌+◌, ◌*◌, ◌-◌, ◌/◌, ◌%◌, ◌^◌, ◌<◌, ◌≤◌, ◌⊎◌, ◌==◌, if◌then◌else◌, List}
+use Rattle.std.specs.Prelude.{[], ◌∷◌, ◌++◌, map, length, replicate, take, flat_map, Some}
 use Rattle.std.specs.List.{AllByRecursion, AllZip}
 use Rattle.words36.specs.Words.{join}
 use Rattle.blockdisk.specs.Disk.{Contents}
@@ -20,7 +21,14 @@ pub record Prime : Type 0 where
   pub words : ℕ
 
 abbrev pub prime_of : Place → File → Prime
-prime_of place file = record { place = place; protection = file.protection; mode = file.mode; time = file.time; date = file.date; words = length file.body }
+prime_of place file = record {
+  place = place;
+  protection = file.protection;
+  mode = file.mode;
+  time = file.time;
+  date = file.date;
+  words = length file.body;
+}
 
 -- a run: a count of blocks, and the first of them
 abbrev pub Run : Type 0
@@ -63,7 +71,8 @@ abbrev pub extension_half : ℕ
 extension_half = 0o706242
 
 abbrev pub extension_block : List Run → ℕ → List ℕ
-extension_block runs next = join extension_half (length runs) ∷ next ∷ (map pointer runs ++ replicate (126 - length runs) 0)
+extension_block runs next = join extension_half (length runs) ∷ next
+    ∷ (map pointer runs ++ replicate (126 - length runs) 0)
 
 -- an extension: its number and its runs
 abbrev pub Extension : Type 0
@@ -109,7 +118,8 @@ pub record IsPrime (layout : ℕ) (p : Prime) : Type 0 where
   pub few : p.words ≤ most_blocks * 128
 
 -- The prime block and the extensions stand on the disk, and their pointers, joined, are these blocks.
-pub record IsRetrieved (layout : ℕ) (contents : Contents) (p : Prime) (prime : ℕ) (extensions blocks : List ℕ) : Type 0 where
+pub record IsRetrieved (layout : ℕ) (contents : Contents) (p : Prime) (prime : ℕ)
+    (extensions blocks : List ℕ) : Type 0 where
   pub runs : List Run
   pub further : List Extension
   pub fits : IsPrime layout p

@@ -8,7 +8,9 @@
 --
 -- A step is a list of writes, made in their order in the core in which all that it reads is read. Where a ring
 -- is set up first, that is a step of its own, and what follows reads the core that it left.
-use Rattle.std.specs.Prelude.{ℕ, zero, suc, ◌+◌, ◌-◌, ◌*◌, ◌/◌, ◌%◌, ◌^◌, ◌==◌, ◌&&◌, ◌||◌, nat_lt, nat_le, not, Bool, false, if◌then◌else◌, List, [], ◌∷◌, ◌++◌, length, replicate, Option, Some, None, slice_index, slice_range}
+use Rattle.std.specs.Prelude.{ℕ, zero, suc, ◌+◌, ◌-◌, ◌*◌, ◌/◌, ◌%◌, ◌^◌, ◌==◌, ◌&&◌, ◌||◌, nat_lt, nat_le, not, Bool}
+use Rattle.std.specs.Prelude.{false, if◌then◌else◌, List, [], ◌∷◌, ◌++◌, length, replicate, Option, Some, None}
+use Rattle.std.specs.Prelude.{slice_index, slice_range}
 use Rattle.words36.specs.Words.{left, right, join}
 use Rattle.meaning.specs.Cores.{lies_outside, after_writes, placed, first_free}
 
@@ -141,7 +143,8 @@ filled core header size status a words =
     ∷ placed header (a ∷ pointer size (a + 1) ∷ length words * bytes_in_word size ∷ [])
 
 unfoldable pub in_writes : List ℕ → ℕ → ℕ → ℕ → List ℕ → List (ℕ × ℕ)
-in_writes core header size status words = left_behind core header ++ filled core header size status (target core header) words
+in_writes core header size status words = left_behind core header
+    ++ filled core header size status (target core header) words
 
 -- OUT. On a ring that isn't in use yet it puts nothing, and gives the first buffer to be filled.
 
@@ -201,4 +204,5 @@ last_words core header =
 
 -- the header of a side that closes
 abbrev pub closed_header : List ℕ → ℕ → List (ℕ × ℕ)
-closed_header core header = if header == 0 then [] else (header, marked (slice_index core header)) ∷ (header + 2, 0) ∷ []
+closed_header core header = if header == 0 then [] else (header, marked (slice_index core header)) ∷ (header + 2, 0)
+    ∷ []

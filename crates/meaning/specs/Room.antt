@@ -1,5 +1,6 @@
 -- Claims, and what is booked of a disk.
-use Rattle.std.specs.Prelude.{ℕ, ◌+◌, ◌-◌, ◌==◌, ◌&&◌, nat_lt, Bool, if◌then◌else◌, List, [], ◌∷◌, ◌++◌, length, ℤ, pos, ◌-ℤ◌, flat_map, filter_map, Option, Some, None, option_map}
+use Rattle.std.specs.Prelude.{ℕ, ◌+◌, ◌-◌, ◌==◌, ◌&&◌, nat_lt, Bool, if◌then◌else◌, List, [], ◌∷◌, ◌++◌, length, ℤ, pos}
+use Rattle.std.specs.Prelude.{◌-ℤ◌, flat_map, filter_map, Option, Some, None, option_map}
 use Rattle.std.specs.List.{list_any}
 use Rattle.meaning.specs.Maps.{values, size, get, total, sum_entries}
 use Rattle.meaning.specs.Files.{Directory, Place}
@@ -71,7 +72,8 @@ distinct_cost (v ∷ vs) = (if has_serial v.serial vs then 0 else version_cost (
 
 -- the master directory and the directories, with what is being created in them
 abbrev pub directories_cost : State → ℕ
-directories_cost s = directory_cost (size s.files) + sum_entries (λ ppn d. directory_cost (size d.files + pending_creations s ppn)) s.files
+directories_cost s = directory_cost (size s.files)
+    + sum_entries (λ ppn d. directory_cost (size d.files + pending_creations s ppn)) s.files
 
 -- what is being written, each in full
 abbrev pub pending_cost : State → ℕ

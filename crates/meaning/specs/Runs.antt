@@ -1,5 +1,6 @@
 -- Whole runs, where memory may be wanting and the disk may answer a fault.
-use Rattle.std.specs.Prelude.{◌≡◌, ℕ, ◌==◌, ◌++◌, ◌⊎◌, not, Bool, true, false, IsTrue, IsFalse, List, [], ◌∷◌, Option, Some, None, Result, Err}
+use Rattle.std.specs.Prelude.{◌≡◌, ℕ, ◌==◌, ◌++◌, ◌⊎◌, not, Bool, true, false, IsTrue, IsFalse, List, [], ◌∷◌, Option}
+use Rattle.std.specs.Prelude.{Some, None, Result, Err}
 use Rattle.meaning.specs.Files.{File, Files}
 use Rattle.meaning.specs.Published.{Version, without_serials}
 use Rattle.meaning.specs.Jobs.{Channel, Job, State, channel_at, job_at, no_jobs}
@@ -9,11 +10,13 @@ use Rattle.meaning.specs.Sessions.{list}
 use Rattle.meaning.specs.Step.{step}
 use Rattle.meaning.specs.declared.entry.Entry.{Entry}
 use Rattle.meaning.specs.declared.call.Call.{Call}
-use Rattle.meaning.specs.declared.call.Call.TheVariants.{Open, Inbuf, Outbuf, Lookup, Enter, Rename, In, Out, Useti, Useto, Close, Releas, Getsts, Reset, MakeDir, DeleteDir}
+use Rattle.meaning.specs.declared.call.Call.TheVariants.{Open, Inbuf, Outbuf, Lookup, Enter, Rename, In, Out, Useti}
+use Rattle.meaning.specs.declared.call.Call.TheVariants.{Useto, Close, Releas, Getsts, Reset, MakeDir, DeleteDir}
 use Rattle.meaning.specs.declared.call.Event.{Event}
 use Rattle.meaning.specs.declared.call.Event.TheVariants.{Login, Deposit, Examine, Call as Calls}
 use Rattle.meaning.specs.declared.call.Reply.{Reply}
-use Rattle.meaning.specs.declared.call.Reply.TheVariants.{Done, Value, Refused, Stopped, NoChannel, AddressCheck, NoJob, NoMemory, Device, Failed, DateRange}
+use Rattle.meaning.specs.declared.call.Reply.TheVariants.{Done, Value, Refused, Stopped, NoChannel, AddressCheck, NoJob}
+use Rattle.meaning.specs.declared.call.Reply.TheVariants.{NoMemory, Device, Failed, DateRange}
 
 -- a serial that no version has that is current or held
 abbrev pub IsFresh : State → ℕ → Type 0
@@ -26,7 +29,8 @@ Steps pack s event reply after = (serial : ℕ) × IsFresh s serial × (step pac
 -- The same of a list of events: none met want of memory or a fault of the disk.
 abbrev pub StepsAll : Pack → State → List Event → List Reply → State → Type 0
 StepsAll pack s [] [] after = after ≡ s
-StepsAll pack s (event ∷ events) (reply ∷ replies) after = (mid : State) × Steps pack s event reply mid × StepsAll pack mid events replies after
+StepsAll pack s (event ∷ events) (reply ∷ replies) after = (mid : State) × Steps pack s event reply mid
+    × StepsAll pack mid events replies after
 StepsAll pack s [] (reply ∷ replies) after = ⊥
 StepsAll pack s (event ∷ events) [] after = ⊥
 
@@ -100,7 +104,8 @@ pub data Service : Type 0 where
 abbrev pub Answers : Pack → Service → Event → Reply → Service → Type 0
 Answers pack Broken event reply Broken = reply ≡ Failed
 Answers pack Broken event reply (Serving after) = ⊥
-Answers pack (Serving s) event reply Broken = (reply ≡ Device) × IsFalse (is_decided pack s event) × IsTrue (touches_disk s event)
+Answers pack (Serving s) event reply Broken = (reply ≡ Device) × IsFalse (is_decided pack s event)
+    × IsTrue (touches_disk s event)
 Answers pack (Serving s) event reply (Serving after) =
     Steps pack s event reply after
     ⊎ ((reply ≡ NoMemory) × (after ≡ s) × IsFalse (is_decided pack s event) × IsTrue (takes_memory s event))
@@ -108,7 +113,8 @@ Answers pack (Serving s) event reply (Serving after) =
 -- The service may give these replies to these events, and be so after them.
 abbrev pub Run : Pack → Service → List Event → List Reply → Service → Type 0
 Run pack old [] [] new = new ≡ old
-Run pack old (event ∷ events) (reply ∷ replies) new = (mid : Service) × Answers pack old event reply mid × Run pack mid events replies new
+Run pack old (event ∷ events) (reply ∷ replies) new = (mid : Service) × Answers pack old event reply mid
+    × Run pack mid events replies new
 Run pack old [] (reply ∷ replies) new = ⊥
 Run pack old (event ∷ events) [] new = ⊥
 
@@ -119,7 +125,8 @@ IsNoJob answer = answer ≡ Err NoJob
 abbrev pub Lists : Service → ℕ → ℕ → Result (List Entry) Reply → Service → Type 0
 Lists Broken n owner answer after = (answer ≡ Err Failed) × (after ≡ Broken)
 Lists (Serving s) n owner answer Broken = (answer ≡ Err Device) × (IsNoJob (list s n owner) → ⊥)
-Lists (Serving s) n owner answer (Serving after) = (after ≡ s) × ((answer ≡ list s n owner) ⊎ ((answer ≡ Err NoMemory) × (IsNoJob (list s n owner) → ⊥)))
+Lists (Serving s) n owner answer (Serving after) = (after ≡ s)
+    × ((answer ≡ list s n owner) ⊎ ((answer ≡ Err NoMemory) × (IsNoJob (list s n owner) → ⊥)))
 
 -- A start.
 

@@ -1,15 +1,18 @@
 -- What a line of a call script says: an event. And what is written for its reply. All numbers are octal.
-use Rattle.std.specs.Prelude.{◌≡◌, ℕ, ◌-◌, ◌==◌, ◌&&◌, Bool, true, false, if◌then◌else◌, List, [], ◌∷◌, ◌++◌, length, replicate, Option, Some, None, codes}
+use Rattle.std.specs.Prelude.{◌≡◌, ℕ, ◌-◌, ◌==◌, ◌&&◌, Bool, true, false, if◌then◌else◌, List, [], ◌∷◌, ◌++◌, length}
+use Rattle.std.specs.Prelude.{replicate, Option, Some, None, codes}
 use Rattle.std.specs.Fmt.{digits}
 use Rattle.words36.specs.declared.moment.Moment.{Moment}
 use Rattle.meaning.specs.Lines.{Line, Bytes, TooLong}
 use Rattle.meaning.specs.Spellings.{AreFields, IsNumber, IsSmall, IsPair}
 use Rattle.meaning.specs.declared.call.Call.{Call}
-use Rattle.meaning.specs.declared.call.Call.TheVariants.{Open, Inbuf, Outbuf, Lookup, Enter, Rename, In, Out, Useti, Useto, Close, Releas, Getsts, Reset, MakeDir, DeleteDir}
+use Rattle.meaning.specs.declared.call.Call.TheVariants.{Open, Inbuf, Outbuf, Lookup, Enter, Rename, In, Out, Useti}
+use Rattle.meaning.specs.declared.call.Call.TheVariants.{Useto, Close, Releas, Getsts, Reset, MakeDir, DeleteDir}
 use Rattle.meaning.specs.declared.call.Event.{Event}
 use Rattle.meaning.specs.declared.call.Event.TheVariants.{Login, Deposit, Examine, Call as Calls}
 use Rattle.meaning.specs.declared.call.Reply.{Reply}
-use Rattle.meaning.specs.declared.call.Reply.TheVariants.{Done, Value, Refused, Stopped, NoChannel, AddressCheck, NoJob, NoMemory, Device, Failed, DateRange}
+use Rattle.meaning.specs.declared.call.Reply.TheVariants.{Done, Value, Refused, Stopped, NoChannel, AddressCheck, NoJob}
+use Rattle.meaning.specs.declared.call.Reply.TheVariants.{NoMemory, Device, Failed, DateRange}
 
 -- The words of calls, by how many numbers follow.
 
@@ -51,19 +54,24 @@ abbrev pub IsCallText : List (List ℕ) → Call → Type 0
 IsCallText [] call = ⊥
 IsCallText (word ∷ []) call = (word ≡ codes "RESET") × (call ≡ Reset)
 IsCallText (word ∷ a ∷ []) call = (f : ℕ → Call) × (calls_of_one word ≡ Some f) × (x : ℕ) × IsPlace a x × (call ≡ f x)
-IsCallText (word ∷ a ∷ b ∷ []) call = (f : ℕ → ℕ → Call) × (calls_of_two word ≡ Some f) × (x : ℕ) × IsPlace a x × (y : ℕ) × IsPlace b y × (call ≡ f x y)
+IsCallText (word ∷ a ∷ b ∷ []) call = (f : ℕ → ℕ → Call) × (calls_of_two word ≡ Some f) × (x : ℕ) × IsPlace a x
+    × (y : ℕ) × IsPlace b y × (call ≡ f x y)
 IsCallText (word ∷ a ∷ b ∷ c ∷ more) call = ⊥
 
 -- The fields of a line: the job first.
 abbrev pub IsEventText : List (List ℕ) → Moment → Event → Type 0
 IsEventText fields moment (Login n owner words) =
-    (job : List ℕ) × (pair : List ℕ) × (count : List ℕ) × (fields ≡ job ∷ codes "LOGIN" ∷ pair ∷ count ∷ []) × IsPlace job n × IsPair 12 pair owner × IsPlace count words
+    (job : List ℕ) × (pair : List ℕ) × (count : List ℕ) × (fields ≡ job ∷ codes "LOGIN" ∷ pair ∷ count ∷ [])
+    × IsPlace job n × IsPair 12 pair owner × IsPlace count words
 IsEventText fields moment (Deposit n address word) =
-    (job : List ℕ) × (place : List ℕ) × (value : List ℕ) × (fields ≡ job ∷ codes "DEP" ∷ place ∷ value ∷ []) × IsPlace job n × IsPlace place address × IsNumber 12 value word
+    (job : List ℕ) × (place : List ℕ) × (value : List ℕ) × (fields ≡ job ∷ codes "DEP" ∷ place ∷ value ∷ [])
+    × IsPlace job n × IsPlace place address × IsNumber 12 value word
 IsEventText fields moment (Examine n address) =
-    (job : List ℕ) × (place : List ℕ) × (fields ≡ job ∷ codes "EXA" ∷ place ∷ []) × IsPlace job n × IsPlace place address
+    (job : List ℕ) × (place : List ℕ) × (fields ≡ job ∷ codes "EXA" ∷ place ∷ []) × IsPlace job n
+    × IsPlace place address
 IsEventText fields moment (Calls n call at) =
-    (job : List ℕ) × (rest : List (List ℕ)) × (fields ≡ job ∷ rest) × IsPlace job n × IsCallText rest call × (at ≡ moment)
+    (job : List ℕ) × (rest : List (List ℕ)) × (fields ≡ job ∷ rest) × IsPlace job n × IsCallText rest call
+    × (at ≡ moment)
 
 abbrev pub IsEvent : List ℕ → Moment → Event → Type 0
 IsEvent text moment event = (fields : List (List ℕ)) × AreFields fields text × IsEventText fields moment event

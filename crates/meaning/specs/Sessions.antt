@@ -1,5 +1,6 @@
 -- Logging in, words of a core, RESET, and the list of a directory.
-use Rattle.std.specs.Prelude.{ℕ, ◌==◌, ◌&&◌, ◌||◌, nat_lt, nat_le, not, Bool, if◌then◌else◌, List, length, map, replicate, Option, Some, None, slice_index, slice_set, Result, Ok, Err}
+use Rattle.std.specs.Prelude.{ℕ, ◌==◌, ◌&&◌, ◌||◌, nat_lt, nat_le, not, Bool, if◌then◌else◌, List, length, map}
+use Rattle.std.specs.Prelude.{replicate, Option, Some, None, slice_index, slice_set, Result, Ok, Err}
 use Rattle.words36.specs.declared.names.FileName.{FileName}
 use Rattle.meaning.specs.Maps.{get, entries}
 use Rattle.meaning.specs.Files.{Directory}
@@ -23,7 +24,11 @@ login_answer n words =
 
 -- a job that logs in: nothing is left of one that had its number
 abbrev pub new_job : ℕ → ℕ → Job
-new_job ppn words = record { ppn = ppn; core = slice_set (replicate words 0) first_free rings_begin; channels = all_closed }
+new_job ppn words = record {
+  ppn = ppn;
+  core = slice_set (replicate words 0) first_free rings_begin;
+  channels = all_closed;
+}
 
 abbrev pub deposit_answer : Job → ℕ → Reply
 deposit_answer job address = if nat_lt address (length job.core) then Done else AddressCheck
@@ -32,7 +37,8 @@ abbrev pub deposit_done : Job → ℕ → ℕ → Job
 deposit_done job address word = record job { core = slice_set job.core address word }
 
 abbrev pub examine_answer : Job → ℕ → Reply
-examine_answer job address = if nat_lt address (length job.core) then Value (slice_index job.core address) else AddressCheck
+examine_answer job address = if nat_lt address (length job.core) then Value (slice_index job.core address)
+    else AddressCheck
 
 -- RESET: all channels are closed and what they wrote is dropped, the core kept but for that right half
 abbrev pub resets : Job → Reply × Job
@@ -41,11 +47,17 @@ resets job = (Done, record job { core = with_right job.core first_free rings_beg
 -- The list of a directory, by name and then extension.
 
 abbrev pub entry : FileName × Version → Entry
-entry e = record { name = e.0; protection = e.1.file.protection; date = e.1.file.date; blocks = blocks_of (length e.1.file.body) }
+entry e = record {
+  name = e.0;
+  protection = e.1.file.protection;
+  date = e.1.file.date;
+  blocks = blocks_of (length e.1.file.body);
+}
 
 abbrev pub listed : Job → ℕ → Option (Directory Version) → Result (List Entry) Reply
 listed job owner None = Err (Refused 1)
-listed job owner (Some d) = if may_look (directory_digit d.protection job.ppn owner) then Ok (map entry (entries d.files)) else Err (Refused 2)
+listed job owner (Some d) = if may_look (directory_digit d.protection job.ppn owner)
+    then Ok (map entry (entries d.files)) else Err (Refused 2)
 
 abbrev pub list_for : State → Option Job → ℕ → Result (List Entry) Reply
 list_for s None owner = Err NoJob

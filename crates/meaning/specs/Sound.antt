@@ -35,10 +35,12 @@ pub record AreAlike (v w : Version) : Type 0 where
 
 pub record IsSound (s : State) : Type 0 where
   -- a name has at most one output side
-  pub single : (n m ch k : ℕ) (o p : Output) → writes_at s n ch ≡ Some o → writes_at s m k ≡ Some p → same_place o.place p.place ≡ true → (n ≡ m) × (ch ≡ k)
+  pub single : (n m ch k : ℕ) (o p : Output) → writes_at s n ch ≡ Some o → writes_at s m k ≡ Some p
+      → same_place o.place p.place ≡ true → (n ≡ m) × (ch ≡ k)
   -- it is in a directory that is there
   pub housed : (n ch : ℕ) (o : Output) → writes_at s n ch ≡ Some o → IsSome (get s.files o.place.ppn)
   -- a file that is to be superseded or updated is there
-  pub present : (n ch : ℕ) (o : Output) → writes_at s n ch ≡ Some o → is_create o.kind ≡ false → IsSome (file_at s.files o.place)
+  pub present : (n ch : ℕ) (o : Output) → writes_at s n ch ≡ Some o → is_create o.kind ≡ false
+      → IsSome (file_at s.files o.place)
   -- a serial has one version, but for its protection
   pub serials : (v w : Version) → Exists s v → Exists s w → v.serial ≡ w.serial → AreAlike v w

@@ -1,5 +1,6 @@
 -- How numbers, names and fields are spelled in lines, whose letters are upper case.
-use Rattle.std.specs.Prelude.{◌≡◌, ℕ, ◌+◌, ◌*◌, ◌-◌, ◌^◌, ◌<◌, ◌≤◌, ◌==◌, ◌&&◌, ◌||◌, nat_le, not, Bool, true, List, [], ◌∷◌, ◌++◌, length, Option, Some, None}
+use Rattle.std.specs.Prelude.{◌≡◌, ℕ, ◌+◌, ◌*◌, ◌-◌, ◌^◌, ◌<◌, ◌≤◌, ◌==◌, ◌&&◌, ◌||◌, nat_le, not, Bool, true, List, []}
+use Rattle.std.specs.Prelude.{◌∷◌, ◌++◌, length, Option, Some, None}
 use Rattle.words36.specs.Words.{left, join}
 use Rattle.words36.specs.Sixbit.{sixbit}
 use Rattle.meaning.specs.declared.command.Spec.{Spec}
@@ -32,7 +33,8 @@ pub record IsField (text : List ℕ) : Type 0 where
 abbrev pub AreFields : List (List ℕ) → List ℕ → Type 0
 AreFields [] text = text ≡ []
 AreFields (f ∷ []) text = IsField f × (text ≡ f)
-AreFields (f ∷ g ∷ gs) text = IsField f × (gap : List ℕ) × Are is_space gap × (rest : List ℕ) × (text ≡ f ++ 32 ∷ (gap ++ rest)) × AreFields (g ∷ gs) rest
+AreFields (f ∷ g ∷ gs) text = IsField f × (gap : List ℕ) × Are is_space gap × (rest : List ℕ)
+    × (text ≡ f ++ 32 ∷ (gap ++ rest)) × AreFields (g ∷ gs) rest
 
 -- Numbers, in octal.
 

@@ -19,13 +19,20 @@ v1_untouched_copy = update 1 None v1
 
 -- the file's time is 23:59
 abbrev pub latest_rib : List ℕ
-latest_rib = 0o625142000000 ∷ 0o465757000000 ∷ 0o647064000000 ∷ 0o057026377777 ∷ 0o000010000020 ∷ 2 ∷ 1 ∷ 0 ∷ (replicate 8 0 ++ 0o000001000022 ∷ replicate 111 0)
+latest_rib = 0o625142000000 ∷ 0o465757000000 ∷ 0o647064000000 ∷ 0o057026377777 ∷ 0o000010000020 ∷ 2 ∷ 1
+    ∷ 0 ∷ (replicate 8 0 ++ 0o000001000022 ∷ replicate 111 0)
 
 abbrev pub v1_latest_minute : Contents
 v1_latest_minute = update 17 (Some latest_rib) v1
 
 abbrev pub latest_hello : File
-latest_hello = record { protection = 0o057; mode = 0; time = 1439; date = 4095; body = 0o442131446236 ∷ 0o064240000000 ∷ [] }
+latest_hello = record {
+  protection = 0o057;
+  mode = 0;
+  time = 1439;
+  date = 4095;
+  body = 0o442131446236 ∷ 0o064240000000 ∷ [];
+}
 
 abbrev pub latest_files : Files File
 latest_files = insert empty owner (record { protection = 0o775; quota = 0; files = insert empty foo_txt latest_hello })
@@ -77,14 +84,16 @@ v1_looping_directory = update 16 (Some looping_block) v1
 
 -- its time is 24:00
 abbrev pub late_rib : List ℕ
-late_rib = 0o625142000000 ∷ 0o465757000000 ∷ 0o647064000000 ∷ 0o057026407777 ∷ 0o000010000020 ∷ 2 ∷ 1 ∷ 0 ∷ (replicate 8 0 ++ 0o000001000022 ∷ replicate 111 0)
+late_rib = 0o625142000000 ∷ 0o465757000000 ∷ 0o647064000000 ∷ 0o057026407777 ∷ 0o000010000020 ∷ 2 ∷ 1
+    ∷ 0 ∷ (replicate 8 0 ++ 0o000001000022 ∷ replicate 111 0)
 
 abbrev pub v1_late_minute : Contents
 v1_late_minute = update 17 (Some late_rib) v1
 
 -- it has 129 words, which take two blocks, and one is named
 abbrev pub long_rib : List ℕ
-long_rib = 0o625142000000 ∷ 0o465757000000 ∷ 0o647064000000 ∷ 0o057000007777 ∷ 0o000010000020 ∷ 0o201 ∷ 1 ∷ 0 ∷ (replicate 8 0 ++ 0o000001000022 ∷ replicate 111 0)
+long_rib = 0o625142000000 ∷ 0o465757000000 ∷ 0o647064000000 ∷ 0o057000007777 ∷ 0o000010000020 ∷ 0o201
+    ∷ 1 ∷ 0 ∷ (replicate 8 0 ++ 0o000001000022 ∷ replicate 111 0)
 
 abbrev pub v1_too_long : Contents
 v1_too_long = update 17 (Some long_rib) v1
@@ -95,7 +104,8 @@ v1_damaged_data = update 18 None v1
 
 -- Its data block is the directory's block. The table has a bit for each block that is named.
 abbrev pub shared_rib : List ℕ
-shared_rib = 0o625142000000 ∷ 0o465757000000 ∷ 0o647064000000 ∷ 0o057000007777 ∷ 0o000010000020 ∷ 2 ∷ 1 ∷ 0 ∷ (replicate 8 0 ++ 0o000001000020 ∷ replicate 111 0)
+shared_rib = 0o625142000000 ∷ 0o465757000000 ∷ 0o647064000000 ∷ 0o057000007777 ∷ 0o000010000020 ∷ 2 ∷ 1
+    ∷ 0 ∷ (replicate 8 0 ++ 0o000001000020 ∷ replicate 111 0)
 
 abbrev pub shared_table : List ℕ
 shared_table = 0o777777000000 ∷ replicate 127 0

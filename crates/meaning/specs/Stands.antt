@@ -77,21 +77,24 @@ place_of ppn name = record { ppn = ppn; name = name }
 
 -- a directory's chain, with the prime block of each of its names
 abbrev pub IsFileDirectory : Contents → StoredDirectory → Type 0
-IsFileDirectory contents d = IsDirectory name_cmp file_words IsFileEntry contents d.chain (map_values (λ f. f.prime) d.files)
+IsFileDirectory contents d = IsDirectory name_cmp file_words IsFileEntry contents d.chain
+    (map_values (λ f. f.prime) d.files)
 
 -- A directory with all its files.
 pub record IsWhole (layout : ℕ) (contents : Contents) (ppn : ℕ) (d : StoredDirectory) : Type 0 where
   pub protection : d.protection < 512
   pub quota : d.quota < quota_limit layout
   pub chain : IsFileDirectory contents d
-  pub files : (name : FileName) (f : StoredFile) → get d.files name ≡ Some f → IsVersion layout contents (place_of ppn name) f
+  pub files : (name : FileName) (f : StoredFile) → get d.files name ≡ Some f
+      → IsVersion layout contents (place_of ppn name) f
 
 -- what the master directory says of a directory: its word, and its first block
 abbrev pub entry_of : StoredDirectory → ℕ × ℕ
 entry_of d = (master_word d.protection d.quota, head_or_zero d.chain)
 
 abbrev pub IsMasterDirectory : Contents → DiskMap → Type 0
-IsMasterDirectory contents m = IsDirectory nat_cmp master_words IsMasterEntry contents m.chain (map_values entry_of m.directories)
+IsMasterDirectory contents m = IsDirectory nat_cmp master_words IsMasterEntry contents m.chain
+    (map_values entry_of m.directories)
 
 abbrev pub home_of : DiskMap → Home
 home_of m = record { layout = m.layout; master = head_or_zero m.chain }

@@ -16,7 +16,8 @@ use Rattle.meaning.specs.Making.{makes, removes}
 use Rattle.meaning.specs.Sessions.{login_answer, new_job, deposit_answer, deposit_done, examine_answer, resets}
 use Rattle.meaning.specs.Outcomes.{settled}
 use Rattle.meaning.specs.declared.call.Call.{Call}
-use Rattle.meaning.specs.declared.call.Call.TheVariants.{Open, Inbuf, Outbuf, Lookup, Enter, Rename, In, Out, Useti, Useto, Close, Releas, Getsts, Reset, MakeDir, DeleteDir}
+use Rattle.meaning.specs.declared.call.Call.TheVariants.{Open, Inbuf, Outbuf, Lookup, Enter, Rename, In, Out, Useti}
+use Rattle.meaning.specs.declared.call.Call.TheVariants.{Useto, Close, Releas, Getsts, Reset, MakeDir, DeleteDir}
 use Rattle.meaning.specs.declared.call.Event.{Event}
 use Rattle.meaning.specs.declared.call.Event.TheVariants.{Login, Deposit, Examine, Call as Calls}
 use Rattle.meaning.specs.declared.call.Reply.{Reply}
@@ -49,17 +50,25 @@ open_on s n job ch a = if nat_le ch 15 then of_job s n (opens job ch a) else (No
 -- a call of a job that is logged in, a line for each row of the table
 abbrev pub call_of : Pack → ℕ → State → ℕ → Job → Call → Moment → Reply × State
 call_of pack serial s n job (Open ch a) moment = open_on s n job ch a
-call_of pack serial s n job (Inbuf ch k) moment = on_channel s (channel_at job ch) (λ c. of_job s n (sets_up job ch c c.input_header k))
-call_of pack serial s n job (Outbuf ch k) moment = on_channel s (channel_at job ch) (λ c. of_job s n (sets_up job ch c c.output_header k))
-call_of pack serial s n job (Lookup ch e) moment = on_channel s (channel_at job ch) (λ c. of_job s n (lookup pack s job ch c e))
-call_of pack serial s n job (Enter ch e) moment = on_channel s (channel_at job ch) (λ c. of_job s n (enter pack s job ch c e moment))
-call_of pack serial s n job (Rename ch e) moment = on_channel s (channel_at job ch) (λ c. of_files s n (renames pack s job ch c e))
+call_of pack serial s n job (Inbuf ch k) moment = on_channel s (channel_at job ch)
+    (λ c. of_job s n (sets_up job ch c c.input_header k))
+call_of pack serial s n job (Outbuf ch k) moment = on_channel s (channel_at job ch)
+    (λ c. of_job s n (sets_up job ch c c.output_header k))
+call_of pack serial s n job (Lookup ch e) moment = on_channel s (channel_at job ch)
+    (λ c. of_job s n (lookup pack s job ch c e))
+call_of pack serial s n job (Enter ch e) moment = on_channel s (channel_at job ch)
+    (λ c. of_job s n (enter pack s job ch c e moment))
+call_of pack serial s n job (Rename ch e) moment = on_channel s (channel_at job ch)
+    (λ c. of_files s n (renames pack s job ch c e))
 call_of pack serial s n job (In ch a) moment = on_channel s (channel_at job ch) (λ c. of_job s n (reads job ch c a))
-call_of pack serial s n job (Out ch a) moment = on_channel s (channel_at job ch) (λ c. of_job s n (puts pack s job ch c a))
+call_of pack serial s n job (Out ch a) moment = on_channel s (channel_at job ch)
+    (λ c. of_job s n (puts pack s job ch c a))
 call_of pack serial s n job (Useti ch k) moment = on_channel s (channel_at job ch) (λ c. of_job s n (useti job ch c k))
 call_of pack serial s n job (Useto ch k) moment = on_channel s (channel_at job ch) (λ c. of_job s n (useto job ch c k))
-call_of pack serial s n job (Close ch bits) moment = on_channel s (channel_at job ch) (λ c. of_files s n (closes pack serial s job ch c bits))
-call_of pack serial s n job (Releas ch) moment = on_channel s (channel_at job ch) (λ c. of_files s n (releases pack serial s job ch c))
+call_of pack serial s n job (Close ch bits) moment = on_channel s (channel_at job ch)
+    (λ c. of_files s n (closes pack serial s job ch c bits))
+call_of pack serial s n job (Releas ch) moment = on_channel s (channel_at job ch)
+    (λ c. of_files s n (releases pack serial s job ch c))
 call_of pack serial s n job (Getsts ch) moment = on_channel s (channel_at job ch) (λ c. (Value c.status, s))
 call_of pack serial s n job Reset moment = of_job s n (resets job)
 call_of pack serial s n job (MakeDir e) moment = of_files s n (makes pack s job e)
@@ -78,7 +87,8 @@ abbrev pub login : State → ℕ → ℕ → ℕ → Reply × State
 login s n ppn words = settled (login_answer n words) (with_job s n (new_job ppn words)) (λ reply. s)
 
 abbrev pub deposit : State → ℕ → Job → ℕ → ℕ → Reply × State
-deposit s n job address word = settled (deposit_answer job address) (with_job s n (deposit_done job address word)) (λ reply. s)
+deposit s n job address word = settled (deposit_answer job address) (with_job s n (deposit_done job address word))
+    (λ reply. s)
 
 -- `serial` is the one free choice: what a version gets that the event publishes.
 abbrev pub step : Pack → ℕ → State → Event → Reply × State

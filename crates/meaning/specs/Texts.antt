@@ -1,5 +1,6 @@
 -- What a session prints.
-use Rattle.std.specs.Prelude.{ℕ, ◌+◌, ◌-◌, ◌/◌, ◌%◌, ◌^◌, ◌==◌, ◌||◌, Bool, true, false, if◌then◌else◌, List, [], ◌∷◌, ◌++◌, length, replicate, flat_map, codes, Result, Ok, Err}
+use Rattle.std.specs.Prelude.{ℕ, ◌+◌, ◌-◌, ◌/◌, ◌%◌, ◌^◌, ◌==◌, ◌||◌, Bool, true, false, if◌then◌else◌, List, [], ◌∷◌}
+use Rattle.std.specs.Prelude.{◌++◌, length, replicate, flat_map, codes, Result, Ok, Err}
 use Rattle.std.specs.Fmt.{decimal}
 use Rattle.words36.specs.Words.{ppn_text}
 use Rattle.words36.specs.Sixbit.{characters}
@@ -8,7 +9,8 @@ use Rattle.meaning.specs.Maps.{total}
 use Rattle.meaning.specs.Lines.{feed}
 use Rattle.meaning.specs.declared.entry.Entry.{Entry}
 use Rattle.meaning.specs.declared.call.Reply.{Reply}
-use Rattle.meaning.specs.declared.call.Reply.TheVariants.{Done, Value, Refused, Stopped, NoChannel, AddressCheck, NoJob, NoMemory, Device, Failed, DateRange}
+use Rattle.meaning.specs.declared.call.Reply.TheVariants.{Done, Value, Refused, Stopped, NoChannel, AddressCheck, NoJob}
+use Rattle.meaning.specs.declared.call.Reply.TheVariants.{NoMemory, Device, Failed, DateRange}
 
 -- A text, and what is counted of its lines: whether one was refused, and whether one met a fault of the disk or
 -- came after it.
@@ -118,7 +120,8 @@ month_text month =
 
 -- a day: each month has 31 numbers
 abbrev pub day_text : ℕ → List ℕ
-day_text date = right_in 2 (decimal (date % 31 + 1)) ++ codes "-" ++ month_text (date / 31 % 12) ++ codes "-" ++ decimal (date / 372 + 1964)
+day_text date = right_in 2 (decimal (date % 31 + 1)) ++ codes "-" ++ month_text (date / 31 % 12) ++ codes "-"
+    ++ decimal (date / 372 + 1964)
 
 unfoldable pub entry_text : Entry → List ℕ
 entry_text e =
@@ -131,7 +134,8 @@ blocks_in entries = total (λ e. e.blocks) entries
 abbrev pub total_text : ℕ → List Entry → List ℕ
 total_text owner [] = line (codes "No files " ++ ppn_text owner)
 total_text owner (e ∷ es) =
-    line (codes "Total " ++ decimal (blocks_in (e ∷ es)) ++ codes " blocks in " ++ decimal (length (e ∷ es)) ++ codes " files " ++ ppn_text owner)
+    line (codes "Total " ++ decimal (blocks_in (e ∷ es)) ++ codes " blocks in " ++ decimal (length (e ∷ es))
+    ++ codes " files " ++ ppn_text owner)
 
 unfoldable pub listing : ℕ → List Entry → List ℕ
 listing owner entries = flat_map entry_text entries ++ total_text owner entries

@@ -16,7 +16,8 @@ use Rattle.meaning.specs.declared.call.Call.TheVariants.{Reset}
 use Rattle.meaning.specs.declared.call.Event.{Event}
 use Rattle.meaning.specs.declared.call.Event.TheVariants.{Login}
 use Rattle.meaning.specs.declared.call.Reply.{Reply}
-use Rattle.meaning.specs.declared.call.Reply.TheVariants.{Done, Value, Refused, Stopped, NoChannel, AddressCheck, NoJob, NoMemory, Device, Failed, DateRange}
+use Rattle.meaning.specs.declared.call.Reply.TheVariants.{Done, Value, Refused, Stopped, NoChannel, AddressCheck, NoJob}
+use Rattle.meaning.specs.declared.call.Reply.TheVariants.{NoMemory, Device, Failed, DateRange}
 
 -- Lines of a session, in which job 1 may be logged in.
 
@@ -34,11 +35,13 @@ core_words = 0o10000
 
 -- job 1 logs in, also a second time
 abbrev pub LogsIn : Option ℕ → ℕ → List Act → Spoken → Option ℕ → Type 0
-LogsIn who owner acts said then_who = (reply : Reply) × (acts ≡ Asks (Login 1 owner core_words) reply ∷ []) × (said ≡ login_said owner reply) × (then_who ≡ login_who who owner reply)
+LogsIn who owner acts said then_who = (reply : Reply) × (acts ≡ Asks (Login 1 owner core_words) reply ∷ [])
+    × (said ≡ login_said owner reply) × (then_who ≡ login_who who owner reply)
 
 -- any other line, which needs a job
 abbrev pub Acts : Moment → Option ℕ → Command → List Act → Spoken → Option ℕ → Type 0
-Acts moment None command acts said then_who = (acts ≡ []) × (said ≡ complains (codes "?Not logged in")) × (then_who ≡ None)
+Acts moment None command acts said then_who = (acts ≡ []) × (said ≡ complains (codes "?Not logged in"))
+    × (then_who ≡ None)
 Acts moment (Some me) command acts said then_who = Conducts (begins moment me command) acts said × (then_who ≡ Some me)
 
 -- What a line that means this asks, says, and who is logged in then.
@@ -50,8 +53,10 @@ Speaks moment who (Some command) acts said then_who = Acts moment who command ac
 abbrev pub IsTranscript : Moment → Option ℕ → List Line → List Act → Spoken → Option ℕ → Type 0
 IsTranscript moment who [] acts said then_who = (acts ≡ []) × (said ≡ silent) × (then_who ≡ who)
 IsTranscript moment who (line ∷ lines) acts said then_who =
-    (meant : Option Command) × Means line meant × (first : List Act) × (more : List Act) × (here : Spoken) × (there : Spoken) × (mid : Option ℕ)
-    × Speaks moment who meant first here mid × IsTranscript moment mid lines more there then_who × (acts ≡ first ++ more) × (said ≡ joined here there)
+    (meant : Option Command) × Means line meant × (first : List Act) × (more : List Act) × (here : Spoken)
+    × (there : Spoken) × (mid : Option ℕ)
+    × Speaks moment who meant first here mid × IsTranscript moment mid lines more there then_who
+    × (acts ≡ first ++ more) × (said ≡ joined here there)
 
 -- Lines of a call script.
 
@@ -73,7 +78,11 @@ refused_unless true = false
 refused_unless false = true
 
 abbrev pub reports : Reply → Spoken
-reports reply = record { text = line (written reply); refused = refused_unless (is_good reply); broke = is_broken reply }
+reports reply = record {
+  text = line (written reply);
+  refused = refused_unless (is_good reply);
+  broke = is_broken reply;
+}
 
 abbrev pub Orders : Option Event → List Act → Spoken → Type 0
 Orders None acts said = (acts ≡ []) × (said ≡ complains wrong)
@@ -82,7 +91,8 @@ Orders (Some event) acts said = (reply : Reply) × (acts ≡ Asks event reply �
 abbrev pub Scripts : Moment → List Line → List Act → Spoken → Type 0
 Scripts moment [] acts said = (acts ≡ []) × (said ≡ silent)
 Scripts moment (line ∷ lines) acts said =
-    (meant : Option Event) × MeansEvent line moment meant × (first : List Act) × (more : List Act) × (here : Spoken) × (there : Spoken)
+    (meant : Option Event) × MeansEvent line moment meant × (first : List Act) × (more : List Act) × (here : Spoken)
+    × (there : Spoken)
     × Orders meant first here × Scripts moment lines more there × (acts ≡ first ++ more) × (said ≡ joined here there)
 
 -- What becomes of the service meanwhile.
@@ -98,7 +108,8 @@ Went pack old (act ∷ acts) new = (mid : Service) × Does pack old act mid × W
 -- The same where no act met want of memory or a fault of the disk.
 abbrev pub Served : Pack → State → List Act → State → Type 0
 Served pack s [] after = after ≡ s
-Served pack s (Asks event reply ∷ acts) after = (mid : State) × Steps pack s event reply mid × Served pack mid acts after
+Served pack s (Asks event reply ∷ acts) after = (mid : State) × Steps pack s event reply mid
+    × Served pack mid acts after
 Served pack s (Looks owner answer ∷ acts) after = (answer ≡ list s 1 owner) × Served pack s acts after
 
 -- A whole input, answered at a moment by a service that was `old` before it and is `new` after it: with a session

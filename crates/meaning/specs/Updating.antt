@@ -32,7 +32,12 @@ update_answer pack s job place =
 abbrev pub output_updating : ℕ → Place → Version → Output
 output_updating digit place v =
     if may_update digit then record { place = place; kind = Update; pending = v.file; next = 1 }
-    else record { place = place; kind = Append (blocks_of (length v.file.body)); pending = v.file; next = blocks_of (length v.file.body) + 1 }
+    else record {
+      place = place;
+      kind = Append (blocks_of (length v.file.body));
+      pending = v.file;
+      next = blocks_of (length v.file.body) + 1;
+    }
 
 -- the input side becomes that version, its next block kept
 abbrev pub input_updating : Option Input → Option Version → Option Input

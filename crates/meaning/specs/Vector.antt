@@ -22,7 +22,8 @@ abbrev pub file_block : List ℕ
 file_block = 0 ∷ 1 ∷ 0o465757000000 ∷ 0o647064000000 ∷ 0o21 ∷ replicate 123 0
 
 abbrev pub rib_block : List ℕ
-rib_block = 0o625142000000 ∷ 0o465757000000 ∷ 0o647064000000 ∷ 0o057000007777 ∷ 0o000010000020 ∷ 2 ∷ 1 ∷ 0 ∷ (replicate 8 0 ++ 0o000001000022 ∷ replicate 111 0)
+rib_block = 0o625142000000 ∷ 0o465757000000 ∷ 0o647064000000 ∷ 0o057000007777 ∷ 0o000010000020 ∷ 2 ∷ 1
+    ∷ 0 ∷ (replicate 8 0 ++ 0o000001000022 ∷ replicate 111 0)
 
 abbrev pub data_block : List ℕ
 data_block = 0o442131446236 ∷ 0o064240000000 ∷ replicate 126 0

@@ -15,7 +15,8 @@ use Rattle.meaning.specs.Retrieval.{Prime, Run, IsRun, Extension, prime_block, e
 abbrev pub Leads : {E : Type 0} → (E → List ℕ) → Contents → ℕ → List (Node E) → ℕ → Type 0
 Leads words contents first [] last = first ≡ last
 Leads words contents first (node ∷ nodes) last =
-    (node.0 ≡ first) × (0 < first) × (next : ℕ) × (contents first ≡ Some (directory_block words next node.1)) × Leads words contents next nodes last
+    (node.0 ≡ first) × (0 < first) × (next : ℕ) × (contents first ≡ Some (directory_block words next node.1))
+    × Leads words contents next nodes last
 
 -- The same for extensions.
 abbrev pub LeadsOn : Contents → ℕ → List Extension → ℕ → Type 0
@@ -25,7 +26,8 @@ LeadsOn contents first (extension ∷ extensions) last =
     × (next : ℕ) × (contents first ≡ Some (extension_block extension.1 next)) × LeadsOn contents next extensions last
 
 -- These blocks of the master directory were walked, and `last` comes next.
-pub record IsMasterWalk (size : ℕ) (contents : Contents) (layout : ℕ) (nodes : List (Node MasterEntry)) (last : ℕ) : Type 0 where
+pub record IsMasterWalk (size : ℕ) (contents : Contents) (layout : ℕ) (nodes : List (Node MasterEntry))
+    (last : ℕ) : Type 0 where
   pub master : ℕ
   pub home : IsHome size contents (record { layout = layout; master = master })
   pub walk : Leads master_words contents master nodes last
@@ -38,7 +40,8 @@ pub record IsDirectoryNamed (size : ℕ) (contents : Contents) (layout ppn word 
   pub entry : find nat_cmp ppn (items nodes) ≡ Some (word, first)
 
 -- These blocks of the directory were walked, and `last` comes next.
-pub record IsDirectoryWalk (size : ℕ) (contents : Contents) (layout ppn : ℕ) (nodes : List (Node FileEntry)) (last : ℕ) : Type 0 where
+pub record IsDirectoryWalk (size : ℕ) (contents : Contents) (layout ppn : ℕ) (nodes : List (Node FileEntry))
+    (last : ℕ) : Type 0 where
   pub word : ℕ
   pub first : ℕ
   pub named : IsDirectoryNamed size contents layout ppn word first

@@ -27,7 +27,8 @@ impl Flags for Act {
 
     ghost exact = { ⊤ };
 
-    ghost table = { (codes "EXECUTE", 1) ∷ (codes "READ", 2) ∷ (codes "APPEND", 4) ∷ (codes "UPDATE", 8) ∷ (codes "SUPERSEDE", 16) ∷ (codes "RENAME", 32) ∷ (codes "PROTECT", 64) ∷ [] };
+    ghost table = { (codes "EXECUTE", 1) ∷ (codes "READ", 2) ∷ (codes "APPEND", 4) ∷ (codes "UPDATE", 8)
+        ∷ (codes "SUPERSEDE", 16) ∷ (codes "RENAME", 32) ∷ (codes "PROTECT", 64) ∷ [] };
 
     ghost set_of = { λ a. a.0 };
 

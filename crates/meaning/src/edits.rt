@@ -1,6 +1,7 @@
 ghost use Rattle.std.specs.Ordering.{nat_cmp};
 ghost use Rattle.meaning.specs.Directories.{file_words, IsFileEntry, master_words, IsMasterEntry};
-ghost use Rattle.meaning.specs.Edits.{EntryReplaced, EntryAdded, ChainGrown, EntryRemoved, EntryRemovedMoved, LastDropped, HoleFilled, HoleFilledAdjacent, HoleFilledDropped, ChainCosts};
+ghost use Rattle.meaning.specs.Edits.{EntryReplaced, EntryAdded, ChainGrown, EntryRemoved, EntryRemovedMoved};
+ghost use Rattle.meaning.specs.Edits.{LastDropped, HoleFilled, HoleFilledAdjacent, HoleFilledDropped, ChainCosts};
 ghost use Rattle.meaning.specs.Files.{name_cmp};
 
 /// A directory's chain after each edit of it is the directory with the edit made.

@@ -19,33 +19,40 @@ ghost use Rattle.meaning.specs.Vector.{v1, v1_files, v1_open};
 
 /// Contents stand for at most one map of files.
 pub fn one_meaning()
-    ensures { (size : ℕ) (contents : Contents) (f g : Files File) → Stands size contents f → Stands size contents g → f ≡ g }
+    ensures { (size : ℕ) (contents : Contents) (f g : Files File) → Stands size contents f → Stands size contents g
+        → f ≡ g }
 {}
 
 /// Whatever comes to stand in blocks that are free in the settled contents, the contents stand for the
 /// same files.
 pub fn quiet_writes()
-    ensures { (size : ℕ) (old new : Contents) (files : Files File) (s : Stands size old files) → DifferInFree size s.0 old new → Stands size new files }
+    ensures { (size : ℕ) (old new : Contents) (files : Files File) (s : Stands size old files)
+        → DifferInFree size s.0 old new → Stands size new files }
 {}
 
 /// Gate and log are no part of what settled contents stand for.
 pub fn log_is_no_part()
-    ensures { (size : ℕ) (old new : Contents) (m : DiskMap) → SameOutsideLog size old new → HasMap size old m → HasMap size new m }
+    ensures { (size : ℕ) (old new : Contents) (m : DiskMap) → SameOutsideLog size old new → HasMap size old m
+        → HasMap size new m }
 {}
 
 /// A directory's chain stays where its blocks do.
 pub fn chains_are_kept()
     ensures files { (old new : Contents) (blocks : List ℕ) (m : FinMap name_cmp ℕ)
-        → IsDirectory name_cmp file_words IsFileEntry old blocks m → AgreeOn blocks old new → IsDirectory name_cmp file_words IsFileEntry new blocks m }
+        → IsDirectory name_cmp file_words IsFileEntry old blocks m → AgreeOn blocks old new
+        → IsDirectory name_cmp file_words IsFileEntry new blocks m }
     ensures master { (old new : Contents) (blocks : List ℕ) (m : FinMap nat_cmp (ℕ × ℕ))
-        → IsDirectory nat_cmp master_words IsMasterEntry old blocks m → AgreeOn blocks old new → IsDirectory nat_cmp master_words IsMasterEntry new blocks m }
+        → IsDirectory nat_cmp master_words IsMasterEntry old blocks m → AgreeOn blocks old new
+        → IsDirectory nat_cmp master_words IsMasterEntry new blocks m }
 {}
 
 /// What is retrieved stays where the retrieval blocks do, and a body where the data blocks do.
 pub fn versions_are_kept()
     ensures retrieved { (layout : ℕ) (old new : Contents) (p : Prime) (prime : ℕ) (extensions blocks : List ℕ)
-        → IsRetrieved layout old p prime extensions blocks → AgreeOn (prime ∷ extensions) old new → IsRetrieved layout new p prime extensions blocks }
-    ensures body { (old new : Contents) (blocks body : List ℕ) → HasBody old blocks body → AgreeOn blocks old new → HasBody new blocks body }
+        → IsRetrieved layout old p prime extensions blocks → AgreeOn (prime ∷ extensions) old new
+        → IsRetrieved layout new p prime extensions blocks }
+    ensures body { (old new : Contents) (blocks body : List ℕ) → HasBody old blocks body → AgreeOn blocks old new
+        → HasBody new blocks body }
     ensures version { (layout : ℕ) (old new : Contents) (place : Place) (f : StoredFile)
         → IsVersion layout old place f → AgreeOn (blocks_of_file f) old new → IsVersion layout new place f }
 {}
@@ -58,7 +65,8 @@ pub fn versions_fit_their_cost()
 
 /// A map of the disk reaches no more blocks than its files cost.
 pub fn maps_fit_their_cost()
-    ensures { (disk_size : ℕ) (contents : Contents) (m : DiskMap) → HasMap disk_size contents m → size_of_map m ≤ cost_of_files (files_of m) }
+    ensures { (disk_size : ℕ) (contents : Contents) (m : DiskMap) → HasMap disk_size contents m
+        → size_of_map m ≤ cost_of_files (files_of m) }
 {}
 
 /// The bits that are set are those of the fixed regions, and as many as the map reaches.

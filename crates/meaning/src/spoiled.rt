@@ -1,6 +1,10 @@
-ghost use Rattle.meaning.specs.Faults.{HasFault, NotVolume, BadHome, BadLog, BadDirectory, BadRetrieval, BlockTwice, TableWrong, BadData};
+ghost use Rattle.meaning.specs.Faults.{HasFault, NotVolume, BadHome, BadLog, BadDirectory, BadRetrieval, BlockTwice};
+ghost use Rattle.meaning.specs.Faults.{TableWrong, BadData};
 ghost use Rattle.meaning.specs.Files.{File, Files};
-ghost use Rattle.meaning.specs.Spoiled.{v1_untouched_copy, v1_latest_minute, latest_files, v1_not_volume, v1_bad_home, v1_bad_log, v1_too_many_entries, v1_late_minute, v1_too_long, v1_damaged_data, v1_bit_past_the_end, v1_looping_directory, v1_extra_bit, v1_shared_block, v1_closed_gate};
+ghost use Rattle.meaning.specs.Spoiled.{v1_untouched_copy, v1_latest_minute, latest_files, v1_not_volume, v1_bad_home};
+ghost use Rattle.meaning.specs.Spoiled.{v1_bad_log, v1_too_many_entries, v1_late_minute, v1_too_long, v1_damaged_data};
+ghost use Rattle.meaning.specs.Spoiled.{v1_bit_past_the_end, v1_looping_directory, v1_extra_bit, v1_shared_block};
+ghost use Rattle.meaning.specs.Spoiled.{v1_closed_gate};
 ghost use Rattle.meaning.specs.Stands.{Stands};
 ghost use Rattle.meaning.specs.Vector.{v1_files};
 
@@ -23,5 +27,6 @@ pub fn spoiled_images()
     ensures extra_bit { HasFault 64 v1_extra_bit (TableWrong 14) }
     ensures shared_block { HasFault 64 v1_shared_block (BlockTwice 16) }
     ensures closed_gate { Stands 64 v1_closed_gate v1_files }
-    ensures no_files { (files : Files File) → (Stands 64 v1_shared_block files → ⊥) × (Stands 64 v1_damaged_data files → ⊥) }
+    ensures no_files { (files : Files File) → (Stands 64 v1_shared_block files → ⊥)
+        × (Stands 64 v1_damaged_data files → ⊥) }
 {}

@@ -26,7 +26,8 @@ impl Flags for IoStatus {
 
     ghost exact = { ⊤ };
 
-    ghost table = { (codes "IMP", 131072) ∷ (codes "DER", 65536) ∷ (codes "DTE", 32768) ∷ (codes "BKT", 16384) ∷ (codes "EOF", 8192) ∷ (codes "KEPT", 8191) ∷ [] };
+    ghost table = { (codes "IMP", 131072) ∷ (codes "DER", 65536) ∷ (codes "DTE", 32768) ∷ (codes "BKT", 16384)
+        ∷ (codes "EOF", 8192) ∷ (codes "KEPT", 8191) ∷ [] };
 
     ghost set_of = { λ s. s.0 };
 

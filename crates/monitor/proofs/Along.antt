@@ -1,5 +1,6 @@
 -- What a crash leaves of a disk that served a list of events.
-use Rattle.std.proofs.Common.{◌≡◌, ◌⊎◌, inl, inr, ⊎_elim, ℕ, List, [], ◌∷◌, Result, Ok, Err, IfOk, refl, sym, subst, ◌∙◌}
+use Rattle.std.proofs.Common.{◌≡◌, ◌⊎◌, inl, inr, ⊎_elim, ℕ, List, [], ◌∷◌, Result, Ok, Err, IfOk, refl, sym, subst}
+use Rattle.std.proofs.Common.{◌∙◌}
 use Rattle.std.specs.Prelude.{IfErr}
 use Rattle.blockdisk.specs.Disk.{Contents, DiskState, MayLeave, Still, LeavesOnly}
 use Rattle.blockdisk.specs.Laws.{same_contents, leaves_weaker}
@@ -19,24 +20,31 @@ use Rattle.meaning.proofs.ExcludedFiles.{fault_excludes}
 use Rattle.meaning.proofs.Settled.{settled_same}
 use Rattle.volume.specs.FaultsFound.{Refuses}
 use Rattle.volume.specs.declared.error.VolumeError.{VolumeError}
-use Rattle.volume.specs.declared.error.VolumeError.TheVariants.{NotVolume, BadHome, BadLog, BadDirectory, BadRetrieval, BlockTwice, TableWrong, Device, NoMemory, Failed, BadData}
+use Rattle.volume.specs.declared.error.VolumeError.TheVariants.{NotVolume, BadHome, BadLog, BadDirectory, BadRetrieval}
+use Rattle.volume.specs.declared.error.VolumeError.TheVariants.{BlockTwice, TableWrong, Device, NoMemory, Failed}
+use Rattle.volume.specs.declared.error.VolumeError.TheVariants.{BadData}
 use Rattle.volume.proofs.Starting.{stands_ignores_gate}
 use Rattle.volume.specs.Rest.{StandsLikeBefore}
 use Rattle.monitor.specs.Runs.{IsAlong, HasStarted, AreStopped}
 
-module _ (pack : Pack) (d : DiskState) (only_now : (c : Contents) → d.left_since d.clock c → MayLeave d c) (c : Contents) where
+module _ (pack : Pack) (d : DiskState) (only_now : (c : Contents) → d.left_since d.clock c
+    → MayLeave d c) (c : Contents) where
   abbrev Found : State → List Event → List Reply → Type 0
   Found s events replies = (found : State) × IsAlong pack (Serving s) events replies found × StandsForState pack found c
 
   -- before the first event or after it
-  at_first : (s : State) (event : Event) (events : List Event) (reply : Reply) (replies : List Reply) → StandsForEither pack s event reply c → Found s (event ∷ events) (reply ∷ replies)
-  at_first s event events reply replies either = ⊎_elim (λ before. (s, inl refl, before)) (λ after. ((step pack 0 s event).1, inr (inl (after.0, refl)), after.1)) either
+  at_first : (s : State) (event : Event) (events : List Event) (reply : Reply) (replies : List Reply)
+      → StandsForEither pack s event reply c → Found s (event ∷ events) (reply ∷ replies)
+  at_first s event events reply replies either = ⊎_elim (λ before. (s, inl refl, before))
+      (λ after. ((step pack 0 s event).1, inr (inl (after.0, refl)), after.1)) either
 
-  pub along : (t : ℕ) (s : State) (events : List Event) (replies : List Reply) (new : Service) → RunsOn pack d t (Serving s) events replies new → d.left_since t c → Found s events replies
+  pub along : (t : ℕ) (s : State) (events : List Event) (replies : List Reply) (new : Service)
+      → RunsOn pack d t (Serving s) events replies new → d.left_since t c → Found s events replies
   along t s [] [] new r left = (s, refl, r.2 c (only_now c (subst (λ k. d.left_since k c) r.1 left)))
   along t s [] (reply ∷ replies) new r left = absurd r
   along t s (event ∷ events) [] new r left = absurd r
-  along t s (event ∷ events) (reply ∷ replies) new (Broken, a, r) left = at_first s event events reply replies (r.1 c left)
+  along t s (event ∷ events) (reply ∷ replies) new (Broken, a, r) left = at_first s event events reply replies
+      (r.1 c left)
   along t s (event ∷ events) (reply ∷ replies) new (Serving mid, a, r) left = ⊎_elim
       (λ later. let on = along r.0 mid events replies new r.3 later in (on.0, inr (inr (Serving mid, a, on.1)), on.2))
       (λ either. at_first s event events reply replies either)
@@ -45,7 +53,8 @@ module _ (pack : Pack) (d : DiskState) (only_now : (c : Contents) → d.left_sin
 -- Starts that were stopped.
 
 -- what the last of them left stands for whatever something stood for that the disk d left since moment t
-pub stopped_like : {E : Type 0} (state : E → DiskState) (d : DiskState) (t : ℕ) (starts : List (E × E)) (left : Contents) → AreStopped state d t starts left
+pub stopped_like : {E : Type 0} (state : E → DiskState) (d : DiskState) (t : ℕ) (starts : List (E × E))
+    (left : Contents) → AreStopped state d t starts left
     → (c : Contents) × d.left_since t c × ((files : Files File) → Stands d.size c files → Stands d.size left files)
 stopped_like state d t [] left r = (left, r, λ files stands. stands)
 stopped_like state d t ((begun, ended) ∷ starts) left r =
@@ -54,32 +63,44 @@ stopped_like state d t ((begun, ended) ∷ starts) left r =
       first.0,
       r.0.left first.0 first.1,
       λ files stands.
-          subst (λ n. Stands n left files) (r.2 ∙ r.0.size) (on.2 files (subst (λ n. Stands n on.0 files) (sym r.2) (first.2 files (subst (λ n. Stands n first.0 files) (sym r.0.size) stands)))),
+          subst (λ n. Stands n left files) (r.2
+          ∙ r.0.size) (on.2 files (subst (λ n. Stands n on.0 files) (sym r.2)
+          (first.2 files (subst (λ n. Stands n first.0 files) (sym r.0.size) stands)))),
     )
 
 -- a start over what stands for the same files whatever a crash may leave of it leaves the same at any moment
-pub stands_again : (s s' : DiskState) (files : Files File) → ((c : Contents) → MayLeave s c → Stands s.size c files) → HasStarted s s' → LeavesOnly s s' (λ c. Stands s.size c files)
-stands_again s s' files all started = leaves_weaker s s' (StandsLikeBefore s) (λ c. Stands s.size c files) started (λ c like. like.2 files (all like.0 like.1))
+pub stands_again : (s s' : DiskState) (files : Files File) → ((c : Contents) → MayLeave s c → Stands s.size c files)
+    → HasStarted s s' → LeavesOnly s s' (λ c. Stands s.size c files)
+stands_again s s' files all started = leaves_weaker s s' (StandsLikeBefore s) (λ c. Stands s.size c files) started
+    (λ c like. like.2 files (all like.0 like.1))
 
 -- Contents that stood for files have no fault after the recovery either.
 
-stands_after : (s s' : DiskState) (files : Files File) → Stands s.size s.contents files → Still s s' ⊎ IsRecovered s.size s.contents s'.contents → Stands s.size s'.contents files
+stands_after : (s s' : DiskState) (files : Files File) → Stands s.size s.contents files
+    → Still s s' ⊎ IsRecovered s.size s.contents s'.contents → Stands s.size s'.contents files
 stands_after s s' files stands = ⊎_elim
-    (λ (still : Still s s'). subst (λ x. Stands s.size x files) (sym (same_contents s.contents s'.contents still.contents)) stands)
+    (λ (still : Still s s'). subst (λ x. Stands s.size x files)
+    (sym (same_contents s.contents s'.contents still.contents)) stands)
     (λ (recovered : IsRecovered s.size s.contents s'.contents). (
       s'.contents,
       inl (recovered.gate, λ n. refl),
-      stands_ignores_gate s.size files recovered.settled s'.contents recovered.others (subst (λ x. SettledStands s.size x files) (settled_same s.size s.contents stands.0 recovered.settled stands.1 recovered.is_settled) stands.2),
+      stands_ignores_gate s.size files recovered.settled s'.contents recovered.others
+          (subst (λ x. SettledStands s.size x files)
+          (settled_same s.size s.contents stands.0 recovered.settled stands.1 recovered.is_settled) stands.2),
     ))
 
-pub no_fault : (s s' : DiskState) (files : Files File) → Stands s.size s.contents files → (error : VolumeError) → Refuses s.size s'.contents error → ((error ≡ Device → ⊥) → Still s s' ⊎ IsRecovered s.size s.contents s'.contents)
+pub no_fault : (s s' : DiskState) (files : Files File) → Stands s.size s.contents files → (error : VolumeError)
+    → Refuses s.size s'.contents error → ((error ≡ Device → ⊥) → Still s s' ⊎ IsRecovered s.size s.contents s'.contents)
     → (error ≡ NoMemory) ⊎ (error ≡ Device)
 no_fault s s' files stands = by_error
   where
-    none : (fault : StartFault) → HasFault s.size s'.contents fault → Still s s' ⊎ IsRecovered s.size s.contents s'.contents → ⊥
+    none : (fault : StartFault) → HasFault s.size s'.contents fault
+        → Still s s' ⊎ IsRecovered s.size s.contents s'.contents → ⊥
     none fault has kept = fault_excludes s.size s'.contents files fault has (stands_after s s' files stands kept)
 
-    by_error : (error : VolumeError) → Refuses s.size s'.contents error → ((error ≡ Device → ⊥) → Still s s' ⊎ IsRecovered s.size s.contents s'.contents) → (error ≡ NoMemory) ⊎ (error ≡ Device)
+    by_error : (error : VolumeError) → Refuses s.size s'.contents error
+        → ((error ≡ Device → ⊥) → Still s s' ⊎ IsRecovered s.size s.contents s'.contents)
+        → (error ≡ NoMemory) ⊎ (error ≡ Device)
     by_error NotVolume is kept = absurd (none faults.StartFault.NotVolume is (kept (λ e. cc)))
     by_error BadHome is kept = absurd (none faults.StartFault.BadHome is (kept (λ e. cc)))
     by_error BadLog is kept = absurd (none faults.StartFault.BadLog is (kept (λ e. cc)))
@@ -94,14 +115,17 @@ no_fault s s' files stands = by_error
 
 -- Results.
 
-pub ok_each : {A E X : Type 0} (Q : X → Type 0) (H : A → Type 0) (P : X → A → Type 0) (r : Result A E) → ((x : X) → Q x → IfOk r (λ a. H a → P x a)) → IfOk r (λ a. H a → (x : X) → Q x → P x a)
+pub ok_each : {A E X : Type 0} (Q : X → Type 0) (H : A → Type 0) (P : X → A → Type 0) (r : Result A E)
+    → ((x : X) → Q x → IfOk r (λ a. H a → P x a)) → IfOk r (λ a. H a → (x : X) → Q x → P x a)
 ok_each Q H P (Ok a) each = λ h x q. each x q h
 ok_each Q H P (Err e) each = tt
 
-pub err_both : {A E : Type 0} (P Q R : E → Type 0) (r : Result A E) → ((e : E) → P e → Q e → R e) → IfErr r P → IfErr r Q → IfErr r R
+pub err_both : {A E : Type 0} (P Q R : E → Type 0) (r : Result A E) → ((e : E) → P e → Q e → R e) → IfErr r P
+    → IfErr r Q → IfErr r R
 err_both P Q R (Ok a) both p q = tt
 err_both P Q R (Err e) both p q = both e p q
 
-pub ok_either : {A E : Type 0} (H P Q : A → Type 0) (r : Result A E) → IfOk r (λ a. H a → P a) ⊎ IfOk r (λ a. H a → Q a) → IfOk r (λ a. H a → P a ⊎ Q a)
+pub ok_either : {A E : Type 0} (H P Q : A → Type 0) (r : Result A E) → IfOk r (λ a. H a → P a) ⊎ IfOk r (λ a. H a → Q a)
+    → IfOk r (λ a. H a → P a ⊎ Q a)
 ok_either H P Q (Ok a) either = λ h. ⊎_elim (λ p. inl (p h)) (λ q. inr (q h)) either
 ok_either H P Q (Err e) either = tt

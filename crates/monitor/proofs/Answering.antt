@@ -1,5 +1,6 @@
 -- What the monitor answers to an event is what the machine does.
-use Rattle.std.proofs.Common.{◌≡◌, ◌<◌, ◌≤◌, ◌+◌, ℕ, Bool, true, false, nat_lt, List, [], ◌∷◌, ◌++◌, Option, None, Some, refl, sym, ap, subst, ◌∙◌, ◌⊎◌, inl, inr, arith}
+use Rattle.std.proofs.Common.{◌≡◌, ◌<◌, ◌≤◌, ◌+◌, ℕ, Bool, true, false, nat_lt, List, [], ◌∷◌, ◌++◌, Option, None, Some}
+use Rattle.std.proofs.Common.{refl, sym, ap, subst, ◌∙◌, ◌⊎◌, inl, inr, arith}
 use Rattle.std.proofs.lemmas.Bool.Decides.{nat_tests}
 use Rattle.std.specs.Prelude.{◌==◌, if◌then◌else◌, option_map, slice_set}
 use Rattle.words36.specs.declared.moment.Moment.{Moment}
@@ -19,7 +20,8 @@ use Rattle.meaning.specs.declared.call.Call.{Call}
 use Rattle.meaning.specs.declared.call.Event.{Event}
 use Rattle.meaning.specs.declared.call.Event.TheVariants.{Login, Call as Calls}
 use Rattle.meaning.specs.declared.call.Reply.{Reply}
-use Rattle.meaning.specs.declared.call.Reply.TheVariants.{Done, Value, Refused, Stopped, NoChannel, AddressCheck, NoJob, NoMemory, Device, Failed, DateRange}
+use Rattle.meaning.specs.declared.call.Reply.TheVariants.{Done, Value, Refused, Stopped, NoChannel, AddressCheck, NoJob}
+use Rattle.meaning.specs.declared.call.Reply.TheVariants.{NoMemory, Device, Failed, DateRange}
 use Rattle.meaning.proofs.SoundEvents.{sound_step}
 use Rattle.volume.specs.Live.{VolumeCore}
 use Rattle.monitor.specs.Dropping.{Leaves}
@@ -49,7 +51,8 @@ pub is_fresh : (s : State) → IsFresh s (next_serial s)
 is_fresh s = none_has (current s ++ held s) (next_serial s) (omega arith)
 
 -- An event that chooses no serial.
-pub steps_on : (pack : Pack) (s : State) (event : Event) (reply : Reply) (after : State) → ((serial : ℕ) → step pack serial s event ≡ (reply, after)) → Steps pack s event reply after
+pub steps_on : (pack : Pack) (s : State) (event : Event) (reply : Reply) (after : State)
+    → ((serial : ℕ) → step pack serial s event ≡ (reply, after)) → Steps pack s event reply after
 steps_on pack s event reply after steps = (next_serial s, is_fresh s, steps (next_serial s))
 
 pub is_done : (reply : Reply) → (reply ≡ Done) ⊎ (reply ≡ Done → ⊥)
@@ -66,7 +69,8 @@ is_done Failed = inr (λ e. cc e)
 is_done DateRange = inr (λ e. cc e)
 
 -- what isn't done leaves what it leaves
-pub settled_other : {A : Type 0} (reply : Reply) (done other : A) → (reply ≡ Done → ⊥) → settled reply done (λ r. other) ≡ (reply, other)
+pub settled_other : {A : Type 0} (reply : Reply) (done other : A) → (reply ≡ Done → ⊥)
+    → settled reply done (λ r. other) ≡ (reply, other)
 settled_other Done done other not_done = absurd (not_done refl)
 settled_other (Value word) done other not_done = refl
 settled_other (Refused code) done other not_done = refl
@@ -79,7 +83,8 @@ settled_other Device done other not_done = refl
 settled_other Failed done other not_done = refl
 settled_other DateRange done other not_done = refl
 
-pub settled_with : {A : Type 0} (reply : Reply) (done : A) (other : Reply → A) → (reply ≡ Done → ⊥) → settled reply done other ≡ (reply, other reply)
+pub settled_with : {A : Type 0} (reply : Reply) (done : A) (other : Reply → A) → (reply ≡ Done → ⊥)
+    → settled reply done other ≡ (reply, other reply)
 settled_with Done done other not_done = absurd (not_done refl)
 settled_with (Value word) done other not_done = refl
 settled_with (Refused code) done other not_done = refl
@@ -109,18 +114,23 @@ pub contrary : {b : Bool} → b ≡ false → b ≡ true → ⊥
 contrary not is = cc (not, is)
 
 -- A service that serves is in a state.
-pub in_state : (d : DiskState) (map : VolumeCore) (failed : Bool) (jobs : List (Option Job)) (P : Service → Type 0) → failed ≡ false → ((s : State) → IsState d map jobs s → P (Serving s))
+pub in_state : (d : DiskState) (map : VolumeCore) (failed : Bool) (jobs : List (Option Job)) (P : Service → Type 0)
+    → failed ≡ false → ((s : State) → IsState d map jobs s → P (Serving s))
     → (service : Service) → Serves d map failed jobs service → P service
 in_state d map failed jobs P serves by Broken broken = absurd (contrary serves broken)
 in_state d map failed jobs P serves by (Serving s) state = by s state.1
 
 -- the state, by what the jobs stand for
-pub state_is : (s : State) (w : UnderKeys) (jobs : List (Option Job)) → s.jobs ≡ jobs_of w jobs → s ≡ state_of s.files w jobs
+pub state_is : (s : State) (w : UnderKeys) (jobs : List (Option Job)) → s.jobs ≡ jobs_of w jobs
+    → s ≡ state_of s.files w jobs
 state_is s w jobs is = λ i. record s { jobs = is i }
 
--- An event that leaves the disk and the files as they were, and at most drops what was being written, and lets go what was read.
-module _ (d : DiskState) (map map' : VolumeCore) (failed : Bool) (jobs jobs' : List (Option Job)) (keyed : AreKeyed map'.pending jobs') (reading : AreReading map'.live jobs') (leaves : Leaves map map') where
-  pub same_files : (s : State) (state : IsState d map jobs s) → IsSound (state_of s.files state.under jobs') → IsState d map' jobs' (state_of s.files state.under jobs')
+-- An event that leaves the disk and the files as they were, and at most drops what was being written, and lets go what
+-- was read.
+module _ (d : DiskState) (map map' : VolumeCore) (failed : Bool) (jobs jobs' : List (Option Job))
+    (keyed : AreKeyed map'.pending jobs') (reading : AreReading map'.live jobs') (leaves : Leaves map map') where
+  pub same_files : (s : State) (state : IsState d map jobs s) → IsSound (state_of s.files state.under jobs')
+      → IsState d map' jobs' (state_of s.files state.under jobs')
   same_files s state sound = record {
     files = state.files;
     serials = state.serials;
@@ -135,27 +145,41 @@ module _ (d : DiskState) (map map' : VolumeCore) (failed : Bool) (jobs jobs' : L
   }
 
   -- it answers as the machine's row does, whatever is being written
-  pub row : (pack : Pack) (event : Event) (reply : Reply) → ((serial : ℕ) (files : Files Version) (w : UnderKeys) → step pack serial (state_of files w jobs) event ≡ (reply, state_of files w jobs'))
-      → failed ≡ false → (old : Service) → Serves d map failed jobs old → (new : Service) × Serves d map' failed jobs' new × Answers pack old event reply new
-  row pack event reply by serves = in_state d map failed jobs (λ old. (new : Service) × Serves d map' failed jobs' new × Answers pack old event reply new) serves (λ s state.
+  pub row : (pack : Pack) (event : Event) (reply : Reply) → ((serial : ℕ) (files : Files Version) (w : UnderKeys)
+      → step pack serial (state_of files w jobs) event ≡ (reply, state_of files w jobs'))
+      → failed ≡ false → (old : Service) → Serves d map failed jobs old → (new : Service)
+      × Serves d map' failed jobs' new × Answers pack old event reply new
+  row pack event reply by serves = in_state d map failed jobs (λ old. (new : Service) × Serves d map' failed jobs' new
+      × Answers pack old event reply new) serves (λ s state.
       let after = state_of s.files state.under jobs' in
-      let steps : (serial : ℕ) → step pack serial s event ≡ (reply, after) = λ serial. subst (λ t. step pack serial t event ≡ (reply, after)) (sym (state_is s state.under jobs state.jobs_are)) (by serial s.files state.under) in
-      let sound = subst (λ (r : Reply × State). IsSound r.1) (steps (next_serial s)) (sound_step pack (next_serial s) s event (is_fresh s) state.sound) in
+      let steps : (serial : ℕ) → step pack serial s event
+      ≡ (reply, after) = λ serial. subst (λ t. step pack serial t event ≡ (reply, after))
+      (sym (state_is s state.under jobs state.jobs_are)) (by serial s.files state.under) in
+      let sound = subst (λ (r : Reply × State). IsSound r.1) (steps (next_serial s))
+      (sound_step pack (next_serial s) s event (is_fresh s) state.sound) in
       (Serving after, (serves, same_files s state sound), inl (steps_on pack s event reply after steps)))
 
 -- An event that goes on to a state that the monitor stands for after it.
-pub goes_on : (d : DiskState) (map' : VolumeCore) (failed : Bool) (jobs' : List (Option Job)) (pack : Pack) (event : Event) (reply : Reply) (s after : State) → failed ≡ false → IsSound s → ((serial : ℕ) → step pack serial s event ≡ (reply, after))
-    → (IsSound after → IsState d map' jobs' after) → (new : Service) × Serves d map' failed jobs' new × Answers pack (Serving s) event reply new
+pub goes_on : (d : DiskState) (map' : VolumeCore) (failed : Bool) (jobs' : List (Option Job)) (pack : Pack)
+    (event : Event) (reply : Reply) (s after : State) → failed ≡ false → IsSound s
+    → ((serial : ℕ) → step pack serial s event ≡ (reply, after))
+    → (IsSound after → IsState d map' jobs' after) → (new : Service) × Serves d map' failed jobs' new
+    × Answers pack (Serving s) event reply new
 goes_on d map' failed jobs' pack event reply s after serves sound steps state =
-    let still = subst (λ (r : Reply × State). IsSound r.1) (steps (next_serial s)) (sound_step pack (next_serial s) s event (is_fresh s) sound) in
+    let still = subst (λ (r : Reply × State). IsSound r.1) (steps (next_serial s))
+    (sound_step pack (next_serial s) s event (is_fresh s) sound) in
     (Serving after, (serves, state still), inl (steps_on pack s event reply after steps))
 
 -- An event that finds no memory leaves all as it was.
-pub wanting : (d : DiskState) (map : VolumeCore) (failed : Bool) (jobs : List (Option Job)) (pack : Pack) (event : Event) (reply : Reply) → failed ≡ false → reply ≡ NoMemory
+pub wanting : (d : DiskState) (map : VolumeCore) (failed : Bool) (jobs : List (Option Job)) (pack : Pack)
+    (event : Event) (reply : Reply) → failed ≡ false → reply ≡ NoMemory
     → ((s : State) → is_plain ((step pack 0 s event).0) ≡ false) → ((s : State) → takes_memory s event ≡ true)
-    → (old : Service) → Serves d map failed jobs old → (new : Service) × Serves d map failed jobs new × Answers pack old event reply new
+    → (old : Service) → Serves d map failed jobs old → (new : Service) × Serves d map failed jobs new
+    × Answers pack old event reply new
 wanting d map failed jobs pack event reply serves none plain takes =
-    in_state d map failed jobs (λ old. (new : Service) × Serves d map failed jobs new × Answers pack old event reply new) serves (λ s state. (Serving s, (serves, state), inr (none, refl, plain s, takes s)))
+    in_state d map failed jobs (λ old. (new : Service) × Serves d map failed jobs new
+    × Answers pack old event reply new) serves
+    (λ s state. (Serving s, (serves, state), inr (none, refl, plain s, takes s)))
 
 -- Calls.
 
@@ -165,30 +189,42 @@ after a b less = grind (arith, nat_tests)
 not_after : (a b : ℕ) → b ≤ a → nat_lt a b ≡ false
 not_after a b less = grind (arith, nat_tests)
 
-pub slot_of : (w : UnderKeys) (jobs : List (Option Job)) (n : ℕ) (o : Option Job) → slot jobs n ≡ o → slot (jobs_of w jobs) n ≡ option_map (job_of w) o
+pub slot_of : (w : UnderKeys) (jobs : List (Option Job)) (n : ℕ) (o : Option Job) → slot jobs n ≡ o
+    → slot (jobs_of w jobs) n ≡ option_map (job_of w) o
 slot_of w jobs n o is = slot-map (job_of w) jobs n ∙ ap (option_map (job_of w)) is
 
 -- a job's new record, as the machine has it
-pub job_set : (files : Files Version) (w : UnderKeys) (jobs : List (Option Job)) (n : ℕ) (job : Job) → with_job (state_of files w jobs) n (job_of w job) ≡ state_of files w (slice_set jobs n (Some job))
-job_set files w jobs n job = ap (λ js. record { files = files; jobs = js }) (sym (map-set (option_map (job_of w)) jobs n (Some job)))
+pub job_set : (files : Files Version) (w : UnderKeys) (jobs : List (Option Job)) (n : ℕ) (job : Job)
+    → with_job (state_of files w jobs) n (job_of w job) ≡ state_of files w (slice_set jobs n (Some job))
+job_set files w jobs n job = ap (λ js. record { files = files; jobs = js })
+    (sym (map-set (option_map (job_of w)) jobs n (Some job)))
 
-module _ (d : DiskState) (jobs : List (Option Job)) (n : ℕ) (call : Call) (moment : Moment) (serial : ℕ) (files : Files Version) (w : UnderKeys) where
+module _ (d : DiskState) (jobs : List (Option Job)) (n : ℕ) (call : Call) (moment : Moment) (serial : ℕ)
+    (files : Files Version) (w : UnderKeys) where
   abbrev before : State
   before = state_of files w jobs
 
   pub late : 4095 < moment.date → step (pack_of d) serial before (Calls n call moment) ≡ (DateRange, before)
-  late past = ap (λ b. if b then (DateRange, before) else on_job before (job_at before n) (λ job. call_of (pack_of d) serial before n job call moment)) (after 4095 moment.date past)
+  late past = ap (λ b. if b then (DateRange, before)
+      else on_job before (job_at before n) (λ job. call_of (pack_of d) serial before n job call moment))
+      (after 4095 moment.date past)
 
   asked : moment.date ≤ 4095 → (o : Option Job) → slot jobs n ≡ o
-      → step (pack_of d) serial before (Calls n call moment) ≡ on_job before (option_map (job_of w) o) (λ job. call_of (pack_of d) serial before n job call moment)
+      → step (pack_of d) serial before (Calls n call moment)
+      ≡ on_job before (option_map (job_of w) o) (λ job. call_of (pack_of d) serial before n job call moment)
   asked timely o is =
-      ap (λ b. if b then (DateRange, before) else on_job before (job_at before n) (λ job. call_of (pack_of d) serial before n job call moment)) (not_after 4095 moment.date timely)
+      ap (λ b. if b then (DateRange, before)
+      else on_job before (job_at before n) (λ job. call_of (pack_of d) serial before n job call moment))
+      (not_after 4095 moment.date timely)
       ∙ ap (λ o. on_job before o (λ job. call_of (pack_of d) serial before n job call moment)) (slot_of w jobs n o is)
 
-  pub no_job : moment.date ≤ 4095 → slot jobs n ≡ None → step (pack_of d) serial before (Calls n call moment) ≡ (NoJob, before)
+  pub no_job : moment.date ≤ 4095 → slot jobs n ≡ None → step (pack_of d) serial before (Calls n call moment)
+      ≡ (NoJob, before)
   no_job timely none = asked timely None none
 
-  pub called : moment.date ≤ 4095 → (job : Job) → slot jobs n ≡ Some job → step (pack_of d) serial before (Calls n call moment) ≡ call_of (pack_of d) serial before n (job_of w job) call moment
+  pub called : moment.date ≤ 4095 → (job : Job) → slot jobs n ≡ Some job
+      → step (pack_of d) serial before (Calls n call moment)
+      ≡ call_of (pack_of d) serial before n (job_of w job) call moment
   called timely job there = asked timely (Some job) there
 
 -- where nothing stands under any key
@@ -204,40 +240,58 @@ nothing = record {
 
 -- Logging in.
 
-login_done : (pack : Pack) (jobs jobs' : List (Option Job)) (n ppn words : ℕ) → login_answer n words ≡ Done → jobs' ≡ slice_set jobs n (Some (new_job ppn words))
-    → (serial : ℕ) (files : Files Version) (w : UnderKeys) → step pack serial (state_of files w jobs) (Login n ppn words) ≡ (Done, state_of files w jobs')
+login_done : (pack : Pack) (jobs jobs' : List (Option Job)) (n ppn words : ℕ) → login_answer n words ≡ Done
+    → jobs' ≡ slice_set jobs n (Some (new_job ppn words))
+    → (serial : ℕ) (files : Files Version) (w : UnderKeys)
+    → step pack serial (state_of files w jobs) (Login n ppn words) ≡ (Done, state_of files w jobs')
 login_done pack jobs jobs' n ppn words answer set serial files w =
-    ap (λ r. settled r (with_job (state_of files w jobs) n (job_of w (new_job ppn words))) (λ x. state_of files w jobs)) answer
+    ap (λ r. settled r (with_job (state_of files w jobs) n (job_of w (new_job ppn words))) (λ x. state_of files w jobs))
+    answer
     ∙ ap (λ s. (Done, s)) (job_set files w jobs n (new_job ppn words) ∙ ap (state_of files w) (sym set))
 
-login_refused : (pack : Pack) (jobs : List (Option Job)) (n ppn words : ℕ) (reply : Reply) → reply ≡ login_answer n words → (reply ≡ Done → ⊥)
-    → (serial : ℕ) (files : Files Version) (w : UnderKeys) → step pack serial (state_of files w jobs) (Login n ppn words) ≡ (reply, state_of files w jobs)
+login_refused : (pack : Pack) (jobs : List (Option Job)) (n ppn words : ℕ) (reply : Reply)
+    → reply ≡ login_answer n words → (reply ≡ Done → ⊥)
+    → (serial : ℕ) (files : Files Version) (w : UnderKeys)
+    → step pack serial (state_of files w jobs) (Login n ppn words) ≡ (reply, state_of files w jobs)
 login_refused pack jobs n ppn words reply answer not_done serial files w =
-    ap (λ r. settled r (with_job (state_of files w jobs) n (job_of w (new_job ppn words))) (λ x. state_of files w jobs)) (sym answer)
-    ∙ settled_other reply (with_job (state_of files w jobs) n (job_of w (new_job ppn words))) (state_of files w jobs) not_done
+    ap (λ r. settled r (with_job (state_of files w jobs) n (job_of w (new_job ppn words))) (λ x. state_of files w jobs))
+    (sym answer)
+    ∙ settled_other reply (with_job (state_of files w jobs) n (job_of w (new_job ppn words)))
+    (state_of files w jobs) not_done
 
-module _ (pack : Pack) (d : DiskState) (map map' : VolumeCore) (failed : Bool) (jobs jobs' : List (Option Job)) (n ppn words : ℕ) where
+module _ (pack : Pack) (d : DiskState) (map map' : VolumeCore) (failed : Bool) (jobs jobs' : List (Option Job))
+    (n ppn words : ℕ) where
   abbrev Leads : Reply → Service → Type 0
   Leads reply old = (new : Service) × Serves d map' failed jobs' new × Answers pack old (Login n ppn words) reply new
 
   -- where nothing is changed
-  kept : (reply : Reply) → (jobs' ≡ jobs) × (map' ≡ map) → ((old : Service) → Serves d map failed jobs old → (new : Service) × Serves d map failed jobs new × Answers pack old (Login n ppn words) reply new)
+  kept : (reply : Reply) → (jobs' ≡ jobs) × (map' ≡ map) → ((old : Service) → Serves d map failed jobs old
+      → (new : Service) × Serves d map failed jobs new × Answers pack old (Login n ppn words) reply new)
       → (old : Service) → Serves d map failed jobs old → Leads reply old
   kept reply same leads old state =
-      let led = leads old state in
-      (led.0, subst (λ js. Serves d map' failed js led.0) (sym same.0) (subst (λ m. Serves d m failed jobs led.0) (sym same.1) led.1), led.2)
+      let led = leads old state in (
+        led.0,
+        subst (λ js. Serves d map' failed js led.0) (sym same.0)
+            (subst (λ m. Serves d m failed jobs led.0) (sym same.1) led.1),
+        led.2,
+      )
 
-  pub login_answered : (reply : Reply) → failed ≡ false → AreKeyed map.pending jobs → AreKeyed map'.pending jobs' → AreReading map.live jobs → AreReading map'.live jobs' → Leaves map map'
+  pub login_answered : (reply : Reply) → failed ≡ false → AreKeyed map.pending jobs → AreKeyed map'.pending jobs'
+      → AreReading map.live jobs → AreReading map'.live jobs' → Leaves map map'
       → (reply ≡ login_answer n words) ⊎ ((reply ≡ NoMemory) × (login_answer n words ≡ Done))
-      → (reply ≡ Done → jobs' ≡ slice_set jobs n (Some (new_job ppn words))) → ((reply ≡ Done → ⊥) → (jobs' ≡ jobs) × (map' ≡ map)) → (old : Service) → Serves d map failed jobs old → Leads reply old
+      → (reply ≡ Done → jobs' ≡ slice_set jobs n (Some (new_job ppn words)))
+      → ((reply ≡ Done → ⊥) → (jobs' ≡ jobs) × (map' ≡ map)) → (old : Service) → Serves d map failed jobs old
+      → Leads reply old
   login_answered reply serves keyed keyed' reading reading' leaves (inl answer) set same = by_reply (is_done reply)
     where
       by_reply : (reply ≡ Done) ⊎ (reply ≡ Done → ⊥) → (old : Service) → Serves d map failed jobs old → Leads reply old
       by_reply (inl is) =
           subst (λ r. (old : Service) → Serves d map failed jobs old → Leads r old) (sym is)
-          (row d map map' failed jobs jobs' keyed' reading' leaves pack (Login n ppn words) Done (login_done pack jobs jobs' n ppn words (sym answer ∙ is) (set is)) serves)
+          (row d map map' failed jobs jobs' keyed' reading' leaves pack (Login n ppn words) Done
+          (login_done pack jobs jobs' n ppn words (sym answer ∙ is) (set is)) serves)
       by_reply (inr not_done) =
-          kept reply (same not_done) (row d map map failed jobs jobs keyed reading (leaves_none map) pack (Login n ppn words) reply (login_refused pack jobs n ppn words reply answer not_done) serves)
+          kept reply (same not_done) (row d map map failed jobs jobs keyed reading (leaves_none map) pack
+          (Login n ppn words) reply (login_refused pack jobs n ppn words reply answer not_done) serves)
   login_answered reply serves keyed keyed' reading reading' leaves (inr wants) set same =
       kept reply (same (λ e. cc (e, wants.0))) (wanting d map failed jobs pack (Login n ppn words) reply serves wants.0
       (λ s. ap (λ r. is_plain (settled r (with_job s n (machine_job ppn words)) (λ x. s)).0) wants.1) (λ s. refl))
@@ -246,7 +300,13 @@ module _ (pack : Pack) (d : DiskState) (map map' : VolumeCore) (failed : Bool) (
       machine_job ppn words = job_of nothing (new_job ppn words)
 
 -- The disk is the one that it was.
-pub on_disk : {D : Type 0} (state : D → DiskState) (old new : D) (failed failed' : Bool) (map : VolumeCore) (jobs : List (Option Job)) (A : Service → Type 0) → (new ≡ old) × (failed' ≡ failed)
-    → (after : Service) × Serves (state old) map failed jobs after × A after → (after : Service) × Serves (state new) map failed' jobs after × A after
-on_disk state old new failed failed' map jobs A same led =
-    (led.0, subst (λ disk. Serves (state disk) map failed' jobs led.0) (sym same.0) (subst (λ b. Serves (state old) map b jobs led.0) (sym same.1) led.1), led.2)
+pub on_disk : {D : Type 0} (state : D → DiskState) (old new : D) (failed failed' : Bool) (map : VolumeCore)
+    (jobs : List (Option Job)) (A : Service → Type 0) → (new ≡ old) × (failed' ≡ failed)
+    → (after : Service) × Serves (state old) map failed jobs after × A after → (after : Service)
+    × Serves (state new) map failed' jobs after × A after
+on_disk state old new failed failed' map jobs A same led = (
+  led.0,
+  subst (λ disk. Serves (state disk) map failed' jobs led.0) (sym same.0)
+      (subst (λ b. Serves (state old) map b jobs led.0) (sym same.1) led.1),
+  led.2,
+)

@@ -1,5 +1,6 @@
 -- Where an ENTER begins: the directory of a volume that its place names, and what is answered by what stands there.
-use Rattle.std.proofs.Common.{◌≡◌, ◌<◌, ℕ, suc, Bool, true, false, List, [], ◌∷◌, length, take, Option, None, Some, Result, Ok, Err, refl, sym, ap, subst, ◌∙◌, arith}
+use Rattle.std.proofs.Common.{◌≡◌, ◌<◌, ℕ, suc, Bool, true, false, List, [], ◌∷◌, length, take, Option, None, Some}
+use Rattle.std.proofs.Common.{Result, Ok, Err, refl, sym, ap, subst, ◌∙◌, arith}
 use Rattle.std.specs.Prelude.{◌&&◌, ◌||◌, not, if◌then◌else◌, is_none, option_map}
 use Rattle.std.specs.Ordering.{nat_cmp, eq_by_cmp}
 use Rattle.std.specs.Cmp.{nat_cmp_total}
@@ -34,16 +35,19 @@ use Rattle.monitor.proofs.Growths.{matches, shown_at}
 
 -- Where a key stands in a list.
 
-pub first_place : {V : Type 0} (es : List (ℕ × V)) (k : ℕ) (v : V) → find nat_cmp k es ≡ Some v → (i : ℕ) × StandsAt nat_cmp es k v i
+pub first_place : {V : Type 0} (es : List (ℕ × V)) (k : ℕ) (v : V) → find nat_cmp k es ≡ Some v
+    → (i : ℕ) × StandsAt nat_cmp es k v i
 first_place [] k v is = absurd (some_none (sym is))
 first_place {V} (e ∷ es) k v is = by (eq_by_cmp nat_cmp k e.0) refl is (first_place es k v)
   where
-    by : (b : Bool) → eq_by_cmp nat_cmp k e.0 ≡ b → (if b then Some e.1 else find nat_cmp k es) ≡ Some v → (find nat_cmp k es ≡ Some v → (i : ℕ) × StandsAt nat_cmp es k v i) → (i : ℕ) × StandsAt nat_cmp (e ∷ es) k v i
+    by : (b : Bool) → eq_by_cmp nat_cmp k e.0 ≡ b → (if b then Some e.1 else find nat_cmp k es) ≡ Some v
+        → (find nat_cmp k es ≡ Some v → (i : ℕ) × StandsAt nat_cmp es k v i) → (i : ℕ) × StandsAt nat_cmp (e ∷ es) k v i
     by true t found rest = (
       0,
       record {
         within = omega arith;
-        is = let same = sym (tied nat_cmp_total nat_cmp-IsAntisymmetric k e.0 t) in let value = some_same found in λ i. Some (same i, value i);
+        is = let same = sym (tied nat_cmp_total nat_cmp-IsAntisymmetric k e.0 t) in let value = some_same found in
+            λ i. Some (same i, value i);
         found = ap (λ b. if b then Some e.1 else find nat_cmp k es) t ∙ found;
         before = refl;
       },
@@ -60,7 +64,8 @@ first_place {V} (e ∷ es) k v is = by (eq_by_cmp nat_cmp k e.0) refl is (first_
         )
 
 -- the directory that a volume knows under the number of one that is there
-pub record IsHome (map : VolumeCore) (files : Files Version) (ppn : ℕ) (name : FileName) (d : Directory Version) : Type 0 where
+pub record IsHome (map : VolumeCore) (files : Files Version) (ppn : ℕ) (name : FileName)
+    (d : Directory Version) : Type 0 where
   pub known : KnownDirectory
   pub there : IsDirectoryOf map ppn known
   pub entries : size d.files ≡ length known.chain.entries
@@ -74,9 +79,12 @@ pub record IsKnownAs (files : Files Version) (ppn : ℕ) (name : FileName) (know
   pub absent : is_absent name known ≡ is_none (get directory.files name)
   pub few : (v : Version) → get directory.files name ≡ Some v → v.file.protection < 512
 
-module _ (d : DiskState) (map : VolumeCore) (files : Files Version) (holds : Holds d map.known (without_serials files)) (whole : IsWholeMap d.size map.known) (ppn : ℕ) where
+module _ (d : DiskState) (map : VolumeCore) (files : Files Version) (holds : Holds d map.known (without_serials files))
+    (whole : IsWholeMap d.size map.known) (ppn : ℕ) where
   pub listed : (x : Directory Version) → get files ppn ≡ Some x → find nat_cmp ppn map.known.master.entries ≡ None → ⊥
-  listed x there none = some_none (sym (shown_at files ppn ∙ ap (option_map (map_directory (λ (v : Version). v.file))) there) ∙ directory_none d map.known (without_serials files) holds ppn none)
+  listed x there none = some_none (sym (shown_at files ppn
+      ∙ ap (option_map (map_directory (λ (v : Version). v.file))) there)
+      ∙ directory_none d map.known (without_serials files) holds ppn none)
 
   -- a directory that a volume knows
   pub home_of : (name : FileName) (x : KnownDirectory) (there : IsDirectoryOf map ppn x) → IsKnownAs files ppn name x
@@ -85,29 +93,43 @@ module _ (d : DiskState) (map : VolumeCore) (files : Files Version) (holds : Hol
       let whole_at = all_at_place (IsWholeDirectory d.size) map.known.directories there.0 x whole.each there.3 in
       let match = matches d map.known files holds whole there.0 (ppn, there.1) x at.is there.3 whole_at in
       let found = holds.held.known.each there.0 (ppn, there.1) x at.is there.3 in
-      let stored_is : get (without_serials files) ppn ≡ Some (directory_of found.0) = ap (λ f. get f ppn) (sym holds.files_are) ∙ get-map_values nat_cmp_total directory_of holds.map.directories ppn ∙ ap (option_map directory_of) found.1 in
-      let shown : map_directory (λ (v : Version). v.file) match.directory ≡ directory_of found.0 = some_same (sym (shown_at files ppn ∙ ap (option_map (map_directory (λ (v : Version). v.file))) match.there) ∙ stored_is) in
-      let names : option_map (λ (f : StoredFile). f.file) (get found.0.files name) ≡ option_map (λ (v : Version). v.file) (get match.directory.files name) =
-      sym (get-map_values name_total (λ (f : StoredFile). f.file) found.0.files name) ∙ ap (λ (z : Directory File). get z.files name) (sym shown) ∙ get-map_values name_total (λ (v : Version). v.file) match.directory.files name in record {
+      let stored_is : get (without_serials files) ppn
+      ≡ Some (directory_of found.0) = ap (λ f. get f ppn) (sym holds.files_are)
+      ∙ get-map_values nat_cmp_total directory_of holds.map.directories ppn ∙ ap (option_map directory_of) found.1 in
+      let shown : map_directory (λ (v : Version). v.file) match.directory
+      ≡ directory_of found.0 = some_same (sym (shown_at files ppn
+      ∙ ap (option_map (map_directory (λ (v : Version). v.file))) match.there) ∙ stored_is) in
+      let names : option_map (λ (f : StoredFile). f.file) (get found.0.files name)
+      ≡ option_map (λ (v : Version). v.file) (get match.directory.files name) =
+      sym (get-map_values name_total (λ (f : StoredFile). f.file) found.0.files name)
+      ∙ ap (λ (z : Directory File). get z.files name) (sym shown)
+      ∙ get-map_values name_total (λ (v : Version). v.file) match.directory.files name in record {
         directory = match.directory;
         there = match.there;
         entries = match.size_is;
-        absent = ap is_none (sym (get-from_entries name_total x.chain.entries name) ∙ ap (λ m. get m name) (sym found.2.names) ∙ get-map_values name_total (λ (f : StoredFile). f.prime) found.0.files name)
+        absent = ap is_none (sym (get-from_entries name_total x.chain.entries name)
+            ∙ ap (λ m. get m name) (sym found.2.names)
+            ∙ get-map_values name_total (λ (f : StoredFile). f.prime) found.0.files name)
             ∙ prime_shown (get found.0.files name) ∙ ap is_none names ∙ name_shown (get match.directory.files name);
-        few = λ v is. few (holds.held.stands.mapped.directories ppn found.0 found.1) v (get found.0.files name) refl (names ∙ ap (option_map (λ (v : Version). v.file)) is);
+        few = λ v is. few (holds.held.stands.mapped.directories ppn found.0 found.1) v (get found.0.files name) refl
+            (names ∙ ap (option_map (λ (v : Version). v.file)) is);
       }
     where
       name_shown : (was : Option Version) → is_none (option_map (λ (v : Version). v.file) was) ≡ is_none was
       name_shown None = refl
       name_shown (Some v) = refl
 
-      prime_shown : (was : Option StoredFile) → is_none (option_map (λ (f : StoredFile). f.prime) was) ≡ is_none (option_map (λ (f : StoredFile). f.file) was)
+      prime_shown : (was : Option StoredFile) → is_none (option_map (λ (f : StoredFile). f.prime) was)
+          ≡ is_none (option_map (λ (f : StoredFile). f.file) was)
       prime_shown None = refl
       prime_shown (Some f) = refl
 
-      few : {stored : StoredDirectory} → IsWhole holds.map.layout d.contents ppn stored → (v : Version) (was : Option StoredFile) → get stored.files name ≡ was → option_map (λ (f : StoredFile). f.file) was ≡ Some v.file → v.file.protection < 512
+      few : {stored : StoredDirectory} → IsWhole holds.map.layout d.contents ppn stored
+          → (v : Version) (was : Option StoredFile) → get stored.files name ≡ was
+          → option_map (λ (f : StoredFile). f.file) was ≡ Some v.file → v.file.protection < 512
       few whole v None at is = absurd (some_none (sym is))
-      few whole v (Some f) at is = subst (λ (y : File). y.protection < 512) (some_same is) (whole.files name f at).retrieved.fits.protection
+      few whole v (Some f) at is = subst (λ (y : File). y.protection < 512) (some_same is)
+          (whole.files name f at).retrieved.fits.protection
 
   pub home : (name : FileName) (x : Directory Version) → get files ppn ≡ Some x → IsHome map files ppn name x
   home name x there = by (find nat_cmp ppn map.known.master.entries) refl
@@ -142,36 +164,53 @@ begin_at who owner name o job is_zero claimed new_full old_full =
     if is_none o then Refused 1
     else if is_zero then Refused 0
     else if is_none (file_in o name)
-    then (if not (may_create (digit_for_directory job owner o)) then Refused 2 else if claimed then Refused 3 else if new_full then Refused 0o14 else Done)
-    else (if not (may_look (digit_for_directory job owner o)) || not (may_supersede (digit_for_version job owner (file_in o name))) then Refused 2 else if claimed then Refused 3 else if old_full then Refused 0o14 else Done)
+    then (if not (may_create (digit_for_directory job owner o)) then Refused 2 else if claimed then Refused 3
+    else if new_full then Refused 0o14 else Done)
+    else (if not (may_look (digit_for_directory job owner o))
+    || not (may_supersede (digit_for_version job owner (file_in o name))) then Refused 2 else if claimed
+    then Refused 3 else if old_full then Refused 0o14 else Done)
 
-new_reply : (is_zero may claimed full old_full : Bool) → (if is_zero then Refused 0 else if not may then Refused 2 else if claimed then Refused 3 else if full then Refused 0o14 else Done) ≡ begin_reply (begun_as Create may is_zero claimed) full old_full
+new_reply : (is_zero may claimed full old_full : Bool)
+    → (if is_zero then Refused 0 else if not may then Refused 2 else if claimed then Refused 3 else if full
+    then Refused 0o14 else Done) ≡ begin_reply (begun_as Create may is_zero claimed) full old_full
 new_reply true may claimed full old_full = refl
 new_reply false false claimed full old_full = refl
 new_reply false true true full old_full = refl
 new_reply false true false full old_full = refl
 
 old_reply : (is_zero look supersede claimed full new_full : Bool)
-    → (if is_zero then Refused 0 else if not look || not supersede then Refused 2 else if claimed then Refused 3 else if full then Refused 0o14 else Done) ≡ begin_reply (begun_as Supersede (look && supersede) is_zero claimed) new_full full
+    → (if is_zero then Refused 0 else if not look || not supersede then Refused 2 else if claimed then Refused 3
+    else if full then Refused 0o14 else Done)
+    ≡ begin_reply (begun_as Supersede (look && supersede) is_zero claimed) new_full full
 old_reply true look supersede claimed full new_full = refl
 old_reply false false supersede claimed full new_full = refl
 old_reply false true false claimed full new_full = refl
 old_reply false true true true full new_full = refl
 old_reply false true true false full new_full = refl
 
-pub begin_is : (name : FileName) (owner : ℕ) (job : machine.Job) (o : Option (Directory Version)) (is_zero claimed new_full old_full : Bool)
-    → begin_at job.ppn owner name o job is_zero claimed new_full old_full ≡ begin_reply (allowed (found_in (option_map (map_directory (λ (v : Version). v.file)) o) name) job.ppn owner is_zero claimed) new_full old_full
+pub begin_is : (name : FileName) (owner : ℕ) (job : machine.Job) (o : Option (Directory Version))
+    (is_zero claimed new_full old_full : Bool)
+    → begin_at job.ppn owner name o job is_zero claimed new_full old_full
+    ≡ begin_reply (allowed (found_in (option_map (map_directory (λ (v : Version). v.file)) o) name) job.ppn
+    owner is_zero claimed) new_full old_full
 begin_is name owner job None is_zero claimed new_full old_full = refl
 begin_is name owner job (Some d) is_zero claimed new_full old_full =
-    by (get d.files name) ∙ ap (λ f. begin_reply (allowed (found_file d.protection f) job.ppn owner is_zero claimed) new_full old_full) (sym (get-map_values name_total (λ (v : Version). v.file) d.files name))
+    by (get d.files name) ∙ ap (λ f. begin_reply (allowed (found_file d.protection f) job.ppn owner is_zero claimed)
+    new_full old_full) (sym (get-map_values name_total (λ (v : Version). v.file) d.files name))
   where
     answer_for : Option Version → Reply
     answer_for was =
         if is_zero then Refused 0
         else if is_none was
-        then (if not (may_create (directory_digit d.protection job.ppn owner)) then Refused 2 else if claimed then Refused 3 else if new_full then Refused 0o14 else Done)
-        else (if not (may_look (directory_digit d.protection job.ppn owner)) || not (may_supersede (digit_for_version job owner was)) then Refused 2 else if claimed then Refused 3 else if old_full then Refused 0o14 else Done)
+        then (if not (may_create (directory_digit d.protection job.ppn owner)) then Refused 2 else if claimed
+        then Refused 3 else if new_full then Refused 0o14 else Done)
+        else (if not (may_look (directory_digit d.protection job.ppn owner))
+        || not (may_supersede (digit_for_version job owner was)) then Refused 2 else if claimed then Refused 3
+        else if old_full then Refused 0o14 else Done)
 
-    by : (was : Option Version) → answer_for was ≡ begin_reply (allowed (found_file d.protection (option_map (λ (v : Version). v.file) was)) job.ppn owner is_zero claimed) new_full old_full
+    by : (was : Option Version) → answer_for was
+        ≡ begin_reply (allowed (found_file d.protection (option_map (λ (v : Version). v.file) was)) job.ppn
+        owner is_zero claimed) new_full old_full
     by None = new_reply is_zero (may_create (directory_digit d.protection job.ppn owner)) claimed new_full old_full
-    by (Some v) = old_reply is_zero (may_look (directory_digit d.protection job.ppn owner)) (may_supersede (file_digit v.file.protection job.ppn owner)) claimed old_full new_full
+    by (Some v) = old_reply is_zero (may_look (directory_digit d.protection job.ppn owner))
+        (may_supersede (file_digit v.file.protection job.ppn owner)) claimed old_full new_full

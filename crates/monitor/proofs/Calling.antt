@@ -19,12 +19,16 @@ use Rattle.monitor.proofs.ReadingJobs.{slot_set, length-slice_set}
 use Rattle.monitor.proofs.SideLists.{count, count-channel, each-channel, map-set, slot-map}
 
 -- the channel of a number, as the machine has it
-pub channel_is : (w : UnderKeys) (job : Job) (number : ℕ) (o : Option Channel) → slot job.channels number ≡ o → channel_at (job_of w job) number ≡ option_map (channel_of w) o
+pub channel_is : (w : UnderKeys) (job : Job) (number : ℕ) (o : Option Channel) → slot job.channels number ≡ o
+    → channel_at (job_of w job) number ≡ option_map (channel_of w) o
 channel_is w job number o is = slot-map (channel_of w) job.channels number ∙ ap (option_map (channel_of w)) is
 
 -- a channel that is set
-pub channel_set : (w : UnderKeys) (job : Job) (number : ℕ) (x : Option Channel) → with_channel (job_of w job) number (option_map (channel_of w) x) ≡ job_of w (record job { channels = slice_set job.channels number x })
-channel_set w job number x = ap (λ cs. record { ppn = job.ppn; core = job.core; channels = cs }) (sym (map-set (option_map (channel_of w)) job.channels number x))
+pub channel_set : (w : UnderKeys) (job : Job) (number : ℕ) (x : Option Channel)
+    → with_channel (job_of w job) number (option_map (channel_of w) x)
+    ≡ job_of w (record job { channels = slice_set job.channels number x })
+channel_set w job number x = ap (λ cs. record { ppn = job.ppn; core = job.core; channels = cs })
+    (sym (map-set (option_map (channel_of w)) job.channels number x))
 
 -- a job that is not changed
 pub job_same : (s : State) (n : ℕ) (job : machine.Job) → job_at s n ≡ Some job → s ≡ with_job s n job
@@ -32,18 +36,24 @@ job_same s n job there = ap (λ js. record s { jobs = js }) (sym (set-slot s.job
 
 -- Versions and output sides.
 
-old_or_new : (pending : List (Option PendingVersion)) (key : ℕ) (p : PendingVersion) → pending_at pending key ≡ Some p → IsOldOrNew (pending_at pending key) p
+old_or_new : (pending : List (Option PendingVersion)) (key : ℕ) (p : PendingVersion) → pending_at pending key ≡ Some p
+    → IsOldOrNew (pending_at pending key) p
 old_or_new pending key p at = inr (p, at, refl)
 
 pub keeps_same : (pending : List (Option PendingVersion)) (job : Job) → Keeps pending pending job job
 keeps_same pending job = record { once = λ key. refl; known = old_or_new pending; each = λ all. all }
 
 -- a channel is another one, which writes the same version or none
-pub keeps_channel : (pending : List (Option PendingVersion)) (job : Job) (number : ℕ) (x : Option Channel) → ((key : ℕ) → count key (option_to_list (side_of x)) ≡ count key (option_to_list (side_of (slot job.channels number))))
-    → (AllByRecursion (IsSide pending) (filter_map side_of job.channels) → AllByRecursion (IsSide pending) (option_to_list (side_of x))) → Keeps pending pending job (record job { channels = slice_set job.channels number x })
+pub keeps_channel : (pending : List (Option PendingVersion)) (job : Job) (number : ℕ) (x : Option Channel)
+    → ((key : ℕ) → count key (option_to_list (side_of x))
+    ≡ count key (option_to_list (side_of (slot job.channels number))))
+    → (AllByRecursion (IsSide pending) (filter_map side_of job.channels)
+    → AllByRecursion (IsSide pending) (option_to_list (side_of x)))
+    → Keeps pending pending job (record job { channels = slice_set job.channels number x })
 keeps_channel pending job number x same side = record {
   once = λ key.
-      let set = count-channel key job.channels number x (λ e. same key ∙ ap (λ o. count key (option_to_list (side_of o))) e) in
+      let set = count-channel key job.channels number x (λ e. same key
+      ∙ ap (λ o. count key (option_to_list (side_of o))) e) in
       let alike = same key in
       omega arith;
   known = old_or_new pending;
@@ -56,7 +66,8 @@ pub reads_same : (live : List (Option LiveVersion)) (job : Job) → KeepsReading
 reads_same live job = record { once = λ key. refl; each = λ has. has }
 
 -- a channel is another one, which is as it should be
-pub has_channel : (job : Job) (number : ℕ) (c : Channel) → IsReader c → HasReaders job → HasReaders (record job { channels = slice_set job.channels number (Some c) })
+pub has_channel : (job : Job) (number : ℕ) (c : Channel) → IsReader c → HasReaders job
+    → HasReaders (record job { channels = slice_set job.channels number (Some c) })
 has_channel job number c is has = record {
   each = λ k x at. same_or_not k number
       (λ same. subst IsReader ((slot_set job.channels number k c x at).0 same) is)
@@ -65,11 +76,14 @@ has_channel job number c is has = record {
 }
 
 -- it reads the same version, or none
-pub reads_channel : (live : List (Option LiveVersion)) (job : Job) (number : ℕ) (c : Channel) → ((key : ℕ) → held key (option_to_list c.input) ≡ held key (option_to_list (reader_of (slot job.channels number))))
-    → (HasReaders job → IsReader c) → KeepsReading live live job (record job { channels = slice_set job.channels number (Some c) })
+pub reads_channel : (live : List (Option LiveVersion)) (job : Job) (number : ℕ) (c : Channel)
+    → ((key : ℕ) → held key (option_to_list c.input) ≡ held key (option_to_list (reader_of (slot job.channels number))))
+    → (HasReaders job → IsReader c)
+    → KeepsReading live live job (record job { channels = slice_set job.channels number (Some c) })
 reads_channel live job number c same reader = record {
   once = λ key.
-      let set = held-channel key job.channels number (Some c) (λ e. same key ∙ ap (λ o. held key (option_to_list (reader_of o))) e) in
+      let set = held-channel key job.channels number (Some c) (λ e. same key
+      ∙ ap (λ o. held key (option_to_list (reader_of o))) e) in
       let alike = same key in
       omega arith;
   each = λ has. has_channel job number c (reader has) has;

@@ -1,5 +1,6 @@
 -- A test of the members of a list is a sum over them.
-use Rattle.std.proofs.Common.{◌≡◌, ℕ, ◌+◌, Bool, true, false, nat_lt, List, [], ◌∷◌, Option, None, Some, refl, sym, ap, ◌∙◌, arith}
+use Rattle.std.proofs.Common.{◌≡◌, ℕ, ◌+◌, Bool, true, false, nat_lt, List, [], ◌∷◌, Option, None, Some, refl, sym, ap}
+use Rattle.std.proofs.Common.{◌∙◌, arith}
 use Rattle.std.proofs.lemmas.Bool.Decides.{nat_tests}
 use Rattle.std.specs.List.{list_any}
 use Rattle.std.specs.Prelude.{◌||◌, if◌then◌else◌}
@@ -19,5 +20,6 @@ any_is_sum f (x ∷ xs) = ap (λ b. f x || b) (any_is_sum f xs) ∙ by (f x) (to
     by true n = sym (more n)
     by false n = let same : n ≡ 0 + n = omega arith in ap (nat_lt 0) same
 
-pub same_any : {X Y : Type 0} (f : X → Bool) (g : Y → Bool) (xs : List X) (ys : List Y) → total (λ x. one_if (f x)) xs ≡ total (λ y. one_if (g y)) ys → list_any f xs ≡ list_any g ys
+pub same_any : {X Y : Type 0} (f : X → Bool) (g : Y → Bool) (xs : List X) (ys : List Y)
+    → total (λ x. one_if (f x)) xs ≡ total (λ y. one_if (g y)) ys → list_any f xs ≡ list_any g ys
 same_any f g xs ys same = any_is_sum f xs ∙ ap (nat_lt 0) same ∙ sym (any_is_sum g ys)

@@ -1,5 +1,6 @@
 -- CLOSE and RELEAS by the job of a number: what its row says of all jobs.
-use Rattle.std.proofs.Common.{◌≡◌, ◌≤◌, ℕ, Bool, false, List, Option, Some, refl, sym, subst, ◌∙◌, ◌⊎◌, inl, inr, ⊎_elim, slice_set}
+use Rattle.std.proofs.Common.{◌≡◌, ◌≤◌, ℕ, Bool, false, List, Option, Some, refl, sym, subst, ◌∙◌, ◌⊎◌, inl, inr}
+use Rattle.std.proofs.Common.{⊎_elim, slice_set}
 use Rattle.std.specs.Prelude.{◌↔◌, IsTrue}
 use Rattle.words36.specs.declared.moment.Moment.{Moment}
 use Rattle.blockdisk.specs.Disk.{DiskState, one_more}
@@ -8,7 +9,8 @@ use Rattle.meaning.specs.Runs.{Service, Answers}
 use Rattle.meaning.specs.declared.call.Call.{Call}
 use Rattle.meaning.specs.declared.call.Event.TheVariants.{Call as Calls}
 use Rattle.meaning.specs.declared.call.Reply.{Reply}
-use Rattle.meaning.specs.declared.call.Reply.TheVariants.{Done, Value, Refused, Stopped, NoChannel, AddressCheck, NoJob, NoMemory, Device, Failed, DateRange}
+use Rattle.meaning.specs.declared.call.Reply.TheVariants.{Done, Value, Refused, Stopped, NoChannel, AddressCheck, NoJob}
+use Rattle.meaning.specs.declared.call.Reply.TheVariants.{NoMemory, Device, Failed, DateRange}
 use Rattle.meaning.proofs.MapLaws.{some_same}
 use Rattle.volume.specs.Live.{VolumeCore}
 use Rattle.monitor.specs.Dropping.{Leaves}
@@ -25,30 +27,39 @@ use Rattle.monitor.proofs.ReadingJobs.{keeps_reading}
 use Rattle.monitor.proofs.Serving.{row_is}
 
 -- The side that is published is one of the job's.
-pub closes_here : (jobs : List (Option Job)) (n : ℕ) (job : Job) (channel bits : ℕ) (c : Channel) (o : Output) → slot jobs n ≡ Some job → (there : Job) × (slot jobs n ≡ Some there) × ClosesSide there channel bits c o → ClosesSide job channel bits c o
-closes_here jobs n job channel bits c o at closes = subst (λ j. ClosesSide j channel bits c o) (some_same (sym closes.1 ∙ at)) closes.2
+pub closes_here : (jobs : List (Option Job)) (n : ℕ) (job : Job) (channel bits : ℕ) (c : Channel) (o : Output)
+    → slot jobs n ≡ Some job → (there : Job) × (slot jobs n ≡ Some there) × ClosesSide there channel bits c o
+    → ClosesSide job channel bits c o
+closes_here jobs n job channel bits c o at closes = subst (λ j. ClosesSide j channel bits c o)
+    (some_same (sym closes.1 ∙ at)) closes.2
 
 -- Where something is published.
 
-module _ (d d' : DiskState) (c c' : VolumeCore) (jobs jobs' : List (Option Job)) (n : ℕ) (job job' : Job) (moment : Moment) (there : slot jobs n ≡ Some job) (set : jobs' ≡ slice_set jobs n (Some job')) (timely : moment.date ≤ 4095) where
-  pub row_answered : (failed failed' : Bool) (call : Call) (reply : Reply) → failed ≡ false → ArePlaced c → d'.honest → IsPublishRow d d' c c' failed' job job' call reply → (old : Service) → Serves d c failed jobs old
+module _ (d d' : DiskState) (c c' : VolumeCore) (jobs jobs' : List (Option Job)) (n : ℕ) (job job' : Job)
+    (moment : Moment) (there : slot jobs n ≡ Some job) (set : jobs' ≡ slice_set jobs n (Some job'))
+    (timely : moment.date ≤ 4095) where
+  pub row_answered : (failed failed' : Bool) (call : Call) (reply : Reply) → failed ≡ false → ArePlaced c
+      → d'.honest → IsPublishRow d d' c c' failed' job job' call reply → (old : Service) → Serves d c failed jobs old
       → (new : Service) × Serves d' c' failed' jobs' new × Answers (pack_of d) old (Calls n call moment) reply new
   row_answered failed failed' call reply alive placed honest is =
-      in_state d c failed jobs (λ old. (new : Service) × Serves d' c' failed' jobs' new × Answers (pack_of d) old (Calls n call moment) reply new) alive (λ s state.
+      in_state d c failed jobs (λ old. (new : Service) × Serves d' c' failed' jobs' new
+      × Answers (pack_of d) old (Calls n call moment) reply new) alive (λ s state.
       let led = is honest placed jobs n moment there timely s state in
       (led.0, subst (λ js. Serves d' c' failed' js led.0) (sym set) led.1, led.2))
 
   pub row_crashes : (call : Call) → CrashesAsRow d d' c job call → CallCrashes d d' c jobs n call moment
   row_crashes call crashes honest s state = crashes honest jobs n moment there timely s state
 
-  pub row_stands : (failed' : Bool) → StillStands c c' failed' job job' → AreKeyed c.pending jobs → ArePlaced c → AreReading c.live jobs → failed' ≡ false → AreKeyed c'.pending jobs' × ArePlaced c' × AreReading c'.live jobs'
+  pub row_stands : (failed' : Bool) → StillStands c c' failed' job job' → AreKeyed c.pending jobs → ArePlaced c
+      → AreReading c.live jobs → failed' ≡ false → AreKeyed c'.pending jobs' × ArePlaced c' × AreReading c'.live jobs'
   row_stands failed' stands keyed placed reading alive =
       let is = stands jobs n there keyed placed reading alive in
       (subst (AreKeyed c'.pending) (sym set) is.0, is.1, subst (AreReading c'.live) (sym set) is.2)
 
 -- what is said of each answer
 module _ (d d' : DiskState) (c c' : VolumeCore) (failed failed' : Bool) (key : ℕ) where
-  pub publishing_failed : (reply : Reply) → IsPublishing d d' c c' failed failed' key reply → IsTrue failed' ↔ ((reply ≡ Device) ⊎ (reply ≡ Failed))
+  pub publishing_failed : (reply : Reply) → IsPublishing d d' c c' failed failed' key reply → IsTrue failed'
+      ↔ ((reply ≡ Device) ⊎ (reply ≡ Failed))
   publishing_failed Done is = (λ t. absurd (contrary is.2 t), λ e. ⊎_elim (λ x. cc x) (λ x. cc x) e)
   publishing_failed NoMemory is = (λ t. absurd (contrary is.1 t), λ e. ⊎_elim (λ x. cc x) (λ x. cc x) e)
   publishing_failed Device is = (λ t. inl refl, λ e. is.1)
@@ -61,13 +72,17 @@ module _ (d d' : DiskState) (c c' : VolumeCore) (failed failed' : Bool) (key : �
   publishing_failed NoJob is = absurd is
   publishing_failed DateRange is = absurd is
 
-  pub publishing_blamed : (reply : Reply) → failed ≡ false → IsPublishing d d' c c' failed failed' key reply → d'.honest → reply ≡ Failed → ⊥
-  publishing_blamed reply alive is honest failure = ⊎_elim (λ t. contrary alive t) (λ never. never honest) (subst (IsPublishing d d' c c' failed failed' key) failure is).0
+  pub publishing_blamed : (reply : Reply) → failed ≡ false → IsPublishing d d' c c' failed failed' key reply
+      → d'.honest → reply ≡ Failed → ⊥
+  publishing_blamed reply alive is honest failure = ⊎_elim (λ t. contrary alive t) (λ never. never honest)
+      (subst (IsPublishing d d' c c' failed failed' key) failure is).0
 
-  pub publishing_counted : (reply : Reply) → IsPublishing d d' c c' failed failed' key reply → reply ≡ Device → d'.failures ≡ one_more d.failures
+  pub publishing_counted : (reply : Reply) → IsPublishing d d' c c' failed failed' key reply → reply ≡ Device
+      → d'.failures ≡ one_more d.failures
   publishing_counted reply is device = (subst (IsPublishing d d' c c' failed failed' key) device is).2
 
-  pub publishing_served : (reply : Reply) → IsPublishing d d' c c' failed failed' key reply → (reply ≡ NoMemory → d'.failures ≡ d.failures) → (reply ≡ Device → ⊥) → d'.failures ≡ d.failures
+  pub publishing_served : (reply : Reply) → IsPublishing d d' c c' failed failed' key reply
+      → (reply ≡ NoMemory → d'.failures ≡ d.failures) → (reply ≡ Device → ⊥) → d'.failures ≡ d.failures
   publishing_served Done is none other = is.3
   publishing_served NoMemory is none other = none refl
   publishing_served Device is none other = absurd (other refl)
@@ -80,7 +95,8 @@ module _ (d d' : DiskState) (c c' : VolumeCore) (failed failed' : Bool) (key : �
   publishing_served NoJob is none other = absurd is
   publishing_served DateRange is none other = absurd is
 
-  pub publishing_idle : (reply : Reply) → IsPublishing d d' c c' failed failed' key reply → IsIdle reply → reply ≡ NoMemory
+  pub publishing_idle : (reply : Reply) → IsPublishing d d' c c' failed failed' key reply → IsIdle reply
+      → reply ≡ NoMemory
   publishing_idle Done is idle = absurd idle
   publishing_idle NoMemory is idle = refl
   publishing_idle Device is idle = absurd idle
@@ -94,15 +110,22 @@ module _ (d d' : DiskState) (c c' : VolumeCore) (failed failed' : Bool) (key : �
   publishing_idle DateRange is idle = absurd is
 
 -- Where what was written is dropped, and what was read is let go, if anything.
-module _ (d : DiskState) (c c' : VolumeCore) (failed : Bool) (jobs jobs' : List (Option Job)) (n : ℕ) (job job' : Job) (call : Call) (moment : Moment) (alive : failed ≡ false) (timely : moment.date ≤ 4095)
-    (there : slot jobs n ≡ Some job) (set : jobs' ≡ slice_set jobs n (Some job')) (keeps : Keeps c.pending c'.pending job job') (reads : KeepsReading c.live c'.live job job') where
+module _ (d : DiskState) (c c' : VolumeCore) (failed : Bool) (jobs jobs' : List (Option Job)) (n : ℕ)
+    (job job' : Job) (call : Call) (moment : Moment) (alive : failed ≡ false) (timely : moment.date ≤ 4095)
+    (there : slot jobs n ≡ Some job) (set : jobs' ≡ slice_set jobs n (Some job'))
+    (keeps : Keeps c.pending c'.pending job job') (reads : KeepsReading c.live c'.live job job') where
   pub dropping_keyed : AreKeyed c.pending jobs → AreKeyed c'.pending jobs'
-  dropping_keyed keyed = subst (AreKeyed c'.pending) (sym set) (keeps_keyed c.pending c'.pending jobs n job job' keyed there keeps)
+  dropping_keyed keyed = subst (AreKeyed c'.pending) (sym set)
+      (keeps_keyed c.pending c'.pending jobs n job job' keyed there keeps)
 
   pub dropping_reading : AreReading c.live jobs → AreReading c'.live jobs'
-  dropping_reading reading = subst (AreReading c'.live) (sym set) (keeps_reading c.live c'.live jobs n job job' reading there reads)
+  dropping_reading reading = subst (AreReading c'.live) (sym set)
+      (keeps_reading c.live c'.live jobs n job job' reading there reads)
 
-  pub dropping_answered : (reply : Reply) → AreKeyed c.pending jobs → AreReading c.live jobs → Leaves c c' → IsRow job job' call reply → (old : Service) → Serves d c failed jobs old
+  pub dropping_answered : (reply : Reply) → AreKeyed c.pending jobs → AreReading c.live jobs → Leaves c c'
+      → IsRow job job' call reply → (old : Service) → Serves d c failed jobs old
       → (new : Service) × Serves d c' failed jobs' new × Answers (pack_of d) old (Calls n call moment) reply new
   dropping_answered reply keyed reading leaves is =
-      row d c c' failed jobs jobs' (dropping_keyed keyed) (dropping_reading reading) leaves (pack_of d) (Calls n call moment) reply (row_is d c failed jobs n call moment alive timely jobs' job job' reply there set is) alive
+      row d c c' failed jobs jobs' (dropping_keyed keyed) (dropping_reading reading) leaves (pack_of d)
+      (Calls n call moment) reply (row_is d c failed jobs n call moment alive timely jobs' job job' reply there set is)
+      alive

@@ -1,5 +1,6 @@
 -- ENTER is served as the machine serves it.
-use Rattle.std.proofs.Common.{◌≡◌, ◌<◌, ◌≤◌, ℕ, ◌+◌, ◌%◌, Bool, true, false, List, [], ◌∷◌, Option, None, Some, refl, sym, ap, subst, ◌∙◌, inl, inr, ⊎_elim, arith, slice_index, slice_set}
+use Rattle.std.proofs.Common.{◌≡◌, ◌<◌, ◌≤◌, ℕ, ◌+◌, ◌%◌, Bool, true, false, List, [], ◌∷◌, Option, None, Some, refl}
+use Rattle.std.proofs.Common.{sym, ap, subst, ◌∙◌, inl, inr, ⊎_elim, arith, slice_index, slice_set}
 use Rattle.std.specs.Prelude.{is_none, option_map, option_to_list}
 use Rattle.words36.specs.declared.names.FileName.{FileName}
 use Rattle.words36.specs.declared.moment.Moment.{Moment}
@@ -67,15 +68,21 @@ other_kind : (kind : Kind) → is_create (kind_of kind) ≡ false → kind_of ki
 other_kind Create e = cc e
 other_kind Supersede e = refl
 
-module _ (w : UnderKeys) (job : Job) (c : Channel) (e : ℕ) (moment : Moment) (q : Place) (digit : ℕ) (kind : Kind) (prime : Prime) (directory : ℕ) (mode : mode_number prime.mode ≡ dump_mode) (at : prime.moment ≡ moment) where
-  file_is : (protection : ℕ) → prime.protection ≡ protection → new_file protection (channel_of w c) moment ≡ file_begun prime
+module _ (w : UnderKeys) (job : Job) (c : Channel) (e : ℕ) (moment : Moment) (q : Place) (digit : ℕ) (kind : Kind)
+    (prime : Prime) (directory : ℕ) (mode : mode_number prime.mode ≡ dump_mode) (at : prime.moment ≡ moment) where
+  file_is : (protection : ℕ) → prime.protection ≡ protection → new_file protection (channel_of w c) moment
+      ≡ file_begun prime
   file_is protection is =
-      let p = sym is in let m = sym mode in let t = ap (λ (x : Moment). x.minute) (sym at) in let d = ap (λ (x : Moment). x.date) (sym at) in
+      let p = sym is in let m = sym mode in let t = ap (λ (x : Moment). x.minute) (sym at) in
+      let d = ap (λ (x : Moment). x.date) (sym at) in
       λ i. record { protection = p i; mode = m i; time = t i; date = d i; body = [] }
 
-  opened_is : (was : Option Version) → is_none was ≡ is_create (kind_of kind) → ((v : Version) → was ≡ Some v → v.file.protection < 512)
-      → prime.protection ≡ protection_for (found_file directory (option_map (λ (v : Version). v.file) was)) (protection_or (slice_index job.core (e + 2)) 0o057)
-      → output_opened (job_of w job) (channel_of w c) e moment q digit None was ≡ record { place = q; kind = kind_of kind; pending = file_begun prime; next = 1 }
+  opened_is : (was : Option Version) → is_none was ≡ is_create (kind_of kind)
+      → ((v : Version) → was ≡ Some v → v.file.protection < 512)
+      → prime.protection ≡ protection_for (found_file directory (option_map (λ (v : Version). v.file) was))
+      (protection_or (slice_index job.core (e + 2)) 0o057)
+      → output_opened (job_of w job) (channel_of w c) e moment q digit None was
+      ≡ record { place = q; kind = kind_of kind; pending = file_begun prime; next = 1 }
   opened_is None is few protection =
       let k = sym (same_kind kind (sym is)) in let f = file_is _ protection in
       λ i. record { place = q; kind = k i; pending = f i; next = 1 }
@@ -86,8 +93,10 @@ module _ (w : UnderKeys) (job : Job) (c : Channel) (e : ℕ) (moment : Moment) (
       let f = file_is v.file.protection (protection ∙ small) in
       λ i. record { place = q; kind = k i; pending = f i; next = 1 }
 
-module _ (d : DiskState) (map map' : VolumeCore) (jobs jobs' : List (Option Job)) (n : ℕ) (job job' : Job) (ch e : ℕ) (moment : Moment) (c : Channel) (key : ℕ) (prime : Prime)
-    (there : slot jobs n ≡ Some job) (set : jobs' ≡ slice_set jobs n (Some job')) (enters : IsEntering map map' job job' ch e moment c key prime) (keyed : AreKeyed map.pending jobs)
+module _ (d : DiskState) (map map' : VolumeCore) (jobs jobs' : List (Option Job)) (n : ℕ) (job job' : Job)
+    (ch e : ℕ) (moment : Moment) (c : Channel) (key : ℕ) (prime : Prime)
+    (there : slot jobs n ≡ Some job) (set : jobs' ≡ slice_set jobs n (Some job'))
+    (enters : IsEntering map map' job job' ch e moment c key prime) (keyed : AreKeyed map.pending jobs)
     (reading : AreReading map.live jobs) where
   -- the new side
   abbrev out : Output
@@ -96,11 +105,14 @@ module _ (d : DiskState) (map map' : VolumeCore) (jobs jobs' : List (Option Job)
   keeps : Keeps map.pending map'.pending job job'
   keeps = subst (Keeps map.pending map'.pending job) (sym enters.job_is) (record {
     once = λ k.
-        let moved = count-channel k job.channels ch (Some (entering.entered c key enters.kind)) (λ none. absurd (none_some (sym none ∙ enters.there))) in
-        let was = ap (λ o. count k (option_to_list (side_of o))) enters.there ∙ ap (λ o. count k (option_to_list o)) enters.free in
+        let moved = count-channel k job.channels ch (Some (entering.entered c key enters.kind))
+        (λ none. absurd (none_some (sym none ∙ enters.there))) in
+        let was = ap (λ o. count k (option_to_list (side_of o))) enters.there
+        ∙ ap (λ o. count k (option_to_list o)) enters.free in
         let grown = more k in
         omega arith;
-    known = λ k p at. same_or_not k key (λ same. inl (ap (pending_at map.pending) same ∙ enters.begun.vacant)) (λ apart. inr (p, sym (enters.begun.others k apart) ∙ at, refl));
+    known = λ k p at. same_or_not k key (λ same. inl (ap (pending_at map.pending) same ∙ enters.begun.vacant))
+        (λ apart. inr (p, sym (enters.begun.others k apart) ∙ at, refl));
     each = λ all. each-channel (IsSide map'.pending) job.channels ch (Some (entering.entered c key enters.kind)) all (
       record {
         starts = omega arith;
@@ -112,19 +124,27 @@ module _ (d : DiskState) (map map' : VolumeCore) (jobs jobs' : List (Option Job)
     where
       more : (k : ℕ) → present (pending_at map'.pending k) ≡ present (pending_at map.pending k) + times k (key ∷ [])
       more k = same_or_not k key
-          (λ same. subst (λ (i : ℕ). present (pending_at map'.pending i) ≡ present (pending_at map.pending i) + times i (key ∷ [])) (sym same)
-          (let here = ap present enters.begun.here in let none = ap present enters.begun.vacant in let one = times_head key [] in omega arith))
-          (λ apart. let same = ap present (enters.begun.others k apart) in let none = times_other k key [] apart in omega arith)
+          (λ same. subst (λ (i : ℕ). present (pending_at map'.pending i)
+          ≡ present (pending_at map.pending i) + times i (key ∷ [])) (sym same)
+          (let here = ap present enters.begun.here in let none = ap present enters.begun.vacant in
+          let one = times_head key [] in omega arith))
+          (λ apart. let same = ap present (enters.begun.others k apart) in let none = times_other k key [] apart in
+          omega arith)
 
   pub enter_keyed : AreKeyed map'.pending jobs'
-  enter_keyed = subst (AreKeyed map'.pending) (sym set) (keeps_keyed map.pending map'.pending jobs n job job' keyed there keeps)
+  enter_keyed = subst (AreKeyed map'.pending) (sym set)
+      (keeps_keyed map.pending map'.pending jobs n job job' keyed there keeps)
 
   pub enter_reading : AreReading map'.live jobs'
-  enter_reading = subst (AreReading map'.live) (sym set) (keeps_reading map.live map'.live jobs n job job' reading there (reading_entered map map' job job' ch e moment c key prime enters))
+  enter_reading = subst (AreReading map'.live) (sym set) (keeps_reading map.live map'.live jobs n job job' reading there
+      (reading_entered map map' job job' ch e moment c key prime enters))
 
   module _ (sound : IsSound d map false) (honest : d.honest) (timely : moment.date ≤ 4095)
-      (row : (s : State) → IsKnown d map s → (w : UnderKeys) → IsEnterAnswer (pack_of d) s (job_of w job) (job_of w job') (channel_at (job_of w job) ch) e Done)
-      (protection : (files : Files File) → RestsAt d files → prime.protection ≡ protection_for (found_in (get files prime.ppn) prime.file) (protection_or (slice_index job.core (e + 2)) 0o057)) where
+      (row : (s : State) → IsKnown d map s → (w : UnderKeys)
+      → IsEnterAnswer (pack_of d) s (job_of w job) (job_of w job') (channel_at (job_of w job) ch) e Done)
+      (protection : (files : Files File) → RestsAt d files
+      → prime.protection ≡ protection_for (found_in (get files prime.ppn) prime.file)
+      (protection_or (slice_index job.core (e + 2)) 0o057)) where
     abbrev new_writing : Writing
     new_writing = record { place = place_of prime.ppn prime.file; file = file_begun prime }
 
@@ -138,14 +158,16 @@ module _ (d : DiskState) (map map' : VolumeCore) (jobs jobs' : List (Option Job)
 
       t_is : s ≡ t
       t_is =
-          state_is s w jobs (state.jobs_are ∙ sym (jobs_same state.under key new_writing jobs (keyed.once key ∙ ap present enters.begun.vacant)))
+          state_is s w jobs (state.jobs_are
+          ∙ sym (jobs_same state.under key new_writing jobs (keyed.once key ∙ ap present enters.begun.vacant)))
 
       t_known : IsKnown d map t
       t_known = subst (IsKnown d map) t_is (known d map jobs s state sound honest)
 
       -- where it is
       directory : IsKnownAs s.files prime.ppn prime.file enters.begun.directory
-      directory = home_of d map s.files (rest_holds d map false sound honest refl (without_serials s.files) state.files) sound.whole.map prime.ppn prime.file enters.begun.directory enters.begun.there
+      directory = home_of d map s.files (rest_holds d map false sound honest refl (without_serials s.files) state.files)
+          sound.whole.map prime.ppn prime.file enters.begun.directory enters.begun.there
 
       place_is : place_of prime.ppn prime.file ≡ place_at (job_of w job) e
       place_is = at_place w job e prime.ppn prime.file enters.at.ppn enters.at.name enters.at.ext
@@ -155,44 +177,73 @@ module _ (d : DiskState) (map map' : VolumeCore) (jobs jobs' : List (Option Job)
 
       answer : enter_answer (pack_of d) t (job_of w job) (channel_of w c) e (place_at (job_of w job) e) ≡ Done
       answer = ⊎_elim (λ none. absurd (cc none.0)) (λ is. is.0)
-          (subst (λ o. IsEnterAnswer (pack_of d) t (job_of w job) (job_of w job') o e Done) (channel_is w job ch (Some c) enters.there) (row t t_known w))
+          (subst (λ o. IsEnterAnswer (pack_of d) t (job_of w job) (job_of w job') o e Done)
+          (channel_is w job ch (Some c) enters.there) (row t t_known w))
 
-      opens : output_opened (job_of w job) (channel_of w c) e moment (place_at (job_of w job) e) (digit_at t (job_of w job) (place_at (job_of w job) e)) None (file_at s.files (place_at (job_of w job) e)) ≡ output_of w out
+      opens : output_opened (job_of w job) (channel_of w c) e moment (place_at (job_of w job) e)
+          (digit_at t (job_of w job) (place_at (job_of w job) e)) None (file_at s.files (place_at (job_of w job) e))
+          ≡ output_of w out
       opens =
-          ap (λ p. output_opened (job_of w job) (channel_of w c) e moment p (digit_at t (job_of w job) p) None (file_at s.files p)) (sym place_is)
-          ∙ ap (output_opened (job_of w job) (channel_of w c) e moment (place_of prime.ppn prime.file) (digit_at t (job_of w job) (place_of prime.ppn prime.file)) None) found_is
-          ∙ opened_is w job c e moment (place_of prime.ppn prime.file) (digit_at t (job_of w job) (place_of prime.ppn prime.file)) enters.kind prime directory.directory.protection (ap mode_number enters.at.mode) enters.at.moment_is
+          ap (λ p. output_opened (job_of w job) (channel_of w c) e moment p (digit_at t (job_of w job) p) None
+          (file_at s.files p)) (sym place_is)
+          ∙ ap (output_opened (job_of w job) (channel_of w c) e moment (place_of prime.ppn prime.file)
+          (digit_at t (job_of w job) (place_of prime.ppn prime.file)) None) found_is
+          ∙ opened_is w job c e moment (place_of prime.ppn prime.file)
+          (digit_at t (job_of w job) (place_of prime.ppn prime.file)) enters.kind prime directory.directory.protection
+          (ap mode_number enters.at.mode) enters.at.moment_is
           (get directory.directory.files prime.file) (sym directory.absent ∙ enters.kind_is) directory.few
-          (protection (without_serials s.files) state.files ∙ ap (λ f. protection_for f (protection_or (slice_index job.core (e + 2)) 0o057))
-          (ap (λ o. found_in o prime.file) (shown_at s.files prime.ppn ∙ ap (option_map (map_directory (λ (v : Version). v.file))) directory.there) ∙ ap (found_file directory.directory.protection) (get-map_values name_total (λ (v : Version). v.file) directory.directory.files prime.file)))
-          ∙ (let x = sym (with_same state.under key new_writing) in λ i. record { place = (x i).place; kind = kind_of enters.kind; pending = (x i).file; next = 1 })
+          (protection (without_serials s.files) state.files
+          ∙ ap (λ f. protection_for f (protection_or (slice_index job.core (e + 2)) 0o057))
+          (ap (λ o. found_in o prime.file) (shown_at s.files prime.ppn
+          ∙ ap (option_map (map_directory (λ (v : Version). v.file))) directory.there)
+          ∙ ap (found_file directory.directory.protection)
+          (get-map_values name_total (λ (v : Version). v.file) directory.directory.files prime.file)))
+          ∙ (let x = sym (with_same state.under key new_writing) in
+          λ i. record { place = (x i).place; kind = kind_of enters.kind; pending = (x i).file; next = 1 })
 
       -- the row
       row_is : (serial : ℕ) → step (pack_of d) serial t (Calls n (Enter ch e) moment) ≡ (Done, state_of s.files w jobs')
       row_is serial =
           called d jobs n (Enter ch e) moment serial s.files w timely job there
-          ∙ ap (λ o. on_channel t o (λ x. of_job t n (enter (pack_of d) t (job_of w job) ch x e moment))) (channel_is w job ch (Some c) enters.there)
+          ∙ ap (λ o. on_channel t o (λ x. of_job t n (enter (pack_of d) t (job_of w job) ch x e moment)))
+          (channel_is w job ch (Some c) enters.there)
           ∙ ap (of_job t n)
-          (ap (λ r. settled r (enter_done (pack_of d) t (job_of w job) ch (channel_of w c) e moment (place_at (job_of w job) e)) (refused_at (job_of w job) e)) answer
+          (ap (λ r. settled r (enter_done (pack_of d) t (job_of w job) ch (channel_of w c) e moment
+          (place_at (job_of w job) e)) (refused_at (job_of w job) e)) answer
           ∙ ap (λ o. (
             Done,
-            entered (pack_of d) (job_of w job) ch (channel_of w c) e (input_updating o (file_at s.files (place_at (job_of w job) e)))
-                (output_opened (job_of w job) (channel_of w c) e moment (place_at (job_of w job) e) (digit_at t (job_of w job) (place_at (job_of w job) e)) o (file_at s.files (place_at (job_of w job) e))),
+            entered (pack_of d) (job_of w job) ch (channel_of w c) e
+                (input_updating o (file_at s.files (place_at (job_of w job) e)))
+                (output_opened (job_of w job) (channel_of w c) e moment (place_at (job_of w job) e)
+                (digit_at t (job_of w job) (place_at (job_of w job) e)) o
+                (file_at s.files (place_at (job_of w job) e))),
           )) (ap (option_map (input_of w)) enters.unread)
           ∙ ap (λ o. (Done, entered (pack_of d) (job_of w job) ch (channel_of w c) e None o)) opens
-          ∙ ap (λ o. (Done, entered (pack_of d) (job_of w job) ch (channel_of w c) e (option_map (input_of w) o) (output_of w out))) (sym enters.unread)
-          ∙ ap (λ (x : Writing). (Done, with_channel (record (job_of w job) { core = with_attributes 1 job.core e x.file }) ch (Some (channel_of w (entering.entered c key enters.kind))))) (with_same state.under key new_writing)
-          ∙ ap (λ j. (Done, j)) (channel_set w (record job { core = with_attributes 1 job.core e (file_begun prime) }) ch (Some (entering.entered c key enters.kind)) ∙ ap (job_of w) (sym enters.job_is)))
+          ∙ ap (λ o. (
+            Done,
+            entered (pack_of d) (job_of w job) ch (channel_of w c) e (option_map (input_of w) o)
+                (output_of w out),
+          )) (sym enters.unread)
+          ∙ ap (λ (x : Writing). (
+            Done,
+            with_channel (record (job_of w job) { core = with_attributes 1 job.core e x.file }) ch
+                (Some (channel_of w (entering.entered c key enters.kind))),
+          )) (with_same state.under key new_writing)
+          ∙ ap (λ j. (Done, j)) (channel_set w (record job { core = with_attributes 1 job.core e (file_begun prime) })
+          ch (Some (entering.entered c key enters.kind)) ∙ ap (job_of w) (sym enters.job_is)))
           ∙ ap (λ x. (Done, x)) (job_set s.files w jobs n job' ∙ ap (state_of s.files w) (sym set))
 
       -- what is written under the new key
-      begins : (k : ℕ) (p : PendingVersion) → pending_at map'.pending k ≡ Some p → k ≡ key → p ≡ begun prime (is_absent prime.file enters.begun.directory)
+      begins : (k : ℕ) (p : PendingVersion) → pending_at map'.pending k ≡ Some p → k ≡ key
+          → p ≡ begun prime (is_absent prime.file enters.begun.directory)
       begins k p at same = some_same (sym at ∙ ap (pending_at map'.pending) same ∙ enters.begun.here)
 
-      new_version : (k : ℕ) (p : PendingVersion) → pending_at map'.pending k ≡ Some p → k ≡ key → IsWriting d p (w.written k)
+      new_version : (k : ℕ) (p : PendingVersion) → pending_at map'.pending k ≡ Some p → k ≡ key
+          → IsWriting d p (w.written k)
       new_version k p at same =
           subst (λ v. IsWriting d v (w.written k)) (sym (begins k p at same))
-          (subst (IsWriting d (begun prime (is_absent prime.file enters.begun.directory))) (sym (ap w.written same ∙ with_same state.under key new_writing)) (record {
+          (subst (IsWriting d (begun prime (is_absent prime.file enters.begun.directory)))
+          (sym (ap w.written same ∙ with_same state.under key new_writing)) (record {
             place = refl;
             protection = refl;
             mode = refl;
@@ -202,10 +253,13 @@ module _ (d : DiskState) (map map' : VolumeCore) (jobs jobs' : List (Option Job)
             body = record { each = []; undamaged = tt; whole = tt; body_is = refl };
           }))
 
-      new_absent : (k : ℕ) (p : PendingVersion) → pending_at map'.pending k ≡ Some p → k ≡ key → p.is_new ≡ true → file_at s.files (w.written k).place ≡ None
+      new_absent : (k : ℕ) (p : PendingVersion) → pending_at map'.pending k ≡ Some p → k ≡ key → p.is_new ≡ true
+          → file_at s.files (w.written k).place ≡ None
       new_absent k p at same is_new =
-          ap (λ (x : Writing). file_at s.files x.place) (ap w.written same ∙ with_same state.under key new_writing) ∙ found_is
-          ∙ gone (get directory.directory.files prime.file) (sym directory.absent ∙ ap (λ (v : PendingVersion). v.is_new) (sym (begins k p at same)) ∙ is_new)
+          ap (λ (x : Writing). file_at s.files x.place) (ap w.written same ∙ with_same state.under key new_writing)
+          ∙ found_is
+          ∙ gone (get directory.directory.files prime.file) (sym directory.absent
+          ∙ ap (λ (v : PendingVersion). v.is_new) (sym (begins k p at same)) ∙ is_new)
         where
           gone : (o : Option Version) → is_none o ≡ true → o ≡ None
           gone None e = refl
@@ -215,20 +269,26 @@ module _ (d : DiskState) (map map' : VolumeCore) (jobs jobs' : List (Option Job)
       primes : (ppn : ℕ) (name : FileName) → prime_at map' ppn name ≡ prime_at map ppn name
       primes ppn name = ap (λ k. prime_at (record map { known = k }) ppn name) enters.begun.known
 
-      pub entered_leads : (failed : Bool) → failed ≡ false → (new : Service) × Serves d map' failed jobs' new × Answers (pack_of d) (Serving s) (Calls n (Enter ch e) moment) Done new
+      pub entered_leads : (failed : Bool) → failed ≡ false → (new : Service) × Serves d map' failed jobs' new
+          × Answers (pack_of d) (Serving s) (Calls n (Enter ch e) moment) Done new
       entered_leads failed serves =
-          goes_on d map' failed jobs' (pack_of d) (Calls n (Enter ch e) moment) Done s (state_of s.files w jobs') serves state.sound
-          (λ serial. subst (λ x. step (pack_of d) serial x (Calls n (Enter ch e) moment) ≡ (Done, state_of s.files w jobs')) (sym t_is) (row_is serial))
+          goes_on d map' failed jobs' (pack_of d) (Calls n (Enter ch e) moment) Done s
+          (state_of s.files w jobs') serves state.sound
+          (λ serial. subst (λ x. step (pack_of d) serial x (Calls n (Enter ch e) moment)
+          ≡ (Done, state_of s.files w jobs')) (sym t_is) (row_is serial))
           (λ still. record {
             files = state.files;
             serials = state.serials;
             under = w;
             versions = λ k p at. same_or_not k key (new_version k p at)
-                (λ apart. subst (IsWriting d p) (sym (with_other state.under key new_writing k apart)) (state.versions k p (sym (enters.begun.others k apart) ∙ at)));
+                (λ apart. subst (IsWriting d p) (sym (with_other state.under key new_writing k apart))
+                (state.versions k p (sym (enters.begun.others k apart) ∙ at)));
             absent = λ k p at is_new. same_or_not k key (λ same. new_absent k p at same is_new)
-                (λ apart. ap (λ (x : Writing). file_at s.files x.place) (with_other state.under key new_writing k apart) ∙ state.absent k p (sym (enters.begun.others k apart) ∙ at) is_new);
+                (λ apart. ap (λ (x : Writing). file_at s.files x.place) (with_other state.under key new_writing k apart)
+                ∙ state.absent k p (sym (enters.begun.others k apart) ∙ at) is_new);
             keyed = enter_keyed;
-            read = reads_kept d d map map' state.under.read enters.begun.live (λ k v at some m held. refl) s.files primes state.read;
+            read = reads_kept d d map map' state.under.read enters.begun.live
+                (λ k v at some m held. refl) s.files primes state.read;
             reading = enter_reading;
             jobs_are = refl;
             sound = still;

@@ -1,5 +1,6 @@
 -- What an ENTER leaves that begins nothing.
-use Rattle.std.proofs.Common.{◌≡◌, ◌≤◌, ℕ, Bool, true, false, List, Option, None, Some, refl, sym, ap, subst, ◌∙◌, inl, inr, slice_set}
+use Rattle.std.proofs.Common.{◌≡◌, ◌≤◌, ℕ, Bool, true, false, List, Option, None, Some, refl, sym, ap, subst, ◌∙◌, inl}
+use Rattle.std.proofs.Common.{inr, slice_set}
 use Rattle.std.specs.Prelude.{if◌then◌else◌}
 use Rattle.words36.specs.declared.moment.Moment.{Moment}
 use Rattle.blockdisk.specs.Disk.{DiskState}
@@ -25,7 +26,8 @@ use Rattle.monitor.specs.Unserved.{IsReading, refusal_at, job_refused}
 use Rattle.monitor.specs.Serving.{pack_of, AreKeyed, AreReading, IsState, Serves}
 use Rattle.monitor.specs.Sides.{UnderKeys, sides_in, job_of, state_of}
 use Rattle.monitor.specs.declared.job.Job.{Job}
-use Rattle.monitor.proofs.Answering.{state_is, slot_of, job_set, called, goes_on, same_files, settled_with, settled_reply}
+use Rattle.monitor.proofs.Answering.{state_is, slot_of, job_set, called, goes_on, same_files, settled_with}
+use Rattle.monitor.proofs.Answering.{settled_reply}
 use Rattle.monitor.proofs.Calling.{job_same}
 use Rattle.monitor.proofs.Dropped.{job_keyed, leaves_none}
 use Rattle.monitor.proofs.EnterReads.{reading_same}
@@ -38,8 +40,10 @@ never_done : (b : Bool) → (if b then AddressCheck else Refused 5) ≡ Done →
 never_done true e = cc e
 never_done false e = cc e
 
-pub stays : (map map' : VolumeCore) (job job' : Job) (ch e : ℕ) (reply : Reply) → ((reply ≡ Done → ⊥) → (map' ≡ map) × (job' ≡ record job { core = job'.core }))
-    → (IsReading (slot job.channels ch) → (reply ≡ refusal_at job e 4) × (job' ≡ job_refused job e 4)) → IsReading (slot job.channels ch)
+pub stays : (map map' : VolumeCore) (job job' : Job) (ch e : ℕ) (reply : Reply)
+    → ((reply ≡ Done → ⊥) → (map' ≡ map) × (job' ≡ record job { core = job'.core }))
+    → (IsReading (slot job.channels ch) → (reply ≡ refusal_at job e 4) × (job' ≡ job_refused job e 4))
+    → IsReading (slot job.channels ch)
     → (map' ≡ map) × (reply ≡ refusal_at job e 4) × (job' ≡ job_refused job e 4)
 stays map map' job job' ch e reply kept unserved reads =
     let is = unserved reads in
@@ -47,16 +51,23 @@ stays map map' job job' ch e reply kept unserved reads =
     ((kept not).0, is.0, is.1)
 
 -- What every other answer leaves.
-module _ (d : DiskState) (map : VolumeCore) (failed : Bool) (jobs jobs' : List (Option Job)) (n : ℕ) (job job' : Job) (ch e : ℕ) (moment : Moment) (reply : Reply)
-    (there : slot jobs n ≡ Some job) (set : jobs' ≡ slice_set jobs n (Some job')) (kept : job' ≡ record job { core = job'.core }) (not_done : reply ≡ Done → ⊥) (keyed : AreKeyed map.pending jobs) (reading : AreReading map.live jobs) where
+module _ (d : DiskState) (map : VolumeCore) (failed : Bool) (jobs jobs' : List (Option Job)) (n : ℕ) (job job' : Job)
+    (ch e : ℕ) (moment : Moment) (reply : Reply)
+    (there : slot jobs n ≡ Some job) (set : jobs' ≡ slice_set jobs n (Some job')) (kept : job'
+    ≡ record job { core = job'.core }) (not_done : reply ≡ Done
+    → ⊥) (keyed : AreKeyed map.pending jobs) (reading : AreReading map.live jobs) where
   pub other_keyed : AreKeyed map.pending jobs'
-  other_keyed = subst (AreKeyed map.pending) (sym set) (job_keyed map.pending jobs n (Some job') keyed (ap (λ j. sides_in (Some j)) kept ∙ ap sides_in (sym there)))
+  other_keyed = subst (AreKeyed map.pending) (sym set)
+      (job_keyed map.pending jobs n (Some job') keyed (ap (λ j. sides_in (Some j)) kept ∙ ap sides_in (sym there)))
 
   pub other_reading : AreReading map.live jobs'
-  other_reading = subst (AreReading map.live) (sym set) (keeps_reading map.live map.live jobs n job job' reading there (reading_same map map job job' refl kept))
+  other_reading = subst (AreReading map.live) (sym set)
+      (keeps_reading map.live map.live jobs n job job' reading there (reading_same map map job job' refl kept))
 
   module _ (sound : IsSound d map false) (honest : d.honest) (timely : moment.date ≤ 4095)
-      (row : (s : State) → IsKnown d map s → (w : UnderKeys) → IsEnterAnswer (pack_of d) s (job_of w job) (job_of w job') (channel_at (job_of w job) ch) e reply) (s : State) (state : IsState d map jobs s) where
+      (row : (s : State) → IsKnown d map s → (w : UnderKeys)
+      → IsEnterAnswer (pack_of d) s (job_of w job) (job_of w job') (channel_at (job_of w job) ch) e reply)
+      (s : State) (state : IsState d map jobs s) where
     abbrev before : State
     before = state_of s.files state.under jobs
 
@@ -64,42 +75,64 @@ module _ (d : DiskState) (map : VolumeCore) (failed : Bool) (jobs jobs' : List (
     before_is = state_is s state.under jobs state.jobs_are
 
     abbrev Leads : Type 0
-    Leads = (new : Service) × Serves d map failed jobs' new × Answers (pack_of d) (Serving s) (Calls n (Enter ch e) moment) reply new
+    Leads = (new : Service) × Serves d map failed jobs' new
+        × Answers (pack_of d) (Serving s) (Calls n (Enter ch e) moment) reply new
 
     -- by a step of the machine
-    by_step : failed ≡ false → ((serial : ℕ) → call_of (pack_of d) serial before n (job_of state.under job) (Enter ch e) moment ≡ (reply, with_job before n (job_of state.under job'))) → Leads
+    by_step : failed ≡ false → ((serial : ℕ)
+        → call_of (pack_of d) serial before n (job_of state.under job) (Enter ch e) moment
+        ≡ (reply, with_job before n (job_of state.under job'))) → Leads
     by_step serves steps =
-        goes_on d map failed jobs' (pack_of d) (Calls n (Enter ch e) moment) reply s (state_of s.files state.under jobs') serves state.sound
-        (λ serial. subst (λ x. step (pack_of d) serial x (Calls n (Enter ch e) moment) ≡ (reply, state_of s.files state.under jobs')) (sym before_is)
-        (called d jobs n (Enter ch e) moment serial s.files state.under timely job there ∙ steps serial ∙ ap (λ x. (reply, x)) (job_set s.files state.under jobs n job' ∙ ap (state_of s.files state.under) (sym set))))
+        goes_on d map failed jobs' (pack_of d) (Calls n (Enter ch e) moment) reply s
+        (state_of s.files state.under jobs') serves state.sound
+        (λ serial. subst (λ x. step (pack_of d) serial x (Calls n (Enter ch e) moment)
+        ≡ (reply, state_of s.files state.under jobs')) (sym before_is)
+        (called d jobs n (Enter ch e) moment serial s.files state.under timely job there ∙ steps serial
+        ∙ ap (λ x. (reply, x)) (job_set s.files state.under jobs n job' ∙ ap (state_of s.files state.under) (sym set))))
         (same_files d map map failed jobs jobs' other_keyed other_reading (leaves_none map) s state)
 
     -- on the channel
     abbrev row_for : Option machine.Channel → Reply × State
-    row_for o = on_channel before o (λ x. of_job before n (enter (pack_of d) before (job_of state.under job) ch x e moment))
+    row_for o = on_channel before o
+        (λ x. of_job before n (enter (pack_of d) before (job_of state.under job) ch x e moment))
 
-    by_channel : failed ≡ false → (o : Option machine.Channel) → channel_at (job_of state.under job) ch ≡ o → IsEnterAnswer (pack_of d) before (job_of state.under job) (job_of state.under job') o e reply → Leads
+    by_channel : failed ≡ false → (o : Option machine.Channel) → channel_at (job_of state.under job) ch ≡ o
+        → IsEnterAnswer (pack_of d) before (job_of state.under job) (job_of state.under job') o e reply → Leads
     by_channel serves None at is =
-        by_step serves (λ serial. ap row_for at ∙ ap (λ r. (r, before)) (sym is.0) ∙ ap (λ x. (reply, x)) (job_same before n (job_of state.under job) (slot_of state.under jobs n (Some job) there) ∙ ap (with_job before n) (sym is.1)))
+        by_step serves (λ serial. ap row_for at ∙ ap (λ r. (r, before)) (sym is.0)
+        ∙ ap (λ x. (reply, x)) (job_same before n (job_of state.under job) (slot_of state.under jobs n (Some job) there)
+        ∙ ap (with_job before n) (sym is.1)))
     by_channel serves (Some x) at (inl wants) = (
       Serving (state_of s.files state.under jobs'),
-      (serves, same_files d map map failed jobs jobs' other_keyed other_reading (leaves_none map) s state (subst meaning.IsSound unchanged state.sound)),
+      (
+        serves,
+        same_files d map map failed jobs jobs' other_keyed other_reading (leaves_none map) s state
+            (subst meaning.IsSound unchanged state.sound),
+      ),
       inr (
         wants.0,
         sym unchanged,
-        ap (λ y. is_plain ((step (pack_of d) 0 y (Calls n (Enter ch e) moment)).0)) before_is ∙ ap (λ r. is_plain r.0) (called d jobs n (Enter ch e) moment 0 s.files state.under timely job there)
-            ∙ ap (λ o. is_plain ((row_for o).0)) at ∙ ap is_plain (settled_reply (enter_answer (pack_of d) before (job_of state.under job) x e (place_at (job_of state.under job) e)) _ _) ∙ wants.1,
+        ap (λ y. is_plain ((step (pack_of d) 0 y (Calls n (Enter ch e) moment)).0)) before_is
+            ∙ ap (λ r. is_plain r.0) (called d jobs n (Enter ch e) moment 0 s.files state.under timely job there)
+            ∙ ap (λ o. is_plain ((row_for o).0)) at
+            ∙ ap is_plain (settled_reply (enter_answer (pack_of d) before (job_of state.under job) x e
+            (place_at (job_of state.under job) e)) _ _) ∙ wants.1,
         refl,
       ),
     )
       where
         unchanged : s ≡ state_of s.files state.under jobs'
         unchanged =
-            before_is ∙ job_same before n (job_of state.under job) (slot_of state.under jobs n (Some job) there) ∙ ap (with_job before n) (sym wants.2) ∙ job_set s.files state.under jobs n job' ∙ ap (state_of s.files state.under) (sym set)
+            before_is ∙ job_same before n (job_of state.under job) (slot_of state.under jobs n (Some job) there)
+            ∙ ap (with_job before n) (sym wants.2) ∙ job_set s.files state.under jobs n job'
+            ∙ ap (state_of s.files state.under) (sym set)
     by_channel serves (Some x) at (inr is) =
         by_step serves (λ serial. ap row_for at
-        ∙ ap (of_job before n) (ap (λ r. settled r (enter_done (pack_of d) before (job_of state.under job) ch x e moment (place_at (job_of state.under job) e)) (refused_at (job_of state.under job) e)) is.0
-        ∙ settled_with reply _ (refused_at (job_of state.under job) e) not_done ∙ ap (λ j. (reply, j)) (sym (is.1 not_done))))
+        ∙ ap (of_job before n) (ap (λ r. settled r (enter_done (pack_of d) before (job_of state.under job) ch x e moment
+        (place_at (job_of state.under job) e)) (refused_at (job_of state.under job) e)) is.0
+        ∙ settled_with reply _ (refused_at (job_of state.under job) e) not_done
+        ∙ ap (λ j. (reply, j)) (sym (is.1 not_done))))
 
     pub other_leads : failed ≡ false → Leads
-    other_leads serves = by_channel serves (channel_at (job_of state.under job) ch) refl (row before (subst (IsKnown d map) before_is (known d map jobs s state sound honest)) state.under)
+    other_leads serves = by_channel serves (channel_at (job_of state.under job) ch) refl
+        (row before (subst (IsKnown d map) before_is (known d map jobs s state sound honest)) state.under)

@@ -13,7 +13,8 @@ use Rattle.meaning.specs.declared.call.Call.{Call}
 use Rattle.meaning.specs.declared.call.Event.{Event}
 use Rattle.meaning.specs.declared.call.Event.TheVariants.{Call as Calls}
 use Rattle.meaning.specs.declared.call.Reply.{Reply}
-use Rattle.meaning.specs.declared.call.Reply.TheVariants.{Done, Value, Refused, Stopped, NoChannel, AddressCheck, NoJob, NoMemory, Device, Failed, DateRange}
+use Rattle.meaning.specs.declared.call.Reply.TheVariants.{Done, Value, Refused, Stopped, NoChannel, AddressCheck, NoJob}
+use Rattle.meaning.specs.declared.call.Reply.TheVariants.{NoMemory, Device, Failed, DateRange}
 use Rattle.meaning.proofs.SerialLaws as serials
 use Rattle.volume.specs.Live.{VolumeCore}
 use Rattle.monitor.specs.Events.{CallCrashes, IsIdle, OfCall}
@@ -22,28 +23,39 @@ use Rattle.monitor.specs.declared.job.Job.{Job}
 use Rattle.monitor.proofs.Untouched.{untouched_leaves}
 
 -- whatever a crash may leave stands for the files of the state that the monitor stands for
-pub state_stands : (d : DiskState) (map : VolumeCore) (jobs : List (Option Job)) (s : State) → IsState d map jobs s → (c : Contents) → MayLeave d c → StandsForState (pack_of d) s c
-state_stands d map jobs s is c left = rest_settles d (λ x. SettledStands d.size x (without_serials s.files)) is.files c left
+pub state_stands : (d : DiskState) (map : VolumeCore) (jobs : List (Option Job)) (s : State) → IsState d map jobs s
+    → (c : Contents) → MayLeave d c → StandsForState (pack_of d) s c
+state_stands d map jobs s is c left = rest_settles d (λ x. SettledStands d.size x (without_serials s.files))
+    is.files c left
 
 -- an event that leaves the disk alone
-pub untouched_event : {D : Type 0} (state : D → DiskState) → ((disk : D) (contents : Contents) → (state disk).honest → (state disk).left_since (state disk).clock contents → MayLeave (state disk) contents)
-    → (old new : D) → new ≡ old → (map : VolumeCore) (jobs : List (Option Job)) (event : Event) (reply : Reply) → (state new).honest → (s : State) → IsState (state old) map jobs s
+pub untouched_event : {D : Type 0} (state : D → DiskState) → ((disk : D) (contents : Contents) → (state disk).honest
+    → (state disk).left_since (state disk).clock contents → MayLeave (state disk) contents)
+    → (old new : D) → new ≡ old → (map : VolumeCore) (jobs : List (Option Job)) (event : Event) (reply : Reply)
+    → (state new).honest → (s : State) → IsState (state old) map jobs s
     → LeavesOnly (state old) (state new) (StandsForEither (pack_of (state old)) s event reply)
 untouched_event state only_now old new same map jobs event reply honest s is =
-    untouched_leaves state only_now old new same honest (StandsForEither (pack_of (state old)) s event reply) (λ c left. inl (state_stands (state old) map jobs s is c left))
+    untouched_leaves state only_now old new same honest (StandsForEither (pack_of (state old)) s event reply)
+    (λ c left. inl (state_stands (state old) map jobs s is c left))
 
 -- a call that may have changed the files, whatever serial it chose
-pub changing_event : (d d' : DiskState) (map : VolumeCore) (jobs : List (Option Job)) (n : ℕ) (call : Call) (moment : Moment) (reply : Reply) → IsTrue (may_change reply) → CallCrashes d d' map jobs n call moment
-    → d'.honest → (s : State) → IsState d map jobs s → LeavesOnly d d' (StandsForEither (pack_of d) s (Calls n call moment) reply)
+pub changing_event : (d d' : DiskState) (map : VolumeCore) (jobs : List (Option Job)) (n : ℕ) (call : Call)
+    (moment : Moment) (reply : Reply) → IsTrue (may_change reply) → CallCrashes d d' map jobs n call moment
+    → d'.honest → (s : State) → IsState d map jobs s
+    → LeavesOnly d d' (StandsForEither (pack_of d) s (Calls n call moment) reply)
 changing_event d d' map jobs n call moment reply may crash honest s is =
     leaves_weaker d d' _ (StandsForEither (pack_of d) s (Calls n call moment) reply) (crash honest s is)
-    (λ c. ⊎_elim (λ was. inl was) (λ after. inr (may, subst (Stands d.size c) (serials.same_files (pack_of d) after.0 0 s (Calls n call moment)) after.1)))
+    (λ c. ⊎_elim (λ was. inl was) (λ after.
+    inr (may, subst (Stands d.size c) (serials.same_files (pack_of d) after.0 0 s (Calls n call moment)) after.1)))
 
-module _ {D : Type 0} (state : D → DiskState) (only_now : (disk : D) (contents : Contents) → (state disk).honest → (state disk).left_since (state disk).clock contents → MayLeave (state disk) contents)
-    (old new : D) (map : VolumeCore) (jobs : List (Option Job)) (n : ℕ) (call : Call) (moment : Moment) (crash : CallCrashes (state old) (state new) map jobs n call moment) (honest : (state new).honest) (s : State)
+module _ {D : Type 0} (state : D → DiskState) (only_now : (disk : D) (contents : Contents) → (state disk).honest
+    → (state disk).left_since (state disk).clock contents → MayLeave (state disk) contents)
+    (old new : D) (map : VolumeCore) (jobs : List (Option Job)) (n : ℕ) (call : Call) (moment : Moment)
+    (crash : CallCrashes (state old) (state new) map jobs n call moment) (honest : (state new).honest) (s : State)
     (is : IsState (state old) map jobs s) where
   abbrev Leaves : Reply → Type 0
-  Leaves reply = LeavesOnly (state old) (state new) (StandsForEither (pack_of (state old)) s (Calls n call moment) reply)
+  Leaves reply = LeavesOnly (state old) (state new)
+      (StandsForEither (pack_of (state old)) s (Calls n call moment) reply)
 
   still : (reply : Reply) → new ≡ old → Leaves reply
   still reply same = untouched_event state only_now old new same map jobs (Calls n call moment) reply honest s is

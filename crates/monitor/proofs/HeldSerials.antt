@@ -12,7 +12,8 @@ use Rattle.meaning.proofs.MapLaws.{some_same, same_or_other}
 use Rattle.meaning.proofs.MapSums.{sum-values, sum-insert_over, at-le-sum, two-le-sum}
 use Rattle.meaning.proofs.Names.{name_total, name_exact}
 use Rattle.meaning.proofs.PlaceLaws.{directory_of_file}
-use Rattle.monitor.proofs.PublishedFiles.{with_serial, copies, none_copies, copies_none, distinct_few, versions_in, copies-files, copies-put, one_if}
+use Rattle.monitor.proofs.PublishedFiles.{with_serial, copies, none_copies, copies_none, distinct_few, versions_in}
+use Rattle.monitor.proofs.PublishedFiles.{copies-files, copies-put, one_if}
 
 module _ (k : ℕ) where
   counts_one : (x : Version) → x.serial ≡ k → with_serial k x ≡ 1
@@ -26,7 +27,8 @@ module _ (k : ℕ) where
   inside d = copies k (values d.files)
 
   -- a file of this serial is counted
-  is_counted : (files : Files Version) (place : Place) (x : Version) → file_at files place ≡ Some x → x.serial ≡ k → 0 < copies k (versions_in files)
+  is_counted : (files : Files Version) (place : Place) (x : Version) → file_at files place ≡ Some x → x.serial ≡ k
+      → 0 < copies k (versions_in files)
   is_counted files place x at same =
       let d = directory_of_file files place x at in
       let one = counts_one x same in
@@ -37,7 +39,8 @@ module _ (k : ℕ) where
       omega arith
 
   -- two of them at two places are two
-  two_counted : (files : Files Version) (p q : Place) (x y : Version) → file_at files p ≡ Some x → file_at files q ≡ Some y → x.serial ≡ k → y.serial ≡ k → (p ≡ q → ⊥) → 2 ≤ copies k (versions_in files)
+  two_counted : (files : Files Version) (p q : Place) (x y : Version) → file_at files p ≡ Some x
+      → file_at files q ≡ Some y → x.serial ≡ k → y.serial ≡ k → (p ≡ q → ⊥) → 2 ≤ copies k (versions_in files)
   two_counted files p q x y at at' same same' apart =
       let d = directory_of_file files p x at in
       let e = directory_of_file files q y at' in
@@ -48,7 +51,9 @@ module _ (k : ℕ) where
       ⊎_elim
       (λ (here : q.ppn ≡ p.ppn).
       let directory : e.0 ≡ d.0 = some_same (sym e.1 ∙ ap (get files) here ∙ d.1) in
-      let both = two-le-sum name_total name_exact (with_serial k) d.0.files p.name q.name x y d.2 (ap (λ (z : Directory Version). get z.files q.name) (sym directory) ∙ e.2) (λ name. apart (λ i. record { ppn = sym here i; name = sym name i })) in
+      let both = two-le-sum name_total name_exact (with_serial k) d.0.files p.name q.name x y d.2
+      (ap (λ (z : Directory Version). get z.files q.name) (sym directory)
+      ∙ e.2) (λ name. apart (λ i. record { ppn = sym here i; name = sym name i })) in
       let all = at-le-sum nat_cmp_total nat_cmp-IsAntisymmetric inside files p.ppn d.0 d.1 in
       omega arith)
       (λ elsewhere.
@@ -60,11 +65,15 @@ module _ (k : ℕ) where
       (same_or_other nat_cmp_total nat_cmp-IsAntisymmetric q.ppn p.ppn)
 
   -- a version in the place of another
-  put_over : (files : Files Version) (place : Place) (v x : Version) → file_at files place ≡ Some x → copies k (versions_in (with_file files place v)) + with_serial k x ≡ copies k (versions_in files) + with_serial k v
+  put_over : (files : Files Version) (place : Place) (v x : Version) → file_at files place ≡ Some x
+      → copies k (versions_in (with_file files place v)) + with_serial k x
+      ≡ copies k (versions_in files) + with_serial k v
   put_over files place v x at =
       let d = directory_of_file files place x at in
       let new : Directory Version = record d.0 { files = insert d.0.files place.name v } in
-      let put : copies k (versions_in (with_file files place v)) ≡ copies k (versions_in (insert files place.ppn new)) = ap (λ o. copies k (versions_in (with_file_in o files place v))) d.1 in
+      let put : copies k (versions_in (with_file files place v))
+      ≡ copies k (versions_in (insert files place.ppn new)) = ap
+      (λ o. copies k (versions_in (with_file_in o files place v))) d.1 in
       let in_files = sum-insert_over nat_cmp_total nat_cmp-IsAntisymmetric inside files place.ppn new d.0 d.1 in
       let in_names = sum-insert_over name_total name_exact (with_serial k) d.0.files place.name v x d.2 in
       let all = copies-files k files in
@@ -74,7 +83,8 @@ module _ (k : ℕ) where
       omega arith
 
 -- a serial that no version has is not that of a file
-pub not_there : (files : Files Version) (place : Place) (x : Version) (k : ℕ) → file_at files place ≡ Some x → has_serial k (versions_in files) ≡ false → x.serial ≡ k → ⊥
+pub not_there : (files : Files Version) (place : Place) (x : Version) (k : ℕ) → file_at files place ≡ Some x
+    → has_serial k (versions_in files) ≡ false → x.serial ≡ k → ⊥
 not_there files place x k at none same =
     let some = is_counted k files place x at same in
     let zero = none_copies (versions_in files) k none in
@@ -82,10 +92,14 @@ not_there files place x k at none same =
 
 module _ (files : Files Version) (distinct : AreDistinct (versions_in files)) where
   -- where serials are distinct, one place has it
-  pub one_at : (p q : Place) (x y : Version) → file_at files p ≡ Some x → file_at files q ≡ Some y → x.serial ≡ y.serial → p ≡ q
+  pub one_at : (p q : Place) (x y : Version) → file_at files p ≡ Some x → file_at files q ≡ Some y → x.serial ≡ y.serial
+      → p ≡ q
   one_at p q x y at at' same = ⊎_elim
-      (λ (here : p.ppn ≡ q.ppn). ⊎_elim (λ (name : p.name ≡ q.name). λ i. record { ppn = here i; name = name i }) (λ apart. absurd (twice (λ is. apart (ap (λ (z : Place). z.name) is)))) (same_or_other name_total name_exact p.name q.name))
-      (λ apart. absurd (twice (λ is. apart (ap (λ (z : Place). z.ppn) is)))) (same_or_other nat_cmp_total nat_cmp-IsAntisymmetric p.ppn q.ppn)
+      (λ (here : p.ppn ≡ q.ppn). ⊎_elim (λ (name : p.name ≡ q.name). λ i. record { ppn = here i; name = name i })
+      (λ apart. absurd (twice (λ is. apart (ap (λ (z : Place). z.name) is))))
+      (same_or_other name_total name_exact p.name q.name))
+      (λ apart. absurd (twice (λ is. apart (ap (λ (z : Place). z.ppn) is))))
+      (same_or_other nat_cmp_total nat_cmp-IsAntisymmetric p.ppn q.ppn)
     where
       twice : (p ≡ q → ⊥) → ⊥
       twice apart =
@@ -94,7 +108,8 @@ module _ (files : Files Version) (distinct : AreDistinct (versions_in files)) wh
           omega arith
 
   -- and none where a version of another serial is put there
-  pub superseded : (place : Place) (v x : Version) → file_at files place ≡ Some x → (v.serial ≡ x.serial → ⊥) → has_serial x.serial (versions_in (with_file files place v)) ≡ false
+  pub superseded : (place : Place) (v x : Version) → file_at files place ≡ Some x → (v.serial ≡ x.serial → ⊥)
+      → has_serial x.serial (versions_in (with_file files place v)) ≡ false
   superseded place v x at apart =
       let put = put_over x.serial files place v x at in
       let one = counts_one x.serial x refl in
@@ -103,7 +118,8 @@ module _ (files : Files Version) (distinct : AreDistinct (versions_in files)) wh
       copies_none (versions_in (with_file files place v)) x.serial (omega arith)
 
 -- a serial that no version has is still none's
-pub still_none : (files : Files Version) (place : Place) (v : Version) (k : ℕ) → has_serial k (versions_in files) ≡ false → (v.serial ≡ k → ⊥) → has_serial k (versions_in (with_file files place v)) ≡ false
+pub still_none : (files : Files Version) (place : Place) (v : Version) (k : ℕ) → has_serial k (versions_in files)
+    ≡ false → (v.serial ≡ k → ⊥) → has_serial k (versions_in (with_file files place v)) ≡ false
 still_none files place v k none apart =
     let zero = none_copies (versions_in files) k none in
     let other = counts_none k v apart in

@@ -1,5 +1,6 @@
 -- IN: the words that a list names, dealt out.
-use Rattle.std.proofs.Common.{◌≡◌, ℕ, zero, suc, ◌+◌, ◌-◌, ◌<◌, ◌≤◌, List, [], ◌∷◌, ◌++◌, length, take, drop, min, Option, Some, refl, sym, ap, subst, ◌∙◌, arith}
+use Rattle.std.proofs.Common.{◌≡◌, ℕ, zero, suc, ◌+◌, ◌-◌, ◌<◌, ◌≤◌, List, [], ◌∷◌, ◌++◌, length, take, drop, min}
+use Rattle.std.proofs.Common.{Option, Some, refl, sym, ap, subst, ◌∙◌, arith}
 use Rattle.std.specs.List.{All}
 use Rattle.std.proofs.lemmas.List.{drop-take, length-drop, drop_all}
 use Rattle.std.proofs.lemmas.List.Elements.{All-head}
@@ -19,7 +20,10 @@ take_front (suc c) (suc m) (x ∷ xs) less = ap (λ ys. x ∷ ys) (take_front c 
 dealt_enough : (areas : List Area) (words : List ℕ) → dealt areas (take (word_count areas) words) ≡ dealt areas words
 dealt_enough [] words = refl
 dealt_enough (area ∷ areas) words =
-    rw (take_front area.count (area.count + word_count areas) words (omega arith), drop-take area.count (word_count areas) words)
+    rw (
+      take_front area.count (area.count + word_count areas) words (omega arith),
+      drop-take area.count (word_count areas) words,
+    )
     (ap (λ writes. placed area.first (take area.count words) ++ writes) (dealt_enough areas (drop area.count words)))
 
 -- areas that have words each, and none together
@@ -39,19 +43,23 @@ module _ (listed : Option (List Area)) (found : List Area) (is : listed ≡ Some
     same_areas = some_same (sym is ∙ at)
 
     -- nothing is dealt out to no area
-    pub none_dealt : (core words : List ℕ) → All (λ area. 0 < area.count) found → word_count found ≡ 0 → core ≡ after_writes core (dealt areas words)
+    pub none_dealt : (core words : List ℕ) → All (λ area. 0 < area.count) found → word_count found ≡ 0
+        → core ≡ after_writes core (dealt areas words)
     none_dealt core words some none =
         ap (λ xs. after_writes core (dealt xs words)) (sym (no_area found some none) ∙ same_areas)
 
     -- what was read is all that can be dealt out
-    pub all_dealt : (core core' words read : List ℕ) → read ≡ take (word_count found) words → core' ≡ after_writes core (dealt found read) → core' ≡ after_writes core (dealt areas words)
+    pub all_dealt : (core core' words read : List ℕ) → read ≡ take (word_count found) words
+        → core' ≡ after_writes core (dealt found read) → core' ≡ after_writes core (dealt areas words)
     all_dealt core core' words read front moved =
         moved ∙ ap (λ xs. after_writes core (dealt found xs)) front
         ∙ ap (after_writes core) (dealt_enough found words)
         ∙ ap (λ xs. after_writes core (dealt xs words)) same_areas
 
     -- as many words as the areas and the body have
-    pub as_many : (body : List ℕ) (words block n : ℕ) → length body ≡ words → n ≡ min (word_count found) (words - block_start block) → n ≡ min (word_count areas) (length (words_from body block))
+    pub as_many : (body : List ℕ) (words block n : ℕ) → length body ≡ words
+        → n ≡ min (word_count found) (words - block_start block)
+        → n ≡ min (word_count areas) (length (words_from body block))
     as_many body words block n long is =
         is ∙ ap (λ m. min (word_count found) (m - block_start block)) (sym long)
         ∙ ap (min (word_count found)) (sym (length-drop (block_start block) body))
@@ -61,7 +69,10 @@ module _ (listed : Option (List Area)) (found : List Area) (is : listed ≡ Some
     no_more words block n is = subst (λ xs. n ≤ word_count xs) same_areas (omega (arith, is))
 
     -- a list that names words, and a body that ends before the block
-    pub ends_before : (body : List ℕ) (words block : ℕ) → length body ≡ words → 0 < word_count found → min (word_count found) (words - block_start block) ≡ 0
+    pub ends_before : (body : List ℕ) (words block : ℕ) → length body ≡ words → 0 < word_count found
+        → min (word_count found) (words - block_start block) ≡ 0
         → (0 < word_count areas) × (words_from body block ≡ [])
-    ends_before body words block long some none =
-        (subst (λ xs. 0 < word_count xs) same_areas some, drop_all (block_start block) body (omega (arith, long, some, none)))
+    ends_before body words block long some none = (
+      subst (λ xs. 0 < word_count xs) same_areas some,
+      drop_all (block_start block) body (omega (arith, long, some, none)),
+    )

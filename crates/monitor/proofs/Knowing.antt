@@ -19,14 +19,16 @@ module _ (d : DiskState) (map : VolumeCore) (jobs : List (Option Job)) (s : Stat
   claimed_is : (place : Place) → is_claimed s place ≡ claims map.pending place
   claimed_is place =
       same_any (λ o. same_place o.place place) (claims_at place) (outputs s) map.pending
-      (sum_is d map jobs s state (λ o. one_if (same_place o.place place)) (λ v. one_if (claims_at place v)) refl (λ o p at side. ap (λ l. one_if (same_place l place)) (state.versions o.pending.key p at).place))
+      (sum_is d map jobs s state (λ o. one_if (same_place o.place place)) (λ v. one_if (claims_at place v)) refl
+      (λ o p at side. ap (λ l. one_if (same_place l place)) (state.versions o.pending.key p at).place))
 
   pub known : IsSound d map false → d.honest → IsKnown d map s
   known sound honest =
       let holds = volume.rest_holds d map false sound honest refl (without_serials s.files) state.files in
       record {
         files = state.files;
-        booked_is = booked_is d map jobs s state sound.whole holds ∙ sym (volume.booked_is d map (without_serials s.files) sound.whole holds);
+        booked_is = booked_is d map jobs s state sound.whole holds
+            ∙ sym (volume.booked_is d map (without_serials s.files) sound.whole holds);
         creations = creations_are d map jobs s state;
         claimed = claimed_is;
       }

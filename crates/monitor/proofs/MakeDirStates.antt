@@ -1,5 +1,6 @@
 -- MakeDir: the machine's row, and the state after it.
-use Rattle.std.proofs.Common.{◌≡◌, ◌≤◌, ◌+◌, ℕ, false, List, Option, None, Some, refl, sym, ap, subst, ◌∙◌, ⊎_elim, slice_set}
+use Rattle.std.proofs.Common.{◌≡◌, ◌≤◌, ◌+◌, ℕ, false, List, Option, None, Some, refl, sym, ap, subst, ◌∙◌, ⊎_elim}
+use Rattle.std.proofs.Common.{slice_set}
 use Rattle.std.specs.Cmp.{nat_cmp_total}
 use Rattle.std.specs.FinMap.{nat_cmp-IsAntisymmetric}
 use Rattle.words36.specs.declared.moment.Moment.{Moment}
@@ -39,7 +40,9 @@ use Rattle.monitor.proofs.MakeDirServing.{versions_made, none_in, shown_made, no
 use Rattle.monitor.proofs.ReadStays.{reads_made}
 
 -- The machine's row.
-module _ (d : DiskState) (c : VolumeCore) (files : Files Version) (w : UnderKeys) (jobs : List (Option Job)) (whole : IsWholeCore d.size c) (holds : Holds d c.known (without_serials files)) (books : booked (state_of files w jobs) ≡ c.known.table.booked)
+module _ (d : DiskState) (c : VolumeCore) (files : Files Version) (w : UnderKeys) (jobs : List (Option Job))
+    (whole : IsWholeCore d.size c) (holds : Holds d c.known (without_serials files))
+    (books : booked (state_of files w jobs) ≡ c.known.table.booked)
     (n : ℕ) (job : Job) (there : slot jobs n ≡ Some job) (e : ℕ) (moment : Moment) (timely : moment.date ≤ 4095) where
   abbrev t : State
   t = state_of files w jobs
@@ -58,40 +61,62 @@ module _ (d : DiskState) (c : VolumeCore) (files : Files Version) (w : UnderKeys
   asks : (serial : ℕ) → step (pack_of d) serial t (Calls n (MakeDir e) moment) ≡ by_answer answer
   asks serial = called d jobs n (MakeDir e) moment serial files w timely job there
 
-  pub row_done : early_answer job.ppn job.core e ≡ Done → IsAbsent c (asked_owner job.core e) → (IsCrowded d.size c → ⊥) → (serial : ℕ)
+  pub row_done : early_answer job.ppn job.core e ≡ Done → IsAbsent c (asked_owner job.core e) → (IsCrowded d.size c → ⊥)
+      → (serial : ℕ)
       → step (pack_of d) serial t (Calls n (MakeDir e) moment) ≡ (Done, state_of made w (slice_set jobs n (Some job)))
-  row_done early absent fits serial = asks serial ∙ ap by_answer (may_make d c files w jobs whole holds books job e early absent fits) ∙ ap (λ x. (Done, x)) (job_set made w jobs n job)
+  row_done early absent fits serial = asks serial
+      ∙ ap by_answer (may_make d c files w jobs whole holds books job e early absent fits)
+      ∙ ap (λ x. (Done, x)) (job_set made w jobs n job)
 
   -- another answer
-  row_kept : (reply : Reply) (job' : Job) → answer ≡ reply → (reply ≡ Done → ⊥) → refused_at (job_of w job) e reply ≡ job_of w job' → (serial : ℕ)
-      → step (pack_of d) serial t (Calls n (MakeDir e) moment) ≡ (reply, state_of files w (slice_set jobs n (Some job')))
+  row_kept : (reply : Reply) (job' : Job) → answer ≡ reply → (reply ≡ Done → ⊥)
+      → refused_at (job_of w job) e reply ≡ job_of w job' → (serial : ℕ)
+      → step (pack_of d) serial t (Calls n (MakeDir e) moment)
+      ≡ (reply, state_of files w (slice_set jobs n (Some job')))
   row_kept reply job' is not_done left serial =
-      asks serial ∙ ap by_answer is ∙ ap (of_files t n) (settled_with reply (job_of w job, made) (λ r. (refused_at (job_of w job) e r, files)) not_done ∙ ap (λ j. (reply, (j, files))) left)
+      asks serial ∙ ap by_answer is ∙ ap (of_files t n) (settled_with reply (job_of w job, made)
+      (λ r. (refused_at (job_of w job) e r, files)) not_done ∙ ap (λ j. (reply, (j, files))) left)
       ∙ ap (λ x. (reply, x)) (job_set files w jobs n job')
 
-  pub row_early : (reply : Reply) (job' : Job) → early_answer job.ppn job.core e ≡ reply → (reply ≡ Done → ⊥) → refused_at (job_of w job) e reply ≡ job_of w job' → (serial : ℕ)
-      → step (pack_of d) serial t (Calls n (MakeDir e) moment) ≡ (reply, state_of files w (slice_set jobs n (Some job')))
-  row_early reply job' early not_done = row_kept reply job' (decided d c files w jobs whole holds books job e reply early not_done) not_done
+  pub row_early : (reply : Reply) (job' : Job) → early_answer job.ppn job.core e ≡ reply → (reply ≡ Done → ⊥)
+      → refused_at (job_of w job) e reply ≡ job_of w job' → (serial : ℕ)
+      → step (pack_of d) serial t (Calls n (MakeDir e) moment)
+      ≡ (reply, state_of files w (slice_set jobs n (Some job')))
+  row_early reply job' early not_done = row_kept reply job'
+      (decided d c files w jobs whole holds books job e reply early not_done) not_done
 
-  pub row_refused : (code : ℕ) → early_answer job.ppn job.core e ≡ Done → IsRefusedBy d.size c (asked_owner job.core e) code → (serial : ℕ)
-      → step (pack_of d) serial t (Calls n (MakeDir e) moment) ≡ (Refused code, state_of files w (slice_set jobs n (Some (record job { core = with_right job.core (e + 1) code }))))
-  row_refused code early why = row_kept (Refused code) (record job { core = with_right job.core (e + 1) code }) (refused_by d c files w jobs whole holds books job e code early why) (λ is. cc is) refl
+  pub row_refused : (code : ℕ) → early_answer job.ppn job.core e ≡ Done
+      → IsRefusedBy d.size c (asked_owner job.core e) code → (serial : ℕ)
+      → step (pack_of d) serial t (Calls n (MakeDir e) moment)
+      ≡ (
+        Refused code,
+        state_of files w (slice_set jobs n (Some (record job { core = with_right job.core (e + 1) code }))),
+      )
+  row_refused code early why = row_kept (Refused code) (record job { core = with_right job.core (e + 1) code })
+      (refused_by d c files w jobs whole holds books job e code early why) (λ is. cc is) refl
 
   -- it isn't decided before memory and the disk are needed
-  pub row_undecided : early_answer job.ppn job.core e ≡ Done → is_plain ((step (pack_of d) 0 t (Calls n (MakeDir e) moment)).0) ≡ false
+  pub row_undecided : early_answer job.ppn job.core e ≡ Done
+      → is_plain ((step (pack_of d) 0 t (Calls n (MakeDir e) moment)).0) ≡ false
   row_undecided early =
-      ap (λ (r : Reply × State). is_plain r.0) (asks 0) ∙ ap is_plain (settled_reply answer (job_of w job, made) (λ r. (refused_at (job_of w job) e r, files))) ∙ not_plain d c files w jobs whole holds books job e early
+      ap (λ (r : Reply × State). is_plain r.0) (asks 0)
+      ∙ ap is_plain (settled_reply answer (job_of w job, made) (λ r. (refused_at (job_of w job) e r, files)))
+      ∙ not_plain d c files w jobs whole holds books job e early
 
 -- a file that isn't there isn't in the new directory
-made_elsewhere : (files : Files Version) (owner : ℕ) (v : Directory Version) (q : Place) → v.files ≡ empty → file_at files q ≡ None → file_at (insert files owner v) q ≡ None
+made_elsewhere : (files : Files Version) (owner : ℕ) (v : Directory Version) (q : Place) → v.files ≡ empty
+    → file_at files q ≡ None → file_at (insert files owner v) q ≡ None
 made_elsewhere files owner v q bare none =
     ⊎_elim
-    (λ here. ap (λ o. file_in o q.name) (ap (get (insert files owner v)) here ∙ get-insert_same nat_cmp_total files owner v) ∙ ap (λ fs. get fs q.name) bare ∙ get-empty name_cmp Version q.name)
-    (λ other. ap (λ o. file_in o q.name) (get-insert_other nat_cmp_total nat_cmp-IsAntisymmetric files owner v q.ppn other) ∙ none)
+    (λ here. ap (λ o. file_in o q.name) (ap (get (insert files owner v)) here
+    ∙ get-insert_same nat_cmp_total files owner v) ∙ ap (λ fs. get fs q.name) bare ∙ get-empty name_cmp Version q.name)
+    (λ other. ap (λ o. file_in o q.name)
+    (get-insert_other nat_cmp_total nat_cmp-IsAntisymmetric files owner v q.ppn other) ∙ none)
     (same_or_other nat_cmp_total nat_cmp-IsAntisymmetric q.ppn owner)
 
 -- The state that the monitor stands for.
-module _ (d : DiskState) (c : VolumeCore) (jobs : List (Option Job)) (job : Job) (e : ℕ) (sound : IsSound d c false) (honest : d.honest) (s : State) (state : IsState d c jobs s) where
+module _ (d : DiskState) (c : VolumeCore) (jobs : List (Option Job)) (job : Job) (e : ℕ) (sound : IsSound d c false)
+    (honest : d.honest) (s : State) (state : IsState d c jobs s) where
   abbrev pub before : State
   before = state_of s.files state.under jobs
 
@@ -108,27 +133,47 @@ module _ (d : DiskState) (c : VolumeCore) (jobs : List (Option Job)) (job : Job)
   abbrev pub files' : Files Version
   files' = insert s.files (asked_owner job.core e) (directory_made (job_of state.under job) e)
 
-  pub shown : without_serials files' ≡ files_made (without_serials s.files) (asked_owner job.core e) (asked_protection job.core e)
+  pub shown : without_serials files'
+      ≡ files_made (without_serials s.files) (asked_owner job.core e) (asked_protection job.core e)
   shown = shown_made s.files (asked_owner job.core e) (asked_protection job.core e)
 
   -- The directory is made.
-  module _ (d' : DiskState) (c' : VolumeCore) (jobs' : List (Option Job)) (keyed : AreKeyed c'.pending jobs') (reading : AreReading c'.live jobs') (live : c'.live ≡ c.live) (pending : c'.pending ≡ c.pending)
-      (primes : (ppn : ℕ) (name : FileName) (m : ℕ) → prime_at c ppn name ≡ Some m → prime_at c' ppn name ≡ Some m) (readers : KeepsRead d.contents d'.contents c) (writers : KeepsEachWritten d.contents d'.contents c)
-      (rests : RestsAt d' (files_made (without_serials s.files) (asked_owner job.core e) (asked_protection job.core e))) (absent : IsAbsent c (asked_owner job.core e)) where
+  module _ (d' : DiskState) (c' : VolumeCore) (jobs' : List (Option Job)) (keyed : AreKeyed c'.pending jobs')
+      (reading : AreReading c'.live jobs') (live : c'.live ≡ c.live) (pending : c'.pending ≡ c.pending)
+      (primes : (ppn : ℕ) (name : FileName) (m : ℕ) → prime_at c ppn name ≡ Some m → prime_at c' ppn name
+      ≡ Some m) (readers : KeepsRead d.contents d'.contents c) (writers : KeepsEachWritten d.contents d'.contents c)
+      (rests : RestsAt d' (files_made (without_serials s.files) (asked_owner job.core e) (asked_protection job.core e)))
+      (absent : IsAbsent c (asked_owner job.core e)) where
     was : (key : ℕ) (p : PendingVersion) → pending_at c'.pending key ≡ Some p → pending_at c.pending key ≡ Some p
     was key p at = ap (λ ps. pending_at ps key) (sym pending) ∙ at
 
-    pub made_state : meaning.IsSound (state_of files' state.under jobs') → IsState d' c' jobs' (state_of files' state.under jobs')
+    pub made_state : meaning.IsSound (state_of files' state.under jobs')
+        → IsState d' c' jobs' (state_of files' state.under jobs')
     made_state still = record {
       files = subst (RestsAt d') (sym shown) rests;
-      serials = subst AreDistinct (sym (versions_made s.files (asked_owner job.core e) (directory_made (job_of state.under job) e) none_in (none_there d c s.files held (asked_owner job.core e) absent))) state.serials;
+      serials = subst AreDistinct (sym (versions_made s.files (asked_owner job.core e)
+          (directory_made (job_of state.under job) e) none_in
+          (none_there d c s.files held (asked_owner job.core e) absent))) state.serials;
       under = state.under;
       versions = λ key p at.
           let is = state.versions key p (was key p at) in
-          record { place = is.place; protection = is.protection; mode = is.mode; time = is.time; date = is.date; words = is.words; body = body_kept d.contents d'.contents p.version.blocks (state.under.written key).file.body is.body (writers key p (was key p at)) };
-      absent = λ key p at new. made_elsewhere s.files (asked_owner job.core e) (directory_made (job_of state.under job) e) (state.under.written key).place refl (state.absent key p (was key p at) new);
+          record {
+            place = is.place;
+            protection = is.protection;
+            mode = is.mode;
+            time = is.time;
+            date = is.date;
+            words = is.words;
+            body = body_kept d.contents d'.contents p.version.blocks (state.under.written key).file.body is.body
+                (writers key p (was key p at));
+          };
+      absent = λ key p at new. made_elsewhere s.files (asked_owner job.core e)
+          (directory_made (job_of state.under job) e) (state.under.written key).place refl
+          (state.absent key p (was key p at) new);
       keyed = keyed;
-      read = reads_made d d' c c' state.under.read live readers s.files (asked_owner job.core e) (directory_made (job_of state.under job) e) refl (none_there d c s.files held (asked_owner job.core e) absent) primes state.read;
+      read = reads_made d d' c c' state.under.read live readers s.files (asked_owner job.core e)
+          (directory_made (job_of state.under job) e) refl (none_there d c s.files held (asked_owner job.core e) absent)
+          primes state.read;
       reading = reading;
       jobs_are = refl;
       sound = still;

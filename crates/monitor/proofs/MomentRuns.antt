@@ -12,7 +12,8 @@ use Rattle.meaning.proofs.LookupLaws.{serving_same, not_broken}
 use Rattle.monitor.specs.Moments.{StandsNow, RunsThrough, RunsBy, last_of}
 
 -- the service that comes last of all
-pub last_more : (old : Service) (services : List Service) (after : Service) → last_of old (services ++ after ∷ []) ≡ after
+pub last_more : (old : Service) (services : List Service) (after : Service)
+    → last_of old (services ++ after ∷ []) ≡ after
 last_more old [] after = refl
 last_more old (service ∷ services) after = last_more service services after
 
@@ -25,10 +26,12 @@ module _ (pack : Pack) where
   through_run old [] (reply ∷ replies) services r = absurd r
   through_run old (event ∷ events) [] services r = absurd r
   through_run old (event ∷ events) (reply ∷ replies) [] r = absurd r
-  through_run old (event ∷ events) (reply ∷ replies) (after ∷ services) r = (after, r.0, through_run after events replies services r.1)
+  through_run old (event ∷ events) (reply ∷ replies) (after ∷ services) r =
+      (after, r.0, through_run after events replies services r.1)
 
   -- a service that has failed stays so
-  pub through_broken : (events : List Event) (replies : List Reply) (services : List Service) → RunsThrough pack Broken events replies services
+  pub through_broken : (events : List Event) (replies : List Reply) (services : List Service)
+      → RunsThrough pack Broken events replies services
       → last_of Broken services ≡ Broken
   through_broken [] [] [] r = refl
   through_broken [] [] (after ∷ services) r = absurd r
@@ -39,14 +42,16 @@ module _ (pack : Pack) where
   through_broken (event ∷ events) (reply ∷ replies) (Serving s ∷ services) r = absurd r.0
 
   -- and answers one event more
-  through_stay : (events : List Event) (replies : List Reply) (services : List Service) (event : Event) → RunsThrough pack Broken events replies services
+  through_stay : (events : List Event) (replies : List Reply) (services : List Service) (event : Event)
+      → RunsThrough pack Broken events replies services
       → RunsThrough pack Broken (events ++ event ∷ []) (replies ++ Failed ∷ []) (services ++ Broken ∷ [])
   through_stay [] [] [] event r = (refl, tt)
   through_stay [] [] (after ∷ services) event r = absurd r
   through_stay [] (reply ∷ replies) services event r = absurd r
   through_stay (e ∷ events) [] services event r = absurd r
   through_stay (e ∷ events) (reply ∷ replies) [] event r = absurd r
-  through_stay (e ∷ events) (reply ∷ replies) (Broken ∷ services) event r = (r.0, through_stay events replies services event r.1)
+  through_stay (e ∷ events) (reply ∷ replies) (Broken ∷ services) event r =
+      (r.0, through_stay events replies services event r.1)
   through_stay (e ∷ events) (reply ∷ replies) (Serving s ∷ services) event r = absurd r.0
 
 module _ {D : Type 0} (state : D → DiskState) (pack : Pack) where
@@ -59,14 +64,17 @@ module _ {D : Type 0} (state : D → DiskState) (pack : Pack) where
   by_through d end (Serving s) [] (reply ∷ replies) services r = absurd r
   by_through d end (Serving s) (event ∷ events) [] services r = absurd r
   by_through d end (Serving s) (event ∷ events) (reply ∷ replies) [] r = absurd r
-  by_through d end (Serving s) (event ∷ events) (reply ∷ replies) (after ∷ services) r = (r.2, by_through r.1 end after events replies services r.4)
+  by_through d end (Serving s) (event ∷ events) (reply ∷ replies) (after ∷ services) r =
+      (r.2, by_through r.1 end after events replies services r.4)
 
   -- it begins with no event
   pub by_start : (d : D) (s : State) → StandsNow pack (state d) s → RunsBy state pack d (Serving s) [] [] [] d
   by_start d s stands = (refl, stands)
 
-  module _ (now next : D) (u : State) (event : Event) (reply : Reply) (after : Service) (answers : Answers pack (Serving u) event reply after)
-      (leaves : LeavesOnly (state now) (state next) (StandsForEither pack u event reply)) (end : RunsBy state pack next after [] [] [] next) where
+  module _ (now next : D) (u : State) (event : Event) (reply : Reply) (after : Service)
+      (answers : Answers pack (Serving u) event reply after)
+      (leaves : LeavesOnly (state now) (state next) (StandsForEither pack u event reply))
+      (end : RunsBy state pack next after [] [] [] next) where
     at_end : (d : D) (s : State) → now ≡ d → s ≡ u → StandsNow pack (state d) s
         → RunsBy state pack d (Serving s) (event ∷ []) (reply ∷ []) (after ∷ []) next
     at_end d s same is stands = (
@@ -82,16 +90,19 @@ module _ {D : Type 0} (state : D → DiskState) (pack : Pack) where
     pub by_more : (d : D) (old : Service) (events : List Event) (replies : List Reply) (services : List Service)
         → RunsBy state pack d old events replies services now → last_of old services ≡ Serving u
         → RunsBy state pack d old (events ++ event ∷ []) (replies ++ reply ∷ []) (services ++ after ∷ []) next
-    by_more d Broken events replies services r last = absurd (not_broken (sym last ∙ through_broken pack events replies services r.1))
+    by_more d Broken events replies services r last = absurd
+        (not_broken (sym last ∙ through_broken pack events replies services r.1))
     by_more d (Serving s) [] [] [] r last = at_end d s r.0 (serving_same last) r.1
     by_more d (Serving s) [] [] (x ∷ services) r last = absurd r
     by_more d (Serving s) [] (q ∷ replies) services r last = absurd r
     by_more d (Serving s) (e ∷ events) [] services r last = absurd r
     by_more d (Serving s) (e ∷ events) (q ∷ replies) [] r last = absurd r
-    by_more d (Serving s) (e ∷ events) (q ∷ replies) (x ∷ services) r last = (r.0, r.1, r.2, r.3, by_more r.1 x events replies services r.4 last)
+    by_more d (Serving s) (e ∷ events) (q ∷ replies) (x ∷ services) r last =
+        (r.0, r.1, r.2, r.3, by_more r.1 x events replies services r.4 last)
 
   -- After a fault of the disk it is asked for nothing, and each event answers Failed.
-  pub by_stay : (d now : D) (old : Service) (events : List Event) (replies : List Reply) (services : List Service) (event : Event)
+  pub by_stay : (d now : D) (old : Service) (events : List Event) (replies : List Reply) (services : List Service)
+      (event : Event)
       → RunsBy state pack d old events replies services now → last_of old services ≡ Broken
       → RunsBy state pack d old (events ++ event ∷ []) (replies ++ Failed ∷ []) (services ++ Broken ∷ []) now
   by_stay d now Broken events replies services event r last = (r.0, through_stay pack events replies services event r.1)
@@ -100,4 +111,5 @@ module _ {D : Type 0} (state : D → DiskState) (pack : Pack) where
   by_stay d now (Serving s) [] (q ∷ replies) services event r last = absurd r
   by_stay d now (Serving s) (e ∷ events) [] services event r last = absurd r
   by_stay d now (Serving s) (e ∷ events) (q ∷ replies) [] event r last = absurd r
-  by_stay d now (Serving s) (e ∷ events) (q ∷ replies) (x ∷ services) event r last = (r.0, r.1, r.2, r.3, by_stay r.1 now x events replies services event r.4 last)
+  by_stay d now (Serving s) (e ∷ events) (q ∷ replies) (x ∷ services) event r last =
+      (r.0, r.1, r.2, r.3, by_stay r.1 now x events replies services event r.4 last)

@@ -1,12 +1,15 @@
 -- OPEN answers as the machine does.
-use Rattle.std.proofs.Common.{◌≡◌, ◌<◌, ◌≤◌, ◌+◌, ℕ, Bool, true, false, nat_le, List, ◌++◌, Option, None, Some, refl, sym, ap, subst, ◌∙◌, arith, slice_set}
+use Rattle.std.proofs.Common.{◌≡◌, ◌<◌, ◌≤◌, ◌+◌, ℕ, Bool, true, false, nat_le, List, ◌++◌, Option, None, Some, refl}
+use Rattle.std.proofs.Common.{sym, ap, subst, ◌∙◌, arith, slice_set}
 use Rattle.std.proofs.lemmas.Bool.Decides.{nat_tests}
 use Rattle.std.proofs.lemmas.Bool.{eqb-true}
 use Rattle.std.specs.Prelude.{◌==◌, ◌||◌, not, if◌then◌else◌, is_some, option_map, option_to_list}
 use Rattle.meaning.specs.Cores.{lies_outside, after_writes}
 use Rattle.meaning.specs.Jobs as machine
 use Rattle.meaning.specs.Jobs.{slot, channel_at, improper_mode}
-use Rattle.meaning.specs.Opening.{disk, dump_mode, mode_at, device_at, output_header_at, input_header_at, misses_headers, open_answer, open_done, opens, header_opened, core_opened, channel_opened}
+use Rattle.meaning.specs.Opening.{disk, dump_mode, mode_at, device_at, output_header_at, input_header_at}
+use Rattle.meaning.specs.Opening.{misses_headers, open_answer, open_done, opens, header_opened, core_opened}
+use Rattle.meaning.specs.Opening.{channel_opened}
 use Rattle.meaning.specs.Rings.{is_buffered}
 use Rattle.meaning.specs.Outcomes.{settled}
 use Rattle.meaning.specs.Step.{of_job}
@@ -36,7 +39,8 @@ past n many = grind (arith, nat_tests)
 
 -- the answer, by its tests
 abbrev chain : Bool → Bool → Bool → Bool → ℕ → Reply
-chain outside misses taken improper mode = if outside || misses then AddressCheck else if taken then Refused 5 else if improper then Stopped (improper_mode + mode) else Done
+chain outside misses taken improper mode = if outside || misses then AddressCheck else if taken then Refused 5
+    else if improper then Stopped (improper_mode + mode) else Done
 
 some_shown : {A B : Type 0} (f : A → B) (o : Option A) → is_some (option_map f o) ≡ is_some o
 some_shown f None = refl
@@ -46,23 +50,31 @@ module _ (job : Job) (number a : ℕ) where
   abbrev pub taken : Bool
   taken = is_some (slot job.channels number)
 
-  pub answer_is : (w : UnderKeys) (b c d e : Bool) → lies_outside job.core a 3 ≡ b → misses_headers job.core a ≡ c → taken ≡ d → improper_at job.core a ≡ e → open_answer (job_of w job) number a ≡ chain b c d e (mode_at job.core a)
+  pub answer_is : (w : UnderKeys) (b c d e : Bool) → lies_outside job.core a 3 ≡ b → misses_headers job.core a ≡ c
+      → taken ≡ d → improper_at job.core a ≡ e → open_answer (job_of w job) number a
+      ≡ chain b c d e (mode_at job.core a)
   answer_is w b c d e p q r t =
-      let at : is_some (channel_at (job_of w job) number) ≡ d = ap is_some (channel_is w job number (slot job.channels number) refl) ∙ some_shown (channel_of w) (slot job.channels number) ∙ r in
+      let at : is_some (channel_at (job_of w job) number)
+      ≡ d = ap is_some (channel_is w job number (slot job.channels number) refl)
+      ∙ some_shown (channel_of w) (slot job.channels number) ∙ r in
       λ i. chain (p i) (q i) (at i) (t i) (mode_at job.core a)
 
   pub no_channel_row : 16 ≤ number → IsRow job job (Open number a) NoChannel
   no_channel_row many pack serial s n w moment there =
-      ap (λ b. if b then of_job s n (opens (job_of w job) number a) else (NoChannel, s)) (past number many) ∙ ap (λ t. (NoChannel, t)) (job_same s n (job_of w job) there)
+      ap (λ b. if b then of_job s n (opens (job_of w job) number a) else (NoChannel, s)) (past number many)
+      ∙ ap (λ t. (NoChannel, t)) (job_same s n (job_of w job) there)
 
-  pub refused_row : number < 16 → (reply : Reply) → ((w : UnderKeys) → open_answer (job_of w job) number a ≡ reply) → (reply ≡ Done → ⊥) → IsRow job job (Open number a) reply
+  pub refused_row : number < 16 → (reply : Reply) → ((w : UnderKeys) → open_answer (job_of w job) number a ≡ reply)
+      → (reply ≡ Done → ⊥) → IsRow job job (Open number a) reply
   refused_row few reply answer other pack serial s n w moment there =
       ap (λ b. if b then of_job s n (opens (job_of w job) number a) else (NoChannel, s)) (fits number few)
-      ∙ ap (of_job s n) (ap (λ r. settled r (open_done (job_of w job) number a) (λ x. job_of w job)) (answer w) ∙ settled_other reply (open_done (job_of w job) number a) (job_of w job) other)
+      ∙ ap (of_job s n) (ap (λ r. settled r (open_done (job_of w job) number a) (λ x. job_of w job)) (answer w)
+      ∙ settled_other reply (open_done (job_of w job) number a) (job_of w job) other)
 
   -- neither buffered nor improper: it is the dump mode
   dump : is_buffered (mode_at job.core a) ≡ false → improper_at job.core a ≡ false → mode_at job.core a ≡ dump_mode
-  dump plain proper = eqb-true (mode_at job.core a) dump_mode (by (device_at job.core a == disk) (is_buffered (mode_at job.core a)) (mode_at job.core a == dump_mode) plain proper)
+  dump plain proper = eqb-true (mode_at job.core a) dump_mode (by (device_at job.core a == disk)
+      (is_buffered (mode_at job.core a)) (mode_at job.core a == dump_mode) plain proper)
     where
       by : (x b m : Bool) → b ≡ false → (not x || not (b || m)) ≡ false → m ≡ true
       by false b m e f = cc f
@@ -72,40 +84,67 @@ module _ (job : Job) (number a : ℕ) where
 
   -- the core with the headers of rings
   abbrev opened_core : List ℕ
-  opened_core = after_writes job.core (header_opened (mode_at job.core a) (output_header_at job.core a) ++ header_opened (mode_at job.core a) (input_header_at job.core a))
+  opened_core = after_writes job.core (header_opened (mode_at job.core a) (output_header_at job.core a)
+      ++ header_opened (mode_at job.core a) (input_header_at job.core a))
 
-  pub done_row : number < 16 → ((w : UnderKeys) → open_answer (job_of w job) number a ≡ Done) → is_buffered (mode_at job.core a) ≡ false → improper_at job.core a ≡ false → IsRow job (record job { channels = slice_set job.channels number (Some (opened_at job.core a)) }) (Open number a) Done
+  pub done_row : number < 16 → ((w : UnderKeys) → open_answer (job_of w job) number a ≡ Done)
+      → is_buffered (mode_at job.core a) ≡ false → improper_at job.core a ≡ false
+      → IsRow job (record job { channels = slice_set job.channels number (Some (opened_at job.core a)) })
+      (Open number a) Done
   done_row few answer plain proper pack serial s n w moment there =
       ap (λ b. if b then of_job s n (opens (job_of w job) number a) else (NoChannel, s)) (fits number few)
       ∙ ap (of_job s n) (ap (λ r. settled r (open_done (job_of w job) number a) (λ x. job_of w job)) (answer w)
-      ∙ ap (λ j. (Done, j)) (ap (λ core. machine.with_channel (record (job_of w job) { core = core }) number (Some (channel_opened job.core a))) unbuffered ∙ ap (λ m. machine.with_channel (job_of w job) number (Some (with_mode m))) (dump plain proper) ∙ channel_set w job number (Some (opened_at job.core a))))
+      ∙ ap (λ j. (Done, j)) (ap (λ core. machine.with_channel (record (job_of w job) { core = core }) number
+      (Some (channel_opened job.core a))) unbuffered
+      ∙ ap (λ m. machine.with_channel (job_of w job) number (Some (with_mode m))) (dump plain proper)
+      ∙ channel_set w job number (Some (opened_at job.core a))))
     where
       with_mode : ℕ → machine.Channel
-      with_mode m = record { mode = m; input_header = input_header_at job.core a; output_header = output_header_at job.core a; status = mode_at job.core a; input = None; output = None }
+      with_mode m = record {
+        mode = m;
+        input_header = input_header_at job.core a;
+        output_header = output_header_at job.core a;
+        status = mode_at job.core a;
+        input = None;
+        output = None;
+      }
 
       unbuffered : core_opened job.core a ≡ job.core
       unbuffered = ap (λ b. if b then opened_core else job.core) plain
 
-  pub unserved_is : number < 16 → (w : UnderKeys) (reply : Reply) → open_answer (job_of w job) number a ≡ reply → stopped_where_done (mode_at job.core a) reply ≡ open_unserved (job_of w job) number a
-  unserved_is few w reply answer = ap (stopped_where_done (mode_at job.core a)) (sym answer) ∙ ap (λ b. if b then stopped_where_done (mode_at job.core a) (open_answer (job_of w job) number a) else NoChannel) (sym (fits number few))
+  pub unserved_is : number < 16 → (w : UnderKeys) (reply : Reply) → open_answer (job_of w job) number a ≡ reply
+      → stopped_where_done (mode_at job.core a) reply ≡ open_unserved (job_of w job) number a
+  unserved_is few w reply answer = ap (stopped_where_done (mode_at job.core a)) (sym answer)
+      ∙ ap (λ b. if b then stopped_where_done (mode_at job.core a) (open_answer (job_of w job) number a)
+      else NoChannel) (sym (fits number few))
 
 -- a channel that is opened writes nothing
-pub keeps_opened : (pending : List (Option PendingVersion)) (job : Job) (number : ℕ) (c : Channel) → is_some (slot job.channels number) ≡ false → c.output ≡ None → Keeps pending pending job (record job { channels = slice_set job.channels number (Some c) })
+pub keeps_opened : (pending : List (Option PendingVersion)) (job : Job) (number : ℕ) (c : Channel)
+    → is_some (slot job.channels number) ≡ false → c.output ≡ None
+    → Keeps pending pending job (record job { channels = slice_set job.channels number (Some c) })
 keeps_opened pending job number c free none =
-    keeps_channel pending job number (Some c) (λ key. ap (λ o. count key (option_to_list o)) none ∙ by key (slot job.channels number) free) (λ all. subst (λ o. AllByRecursion (IsSide pending) (option_to_list o)) (sym none) tt)
+    keeps_channel pending job number (Some c) (λ key. ap (λ o. count key (option_to_list o)) none
+    ∙ by key (slot job.channels number) free)
+    (λ all. subst (λ o. AllByRecursion (IsSide pending) (option_to_list o)) (sym none) tt)
   where
     by : (key : ℕ) (o : Option Channel) → is_some o ≡ false → 0 ≡ count key (option_to_list (side_of o))
     by key None e = refl
     by key (Some x) e = cc e
 
 -- and reads nothing
-pub reads_opened : (live : List (Option LiveVersion)) (job : Job) (number : ℕ) (c : Channel) → is_some (slot job.channels number) ≡ false → c.input ≡ None → KeepsReading live live job (record job { channels = slice_set job.channels number (Some c) })
+pub reads_opened : (live : List (Option LiveVersion)) (job : Job) (number : ℕ) (c : Channel)
+    → is_some (slot job.channels number) ≡ false → c.input ≡ None
+    → KeepsReading live live job (record job { channels = slice_set job.channels number (Some c) })
 reads_opened live job number c free none =
-    reads_channel live job number c (λ key. ap (λ o. held key (option_to_list o)) none ∙ by key (slot job.channels number) free) (λ has i is. absurd (some_none (sym is ∙ none)))
+    reads_channel live job number c (λ key. ap (λ o. held key (option_to_list o)) none
+    ∙ by key (slot job.channels number) free) (λ has i is. absurd (some_none (sym is ∙ none)))
   where
     by : (key : ℕ) (o : Option Channel) → is_some o ≡ false → 0 ≡ held key (option_to_list (reader_of o))
     by key None e = refl
     by key (Some x) e = cc e
 
-pub opened_back : (job : Job) (number a : ℕ) (c : Channel) (job' : Job) → c ≡ opened_at job.core a → job' ≡ record job { channels = slice_set job.channels number (Some c) } → job' ≡ record job { channels = slice_set job.channels number (Some (opened_at job.core a)) }
-opened_back job number a c job' is set = set ∙ ap (λ x. record job { channels = slice_set job.channels number (Some x) }) is
+pub opened_back : (job : Job) (number a : ℕ) (c : Channel) (job' : Job) → c ≡ opened_at job.core a
+    → job' ≡ record job { channels = slice_set job.channels number (Some c) }
+    → job' ≡ record job { channels = slice_set job.channels number (Some (opened_at job.core a)) }
+opened_back job number a c job' is set = set
+    ∙ ap (λ x. record job { channels = slice_set job.channels number (Some x) }) is

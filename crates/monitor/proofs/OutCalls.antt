@@ -1,5 +1,6 @@
 -- OUT by the job of a number is served as the machine serves it.
-use Rattle.std.proofs.Common.{◌≡◌, ◌<◌, ◌≤◌, ◌+◌, ℕ, Bool, true, false, if◌then◌else◌, List, length, Option, None, Some, refl, sym, ap, subst, ◌∙◌, slice_set}
+use Rattle.std.proofs.Common.{◌≡◌, ◌<◌, ◌≤◌, ◌+◌, ℕ, Bool, true, false, if◌then◌else◌, List, length, Option, None, Some}
+use Rattle.std.proofs.Common.{refl, sym, ap, subst, ◌∙◌, slice_set}
 use Rattle.std.specs.Prelude.{option_map}
 use Rattle.words36.specs.declared.moment.Moment.{Moment}
 use Rattle.blockdisk.specs.Disk.{DiskState}
@@ -48,26 +49,32 @@ use Rattle.monitor.proofs.Usetos.{on_row, on_none}
 -- The rows that neither want memory nor the disk.
 module _ (job : Job) (ch a : ℕ) where
   pub out_none : slot job.channels ch ≡ None → IsRow job job (Out ch a) NoChannel
-  out_none none pack serial s n w moment at = on_none s n w job ch (λ c. of_job s n (puts pack s (job_of w job) ch c a)) none at
+  out_none none pack serial s n w moment at = on_none s n w job ch (λ c. of_job s n (puts pack s (job_of w job) ch c a))
+      none at
 
   module _ (c : Channel) (there : slot job.channels ch ≡ Some c) where
     -- the row, by its side and by what it finds
     abbrev by_side : Pack → State → (UnderKeys) → Option machine.Output → Option Outgoing → Reply × machine.Job
-    by_side pack s w o found = settled (put_answer pack s (channel_of w c) o found) (put_done (job_of w job) ch (channel_of w c) found) (stopped_in (job_of w job) ch (channel_of w c))
+    by_side pack s w o found = settled (put_answer pack s (channel_of w c) o found)
+        (put_done (job_of w job) ch (channel_of w c) found) (stopped_in (job_of w job) ch (channel_of w c))
 
     pub out_refused : c.output ≡ None → IsRow job job (Out ch a) (Refused 5)
     out_refused none pack serial s n w moment at =
         on_row s n w job job ch c (Refused 5) (λ x. puts pack s (job_of w job) ch x a) there
         (ap (λ o. by_side pack s w (option_map (output_of w) o) (outgoing (job_of w job) (channel_of w c) a)) none)
 
-    pub out_unlisted : (o : Output) → c.output ≡ Some o → dump_list job.core a ≡ None → IsRow job job (Out ch a) AddressCheck
+    pub out_unlisted : (o : Output) → c.output ≡ Some o → dump_list job.core a ≡ None
+        → IsRow job job (Out ch a) AddressCheck
     out_unlisted o side none pack serial s n w moment at =
         on_row s n w job job ch c AddressCheck (λ x. puts pack s (job_of w job) ch x a) there
         (ap (λ x. by_side pack s w (option_map (output_of w) x) (outgoing (job_of w job) (channel_of w c) a)) side
-        ∙ ap (λ found. by_side pack s w (Some (output_of w o)) (option_map {U = Outgoing} (λ areas. record { words = joined job.core areas; core = job.core }) found)) none)
+        ∙ ap (λ found. by_side pack s w (Some (output_of w o))
+        (option_map {U = Outgoing} (λ areas. record { words = joined job.core areas; core = job.core }) found)) none)
 
 -- An output side, and words for it.
-module _ (d : DiskState) (map : VolumeCore) (jobs : List (Option Job)) (n : ℕ) (job : Job) (there : slot jobs n ≡ Some job) (ch a : ℕ) (moment : Moment) (timely : moment.date ≤ 4095) (serial : ℕ) (files : Files Version) (w : UnderKeys)
+module _ (d : DiskState) (map : VolumeCore) (jobs : List (Option Job)) (n : ℕ) (job : Job) (there : slot jobs n
+    ≡ Some job) (ch a : ℕ) (moment : Moment) (timely : moment.date ≤ 4095) (serial : ℕ) (files : Files Version)
+    (w : UnderKeys)
     (c : Channel) (open_at : slot job.channels ch ≡ Some c) (o : Output) (side : c.output ≡ Some o) where
   abbrev t : State
   t = state_of files w jobs
@@ -75,38 +82,59 @@ module _ (d : DiskState) (map : VolumeCore) (jobs : List (Option Job)) (n : ℕ)
   abbrev row_with : Option Outgoing → Reply × State
   row_with found = of_job t n (by_side job ch a c open_at (pack_of d) t w (Some (output_of w o)) found)
 
-  finds : step (pack_of d) serial t (Calls n (Out ch a) moment) ≡ row_with (option_map {U = Outgoing} (λ areas. record { words = joined job.core areas; core = job.core }) (dump_list job.core a))
+  finds : step (pack_of d) serial t (Calls n (Out ch a) moment)
+      ≡ row_with (option_map {U = Outgoing} (λ areas. record { words = joined job.core areas; core = job.core })
+      (dump_list job.core a))
   finds =
       called d jobs n (Out ch a) moment serial files w timely job there
-      ∙ ap (λ x. on_channel t x (λ y. of_job t n (puts (pack_of d) t (job_of w job) ch y a))) (channel_is w job ch (Some c) open_at)
-      ∙ ap (λ x. of_job t n (by_side job ch a c open_at (pack_of d) t w (option_map (output_of w) x) (outgoing (job_of w job) (channel_of w c) a))) side
+      ∙ ap (λ x. on_channel t x (λ y. of_job t n (puts (pack_of d) t (job_of w job) ch y a)))
+      (channel_is w job ch (Some c) open_at)
+      ∙ ap (λ x. of_job t n (by_side job ch a c open_at (pack_of d) t w (option_map (output_of w) x)
+      (outgoing (job_of w job) (channel_of w c) a))) side
 
   abbrev by_place : List ℕ → Bool → Reply × State
-  by_place words none = of_job t n (settled (if none then Stopped (cleared c.status + block_too_large) else Done) (put_done (job_of w job) ch (channel_of w c) (Some (record { words = words; core = job.core }))) (stopped_in (job_of w job) ch (channel_of w c)))
+  by_place words none = of_job t n (settled (if none then Stopped (cleared c.status + block_too_large)
+      else Done) (put_done (job_of w job) ch (channel_of w c) (Some (record { words = words; core = job.core })))
+      (stopped_in (job_of w job) ch (channel_of w c)))
 
-  pub row_by_place : (words : List ℕ) → words_at job.core a ≡ Some words → (none : Bool) → finds_no_place (pack_of d) t (output_of w o) (length words) ≡ none → step (pack_of d) serial t (Calls n (Out ch a) moment) ≡ by_place words none
-  row_by_place words found none is = finds ∙ ap row_with (gathers job.core (dump_list job.core a) words found) ∙ ap (by_place words) is
+  pub row_by_place : (words : List ℕ) → words_at job.core a ≡ Some words → (none : Bool)
+      → finds_no_place (pack_of d) t (output_of w o) (length words) ≡ none
+      → step (pack_of d) serial t (Calls n (Out ch a) moment) ≡ by_place words none
+  row_by_place words found none is = finds ∙ ap row_with (gathers job.core (dump_list job.core a) words found)
+      ∙ ap (by_place words) is
 
   -- it isn't decided before memory and the disk are needed
-  pub undecided : (dump_list job.core a ≡ None → ⊥) → is_plain ((step (pack_of d) serial t (Calls n (Out ch a) moment)).0) ≡ false
+  pub undecided : (dump_list job.core a ≡ None → ⊥)
+      → is_plain ((step (pack_of d) serial t (Calls n (Out ch a) moment)).0) ≡ false
   undecided listed = ap (λ r. is_plain r.0) finds ∙ by (dump_list job.core a) listed
     where
       stops : (none : Bool) (words : List ℕ) → is_plain ((by_place words none).0) ≡ false
       stops true words = refl
       stops false words = refl
 
-      by : (was : Option (List Area)) → (was ≡ None → ⊥) → is_plain ((row_with (option_map {U = Outgoing} (λ areas. record { words = joined job.core areas; core = job.core }) was)).0) ≡ false
+      by : (was : Option (List Area)) → (was ≡ None → ⊥)
+          → is_plain
+          ((row_with (option_map {U = Outgoing} (λ areas. record { words = joined job.core areas; core = job.core })
+          was)).0) ≡ false
       by None some = absurd (some refl)
-      by (Some areas) some = stops (finds_no_place (pack_of d) t (output_of w o) (length (joined job.core areas))) (joined job.core areas)
+      by (Some areas) some = stops (finds_no_place (pack_of d) t (output_of w o) (length (joined job.core areas)))
+          (joined job.core areas)
 
 -- The words are put.
-module _ (d d' : DiskState) (map map' : VolumeCore) (jobs jobs' : List (Option Job)) (n : ℕ) (job : Job) (there : slot jobs n ≡ Some job) (ch a : ℕ) (moment : Moment) (timely : moment.date ≤ 4095) (out : putting.Outgoing job ch a)
-    (set : jobs' ≡ slice_set jobs n (Some (record job { channels = slice_set job.channels ch (Some (moved out.channel out.output (length out.words))) })))
-    (keyed : AreKeyed map.pending jobs) (keyed' : AreKeyed map'.pending jobs') (sound : IsSound d map false) (honest : d.honest) (later : d'.honest)
-    (p : PendingVersion) (at : pending_at map.pending out.output.pending.key ≡ Some p) (put : Puts d d' map map' out.output out.words p)
+module _ (d d' : DiskState) (map map' : VolumeCore) (jobs jobs' : List (Option Job)) (n : ℕ) (job : Job)
+    (there : slot jobs n ≡ Some job) (ch a : ℕ) (moment : Moment) (timely : moment.date
+    ≤ 4095) (out : putting.Outgoing job ch a)
+    (set : jobs' ≡ slice_set jobs n (Some
+    (record job { channels = slice_set job.channels ch (Some (moved out.channel out.output (length out.words))) })))
+    (keyed : AreKeyed map.pending jobs) (keyed' : AreKeyed map'.pending jobs') (sound : IsSound d map false)
+    (honest : d.honest) (later : d'.honest)
+    (p : PendingVersion) (at : pending_at map.pending out.output.pending.key ≡ Some p)
+    (put : Puts d d' map map' out.output out.words p)
     (others : (k : ℕ) → (k ≡ out.output.pending.key → ⊥) → pending_at map'.pending k ≡ pending_at map.pending k)
-    (writers : (k : ℕ) (q : PendingVersion) → (k ≡ out.output.pending.key → ⊥) → pending_at map.pending k ≡ Some q → (m : ℕ) → 0 < times m q.version.blocks → d'.contents m ≡ d.contents m)
-    (rests : (f : Files File) → RestsAt d f → RestsAt d' f) (live : map'.live ≡ map.live) (knows : map'.known ≡ record map.known { table = map'.known.table }) (readers : KeepsRead d.contents d'.contents map)
+    (writers : (k : ℕ) (q : PendingVersion) → (k ≡ out.output.pending.key → ⊥) → pending_at map.pending k ≡ Some q
+    → (m : ℕ) → 0 < times m q.version.blocks → d'.contents m ≡ d.contents m)
+    (rests : (f : Files File) → RestsAt d f → RestsAt d' f) (live : map'.live ≡ map.live) (knows : map'.known
+    ≡ record map.known { table = map'.known.table }) (readers : KeepsRead d.contents d'.contents map)
     (reading' : AreReading map'.live jobs') (s : State) (state : IsState d map jobs s) where
   abbrev key : ℕ
   key = out.output.pending.key
@@ -120,25 +148,30 @@ module _ (d d' : DiskState) (map map' : VolumeCore) (jobs jobs' : List (Option J
   s_is : s ≡ state_of s.files state.under jobs
   s_is = state_is s state.under jobs state.jobs_are
 
-  at_key : (k : ℕ) (q : PendingVersion) → pending_at map'.pending k ≡ Some q → k ≡ key → q ≡ record p { version = put.version }
+  at_key : (k : ℕ) (q : PendingVersion) → pending_at map'.pending k ≡ Some q → k ≡ key
+      → q ≡ record p { version = put.version }
   at_key k q is same = some_same (sym is ∙ ap (pending_at map'.pending) same ∙ put.here)
 
   -- the version that is written, and the others
-  this_version : (k : ℕ) (q : PendingVersion) → pending_at map'.pending k ≡ Some q → k ≡ key → IsWriting d' q (w.written k)
+  this_version : (k : ℕ) (q : PendingVersion) → pending_at map'.pending k ≡ Some q → k ≡ key
+      → IsWriting d' q (w.written k)
   this_version k q is same =
       let was = state.versions key p at in
       subst (λ v. IsWriting d' v (w.written k)) (sym (at_key k q is same))
-      (subst (IsWriting d' (record p { version = put.version })) (sym (ap w.written same ∙ with_same state.under key x)) (record {
+      (subst (IsWriting d' (record p { version = put.version })) (sym (ap w.written same ∙ with_same state.under key x))
+      (record {
         place = was.place;
         protection = was.protection;
         mode = was.mode;
         time = was.time;
         date = was.date;
-        words = length-splice (state.under.written key).file.body out.output.next out.words ∙ ap (λ m. length_after m out.output.next (length out.words)) was.words ∙ sym put.length_is;
+        words = length-splice (state.under.written key).file.body out.output.next out.words
+            ∙ ap (λ m. length_after m out.output.next (length out.words)) was.words ∙ sym put.length_is;
         body = put.body later (state.under.written key).file.body was.words was.body;
       }))
 
-  other_version : (k : ℕ) (q : PendingVersion) → pending_at map'.pending k ≡ Some q → (k ≡ key → ⊥) → IsWriting d' q (w.written k)
+  other_version : (k : ℕ) (q : PendingVersion) → pending_at map'.pending k ≡ Some q → (k ≡ key → ⊥)
+      → IsWriting d' q (w.written k)
   other_version k q is apart =
       let before = sym (others k apart) ∙ is in
       let was = state.versions k q before in
@@ -149,25 +182,45 @@ module _ (d d' : DiskState) (map map' : VolumeCore) (jobs jobs' : List (Option J
         time = was.time;
         date = was.date;
         words = was.words;
-        body = body_kept d.contents d'.contents q.version.blocks (state.under.written k).file.body was.body (writers k q apart before);
+        body = body_kept d.contents d'.contents q.version.blocks (state.under.written k).file.body was.body
+            (writers k q apart before);
       })
 
-  absent_is : (k : ℕ) (q : PendingVersion) → pending_at map'.pending k ≡ Some q → q.is_new ≡ true → file_at s.files (w.written k).place ≡ None
+  absent_is : (k : ℕ) (q : PendingVersion) → pending_at map'.pending k ≡ Some q → q.is_new ≡ true
+      → file_at s.files (w.written k).place ≡ None
   absent_is k q is is_new = same_or_not k key
-      (λ same. ap (λ (y : Writing). file_at s.files y.place) (ap w.written same ∙ with_same state.under key x) ∙ state.absent key p at (sym (ap (λ (v : PendingVersion). v.is_new) (at_key k q is same)) ∙ is_new))
-      (λ apart. ap (λ (y : Writing). file_at s.files y.place) (with_other state.under key x k apart) ∙ state.absent k q (sym (others k apart) ∙ is) is_new)
+      (λ same. ap (λ (y : Writing). file_at s.files y.place) (ap w.written same ∙ with_same state.under key x)
+      ∙ state.absent key p at (sym (ap (λ (v : PendingVersion). v.is_new) (at_key k q is same)) ∙ is_new))
+      (λ apart. ap (λ (y : Writing). file_at s.files y.place) (with_other state.under key x k apart)
+      ∙ state.absent k q (sym (others k apart) ∙ is) is_new)
 
-  row_put : (serial : ℕ) → step (pack_of d) serial (state_of s.files state.under jobs) (Calls n (Out ch a) moment) ≡ (Done, state_of s.files w jobs')
+  row_put : (serial : ℕ) → step (pack_of d) serial (state_of s.files state.under jobs) (Calls n (Out ch a) moment)
+      ≡ (Done, state_of s.files w jobs')
   row_put serial =
-      row_by_place d map jobs n job there ch a moment timely serial s.files state.under out.channel out.there out.output out.side out.words out.found false
-      (place_found d map (state_of s.files state.under jobs) state.under out.output p (state.versions key p at) (subst (λ y. booked y ≡ map.known.table.booked) s_is (known d map jobs s state sound honest).booked_is) (length out.words) put.fits)
-      ∙ ap (λ y. (Done, with_job (state_of s.files state.under jobs) n (with_channel (job_of state.under job) ch (Some (record (clean (channel_of state.under out.channel)) { output = put_on (option_map (output_of state.under) y) out.words }))))) out.side
-      ∙ ap (λ y. (Done, y)) (state_put map.pending jobs n job there ch out.channel out.there out.output out.side keyed state.under out.words s.files jobs' set)
+      row_by_place d map jobs n job there ch a moment timely serial s.files state.under out.channel out.there
+      out.output out.side out.words out.found false
+      (place_found d map (state_of s.files state.under jobs) state.under out.output p (state.versions key p at)
+      (subst (λ y. booked y ≡ map.known.table.booked) s_is (known d map jobs s state sound honest).booked_is)
+      (length out.words) put.fits)
+      ∙ ap (λ y. (
+        Done,
+        with_job (state_of s.files state.under jobs) n
+            (with_channel (job_of state.under job) ch
+            (Some (record (clean (channel_of state.under out.channel)) {
+              output = put_on
+                  (option_map (output_of state.under) y) out.words;
+            }))),
+      )) out.side
+      ∙ ap (λ y. (Done, y)) (state_put map.pending jobs n job there ch out.channel out.there out.output
+      out.side keyed state.under out.words s.files jobs' set)
 
-  pub put_leads : (failed' : Bool) → failed' ≡ false → (new : Service) × Serves d' map' failed' jobs' new × Answers (pack_of d) (Serving s) (Calls n (Out ch a) moment) Done new
+  pub put_leads : (failed' : Bool) → failed' ≡ false → (new : Service) × Serves d' map' failed' jobs' new
+      × Answers (pack_of d) (Serving s) (Calls n (Out ch a) moment) Done new
   put_leads failed' serves =
-      goes_on d' map' failed' jobs' (pack_of d) (Calls n (Out ch a) moment) Done s (state_of s.files w jobs') serves state.sound
-      (λ serial. subst (λ y. step (pack_of d) serial y (Calls n (Out ch a) moment) ≡ (Done, state_of s.files w jobs')) (sym s_is) (row_put serial))
+      goes_on d' map' failed' jobs' (pack_of d) (Calls n (Out ch a) moment) Done s
+      (state_of s.files w jobs') serves state.sound
+      (λ serial. subst (λ y. step (pack_of d) serial y (Calls n (Out ch a) moment) ≡ (Done, state_of s.files w jobs'))
+      (sym s_is) (row_put serial))
       (λ still. record {
         files = rests (without_serials s.files) state.files;
         serials = state.serials;
@@ -175,30 +228,51 @@ module _ (d d' : DiskState) (map map' : VolumeCore) (jobs jobs' : List (Option J
         versions = λ k q is. same_or_not k key (this_version k q is) (other_version k q is);
         absent = absent_is;
         keyed = keyed';
-        read = reads_kept d d' map map' state.under.read live readers s.files (λ ppn name. ap (λ k. prime_at (record map { known = k }) ppn name) knows) state.read;
+        read = reads_kept d d' map map' state.under.read live readers s.files
+            (λ ppn name. ap (λ k. prime_at (record map { known = k }) ppn name) knows) state.read;
         reading = reading';
         jobs_are = refl;
         sound = still;
       })
 
 -- They find no place.
-module _ (d : DiskState) (map : VolumeCore) (failed : Bool) (jobs jobs' : List (Option Job)) (n : ℕ) (job : Job) (there : slot jobs n ≡ Some job) (ch a : ℕ) (moment : Moment) (timely : moment.date ≤ 4095) (out : putting.Outgoing job ch a) (status : ℕ) (is : status ≡ cleared out.channel.status + block_too_large)
-    (set : jobs' ≡ slice_set jobs n (Some (record job { channels = slice_set job.channels ch (Some (record out.channel { status = status })) })))
-    (keyed' : AreKeyed map.pending jobs') (reading' : AreReading map.live jobs') (sound : IsSound d map false) (honest : d.honest)
-    (p : PendingVersion) (at : pending_at map.pending out.output.pending.key ≡ Some p) (none : FindsNone d.size map p out.output.next (length out.words)) (s : State) (state : IsState d map jobs s) where
+module _ (d : DiskState) (map : VolumeCore) (failed : Bool) (jobs jobs' : List (Option Job)) (n : ℕ) (job : Job)
+    (there : slot jobs n ≡ Some job) (ch a : ℕ) (moment : Moment) (timely : moment.date ≤ 4095)
+    (out : putting.Outgoing job ch a) (status : ℕ) (is : status ≡ cleared out.channel.status + block_too_large)
+    (set : jobs' ≡ slice_set jobs n
+    (Some (record job { channels = slice_set job.channels ch (Some (record out.channel { status = status })) })))
+    (keyed' : AreKeyed map.pending jobs') (reading' : AreReading map.live jobs') (sound : IsSound d map false)
+    (honest : d.honest)
+    (p : PendingVersion) (at : pending_at map.pending out.output.pending.key ≡ Some p)
+    (none : FindsNone d.size map p out.output.next (length out.words)) (s : State) (state : IsState d map jobs s) where
   before_is : s ≡ state_of s.files state.under jobs
   before_is = state_is s state.under jobs state.jobs_are
 
-  row_stopped : (serial : ℕ) → step (pack_of d) serial (state_of s.files state.under jobs) (Calls n (Out ch a) moment) ≡ (Stopped status, state_of s.files state.under jobs')
+  row_stopped : (serial : ℕ) → step (pack_of d) serial (state_of s.files state.under jobs) (Calls n (Out ch a) moment)
+      ≡ (Stopped status, state_of s.files state.under jobs')
   row_stopped serial =
-      row_by_place d map jobs n job there ch a moment timely serial s.files state.under out.channel out.there out.output out.side out.words out.found true
-      (none_found d map (state_of s.files state.under jobs) state.under out.output p (state.versions out.output.pending.key p at) (subst (λ y. booked y ≡ map.known.table.booked) before_is (known d map jobs s state sound honest).booked_is) (length out.words) none)
-      ∙ ap (λ m. (Stopped m, with_job (state_of s.files state.under jobs) n (with_channel (job_of state.under job) ch (Some (record (channel_of state.under out.channel) { status = m }))))) (sym is)
-      ∙ ap (λ j. (Stopped status, with_job (state_of s.files state.under jobs) n j)) (channel_set state.under job ch (Some (record out.channel { status = status })))
-      ∙ ap (λ y. (Stopped status, y)) (job_set s.files state.under jobs n (record job { channels = slice_set job.channels ch (Some (record out.channel { status = status })) }) ∙ ap (state_of s.files state.under) (sym set))
+      row_by_place d map jobs n job there ch a moment timely serial s.files state.under out.channel out.there
+      out.output out.side out.words out.found true
+      (none_found d map (state_of s.files state.under jobs) state.under out.output p
+      (state.versions out.output.pending.key p at) (subst (λ y. booked y ≡ map.known.table.booked) before_is
+      (known d map jobs s state sound honest).booked_is) (length out.words) none)
+      ∙ ap (λ m. (
+        Stopped m,
+        with_job (state_of s.files state.under jobs) n
+            (with_channel (job_of state.under job) ch
+            (Some (record (channel_of state.under out.channel) { status = m }))),
+      )) (sym is)
+      ∙ ap (λ j. (Stopped status, with_job (state_of s.files state.under jobs) n j))
+      (channel_set state.under job ch (Some (record out.channel { status = status })))
+      ∙ ap (λ y. (Stopped status, y)) (job_set s.files state.under jobs n
+      (record job { channels = slice_set job.channels ch (Some (record out.channel { status = status })) })
+      ∙ ap (state_of s.files state.under) (sym set))
 
-  pub stopped_leads : failed ≡ false → (new : Service) × Serves d map failed jobs' new × Answers (pack_of d) (Serving s) (Calls n (Out ch a) moment) (Stopped status) new
+  pub stopped_leads : failed ≡ false → (new : Service) × Serves d map failed jobs' new
+      × Answers (pack_of d) (Serving s) (Calls n (Out ch a) moment) (Stopped status) new
   stopped_leads serves =
-      goes_on d map failed jobs' (pack_of d) (Calls n (Out ch a) moment) (Stopped status) s (state_of s.files state.under jobs') serves state.sound
-      (λ serial. subst (λ y. step (pack_of d) serial y (Calls n (Out ch a) moment) ≡ (Stopped status, state_of s.files state.under jobs')) (sym before_is) (row_stopped serial))
+      goes_on d map failed jobs' (pack_of d) (Calls n (Out ch a) moment) (Stopped status) s
+      (state_of s.files state.under jobs') serves state.sound
+      (λ serial. subst (λ y. step (pack_of d) serial y (Calls n (Out ch a) moment)
+      ≡ (Stopped status, state_of s.files state.under jobs')) (sym before_is) (row_stopped serial))
       (same_files d map map failed jobs jobs' keyed' reading' (leaves_none map) s state)

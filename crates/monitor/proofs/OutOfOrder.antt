@@ -26,39 +26,50 @@ use Rattle.monitor.proofs.Usetos.{on_row, on_none}
 
 module _ (job : Job) (number count : ℕ) where
   pub inbuf_none : slot job.channels number ≡ None → IsRow job job (Inbuf number count) NoChannel
-  inbuf_none none pack serial s n w moment at = on_none s n w job number (λ c. of_job s n (sets_up (job_of w job) number c c.input_header count)) none at
+  inbuf_none none pack serial s n w moment at = on_none s n w job number
+      (λ c. of_job s n (sets_up (job_of w job) number c c.input_header count)) none at
 
   -- each channel is in dump mode
   pub inbuf_refused : (c : Channel) → slot job.channels number ≡ Some c → IsRow job job (Inbuf number count) (Refused 5)
-  inbuf_refused c there pack serial s n w moment at = on_row s n w job job number c (Refused 5) (λ x. sets_up (job_of w job) number x x.input_header count) there refl
+  inbuf_refused c there pack serial s n w moment at = on_row s n w job job number c (Refused 5)
+      (λ x. sets_up (job_of w job) number x x.input_header count) there refl
 
   pub outbuf_none : slot job.channels number ≡ None → IsRow job job (Outbuf number count) NoChannel
-  outbuf_none none pack serial s n w moment at = on_none s n w job number (λ c. of_job s n (sets_up (job_of w job) number c c.output_header count)) none at
+  outbuf_none none pack serial s n w moment at = on_none s n w job number
+      (λ c. of_job s n (sets_up (job_of w job) number c c.output_header count)) none at
 
-  pub outbuf_refused : (c : Channel) → slot job.channels number ≡ Some c → IsRow job job (Outbuf number count) (Refused 5)
-  outbuf_refused c there pack serial s n w moment at = on_row s n w job job number c (Refused 5) (λ x. sets_up (job_of w job) number x x.output_header count) there refl
+  pub outbuf_refused : (c : Channel) → slot job.channels number ≡ Some c
+      → IsRow job job (Outbuf number count) (Refused 5)
+  outbuf_refused c there pack serial s n w moment at = on_row s n w job job number c (Refused 5)
+      (λ x. sets_up (job_of w job) number x x.output_header count) there refl
 
 -- RENAME.
 
 module _ (job : Job) (number e : ℕ) where
   pub rename_none : slot job.channels number ≡ None → IsRow job job (Rename number e) NoChannel
-  rename_none none pack serial s n w moment at = on_none s n w job number (λ c. of_files s n (renames pack s (job_of w job) number c e)) none at
+  rename_none none pack serial s n w moment at = on_none s n w job number
+      (λ c. of_files s n (renames pack s (job_of w job) number c e)) none at
 
   module _ (c : Channel) (there : slot job.channels number ≡ Some c) where
     -- by whether the words are not all there, and by the input side
     abbrev renamed : Pack → State → UnderKeys → Bool → Option machine.Input → Reply × (machine.Job × Files Version)
     renamed pack s w outside side =
-        settled (if outside then AddressCheck else rename_sides pack s (job_of w job) e side (channel_of w c).output)
-        (rename_done (job_of w job) number (channel_of w c), files_renamed s.files (job_of w job) e (channel_of w c).input) (λ reply. (refused_at (job_of w job) e reply, s.files))
+        settled (if outside then AddressCheck else rename_sides pack s (job_of w job) e side (channel_of w c).output) (
+          rename_done (job_of w job) number (channel_of w c),
+          files_renamed s.files (job_of w job) e (channel_of w c).input,
+        ) (λ reply. (refused_at (job_of w job) e reply, s.files))
 
-    asked : (s : State) (n : ℕ) (w : UnderKeys) (row : machine.Channel → Reply × State) → on_channel s (channel_at (job_of w job) number) row ≡ row (channel_of w c)
+    asked : (s : State) (n : ℕ) (w : UnderKeys) (row : machine.Channel → Reply × State)
+        → on_channel s (channel_at (job_of w job) number) row ≡ row (channel_of w c)
     asked s n w row = ap (λ o. on_channel s o row) (channel_is w job number (Some c) there)
 
     pub rename_outside : lies_outside job.core e 4 ≡ true → IsRow job job (Rename number e) AddressCheck
     rename_outside outside pack serial s n w moment at =
-        asked s n w (λ x. of_files s n (renames pack s (job_of w job) number x e)) ∙ ap (λ b. of_files s n (renamed pack s w b (channel_of w c).input)) outside
+        asked s n w (λ x. of_files s n (renames pack s (job_of w job) number x e))
+        ∙ ap (λ b. of_files s n (renamed pack s w b (channel_of w c).input)) outside
 
-    pub rename_refused : c.input ≡ None → lies_outside job.core e 4 ≡ false → IsRow job (with_code job e 5) (Rename number e) (Refused 5)
+    pub rename_refused : c.input ≡ None → lies_outside job.core e 4 ≡ false
+        → IsRow job (with_code job e 5) (Rename number e) (Refused 5)
     rename_refused none inside pack serial s n w moment at =
         asked s n w (λ x. of_files s n (renames pack s (job_of w job) number x e))
         ∙ ap (λ b. of_files s n (renamed pack s w b (channel_of w c).input)) inside

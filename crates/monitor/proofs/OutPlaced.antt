@@ -5,7 +5,8 @@ use Rattle.blockdisk.specs.Disk.{DiskState}
 use Rattle.meaning.specs.Jobs.{slot}
 use Rattle.meaning.specs.Maps.{times}
 use Rattle.meaning.specs.declared.call.Reply.{Reply}
-use Rattle.meaning.specs.declared.call.Reply.TheVariants.{Done, Value, Refused, Stopped, NoChannel, AddressCheck, NoJob, NoMemory, Device, Failed, DateRange}
+use Rattle.meaning.specs.declared.call.Reply.TheVariants.{Done, Value, Refused, Stopped, NoChannel, AddressCheck, NoJob}
+use Rattle.meaning.specs.declared.call.Reply.TheVariants.{NoMemory, Device, Failed, DateRange}
 use Rattle.volume.specs.Live.{VolumeCore, pending_at}
 use Rattle.monitor.specs.Events.{IsIdle}
 use Rattle.monitor.specs.Putting.{IsOut, IsOther}
@@ -21,9 +22,12 @@ module _ {D : Type 0} (state : D → DiskState) (disk disk' : D) (map map' : Vol
   abbrev Outcome : Reply → Type 0
   Outcome reply = IsOut (state disk) (state disk') map map' ((disk' ≡ disk) × (map' ≡ map)) job job' ch a reply
 
-  module _ (failed' : Bool) (live : (key : ℕ) → times key (keys_of (sides_in (Some job))) ≤ present (pending_at map.pending key))
-      (others : (key : ℕ) → IsOther (slot job.channels ch) key → pending_at map'.pending key ≡ pending_at map.pending key)
-      (known : map'.known ≡ record map.known { table = map'.known.table }) (placed : ArePlaced map) (alive : failed' ≡ false) where
+  module _ (failed' : Bool) (live : (key : ℕ) → times key (keys_of (sides_in (Some job)))
+      ≤ present (pending_at map.pending key))
+      (others : (key : ℕ) → IsOther (slot job.channels ch) key
+      → pending_at map'.pending key ≡ pending_at map.pending key)
+      (known : map'.known ≡ record map.known { table = map'.known.table }) (placed : ArePlaced map) (alive : failed'
+      ≡ false) where
     abbrev Fails : Reply → Type 0
     Fails reply = IsTrue failed' ↔ ((reply ≡ Device) ⊎ (reply ≡ Failed))
 
@@ -35,7 +39,9 @@ module _ {D : Type 0} (state : D → DiskState) (disk disk' : D) (map map' : Vol
     out_placed Done (out, job_is, put) fails =
         let p = version_there map.pending job ch out.channel out.there out.output out.side live in
         let is = put p.0 p.1 in
-        placed_put map map' out.output.pending.key p.0 is.version p.1 is.here (λ k apart. others k (other_side (slot job.channels ch) out.channel out.output k out.there out.side apart)) known placed
+        placed_put map map' out.output.pending.key p.0 is.version p.1 is.here
+        (λ k apart. others k (other_side (slot job.channels ch) out.channel out.output k out.there out.side apart))
+        known placed
     out_placed (Stopped status) (out, is, job_is, none, same) fails = unmoved same
     out_placed (Refused code) (is, job_is, same, c, at, none) fails = unmoved same
     out_placed NoChannel (job_is, same, none) fails = unmoved same

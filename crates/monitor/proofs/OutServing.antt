@@ -1,5 +1,6 @@
 -- OUT: whether the machine finds a place for words, and the state that it goes on to.
-use Rattle.std.proofs.Common.{◌≡◌, ◌<◌, ◌≤◌, ◌+◌, ◌-◌, ℕ, Bool, true, false, List, [], ◌∷◌, length, map, Option, None, Some, refl, sym, ap, ◌∙◌, ◌⊎◌, inl, inr, arith, slice_set}
+use Rattle.std.proofs.Common.{◌≡◌, ◌<◌, ◌≤◌, ◌+◌, ◌-◌, ℕ, Bool, true, false, List, [], ◌∷◌, length, map, Option, None}
+use Rattle.std.proofs.Common.{Some, refl, sym, ap, ◌∙◌, ◌⊎◌, inl, inr, arith, slice_set}
 use Rattle.std.specs.Prelude.{◌==◌, ◌&&◌, ◌||◌, not, nat_lt, option_map, option_to_list, filter_map}
 use Rattle.std.proofs.lemmas.Bool.Decides.{nat_tests}
 use Rattle.blockdisk.specs.Disk.{DiskState}
@@ -21,7 +22,8 @@ use Rattle.volume.specs.Live.{VolumeCore, pending_at}
 use Rattle.volume.specs.declared.pending.PendingVersion.{PendingVersion}
 use Rattle.monitor.specs.Putting.{FindsNone, moved}
 use Rattle.monitor.specs.Serving.{pack_of, present, AreKeyed, IsWriting}
-use Rattle.monitor.specs.Sides.{Writing, UnderKeys, side_of, sides_in, sides, kind_of, output_of, channel_of, job_of, jobs_of, state_of}
+use Rattle.monitor.specs.Sides.{Writing, UnderKeys, side_of, sides_in, sides, kind_of, output_of, channel_of, job_of}
+use Rattle.monitor.specs.Sides.{jobs_of, state_of}
 use Rattle.monitor.specs.declared.channel.Channel.{Channel}
 use Rattle.monitor.specs.declared.output.Kind.{Kind}
 use Rattle.monitor.specs.declared.output.Kind.TheVariants.{Create, Supersede}
@@ -32,7 +34,9 @@ use Rattle.monitor.proofs.SideLists.{count, count-append, count-channel, count-s
 use Rattle.monitor.proofs.Slots.{set-twice}
 
 -- What is found in core.
-pub gathers : (core : List ℕ) (was : Option (List Area)) (words : List ℕ) → option_map (joined core) was ≡ Some words → option_map {U = Outgoing} (λ areas. record { words = joined core areas; core = core }) was ≡ Some (record { words = words; core = core })
+pub gathers : (core : List ℕ) (was : Option (List Area)) (words : List ℕ) → option_map (joined core) was ≡ Some words
+    → option_map {U = Outgoing} (λ areas. record { words = joined core areas; core = core }) was
+    ≡ Some (record { words = words; core = core })
 gathers core None words is = absurd (none_some is)
 gathers core (Some areas) words is = ap (option_map {U = Outgoing} (λ ws. record { words = ws; core = core })) is
 
@@ -58,8 +62,10 @@ some_of n is = grind (arith, nat_tests)
 not_none : (n : ℕ) → 0 < n → (n == 0) ≡ false
 not_none n some = grind (arith, nat_tests)
 
-crowded : (n long size blocks : ℕ) → (0 < n) × ((longest < long) ⊎ (size < blocks)) → crowds n long size blocks false ≡ true
-crowded n long size blocks (some, why) = ap (λ z. chain z (nat_lt longest long) (nat_lt size blocks) false) (not_none n some) ∙ by (nat_lt longest long) (nat_lt size blocks) (either why)
+crowded : (n long size blocks : ℕ) → (0 < n) × ((longest < long) ⊎ (size < blocks))
+    → crowds n long size blocks false ≡ true
+crowded n long size blocks (some, why) = ap (λ z. chain z (nat_lt longest long) (nat_lt size blocks) false)
+    (not_none n some) ∙ by (nat_lt longest long) (nat_lt size blocks) (either why)
   where
     either : (longest < long) ⊎ (size < blocks) → (nat_lt longest long ≡ true) ⊎ (nat_lt size blocks ≡ true)
     either (inl past) = inl (after longest long past)
@@ -71,7 +77,8 @@ crowded n long size blocks (some, why) = ap (λ z. chain z (nat_lt longest long)
     by false false (inl is) = is
     by false false (inr is) = is
 
-free : (n long size blocks : ℕ) → ((0 < n) × ((longest < long) ⊎ (size < blocks)) → ⊥) → crowds n long size blocks false ≡ false
+free : (n long size blocks : ℕ) → ((0 < n) × ((longest < long) ⊎ (size < blocks)) → ⊥)
+    → crowds n long size blocks false ≡ false
 free n long size blocks not_so = by (n == 0) (nat_lt longest long) (nat_lt size blocks) refl refl refl
   where
     by : (z a b : Bool) → (n == 0) ≡ z → nat_lt longest long ≡ a → nat_lt size blocks ≡ b → chain z a b false ≡ false
@@ -84,10 +91,13 @@ no_end : (kind : Kind) (next : ℕ) → is_before_end (kind_of kind) next ≡ fa
 no_end Create next = refl
 no_end Supersede next = refl
 
-module _ (d : DiskState) (map : VolumeCore) (s : State) (w : UnderKeys) (o : Output) (p : PendingVersion) (is : IsWriting d p (w.written o.pending.key)) (books : booked s ≡ map.known.table.booked) (n : ℕ) where
+module _ (d : DiskState) (map : VolumeCore) (s : State) (w : UnderKeys) (o : Output) (p : PendingVersion)
+    (is : IsWriting d p (w.written o.pending.key)) (books : booked s ≡ map.known.table.booked) (n : ℕ) where
   test_is : finds_no_place (pack_of d) s (output_of w o) n
-      ≡ crowds n (length_after p.version.words o.next n) (space d.size) (map.known.table.booked + (version_cost (length_after p.version.words o.next n) - version_cost p.version.words)) false
-  test_is i = crowds n (length_after (is.words i) o.next n) (space d.size) (books i + (version_cost (length_after (is.words i) o.next n) - version_cost (is.words i))) (no_end o.kind o.next i)
+      ≡ crowds n (length_after p.version.words o.next n) (space d.size) (map.known.table.booked
+      + (version_cost (length_after p.version.words o.next n) - version_cost p.version.words)) false
+  test_is i = crowds n (length_after (is.words i) o.next n) (space d.size) (books i
+      + (version_cost (length_after (is.words i) o.next n) - version_cost (is.words i))) (no_end o.kind o.next i)
 
   pub none_found : FindsNone d.size map p o.next n → finds_no_place (pack_of d) s (output_of w o) n ≡ true
   none_found why = test_is ∙ crowded n _ (space d.size) _ why
@@ -98,14 +108,20 @@ module _ (d : DiskState) (map : VolumeCore) (s : State) (w : UnderKeys) (o : Out
 -- The state in which the words are put.
 
 -- a place that is set anew, where all other places are alike
-set_alike : {A B : Type 0} (f g : A → B) (xs : List A) (n : ℕ) (y : A) (z : B) → map f (slice_set xs n y) ≡ map g (slice_set xs n y) → slice_set (map f xs) n z ≡ slice_set (map g xs) n z
+set_alike : {A B : Type 0} (f g : A → B) (xs : List A) (n : ℕ) (y : A) (z : B)
+    → map f (slice_set xs n y) ≡ map g (slice_set xs n y) → slice_set (map f xs) n z ≡ slice_set (map g xs) n z
 set_alike f g xs n y z same =
-    sym (set-twice (map f xs) n (f y) z) ∙ ap (λ ys. slice_set ys n z) (sym (map-set f xs n y) ∙ same ∙ map-set g xs n y) ∙ set-twice (map g xs) n (g y) z
+    sym (set-twice (map f xs) n (f y) z) ∙ ap (λ ys. slice_set ys n z) (sym (map-set f xs n y) ∙ same
+    ∙ map-set g xs n y) ∙ set-twice (map g xs) n (g y) z
 
-module _ (pending : List (Option PendingVersion)) (jobs : List (Option Job)) (n : ℕ) (job : Job) (there : slot jobs n ≡ Some job) (ch : ℕ) (c : Channel) (open_at : slot job.channels ch ≡ Some c) (o : Output) (side : c.output ≡ Some o)
+module _ (pending : List (Option PendingVersion)) (jobs : List (Option Job)) (n : ℕ) (job : Job) (there : slot jobs n
+    ≡ Some job) (ch : ℕ) (c : Channel) (open_at : slot job.channels ch ≡ Some c) (o : Output) (side : c.output ≡ Some o)
     (keyed : AreKeyed pending jobs) (w : UnderKeys) (words : List ℕ) where
   abbrev pub put_writing : Writing
-  put_writing = record (w.written o.pending.key) { file = record (w.written o.pending.key).file { body = splice (w.written o.pending.key).file.body o.next words } }
+  put_writing = record (w.written o.pending.key) {
+    file =
+        record (w.written o.pending.key).file { body = splice (w.written o.pending.key).file.body o.next words };
+  }
 
   abbrev pub writing_put : UnderKeys
   writing_put = with_writing w o.pending.key put_writing
@@ -117,7 +133,8 @@ module _ (pending : List (Option PendingVersion)) (jobs : List (Option Job)) (n 
   few : count o.pending.key (sides jobs) ≤ 1
   few = by (pending_at pending o.pending.key) (keyed.once o.pending.key)
     where
-      by : (p : Option PendingVersion) → count o.pending.key (sides jobs) ≡ present p → count o.pending.key (sides jobs) ≤ 1
+      by : (p : Option PendingVersion) → count o.pending.key (sides jobs) ≡ present p
+          → count o.pending.key (sides jobs) ≤ 1
       by None is = omega (arith, is)
       by (Some p) is = omega (arith, is)
 
@@ -144,16 +161,35 @@ module _ (pending : List (Option PendingVersion)) (jobs : List (Option Job)) (n 
       let most = few in
       omega arith
 
-  channel_is : record (clean (channel_of w c)) { output = put_on (Some (output_of w o)) words } ≡ channel_of writing_put (moved c o (length words))
+  channel_is : record (clean (channel_of w c)) { output = put_on (Some (output_of w o)) words }
+      ≡ channel_of writing_put (moved c o (length words))
   channel_is =
       let x = sym (with_same w o.pending.key put_writing) in
-      λ i. record (channel_of w (moved c o (length words))) { output = Some (record { place = (x i).place; kind = kind_of o.kind; pending = (x i).file; next = o.next + blocks_of (length words) }) }
+      λ i. record (channel_of w (moved c o (length words))) {
+        output = Some
+            (record {
+              place = (x i).place;
+              kind = kind_of o.kind;
+              pending = (x i).file;
+              next = o.next + blocks_of (length words);
+            });
+      }
 
-  job_is : with_channel (job_of w job) ch (Some (record (clean (channel_of w c)) { output = put_on (Some (output_of w o)) words })) ≡ job_of writing_put job_put
+  job_is : with_channel (job_of w job) ch
+      (Some (record (clean (channel_of w c)) { output = put_on (Some (output_of w o)) words }))
+      ≡ job_of writing_put job_put
   job_is =
-      let alike = jobs_same w o.pending.key put_writing (Some (record job { channels = slice_set job.channels ch None }) ∷ []) (omega (arith, other_channels, count-append o.pending.key (filter_map side_of (slice_set job.channels ch None)) [])) in
-      let channels = set_alike (option_map (channel_of w)) (option_map (channel_of writing_put)) job.channels ch None (Some (record (clean (channel_of w c)) { output = put_on (Some (output_of w o)) words })) (sym (ap channels_of alike))
-      ∙ ap (λ x. slice_set (map (option_map (channel_of writing_put)) job.channels) ch (Some x)) channel_is ∙ sym (map-set (option_map (channel_of writing_put)) job.channels ch (Some (moved c o (length words)))) in
+      let alike = jobs_same w o.pending.key put_writing (Some (record job { channels = slice_set job.channels ch None })
+      ∷ []) (omega (
+        arith,
+        other_channels,
+        count-append o.pending.key (filter_map side_of (slice_set job.channels ch None)) [],
+      )) in
+      let channels = set_alike (option_map (channel_of w)) (option_map (channel_of writing_put)) job.channels ch None
+      (Some (record (clean (channel_of w c)) { output = put_on (Some (output_of w o)) words }))
+      (sym (ap channels_of alike))
+      ∙ ap (λ x. slice_set (map (option_map (channel_of writing_put)) job.channels) ch (Some x)) channel_is
+      ∙ sym (map-set (option_map (channel_of writing_put)) job.channels ch (Some (moved c o (length words)))) in
       λ i. record { ppn = job.ppn; core = job.core; channels = channels i }
     where
       channels_of : List (Option machine.Job) → List (Option machine.Channel)
@@ -162,9 +198,15 @@ module _ (pending : List (Option PendingVersion)) (jobs : List (Option Job)) (n 
       channels_of (Some j ∷ js) = j.channels
 
   pub state_put : (files : Files Version) (jobs' : List (Option Job)) → jobs' ≡ slice_set jobs n (Some job_put)
-      → with_job (state_of files w jobs) n (with_channel (job_of w job) ch (Some (record (clean (channel_of w c)) { output = put_on (Some (output_of w o)) words }))) ≡ state_of files writing_put jobs'
+      → with_job (state_of files w jobs) n
+      (with_channel (job_of w job) ch (Some
+      (record (clean (channel_of w c)) { output = put_on (Some (output_of w o)) words })))
+      ≡ state_of files writing_put jobs'
   state_put files jobs' set =
       let alike = jobs_same w o.pending.key put_writing (slice_set jobs n None) other_jobs in
-      let slots = set_alike (option_map (job_of w)) (option_map (job_of writing_put)) jobs n None (Some (with_channel (job_of w job) ch (Some (record (clean (channel_of w c)) { output = put_on (Some (output_of w o)) words })))) (sym alike)
-      ∙ ap (λ j. slice_set (jobs_of writing_put jobs) n (Some j)) job_is ∙ sym (map-set (option_map (job_of writing_put)) jobs n (Some job_put)) ∙ ap (jobs_of writing_put) (sym set) in
+      let slots = set_alike (option_map (job_of w)) (option_map (job_of writing_put)) jobs n None
+      (Some (with_channel (job_of w job) ch
+      (Some (record (clean (channel_of w c)) { output = put_on (Some (output_of w o)) words })))) (sym alike)
+      ∙ ap (λ j. slice_set (jobs_of writing_put jobs) n (Some j)) job_is
+      ∙ sym (map-set (option_map (job_of writing_put)) jobs n (Some job_put)) ∙ ap (jobs_of writing_put) (sym set) in
       λ i. record { files = files; jobs = slots i }

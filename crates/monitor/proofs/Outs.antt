@@ -1,5 +1,6 @@
 -- OUT: the output side of a channel, and what a call does to its version.
-use Rattle.std.proofs.Common.{◌≡◌, ◌<◌, ◌≤◌, ◌+◌, ◌*◌, ◌^◌, ℕ, zero, suc, true, List, Option, None, Some, Result, Ok, Err, refl, sym, ap, subst, ◌∙◌, inr, arith, slice_set}
+use Rattle.std.proofs.Common.{◌≡◌, ◌<◌, ◌≤◌, ◌+◌, ◌*◌, ◌^◌, ℕ, zero, suc, true, List, Option, None, Some, Result, Ok}
+use Rattle.std.proofs.Common.{Err, refl, sym, ap, subst, ◌∙◌, inr, arith, slice_set}
 use Rattle.std.specs.List.{AllByRecursion}
 use Rattle.std.specs.Prelude.{◌↔◌, option_to_list, is_some}
 use Rattle.meaning.specs.Costs.{blocks_of}
@@ -29,12 +30,14 @@ use Rattle.monitor.proofs.ReadingJobs.{slot_set, length-slice_set}
 use Rattle.monitor.proofs.SideLists.{count, count-channel, each-channel, each-side}
 
 -- A channel with an output side.
-module _ (pending : List (Option PendingVersion)) (job : Job) (number : ℕ) (c : Channel) (there : slot job.channels number ≡ Some c) (o : Output) (side : c.output ≡ Some o) where
+module _ (pending : List (Option PendingVersion)) (job : Job) (number : ℕ) (c : Channel)
+    (there : slot job.channels number ≡ Some c) (o : Output) (side : c.output ≡ Some o) where
   side_is : side_of (slot job.channels number) ≡ Some o
   side_is = ap side_of there ∙ side
 
   -- its version is there
-  pub version_there : ((key : ℕ) → times key (keys_of (sides_in (Some job))) ≤ present (pending_at pending key)) → (p : PendingVersion) × (pending_at pending o.pending.key ≡ Some p)
+  pub version_there : ((key : ℕ) → times key (keys_of (sides_in (Some job))) ≤ present (pending_at pending key))
+      → (p : PendingVersion) × (pending_at pending o.pending.key ≡ Some p)
   version_there live =
       let key = o.pending.key in
       let all = live key in
@@ -43,18 +46,22 @@ module _ (pending : List (Option PendingVersion)) (job : Job) (number : ℕ) (c 
       let one = times_head key (keys_of (option_to_list None)) in
       by (pending_at pending key) refl (omega arith)
     where
-      by : (was : Option PendingVersion) → pending_at pending o.pending.key ≡ was → 1 ≤ present was → (p : PendingVersion) × (pending_at pending o.pending.key ≡ Some p)
+      by : (was : Option PendingVersion) → pending_at pending o.pending.key ≡ was → 1 ≤ present was
+          → (p : PendingVersion) × (pending_at pending o.pending.key ≡ Some p)
       by None is none = absurd (omega arith)
       by (Some p) is one = (p, is)
 
-  pub version_live : ((key : ℕ) → times key (keys_of (sides_in (Some job))) ≤ present (pending_at pending key)) → is_some (pending_at pending o.pending.key) ≡ true
+  pub version_live : ((key : ℕ) → times key (keys_of (sides_in (Some job))) ≤ present (pending_at pending key))
+      → is_some (pending_at pending o.pending.key) ≡ true
   version_live live = ap is_some (version_there live).1
 
   pub its_side : AllByRecursion (IsSide pending) (sides_in (Some job)) → IsSide pending o
-  its_side all = (subst (λ x. AllByRecursion (IsSide pending) (option_to_list x)) side_is (each-side (IsSide pending) job.channels number all)).0
+  its_side all = (subst (λ x. AllByRecursion (IsSide pending) (option_to_list x)) side_is
+      (each-side (IsSide pending) job.channels number all)).0
 
 -- what fits into a file ends at a block with a number
-pub next_fits : (words next n : ℕ) → 0 < next → next < 2 ^ 32 → n ≤ 0o400000 → (0 < n → most_blocks * 128 < length_after words next n → ⊥) → next + blocks_of n < 2 ^ 32
+pub next_fits : (words next n : ℕ) → 0 < next → next < 2 ^ 32 → n ≤ 0o400000
+    → (0 < n → most_blocks * 128 < length_after words next n → ⊥) → next + blocks_of n < 2 ^ 32
 next_fits words next zero first small few fits = omega arith
 next_fits words next (suc n) first small few fits = grind arith
 
@@ -66,32 +73,42 @@ pub ok_is_none : {X E : Type 0} (result : Result X E) (x : X) (e : E) → result
 ok_is_none result x e is err = let wrong : Ok x ≡ Err e = sym is ∙ err in cc wrong
 
 -- The words are put into the version of an output side, and it moves on.
-module _ (pending pending' : List (Option PendingVersion)) (job job' : Job) (number : ℕ) (c : Channel) (there : slot job.channels number ≡ Some c) (o : Output) (side : c.output ≡ Some o) (count_is : ℕ)
+module _ (pending pending' : List (Option PendingVersion)) (job job' : Job) (number : ℕ) (c : Channel)
+    (there : slot job.channels number ≡ Some c) (o : Output) (side : c.output ≡ Some o) (count_is : ℕ)
     (set : job' ≡ record job { channels = slice_set job.channels number (Some (moved c o count_is)) })
-    (p : PendingVersion) (at : pending_at pending o.pending.key ≡ Some p) (v : VersionState) (here : pending_at pending' o.pending.key ≡ Some (record p { version = v }))
+    (p : PendingVersion) (at : pending_at pending o.pending.key ≡ Some p) (v : VersionState)
+    (here : pending_at pending' o.pending.key ≡ Some (record p { version = v }))
     (others : (k : ℕ) → (k ≡ o.pending.key → ⊥) → pending_at pending' k ≡ pending_at pending k) where
   -- each version was there, and was new as it is
-  was_there : (k : ℕ) (q : PendingVersion) → pending_at pending' k ≡ Some q → (r : PendingVersion) × (pending_at pending k ≡ Some r) × (q.is_new ≡ r.is_new)
+  was_there : (k : ℕ) (q : PendingVersion) → pending_at pending' k ≡ Some q → (r : PendingVersion)
+      × (pending_at pending k ≡ Some r) × (q.is_new ≡ r.is_new)
   was_there k q is = same_or_not k o.pending.key
-      (λ same. (p, ap (pending_at pending) same ∙ at, ap (λ x. x.is_new) (some_same (sym is ∙ ap (pending_at pending') same ∙ here))))
+      (λ same. (
+        p,
+        ap (pending_at pending) same ∙ at,
+        ap (λ x. x.is_new) (some_same (sym is ∙ ap (pending_at pending') same ∙ here)),
+      ))
       (λ apart. (q, sym (others k apart) ∙ is, refl))
 
   still : (k : ℕ) → present (pending_at pending' k) ≡ present (pending_at pending k)
   still k = same_or_not k o.pending.key
-      (λ same. ap (λ n. present (pending_at pending' n)) same ∙ ap present here ∙ ap present (sym at) ∙ ap (λ n. present (pending_at pending n)) (sym same))
+      (λ same. ap (λ n. present (pending_at pending' n)) same ∙ ap present here ∙ ap present (sym at)
+      ∙ ap (λ n. present (pending_at pending n)) (sym same))
       (λ apart. ap present (others k apart))
 
   pub keeps_put : Keeps pending pending' job job'
   keeps_put = subst (Keeps pending pending' job) (sym set) (record {
     once = λ key.
-        let moved_on = count-channel key job.channels number (Some (moved c o count_is)) (λ e. absurd (none_some (sym e ∙ there))) in
+        let moved_on = count-channel key job.channels number (Some (moved c o count_is))
+        (λ e. absurd (none_some (sym e ∙ there))) in
         let was = ap (λ x. count key (option_to_list x)) (ap side_of there ∙ side) in
         let same = still key in
         omega arith;
     known = λ key q is. let r = was_there key q is in inr r;
     each = λ all.
         let is = its_side pending' job number c there o side all in
-        each-channel (IsSide pending') job.channels number (Some (moved c o count_is)) all (record { starts = further o.next count_is is.starts; kind = is.kind }, tt);
+        each-channel (IsSide pending') job.channels number (Some (moved c o count_is)) all
+        (record { starts = further o.next count_is is.starts; kind = is.kind }, tt);
   })
     where
       further : (next n : ℕ) → 0 < next → 0 < next + blocks_of n
@@ -104,11 +121,15 @@ module _ (live live' : List (Option LiveVersion)) (job : Job) (stays : live' ≡
 
   -- a job with the same channels
   pub reads_core : (core : List ℕ) → KeepsReading live live' job (record job { core = core })
-  reads_core core = record { once = λ key. let same = as_many key in omega arith; each = λ is. record { each = is.each; sixteen = is.sixteen } }
+  reads_core core = record {
+    once = λ key. let same = as_many key in omega arith;
+    each = λ is. record { each = is.each; sixteen = is.sixteen };
+  }
 
   module _ (number : ℕ) (c : Channel) (there : slot job.channels number ≡ Some c) where
     -- a channel is another one, with the same input side
-    pub reads_channel : (x : Channel) → x.input ≡ c.input → (IsReader c → IsReader x) → (job' : Job) → job' ≡ record job { channels = slice_set job.channels number (Some x) } → KeepsReading live live' job job'
+    pub reads_channel : (x : Channel) → x.input ≡ c.input → (IsReader c → IsReader x) → (job' : Job)
+        → job' ≡ record job { channels = slice_set job.channels number (Some x) } → KeepsReading live live' job job'
     reads_channel x same fits job' set = subst (KeepsReading live live' job) (sym set) (record {
       once = λ key.
           let moved_on = held-channel key job.channels number (Some x) (λ e. absurd (none_some (sym e ∙ there))) in
@@ -124,9 +145,14 @@ module _ (live live' : List (Option LiveVersion)) (job : Job) (stays : live' ≡
       };
     })
 
-    pub reads_status : (status : ℕ) (job' : Job) → job' ≡ record job { channels = slice_set job.channels number (Some (record c { status = status })) } → KeepsReading live live' job job'
+    pub reads_status : (status : ℕ) (job' : Job)
+        → job' ≡ record job { channels = slice_set job.channels number (Some (record c { status = status })) }
+        → KeepsReading live live' job job'
     reads_status status job' set = reads_channel (record c { status = status }) refl (λ is. is) job' set
 
     -- one that writes doesn't read
-    pub reads_moved : (o : Output) → c.output ≡ Some o → (n : ℕ) (job' : Job) → job' ≡ record job { channels = slice_set job.channels number (Some (moved c o n)) } → KeepsReading live live' job job'
-    reads_moved o side n job' set = reads_channel (moved c o n) refl (λ is i at. absurd (none_some (sym (is i at).0 ∙ side))) job' set
+    pub reads_moved : (o : Output) → c.output ≡ Some o → (n : ℕ) (job' : Job)
+        → job' ≡ record job { channels = slice_set job.channels number (Some (moved c o n)) }
+        → KeepsReading live live' job job'
+    reads_moved o side n job' set = reads_channel (moved c o n) refl
+        (λ is i at. absurd (none_some (sym (is i at).0 ∙ side))) job' set

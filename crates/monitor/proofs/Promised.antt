@@ -1,6 +1,7 @@
 -- What every call promises, put together from what a call says of itself.
 use Rattle.std.specs.Prelude.{◌&&◌, not, is_some}
-use Rattle.std.proofs.Common.{◌≡◌, ◌≤◌, ℕ, Bool, true, false, List, Option, None, Some, refl, sym, ap, subst, ◌∙◌, slice_set}
+use Rattle.std.proofs.Common.{◌≡◌, ◌≤◌, ℕ, Bool, true, false, List, Option, None, Some, refl, sym, ap, subst, ◌∙◌}
+use Rattle.std.proofs.Common.{slice_set}
 use Rattle.words36.specs.declared.moment.Moment.{Moment}
 use Rattle.blockdisk.specs.Disk.{Contents, DiskState, MayLeave}
 use Rattle.meaning.specs.Jobs.{slot}
@@ -27,7 +28,9 @@ use Rattle.monitor.specs.declared.output.Output.{Output}
 use Rattle.monitor.specs.declared.job.Job.{Job}
 use Rattle.monitor.proofs.Answering.{on_disk}
 use Rattle.monitor.proofs.Called.{quiet_failed, quiet_same, still_serves}
-use Rattle.monitor.proofs.Closings.{dropping_keyed, dropping_reading, dropping_answered, row_answered, row_crashes, publishing_failed, publishing_blamed, publishing_counted, publishing_served, publishing_idle}
+use Rattle.monitor.proofs.Closings.{dropping_keyed, dropping_reading, dropping_answered, row_answered, row_crashes}
+use Rattle.monitor.proofs.Closings.{publishing_failed, publishing_blamed, publishing_counted, publishing_served}
+use Rattle.monitor.proofs.Closings.{publishing_idle}
 use Rattle.monitor.proofs.Placing.{placed_left}
 use Rattle.monitor.proofs.Refusals.{publishing_refused}
 use Rattle.monitor.proofs.Serving.{nobody, alone, alone_keyed, alone_reading}
@@ -35,23 +38,32 @@ use Rattle.monitor.proofs.Slots.{unchanged}
 use Rattle.monitor.proofs.Untouched.{untouched_crashes}
 
 -- a channel whose output side closes for good publishes
-pub publishes_here : (job : Job) (number bits : ℕ) (c : Channel) (o : Output) → ClosesSide job number bits c o → publishes_at (slot job.channels number) bits ≡ false → ⊥
+pub publishes_here : (job : Job) (number bits : ℕ) (c : Channel) (o : Output) → ClosesSide job number bits c o
+    → publishes_at (slot job.channels number) bits ≡ false → ⊥
 publishes_here job number bits c o here quiet =
-    let is : publishes_at (slot job.channels number) bits ≡ true = ap (λ x. publishes_at x bits) here.there ∙ (λ i. is_some (here.side i) && not (here.closes i) && not (here.keeps i)) in
+    let is : publishes_at (slot job.channels number) bits ≡ true = ap (λ x. publishes_at x bits) here.there
+    ∙ (λ i. is_some (here.side i) && not (here.closes i) && not (here.keeps i)) in
     let wrong = sym is ∙ quiet in cc
 
-module _ {D : Type 0} (state : D → DiskState) (only_now : (disk : D) (contents : Contents) → (state disk).honest → (state disk).left_since (state disk).clock contents → MayLeave (state disk) contents) where
+module _ {D : Type 0} (state : D → DiskState) (only_now : (disk : D) (contents : Contents) → (state disk).honest
+    → (state disk).left_since (state disk).clock contents → MayLeave (state disk) contents) where
   -- A call that asks the disk for nothing, by what it says of core, of the job and of its answer.
-  module _ (disk disk' : D) (core core' : VolumeCore) (failed failed' : Bool) (job job' : Job) (call : Call) (moment : Moment) (reply : Reply)
-      (alive : failed ≡ false) (untouched : (disk' ≡ disk) × (failed' ≡ failed)) (only : (reply ≡ Failed → ⊥) × (reply ≡ Device → ⊥))
-      (placed : ArePlaced core') (room : IsLight call (Some job) → reply ≡ NoMemory → ⊥) (kept : KeepsCore call → core' ≡ core) (memory : reply ≡ NoMemory → (core' ≡ core) × (job' ≡ job))
-      (refused : (code : ℕ) → reply ≡ Refused code → job' ≡ refused_with call job code) (unserved : IsUnserved call job → (core' ≡ core) × UnservedRow call job job' reply)
+  module _ (disk disk' : D) (core core' : VolumeCore) (failed failed' : Bool) (job job' : Job) (call : Call)
+      (moment : Moment) (reply : Reply)
+      (alive : failed ≡ false) (untouched : (disk' ≡ disk) × (failed' ≡ failed)) (only : (reply ≡ Failed → ⊥)
+      × (reply ≡ Device → ⊥))
+      (placed : ArePlaced core') (room : IsLight call (Some job) → reply ≡ NoMemory → ⊥) (kept : KeepsCore call
+      → core' ≡ core) (memory : reply ≡ NoMemory → (core' ≡ core) × (job' ≡ job))
+      (refused : (code : ℕ) → reply ≡ Refused code → job' ≡ refused_with call job code) (unserved : IsUnserved call job
+      → (core' ≡ core) × UnservedRow call job job' reply)
       (jobs : List (Option Job)) (n : ℕ) (among : IsAmong core jobs n job) where
     abbrev pub jobs' : List (Option Job)
     jobs' = slice_set jobs n (Some job')
 
     pub quiet_serves : AreKeyed core'.pending jobs' → AreReading core'.live jobs'
-        → ((state disk').honest → IsServed call (Some job) → (old : Service) → Serves (state disk) core false jobs old → (new : Service) × Serves (state disk) core' false jobs' new × Answers (pack_of (state disk)) old (Calls n call moment) reply new)
+        → ((state disk').honest → IsServed call (Some job) → (old : Service) → Serves (state disk) core false jobs old
+        → (new : Service) × Serves (state disk) core' false jobs' new
+        × Answers (pack_of (state disk)) old (Calls n call moment) reply new)
         → IsServing state disk disk' core core' failed' jobs jobs' n call moment reply
     quiet_serves keyed reading answered = record {
       keyed = λ serves. keyed;
@@ -59,14 +71,21 @@ module _ {D : Type 0} (state : D → DiskState) (only_now : (disk : D) (contents
       reading = λ serves. reading;
       others = λ m other. slot-set_other jobs n m (Some job') other;
       answered = λ honest served old serves.
-          on_disk state disk disk' false failed' core' jobs' (Answers (pack_of (state disk)) old (Calls n call moment) reply) (untouched.0, untouched.1 ∙ alive)
+          on_disk state disk disk' false failed' core' jobs'
+          (Answers (pack_of (state disk)) old (Calls n call moment) reply) (untouched.0, untouched.1 ∙ alive)
           (answered honest (subst (IsServed call) among.there served) old serves);
       crash = untouched_crashes state only_now disk disk' untouched.0 core jobs n call moment;
       idle = λ idle. untouched.0;
       light = λ light. (room (subst (IsLight call) among.there light), untouched.0);
       kept = kept;
-      memory = λ none. (untouched.0, (memory none).0, untouched.1 ∙ alive, unchanged jobs jobs' n job job' among.there refl (memory none).1);
-      refused = λ code is. record { job = job; there = among.there; jobs_are = ap (λ j. slice_set jobs n (Some j)) (refused code is) };
+      memory = λ none. (
+        untouched.0,
+        (memory none).0,
+        untouched.1 ∙ alive,
+        unchanged jobs jobs' n job job' among.there refl (memory none).1,
+      );
+      refused = λ code is.
+          record { job = job; there = among.there; jobs_are = ap (λ j. slice_set jobs n (Some j)) (refused code is) };
       unserved = λ x at is.
           let same = some_same (sym among.there ∙ at) in
           let row = unserved (subst (IsUnserved call) (sym same) is) in
@@ -79,41 +98,61 @@ module _ {D : Type 0} (state : D → DiskState) (only_now : (disk : D) (contents
     }
 
   -- A call that has to do with its job alone.
-  pub alone_serves : (disk : D) (core : VolumeCore) (failed : Bool) (job job' : Job) (call : Call) (moment : Moment) (reply : Reply) → failed ≡ false → ArePlaced core → moment.date ≤ 4095
-      → (IsServed call (Some job) → IsRow job job' call reply) → (IsUnserved call job → UnservedRow call job job' reply) → ((pending : List (Option PendingVersion)) → Keeps pending pending job job')
-      → ((live : List (Option LiveVersion)) → KeepsReading live live job job') → (reply ≡ Failed → ⊥) × (reply ≡ Device → ⊥) × (reply ≡ NoMemory → ⊥)
-      → ((code : ℕ) → reply ≡ Refused code → job' ≡ refused_with call job code) → ServesJob state disk disk core core failed job job' call moment reply
-  alone_serves disk core failed job job' call moment reply alive placed timely row unserved keeps reads only refused jobs n among =
+  pub alone_serves : (disk : D) (core : VolumeCore) (failed : Bool) (job job' : Job) (call : Call) (moment : Moment)
+      (reply : Reply) → failed ≡ false → ArePlaced core → moment.date ≤ 4095
+      → (IsServed call (Some job) → IsRow job job' call reply) → (IsUnserved call job → UnservedRow call job job' reply)
+      → ((pending : List (Option PendingVersion)) → Keeps pending pending job job')
+      → ((live : List (Option LiveVersion)) → KeepsReading live live job job') → (reply ≡ Failed → ⊥)
+      × (reply ≡ Device → ⊥) × (reply ≡ NoMemory → ⊥)
+      → ((code : ℕ) → reply ≡ Refused code → job' ≡ refused_with call job code)
+      → ServesJob state disk disk core core failed job job' call moment reply
+  alone_serves disk core failed job job' call moment reply alive placed timely row unserved keeps reads
+      only refused jobs n among =
       let set = slice_set jobs n (Some job') in
-      quiet_serves disk disk core core failed failed job job' call moment reply alive (refl, refl) (only.0, only.1) placed (λ light. only.2) (λ kept. refl) (λ none. absurd (only.2 none)) refused
+      quiet_serves disk disk core core failed failed job job' call moment reply alive (refl, refl)
+      (only.0, only.1) placed (λ light. only.2) (λ kept. refl) (λ none. absurd (only.2 none)) refused
       (λ is. (refl, unserved is)) jobs n among
-      (alone_keyed (state disk) core false jobs n call moment refl timely set job job' among.keyed among.there refl (keeps core.pending))
-      (alone_reading (state disk) core false jobs n call moment refl timely set job job' among.reading among.there refl (reads core.live))
-      (λ honest served. alone (state disk) core false jobs n call moment refl timely set job job' reply among.keyed among.reading among.there refl (keeps core.pending) (reads core.live) (row served))
+      (alone_keyed (state disk) core false jobs n call moment refl timely set job job' among.keyed among.there refl
+      (keeps core.pending))
+      (alone_reading (state disk) core false jobs n call moment refl timely set job job' among.reading among.there refl
+      (reads core.live))
+      (λ honest served. alone (state disk) core false jobs n call moment refl timely set job job' reply
+      among.keyed among.reading among.there refl (keeps core.pending) (reads core.live) (row served))
 
   -- A call by which versions are dropped or let go, and which asks for nothing else.
-  pub dropping_serves : (disk disk' : D) (core core' : VolumeCore) (failed failed' : Bool) (job job' : Job) (call : Call) (moment : Moment) (reply : Reply) → failed ≡ false → (disk' ≡ disk) × (failed' ≡ failed)
-      → ArePlaced core → moment.date ≤ 4095 → IsRow job job' call reply → Keeps core.pending core'.pending job job' → KeepsReading core.live core'.live job job'
-      → Leaves core core' → (reply ≡ Failed → ⊥) × (reply ≡ Device → ⊥) × (reply ≡ NoMemory → ⊥) → ((code : ℕ) → reply ≡ Refused code → ⊥) → (KeepsCore call → ⊥) → (IsUnserved call job → ⊥)
+  pub dropping_serves : (disk disk' : D) (core core' : VolumeCore) (failed failed' : Bool) (job job' : Job)
+      (call : Call) (moment : Moment) (reply : Reply) → failed ≡ false → (disk' ≡ disk) × (failed' ≡ failed)
+      → ArePlaced core → moment.date ≤ 4095 → IsRow job job' call reply → Keeps core.pending core'.pending job job'
+      → KeepsReading core.live core'.live job job'
+      → Leaves core core' → (reply ≡ Failed → ⊥) × (reply ≡ Device → ⊥) × (reply ≡ NoMemory → ⊥)
+      → ((code : ℕ) → reply ≡ Refused code → ⊥) → (KeepsCore call → ⊥) → (IsUnserved call job → ⊥)
       → ServesJob state disk disk' core core' failed' job job' call moment reply
-  dropping_serves disk disk' core core' failed failed' job job' call moment reply alive untouched placed timely row keeps reads leaves only refused changes served jobs n among =
+  dropping_serves disk disk' core core' failed failed' job job' call moment reply alive untouched placed
+      timely row keeps reads leaves only refused changes served jobs n among =
       let set = slice_set jobs n (Some job') in
-      quiet_serves disk disk' core core' failed failed' job job' call moment reply alive untouched (only.0, only.1) (placed_left core core' leaves placed) (λ light. only.2) (λ kept. absurd (changes kept))
+      quiet_serves disk disk' core core' failed failed' job job' call moment reply alive untouched (only.0, only.1)
+      (placed_left core core' leaves placed) (λ light. only.2) (λ kept. absurd (changes kept))
       (λ none. absurd (only.2 none)) (λ code is. absurd (refused code is)) (λ is. absurd (served is)) jobs n among
-      (dropping_keyed (state disk) core core' false jobs set n job job' call moment refl timely among.there refl keeps reads among.keyed)
-      (dropping_reading (state disk) core core' false jobs set n job job' call moment refl timely among.there refl keeps reads among.reading)
-      (λ honest served old serves. dropping_answered (state disk) core core' false jobs set n job job' call moment refl timely among.there refl keeps reads reply among.keyed among.reading leaves row old serves)
+      (dropping_keyed (state disk) core core' false jobs set n job job' call moment refl timely among.there
+      refl keeps reads among.keyed)
+      (dropping_reading (state disk) core core' false jobs set n job job' call moment refl timely among.there
+      refl keeps reads among.reading)
+      (λ honest served old serves. dropping_answered (state disk) core core' false jobs set n job job'
+      call moment refl timely among.there refl keeps reads reply among.keyed among.reading leaves row old serves)
 
   -- Nobody is logged in by that number.
-  pub nobody_serves : (disk : D) (core : VolumeCore) (failed : Bool) (jobs jobs' : List (Option Job)) (n : ℕ) (call : Call) (moment : Moment) → failed ≡ false → moment.date ≤ 4095
-      → AreKeyed core.pending jobs → ArePlaced core → AreReading core.live jobs → slot jobs n ≡ None → jobs' ≡ jobs → IsServing state disk disk core core failed jobs jobs' n call moment NoJob
+  pub nobody_serves : (disk : D) (core : VolumeCore) (failed : Bool) (jobs jobs' : List (Option Job)) (n : ℕ)
+      (call : Call) (moment : Moment) → failed ≡ false → moment.date ≤ 4095
+      → AreKeyed core.pending jobs → ArePlaced core → AreReading core.live jobs → slot jobs n ≡ None → jobs' ≡ jobs
+      → IsServing state disk disk core core failed jobs jobs' n call moment NoJob
   nobody_serves disk core failed jobs jobs' n call moment alive timely keyed placed reading none same = record {
     keyed = λ serves. subst (AreKeyed core.pending) (sym same) keyed;
     placed = λ serves. placed;
     reading = λ serves. subst (AreReading core.live) (sym same) reading;
     others = λ m other. ap (λ js. slot js m) same;
     answered = λ honest served old serves.
-        on_disk state disk disk false failed core jobs' (Answers (pack_of (state disk)) old (Calls n call moment) NoJob) (refl, alive)
+        on_disk state disk disk false failed core jobs' (Answers (pack_of (state disk)) old (Calls n call moment) NoJob)
+        (refl, alive)
         (nobody (state disk) core false jobs n call moment refl timely jobs' keyed reading none same old serves);
     crash = untouched_crashes state only_now disk disk refl core jobs n call moment;
     idle = λ idle. refl;
@@ -130,17 +169,27 @@ module _ {D : Type 0} (state : D → DiskState) (only_now : (disk : D) (contents
   }
 
   -- The job was taken out of its slot, and put back.
-  pub set_serves : (disk disk' : D) (core core' : VolumeCore) (failed' : Bool) (jobs jobs' : List (Option Job)) (n : ℕ) (job job' : Job) (call : Call) (moment : Moment) (reply : Reply)
-      → jobs' ≡ slice_set jobs n (Some job') → IsServing state disk disk' core core' failed' jobs (slice_set jobs n (Some job')) n call moment reply → IsServing state disk disk' core core' failed' jobs jobs' n call moment reply
-  set_serves disk disk' core core' failed' jobs jobs' n job job' call moment reply set serving = subst (λ js. IsServing state disk disk' core core' failed' jobs js n call moment reply) (sym set) serving
+  pub set_serves : (disk disk' : D) (core core' : VolumeCore) (failed' : Bool) (jobs jobs' : List (Option Job))
+      (n : ℕ) (job job' : Job) (call : Call) (moment : Moment) (reply : Reply)
+      → jobs' ≡ slice_set jobs n (Some job')
+      → IsServing state disk disk' core core' failed' jobs (slice_set jobs n (Some job')) n call moment reply
+      → IsServing state disk disk' core core' failed' jobs jobs' n call moment reply
+  set_serves disk disk' core core' failed' jobs jobs' n job job' call moment reply set serving = subst
+      (λ js. IsServing state disk disk' core core' failed' jobs js n call moment reply) (sym set) serving
 
   -- A call that publishes what an output side has written.
-  pub publishing_serves : (disk disk' : D) (core core' : VolumeCore) (failed failed' : Bool) (key : ℕ) (job job' : Job) (call : Call) (moment : Moment) (reply : Reply) → failed ≡ false → ArePlaced core → moment.date ≤ 4095
-      → MayPublish (state disk) (state disk') core core' key → IsPublishing (state disk) (state disk') core core' failed failed' key reply
-      → (reply ≡ NoMemory → (disk' ≡ disk) × (core' ≡ core)) → ((reply ≡ Done → ⊥) → job' ≡ job) → StillStands core core' failed' job job'
-      → IsPublishRow (state disk) (state disk') core core' failed' job job' call reply → CrashesAsRow (state disk) (state disk') core job call
-      → (IsLight call (Some job) → ⊥) → (KeepsCore call → ⊥) → (IsUnserved call job → ⊥) → ServesJob state disk disk' core core' failed' job job' call moment reply
-  publishing_serves disk disk' core core' failed failed' key job job' call moment reply alive placed timely may is memory kept stands row crash heavy changes served jobs n among =
+  pub publishing_serves : (disk disk' : D) (core core' : VolumeCore) (failed failed' : Bool) (key : ℕ) (job job' : Job)
+      (call : Call) (moment : Moment) (reply : Reply) → failed ≡ false → ArePlaced core → moment.date ≤ 4095
+      → MayPublish (state disk) (state disk') core core' key
+      → IsPublishing (state disk) (state disk') core core' failed failed' key reply
+      → (reply ≡ NoMemory → (disk' ≡ disk) × (core' ≡ core)) → ((reply ≡ Done → ⊥) → job' ≡ job)
+      → StillStands core core' failed' job job'
+      → IsPublishRow (state disk) (state disk') core core' failed' job job' call reply
+      → CrashesAsRow (state disk) (state disk') core job call
+      → (IsLight call (Some job) → ⊥) → (KeepsCore call → ⊥) → (IsUnserved call job → ⊥)
+      → ServesJob state disk disk' core core' failed' job job' call moment reply
+  publishing_serves disk disk' core core' failed failed' key job job' call moment reply alive placed timely
+      may is memory kept stands row crash heavy changes served jobs n among =
       let d = state disk in
       let d' = state disk' in
       let set = slice_set jobs n (Some job') in
@@ -151,19 +200,26 @@ module _ {D : Type 0} (state : D → DiskState) (only_now : (disk : D) (contents
         placed = λ works. (still works).1;
         reading = λ works. (still works).2;
         others = λ m other. slot-set_other jobs n m (Some job') other;
-        answered = λ honest asked. row_answered d d' core core' jobs set n job job' moment among.there refl timely false failed' call reply refl placed honest row;
+        answered = λ honest asked. row_answered d d' core core' jobs set n job job' moment among.there refl
+            timely false failed' call reply refl placed honest row;
         crash = row_crashes d d' core core' jobs set n job job' moment among.there refl timely call crash;
         idle = λ idle. (memory (publishing_idle d d' core core' failed failed' key reply is idle)).0;
         light = λ light. absurd (heavy (subst (IsLight call) among.there light));
         kept = λ kept. absurd (changes kept);
         memory = λ none.
-            let same = memory none in
-            (same.0, same.1, still_serves false failed' reply refl fails none, unchanged jobs set n job job' among.there refl (kept (λ e. let wrong = sym none ∙ e in cc)));
+            let same = memory none in (
+              same.0,
+              same.1,
+              still_serves false failed' reply refl fails none,
+              unchanged jobs set n job job' among.there refl (kept (λ e. let wrong = sym none ∙ e in cc)),
+            );
         refused = λ code refused. absurd (publishing_refused d d' core core' failed failed' key code reply is refused);
-        unserved = λ x at asked. absurd (served (subst (IsUnserved call) (sym (some_same (sym among.there ∙ at))) asked));
+        unserved = λ x at asked.
+            absurd (served (subst (IsUnserved call) (sym (some_same (sym among.there ∙ at))) asked));
         failed = fails;
         blamed = publishing_blamed d d' core core' failed failed' key reply alive is;
         counted = publishing_counted d d' core core' failed failed' key reply is;
-        served = publishing_served d d' core core' failed failed' key reply is (λ none i. (state ((memory none).0 i)).failures);
+        served = publishing_served d d' core core' failed failed' key reply is
+            (λ none i. (state ((memory none).0 i)).failures);
         same = may.same;
       }

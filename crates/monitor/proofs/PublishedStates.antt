@@ -1,5 +1,6 @@
 -- A CLOSE or RELEAS that publishes is the machine's row.
-use Rattle.std.proofs.Common.{◌≡◌, ◌<◌, ℕ, Bool, true, false, List, [], ◌∷◌, ◌++◌, Option, Some, refl, sym, ap, subst, ◌∙◌, slice_set, arith}
+use Rattle.std.proofs.Common.{◌≡◌, ◌<◌, ℕ, Bool, true, false, List, [], ◌∷◌, ◌++◌, Option, Some, refl, sym, ap, subst}
+use Rattle.std.proofs.Common.{◌∙◌, slice_set, arith}
 use Rattle.std.specs.Prelude.{◌==◌, ◌||◌, IsSome}
 use Rattle.std.specs.List.{AllByRecursion}
 use Rattle.blockdisk.specs.Disk.{DiskState}
@@ -33,7 +34,9 @@ use Rattle.monitor.proofs.ReadsPublished.{reads_published}
 use Rattle.monitor.proofs.SideLists.{count, count-set, each-set, each-slot}
 
 -- Output sides: the caller's are others, and no version is new.
-pub kept_keyed : (old new : List (Option PendingVersion)) (jobs : List (Option Job)) (n : ℕ) (job job' : Job) → slot jobs n ≡ Some job → Keeps old new job job' → ((k : ℕ) (q : PendingVersion) → pending_at new k ≡ Some q → pending_at old k ≡ Some q)
+pub kept_keyed : (old new : List (Option PendingVersion)) (jobs : List (Option Job)) (n : ℕ) (job job' : Job)
+    → slot jobs n ≡ Some job → Keeps old new job job'
+    → ((k : ℕ) (q : PendingVersion) → pending_at new k ≡ Some q → pending_at old k ≡ Some q)
     → AreKeyed old jobs → AreKeyed new (slice_set jobs n (Some job'))
 kept_keyed old new jobs n job job' there keeps stays keyed = record {
   once = λ key.
@@ -42,7 +45,9 @@ kept_keyed old new jobs n job job' there keeps stays keyed = record {
       let moved = keeps.once key in
       let here = ap (λ o. count key (sides_in o)) there in
       omega arith;
-  each = each-set (IsSide new) jobs n (Some job') (side_stays old new stays jobs keyed.each) (keeps.each (subst (λ o. AllByRecursion (IsSide new) (sides_in o)) there (each-slot (IsSide new) jobs n (side_stays old new stays jobs keyed.each))));
+  each = each-set (IsSide new) jobs n (Some job') (side_stays old new stays jobs keyed.each)
+      (keeps.each (subst (λ o. AllByRecursion (IsSide new) (sides_in o)) there
+      (each-slot (IsSide new) jobs n (side_stays old new stays jobs keyed.each))));
 }
 
 -- The state.
@@ -51,32 +56,51 @@ none_first : (k : ℕ) (vs ws : List Version) → has_serial k (vs ++ ws) ≡ fa
 none_first k [] ws none = refl
 none_first k (v ∷ vs) ws none = by (v.serial == k) (none_first k vs ws) none
   where
-    by : (b : Bool) → (has_serial k (vs ++ ws) ≡ false → has_serial k vs ≡ false) → (b || has_serial k (vs ++ ws)) ≡ false → (b || has_serial k vs) ≡ false
+    by : (b : Bool) → (has_serial k (vs ++ ws) ≡ false → has_serial k vs ≡ false)
+        → (b || has_serial k (vs ++ ws)) ≡ false → (b || has_serial k vs) ≡ false
     by true rest e = e
     by false rest e = rest e
 
 -- the file that the volume publishes
 file_is : (d : DiskState) (p : PendingVersion) (w : Writing) → IsWriting d p w → w.file ≡ file_of p.prime w.file.body
-file_is d p w is = λ i. record { protection = is.protection i; mode = is.mode i; time = is.time i; date = is.date i; body = w.file.body }
+file_is d p w is = λ i. record {
+  protection = is.protection i;
+  mode = is.mode i;
+  time = is.time i;
+  date = is.date i;
+  body = w.file.body;
+}
 
 -- the files that the volume publishes are the machine's
-pub published_are : (d : DiskState) (c : VolumeCore) (jobs : List (Option Job)) (s : State) (state : IsState d c jobs s) (key serial : ℕ) (p : PendingVersion) → IsWriting d p (state.under.written key)
-    → files_published (without_serials s.files) p.prime.ppn p.prime.file (file_of p.prime (state.under.written key).file.body) ≡ without_serials (with_file s.files (state.under.written key).place (version_with (state.under.written key) serial))
+pub published_are : (d : DiskState) (c : VolumeCore) (jobs : List (Option Job)) (s : State) (state : IsState d c jobs s)
+    (key serial : ℕ) (p : PendingVersion) → IsWriting d p (state.under.written key)
+    → files_published (without_serials s.files) p.prime.ppn p.prime.file
+    (file_of p.prime (state.under.written key).file.body)
+    ≡ without_serials
+    (with_file s.files (state.under.written key).place (version_with (state.under.written key) serial))
 published_are d c jobs s state key serial p is =
-    sym (files_with s.files (state.under.written key).place (version_with (state.under.written key) serial) ∙ (λ i. files_published (without_serials s.files) (is.place i).ppn (is.place i).name (file_is d p (state.under.written key) is i)))
+    sym (files_with s.files (state.under.written key).place (version_with (state.under.written key) serial)
+    ∙ (λ i. files_published (without_serials s.files) (is.place i).ppn (is.place i).name
+    (file_is d p (state.under.written key) is i)))
 
-module _ (d d' : DiskState) (c c' : VolumeCore) (jobs : List (Option Job)) (n : ℕ) (job job' : Job) (key : ℕ) (there : slot jobs n ≡ Some job) (whatever : MayPublish d d' c c' key) (has : HasPublished d d' c c' key) (keeps : Keeps c.pending c'.pending job job')
+module _ (d d' : DiskState) (c c' : VolumeCore) (jobs : List (Option Job)) (n : ℕ) (job job' : Job) (key : ℕ)
+    (there : slot jobs n ≡ Some job) (whatever : MayPublish d d' c c' key) (has : HasPublished d d' c c' key)
+    (keeps : Keeps c.pending c'.pending job job')
     (live : IsSome (pending_at c.pending key)) where
   -- a version that is still being written
-  still_there : (k : ℕ) (q : PendingVersion) → pending_at c'.pending k ≡ Some q → (k ≡ key → ⊥) × (pending_at c.pending k ≡ Some q)
+  still_there : (k : ℕ) (q : PendingVersion) → pending_at c'.pending k ≡ Some q
+      → (k ≡ key → ⊥) × (pending_at c.pending k ≡ Some q)
   still_there k q at =
       let other : k ≡ key → ⊥ = λ same. some_none (sym at ∙ ap (pending_at c'.pending) same ∙ has.gone) in
       (other, sym (whatever.others k other) ∙ at)
 
   pub keyed_published : AreKeyed c.pending jobs → AreKeyed c'.pending (slice_set jobs n (Some job'))
-  keyed_published keyed = kept_keyed c.pending c'.pending jobs n job job' there keeps (λ k q at. (still_there k q at).1) keyed
+  keyed_published keyed = kept_keyed c.pending c'.pending jobs n job job' there keeps
+      (λ k q at. (still_there k q at).1) keyed
 
-  module _ (honest : d'.honest) (s : State) (state : IsState d c jobs s) (placed : ArePlaced c) (whole : IsWholeCore d.size c) (reads : KeepsReading c.live c'.live job job') (serial : ℕ) (fresh : IsFresh s serial) where
+  module _ (honest : d'.honest) (s : State) (state : IsState d c jobs s) (placed : ArePlaced c)
+      (whole : IsWholeCore d.size c) (reads : KeepsReading c.live c'.live job job') (serial : ℕ)
+      (fresh : IsFresh s serial) where
     abbrev w : UnderKeys
     w = state.under
 
@@ -84,34 +108,52 @@ module _ (d d' : DiskState) (c c' : VolumeCore) (jobs : List (Option Job)) (n : 
     files' = with_file s.files (w.written key).place (version_with (w.written key) serial)
 
     rests : (p : PendingVersion) → pending_at c.pending key ≡ Some p → RestsAt d' (without_serials files')
-    rests p at = let is = state.versions key p at in subst (RestsAt d') (published_are d c jobs s state key serial p is) (has.files honest (without_serials s.files) state.files p at (w.written key).file.body is.words is.body)
+    rests p at = let is = state.versions key p at in
+        subst (RestsAt d') (published_are d c jobs s state key serial p is)
+        (has.files honest (without_serials s.files) state.files p at (w.written key).file.body is.words is.body)
 
     -- another version has another place
-    elsewhere : (p : PendingVersion) → pending_at c.pending key ≡ Some p → (k : ℕ) (q : PendingVersion) → (k ≡ key → ⊥) → pending_at c.pending k ≡ Some q → (w.written k).place ≡ (w.written key).place → ⊥
+    elsewhere : (p : PendingVersion) → pending_at c.pending key ≡ Some p → (k : ℕ) (q : PendingVersion)
+        → (k ≡ key → ⊥) → pending_at c.pending k ≡ Some q → (w.written k).place ≡ (w.written key).place → ⊥
     elsewhere p here k q other at same =
         let place = sym (state.versions k q at).place ∙ same ∙ (state.versions key p here).place in
         other (placed.single k key q p at here (ap (λ l. l.ppn) place) (ap (λ l. l.name) place))
 
     -- what is read has another serial
     unlike : (k : ℕ) (v : LiveVersion) → version_at c.live k ≡ Some v → 0 < v.readers → serial ≡ (w.read k).serial → ⊥
-    unlike k v at some = let pinned = state.reading.pinned k in let here = ap readers_of at in fresh_read s w jobs state.jobs_are serial fresh k (omega arith)
+    unlike k v at some = let pinned = state.reading.pinned k in let here = ap readers_of at in
+        fresh_read s w jobs state.jobs_are serial fresh k (omega arith)
 
-    pub published_state : IsSound (state_of files' w (slice_set jobs n (Some job'))) → IsState d' c' (slice_set jobs n (Some job')) (state_of files' w (slice_set jobs n (Some job')))
+    pub published_state : IsSound (state_of files' w (slice_set jobs n (Some job')))
+        → IsState d' c' (slice_set jobs n (Some job')) (state_of files' w (slice_set jobs n (Some job')))
     published_state sound =
         let p = some_is (pending_at c.pending key) live in
         record {
           files = rests p.0 p.1;
-          serials = distinct_put s.files (w.written key).place (version_with (w.written key) serial) state.serials (none_first serial (current s) (held s) fresh);
+          serials = distinct_put s.files (w.written key).place (version_with (w.written key) serial) state.serials
+              (none_first serial (current s) (held s) fresh);
           under = w;
           versions = λ k q at.
               let was = still_there k q at in
               let is = state.versions k q was.1 in
-              record { place = is.place; protection = is.protection; mode = is.mode; time = is.time; date = is.date; words = is.words; body = body_kept d.contents d'.contents q.version.blocks (w.written k).file.body is.body (λ m held. has.writers honest k q was.0 was.1 m held) };
+              record {
+                place = is.place;
+                protection = is.protection;
+                mode = is.mode;
+                time = is.time;
+                date = is.date;
+                words = is.words;
+                body = body_kept d.contents d'.contents q.version.blocks (w.written k).file.body is.body
+                    (λ m held. has.writers honest k q was.0 was.1 m held);
+              };
           absent = λ k q at new.
               let was = still_there k q at in
-              put_elsewhere s.files (w.written key).place (version_with (w.written key) serial) (w.written k).place (elsewhere p.0 p.1 k q was.0 was.1) ∙ state.absent k q was.1 new;
+              put_elsewhere s.files (w.written key).place (version_with (w.written key) serial) (w.written k).place
+              (elsewhere p.0 p.1 k q was.0 was.1) ∙ state.absent k q was.1 new;
           keyed = keyed_published state.keyed;
-          read = reads_published d d' c c' s.files w.read key p.0 p.0.version.words (w.written key).place (version_with (w.written key) serial) state.read whole (has.core p.0 p.1) state.serials (state.versions key p.0 p.1).place unlike (has.readers honest);
+          read = reads_published d d' c c' s.files w.read key p.0 p.0.version.words (w.written key).place
+              (version_with (w.written key) serial) state.read whole (has.core p.0 p.1) state.serials
+              (state.versions key p.0 p.1).place unlike (has.readers honest);
           reading = keeps_reading c.live c'.live jobs n job job' state.reading there reads;
           jobs_are = refl;
           sound = sound;

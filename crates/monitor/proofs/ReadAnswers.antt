@@ -1,5 +1,6 @@
 -- IN by the job of a number, whatever it is answered with.
-use Rattle.std.proofs.Common.{◌≡◌, ◌<◌, ◌≤◌, ℕ, Bool, true, false, List, Option, None, Some, refl, sym, ap, subst, ◌∙◌, ◌⊎◌, inl, inr, slice_set}
+use Rattle.std.proofs.Common.{◌≡◌, ◌<◌, ◌≤◌, ℕ, Bool, true, false, List, Option, None, Some, refl, sym, ap, subst, ◌∙◌}
+use Rattle.std.proofs.Common.{◌⊎◌, inl, inr, slice_set}
 use Rattle.std.specs.Prelude.{◌↔◌, IsTrue}
 use Rattle.words36.specs.declared.moment.Moment.{Moment}
 use Rattle.blockdisk.specs.Disk.{Contents, DiskState, MayLeave, LeavesOnly}
@@ -16,7 +17,8 @@ use Rattle.meaning.specs.Step.{step}
 use Rattle.meaning.specs.declared.call.Call.TheVariants.{In}
 use Rattle.meaning.specs.declared.call.Event.TheVariants.{Call as Calls}
 use Rattle.meaning.specs.declared.call.Reply.{Reply}
-use Rattle.meaning.specs.declared.call.Reply.TheVariants.{Done, Value, Refused, Stopped, NoChannel, AddressCheck, NoJob, NoMemory, Device, Failed, DateRange}
+use Rattle.meaning.specs.declared.call.Reply.TheVariants.{Done, Value, Refused, Stopped, NoChannel, AddressCheck, NoJob}
+use Rattle.meaning.specs.declared.call.Reply.TheVariants.{NoMemory, Device, Failed, DateRange}
 use Rattle.meaning.proofs.SlotLaws.{set-slot}
 use Rattle.volume.specs.Live.{VolumeCore}
 use Rattle.volume.specs.Live.{slot as version_at}
@@ -41,7 +43,8 @@ module _ (d d' : DiskState) (reads : OnlyReads d d') (rests : (f : Files File) �
   contents_are : d'.contents ≡ d.contents
   contents_are = same_contents d.contents d'.contents reads.still.contents
 
-  pub state_read : (map : VolumeCore) (jobs : List (Option Job)) (s : State) → IsState d map jobs s → IsState d' map jobs s
+  pub state_read : (map : VolumeCore) (jobs : List (Option Job)) (s : State) → IsState d map jobs s
+      → IsState d' map jobs s
   state_read map jobs s state = record {
     files = rests (without_serials s.files) state.files;
     serials = state.serials;
@@ -72,11 +75,14 @@ module _ (d d' : DiskState) (reads : OnlyReads d d') (rests : (f : Files File) �
   }
 
   -- a crash leaves what it could have left before
-  pub quiet_read : ((c : Contents) → d.left_since d.clock c → MayLeave d c) → (f : Files File) → RestsAt d f → LeavesOnly d d' (λ c. Stands d.size c f)
-  quiet_read only_now f at = leaves_still d d' (λ c. Stands d.size c f) only_now reads.still (λ c left. rest_settles d (λ x. SettledStands d.size x f) at c left)
+  pub quiet_read : ((c : Contents) → d.left_since d.clock c → MayLeave d c) → (f : Files File) → RestsAt d f
+      → LeavesOnly d d' (λ c. Stands d.size c f)
+  quiet_read only_now f at = leaves_still d d' (λ c. Stands d.size c f) only_now reads.still
+      (λ c left. rest_settles d (λ x. SettledStands d.size x f) at c left)
 
 -- it failed just where the device or the disk did
-alive_after : (failed' : Bool) (reply : Reply) → IsTrue failed' ↔ ((reply ≡ Device) ⊎ (reply ≡ Failed)) → (reply ≡ Device → ⊥) → (reply ≡ Failed → ⊥) → failed' ≡ false
+alive_after : (failed' : Bool) (reply : Reply) → IsTrue failed' ↔ ((reply ≡ Device) ⊎ (reply ≡ Failed))
+    → (reply ≡ Device → ⊥) → (reply ≡ Failed → ⊥) → failed' ≡ false
 alive_after false reply exact device failed = refl
 alive_after true reply exact device failed = by (exact.0 refl)
   where
@@ -84,77 +90,116 @@ alive_after true reply exact device failed = by (exact.0 refl)
     by (inl is) = absurd (device is)
     by (inr is) = absurd (failed is)
 
-module _ (d d' : DiskState) (map : VolumeCore) (failed : Bool) (jobs : List (Option Job)) (n ch a : ℕ) (moment : Moment) (serves : failed ≡ false) (timely : moment.date ≤ 4095) (keyed : AreKeyed map.pending jobs) (reading : AreReading map.live jobs) where
-  module _ (job job' : Job) (there : slot jobs n ≡ Some job) (jobs' : List (Option Job)) (set : jobs' ≡ slice_set jobs n (Some job')) where
+module _ (d d' : DiskState) (map : VolumeCore) (failed : Bool) (jobs : List (Option Job)) (n ch a : ℕ)
+    (moment : Moment) (serves : failed ≡ false) (timely : moment.date ≤ 4095) (keyed : AreKeyed map.pending jobs)
+    (reading : AreReading map.live jobs) where
+  module _ (job job' : Job) (there : slot jobs n ≡ Some job) (jobs' : List (Option Job)) (set : jobs'
+      ≡ slice_set jobs n (Some job')) where
     module _ (reply : Reply) (is : IsIn d d' map job job' ch a reply) where
       pub in_keyed : AreKeyed map.pending jobs'
-      in_keyed = subst (AreKeyed map.pending) (sym set) (keeps_keyed map.pending map.pending jobs n job job' keyed there (in_keeps d d' map job job' ch a reply is map.pending))
+      in_keyed = subst (AreKeyed map.pending) (sym set) (keeps_keyed map.pending map.pending jobs n job job' keyed there
+          (in_keeps d d' map job job' ch a reply is map.pending))
 
       pub in_reading : AreReading map.live jobs'
-      in_reading = subst (AreReading map.live) (sym set) (keeps_reading map.live map.live jobs n job job' reading there (in_reads d d' map job job' ch a reply is map.live))
+      in_reading = subst (AreReading map.live) (sym set) (keeps_reading map.live map.live jobs n job job' reading there
+          (in_reads d d' map job job' ch a reply is map.live))
 
     -- the disk as it was before, in core as it is after
     abbrev Leads : Reply → Type 0
-    Leads reply = (old : Service) → Serves d map failed jobs old → (new : Service) × Serves d map failed jobs' new × Answers (pack_of d) old (Calls n (In ch a) moment) reply new
+    Leads reply = (old : Service) → Serves d map failed jobs old → (new : Service) × Serves d map failed jobs' new
+        × Answers (pack_of d) old (Calls n (In ch a) moment) reply new
 
     -- a row that needs neither memory nor the disk
-    plain : (reply : Reply) → IsIn d d' map job job' ch a reply → job' ≡ job → IsRow job job (In ch a) reply → Leads reply
+    plain : (reply : Reply) → IsIn d d' map job job' ch a reply → job' ≡ job → IsRow job job (In ch a) reply
+        → Leads reply
     plain reply is same here =
-        row d map map failed jobs jobs' (in_keyed reply is) (in_reading reply is) (leaves_none map) (pack_of d) (Calls n (In ch a) moment) reply
-        (row_is d map failed jobs n (In ch a) moment serves timely jobs' job job reply there (set ∙ ap (λ j. slice_set jobs n (Some j)) same) here) serves
+        row d map map failed jobs jobs' (in_keyed reply is) (in_reading reply is) (leaves_none map) (pack_of d)
+        (Calls n (In ch a) moment) reply
+        (row_is d map failed jobs n (In ch a) moment serves timely jobs' job job reply there (set
+        ∙ ap (λ j. slice_set jobs n (Some j)) same) here) serves
 
     module _ (honest : d'.honest) where
       module _ (at : IsAtInput job ch) where
         held : (v : LiveVersion) × (version_at map.live at.input.pin.key ≡ Some v) × (0 < v.readers)
-        held = version_held map.live job ch at.channel at.there at.input at.side (job_held map.live jobs n job reading there)
+        held = version_held map.live job ch at.channel at.there at.input at.side
+            (job_held map.live jobs n job reading there)
 
         alone : at.channel.output ≡ None
         alone = writes_none map.live job ch at.channel at.there at.input at.side (reading.each n job there)
 
-        is_read : (s : State) (state : IsState d map jobs s) → IsRead d map s.files held.0 (state.under.read at.input.pin.key)
+        is_read : (s : State) (state : IsState d map jobs s)
+            → IsRead d map s.files held.0 (state.under.read at.input.pin.key)
         is_read s state = state.read.each at.input.pin.key held.0 held.1 held.2
 
       -- a call that the machine goes on from, in the same files
       goes : (reply : Reply) (is : IsIn d d' map job job' ch a reply) (s : State) (state : IsState d map jobs s)
-          → ((serial : ℕ) → step (pack_of d) serial (state_of s.files state.under jobs) (Calls n (In ch a) moment) ≡ (reply, state_of s.files state.under jobs'))
-          → (new : Service) × Serves d map failed jobs' new × Answers (pack_of d) (Serving s) (Calls n (In ch a) moment) reply new
+          → ((serial : ℕ) → step (pack_of d) serial (state_of s.files state.under jobs) (Calls n (In ch a) moment)
+          ≡ (reply, state_of s.files state.under jobs'))
+          → (new : Service) × Serves d map failed jobs' new
+          × Answers (pack_of d) (Serving s) (Calls n (In ch a) moment) reply new
       goes reply is s state steps =
-          goes_on d map failed jobs' (pack_of d) (Calls n (In ch a) moment) reply s (state_of s.files state.under jobs') serves state.sound
-          (λ serial. subst (λ y. step (pack_of d) serial y (Calls n (In ch a) moment) ≡ (reply, state_of s.files state.under jobs')) (sym (state_is s state.under jobs state.jobs_are)) (steps serial))
+          goes_on d map failed jobs' (pack_of d) (Calls n (In ch a) moment) reply s
+          (state_of s.files state.under jobs') serves state.sound
+          (λ serial. subst (λ y. step (pack_of d) serial y (Calls n (In ch a) moment)
+          ≡ (reply, state_of s.files state.under jobs')) (sym (state_is s state.under jobs state.jobs_are))
+          (steps serial))
           (same_files d map map failed jobs jobs' (in_keyed reply is) (in_reading reply is) (leaves_none map) s state)
 
-      pub undecided_in : Ingoing job ch a → (s : State) → IsState d map jobs s → is_plain ((step (pack_of d) 0 s (Calls n (In ch a) moment)).0) ≡ false
+      pub undecided_in : Ingoing job ch a → (s : State) → IsState d map jobs s
+          → is_plain ((step (pack_of d) 0 s (Calls n (In ch a) moment)).0) ≡ false
       undecided_in read s state =
-          ap (λ y. is_plain ((step (pack_of d) 0 y (Calls n (In ch a) moment)).0)) (state_is s state.under jobs state.jobs_are)
-          ∙ undecided job ch a read.at.channel read.at.there read.at.input read.at.side (alone read.at) read.areas read.listed state.under d jobs n there moment timely 0 s.files
+          ap (λ y. is_plain ((step (pack_of d) 0 y (Calls n (In ch a) moment)).0))
+          (state_is s state.under jobs state.jobs_are)
+          ∙ undecided job ch a read.at.channel read.at.there read.at.input read.at.side
+          (alone read.at) read.areas read.listed state.under d jobs n there moment timely 0 s.files
 
       -- what leaves the service serving
-      in_leads : (reply : Reply) → IsIn d d' map job job' ch a reply → (reply ≡ Device → ⊥) → (reply ≡ Failed → ⊥) → Leads reply
-      in_leads Done is device lies = in_state d map failed jobs (λ old. (new : Service) × Serves d map failed jobs' new × Answers (pack_of d) old (Calls n (In ch a) moment) Done new) serves (λ s state.
+      in_leads : (reply : Reply) → IsIn d d' map job job' ch a reply → (reply ≡ Device → ⊥) → (reply ≡ Failed → ⊥)
+          → Leads reply
+      in_leads Done is device lies = in_state d map failed jobs (λ old. (new : Service) × Serves d map failed jobs' new
+          × Answers (pack_of d) old (Calls n (In ch a) moment) Done new) serves (λ s state.
           let read = is.0 in
           let moves = is.4 in
           let at = read.at in
           let body = (state.under.read at.input.pin.key).file.body in
           let version = (is_read at s state).version in
           goes Done is s state (λ serial.
-          row_goes job ch a at.channel at.there at.input at.side (alone at) read.areas read.listed state.under d jobs n there moment timely serial s.files job' Done jobs' set
-          (row_read job ch a at.channel at.there at.input at.side (alone at) read.areas read.listed state.under is.1 is.2 moves.some (moves.many (held at).0 (held at).1 body (sym version.words)) (moves.words honest (held at).0 (held at).1 body (sym version.words) version.body)
+          row_goes job ch a at.channel at.there at.input at.side (alone at) read.areas read.listed state.under
+          d jobs n there moment timely serial s.files job' Done jobs' set
+          (row_read job ch a at.channel at.there at.input at.side (alone at) read.areas read.listed state.under
+          is.1 is.2 moves.some (moves.many (held at).0 (held at).1 body (sym version.words))
+          (moves.words honest (held at).0 (held at).1 body (sym version.words) version.body)
           ∙ ap (λ j. (Done, job_of state.under j)) (sym is.3))))
-      in_leads (Stopped status) is device lies = in_state d map failed jobs (λ old. (new : Service) × Serves d map failed jobs' new × Answers (pack_of d) old (Calls n (In ch a) moment) (Stopped status) new) serves (λ s state.
+      in_leads (Stopped status) is device lies = in_state d map failed jobs (λ old. (new : Service)
+          × Serves d map failed jobs' new × Answers (pack_of d) old (Calls n (In ch a) moment) (Stopped status) new)
+          serves (λ s state.
           let read = is.0 in
           let at = read.at in
           let body = (state.under.read at.input.pin.key).file.body in
           let ends = is.3 (held at).0 (held at).1 body (sym (is_read at s state).version.words) in
           goes (Stopped status) is s state (λ serial.
-          row_goes job ch a at.channel at.there at.input at.side (alone at) read.areas read.listed state.under d jobs n there moment timely serial s.files job' (Stopped status) jobs' set
-          (row_ended job ch a at.channel at.there at.input at.side (alone at) read.areas read.listed state.under ends.0 ends.1 status is.1
+          row_goes job ch a at.channel at.there at.input at.side (alone at) read.areas read.listed state.under
+          d jobs n there moment timely serial s.files job' (Stopped status) jobs' set
+          (row_ended job ch a at.channel at.there at.input at.side (alone at) read.areas read.listed state.under
+          ends.0 ends.1 status is.1
           ∙ ap (λ j. (Stopped status, job_of state.under j)) (sym is.2))))
       in_leads (Refused code) is device lies =
-          plain (Refused code) is is.0 (subst (λ k. IsRow job job (In ch a) (Refused k)) (sym is.1) (in_refused job ch a is.2 is.3 is.4))
+          plain (Refused code) is is.0 (subst (λ k. IsRow job job (In ch a) (Refused k)) (sym is.1)
+          (in_refused job ch a is.2 is.3 is.4))
       in_leads NoChannel is device lies = plain NoChannel is is.0 (in_none job ch a is.1)
-      in_leads AddressCheck is device lies = plain AddressCheck is is.0 (in_unlisted job ch a is.1.channel is.1.there is.1.input is.1.side is.2)
-      in_leads NoMemory is device lies = in_state d map failed jobs (λ old. (new : Service) × Serves d map failed jobs' new × Answers (pack_of d) old (Calls n (In ch a) moment) NoMemory new) serves (λ s state.
-          (Serving s, (serves, subst (λ js. IsState d map js s) (sym (set ∙ ap (λ j. slice_set jobs n (Some j)) is.0 ∙ set-slot jobs n job there)) state), inr (refl, refl, undecided_in is.1 s state, refl)))
+      in_leads AddressCheck is device lies = plain AddressCheck is is.0
+          (in_unlisted job ch a is.1.channel is.1.there is.1.input is.1.side is.2)
+      in_leads NoMemory is device lies = in_state d map failed jobs (λ old. (new : Service)
+          × Serves d map failed jobs' new × Answers (pack_of d) old (Calls n (In ch a) moment) NoMemory new) serves
+          (λ s state. (
+            Serving s,
+            (
+              serves,
+              subst (λ js. IsState d map js s) (sym (set ∙ ap (λ j. slice_set jobs n (Some j)) is.0
+                  ∙ set-slot jobs n job there)) state,
+            ),
+            inr (refl, refl, undecided_in is.1 s state, refl),
+          ))
       in_leads Device is device lies = absurd (device refl)
       in_leads Failed is device lies = absurd (lies refl)
       in_leads (Value word) is device lies = absurd is
@@ -162,20 +207,27 @@ module _ (d d' : DiskState) (map : VolumeCore) (failed : Bool) (jobs : List (Opt
       in_leads DateRange is device lies = absurd is
 
       -- the disk was only read meanwhile
-      module _ (map' : VolumeCore) (failed' : Bool) (core : map' ≡ map) (reads : OnlyReads d d') (rests : (f : Files File) → RestsAt d f → RestsAt d' f) where
+      module _ (map' : VolumeCore) (failed' : Bool) (core : map' ≡ map) (reads : OnlyReads d d')
+          (rests : (f : Files File) → RestsAt d f → RestsAt d' f) where
         abbrev Answered : Reply → Service → Type 0
-        Answered reply old = (new : Service) × Serves d' map' failed' jobs' new × Answers (pack_of d) old (Calls n (In ch a) moment) reply new
+        Answered reply old = (new : Service) × Serves d' map' failed' jobs' new
+            × Answers (pack_of d) old (Calls n (In ch a) moment) reply new
 
         serves_on : failed' ≡ false → (new : Service) → Serves d map failed jobs' new → Serves d' map' failed' jobs' new
         serves_on alive Broken broken = absurd (contrary serves broken)
-        serves_on alive (Serving s) state = (alive, subst (λ m. IsState d' m jobs' s) (sym core) (state_read d d' reads rests map jobs' s state.1))
+        serves_on alive (Serving s) state =
+            (alive, subst (λ m. IsState d' m jobs' s) (sym core) (state_read d d' reads rests map jobs' s state.1))
 
-        served : (reply : Reply) → IsIn d d' map job job' ch a reply → IsTrue failed' ↔ ((reply ≡ Device) ⊎ (reply ≡ Failed)) → (reply ≡ Device → ⊥) → (reply ≡ Failed → ⊥) → (old : Service) → Serves d map failed jobs old → Answered reply old
+        served : (reply : Reply) → IsIn d d' map job job' ch a reply → IsTrue failed'
+            ↔ ((reply ≡ Device) ⊎ (reply ≡ Failed)) → (reply ≡ Device → ⊥) → (reply ≡ Failed → ⊥) → (old : Service)
+            → Serves d map failed jobs old → Answered reply old
         served reply is fails device lies old state =
             let led = in_leads reply is device lies old state in
             (led.0, serves_on (alive_after failed' reply fails device lies) led.0 led.1, led.2)
 
-        pub in_answered : (reply : Reply) → IsIn d d' map job job' ch a reply → IsTrue failed' ↔ ((reply ≡ Device) ⊎ (reply ≡ Failed)) → (old : Service) → Serves d map failed jobs old → Answered reply old
+        pub in_answered : (reply : Reply) → IsIn d d' map job job' ch a reply → IsTrue failed'
+            ↔ ((reply ≡ Device) ⊎ (reply ≡ Failed)) → (old : Service) → Serves d map failed jobs old
+            → Answered reply old
         in_answered Done is fails = served Done is fails (λ e. cc e) (λ e. cc e)
         in_answered (Stopped status) is fails = served (Stopped status) is fails (λ e. cc e) (λ e. cc e)
         in_answered (Refused code) is fails = served (Refused code) is fails (λ e. cc e) (λ e. cc e)
@@ -183,7 +235,8 @@ module _ (d d' : DiskState) (map : VolumeCore) (failed : Bool) (jobs : List (Opt
         in_answered AddressCheck is fails = served AddressCheck is fails (λ e. cc e) (λ e. cc e)
         in_answered NoMemory is fails = served NoMemory is fails (λ e. cc e) (λ e. cc e)
         in_answered Device is fails =
-            in_state d map failed jobs (Answered Device) serves (λ s state. (Broken, fails.1 (inl refl), (refl, undecided_in is.1 s state, refl)))
+            in_state d map failed jobs (Answered Device) serves
+            (λ s state. (Broken, fails.1 (inl refl), (refl, undecided_in is.1 s state, refl)))
         in_answered Failed is fails = absurd (is.1 honest)
         in_answered (Value word) is fails = absurd is
         in_answered NoJob is fails = absurd is

@@ -1,5 +1,7 @@
 -- IN: the input side of a channel, and what the call leaves of its job.
-use Rattle.std.proofs.Common.{◌≡◌, ◌<◌, ◌≤◌, ◌+◌, ◌-◌, ◌*◌, ◌^◌, ℕ, zero, suc, Bool, true, false, nat_lt, if◌then◌else◌, List, [], length, replicate, Option, None, Some, refl, sym, ap, subst, ◌∙◌, arith, slice_set}
+use Rattle.std.proofs.Common.{◌≡◌, ◌<◌, ◌≤◌, ◌+◌, ◌-◌, ◌*◌, ◌^◌, ℕ, zero, suc, Bool, true, false, nat_lt, if◌then◌else◌}
+use Rattle.std.proofs.Common.{List, [], length, replicate, Option, None, Some, refl, sym, ap, subst, ◌∙◌, arith}
+use Rattle.std.proofs.Common.{slice_set}
 use Rattle.std.proofs.lemmas.Bool.Decides.{nat_tests}
 use Rattle.std.specs.List.{AllByRecursion}
 use Rattle.std.specs.Prelude.{◌↔◌, option_to_list}
@@ -13,7 +15,8 @@ use Rattle.meaning.specs.Retrieval.{most_blocks}
 use Rattle.meaning.specs.Splices.{block_start, words_from}
 use Rattle.meaning.specs.declared.area.Area.{Area}
 use Rattle.meaning.specs.declared.call.Reply.{Reply}
-use Rattle.meaning.specs.declared.call.Reply.TheVariants.{Done, Value, Refused, Stopped, NoChannel, AddressCheck, NoJob, NoMemory, Device, Failed, DateRange}
+use Rattle.meaning.specs.declared.call.Reply.TheVariants.{Done, Value, Refused, Stopped, NoChannel, AddressCheck, NoJob}
+use Rattle.meaning.specs.declared.call.Reply.TheVariants.{NoMemory, Device, Failed, DateRange}
 use Rattle.meaning.proofs.MapLaws.{some_same, some_none}
 use Rattle.meaning.proofs.MapSums.{times_head}
 use Rattle.volume.specs.Known.{IsWholeVersion}
@@ -39,12 +42,14 @@ use Rattle.monitor.proofs.ReadingJobs.{slot_set, length-slice_set}
 use Rattle.monitor.proofs.SideLists.{count, each-side}
 
 -- A channel with an input side.
-module _ (live : List (Option LiveVersion)) (job : Job) (number : ℕ) (c : Channel) (there : slot job.channels number ≡ Some c) (i : Input) (side : c.input ≡ Some i) where
+module _ (live : List (Option LiveVersion)) (job : Job) (number : ℕ) (c : Channel) (there : slot job.channels number
+    ≡ Some c) (i : Input) (side : c.input ≡ Some i) where
   side_is : reader_of (slot job.channels number) ≡ Some i
   side_is = ap reader_of there ∙ side
 
   -- its version is there, and has a reader
-  pub version_held : ((key : ℕ) → times key (pins_of (readers_in (Some job))) ≤ readers_of (version_at live key)) → (v : LiveVersion) × (version_at live i.pin.key ≡ Some v) × (0 < v.readers)
+  pub version_held : ((key : ℕ) → times key (pins_of (readers_in (Some job))) ≤ readers_of (version_at live key))
+      → (v : LiveVersion) × (version_at live i.pin.key ≡ Some v) × (0 < v.readers)
   version_held all =
       let key = i.pin.key in
       let most = all key in
@@ -53,7 +58,8 @@ module _ (live : List (Option LiveVersion)) (job : Job) (number : ℕ) (c : Chan
       let one = times_head key (pins_of (option_to_list None)) in
       by (version_at live key) refl (omega arith)
     where
-      by : (was : Option LiveVersion) → version_at live i.pin.key ≡ was → 1 ≤ readers_of was → (v : LiveVersion) × (version_at live i.pin.key ≡ Some v) × (0 < v.readers)
+      by : (was : Option LiveVersion) → version_at live i.pin.key ≡ was → 1 ≤ readers_of was
+          → (v : LiveVersion) × (version_at live i.pin.key ≡ Some v) × (0 < v.readers)
       by None is none = absurd (omega arith)
       by (Some v) is one = (v, is, one)
 
@@ -64,24 +70,29 @@ module _ (live : List (Option LiveVersion)) (job : Job) (number : ℕ) (c : Chan
   writes_none has = (has.each number c there i side).0
 
 -- a version has no more words than a file
-pub few_words : (live : List (Option LiveVersion)) (key : ℕ) (v : LiveVersion) → AreStanding live → version_at live key ≡ Some v → v.version.words ≤ most_blocks * 128
+pub few_words : (live : List (Option LiveVersion)) (key : ℕ) (v : LiveVersion) → AreStanding live
+    → version_at live key ≡ Some v → v.version.words ≤ most_blocks * 128
 few_words live key v standing there = (standing_at (λ x. IsWholeVersion (as_known x)) live key v standing there).few
 
 -- what is read of a body ends at a block with a number
-pub read_fits : (words next n : ℕ) → 0 < next → next < 2 ^ 32 → words ≤ most_blocks * 128 → n ≤ words - block_start next → next + blocks_of n < 2 ^ 32
+pub read_fits : (words next n : ℕ) → 0 < next → next < 2 ^ 32 → words ≤ most_blocks * 128 → n ≤ words - block_start next
+    → next + blocks_of n < 2 ^ 32
 read_fits words next zero first small few fits = omega arith
 read_fits words next (suc n) first small few fits = grind arith
 
 -- the words from a block on, by how many the body has
 pub words_left : (words next : ℕ) → length (words_from (replicate words 0) next) ≡ words - block_start next
-words_left words next = length-drop (block_start next) (replicate words 0) ∙ ap (λ m. m - block_start next) (length-replicate words 0)
+words_left words next = length-drop (block_start next) (replicate words 0)
+    ∙ ap (λ m. m - block_start next) (length-replicate words 0)
 
 -- a command list names no more words than a core has
-pub few_named : (core : List ℕ) (a : ℕ) (areas : List Area) → dump_list core a ≡ Some areas → word_count areas ≤ 0o400000
+pub few_named : (core : List ℕ) (a : ℕ) (areas : List Area) → dump_list core a ≡ Some areas
+    → word_count areas ≤ 0o400000
 unfolding dump_list
 few_named core a areas listed = by (areas_from core 512 a) listed
   where
-    below : (found areas : List Area) → (b : Bool) → nat_lt 131072 (word_count found) ≡ b → (if b then None else Some found) ≡ Some areas → word_count areas ≤ 0o400000
+    below : (found areas : List Area) → (b : Bool) → nat_lt 131072 (word_count found) ≡ b
+        → (if b then None else Some found) ≡ Some areas → word_count areas ≤ 0o400000
     below found areas true is listed = absurd (some_none (sym listed))
     below found areas false is listed = let same = ap word_count (some_same listed) in grind (arith, nat_tests)
 
@@ -90,7 +101,9 @@ few_named core a areas listed = by (areas_from core 512 a) listed
     by (Some found) listed = below found areas (nat_lt 131072 (word_count found)) refl listed
 
 -- the list is as it should be, where that isn't what is answered
-pub is_listed : (result other : ReadIn) (listed : Option (List Area)) → result ≡ other → (other ≡ read_in.AddressCheck → ⊥) → (result ≡ read_in.AddressCheck) ↔ (listed ≡ None) → (areas : List Area) × (listed ≡ Some areas)
+pub is_listed : (result other : ReadIn) (listed : Option (List Area)) → result ≡ other
+    → (other ≡ read_in.AddressCheck → ⊥) → (result ≡ read_in.AddressCheck) ↔ (listed ≡ None)
+    → (areas : List Area) × (listed ≡ Some areas)
 is_listed result other None is differs exact = absurd (differs (sym is ∙ exact.1 refl))
 is_listed result other (Some areas) is differs exact = (areas, refl)
 
@@ -100,20 +113,25 @@ has_area areas some none = let same = ap word_count none in omega (arith, some, 
 -- What the call leaves of its job.
 
 -- a channel is another one, which writes the same version or none
-keeps_sides : (pending : List (Option PendingVersion)) (job : Job) (number : ℕ) (c : Channel) → slot job.channels number ≡ Some c → (x : Channel) (core : List ℕ) → c.output ≡ x.output
+keeps_sides : (pending : List (Option PendingVersion)) (job : Job) (number : ℕ) (c : Channel)
+    → slot job.channels number ≡ Some c → (x : Channel) (core : List ℕ) → c.output ≡ x.output
     → Keeps pending pending job (record job { core = core; channels = slice_set job.channels number (Some x) })
 keeps_sides pending job number c there x core same =
     let keeps = keeps_channel pending job number (Some x)
-    (λ key. ap (λ o. count key (option_to_list o)) (sym same) ∙ ap (λ o. count key (option_to_list (side_of o))) (sym there))
-    (λ all. subst (λ o. AllByRecursion (IsSide pending) (option_to_list o)) (ap side_of there ∙ same) (each-side (IsSide pending) job.channels number all)) in
+    (λ key. ap (λ o. count key (option_to_list o)) (sym same)
+    ∙ ap (λ o. count key (option_to_list (side_of o))) (sym there))
+    (λ all. subst (λ o. AllByRecursion (IsSide pending) (option_to_list o)) (ap side_of there
+    ∙ same) (each-side (IsSide pending) job.channels number all)) in
     record { once = keeps.once; known = keeps.known; each = keeps.each }
 
 reads_same : (live : List (Option LiveVersion)) (job : Job) → KeepsReading live live job job
 reads_same live job = record { once = λ key. refl; each = λ has. has }
 
 -- a channel is another one, which reads the same version
-reads_channel : (live : List (Option LiveVersion)) (job : Job) (number : ℕ) (c : Channel) → slot job.channels number ≡ Some c → (x : Channel) (core : List ℕ)
-    → ((key : ℕ) → held key (option_to_list x.input) ≡ held key (option_to_list c.input)) → (IsReader c → IsReader x) → KeepsReading live live job (record job { core = core; channels = slice_set job.channels number (Some x) })
+reads_channel : (live : List (Option LiveVersion)) (job : Job) (number : ℕ) (c : Channel)
+    → slot job.channels number ≡ Some c → (x : Channel) (core : List ℕ)
+    → ((key : ℕ) → held key (option_to_list x.input) ≡ held key (option_to_list c.input)) → (IsReader c → IsReader x)
+    → KeepsReading live live job (record job { core = core; channels = slice_set job.channels number (Some x) })
 reads_channel live job number c there x core same still = record {
   once = λ key.
       let set = held-channel key job.channels number (Some x) (λ e. absurd (some_none (sym there ∙ e))) in
@@ -129,7 +147,8 @@ reads_channel live job number c there x core same still = record {
 }
 
 -- once words are read
-module _ (job : Job) (number : ℕ) (c : Channel) (there : slot job.channels number ≡ Some c) (i : Input) (side : c.input ≡ Some i) (count : ℕ) where
+module _ (job : Job) (number : ℕ) (c : Channel) (there : slot job.channels number ≡ Some c) (i : Input) (side : c.input
+    ≡ Some i) (count : ℕ) where
   still_reads : IsReader c → IsReader (read_on c i count)
   still_reads was j is =
       let before = was i side in
@@ -139,16 +158,22 @@ module _ (job : Job) (number : ℕ) (c : Channel) (there : slot job.channels num
       further : (next to n : ℕ) → 0 < next → next + blocks_of n ≡ to → 0 < to
       further next to n first is = omega arith
 
-  reads_read : (live : List (Option LiveVersion)) (core : List ℕ) → KeepsReading live live job (record job { core = core; channels = slice_set job.channels number (Some (read_on c i count)) })
-  reads_read live core = reads_channel live job number c there (read_on c i count) core (λ key. ap (λ o. held key (option_to_list o)) (sym side)) still_reads
+  reads_read : (live : List (Option LiveVersion)) (core : List ℕ)
+      → KeepsReading live live job
+      (record job { core = core; channels = slice_set job.channels number (Some (read_on c i count)) })
+  reads_read live core = reads_channel live job number c there (read_on c i count) core
+      (λ key. ap (λ o. held key (option_to_list o)) (sym side)) still_reads
 
 -- by its answer
 module _ (d d' : DiskState) (map : VolumeCore) (job job' : Job) (number a : ℕ) where
-  pub in_reads : (reply : Reply) → IsIn d d' map job job' number a reply → (live : List (Option LiveVersion)) → KeepsReading live live job job'
+  pub in_reads : (reply : Reply) → IsIn d d' map job job' number a reply → (live : List (Option LiveVersion))
+      → KeepsReading live live job job'
   in_reads Done (read, moved, core, is, moves) live =
-      subst (KeepsReading live live job) (sym is) (reads_read job number read.at.channel read.at.there read.at.input read.at.side moved live core)
+      subst (KeepsReading live live job) (sym is)
+      (reads_read job number read.at.channel read.at.there read.at.input read.at.side moved live core)
   in_reads (Stopped status) (read, code, is, ends) live =
-      subst (KeepsReading live live job) (sym is) (reads_channel live job number read.at.channel read.at.there (record read.at.channel { status = status }) job.core (λ key. refl) (λ was. was))
+      subst (KeepsReading live live job) (sym is) (reads_channel live job number read.at.channel read.at.there
+      (record read.at.channel { status = status }) job.core (λ key. refl) (λ was. was))
   in_reads (Refused code) is live = subst (KeepsReading live live job) (sym is.0) (reads_same live job)
   in_reads NoChannel is live = subst (KeepsReading live live job) (sym is.0) (reads_same live job)
   in_reads AddressCheck is live = subst (KeepsReading live live job) (sym is.0) (reads_same live job)
@@ -159,11 +184,14 @@ module _ (d d' : DiskState) (map : VolumeCore) (job job' : Job) (number a : ℕ)
   in_reads NoJob wrong live = absurd wrong
   in_reads DateRange wrong live = absurd wrong
 
-  pub in_keeps : (reply : Reply) → IsIn d d' map job job' number a reply → (pending : List (Option PendingVersion)) → Keeps pending pending job job'
+  pub in_keeps : (reply : Reply) → IsIn d d' map job job' number a reply → (pending : List (Option PendingVersion))
+      → Keeps pending pending job job'
   in_keeps Done (read, moved, core, is, moves) pending =
-      subst (Keeps pending pending job) (sym is) (keeps_sides pending job number read.at.channel read.at.there (read_on read.at.channel read.at.input moved) core refl)
+      subst (Keeps pending pending job) (sym is) (keeps_sides pending job number read.at.channel read.at.there
+      (read_on read.at.channel read.at.input moved) core refl)
   in_keeps (Stopped status) (read, code, is, ends) pending =
-      subst (Keeps pending pending job) (sym is) (keeps_sides pending job number read.at.channel read.at.there (record read.at.channel { status = status }) job.core refl)
+      subst (Keeps pending pending job) (sym is) (keeps_sides pending job number read.at.channel read.at.there
+      (record read.at.channel { status = status }) job.core refl)
   in_keeps (Refused code) is pending = subst (Keeps pending pending job) (sym is.0) (keeps_same pending job)
   in_keeps NoChannel is pending = subst (Keeps pending pending job) (sym is.0) (keeps_same pending job)
   in_keeps AddressCheck is pending = subst (Keeps pending pending job) (sym is.0) (keeps_same pending job)

@@ -1,5 +1,6 @@
 -- Who reads: the versions that are held, by the input sides of jobs.
-use Rattle.std.proofs.Common.{◌≡◌, ℕ, zero, suc, ◌+◌, ◌*◌, ◌^◌, ◌<◌, ◌≤◌, Bool, true, false, List, [], ◌∷◌, length, Option, Some, None, refl, sym, ap, subst, ◌∙◌, arith}
+use Rattle.std.proofs.Common.{◌≡◌, ℕ, zero, suc, ◌+◌, ◌*◌, ◌^◌, ◌<◌, ◌≤◌, Bool, true, false, List, [], ◌∷◌, length}
+use Rattle.std.proofs.Common.{Option, Some, None, refl, sym, ap, subst, ◌∙◌, arith}
 use Rattle.std.specs.Prelude.{◌==◌, if◌then◌else◌, slice_set, replicate, filter_map, IsTrue, IsFalse}
 use Rattle.std.specs.List.{cons_option}
 use Rattle.words36.specs.declared.names.FileName.{FileName}
@@ -26,12 +27,14 @@ use Rattle.monitor.proofs.ReaderLists.{held, held-append, held-set, held-slot}
 
 -- A slot that is set holds what was put into it, where there is such a slot; all others stay.
 
-pub slot_set : {X : Type 0} (xs : List (Option X)) (n k : ℕ) (x y : X) → slot (slice_set xs n (Some x)) k ≡ Some y → (k ≡ n → x ≡ y) × ((k ≡ n → ⊥) → slot xs k ≡ Some y)
+pub slot_set : {X : Type 0} (xs : List (Option X)) (n k : ℕ) (x y : X) → slot (slice_set xs n (Some x)) k ≡ Some y
+    → (k ≡ n → x ≡ y) × ((k ≡ n → ⊥) → slot xs k ≡ Some y)
 slot_set [] n k x y at = ((λ same. absurd (some_none (sym at))), (λ apart. at))
 slot_set (o ∷ xs) zero zero x y at = ((λ same. cc at), (λ apart. absurd (apart refl)))
 slot_set (o ∷ xs) zero (suc k) x y at = ((λ same. cc same), (λ apart. at))
 slot_set (o ∷ xs) (suc n) zero x y at = ((λ same. cc same), (λ apart. at))
-slot_set (o ∷ xs) (suc n) (suc k) x y at = let rest = slot_set xs n k x y at in ((λ same. rest.0 (omega (arith, same))), (λ apart. rest.1 (λ same. apart (ap suc same))))
+slot_set (o ∷ xs) (suc n) (suc k) x y at = let rest = slot_set xs n k x y at in
+    ((λ same. rest.0 (omega (arith, same))), (λ apart. rest.1 (λ same. apart (ap suc same))))
 
 pub length-slice_set : {X : Type 0} (xs : List X) (n : ℕ) (x : X) → length (slice_set xs n x) ≡ length xs
 length-slice_set [] n x = refl
@@ -40,11 +43,15 @@ length-slice_set (y ∷ xs) (suc n) x = ap suc (length-slice_set xs n x)
 
 module _ (jobs : List (Option Job)) (n : ℕ) (job : Job) where
   -- each job still has readers as it should, where another job comes into a slot
-  pub each_set : ((k : ℕ) (j : Job) → slot jobs k ≡ Some j → HasReaders j) → HasReaders job → (k : ℕ) (j : Job) → slot (slice_set jobs n (Some job)) k ≡ Some j → HasReaders j
-  each_set each here k j at = same_or_not k n (λ same. subst HasReaders ((slot_set jobs n k job j at).0 same) here) (λ apart. each k j ((slot_set jobs n k job j at).1 apart))
+  pub each_set : ((k : ℕ) (j : Job) → slot jobs k ≡ Some j → HasReaders j) → HasReaders job → (k : ℕ) (j : Job)
+      → slot (slice_set jobs n (Some job)) k ≡ Some j → HasReaders j
+  each_set each here k j at = same_or_not k n (λ same. subst HasReaders ((slot_set jobs n k job j at).0 same) here)
+      (λ apart. each k j ((slot_set jobs n k job j at).1 apart))
 
 -- The job of a slot is another one, and versions are held or let go with its input sides.
-pub keeps_reading : (live live' : List (Option LiveVersion)) (jobs : List (Option Job)) (n : ℕ) (job job' : Job) → AreReading live jobs → slot jobs n ≡ Some job → KeepsReading live live' job job' → AreReading live' (slice_set jobs n (Some job'))
+pub keeps_reading : (live live' : List (Option LiveVersion)) (jobs : List (Option Job)) (n : ℕ) (job job' : Job)
+    → AreReading live jobs → slot jobs n ≡ Some job → KeepsReading live live' job job'
+    → AreReading live' (slice_set jobs n (Some job'))
 keeps_reading live live' jobs n job job' reading there keeps = record {
   pinned = λ key.
       let set = held-set key jobs n (Some job') (λ e. absurd (some_none (sym there ∙ e))) in
@@ -57,7 +64,9 @@ keeps_reading live live' jobs n job job' reading there keeps = record {
 }
 
 -- The job of a slot is another one, with no input side, and what it read is let go.
-pub closed_reading : (c c' : VolumeCore) (keys : List ℕ) (jobs : List (Option Job)) (n : ℕ) (x : Job) → AreReading c.live jobs → Closes c c' keys (pins_of (readers_in (slot jobs n))) → readers_in (Some x) ≡ [] → HasReaders x
+pub closed_reading : (c c' : VolumeCore) (keys : List ℕ) (jobs : List (Option Job)) (n : ℕ) (x : Job)
+    → AreReading c.live jobs → Closes c c' keys (pins_of (readers_in (slot jobs n))) → readers_in (Some x) ≡ []
+    → HasReaders x
     → AreReading c'.live (slice_set jobs n (Some x))
 closed_reading c c' keys jobs n x reading closed none here = record {
   pinned = λ key.
@@ -71,7 +80,9 @@ closed_reading c c' keys jobs n x reading closed none here = record {
 }
 
 -- a version is held by each input side of a job
-pub job_held : (live : List (Option LiveVersion)) (jobs : List (Option Job)) (n : ℕ) (job : Job) → AreReading live jobs → slot jobs n ≡ Some job → (key : ℕ) → times key (pins_of (readers_in (Some job))) ≤ readers_of (version_at live key)
+pub job_held : (live : List (Option LiveVersion)) (jobs : List (Option Job)) (n : ℕ) (job : Job) → AreReading live jobs
+    → slot jobs n ≡ Some job → (key : ℕ) → times key (pins_of (readers_in (Some job)))
+    ≤ readers_of (version_at live key)
 job_held live jobs n job reading there key =
     let once = reading.pinned key in
     let part = held-slot key jobs n in
@@ -79,7 +90,8 @@ job_held live jobs n job reading there key =
     omega arith
 
 -- What is read stays as it is read, where readers come or go.
-pub reads_left : (d : DiskState) (c c' : VolumeCore) (files : Files Version) (read : ℕ → Version) → Leaves c c' → AreRead d c files read → AreRead d c' files read
+pub reads_left : (d : DiskState) (c c' : VolumeCore) (files : Files Version) (read : ℕ → Version) → Leaves c c'
+    → AreRead d c files read → AreRead d c' files read
 reads_left d c c' files read leaves reads = record {
   each = λ key v at some.
       let was = leaves.live key v at in
@@ -100,7 +112,8 @@ reads_left d c c' files read leaves reads = record {
   apart = λ key other v w at there some more.
       let one = leaves.live key v at in
       let two = leaves.live other w there in
-      reads.apart key other (record v { readers = one.0 }) (record w { readers = two.0 }) one.2 two.2 (omega (arith, one.1, some)) (omega (arith, two.1, more));
+      reads.apart key other (record v { readers = one.0 }) (record w { readers = two.0 }) one.2 two.2
+      (omega (arith, one.1, some)) (omega (arith, two.1, more));
 }
   where
     places : (ppn : ℕ) (name : FileName) → prime_at c' ppn name ≡ prime_at c ppn name
@@ -113,7 +126,8 @@ few_in [] = omega arith
 few_in (None ∷ cs) = omega (arith, few_in cs)
 few_in (Some c ∷ cs) = by c.input (few_in cs)
   where
-    by : (o : Option Input) → length (filter_map reader_of cs) ≤ length cs → length (cons_option o (filter_map reader_of cs)) ≤ length (Some c ∷ cs)
+    by : (o : Option Input) → length (filter_map reader_of cs) ≤ length cs
+        → length (cons_option o (filter_map reader_of cs)) ≤ length (Some c ∷ cs)
     by None few = omega arith
     by (Some i) few = omega arith
 
@@ -125,7 +139,8 @@ most : (key : ℕ) (is : List Input) → held key is ≤ length is
 most key [] = omega arith
 most key (i ∷ is) = omega (arith, most key is, at_most_one (key == i.pin.key))
 
-few_held : (key : ℕ) (jobs : List (Option Job)) → ((n : ℕ) (job : Job) → slot jobs n ≡ Some job → HasReaders job) → held key (readers jobs) ≤ 16 * length jobs
+few_held : (key : ℕ) (jobs : List (Option Job)) → ((n : ℕ) (job : Job) → slot jobs n ≡ Some job → HasReaders job)
+    → held key (readers jobs) ≤ 16 * length jobs
 few_held key [] each = omega arith
 few_held key (None ∷ jobs) each = omega (arith, few_held key jobs (λ n job at. each (suc n) job at))
 few_held key (Some job ∷ jobs) each =
@@ -136,7 +151,8 @@ few_held key (Some job ∷ jobs) each =
     let both = held-append key (readers_in (Some job)) (readers jobs) in
     omega arith
 
-pub few_readers : (live : List (Option LiveVersion)) (jobs : List (Option Job)) → AreReading live jobs → (key : ℕ) (v : LiveVersion) → version_at live key ≡ Some v → v.readers + 1 < 2 ^ 32
+pub few_readers : (live : List (Option LiveVersion)) (jobs : List (Option Job)) → AreReading live jobs
+    → (key : ℕ) (v : LiveVersion) → version_at live key ≡ Some v → v.readers + 1 < 2 ^ 32
 few_readers live jobs reading key v at =
     let pinned = reading.pinned key in
     let few = few_held key jobs reading.each in
@@ -158,15 +174,19 @@ bare_readers job bare = record {
 }
 
 -- a job is reset, where there is one
-pub reset_reading : (c c' : VolumeCore) (keys : List ℕ) (jobs jobs' : List (Option Job)) (n : ℕ) (result : Bool) → AreReading c.live jobs → Closes c c' keys (pins_of (readers_in (slot jobs n)))
-    → (IsTrue result → (job : Job) × (slot jobs n ≡ Some job) × (jobs' ≡ slice_set jobs n (Some (reset_job job)))) → (IsFalse result → (slot jobs n ≡ None) × (jobs' ≡ jobs)) → AreReading c'.live jobs'
+pub reset_reading : (c c' : VolumeCore) (keys : List ℕ) (jobs jobs' : List (Option Job)) (n : ℕ) (result : Bool)
+    → AreReading c.live jobs → Closes c c' keys (pins_of (readers_in (slot jobs n)))
+    → (IsTrue result → (job : Job) × (slot jobs n ≡ Some job) × (jobs' ≡ slice_set jobs n (Some (reset_job job))))
+    → (IsFalse result → (slot jobs n ≡ None) × (jobs' ≡ jobs)) → AreReading c'.live jobs'
 reset_reading c c' keys jobs jobs' n true reading closed found none =
     let done = found refl in
-    subst (AreReading c'.live) (sym done.2) (closed_reading c c' keys jobs n (reset_job done.0) reading closed refl (bare_readers (reset_job done.0) refl))
+    subst (AreReading c'.live) (sym done.2) (closed_reading c c' keys jobs n (reset_job done.0) reading closed refl
+    (bare_readers (reset_job done.0) refl))
 reset_reading c c' keys jobs jobs' n false reading closed found none =
     let same = none refl in
     subst (AreReading c'.live) (sym same.1) (record {
-      pinned = λ key. let gone = closed.released key in let was = reading.pinned key in let here = ap (λ o. held key (readers_in o)) same.0 in omega arith;
+      pinned = λ key. let gone = closed.released key in let was = reading.pinned key in
+          let here = ap (λ o. held key (readers_in o)) same.0 in omega arith;
       each = reading.each;
       slots = reading.slots;
     })

@@ -1,5 +1,6 @@
 -- What readers hold, where one comes or goes: one comes to the version that a place has now.
-use Rattle.std.proofs.Common.{◌≡◌, ◌≢◌, ◌⊎◌, inl, inr, ℕ, ◌+◌, ◌-◌, ◌<◌, Bool, true, false, Some, None, sym, ap, subst, ◌∙◌, ⊎_elim, arith}
+use Rattle.std.proofs.Common.{◌≡◌, ◌≢◌, ◌⊎◌, inl, inr, ℕ, ◌+◌, ◌-◌, ◌<◌, Bool, true, false, Some, None, sym, ap, subst}
+use Rattle.std.proofs.Common.{◌∙◌, ⊎_elim, arith}
 use Rattle.std.specs.Prelude.{◌==◌, if◌then◌else◌}
 use Rattle.std.proofs.lemmas.Bool.{eq-eqb, ne_eqb, cases_Bool, cases_lt, cases_eq, both_ways}
 use Rattle.blockdisk.specs.Disk.{Contents, DiskState}
@@ -22,7 +23,8 @@ use Rattle.monitor.proofs.PublishedFiles.{versions_in}
 -- A version that is of a file.
 
 -- still is, on contents that agree on its blocks,
-pub words_kept : (old new : Contents) (v : LiveVersion) (file : File) → AgreeOn v.version.blocks old new → IsVersionOf old v file → IsVersionOf new v file
+pub words_kept : (old new : Contents) (v : LiveVersion) (file : File) → AgreeOn v.version.blocks old new
+    → IsVersionOf old v file → IsVersionOf new v file
 words_kept old new v file agree is = record {
   protection = is.protection;
   mode = is.mode;
@@ -33,8 +35,16 @@ words_kept old new v file agree is = record {
 }
 
 -- and however many read it, current or not
-pub held_otherwise : (contents : Contents) (v : LiveVersion) (file : File) (readers : ℕ) (current : Bool) → IsVersionOf contents v file → IsVersionOf contents (record v { readers = readers; is_current = current }) file
-held_otherwise contents v file readers current is = record { protection = is.protection; mode = is.mode; time = is.time; date = is.date; words = is.words; body = is.body }
+pub held_otherwise : (contents : Contents) (v : LiveVersion) (file : File) (readers : ℕ) (current : Bool)
+    → IsVersionOf contents v file → IsVersionOf contents (record v { readers = readers; is_current = current }) file
+held_otherwise contents v file readers current is = record {
+  protection = is.protection;
+  mode = is.mode;
+  time = is.time;
+  date = is.date;
+  words = is.words;
+  body = is.body;
+}
 
 -- One key has this version.
 
@@ -48,7 +58,8 @@ pub with_read_other : (read : ℕ → Version) (key : ℕ) (x : Version) (k : �
 with_read_other read key x k apart = ap (λ b. if b then x else read k) (ne_eqb k key apart)
 
 -- A version that is read goes on where prime blocks stay and its disk, its files and its core are these.
-moved : (d : DiskState) (c c' : VolumeCore) (files : Files Version) (v : LiveVersion) (readers : ℕ) (x : Version) → ((place : Place) → prime_at c' place.ppn place.name ≡ prime_at c place.ppn place.name)
+moved : (d : DiskState) (c c' : VolumeCore) (files : Files Version) (v : LiveVersion) (readers : ℕ) (x : Version)
+    → ((place : Place) → prime_at c' place.ppn place.name ≡ prime_at c place.ppn place.name)
     → IsRead d c files v x → IsRead d c' files (record v { readers = readers }) x
 moved d c c' files v readers x primes is = record {
   version = held_otherwise d.contents v x.file readers v.is_current is.version;
@@ -58,9 +69,11 @@ moved d c c' files v readers x primes is = record {
 
 -- A reader comes to the version of a place.
 
-module _ (d : DiskState) (c : VolumeCore) (files : Files Version) (read : ℕ → Version) (reads : AreRead d c files read) (whole : IsWholeCore d.size c) (place : Place) (x : Version) (there : file_at files place ≡ Some x) where
+module _ (d : DiskState) (c : VolumeCore) (files : Files Version) (read : ℕ → Version) (reads : AreRead d c files read)
+    (whole : IsWholeCore d.size c) (place : Place) (x : Version) (there : file_at files place ≡ Some x) where
   -- Where it was read before, the machine has this very version under its key.
-  pub read_again : (key : ℕ) (v : LiveVersion) → slot c.live key ≡ Some v → 0 < v.readers → v.is_current ≡ true → prime_at c place.ppn place.name ≡ Some v.at → read key ≡ x
+  pub read_again : (key : ℕ) (v : LiveVersion) → slot c.live key ≡ Some v → 0 < v.readers → v.is_current ≡ true
+      → prime_at c place.ppn place.name ≡ Some v.at → read key ≡ x
   read_again key v here held current at =
       let was = (reads.each key v here held).current current in
       let same = one_place d.size c whole was.0.ppn place.ppn was.0.name place.name v.at was.1 at in
@@ -68,10 +81,12 @@ module _ (d : DiskState) (c : VolumeCore) (files : Files Version) (read : ℕ �
       some_same (sym was.2 ∙ ap (file_at files) place_is ∙ there)
 
   module _ (c' : VolumeCore) (key : ℕ) (distinct : AreDistinct (versions_in files))
-      (pinned : (v : LiveVersion) × (slot c.live key ≡ Some v) × (slot c'.live key ≡ Some (record v { readers = v.readers + 1 })))
+      (pinned : (v : LiveVersion) × (slot c.live key ≡ Some v)
+      × (slot c'.live key ≡ Some (record v { readers = v.readers + 1 })))
       (others : (k : ℕ) → (k ≡ key → ⊥) → slot c'.live k ≡ slot c.live k)
       (core : c' ≡ record c { live = c'.live })
-      (at : (v : LiveVersion) × (slot c.live key ≡ Some v) × (v.is_current ≡ true) × (prime_at c place.ppn place.name ≡ Some v.at))
+      (at : (v : LiveVersion) × (slot c.live key ≡ Some v) × (v.is_current ≡ true)
+      × (prime_at c place.ppn place.name ≡ Some v.at))
       (value : (v : LiveVersion) × (slot c'.live key ≡ Some v) × IsVersionOf d.contents v x.file) where
     primes : (q : Place) → prime_at c' q.ppn q.name ≡ prime_at c q.ppn q.name
     primes q = ap (λ (z : VolumeCore). prime_at z q.ppn q.name) core
@@ -102,38 +117,52 @@ module _ (d : DiskState) (c : VolumeCore) (files : Files Version) (read : ℕ �
         (λ (current : w.is_current ≡ true).
         let was = (reads.each k w here held).current current in
         let place_is : was.0 ≡ place = one_at files distinct was.0 place (read k) x was.2 there same in
-        let prime : w.at ≡ at.0.at = some_same (sym was.1 ∙ ap (λ (q : Place). prime_at c q.ppn q.name) place_is ∙ at.3) in
+        let prime : w.at ≡ at.0.at = some_same (sym was.1 ∙ ap (λ (q : Place). prime_at c q.ppn q.name) place_is
+        ∙ at.3) in
         one_key d.size c whole k key w at.0 here at.1 current at.2 prime)
-        (λ ended. absurd (not_there files place x (read k).serial there ((reads.each k w here held).past ended) (sym same)))
+        (λ ended. absurd (not_there files place x (read k).serial there ((reads.each k w here held).past ended)
+        (sym same)))
         (cases_Bool w.is_current)
 
     pub reads_pinned : AreRead d c' files (with_read read key x)
     reads_pinned = record {
       each = λ k u now held. ⊎_elim
-          (λ (same : k ≡ key). subst (λ z. IsRead d c' files u z) (sym (with_read_same read key x k same)) (is_read u (ap (slot c'.live) (sym same) ∙ now)))
-          (λ apart. subst (λ z. IsRead d c' files u z) (sym (with_read_other read key x k apart)) (moved d c c' files u u.readers (read k) primes (reads.each k u (sym (others k apart) ∙ now) held)))
+          (λ (same : k ≡ key). subst (λ z. IsRead d c' files u z) (sym (with_read_same read key x k same))
+          (is_read u (ap (slot c'.live) (sym same) ∙ now)))
+          (λ apart. subst (λ z. IsRead d c' files u z) (sym (with_read_other read key x k apart))
+          (moved d c c' files u u.readers (read k) primes (reads.each k u (sym (others k apart) ∙ now) held)))
           (cases_eq k key);
       unread = λ k u now ended. ⊎_elim
-          (λ (same : k ≡ key). absurd (both_ways u.is_current ended (still_current u (ap (slot c'.live) (sym same) ∙ now))))
+          (λ (same : k ≡ key).
+          absurd (both_ways u.is_current ended (still_current u (ap (slot c'.live) (sym same) ∙ now))))
           (λ apart. reads.unread k u (sym (others k apart) ∙ now) ended) (cases_eq k key);
       apart = λ k l u w now now' held held' same. ⊎_elim
           (λ (is : k ≡ key). ⊎_elim
           (λ (is' : l ≡ key). is ∙ sym is')
-          (λ other. is ∙ sym (alone l w (sym (others l other) ∙ now') held' (sym (ap (λ (z : Version). z.serial) (with_read_other read key x l other)) ∙ sym same ∙ ap (λ (z : Version). z.serial) (with_read_same read key x k is)))) (cases_eq l key))
+          (λ other. is ∙ sym (alone l w (sym (others l other)
+          ∙ now') held' (sym (ap (λ (z : Version). z.serial) (with_read_other read key x l other)) ∙ sym same
+          ∙ ap (λ (z : Version). z.serial) (with_read_same read key x k is)))) (cases_eq l key))
           (λ other. ⊎_elim
-          (λ (is' : l ≡ key). alone k u (sym (others k other) ∙ now) held (sym (ap (λ (z : Version). z.serial) (with_read_other read key x k other)) ∙ same ∙ ap (λ (z : Version). z.serial) (with_read_same read key x l is')) ∙ sym is')
+          (λ (is' : l ≡ key). alone k u (sym (others k other)
+          ∙ now) held (sym (ap (λ (z : Version). z.serial) (with_read_other read key x k other)) ∙ same
+          ∙ ap (λ (z : Version). z.serial) (with_read_same read key x l is')) ∙ sym is')
           (λ other'. reads.apart k l u w (sym (others k other) ∙ now) (sym (others l other') ∙ now') held held'
-          (sym (ap (λ (z : Version). z.serial) (with_read_other read key x k other)) ∙ same ∙ ap (λ (z : Version). z.serial) (with_read_other read key x l other'))) (cases_eq l key))
+          (sym (ap (λ (z : Version). z.serial) (with_read_other read key x k other)) ∙ same
+          ∙ ap (λ (z : Version). z.serial) (with_read_other read key x l other'))) (cases_eq l key))
           (cases_eq k key);
     }
 
 -- A reader goes.
 
-module _ (d : DiskState) (c c' : VolumeCore) (files : Files Version) (read : ℕ → Version) (key : ℕ) (v : LiveVersion) (reads : AreRead d c files read) (here : slot c.live key ≡ Some v) (held : 0 < v.readers)
-    (stays : (v.is_current ≡ true) ⊎ (1 < v.readers) → slot c'.live key ≡ Some (record v { readers = v.readers - 1 })) (gone : v.is_current ≡ false → v.readers ≡ 1 → slot c'.live key ≡ None)
-    (others : (k : ℕ) → (k ≡ key → ⊥) → slot c'.live k ≡ slot c.live k) (known : c'.known ≡ record c.known { table = c'.known.table }) where
+module _ (d : DiskState) (c c' : VolumeCore) (files : Files Version) (read : ℕ → Version) (key : ℕ) (v : LiveVersion)
+    (reads : AreRead d c files read) (here : slot c.live key ≡ Some v) (held : 0 < v.readers)
+    (stays : (v.is_current ≡ true) ⊎ (1 < v.readers) → slot c'.live key ≡ Some (record v { readers = v.readers - 1 }))
+    (gone : v.is_current ≡ false → v.readers ≡ 1 → slot c'.live key ≡ None)
+    (others : (k : ℕ) → (k ≡ key → ⊥) → slot c'.live k ≡ slot c.live k) (known : c'.known
+    ≡ record c.known { table = c'.known.table }) where
   -- what is left under its key: the version with a reader less, or nothing of one that isn't current
-  left_under : (u : LiveVersion) → slot c'.live key ≡ Some u → (record v { readers = v.readers - 1 } ≡ u) × ((v.is_current ≡ true) ⊎ (1 < v.readers))
+  left_under : (u : LiveVersion) → slot c'.live key ≡ Some u → (record v { readers = v.readers - 1 } ≡ u)
+      × ((v.is_current ≡ true) ⊎ (1 < v.readers))
   left_under u now = ⊎_elim
       (λ (current : v.is_current ≡ true). (some_same (sym (stays (inl current)) ∙ now), inl current))
       (λ ended. ⊎_elim
@@ -142,7 +171,8 @@ module _ (d : DiskState) (c c' : VolumeCore) (files : Files Version) (read : ℕ
       (cases_Bool v.is_current)
 
   -- a version that is read was read before
-  was_read : (k : ℕ) (u : LiveVersion) → slot c'.live k ≡ Some u → 0 < u.readers → (w : LiveVersion) × (slot c.live k ≡ Some w) × (0 < w.readers)
+  was_read : (k : ℕ) (u : LiveVersion) → slot c'.live k ≡ Some u → 0 < u.readers → (w : LiveVersion)
+      × (slot c.live k ≡ Some w) × (0 < w.readers)
   was_read k u now some = ⊎_elim
       (λ (same : k ≡ key). (v, ap (slot c.live) same ∙ here, held))
       (λ apart. (u, sym (others k apart) ∙ now, some)) (cases_eq k key)
@@ -152,16 +182,19 @@ module _ (d : DiskState) (c c' : VolumeCore) (files : Files Version) (read : ℕ
     each = λ k u now some. ⊎_elim
         (λ (same : k ≡ key).
         let left = left_under u (ap (slot c'.live) (sym same) ∙ now) in
-        subst (λ n. IsRead d c' files u (read n)) (sym same) (subst (λ z. IsRead d c' files z (read key)) left.0 (moved d c c' files v (v.readers - 1) (read key) primes (reads.each key v here held))))
+        subst (λ n. IsRead d c' files u (read n)) (sym same) (subst (λ z. IsRead d c' files z (read key)) left.0
+        (moved d c c' files v (v.readers - 1) (read key) primes (reads.each key v here held))))
         (λ apart. moved d c c' files u u.readers (read k) primes (reads.each k u (sym (others k apart) ∙ now) some))
         (cases_eq k key);
     unread = λ k u now ended. ⊎_elim
         (λ (same : k ≡ key).
         let left = left_under u (ap (slot c'.live) (sym same) ∙ now) in
         let readers = ap (λ (z : LiveVersion). z.readers) left.0 in
-        ⊎_elim (λ current. absurd (both_ways u.is_current ended (sym (ap (λ (z : LiveVersion). z.is_current) left.0) ∙ current))) (λ (more : 1 < v.readers). omega arith) left.1)
+        ⊎_elim (λ current. absurd (both_ways u.is_current ended (sym (ap (λ (z : LiveVersion). z.is_current) left.0)
+        ∙ current))) (λ (more : 1 < v.readers). omega arith) left.1)
         (λ apart. reads.unread k u (sym (others k apart) ∙ now) ended) (cases_eq k key);
-    apart = λ k l u w now now' some some' same. let a = was_read k u now some in let b = was_read l w now' some' in reads.apart k l a.0 b.0 a.1 b.1 a.2 b.2 same;
+    apart = λ k l u w now now' some some' same. let a = was_read k u now some in let b = was_read l w now' some' in
+        reads.apart k l a.0 b.0 a.1 b.1 a.2 b.2 same;
   }
     where
       primes : (q : Place) → prime_at c' q.ppn q.name ≡ prime_at c q.ppn q.name

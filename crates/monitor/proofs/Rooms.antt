@@ -1,5 +1,6 @@
 -- What is booked: what the files cost, without their serials, what is being written, and what is read.
-use Rattle.std.proofs.Common.{◌≡◌, ℕ, ◌+◌, Bool, true, false, List, [], ◌∷◌, ◌++◌, length, map, flat_map, Option, Some, None, refl, sym, ap, ◌∙◌, arith, append-nil}
+use Rattle.std.proofs.Common.{◌≡◌, ℕ, ◌+◌, Bool, true, false, List, [], ◌∷◌, ◌++◌, length, map, flat_map, Option, Some}
+use Rattle.std.proofs.Common.{None, refl, sym, ap, ◌∙◌, arith, append-nil}
 use Rattle.std.specs.Prelude.{◌==◌, ◌&&◌, if◌then◌else◌, option_map, filter_map}
 use Rattle.std.specs.List.{cons_option}
 use Rattle.std.specs.Cmp.{nat_cmp_total}
@@ -10,7 +11,8 @@ use Rattle.meaning.specs.Costs.{version_cost, cost_of_blocks, directory_cost, co
 use Rattle.meaning.specs.Published.{Version, without_serials}
 use Rattle.meaning.specs.Jobs as machine
 use Rattle.meaning.specs.Jobs.{State, is_create}
-use Rattle.meaning.specs.Room.{outputs_of, outputs, held_by, held, current, distinct_cost, pending_creations, pending_cost, booked}
+use Rattle.meaning.specs.Room.{outputs_of, outputs, held_by, held, current, distinct_cost, pending_creations}
+use Rattle.meaning.specs.Room.{pending_cost, booked}
 use Rattle.meaning.specs.Room as room
 use Rattle.meaning.specs.Runs.{AreDistinct}
 use Rattle.meaning.proofs.Names.{name_total}
@@ -20,7 +22,8 @@ use Rattle.volume.specs.Live as live
 use Rattle.volume.specs.declared.pending.PendingVersion.{PendingVersion}
 use Rattle.volume.proofs.Answering.{Holds}
 use Rattle.monitor.specs.Serving.{IsSide, IsState}
-use Rattle.monitor.specs.Sides.{UnderKeys, side_of, sides_in, sides, readers, pins_of, kind_of, output_of, channel_of, job_of, jobs_of}
+use Rattle.monitor.specs.Sides.{UnderKeys, side_of, sides_in, sides, readers, pins_of, kind_of, output_of, channel_of}
+use Rattle.monitor.specs.Sides.{job_of, jobs_of}
 use Rattle.monitor.specs.declared.output.Output.{Output}
 use Rattle.monitor.specs.declared.channel.Channel.{Channel}
 use Rattle.monitor.specs.declared.job.Job.{Job}
@@ -34,14 +37,17 @@ use Rattle.monitor.proofs.SideSums.{all_at, sum_sides}
 -- The machine's output sides, and what it holds.
 
 module _ (w : UnderKeys) where
-  cons_shown : (o : Option Output) (os : List Output) → cons_option (option_map (output_of w) o) (map (output_of w) os) ≡ map (output_of w) (cons_option o os)
+  cons_shown : (o : Option Output) (os : List Output) → cons_option (option_map (output_of w) o) (map (output_of w) os)
+      ≡ map (output_of w) (cons_option o os)
   cons_shown None os = refl
   cons_shown (Some o) os = refl
 
-  channel_sides : (cs : List (Option Channel)) → filter_map room.output_of (map (option_map (channel_of w)) cs) ≡ map (output_of w) (filter_map side_of cs)
+  channel_sides : (cs : List (Option Channel)) → filter_map room.output_of (map (option_map (channel_of w)) cs)
+      ≡ map (output_of w) (filter_map side_of cs)
   channel_sides [] = refl
   channel_sides (None ∷ cs) = channel_sides cs
-  channel_sides (Some c ∷ cs) = ap (cons_option (option_map (output_of w) c.output)) (channel_sides cs) ∙ cons_shown c.output (filter_map side_of cs)
+  channel_sides (Some c ∷ cs) = ap (cons_option (option_map (output_of w) c.output)) (channel_sides cs)
+      ∙ cons_shown c.output (filter_map side_of cs)
 
   job_sides : (o : Option Job) → outputs_of (option_map (job_of w) o) ≡ map (output_of w) (sides_in o)
   job_sides None = refl
@@ -53,7 +59,8 @@ module _ (w : UnderKeys) where
 
   pub sides_are : (jobs : List (Option Job)) → flat_map outputs_of (jobs_of w jobs) ≡ map (output_of w) (sides jobs)
   sides_are [] = refl
-  sides_are (j ∷ jobs) = (λ i. job_sides j i ++ sides_are jobs i) ∙ sym (map-append (output_of w) (sides_in j) (sides jobs))
+  sides_are (j ∷ jobs) = (λ i. job_sides j i ++ sides_are jobs i)
+      ∙ sym (map-append (output_of w) (sides_in j) (sides jobs))
 
 -- what the input sides read, in their order
 abbrev read_by : UnderKeys → List (Option Job) → List Version
@@ -69,7 +76,8 @@ total-append : {X : Type 0} (f : X → ℕ) (xs ys : List X) → total f (xs ++ 
 total-append f [] ys = omega arith
 total-append f (x ∷ xs) ys = omega (arith, total-append f xs ys)
 
-total-flat_map : {X Y : Type 0} (f : Y → ℕ) (g : X → List Y) (xs : List X) → total f (flat_map g xs) ≡ total (λ x. total f (g x)) xs
+total-flat_map : {X Y : Type 0} (f : Y → ℕ) (g : X → List Y) (xs : List X)
+    → total f (flat_map g xs) ≡ total (λ x. total f (g x)) xs
 total-flat_map f g [] = refl
 total-flat_map f g (x ∷ xs) = total-append f (g x) (flat_map g xs) ∙ ap (λ n. total f (g x) + n) (total-flat_map f g xs)
 
@@ -78,7 +86,8 @@ total-add f g [] = refl
 total-add f g (x ∷ xs) = omega (arith, total-add f g xs)
 
 -- the versions of one directory, and of all
-costs_in : (d : Directory Version) → total (λ v. version_cost (length v.file.body)) (values d.files) ≡ sum_over (λ v. version_cost (length v.file.body)) d.files
+costs_in : (d : Directory Version) → total (λ v. version_cost (length v.file.body)) (values d.files)
+    ≡ sum_over (λ v. version_cost (length v.file.body)) d.files
 costs_in d = total-map (λ v. version_cost (length v.file.body)) (λ e. e.1) (entries d.files)
 
 total_same : {X : Type 0} (f g : X → ℕ) → ((x : X) → f x ≡ g x) → (xs : List X) → total f xs ≡ total g xs
@@ -98,16 +107,23 @@ shown d =
 
 abbrev booked_of : Files Version → List Version → List machine.Output → ℕ
 booked_of files versions outs =
-    (directory_cost (size files) + sum_entries (λ ppn d. directory_cost (size d.files + total (λ o. if is_create o.kind && (o.place.ppn == ppn) then 1 else 0) outs)) files)
-    + distinct_cost (flat_map (λ d. values d.files) (values files) ++ versions) + total (λ o. version_cost (length o.pending.body)) outs
+    (directory_cost (size files) + sum_entries
+    (λ ppn d. directory_cost (size d.files + total (λ o. if is_create o.kind && (o.place.ppn == ppn) then 1
+    else 0) outs)) files)
+    + distinct_cost (flat_map (λ d. values d.files) (values files) ++ versions)
+    + total (λ o. version_cost (length o.pending.body)) outs
 
-booked_alone : (files : Files Version) → AreDistinct (flat_map (λ d. values d.files) (values files)) → booked_of files [] [] ≡ cost_of_files (without_serials files)
+booked_alone : (files : Files Version) → AreDistinct (flat_map (λ d. values d.files) (values files))
+    → booked_of files [] [] ≡ cost_of_files (without_serials files)
 booked_alone files distinct =
     let size_is = ap directory_cost (size-map_values nat_cmp_total (map_directory (λ (v : Version). v.file)) files) in
     let sums = sum-map_values nat_cmp_total cost_of_directory (map_directory (λ (v : Version). v.file)) files in
-    let directories = total_same (λ e. cost_of_directory (map_directory (λ (v : Version). v.file) e.1)) (λ e. cost_in e.1) (λ e. shown e.1) (entries files) in
-    let apart = total-add (λ e. directory_cost (size e.1.files)) (λ e. total (λ v. version_cost (length v.file.body)) (values e.1.files)) (entries files) in
-    let chains = total_same (λ e. directory_cost (size e.1.files + 0)) (λ e. directory_cost (size e.1.files)) (λ e. ap directory_cost (plain (size e.1.files))) (entries files) in
+    let directories = total_same (λ e. cost_of_directory (map_directory (λ (v : Version). v.file) e.1))
+    (λ e. cost_in e.1) (λ e. shown e.1) (entries files) in
+    let apart = total-add (λ e. directory_cost (size e.1.files))
+    (λ e. total (λ v. version_cost (length v.file.body)) (values e.1.files)) (entries files) in
+    let chains = total_same (λ e. directory_cost (size e.1.files + 0)) (λ e. directory_cost (size e.1.files))
+    (λ e. ap directory_cost (plain (size e.1.files))) (entries files) in
     let all = ap distinct_cost (append-nil (flat_map (λ d. values d.files) (values files))) ∙ each_once _ distinct
     ∙ total-flat_map (λ v. version_cost (length v.file.body)) (λ d. values d.files) (values files)
     ∙ total-map (λ d. total (λ v. version_cost (length v.file.body)) (values d.files)) (λ e. e.1) (entries files) in
@@ -124,15 +140,20 @@ one_if b = if b then 1 else 0
 module _ (d : DiskState) (map : VolumeCore) (jobs : List (Option Job)) (s : State) (state : IsState d map jobs s) where
   -- the sum over output sides is the one over versions
   pub sum_is : (f : machine.Output → ℕ) (g : Option PendingVersion → ℕ) → g None ≡ 0
-      → ((o : Output) (p : PendingVersion) → pending_at map.pending o.pending.key ≡ Some p → IsSide map.pending o → f (output_of state.under o) ≡ g (Some p)) → total f (outputs s) ≡ total g map.pending
+      → ((o : Output) (p : PendingVersion) → pending_at map.pending o.pending.key ≡ Some p → IsSide map.pending o
+      → f (output_of state.under o) ≡ g (Some p)) → total f (outputs s) ≡ total g map.pending
   sum_is f g none each =
-      ap (λ js. total f (flat_map outputs_of js)) state.jobs_are ∙ ap (total f) (sides_are state.under jobs) ∙ total-map f (output_of state.under) (sides jobs)
+      ap (λ js. total f (flat_map outputs_of js)) state.jobs_are ∙ ap (total f) (sides_are state.under jobs)
+      ∙ total-map f (output_of state.under) (sides jobs)
       ∙ sum_sides g none (λ o. f (output_of state.under o)) (sides jobs) map.pending state.keyed.once
-      (each-as (IsSide map.pending) (λ o. (p : PendingVersion) → pending_at map.pending o.pending.key ≡ Some p → f (output_of state.under o) ≡ g (Some p)) (λ o side p at. each o p at side) (sides jobs) state.keyed.each)
+      (each-as (IsSide map.pending) (λ o. (p : PendingVersion) → pending_at map.pending o.pending.key ≡ Some p
+      → f (output_of state.under o) ≡ g (Some p)) (λ o side p at. each o p at side) (sides jobs) state.keyed.each)
 
   pub creations_are : (ppn : ℕ) → pending_creations s ppn ≡ total (creates ppn) map.pending
   creations_are ppn = sum_is (λ o. if is_create o.kind && (o.place.ppn == ppn) then 1 else 0) (creates ppn) refl
-      (λ o p at side. let place = ap (λ l. l.ppn) (state.versions o.pending.key p at).place in both (is_create (kind_of o.kind)) p.is_new ((state.under.written o.pending.key).place.ppn == ppn) (p.prime.ppn == ppn) (sym (side.kind p at)) (ap (λ n. n == ppn) place))
+      (λ o p at side. let place = ap (λ l. l.ppn) (state.versions o.pending.key p at).place in
+      both (is_create (kind_of o.kind)) p.is_new ((state.under.written o.pending.key).place.ppn == ppn) (p.prime.ppn
+      == ppn) (sym (side.kind p at)) (ap (λ n. n == ppn) place))
     where
       both : (a b x y : Bool) → a ≡ b → x ≡ y → one_if (a && x) ≡ (if b then one_if y else 0)
       both true b x y e f = λ i. if e i then one_if (f i) else 0
@@ -140,23 +161,30 @@ module _ (d : DiskState) (map : VolumeCore) (jobs : List (Option Job)) (s : Stat
 
   pub costs_are : IsWholeCore d.size map → room.pending_cost s ≡ total live.pending_cost map.pending
   costs_are whole = sum_is (λ o. version_cost (length o.pending.body)) live.pending_cost refl
-      (λ o p at side. ap version_cost (state.versions o.pending.key p at).words ∙ ap cost_of_blocks (sym (all_at (IsWholePending d.size) map.pending o.pending.key p whole.waiting at).whole.counted))
+      (λ o p at side. ap version_cost (state.versions o.pending.key p at).words
+      ∙ ap cost_of_blocks
+      (sym (all_at (IsWholePending d.size) map.pending o.pending.key p whole.waiting at).whole.counted))
 
   held_is : held s ≡ read_by state.under jobs
   held_is = ap (flat_map held_by) state.jobs_are ∙ held_are state.under jobs
 
   -- What is read is booked once, and what a file still has is booked with it.
-  held_booked : IsWholeCore d.size map → distinct_cost (current s ++ held s) ≡ distinct_cost (current s) + total held_cost map.live
+  held_booked : IsWholeCore d.size map → distinct_cost (current s ++ held s)
+      ≡ distinct_cost (current s) + total held_cost map.live
   held_booked whole =
       ap (λ vs. distinct_cost (current s ++ vs)) held_is
-      ∙ held_once map.live (current s) state.under.read (pins_of (readers jobs)) state.reading.pinned (reads_booked d map s.files state.under.read whole state.serials state.read)
+      ∙ held_once map.live (current s) state.under.read (pins_of (readers jobs)) state.reading.pinned
+      (reads_booked d map s.files state.under.read whole state.serials state.read)
 
   -- what is booked of the disk
-  pub booked_is : IsWholeCore d.size map → Holds d map.known (without_serials s.files) → booked s ≡ cost_of_files (without_serials s.files) + cost_beyond map
+  pub booked_is : IsWholeCore d.size map → Holds d map.known (without_serials s.files)
+      → booked s ≡ cost_of_files (without_serials s.files) + cost_beyond map
   booked_is whole holds =
       let alone = booked_alone s.files state.serials in
       let costs = costs_are whole in
-      let grown = total_same (λ e. directory_cost (size e.1.files + pending_creations s e.0)) (λ e. directory_cost (size e.1.files + total (creates e.0) map.pending)) (λ e. ap (λ n. directory_cost (size e.1.files + n)) (creations_are e.0)) (entries s.files) in
+      let grown = total_same (λ e. directory_cost (size e.1.files + pending_creations s e.0))
+      (λ e. directory_cost (size e.1.files + total (creates e.0) map.pending))
+      (λ e. ap (λ n. directory_cost (size e.1.files + n)) (creations_are e.0)) (entries s.files) in
       let growth = growths_are d map.known s.files holds whole.map map.pending in
       let held = held_booked whole in
       let bare = ap distinct_cost (append-nil (current s)) in

@@ -14,7 +14,8 @@ use Rattle.monitor.specs.Serving.{pack_of, Serves}
 use Rattle.monitor.specs.Sides.{UnderKeys, input_of, channel_of, job_of, reader_of}
 use Rattle.monitor.specs.States.{MonitorState}
 use Rattle.meaning.specs.declared.call.Call.{Call}
-use Rattle.meaning.specs.declared.call.Call.TheVariants.{Open, Inbuf, Outbuf, Lookup, Enter, Rename, In, Out, Useti, Useto, Close, Releas, Getsts, Reset, MakeDir, DeleteDir}
+use Rattle.meaning.specs.declared.call.Call.TheVariants.{Open, Inbuf, Outbuf, Lookup, Enter, Rename, In, Out, Useti}
+use Rattle.meaning.specs.declared.call.Call.TheVariants.{Useto, Close, Releas, Getsts, Reset, MakeDir, DeleteDir}
 use Rattle.monitor.specs.declared.channel.Channel.{Channel}
 use Rattle.monitor.specs.declared.input.Input.{Input}
 use Rattle.monitor.specs.declared.job.Job.{Job}
@@ -30,16 +31,19 @@ unread_on : (w : UnderKeys) (o : Option Channel) → IsUnreadOn (option_map (cha
 unread_on w None unread = refl
 unread_on w (Some c) unread = unread_side w c.input unread
 
-pub served_for : (w : UnderKeys) (call : Call) (o : Option Job) → IsServedFor call (option_map (job_of w) o) → IsServed call o
+pub served_for : (w : UnderKeys) (call : Call) (o : Option Job) → IsServedFor call (option_map (job_of w) o)
+    → IsServed call o
 served_for w (Open channel address) None served = tt
 served_for w (Open channel address) (Some job) served = served
 served_for w (Inbuf channel count) o served = tt
 served_for w (Outbuf channel count) o served = tt
 served_for w (Lookup channel address) o served = tt
 served_for w (Enter channel address) None served = tt
-served_for w (Enter channel address) (Some job) served = unread_on w (slot job.channels channel) (subst IsUnreadOn (channel_is w job channel (slot job.channels channel) refl) served)
+served_for w (Enter channel address) (Some job) served = unread_on w (slot job.channels channel)
+    (subst IsUnreadOn (channel_is w job channel (slot job.channels channel) refl) served)
 served_for w (Rename channel address) None served = tt
-served_for w (Rename channel address) (Some job) served = unread_on w (slot job.channels channel) (subst IsUnreadOn (channel_is w job channel (slot job.channels channel) refl) served)
+served_for w (Rename channel address) (Some job) served = unread_on w (slot job.channels channel)
+    (subst IsUnreadOn (channel_is w job channel (slot job.channels channel) refl) served)
 served_for w (In channel address) o served = tt
 served_for w (Out channel address) o served = tt
 served_for w (Close channel bits) o served = tt
@@ -53,18 +57,24 @@ served_for w (DeleteDir address) None served = tt
 served_for w (DeleteDir address) (Some job) served = served
 
 -- A call, by what it ensures.
-module _ {D : Type 0} (state : D → DiskState) (old new : MonitorState D) (n : ℕ) (call : Call) (moment : Moment) (reply : Reply) where
+module _ {D : Type 0} (state : D → DiskState) (old new : MonitorState D) (n : ℕ) (call : Call) (moment : Moment)
+    (reply : Reply) where
   abbrev pub Led : Service → Type 0
-  Led s = (t : Service) × Serves (state new.disk) new.map new.failed new.jobs t × Answers (pack_of (state old.disk)) s (Calls n call moment) reply t
+  Led s = (t : Service) × Serves (state new.disk) new.map new.failed new.jobs t
+      × Answers (pack_of (state old.disk)) s (Calls n call moment) reply t
 
   -- the device had failed before
   broken_led : (reply ≡ Failed) × (new ≡ old) → old.failed ≡ true → Led Broken
   broken_led same failed = (Broken, ap (λ m. m.failed) same.1 ∙ failed, same.0)
 
-  pub call_answered : ((state new.disk).honest → IsServed call (slot old.jobs n) → (s : Service) → Serves (state old.disk) old.map old.failed old.jobs s → Led s) → (old.failed ≡ true → (reply ≡ Failed) × (new ≡ old))
-      → (state new.disk).honest → (s : Service) → IsServedIn s (Calls n call moment) → Serves (state old.disk) old.map old.failed old.jobs s → Led s
+  pub call_answered : ((state new.disk).honest → IsServed call (slot old.jobs n) → (s : Service)
+      → Serves (state old.disk) old.map old.failed old.jobs s → Led s)
+      → (old.failed ≡ true → (reply ≡ Failed) × (new ≡ old))
+      → (state new.disk).honest → (s : Service) → IsServedIn s (Calls n call moment)
+      → Serves (state old.disk) old.map old.failed old.jobs s → Led s
   call_answered answered broken honest Broken served failed = broken_led (broken failed) failed
   call_answered answered broken honest (Serving s) served serves =
       let is = serves.1 in
       let jobs_are = ap (λ js. slot js n) is.jobs_are ∙ slot-map (job_of is.under) old.jobs n in
-      answered honest (served_for is.under call (slot old.jobs n) (subst (IsServedFor call) jobs_are served)) (Serving s) serves
+      answered honest (served_for is.under call (slot old.jobs n) (subst (IsServedFor call) jobs_are served))
+      (Serving s) serves

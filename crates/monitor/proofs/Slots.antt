@@ -12,27 +12,39 @@ set-twice (z ∷ xs) zero x y = refl
 set-twice (z ∷ xs) (suc n) x y = ap (λ ws. z ∷ ws) (set-twice xs n x y)
 
 -- put back after it was taken out
-pub put_back : {X : Type 0} (old taken new : List (Option X)) (n : ℕ) (x : Option X) → taken ≡ slice_set old n None → new ≡ slice_set taken n x → new ≡ slice_set old n x
+pub put_back : {X : Type 0} (old taken new : List (Option X)) (n : ℕ) (x : Option X) → taken ≡ slice_set old n None
+    → new ≡ slice_set taken n x → new ≡ slice_set old n x
 put_back old taken new n x out back = back ∙ ap (λ xs. slice_set xs n x) out ∙ set-twice old n None x
 
 -- the other slots are as they were
-pub others_back : {X : Type 0} (old taken new : List (Option X)) (n : ℕ) (x : Option X) → taken ≡ slice_set old n None → new ≡ slice_set taken n x → (m : ℕ) → (m ≡ n → ⊥) → slot new m ≡ slot old m
-others_back old taken new n x out back m other = ap (λ xs. slot xs m) (put_back old taken new n x out back) ∙ slot-set_other old n m x other
+pub others_back : {X : Type 0} (old taken new : List (Option X)) (n : ℕ) (x : Option X) → taken ≡ slice_set old n None
+    → new ≡ slice_set taken n x → (m : ℕ) → (m ≡ n → ⊥) → slot new m ≡ slot old m
+others_back old taken new n x out back m other = ap (λ xs. slot xs m) (put_back old taken new n x out back)
+    ∙ slot-set_other old n m x other
 
 -- the same, after a reset
-pub reset_back : (old taken new : List (Option Job)) (n : ℕ) (there : Job) (core : List ℕ) → taken ≡ slice_set old n None → new ≡ slice_set taken n (Some (record there { core = core; channels = replicate 16 None }))
+pub reset_back : (old taken new : List (Option Job)) (n : ℕ) (there : Job) (core : List ℕ)
+    → taken ≡ slice_set old n None
+    → new ≡ slice_set taken n (Some (record there { core = core; channels = replicate 16 None }))
     → core ≡ with_right there.core first_free rings_begin → new ≡ slice_set old n (Some (reset_job there))
-reset_back old taken new n there core out back is = put_back old taken new n _ out back ∙ ap (λ words. slice_set old n (Some (record there { core = words; channels = replicate 16 None }))) is
+reset_back old taken new n there core out back is = put_back old taken new n _ out back
+    ∙ ap (λ words. slice_set old n (Some (record there { core = words; channels = replicate 16 None }))) is
 
 -- the same, with other words
-pub core_back : (old taken new : List (Option Job)) (n : ℕ) (there : Job) (core words : List ℕ) → taken ≡ slice_set old n None → new ≡ slice_set taken n (Some (record there { core = core })) → core ≡ words
+pub core_back : (old taken new : List (Option Job)) (n : ℕ) (there : Job) (core words : List ℕ)
+    → taken ≡ slice_set old n None → new ≡ slice_set taken n (Some (record there { core = core })) → core ≡ words
     → new ≡ slice_set old n (Some (record there { core = words }))
-core_back old taken new n there core words out back is = put_back old taken new n _ out back ∙ ap (λ ws. slice_set old n (Some (record there { core = ws }))) is
+core_back old taken new n there core words out back is = put_back old taken new n _ out back
+    ∙ ap (λ ws. slice_set old n (Some (record there { core = ws }))) is
 
 -- put back as it was
-pub same_back : (old taken new : List (Option Job)) (n : ℕ) (there : Job) (core : List ℕ) → slot old n ≡ Some there → taken ≡ slice_set old n None → new ≡ slice_set taken n (Some (record there { core = core })) → core ≡ there.core → new ≡ old
-same_back old taken new n there core at out back is = core_back old taken new n there core there.core out back is ∙ set-slot old n there at
+pub same_back : (old taken new : List (Option Job)) (n : ℕ) (there : Job) (core : List ℕ) → slot old n ≡ Some there
+    → taken ≡ slice_set old n None → new ≡ slice_set taken n (Some (record there { core = core })) → core ≡ there.core
+    → new ≡ old
+same_back old taken new n there core at out back is = core_back old taken new n there core there.core out back is
+    ∙ set-slot old n there at
 
 -- a job that comes back as it was leaves all as they were
-pub unchanged : (old new : List (Option Job)) (n : ℕ) (job job' : Job) → slot old n ≡ Some job → new ≡ slice_set old n (Some job') → job' ≡ job → new ≡ old
+pub unchanged : (old new : List (Option Job)) (n : ℕ) (job job' : Job) → slot old n ≡ Some job
+    → new ≡ slice_set old n (Some job') → job' ≡ job → new ≡ old
 unchanged old new n job job' at set same = set ∙ ap (λ j. slice_set old n (Some j)) same ∙ set-slot old n job at

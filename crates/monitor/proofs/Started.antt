@@ -24,8 +24,10 @@ use Rattle.monitor.proofs.SideSums.{all_at}
 none_keyed : AreKeyed [] no_jobs
 none_keyed = record { once = λ key. refl; each = tt }
 
-pub start_keyed : (pending : List (Option PendingVersion)) (jobs : List (Option Job)) → pending ≡ [] → jobs ≡ no_jobs → AreKeyed pending jobs
-start_keyed pending jobs none nobody = subst (λ p. AreKeyed p jobs) (sym none) (subst (AreKeyed []) (sym nobody) none_keyed)
+pub start_keyed : (pending : List (Option PendingVersion)) (jobs : List (Option Job)) → pending ≡ [] → jobs ≡ no_jobs
+    → AreKeyed pending jobs
+start_keyed pending jobs none nobody = subst (λ p. AreKeyed p jobs) (sym none)
+    (subst (AreKeyed []) (sym nobody) none_keyed)
 
 abbrev nobody_in : ℕ → List (Option Job)
 nobody_in slots = replicate slots None
@@ -35,7 +37,8 @@ none_at zero n = refl
 none_at (suc slots) zero = refl
 none_at (suc slots) (suc n) = none_at slots n
 
-pub start_reading : (live : List (Option LiveVersion)) (jobs : List (Option Job)) → AllByRecursion (λ o. IfSome o IsFirstRead) live → jobs ≡ no_jobs → AreReading live jobs
+pub start_reading : (live : List (Option LiveVersion)) (jobs : List (Option Job))
+    → AllByRecursion (λ o. IfSome o IsFirstRead) live → jobs ≡ no_jobs → AreReading live jobs
 start_reading live jobs read nobody = subst (AreReading live) (sym nobody) (record {
   pinned = λ key. by key (version_at live key) refl;
   each = λ n job at. absurd (some_none (sym at ∙ none_at 65 n));
@@ -46,7 +49,9 @@ start_reading live jobs read nobody = subst (AreReading live) (sym nobody) (reco
     by key None is = sym (ap readers_of is)
     by key (Some v) is = sym (ap readers_of is ∙ (all_at IsFirstRead live key v read is).unread)
 
-pub started : (d : DiskState) (map : VolumeCore) (jobs : List (Option Job)) (s : State) (found : Files File) → RestsAt d found → AllByRecursion (λ o. IfSome o IsFirstRead) map.live → map.pending ≡ [] → jobs ≡ no_jobs → IsStart found s → IsState d map jobs s
+pub started : (d : DiskState) (map : VolumeCore) (jobs : List (Option Job)) (s : State) (found : Files File)
+    → RestsAt d found → AllByRecursion (λ o. IfSome o IsFirstRead) map.live → map.pending ≡ [] → jobs ≡ no_jobs
+    → IsStart found s → IsState d map jobs s
 started d map jobs s found rests read none nobody start = record {
   files = subst (RestsAt d) (sym start.files) rests;
   serials = start.serials;

@@ -14,7 +14,8 @@ use Rattle.monitor.specs.Moments.{RunsThrough, ReadsWhatWasFound, HoldsStill, la
 use Rattle.monitor.proofs.MomentRuns.{through_run}
 
 -- A run of two lists is a run of the first one and a run of the second.
-through_parts : (pack : Pack) (old : Service) (before behind : List Event) (first last : List Reply) (one rest : List Service)
+through_parts : (pack : Pack) (old : Service) (before behind : List Event) (first last : List Reply)
+    (one rest : List Service)
     → length first ≡ length before → length one ≡ length before
     → RunsThrough pack old (before ++ behind) (first ++ last) (one ++ rest)
     → RunsThrough pack old before first one × RunsThrough pack (last_of old one) behind last rest
@@ -24,7 +25,8 @@ through_parts pack old [] behind (r ∷ first) last one rest even equal run = ab
 through_parts pack old (e ∷ before) behind [] last one rest even equal run = absurd (omega (arith, even))
 through_parts pack old (e ∷ before) behind (r ∷ first) last [] rest even equal run = absurd (omega (arith, equal))
 through_parts pack old (e ∷ before) behind (r ∷ first) last (x ∷ one) rest even equal run =
-    let parts = through_parts pack x before behind first last one rest (omega (arith, even)) (omega (arith, equal)) run.1 in
+    let parts = through_parts pack x before behind first last one rest (omega (arith, even))
+    (omega (arith, equal)) run.1 in
     ((run.0, parts.0), parts.1)
 
 not_failed : Done ≡ Failed → ⊥
@@ -33,9 +35,11 @@ not_failed e = cc
 not_device : Done ≡ Device → ⊥
 not_device e = cc
 
-module _ (pack : Pack) (between : List Event) (second : List Reply) (n ch e a : ℕ) (early late : Moment) (spared : SpareAll n ch between) where
+module _ (pack : Pack) (between : List Event) (second : List Reply) (n ch e a : ℕ) (early late : Moment)
+    (spared : SpareAll n ch between) where
   -- where the service had failed, no answer is Done
-  by_services : (found looked read left : Service) → Answers pack found (Calls n (Lookup ch e) early) Done looked → Run pack looked between second read
+  by_services : (found looked read left : Service) → Answers pack found (Calls n (Lookup ch e) early) Done looked
+      → Run pack looked between second read
       → Answers pack read (Calls n (In ch a) late) Done left → ReadsWhatWasFound found read left n ch e a
   by_services Broken Broken read left looks on reads = absurd (not_failed looks)
   by_services Broken (Serving y) read left looks on reads = absurd looks
@@ -59,14 +63,18 @@ module _ (pack : Pack) (between : List Event) (second : List Reply) (n ch e a : 
 
 pub holds_still : (pack : Pack) (old : Service) (events : List Event) (replies : List Reply) (services : List Service)
     → RunsThrough pack old events replies services → HoldsStill old events replies services
-holds_still pack old events replies services run before between behind first second third one two three looked left n ch e a early late is =
+holds_still pack old events replies services run before between behind first second third one two three
+    looked left n ch e a early late is =
     let ran =
-    subst (λ ss. RunsThrough pack old (before ++ Calls n (Lookup ch e) early ∷ (between ++ Calls n (In ch a) late ∷ behind)) (first ++ Done ∷ (second ++ Done ∷ third)) ss)
+    subst (λ ss. RunsThrough pack old (before ++ Calls n (Lookup ch e) early
+    ∷ (between ++ Calls n (In ch a) late ∷ behind)) (first ++ Done ∷ (second ++ Done ∷ third)) ss)
     is.services_are
     (subst (λ es. RunsThrough pack old es (first ++ Done ∷ (second ++ Done ∷ third)) services) is.events_are
     (subst (λ rs. RunsThrough pack old events rs services) is.replies_are run)) in
-    let to = through_parts pack old before (Calls n (Lookup ch e) early ∷ (between ++ Calls n (In ch a) late ∷ behind)) first (Done ∷ (second ++ Done ∷ third))
+    let to = through_parts pack old before (Calls n (Lookup ch e) early ∷ (between ++ Calls n (In ch a) late ∷ behind))
+    first (Done ∷ (second ++ Done ∷ third))
     one (looked ∷ (two ++ left ∷ three)) is.in_order.0 is.in_order.1 ran in
-    let on = through_parts pack looked between (Calls n (In ch a) late ∷ behind) second (Done ∷ third) two (left ∷ three) is.in_step.0 is.in_step.1 to.1.1 in
+    let on = through_parts pack looked between (Calls n (In ch a) late ∷ behind) second (Done ∷ third) two
+    (left ∷ three) is.in_step.0 is.in_step.1 to.1.1 in
     by_services pack between second n ch e a early late is.spared (last_of old one) looked (last_of looked two) left
     to.1.0 (through_run pack looked between second two on.0) on.1.0

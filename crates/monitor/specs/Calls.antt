@@ -5,7 +5,8 @@ use Rattle.meaning.specs.Jobs.{slot}
 use Rattle.meaning.specs.Opening.{mode_at}
 use Rattle.meaning.specs.Rings.{is_buffered}
 use Rattle.meaning.specs.declared.call.Call.{Call}
-use Rattle.meaning.specs.declared.call.Call.TheVariants.{Open, Inbuf, Outbuf, Lookup, Enter, Rename, In, Out, Useti, Useto, Close, Releas, Getsts, Reset, MakeDir, DeleteDir}
+use Rattle.meaning.specs.declared.call.Call.TheVariants.{Open, Inbuf, Outbuf, Lookup, Enter, Rename, In, Out, Useti}
+use Rattle.meaning.specs.declared.call.Call.TheVariants.{Useto, Close, Releas, Getsts, Reset, MakeDir, DeleteDir}
 use Rattle.monitor.specs.declared.job.Job.{Job}
 use Rattle.monitor.specs.Rows.{publishes_by}
 use Rattle.monitor.specs.Sides.{reader_of}
@@ -25,8 +26,8 @@ abbrev pub IsOutside : ℕ → ℕ → Option Job → Type 0
 IsOutside address count None = Unit {0}
 IsOutside address count (Some job) = lies_outside job.core address count ≡ true
 
--- A call that is answered as the machine does: so far no ring is opened, no file is updated or renamed, and no directory
--- is removed.
+-- A call that is answered as the machine does: so far no ring is opened, no file is updated or renamed, and no
+-- directory is removed.
 abbrev pub IsServed : Call → Option Job → Type 0
 IsServed (Open channel address) job = IsUnbuffered address job
 IsServed (Inbuf channel count) job = Unit {0}

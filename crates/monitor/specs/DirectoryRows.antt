@@ -7,7 +7,8 @@ use Rattle.meaning.specs.Cores.{lies_outside, with_right}
 use Rattle.meaning.specs.Entering.{protection_or}
 use Rattle.meaning.specs.Rights.{system}
 use Rattle.meaning.specs.declared.call.Reply.{Reply}
-use Rattle.meaning.specs.declared.call.Reply.TheVariants.{Done, Value, Refused, Stopped, NoChannel, AddressCheck, NoJob, NoMemory, Device, Failed, DateRange}
+use Rattle.meaning.specs.declared.call.Reply.TheVariants.{Done, Value, Refused, Stopped, NoChannel, AddressCheck, NoJob}
+use Rattle.meaning.specs.declared.call.Reply.TheVariants.{NoMemory, Device, Failed, DateRange}
 use Rattle.alloctab.specs.TableState.{space}
 use Rattle.volume.specs.Live.{VolumeCore}
 use Rattle.volume.specs.Making.{growth}
@@ -38,18 +39,22 @@ IsCrowded size c = space size < c.known.table.booked + 1 + growth c.known.master
 
 -- It is refused for what there is, by this code.
 abbrev pub IsRefusedBy : ℕ → VolumeCore → ℕ → ℕ → Type 0
-IsRefusedBy size c owner code = ((code ≡ 4) × (IsAbsent c owner → ⊥)) ⊎ ((code ≡ 0o14) × IsAbsent c owner × IsCrowded size c)
+IsRefusedBy size c owner code = ((code ≡ 4) × (IsAbsent c owner → ⊥))
+    ⊎ ((code ≡ 0o14) × IsAbsent c owner × IsCrowded size c)
 
 -- What MakeDir does to its job, by its answer; `same` says that disk and volume are as they were.
 abbrev pub IsMakeDir : ℕ → VolumeCore → Type 0 → Job → Job → ℕ → Reply → Type 0
 IsMakeDir size c same job job' e Done =
-    (job' ≡ job) × (early_answer job.ppn job.core e ≡ Done) × IsAbsent c (asked_owner job.core e) × (IsCrowded size c → ⊥)
+    (job' ≡ job) × (early_answer job.ppn job.core e ≡ Done) × IsAbsent c (asked_owner job.core e)
+    × (IsCrowded size c → ⊥)
 IsMakeDir size c same job job' e (Refused code) =
     (job' ≡ record job { core = with_right job.core (e + 1) code }) × same
-    × ((early_answer job.ppn job.core e ≡ Refused code) ⊎ ((early_answer job.ppn job.core e ≡ Done) × IsRefusedBy size c (asked_owner job.core e) code))
+    × ((early_answer job.ppn job.core e ≡ Refused code)
+    ⊎ ((early_answer job.ppn job.core e ≡ Done) × IsRefusedBy size c (asked_owner job.core e) code))
 IsMakeDir size c same job job' e AddressCheck = (job' ≡ job) × same × (early_answer job.ppn job.core e ≡ AddressCheck)
 IsMakeDir size c same job job' e NoMemory = (job' ≡ job) × same × (early_answer job.ppn job.core e ≡ Done)
-IsMakeDir size c same job job' e Device = (job' ≡ job) × (early_answer job.ppn job.core e ≡ Done) × IsAbsent c (asked_owner job.core e) × (IsCrowded size c → ⊥)
+IsMakeDir size c same job job' e Device = (job' ≡ job) × (early_answer job.ppn job.core e ≡ Done)
+    × IsAbsent c (asked_owner job.core e) × (IsCrowded size c → ⊥)
 IsMakeDir size c same job job' e (Value word) = ⊥
 IsMakeDir size c same job job' e (Stopped status) = ⊥
 IsMakeDir size c same job job' e NoChannel = ⊥

@@ -15,7 +15,8 @@ IsNoneForgotten live = (key : ℕ) (v : LiveVersion) → slot live key ≡ Some 
 -- fewer; of what is known of the disk the table alone may change.
 pub record Leaves (c c' : VolumeCore) : Type 0 where
   pub stay : (key : ℕ) (p : PendingVersion) → pending_at c'.pending key ≡ Some p → pending_at c.pending key ≡ Some p
-  pub live : (key : ℕ) (v : LiveVersion) → slot c'.live key ≡ Some v → (readers : ℕ) × (v.readers ≤ readers) × (slot c.live key ≡ Some (record v { readers = readers }))
+  pub live : (key : ℕ) (v : LiveVersion) → slot c'.live key ≡ Some v → (readers : ℕ) × (v.readers ≤ readers)
+      × (slot c.live key ≡ Some (record v { readers = readers }))
   pub unread : IsNoneForgotten c.live → IsNoneForgotten c'.live
   pub known : c'.known ≡ record c.known { table = c'.known.table }
 

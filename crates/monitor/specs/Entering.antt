@@ -21,10 +21,14 @@ use Rattle.monitor.specs.declared.output.Kind.{Kind}
 
 -- the channel with an output side that has written nothing
 abbrev pub entered : Channel → ℕ → Kind → Channel
-entered c key kind = record c { status = cleared c.status; output = Some (record { pending = record { key = key }; kind = kind; next = 1 }) }
+entered c key kind = record c {
+  status = cleared c.status;
+  output = Some (record { pending = record { key = key }; kind = kind; next = 1 });
+}
 
 -- A version is begun under this key, with this prime block, for a channel that had no sides.
-pub record IsEntering (c c' : VolumeCore) (job job' : Job) (number address : ℕ) (moment : Moment) (channel : Channel) (key : ℕ) (prime : Prime) : Type 0 where
+pub record IsEntering (c c' : VolumeCore) (job job' : Job) (number address : ℕ) (moment : Moment) (channel : Channel)
+    (key : ℕ) (prime : Prime) : Type 0 where
   pub there : slot job.channels number ≡ Some channel
   pub free : channel.output ≡ None
   pub unread : channel.input ≡ None
@@ -32,7 +36,10 @@ pub record IsEntering (c c' : VolumeCore) (job job' : Job) (number address : ℕ
   pub at : IsPrimeAt job address moment prime
   pub kind : Kind
   pub kind_is : is_absent prime.file begun.directory ≡ is_create (kind_of kind)
-  pub job_is : job' ≡ record job { core = with_attributes 1 job.core address (file_begun prime); channels = slice_set job.channels number (Some (entered channel key kind)) }
+  pub job_is : job' ≡ record job {
+    core = with_attributes 1 job.core address (file_begun prime);
+    channels = slice_set job.channels number (Some (entered channel key kind));
+  }
 
 -- What is answered on this channel, and what every answer but Done leaves of the job.
 abbrev pub IsEnterAnswer : Pack → State → machine.Job → machine.Job → Option machine.Channel → ℕ → Reply → Type 0

@@ -1,5 +1,6 @@
 -- What a volume has of a place, and what an ENTER may do there.
-use Rattle.std.specs.Prelude.{◌≡◌, ℕ, ◌+◌, ◌%◌, ◌==◌, ◌&&◌, not, Bool, false, if◌then◌else◌, List, [], Option, None, Some, Result, Ok, Err, slice_index}
+use Rattle.std.specs.Prelude.{◌≡◌, ℕ, ◌+◌, ◌%◌, ◌==◌, ◌&&◌, not, Bool, false, if◌then◌else◌, List, [], Option, None}
+use Rattle.std.specs.Prelude.{Some, Result, Ok, Err, slice_index}
 use Rattle.std.specs.List.{list_any}
 use Rattle.words36.specs.declared.names.FileName.{FileName}
 use Rattle.words36.specs.declared.moment.Moment.{Moment}
@@ -58,12 +59,15 @@ found_in (Some d) name = found_file d.protection (get d.files name)
 -- How a job may begin to write there, or why not: `who` asks, in the directory of `owner`.
 
 abbrev pub begun_as : Kind → Bool → Bool → Bool → Result Kind ErrorCode
-begun_as kind may is_zero is_claimed = if is_zero then Err NotFound else if not may then Err Protection else if is_claimed then Err BeingModified else Ok kind
+begun_as kind may is_zero is_claimed = if is_zero then Err NotFound else if not may then Err Protection
+    else if is_claimed then Err BeingModified else Ok kind
 
 abbrev pub allowed : Found → ℕ → ℕ → Bool → Bool → Result Kind ErrorCode
 allowed found.NoDirectory who owner is_zero is_claimed = Err NoDirectory
-allowed (found.Absent p) who owner is_zero is_claimed = begun_as Create (may_create (directory_digit p who owner)) is_zero is_claimed
-allowed (found.Present p q) who owner is_zero is_claimed = begun_as Supersede (may_look (directory_digit p who owner) && may_supersede (file_digit q who owner)) is_zero is_claimed
+allowed (found.Absent p) who owner is_zero is_claimed = begun_as Create
+    (may_create (directory_digit p who owner)) is_zero is_claimed
+allowed (found.Present p q) who owner is_zero is_claimed = begun_as Supersede (may_look (directory_digit p who owner)
+    && may_supersede (file_digit q who owner)) is_zero is_claimed
 
 -- the protection of what is written: that which is asked for, or the old file's, which has three digits
 abbrev pub protection_for : Found → ℕ → ℕ
@@ -73,10 +77,21 @@ protection_for (found.Present p q) asked = q % 512
 
 -- a file with nothing in it, by its prime block
 abbrev pub file_begun : Prime → File
-file_begun prime = record { protection = prime.protection; mode = mode_number prime.mode; time = prime.moment.minute; date = prime.moment.date; body = [] }
+file_begun prime = record {
+  protection = prime.protection;
+  mode = mode_number prime.mode;
+  time = prime.moment.minute;
+  date = prime.moment.date;
+  body = [];
+}
 
 abbrev pub output_begun : Output → Prime → machine.Output
-output_begun o prime = record { place = place_of prime.ppn prime.file; kind = kind_of o.kind; pending = file_begun prime; next = o.next }
+output_begun o prime = record {
+  place = place_of prime.ppn prime.file;
+  kind = kind_of o.kind;
+  pending = file_begun prime;
+  next = o.next;
+}
 
 -- what is answered, as the machine does; for want of memory only where it looks further
 abbrev pub IsAnswer : {X : Type 0} → Result X CallError → Reply → Type 0

@@ -1,5 +1,6 @@
 -- What a LOOKUP finds, and what it answers.
-use Rattle.std.specs.Prelude.{◌≡◌, ◌⊎◌, ℕ, ◌<◌, ◌^◌, ◌==◌, ◌||◌, not, is_none, if◌then◌else◌, List, length, Option, None, Some, Result, Ok, Err}
+use Rattle.std.specs.Prelude.{◌≡◌, ◌⊎◌, ℕ, ◌<◌, ◌^◌, ◌==◌, ◌||◌, not, is_none, if◌then◌else◌, List, length, Option}
+use Rattle.std.specs.Prelude.{None, Some, Result, Ok, Err}
 use Rattle.words36.specs.declared.names.FileName.{FileName}
 use Rattle.blockdisk.specs.Disk.{Contents}
 use Rattle.meaning.specs.declared.code.ErrorCode.{ErrorCode}
@@ -46,7 +47,8 @@ read_answer who owner name (Some d) =
 
 -- the file that may be read has these facts, or the code is the answer's
 abbrev pub IsReadAnswer : ℕ → ℕ → FileName → Option (Directory File) → Result FileFacts ErrorCode → Type 0
-IsReadAnswer who owner name o (Ok facts) = (read_answer who owner name o ≡ Done) × ((file : File) × (named_in o name ≡ Some file) × IsShown file facts)
+IsReadAnswer who owner name o (Ok facts) = (read_answer who owner name o ≡ Done)
+    × ((file : File) × (named_in o name ≡ Some file) × IsShown file facts)
 IsReadAnswer who owner name o (Err code) = read_answer who owner name o ≡ Refused (number_of code)
 
 -- what a LOOKUP is refused by
@@ -54,7 +56,8 @@ abbrev pub IsLookupRefusal : ErrorCode → Type 0
 IsLookupRefusal code = (code ≡ NoDirectory) ⊎ ((code ≡ Protection) ⊎ (code ≡ NotFound))
 
 -- The version that is held now is the machine's at the place, and its file has these facts.
-pub record IsInputOf (contents : Contents) (live : List (Option LiveVersion)) (s : State) (job : Job) (e : ℕ) (input : Input) (facts : FileFacts) : Type 0 where
+pub record IsInputOf (contents : Contents) (live : List (Option LiveVersion)) (s : State) (job : Job)
+    (e : ℕ) (input : Input) (facts : FileFacts) : Type 0 where
   pub version : Version
   pub there : file_at s.files (place_at job e) ≡ Some version
   pub shown : IsShown version.file facts
@@ -64,6 +67,8 @@ pub record IsInputOf (contents : Contents) (live : List (Option LiveVersion)) (s
   pub body : IsVersionOf contents held version.file
 
 -- what is answered, as the machine does
-abbrev pub IsLookupAnswer : Contents → List (Option LiveVersion) → State → Job → Channel → ℕ → Result (Input × FileFacts) ErrorCode → Type 0
-IsLookupAnswer contents live s job c e (Ok found) = (lookup_answer s job c e (place_at job e) ≡ Done) × IsInputOf contents live s job e found.0 found.1
+abbrev pub IsLookupAnswer : Contents → List (Option LiveVersion) → State → Job → Channel → ℕ
+    → Result (Input × FileFacts) ErrorCode → Type 0
+IsLookupAnswer contents live s job c e (Ok found) = (lookup_answer s job c e (place_at job e) ≡ Done)
+    × IsInputOf contents live s job e found.0 found.1
 IsLookupAnswer contents live s job c e (Err code) = lookup_answer s job c e (place_at job e) ≡ Refused (number_of code)

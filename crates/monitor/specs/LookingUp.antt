@@ -27,29 +27,36 @@ looking c input = record c { status = cleared c.status; input = Some input }
 
 -- The version that core has for the input's place has one reader more; and nothing else.
 pub record IsHolding (c c' : VolumeCore) (input : Input) : Type 0 where
-  pub at : (v : LiveVersion) × (version_at c.live input.pin.key ≡ Some v) × (v.is_current ≡ true) × (prime_at c input.ppn input.file ≡ Some v.at)
-  pub pinned : (v : LiveVersion) × (version_at c.live input.pin.key ≡ Some v) × (version_at c'.live input.pin.key ≡ Some (record v { readers = v.readers + 1 }))
+  pub at : (v : LiveVersion) × (version_at c.live input.pin.key ≡ Some v) × (v.is_current ≡ true)
+      × (prime_at c input.ppn input.file ≡ Some v.at)
+  pub pinned : (v : LiveVersion) × (version_at c.live input.pin.key ≡ Some v)
+      × (version_at c'.live input.pin.key ≡ Some (record v { readers = v.readers + 1 }))
   pub others : (k : ℕ) → (k ≡ input.pin.key → ⊥) → version_at c'.live k ≡ version_at c.live k
   pub core : c' ≡ record c { live = c'.live }
 
 -- A version is held for a channel that had no output side; then the one is let go that it read before.
-pub record IsLookingUp (c held c' : VolumeCore) (job job' : Job) (number address : ℕ) (channel : Channel) (input : Input) : Type 0 where
+pub record IsLookingUp (c held c' : VolumeCore) (job job' : Job) (number address : ℕ) (channel : Channel)
+    (input : Input) : Type 0 where
   pub there : slot job.channels number ≡ Some channel
   pub free : channel.output ≡ None
   pub next : input.next ≡ 1
   pub place : (under : UnderKeys) → place_of input.ppn input.file ≡ place_at (job_of under job) address
   pub holds : IsHolding c held input
   pub closed : Closes held c' [] (pins_of (option_to_list channel.input))
-  pub job_is : job' ≡ record job { core = job'.core; channels = slice_set job.channels number (Some (looking channel input)) }
+  pub job_is : job'
+      ≡ record job { core = job'.core; channels = slice_set job.channels number (Some (looking channel input)) }
 
 -- The version that is held is the machine's at the place, and what is said of its file is put into the words.
-pub record IsFound (contents : Contents) (live : List (Option LiveVersion)) (s : State) (job job' : Job) (address : ℕ) (input : Input) : Type 0 where
+pub record IsFound (contents : Contents) (live : List (Option LiveVersion)) (s : State) (job job' : Job)
+    (address : ℕ) (input : Input) : Type 0 where
   pub version : Version
   pub there : file_at s.files (place_of input.ppn input.file) ≡ Some version
   pub held : (v : LiveVersion) × (version_at live input.pin.key ≡ Some v) × IsVersionOf contents v version.file
-  pub core : job'.core ≡ after_writes (with_attributes 1 job.core address version.file) ((address + 3, size_word (length version.file.body)) ∷ [])
+  pub core : job'.core ≡ after_writes (with_attributes 1 job.core address version.file)
+      ((address + 3, size_word (length version.file.body)) ∷ [])
 
 -- What is answered on this channel, and what every answer but Done leaves of the job.
 abbrev pub IsLookupRow : State → machine.Job → machine.Job → Option machine.Channel → ℕ → Reply → Type 0
 IsLookupRow s job job' None e reply = (reply ≡ NoChannel) × (job' ≡ job)
-IsLookupRow s job job' (Some c) e reply = (lookup_answer s job c e (place_at job e) ≡ reply) × ((reply ≡ Done → ⊥) → job' ≡ refused_at job e reply)
+IsLookupRow s job job' (Some c) e reply = (lookup_answer s job c e (place_at job e) ≡ reply)
+    × ((reply ≡ Done → ⊥) → job' ≡ refused_at job e reply)

@@ -38,10 +38,11 @@ RunsThrough pack old (event ∷ events) [] services = ⊥
 RunsThrough pack old (event ∷ events) (reply ∷ replies) [] = ⊥
 
 -- From a disk d on the events were answered so, by way of these services, and `end` is the disk after them. At each
--- moment, that before the first event and that after each of them, all that a crash may leave stands for the files after
--- the events so far; from one moment to the next a crash left these, or those after one event more where its answer is
--- one that may change files. From a fault of the disk on it is asked for nothing.
-abbrev pub RunsBy : {D : Type 0} → (D → DiskState) → Pack → D → Service → List Event → List Reply → List Service → D → Type 0
+-- moment, that before the first event and that after each of them, all that a crash may leave stands for the files
+-- after the events so far; from one moment to the next a crash left these, or those after one event more where its
+-- answer is one that may change files. From a fault of the disk on it is asked for nothing.
+abbrev pub RunsBy : {D : Type 0} → (D → DiskState) → Pack → D → Service → List Event → List Reply → List Service
+    → D → Type 0
 RunsBy state pack d Broken events replies services end = (end ≡ d) × RunsThrough pack Broken events replies services
 RunsBy state pack d (Serving s) [] [] [] end = (end ≡ d) × StandsNow pack (state d) s
 RunsBy {D} state pack d (Serving s) (event ∷ events) (reply ∷ replies) (after ∷ services) end =
@@ -64,8 +65,8 @@ read_by job ch a (Some c) = reads job ch c a
 abbrev pub read_of : machine.Job → ℕ → ℕ → Reply × machine.Job
 read_of job ch a = read_by job ch a (channel_at job ch)
 
--- A LOOKUP among the events was done, by way of the service `looked`, and so was a later IN of that job on that channel,
--- by way of `left`, and none of the job's own events between them takes the side away.
+-- A LOOKUP among the events was done, by way of the service `looked`, and so was a later IN of that job on that
+-- channel, by way of `left`, and none of the job's own events between them takes the side away.
 pub record LooksUpAndReads
     (events before between behind : List Event) (replies first second third : List Reply)
     (services one two three : List Service) (looked left : Service)
@@ -95,5 +96,6 @@ abbrev pub HoldsStill : Service → List Event → List Reply → List Service �
 HoldsStill old events replies services =
     (before between behind : List Event) (first second third : List Reply) (one two three : List Service)
     (looked left : Service) (n ch e a : ℕ) (early late : Moment)
-    → LooksUpAndReads events before between behind replies first second third services one two three looked left n ch e a early late
+    → LooksUpAndReads events before between behind replies first second third services one two three looked
+    left n ch e a early late
     → ReadsWhatWasFound (last_of old one) (last_of looked two) left n ch e a

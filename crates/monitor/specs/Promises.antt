@@ -34,16 +34,20 @@ pub record IsReady (d : DiskState) (core : VolumeCore) (failed : Bool) (job : Jo
 
 -- What a call by the job of number n promises of the volume, whose disk, core and failing are these before it and after
 -- it, and of the jobs.
-pub record IsServing {D : Type 0} (state : D → DiskState) (disk disk' : D) (core core' : VolumeCore) (failed' : Bool) (jobs jobs' : List (Option Job)) (n : ℕ) (call : Call) (moment : Moment) (reply : Reply) : Type 0 where
+pub record IsServing {D : Type 0} (state : D → DiskState) (disk disk' : D) (core core' : VolumeCore) (failed' : Bool)
+    (jobs jobs' : List (Option Job)) (n : ℕ) (call : Call) (moment : Moment) (reply : Reply) : Type 0 where
   -- Where the volume hasn't failed it knows what the jobs write and read.
   pub keyed : failed' ≡ false → AreKeyed core'.pending jobs'
   pub placed : failed' ≡ false → ArePlaced core'
   pub reading : failed' ≡ false → AreReading core'.live jobs'
   -- No other job is changed.
   pub others : (m : ℕ) → (m ≡ n → ⊥) → slot jobs' m ≡ slot jobs m
-  -- It is answered as the machine does, and leaves what the machine leaves; a crash leaves the files from before, or those.
-  pub answered : (state disk').honest → IsServed call (slot jobs n) → (old : Service) → Serves (state disk) core false jobs old
-      → (new : Service) × Serves (state disk') core' failed' jobs' new × Answers (pack_of (state disk)) old (Calls n call moment) reply new
+  -- It is answered as the machine does, and leaves what the machine leaves; a crash leaves the files from before, or
+  -- those.
+  pub answered : (state disk').honest → IsServed call (slot jobs n) → (old : Service)
+      → Serves (state disk) core false jobs old
+      → (new : Service) × Serves (state disk') core' failed' jobs' new
+      × Answers (pack_of (state disk)) old (Calls n call moment) reply new
   pub crash : CallCrashes (state disk) (state disk') core jobs n call moment
   -- Which answers, and which calls, leave the disk and the rest alone, on every disk.
   pub idle : IsIdle reply → disk' ≡ disk
@@ -61,11 +65,14 @@ pub record IsServing {D : Type 0} (state : D → DiskState) (disk disk' : D) (co
   pub same : SameDisk (state disk) (state disk')
 
 -- The same said of the job alone, among whichever jobs it stands.
-abbrev pub ServesJob : {D : Type 0} → (D → DiskState) → (disk disk' : D) → (core core' : VolumeCore) → (failed' : Bool) → (job job' : Job) → Call → Moment → Reply → Type 0
+abbrev pub ServesJob : {D : Type 0} → (D → DiskState) → (disk disk' : D) → (core core' : VolumeCore) → (failed' : Bool)
+    → (job job' : Job) → Call → Moment → Reply → Type 0
 ServesJob state disk disk' core core' failed' job job' call moment reply =
-    (jobs : List (Option Job)) (n : ℕ) → IsAmong core jobs n job → IsServing state disk disk' core core' failed' jobs (slice_set jobs n (Some job')) n call moment reply
+    (jobs : List (Option Job)) (n : ℕ) → IsAmong core jobs n job
+    → IsServing state disk disk' core core' failed' jobs (slice_set jobs n (Some job')) n call moment reply
 
 -- at any moment that the disk can hold
-abbrev pub ServesAlways : {D : Type 0} → (D → DiskState) → (disk disk' : D) → (core core' : VolumeCore) → (failed' : Bool) → (job job' : Job) → Call → Reply → Type 0
+abbrev pub ServesAlways : {D : Type 0} → (D → DiskState) → (disk disk' : D) → (core core' : VolumeCore)
+    → (failed' : Bool) → (job job' : Job) → Call → Reply → Type 0
 ServesAlways state disk disk' core core' failed' job job' call reply =
     (moment : Moment) → moment.date ≤ 4095 → ServesJob state disk disk' core core' failed' job job' call moment reply

@@ -13,7 +13,8 @@ use Rattle.meaning.specs.Step.{step}
 use Rattle.meaning.specs.declared.call.Call.{Call}
 use Rattle.meaning.specs.declared.call.Event.TheVariants.{Call as Calls}
 use Rattle.meaning.specs.declared.call.Reply.{Reply}
-use Rattle.meaning.specs.declared.call.Reply.TheVariants.{Done, Value, Refused, Stopped, NoChannel, AddressCheck, NoJob, NoMemory, Device, Failed, DateRange}
+use Rattle.meaning.specs.declared.call.Reply.TheVariants.{Done, Value, Refused, Stopped, NoChannel, AddressCheck, NoJob}
+use Rattle.meaning.specs.declared.call.Reply.TheVariants.{NoMemory, Device, Failed, DateRange}
 use Rattle.volume.specs.Live.{VolumeCore, slot, pending_at}
 use Rattle.volume.specs.Publishing.{IsPublishedCore, file_of, files_published}
 use Rattle.volume.specs.Rest.{RestsAt, StandsForEither, KeepsRead, KeepsWritten}
@@ -25,26 +26,31 @@ use Rattle.monitor.specs.declared.job.Job.{Job}
 -- Whatever the answer.
 pub record MayPublish (d d' : DiskState) (c c' : VolumeCore) (key : ℕ) : Type 0 where
   -- a crash leaves the files from before, or those with the version whole
-  pub crash : d'.honest → (f : Files File) → RestsAt d f → (p : PendingVersion) → pending_at c.pending key ≡ Some p → (body : List ℕ) → length body ≡ p.version.words → HasBody d.contents p.version.blocks body
+  pub crash : d'.honest → (f : Files File) → RestsAt d f → (p : PendingVersion) → pending_at c.pending key ≡ Some p
+      → (body : List ℕ) → length body ≡ p.version.words → HasBody d.contents p.version.blocks body
       → LeavesOnly d d' (StandsForEither d.size f (files_published f p.prime.ppn p.prime.file (file_of p.prime body)))
   -- all other versions stay
   pub others : (k : ℕ) → (k ≡ key → ⊥) → pending_at c'.pending k ≡ pending_at c.pending k
-  pub held : (k : ℕ) (v : LiveVersion) → slot c.live k ≡ Some v → 0 < v.readers → (b : Bool) × (slot c'.live k ≡ Some (record v { is_current = b }))
+  pub held : (k : ℕ) (v : LiveVersion) → slot c.live k ≡ Some v → 0 < v.readers
+      → (b : Bool) × (slot c'.live k ≡ Some (record v { is_current = b }))
   pub same : SameDisk d d'
 
 -- It is done.
 pub record HasPublished (d d' : DiskState) (c c' : VolumeCore) (key : ℕ) : Type 0 where
-  pub files : d'.honest → (f : Files File) → RestsAt d f → (p : PendingVersion) → pending_at c.pending key ≡ Some p → (body : List ℕ) → length body ≡ p.version.words → HasBody d.contents p.version.blocks body
+  pub files : d'.honest → (f : Files File) → RestsAt d f → (p : PendingVersion) → pending_at c.pending key ≡ Some p
+      → (body : List ℕ) → length body ≡ p.version.words → HasBody d.contents p.version.blocks body
       → RestsAt d' (files_published f p.prime.ppn p.prime.file (file_of p.prime body))
   -- the blocks of all other versions stay
   pub readers : d'.honest → KeepsRead d.contents d'.contents c
   pub writers : d'.honest → KeepsWritten d.contents d'.contents c key
-  pub core : (p : PendingVersion) → pending_at c.pending key ≡ Some p → IsPublishedCore d.size c c' key p p.version.words
+  pub core : (p : PendingVersion) → pending_at c.pending key ≡ Some p
+      → IsPublishedCore d.size c c' key p p.version.words
   pub gone : pending_at c'.pending key ≡ None
 
 -- What each answer says of the volume, and of how often the disk has failed; it is no other.
 abbrev pub IsPublishing : (d d' : DiskState) (c c' : VolumeCore) (failed failed' : Bool) (key : ℕ) → Reply → Type 0
-IsPublishing d d' c c' failed failed' key Done = HasPublished d d' c c' key × (failed ≡ false) × (failed' ≡ false) × (d'.failures ≡ d.failures)
+IsPublishing d d' c c' failed failed' key Done = HasPublished d d' c c' key × (failed ≡ false) × (failed' ≡ false)
+    × (d'.failures ≡ d.failures)
 IsPublishing d d' c c' failed failed' key (Value word) = ⊥
 IsPublishing d d' c c' failed failed' key (Refused code) = ⊥
 IsPublishing d d' c c' failed failed' key (Stopped status) = ⊥
@@ -52,24 +58,34 @@ IsPublishing d d' c c' failed failed' key NoChannel = ⊥
 IsPublishing d d' c c' failed failed' key AddressCheck = ⊥
 IsPublishing d d' c c' failed failed' key NoJob = ⊥
 IsPublishing d d' c c' failed failed' key NoMemory = (failed ≡ false) × (failed' ≡ false)
-IsPublishing d d' c c' failed failed' key Device = (failed ≡ false) × (failed' ≡ true) × (d'.failures ≡ one_more d.failures)
-IsPublishing d d' c c' failed failed' key Failed = ((failed ≡ true) ⊎ (d'.honest → ⊥)) × (failed' ≡ true) × (d'.failures ≡ d.failures)
+IsPublishing d d' c c' failed failed' key Device = (failed ≡ false) × (failed' ≡ true)
+    × (d'.failures ≡ one_more d.failures)
+IsPublishing d d' c c' failed failed' key Failed = ((failed ≡ true) ⊎ (d'.honest → ⊥)) × (failed' ≡ true)
+    × (d'.failures ≡ d.failures)
 IsPublishing d d' c c' failed failed' key DateRange = ⊥
 
 -- What the caller has become, and what is answered, are of the machine's row; whichever job made the call.
 abbrev pub IsPublishRow : (d d' : DiskState) (c c' : VolumeCore) (failed' : Bool) → Job → Job → Call → Reply → Type 0
 IsPublishRow d d' c c' failed' job job' call reply =
-    d'.honest → ArePlaced c → (jobs : List (Option Job)) (n : ℕ) (moment : Moment) → machine.slot jobs n ≡ Some job → moment.date ≤ 4095 → (s : State) → IsState d c jobs s
-    → (new : Service) × Serves d' c' failed' (slice_set jobs n (Some job')) new × Answers (pack_of d) (Serving s) (Calls n call moment) reply new
+    d'.honest → ArePlaced c → (jobs : List (Option Job)) (n : ℕ) (moment : Moment) → machine.slot jobs n ≡ Some job
+    → moment.date ≤ 4095 → (s : State) → IsState d c jobs s
+    → (new : Service) × Serves d' c' failed' (slice_set jobs n (Some job')) new
+    × Answers (pack_of d) (Serving s) (Calls n call moment) reply new
 
 -- A crash leaves the files from before, or those of the machine's row.
 abbrev pub CrashesAsRow : (d d' : DiskState) (c : VolumeCore) → Job → Call → Type 0
 CrashesAsRow d d' c job call =
-    d'.honest → (jobs : List (Option Job)) (n : ℕ) (moment : Moment) → machine.slot jobs n ≡ Some job → moment.date ≤ 4095 → (s : State) → IsState d c jobs s
-    → LeavesOnly d d' (λ contents. Stands d.size contents (without_serials s.files) ⊎ ((serial : ℕ) × Stands d.size contents (without_serials ((step (pack_of d) serial s (Calls n call moment)).1.files))))
+    d'.honest → (jobs : List (Option Job)) (n : ℕ) (moment : Moment) → machine.slot jobs n ≡ Some job
+    → moment.date ≤ 4095 → (s : State) → IsState d c jobs s
+    → LeavesOnly d d' (λ contents. Stands d.size contents (without_serials s.files)
+    ⊎ ((serial : ℕ)
+    × Stands d.size contents (without_serials ((step (pack_of d) serial s (Calls n call moment)).1.files))))
 
--- Where the volume hasn't failed, the sides of all jobs are still those of the versions that are being written and read, and each that is written may be published.
+-- Where the volume hasn't failed, the sides of all jobs are still those of the versions that are being written and
+-- read, and each that is written may be published.
 abbrev pub StillStands : (c c' : VolumeCore) (failed' : Bool) → Job → Job → Type 0
 StillStands c c' failed' job job' =
-    (jobs : List (Option Job)) (n : ℕ) → machine.slot jobs n ≡ Some job → AreKeyed c.pending jobs → ArePlaced c → AreReading c.live jobs → failed' ≡ false
-    → AreKeyed c'.pending (slice_set jobs n (Some job')) × ArePlaced c' × AreReading c'.live (slice_set jobs n (Some job'))
+    (jobs : List (Option Job)) (n : ℕ) → machine.slot jobs n ≡ Some job → AreKeyed c.pending jobs → ArePlaced c
+    → AreReading c.live jobs → failed' ≡ false
+    → AreKeyed c'.pending (slice_set jobs n (Some job')) × ArePlaced c'
+    × AreReading c'.live (slice_set jobs n (Some job'))

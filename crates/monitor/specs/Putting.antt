@@ -8,7 +8,8 @@ use Rattle.meaning.specs.Jobs.{slot, cleared, block_too_large}
 use Rattle.meaning.specs.Retrieval.{HasBody, most_blocks}
 use Rattle.meaning.specs.Splices.{splice, length_after}
 use Rattle.meaning.specs.declared.call.Reply.{Reply}
-use Rattle.meaning.specs.declared.call.Reply.TheVariants.{Done, Value, Refused, Stopped, NoChannel, AddressCheck, NoJob, NoMemory, Device, Failed, DateRange}
+use Rattle.meaning.specs.declared.call.Reply.TheVariants.{Done, Value, Refused, Stopped, NoChannel, AddressCheck, NoJob}
+use Rattle.meaning.specs.declared.call.Reply.TheVariants.{NoMemory, Device, Failed, DateRange}
 use Rattle.alloctab.specs.TableState.{space}
 use Rattle.retrieval.specs.Versions.{VersionState}
 use Rattle.volume.specs.Live.{VolumeCore, pending_at}
@@ -29,7 +30,8 @@ moved c o count = record c { status = cleared c.status; output = Some (record o 
 abbrev pub FindsNone : ℕ → VolumeCore → PendingVersion → ℕ → ℕ → Type 0
 FindsNone size c p block count =
     (0 < count) × ((most_blocks * 128 < length_after p.version.words block count)
-    ⊎ (space size < c.known.table.booked + (version_cost (length_after p.version.words block count) - version_cost p.version.words)))
+    ⊎ (space size < c.known.table.booked + (version_cost (length_after p.version.words block count)
+    - version_cost p.version.words)))
 
 -- An open channel with an output side, and the words that an OUT finds for it.
 pub record Outgoing (job : Job) (number a : ℕ) : Type 0 where
@@ -46,7 +48,8 @@ pub record Puts (d d' : DiskState) (c c' : VolumeCore) (o : Output) (words : Lis
   pub version : VersionState
   pub here : pending_at c'.pending o.pending.key ≡ Some (record p { version = version })
   pub length_is : version.words ≡ length_after p.version.words o.next (length words)
-  pub body : d'.honest → (body : List ℕ) → length body ≡ p.version.words → HasBody d.contents p.version.blocks body → HasBody d'.contents version.blocks (splice body o.next words)
+  pub body : d'.honest → (body : List ℕ) → length body ≡ p.version.words → HasBody d.contents p.version.blocks body
+      → HasBody d'.contents version.blocks (splice body o.next words)
 
 -- The same, where the words themselves were not gathered.
 pub record HasOutgoing (job : Job) (number a : ℕ) : Type 0 where
@@ -69,14 +72,20 @@ IsOther (Some c) key = IsOtherSide c.output key
 -- What an OUT does to its job and to the version, by its answer; `same` says that disk and volume are as they were.
 abbrev pub IsOut : DiskState → DiskState → VolumeCore → VolumeCore → Type 0 → Job → Job → ℕ → ℕ → Reply → Type 0
 IsOut d d' c c' same job job' number a Done =
-    (out : Outgoing job number a) × (job' ≡ record job { channels = slice_set job.channels number (Some (moved out.channel out.output (length out.words))) })
-    × ((p : PendingVersion) → pending_at c.pending out.output.pending.key ≡ Some p → Puts d d' c c' out.output out.words p)
+    (out : Outgoing job number a) × (job'
+    ≡ record job { channels = slice_set job.channels number (Some (moved out.channel out.output (length out.words))) })
+    × ((p : PendingVersion) → pending_at c.pending out.output.pending.key ≡ Some p
+    → Puts d d' c c' out.output out.words p)
 IsOut d d' c c' same job job' number a (Stopped status) =
-    (out : Outgoing job number a) × (status ≡ cleared out.channel.status + block_too_large) × (job' ≡ record job { channels = slice_set job.channels number (Some (record out.channel { status = status })) })
-    × ((p : PendingVersion) → pending_at c.pending out.output.pending.key ≡ Some p → FindsNone d.size c p out.output.next (length out.words)) × same
-IsOut d d' c c' same job job' number a (Refused code) = (code ≡ 5) × (job' ≡ job) × same × (c : Channel) × (slot job.channels number ≡ Some c) × (c.output ≡ None)
+    (out : Outgoing job number a) × (status ≡ cleared out.channel.status + block_too_large)
+    × (job' ≡ record job { channels = slice_set job.channels number (Some (record out.channel { status = status })) })
+    × ((p : PendingVersion) → pending_at c.pending out.output.pending.key ≡ Some p
+    → FindsNone d.size c p out.output.next (length out.words)) × same
+IsOut d d' c c' same job job' number a (Refused code) = (code ≡ 5) × (job' ≡ job) × same × (c : Channel)
+    × (slot job.channels number ≡ Some c) × (c.output ≡ None)
 IsOut d d' c c' same job job' number a NoChannel = (job' ≡ job) × same × (slot job.channels number ≡ None)
-IsOut d d' c c' same job job' number a AddressCheck = (job' ≡ job) × same × (dump_list job.core a ≡ None) × (c : Channel) × (o : Output) × (slot job.channels number ≡ Some c) × (c.output ≡ Some o)
+IsOut d d' c c' same job job' number a AddressCheck = (job' ≡ job) × same × (dump_list job.core a ≡ None)
+    × (c : Channel) × (o : Output) × (slot job.channels number ≡ Some c) × (c.output ≡ Some o)
 IsOut d d' c c' same job job' number a NoMemory = (job' ≡ job) × same × HasOutgoing job number a
 IsOut d d' c c' same job job' number a Device = (job' ≡ job) × HasOutgoing job number a
 IsOut d d' c c' same job job' number a Failed = d'.honest → ⊥

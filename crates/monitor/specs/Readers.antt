@@ -25,28 +25,35 @@ ArePinned live pins = (key : ℕ) → times key pins ≡ readers_of (slot live k
 -- What readers hold, as the machine has it under each key: `now` are the versions that files have.
 pub record AreBooked (live : List (Option LiveVersion)) (now : List Version) (read : ℕ → Version) : Type 0 where
   -- a version that is read costs in the machine what it costs in core
-  pub cost : (key : ℕ) (v : LiveVersion) → slot live key ≡ Some v → 0 < v.readers → version_cost (length (read key).file.body) ≡ cost_of_blocks (length v.version.blocks)
+  pub cost : (key : ℕ) (v : LiveVersion) → slot live key ≡ Some v → 0 < v.readers
+      → version_cost (length (read key).file.body) ≡ cost_of_blocks (length v.version.blocks)
   -- one that is current is that of a file, and another one isn't
-  pub current : (key : ℕ) (v : LiveVersion) → slot live key ≡ Some v → 0 < v.readers → has_serial (read key).serial now ≡ v.is_current
+  pub current : (key : ℕ) (v : LiveVersion) → slot live key ≡ Some v → 0 < v.readers
+      → has_serial (read key).serial now ≡ v.is_current
   -- a version that nobody reads is current
   pub unread : (key : ℕ) (v : LiveVersion) → slot live key ≡ Some v → v.is_current ≡ false → 0 < v.readers
   -- two versions that are read have two serials
-  pub apart : (key other : ℕ) (v w : LiveVersion) → slot live key ≡ Some v → slot live other ≡ Some w → 0 < v.readers → 0 < w.readers → (read key).serial ≡ (read other).serial → key ≡ other
+  pub apart : (key other : ℕ) (v w : LiveVersion) → slot live key ≡ Some v → slot live other ≡ Some w → 0 < v.readers
+      → 0 < w.readers → (read key).serial ≡ (read other).serial → key ≡ other
   -- a file's version of the same serial has as many words
-  pub alike : (key : ℕ) (v : LiveVersion) → slot live key ≡ Some v → 0 < v.readers → AllByRecursion (λ x. x.serial ≡ (read key).serial → length x.file.body ≡ length (read key).file.body) now
+  pub alike : (key : ℕ) (v : LiveVersion) → slot live key ≡ Some v → 0 < v.readers
+      → AllByRecursion (λ x. x.serial ≡ (read key).serial → length x.file.body ≡ length (read key).file.body) now
 
 -- A version that is read, as the machine has it: the file of its place while it is current, and else none.
-pub record IsRead (d : DiskState) (c : VolumeCore) (files : Files Version) (v : LiveVersion) (x : Version) : Type 0 where
+pub record IsRead (d : DiskState) (c : VolumeCore) (files : Files Version) (v : LiveVersion)
+    (x : Version) : Type 0 where
   -- its blocks have the words that its readers find
   pub version : IsVersionOf d.contents v x.file
-  pub current : v.is_current ≡ true → (place : Place) × (prime_at c place.ppn place.name ≡ Some v.at) × (file_at files place ≡ Some x)
+  pub current : v.is_current ≡ true → (place : Place) × (prime_at c place.ppn place.name ≡ Some v.at)
+      × (file_at files place ≡ Some x)
   pub past : v.is_current ≡ false → has_serial x.serial (flat_map (λ d. values d.files) (values files)) ≡ false
 
 -- All of them, under their keys; two of them have two serials, and what nobody reads is current.
 pub record AreRead (d : DiskState) (c : VolumeCore) (files : Files Version) (read : ℕ → Version) : Type 0 where
   pub each : (key : ℕ) (v : LiveVersion) → slot c.live key ≡ Some v → 0 < v.readers → IsRead d c files v (read key)
   pub unread : (key : ℕ) (v : LiveVersion) → slot c.live key ≡ Some v → v.is_current ≡ false → 0 < v.readers
-  pub apart : (key other : ℕ) (v w : LiveVersion) → slot c.live key ≡ Some v → slot c.live other ≡ Some w → 0 < v.readers → 0 < w.readers → (read key).serial ≡ (read other).serial → key ≡ other
+  pub apart : (key other : ℕ) (v w : LiveVersion) → slot c.live key ≡ Some v → slot c.live other ≡ Some w
+      → 0 < v.readers → 0 < w.readers → (read key).serial ≡ (read other).serial → key ≡ other
 
 -- A rename leaves a version its serial and its words, but not its protection: so readers of one version may hold it
 -- with different ones.

@@ -9,7 +9,8 @@ use Rattle.meaning.specs.Retrieval.{HasBody}
 use Rattle.meaning.specs.Splices.{words_from}
 use Rattle.meaning.specs.declared.area.Area.{Area}
 use Rattle.meaning.specs.declared.call.Reply.{Reply}
-use Rattle.meaning.specs.declared.call.Reply.TheVariants.{Done, Value, Refused, Stopped, NoChannel, AddressCheck, NoJob, NoMemory, Device, Failed, DateRange}
+use Rattle.meaning.specs.declared.call.Reply.TheVariants.{Done, Value, Refused, Stopped, NoChannel, AddressCheck, NoJob}
+use Rattle.meaning.specs.declared.call.Reply.TheVariants.{NoMemory, Device, Failed, DateRange}
 use Rattle.volume.specs.Live.{VolumeCore}
 use Rattle.volume.specs.Live.{slot as version_at}
 use Rattle.volume.specs.declared.live.LiveVersion.{LiveVersion}
@@ -35,27 +36,40 @@ pub record Ingoing (job : Job) (number a : ℕ) : Type 0 where
   pub listed : dump_list job.core a ≡ Some areas
 
 -- So many words are moved from the side's next block on into these areas of a core, which is then another one.
-pub record Moves (d d' : DiskState) (c : VolumeCore) (core core' : List ℕ) (i : Input) (areas : List Area) (count : ℕ) : Type 0 where
+pub record Moves (d d' : DiskState) (c : VolumeCore) (core core' : List ℕ) (i : Input) (areas : List Area)
+    (count : ℕ) : Type 0 where
   -- a list that names words moves some
   pub some : count ≡ 0 → areas ≡ []
-  pub many : (v : LiveVersion) → version_at c.live i.pin.key ≡ Some v → (body : List ℕ) → length body ≡ v.version.words → count ≡ min (word_count areas) (length (words_from body i.next))
-  pub words : d'.honest → (v : LiveVersion) → version_at c.live i.pin.key ≡ Some v → (body : List ℕ) → length body ≡ v.version.words → HasBody d.contents v.version.blocks body
+  pub many : (v : LiveVersion) → version_at c.live i.pin.key ≡ Some v → (body : List ℕ) → length body ≡ v.version.words
+      → count ≡ min (word_count areas) (length (words_from body i.next))
+  pub words : d'.honest → (v : LiveVersion) → version_at c.live i.pin.key ≡ Some v → (body : List ℕ)
+      → length body ≡ v.version.words → HasBody d.contents v.version.blocks body
       → core' ≡ after_writes core (dealt areas (words_from body i.next))
 
 -- The body ends before the side's next block, and the areas have words.
 abbrev pub EndsBefore : VolumeCore → Input → List Area → Type 0
 EndsBefore c i areas =
-    (v : LiveVersion) → version_at c.live i.pin.key ≡ Some v → (body : List ℕ) → length body ≡ v.version.words → (areas ≡ [] → ⊥) × (words_from body i.next ≡ [])
+    (v : LiveVersion) → version_at c.live i.pin.key ≡ Some v → (body : List ℕ) → length body ≡ v.version.words
+    → (areas ≡ [] → ⊥) × (words_from body i.next ≡ [])
 
 -- What an IN does to its job, by its answer, and by the disk before it and after it.
 abbrev pub IsIn : DiskState → DiskState → VolumeCore → Job → Job → ℕ → ℕ → Reply → Type 0
 IsIn d d' c job job' number a Done =
-    (read : Ingoing job number a) × (count : ℕ) × (core : List ℕ) × (job' ≡ record job { core = core; channels = slice_set job.channels number (Some (read_on read.at.channel read.at.input count)) })
+    (read : Ingoing job number a) × (count : ℕ) × (core : List ℕ)
+    × (job' ≡ record job {
+      core = core;
+      channels = slice_set job.channels number (Some (read_on read.at.channel read.at.input count));
+    })
     × Moves d d' c job.core core read.at.input read.areas count
 IsIn d d' c job job' number a (Stopped status) =
-    (read : Ingoing job number a) × (status ≡ cleared read.at.channel.status + end_of_file) × (job' ≡ record job { channels = slice_set job.channels number (Some (record read.at.channel { status = status })) })
+    (read : Ingoing job number a) × (status ≡ cleared read.at.channel.status + end_of_file)
+    × (job' ≡ record job {
+      channels = slice_set job.channels number
+          (Some (record read.at.channel { status = status }));
+    })
     × EndsBefore c read.at.input read.areas
-IsIn d d' c job job' number a (Refused code) = (job' ≡ job) × (code ≡ 5) × (c : Channel) × (slot job.channels number ≡ Some c) × (c.input ≡ None)
+IsIn d d' c job job' number a (Refused code) = (job' ≡ job) × (code ≡ 5) × (c : Channel)
+    × (slot job.channels number ≡ Some c) × (c.input ≡ None)
 IsIn d d' c job job' number a NoChannel = (job' ≡ job) × (slot job.channels number ≡ None)
 IsIn d d' c job job' number a AddressCheck = (job' ≡ job) × IsAtInput job number × (dump_list job.core a ≡ None)
 IsIn d d' c job job' number a NoMemory = (job' ≡ job) × Ingoing job number a

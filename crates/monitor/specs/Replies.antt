@@ -2,7 +2,8 @@
 use Rattle.std.specs.Prelude.{◌≡◌, ◌⊎◌, ℕ, nat_lt, if◌then◌else◌, length, Option, None, Some, slice_index}
 use Rattle.monitor.specs.declared.job.Job.{Job}
 use Rattle.meaning.specs.declared.call.Reply.{Reply}
-use Rattle.meaning.specs.declared.call.Reply.TheVariants.{Done, Value, Refused, Stopped, NoChannel, AddressCheck, NoJob, NoMemory, Device, Failed, DateRange}
+use Rattle.meaning.specs.declared.call.Reply.TheVariants.{Done, Value, Refused, Stopped, NoChannel, AddressCheck, NoJob}
+use Rattle.meaning.specs.declared.call.Reply.TheVariants.{NoMemory, Device, Failed, DateRange}
 
 -- what a list is refused by: there is no such directory, or it may not be listed; the device is never blamed
 abbrev pub IsListRefusal : Reply → Type 0
@@ -35,4 +36,5 @@ deposit_of address (Some job) = if nat_lt address (length job.core) then Done el
 -- a word of it that is asked for
 abbrev pub examine_of : ℕ → Option Job → Reply
 examine_of address None = NoJob
-examine_of address (Some job) = if nat_lt address (length job.core) then Value (slice_index job.core address) else AddressCheck
+examine_of address (Some job) = if nat_lt address (length job.core) then Value (slice_index job.core address)
+    else AddressCheck

@@ -1,5 +1,6 @@
 -- What a call does to the job that makes it, as the machine's row has it.
-use Rattle.std.specs.Prelude.{◌≡◌, ◌⊎◌, ℕ, ◌+◌, ◌==◌, ◌||◌, ◌&&◌, not, is_some, IsSome, false, nat_le, Bool, if◌then◌else◌, List, Option, None, Some}
+use Rattle.std.specs.Prelude.{◌≡◌, ◌⊎◌, ℕ, ◌+◌, ◌==◌, ◌||◌, ◌&&◌, not, is_some, IsSome, false, nat_le, Bool}
+use Rattle.std.specs.Prelude.{if◌then◌else◌, List, Option, None, Some}
 use Rattle.std.specs.List.{AllByRecursion}
 use Rattle.words36.specs.declared.moment.Moment.{Moment}
 use Rattle.meaning.specs.Cores.{lies_outside, with_right}
@@ -26,7 +27,8 @@ use Rattle.monitor.specs.declared.job.Job.{Job}
 -- The job is this one after the call, with this answer, whatever is written and read; and nothing else changes.
 abbrev pub IsRow : Job → Job → Call → Reply → Type 0
 IsRow job job' call reply =
-    (pack : Pack) (serial : ℕ) (s : State) (n : ℕ) (under : UnderKeys) (moment : Moment) → job_at s n ≡ Some (job_of under job)
+    (pack : Pack) (serial : ℕ) (s : State) (n : ℕ) (under : UnderKeys) (moment : Moment)
+    → job_at s n ≡ Some (job_of under job)
     → call_of pack serial s n (job_of under job) call moment ≡ (reply, with_job s n (job_of under job'))
 
 -- a version that was not there, or is new in its directory as it was
@@ -35,13 +37,16 @@ IsOldOrNew was p = (was ≡ None) ⊎ ((q : PendingVersion) × (was ≡ Some q) 
 
 -- Versions come and go with the output sides of a job.
 pub record Keeps (pending pending' : List (Option PendingVersion)) (job job' : Job) : Type 0 where
-  pub once : (key : ℕ) → present (pending_at pending' key) + times key (keys_of (sides_in (Some job))) ≡ present (pending_at pending key) + times key (keys_of (sides_in (Some job')))
+  pub once : (key : ℕ) → present (pending_at pending' key) + times key (keys_of (sides_in (Some job)))
+      ≡ present (pending_at pending key) + times key (keys_of (sides_in (Some job')))
   pub known : (key : ℕ) (p : PendingVersion) → pending_at pending' key ≡ Some p → IsOldOrNew (pending_at pending key) p
-  pub each : AllByRecursion (IsSide pending') (sides_in (Some job)) → AllByRecursion (IsSide pending') (sides_in (Some job'))
+  pub each : AllByRecursion (IsSide pending') (sides_in (Some job))
+      → AllByRecursion (IsSide pending') (sides_in (Some job'))
 
 -- Versions are held and let go with the input sides of a job, which stay as they should be.
 pub record KeepsReading (live live' : List (Option LiveVersion)) (job job' : Job) : Type 0 where
-  pub once : (key : ℕ) → readers_of (slot live' key) + times key (pins_of (readers_in (Some job))) ≡ readers_of (slot live key) + times key (pins_of (readers_in (Some job')))
+  pub once : (key : ℕ) → readers_of (slot live' key) + times key (pins_of (readers_in (Some job)))
+      ≡ readers_of (slot live key) + times key (pins_of (readers_in (Some job')))
   pub each : HasReaders job → HasReaders job'
 
 -- OPEN.
@@ -52,7 +57,13 @@ improper_at core a = not (device_at core a == disk) || not (is_mode (mode_at cor
 
 -- the channel that is opened
 abbrev pub opened_at : List ℕ → ℕ → Channel
-opened_at core a = record { input_header = input_header_at core a; output_header = output_header_at core a; status = mode_at core a; input = None; output = None }
+opened_at core a = record {
+  input_header = input_header_at core a;
+  output_header = output_header_at core a;
+  status = mode_at core a;
+  input = None;
+  output = None;
+}
 
 -- CLOSE.
 

@@ -18,12 +18,14 @@ use Rattle.volume.specs.Live.{VolumeCore}
 use Rattle.volume.specs.Rest.{StandsLikeBefore}
 use Rattle.monitor.specs.Serving.{Serves}
 use Rattle.meaning.specs.declared.call.Call.{Call}
-use Rattle.meaning.specs.declared.call.Call.TheVariants.{Open, Inbuf, Outbuf, Lookup, Enter, Rename, In, Out, Useti, Useto, Close, Releas, Getsts, Reset, MakeDir, DeleteDir}
+use Rattle.meaning.specs.declared.call.Call.TheVariants.{Open, Inbuf, Outbuf, Lookup, Enter, Rename, In, Out, Useti}
+use Rattle.meaning.specs.declared.call.Call.TheVariants.{Useto, Close, Releas, Getsts, Reset, MakeDir, DeleteDir}
 use Rattle.monitor.specs.declared.job.Job.{Job}
 use Rattle.meaning.specs.declared.call.Event.{Event}
 use Rattle.meaning.specs.declared.call.Event.TheVariants.{Login, Deposit, Examine, Call as Calls}
 
--- Events that are served: no OPEN in a mode with buffers, no ENTER and no RENAME on a channel that reads, and no DeleteDir.
+-- Events that are served: no OPEN in a mode with buffers, no ENTER and no RENAME on a channel that reads, and no
+-- DeleteDir.
 
 abbrev pub IsUnbufferedBy : ℕ → Option machine.Job → Type 0
 IsUnbufferedBy address None = Unit {0}
@@ -76,7 +78,8 @@ abbrev pub AreServed : Pack → Service → List Event → List Reply → Type 0
 AreServed pack service [] replies = Unit {0}
 AreServed pack service (event ∷ events) [] = Unit {0}
 AreServed pack service (event ∷ events) (reply ∷ replies) =
-    IsServedIn service event × ((mid : Service) → Answers pack service event reply mid → AreServed pack mid events replies)
+    IsServedIn service event × ((mid : Service) → Answers pack service event reply mid
+    → AreServed pack mid events replies)
 
 -- A fault of the disk among the replies.
 
@@ -113,8 +116,8 @@ pub record Resumes (d : DiskState) (t : ℕ) (e : DiskState) : Type 0 where
   pub size : e.size ≡ d.size
   pub left : (c : Contents) → MayLeave e c → d.left_since t c
 
--- What each start ensures of its disk, from its beginning to its end: a crash at any moment of it leaves what stands for
--- whatever something stood for that a crash could leave at its beginning.
+-- What each start ensures of its disk, from its beginning to its end: a crash at any moment of it leaves what stands
+-- for whatever something stood for that a crash could leave at its beginning.
 abbrev pub HasStarted : DiskState → DiskState → Type 0
 HasStarted begun ended = LeavesOnly begun ended (StandsLikeBefore begun)
 

@@ -63,7 +63,8 @@ pub record AreReading (live : List (Option LiveVersion)) (jobs : List (Option Jo
 -- A version that is being written may be published under its name, in its directory; and no other one has its place.
 pub record ArePlaced (c : VolumeCore) : Type 0 where
   pub each : (key : ℕ) (p : PendingVersion) → pending_at c.pending key ≡ Some p → IsPlaced c p
-  pub single : (k key : ℕ) (p q : PendingVersion) → pending_at c.pending k ≡ Some p → pending_at c.pending key ≡ Some q → p.prime.ppn ≡ q.prime.ppn → p.prime.file ≡ q.prime.file → k ≡ key
+  pub single : (k key : ℕ) (p q : PendingVersion) → pending_at c.pending k ≡ Some p → pending_at c.pending key ≡ Some q
+      → p.prime.ppn ≡ q.prime.ppn → p.prime.file ≡ q.prime.file → k ≡ key
 
 -- What the disk has of it.
 
@@ -84,9 +85,11 @@ pub record IsState (d : DiskState) (map : VolumeCore) (jobs : List (Option Job))
   pub files : RestsAt d (without_serials s.files)
   pub serials : AreDistinct (current s)
   pub under : UnderKeys
-  pub versions : (key : ℕ) (p : PendingVersion) → pending_at map.pending key ≡ Some p → IsWriting d p (under.written key)
+  pub versions : (key : ℕ) (p : PendingVersion) → pending_at map.pending key ≡ Some p
+      → IsWriting d p (under.written key)
   -- a name that is being created is absent
-  pub absent : (key : ℕ) (p : PendingVersion) → pending_at map.pending key ≡ Some p → p.is_new ≡ true → file_at s.files (under.written key).place ≡ None
+  pub absent : (key : ℕ) (p : PendingVersion) → pending_at map.pending key ≡ Some p → p.is_new ≡ true
+      → file_at s.files (under.written key).place ≡ None
   pub keyed : AreKeyed map.pending jobs
   pub read : AreRead d map s.files under.read
   pub reading : AreReading map.live jobs

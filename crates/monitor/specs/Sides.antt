@@ -1,5 +1,6 @@
 -- The sides of jobs' channels, and the records of the file machine that jobs stand for.
-use Rattle.std.specs.Prelude.{ℕ, List, [], map, flat_map, filter_map, replicate, Option, None, Some, option_map, slice_set}
+use Rattle.std.specs.Prelude.{ℕ, List, [], map, flat_map, filter_map, replicate, Option, None, Some, option_map}
+use Rattle.std.specs.Prelude.{slice_set}
 use Rattle.meaning.specs.Cores.{first_free, rings_begin, with_right}
 use Rattle.meaning.specs.Files.{File, Files, Place}
 use Rattle.meaning.specs.Jobs as machine
@@ -69,7 +70,12 @@ kind_of Create = machine.Create
 kind_of Supersede = machine.Supersede
 
 abbrev pub output_of : UnderKeys → Output → machine.Output
-output_of under o = record { place = (under.written o.pending.key).place; kind = kind_of o.kind; pending = (under.written o.pending.key).file; next = o.next }
+output_of under o = record {
+  place = (under.written o.pending.key).place;
+  kind = kind_of o.kind;
+  pending = (under.written o.pending.key).file;
+  next = o.next;
+}
 
 abbrev pub input_of : UnderKeys → Input → machine.Input
 input_of under i = record { place = place_of i.ppn i.file; version = under.read i.pin.key; next = i.next }
@@ -86,7 +92,11 @@ channel_of under c = record {
 }
 
 abbrev pub job_of : UnderKeys → Job → machine.Job
-job_of under job = record { ppn = job.ppn; core = job.core; channels = map (option_map (channel_of under)) job.channels }
+job_of under job = record {
+  ppn = job.ppn;
+  core = job.core;
+  channels = map (option_map (channel_of under)) job.channels;
+}
 
 abbrev pub jobs_of : UnderKeys → List (Option Job) → List (Option machine.Job)
 jobs_of under jobs = map (option_map (job_of under)) jobs
@@ -100,7 +110,11 @@ abbrev pub no_jobs : List (Option Job)
 no_jobs = replicate 65 None
 
 abbrev pub new_job : ℕ → ℕ → Job
-new_job ppn words = record { ppn = ppn; core = slice_set (replicate words 0) first_free rings_begin; channels = replicate 16 None }
+new_job ppn words = record {
+  ppn = ppn;
+  core = slice_set (replicate words 0) first_free rings_begin;
+  channels = replicate 16 None;
+}
 
 abbrev pub reset_job : Job → Job
 reset_job job = record job { core = with_right job.core first_free rings_begin; channels = replicate 16 None }

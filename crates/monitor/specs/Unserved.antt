@@ -6,7 +6,8 @@ use Rattle.meaning.specs.Jobs.{slot, improper_mode}
 use Rattle.meaning.specs.Opening.{mode_at, open_answer}
 use Rattle.meaning.specs.Rings.{is_buffered}
 use Rattle.meaning.specs.declared.call.Call.{Call}
-use Rattle.meaning.specs.declared.call.Call.TheVariants.{Open, Inbuf, Outbuf, Lookup, Enter, Rename, In, Out, Useti, Useto, Close, Releas, Getsts, Reset, MakeDir, DeleteDir}
+use Rattle.meaning.specs.declared.call.Call.TheVariants.{Open, Inbuf, Outbuf, Lookup, Enter, Rename, In, Out, Useti}
+use Rattle.meaning.specs.declared.call.Call.TheVariants.{Useto, Close, Releas, Getsts, Reset, MakeDir, DeleteDir}
 use Rattle.meaning.specs.declared.call.Reply.{Reply}
 use Rattle.meaning.specs.declared.call.Reply.TheVariants.{Done, Refused, Stopped, NoChannel, AddressCheck}
 use Rattle.monitor.specs.Refusals.{with_code}
@@ -45,7 +46,8 @@ stopped_where_done mode Done = Stopped (improper_mode + mode)
 stopped_where_done mode reply = reply
 
 abbrev pub open_unserved : machine.Job → ℕ → ℕ → Reply
-open_unserved job number a = if nat_le number 15 then stopped_where_done (mode_at job.core a) (open_answer job number a) else NoChannel
+open_unserved job number a = if nat_le number 15 then stopped_where_done (mode_at job.core a) (open_answer job number a)
+    else NoChannel
 
 -- The others are refused as being out of order, by so many words at an address: the code is put into the right half of
 -- the second of them.
@@ -58,12 +60,15 @@ job_refused job e count = if lies_outside job.core e count then job else with_co
 
 -- What it answers, and what it leaves of the job; of a call that is served this says nothing.
 abbrev pub UnservedRow : Call → Job → Job → Reply → Type 0
-UnservedRow (Open channel address) job job' reply = (job' ≡ job) × ((under : UnderKeys) → reply ≡ open_unserved (job_of under job) channel address)
+UnservedRow (Open channel address) job job' reply = (job' ≡ job)
+    × ((under : UnderKeys) → reply ≡ open_unserved (job_of under job) channel address)
 UnservedRow (Inbuf channel count) job job' reply = Unit {0}
 UnservedRow (Outbuf channel count) job job' reply = Unit {0}
 UnservedRow (Lookup channel address) job job' reply = Unit {0}
-UnservedRow (Enter channel address) job job' reply = (reply ≡ refusal_at job address 4) × (job' ≡ job_refused job address 4)
-UnservedRow (Rename channel address) job job' reply = (reply ≡ refusal_at job address 4) × (job' ≡ job_refused job address 4)
+UnservedRow (Enter channel address) job job' reply = (reply ≡ refusal_at job address 4)
+    × (job' ≡ job_refused job address 4)
+UnservedRow (Rename channel address) job job' reply = (reply ≡ refusal_at job address 4)
+    × (job' ≡ job_refused job address 4)
 UnservedRow (In channel address) job job' reply = Unit {0}
 UnservedRow (Out channel address) job job' reply = Unit {0}
 UnservedRow (Useti channel block) job job' reply = Unit {0}

@@ -54,7 +54,8 @@ fn answer<D: Disk>(
 ) -> Reply
     requires ready { IsReady (D.state volume.old.disk) volume.old.core volume.old.failed job.old }
     requires timely { moment.date ≤ 4095 }
-    ensures serving { ServesJob D.state volume.old.disk volume.new.disk volume.old.core volume.new.core volume.new.failed job.old job.new call.now moment result }
+    ensures serving { ServesJob D.state volume.old.disk volume.new.disk volume.old.core volume.new.core
+        volume.new.failed job.old job.new call.now moment result }
 {
     match *call {
         Call::Open(channel, address) => open(job, channel, address),
@@ -91,7 +92,8 @@ fn serve<D: Disk>(
     requires reading { AreReading volume.old.core.live jobs.old }
     requires alive { volume.old.failed ≡ false }
     requires timely { moment.date ≤ 4095 }
-    ensures serving { IsServing D.state volume.old.disk volume.new.disk volume.old.core volume.new.core volume.new.failed jobs.old jobs.new number call.now moment result }
+    ensures serving { IsServing D.state volume.old.disk volume.new.disk volume.old.core volume.new.core
+        volume.new.failed jobs.old jobs.new number call.now moment result }
 {
     let Some(mut job) = jobs.take(number) else {
         return Reply::NoJob;
@@ -111,43 +113,55 @@ impl<D: Disk> Monitor<D> {
     /// it. Not served yet are an OPEN in a mode with buffers, `Stopped` as one in a mode that there isn't, and
     /// ENTER and RENAME on a channel that reads and DeleteDir, which are `Refused(5)`.
     pub fn call(&mut self, alloc: Global, job: u32, call: &Call, moment: Moment) -> Reply
-        ensures answered { (D.state self.new.disk).honest → IsServed call.now (slot self.old.jobs job) → (old : Service) → Serves (D.state self.old.disk) self.old.map self.old.failed self.old.jobs old
+        ensures answered { (D.state self.new.disk).honest → IsServed call.now (slot self.old.jobs job) → (old : Service)
+            → Serves (D.state self.old.disk) self.old.map self.old.failed self.old.jobs old
             → (new : Service) × Serves (D.state self.new.disk) self.new.map self.new.failed self.new.jobs new
             × Answers (pack_of (D.state self.old.disk)) old (Calls job call.now moment) result new }
-        // Reading holds still: what an IN answers and leaves is told by its own job's record, which no call of another job
-        // changes.
-        ensures still { (D.state self.new.disk).honest → (channel address : ℕ) → call.now ≡ In channel address → moment.date ≤ 4095 → (s : State) → Serves (D.state self.old.disk) self.old.map self.old.failed self.old.jobs (Serving s)
+        // Reading holds still: what an IN answers and leaves is told by its own job's record, which no call of another
+        // job changes.
+        ensures still { (D.state self.new.disk).honest → (channel address : ℕ) → call.now ≡ In channel address
+            → moment.date ≤ 4095 → (s : State)
+            → Serves (D.state self.old.disk) self.old.map self.old.failed self.old.jobs (Serving s)
             → (own : MachineJob) → job_at s job ≡ Some own → (result ≡ NoMemory → ⊥) → (result ≡ Device → ⊥)
-            → (after : State) × Serves (D.state self.new.disk) self.new.map self.new.failed self.new.jobs (Serving after)
+            → (after : State)
+            × Serves (D.state self.new.disk) self.new.map self.new.failed self.new.jobs (Serving after)
             × (result ≡ (read_of own channel address).0) × (job_at after job ≡ Some (read_of own channel address).1) }
-        ensures apart { (D.state self.new.disk).honest → IsServed call.now (slot self.old.jobs job) → (s : State) → Serves (D.state self.old.disk) self.old.map self.old.failed self.old.jobs (Serving s)
-            → (after : Service) × Serves (D.state self.new.disk) self.new.map self.new.failed self.new.jobs after × Answers (pack_of (D.state self.old.disk)) (Serving s) (Calls job call.now moment) result after
+        ensures apart { (D.state self.new.disk).honest → IsServed call.now (slot self.old.jobs job) → (s : State)
+            → Serves (D.state self.old.disk) self.old.map self.old.failed self.old.jobs (Serving s)
+            → (after : Service) × Serves (D.state self.new.disk) self.new.map self.new.failed self.new.jobs after
+            × Answers (pack_of (D.state self.old.disk)) (Serving s) (Calls job call.now moment) result after
             × ((t : State) → after ≡ Serving t → (m : ℕ) → (m ≡ job → ⊥) → job_at t m ≡ job_at s m) }
         // No other job is changed.
         ensures others { (m : ℕ) → (m ≡ job → ⊥) → slot self.new.jobs m ≡ slot self.old.jobs m }
-        // At any moment of it a crash leaves the files from before, or those after it where its answer is one that may change
-        // files: `Done`, and `Device`.
-        ensures crash { (D.state self.new.disk).honest → (s : State) → Serves (D.state self.old.disk) self.old.map self.old.failed self.old.jobs (Serving s)
-            → LeavesOnly (D.state self.old.disk) (D.state self.new.disk) (StandsForEither (pack_of (D.state self.old.disk)) s (Calls job call.now moment) result) }
+        // At any moment of it a crash leaves the files from before, or those after it where its answer is one that may
+        // change files: `Done`, and `Device`.
+        ensures crash { (D.state self.new.disk).honest → (s : State)
+            → Serves (D.state self.old.disk) self.old.map self.old.failed self.old.jobs (Serving s)
+            → LeavesOnly (D.state self.old.disk) (D.state self.new.disk)
+            (StandsForEither (pack_of (D.state self.old.disk)) s (Calls job call.now moment) result) }
         // On every disk a refusal leaves its code in the block that the call named, and nothing else.
         ensures refused { (code : ℕ) → result ≡ Refused code → IsRefused call.now job code self.old.jobs self.new.jobs }
         // Which calls, and which answers, leave the disk alone; and which calls take no memory.
         ensures idle { IsIdle result → self.new.disk ≡ self.old.disk }
-        ensures light { IsLight call.now (slot self.old.jobs job) → (result ≡ NoMemory → ⊥) × (self.new.disk ≡ self.old.disk) }
+        ensures light { IsLight call.now (slot self.old.jobs job) → (result ≡ NoMemory → ⊥)
+            × (self.new.disk ≡ self.old.disk) }
         ensures memory { result ≡ NoMemory → self.new ≡ self.old }
         // It fails with the device, and is Failed from then on; else only a broken promise of the disk makes it so.
         ensures failed { IsTrue self.new.failed ↔ ((result ≡ Device) ⊎ (result ≡ Failed)) }
         ensures broken { self.old.failed ≡ true → (result ≡ Failed) × (self.new ≡ self.old) }
         ensures blamed { (D.state self.new.disk).honest → result ≡ Failed → self.old.failed ≡ true }
-        ensures counted { result ≡ Device → (D.state self.new.disk).failures ≡ one_more (D.state self.old.disk).failures }
+        ensures counted { result ≡ Device → (D.state self.new.disk).failures
+            ≡ one_more (D.state self.old.disk).failures }
         ensures served { (result ≡ Device → ⊥) → (D.state self.new.disk).failures ≡ (D.state self.old.disk).failures }
         ensures same { SameDisk (D.state self.old.disk) (D.state self.new.disk) }
         // A date that the disk can't hold.
         ensures late { self.old.failed ≡ false → 4095 < moment.date → (result ≡ DateRange) × (self.new ≡ self.old) }
         // Which calls leave what is known of the disk, and what is answered to those that aren't served yet.
         ensures kept { KeepsCore call.now → self.new.map ≡ self.old.map }
-        ensures unserved { self.old.failed ≡ false → moment.date ≤ 4095 → (there : JobRecord) → slot self.old.jobs job ≡ Some there → IsUnserved call.now there
-            → (self.new.map ≡ self.old.map) × (after : JobRecord) × UnservedRow call.now there after result × (self.new.jobs ≡ slice_set self.old.jobs job (Some after)) }
+        ensures unserved { self.old.failed ≡ false → moment.date ≤ 4095 → (there : JobRecord)
+            → slot self.old.jobs job ≡ Some there → IsUnserved call.now there
+            → (self.new.map ≡ self.old.map) × (after : JobRecord) × UnservedRow call.now there after result
+            × (self.new.jobs ≡ slice_set self.old.jobs job (Some after)) }
     {
         if self.volume.has_failed() {
             return Reply::Failed;

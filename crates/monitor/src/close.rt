@@ -27,8 +27,8 @@ use meaning::Reply;
 use std::alloc::Global;
 use volume::Volume;
 
-/// CLOSE: without bit 1 the output side closes, and becomes the file of its name, or with bit 40 (octal) is dropped; without
-/// bit 2 the input side closes. Its rows are `close_output`, where it publishes, and `close`.
+/// CLOSE: without bit 1 the output side closes, and becomes the file of its name, or with bit 40 (octal) is dropped;
+/// without bit 2 the input side closes. Its rows are `close_output`, where it publishes, and `close`.
 pub fn serve_close<D: Disk>(
     alloc: Global,
     volume: &mut Volume<D>,
@@ -37,7 +37,8 @@ pub fn serve_close<D: Disk>(
     bits: u32,
 ) -> Reply
     requires ready { IsReady (D.state volume.old.disk) volume.old.core volume.old.failed job.old }
-    ensures serving { ServesAlways D.state volume.old.disk volume.new.disk volume.old.core volume.new.core volume.new.failed job.old job.new (Close channel bits) result }
+    ensures serving { ServesAlways D.state volume.old.disk volume.new.disk volume.old.core volume.new.core
+        volume.new.failed job.old job.new (Close channel bits) result }
 {
     match closed_side(job, channel, bits) {
         Some((open, output)) => close_output(alloc, volume, job, channel, open, output),
@@ -71,8 +72,10 @@ fn parted<T>(side: Option<T>, keeps: bool) -> (Option<T>, Option<T>)
 /// CLOSE, where it publishes nothing: without bit 1 the output side closes, and what it has written, if
 /// anything, is dropped; without bit 2 the input side closes, and what it reads is let go.
 fn close<D: Disk>(volume: &mut Volume<D>, job: &mut Job, number: u32, bits: u32) -> Reply
-    requires live { (key : ℕ) → times key (keys_of (sides_in (Some job.old))) ≤ present (pending_at volume.old.core.pending key) }
-    requires held { (key : ℕ) → times key (pins_of (readers_in (Some job.old))) ≤ readers_of (version_at volume.old.core.live key) }
+    requires live { (key : ℕ) → times key (keys_of (sides_in (Some job.old)))
+        ≤ present (pending_at volume.old.core.pending key) }
+    requires held { (key : ℕ) → times key (pins_of (readers_in (Some job.old)))
+        ≤ readers_of (version_at volume.old.core.live key) }
     requires unpublished { publishes_at (slot job.old.channels number) bits ≡ false }
     ensures untouched { (volume.new.disk ≡ volume.old.disk) × (volume.new.failed ≡ volume.old.failed) }
     ensures row { IsRow job.old job.new (Close number bits) result }
@@ -116,20 +119,29 @@ fn close_output<D: Disk>(
     requires single { channel.input ≡ None }
     requires live { IsSome (pending_at volume.old.core.pending output.pending.key) }
     requires starts { 0 < output.next }
-    requires placed { (p : PendingVersion) → pending_at volume.old.core.pending output.pending.key ≡ Some p → IsPlaced volume.old.core p }
+    requires placed { (p : PendingVersion) → pending_at volume.old.core.pending output.pending.key ≡ Some p
+        → IsPlaced volume.old.core p }
     // The volume, whatever is answered.
-    ensures whatever { MayPublish (D.state volume.old.disk) (D.state volume.new.disk) volume.old.core volume.new.core output.pending.key }
-    ensures answered { IsPublishing (D.state volume.old.disk) (D.state volume.new.disk) volume.old.core volume.new.core volume.old.failed volume.new.failed output.pending.key result }
+    ensures whatever { MayPublish (D.state volume.old.disk) (D.state volume.new.disk) volume.old.core volume.new.core
+        output.pending.key }
+    ensures answered { IsPublishing (D.state volume.old.disk) (D.state volume.new.disk) volume.old.core
+        volume.new.core volume.old.failed volume.new.failed output.pending.key result }
     ensures memory { result ≡ NoMemory → (volume.new.disk ≡ volume.old.disk) × (volume.new.core ≡ volume.old.core) }
     // The job: the side closes where it is done.
-    ensures closed { result ≡ Done → job.new ≡ record job.old { channels = slice_set job.old.channels number (Some (record channel { status = cleared channel.status; output = None })) } }
+    ensures closed { result ≡ Done → job.new
+        ≡ record job.old {
+          channels = slice_set job.old.channels number
+              (Some (record channel { status = cleared channel.status; output = None }));
+        } }
     ensures kept { (result ≡ Done → ⊥) → job.new ≡ job.old }
     ensures keeps { result ≡ Done → Keeps volume.old.core.pending volume.new.core.pending job.old job.new }
     ensures stands { StillStands volume.old.core volume.new.core volume.new.failed job.old job.new }
     // The machine's row, for whichever bits publish.
     ensures row { volume.old.failed ≡ false → (bits : ℕ) → keeps_output bits ≡ false → discards bits ≡ false
-        → IsPublishRow (D.state volume.old.disk) (D.state volume.new.disk) volume.old.core volume.new.core volume.new.failed job.old job.new (Close number bits) result }
-    ensures crash { (bits : ℕ) → keeps_output bits ≡ false → discards bits ≡ false → CrashesAsRow (D.state volume.old.disk) (D.state volume.new.disk) volume.old.core job.old (Close number bits) }
+        → IsPublishRow (D.state volume.old.disk) (D.state volume.new.disk) volume.old.core volume.new.core
+        volume.new.failed job.old job.new (Close number bits) result }
+    ensures crash { (bits : ℕ) → keeps_output bits ≡ false → discards bits ≡ false
+        → CrashesAsRow (D.state volume.old.disk) (D.state volume.new.disk) volume.old.core job.old (Close number bits) }
 {
     let reply = publish_output(alloc, volume, output);
     if reply == Reply::Done {

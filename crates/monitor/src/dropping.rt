@@ -36,7 +36,8 @@ fn reader_of(channel: &Option<Channel>) -> Option<Input>
 
 /// Drops what an output side has written.
 pub fn drop_output<D: Disk>(volume: &mut Volume<D>, output: Option<Output>)
-    requires live { (key : ℕ) → times key (keys_of (option_to_list output)) ≤ present (pending_at volume.old.core.pending key) }
+    requires live { (key : ℕ) → times key (keys_of (option_to_list output))
+        ≤ present (pending_at volume.old.core.pending key) }
     ensures closed { Closes volume.old.core volume.new.core (keys_of (option_to_list output)) [] }
     ensures untouched { (volume.new.disk ≡ volume.old.disk) × (volume.new.failed ≡ volume.old.failed) }
 {
@@ -47,7 +48,8 @@ pub fn drop_output<D: Disk>(volume: &mut Volume<D>, output: Option<Output>)
 
 /// Lets the version go that an input side reads.
 pub fn release_input<D: Disk>(volume: &mut Volume<D>, input: Option<Input>)
-    requires held { (key : ℕ) → times key (pins_of (option_to_list input)) ≤ readers_of (version_at volume.old.core.live key) }
+    requires held { (key : ℕ) → times key (pins_of (option_to_list input))
+        ≤ readers_of (version_at volume.old.core.live key) }
     ensures closed { Closes volume.old.core volume.new.core [] (pins_of (option_to_list input)) }
     ensures pending { volume.new.core.pending ≡ volume.old.core.pending }
     ensures untouched { (volume.new.disk ≡ volume.old.disk) × (volume.new.failed ≡ volume.old.failed) }
@@ -59,9 +61,12 @@ pub fn release_input<D: Disk>(volume: &mut Volume<D>, input: Option<Input>)
 
 /// Closes both sides of a channel: what it has written is dropped, and what it reads is let go.
 fn close_sides<D: Disk>(volume: &mut Volume<D>, channel: &Option<Channel>)
-    requires live { (key : ℕ) → times key (keys_of (option_to_list (side_of channel.now))) ≤ present (pending_at volume.old.core.pending key) }
-    requires held { (key : ℕ) → times key (pins_of (option_to_list (reader_of channel.now))) ≤ readers_of (version_at volume.old.core.live key) }
-    ensures closed { Closes volume.old.core volume.new.core (keys_of (option_to_list (side_of channel.now))) (pins_of (option_to_list (reader_of channel.now))) }
+    requires live { (key : ℕ) → times key (keys_of (option_to_list (side_of channel.now)))
+        ≤ present (pending_at volume.old.core.pending key) }
+    requires held { (key : ℕ) → times key (pins_of (option_to_list (reader_of channel.now)))
+        ≤ readers_of (version_at volume.old.core.live key) }
+    ensures closed { Closes volume.old.core volume.new.core (keys_of (option_to_list (side_of channel.now)))
+        (pins_of (option_to_list (reader_of channel.now))) }
     ensures untouched { (volume.new.disk ≡ volume.old.disk) × (volume.new.failed ≡ volume.old.failed) }
 {
     drop_output(volume, side_of(channel));
@@ -70,9 +75,12 @@ fn close_sides<D: Disk>(volume: &mut Volume<D>, channel: &Option<Channel>)
 
 /// Closes the sides of all channels.
 pub fn close_channels<D: Disk>(volume: &mut Volume<D>, channels: &[Option<Channel>])
-    requires live { (key : ℕ) → times key (keys_of (filter_map side_of channels.now)) ≤ present (pending_at volume.old.core.pending key) }
-    requires held { (key : ℕ) → times key (pins_of (filter_map reader_of channels.now)) ≤ readers_of (version_at volume.old.core.live key) }
-    ensures closed { Closes volume.old.core volume.new.core (keys_of (filter_map side_of channels.now)) (pins_of (filter_map reader_of channels.now)) }
+    requires live { (key : ℕ) → times key (keys_of (filter_map side_of channels.now))
+        ≤ present (pending_at volume.old.core.pending key) }
+    requires held { (key : ℕ) → times key (pins_of (filter_map reader_of channels.now))
+        ≤ readers_of (version_at volume.old.core.live key) }
+    ensures closed { Closes volume.old.core volume.new.core (keys_of (filter_map side_of channels.now))
+        (pins_of (filter_map reader_of channels.now)) }
     ensures untouched { (volume.new.disk ≡ volume.old.disk) × (volume.new.failed ≡ volume.old.failed) }
 {
     for channel in channels {
@@ -84,7 +92,8 @@ pub fn close_channels<D: Disk>(volume: &mut Volume<D>, channels: &[Option<Channe
 pub fn close_job<D: Disk>(volume: &mut Volume<D>, jobs: &Jobs, number: u32)
     requires keyed { AreKeyed volume.old.core.pending jobs.now }
     requires reading { AreReading volume.old.core.live jobs.now }
-    ensures closed { Closes volume.old.core volume.new.core (keys_of (sides_in (slot jobs.now number))) (pins_of (readers_in (slot jobs.now number))) }
+    ensures closed { Closes volume.old.core volume.new.core (keys_of (sides_in (slot jobs.now number)))
+        (pins_of (readers_in (slot jobs.now number))) }
     ensures untouched { (volume.new.disk ≡ volume.old.disk) × (volume.new.failed ≡ volume.old.failed) }
 {
     if let Some(job) = jobs.job(number) {

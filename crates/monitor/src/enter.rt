@@ -1,4 +1,5 @@
-ghost use Rattle.std.specs.Prelude.{◌≡◌, ◌==◌, ◌&&◌, ◌+◌, ◌%◌, ◌<◌, ◌≤◌, ℕ, false, Bool, IfOk, MatchResult, Ok, Err, IfSome, IfNone, IfErr, None, Some, OnErr, IsErrOf, IsTrue, slice_index};
+ghost use Rattle.std.specs.Prelude.{◌≡◌, ◌==◌, ◌&&◌, ◌+◌, ◌%◌, ◌<◌, ◌≤◌, ℕ, false, Bool, IfOk, MatchResult, Ok, Err};
+ghost use Rattle.std.specs.Prelude.{IfSome, IfNone, IfErr, None, Some, OnErr, IsErrOf, IsTrue, slice_index};
 ghost use Rattle.words36.specs.Words.{left, IsPpn};
 ghost use Rattle.meaning.specs.Cores.{lies_outside};
 ghost use Rattle.meaning.specs.Entering.{protection_or, enter_answer, output_opened};
@@ -17,7 +18,8 @@ ghost use Rattle.volume.specs.Live.{pending_at};
 ghost use Rattle.volume.specs.Rest.{IsSound, RestsAt};
 ghost use Rattle.volume.specs.declared.pending.PendingVersion.{PendingVersion};
 ghost use Rattle.volume.specs.Claims.{claims};
-ghost use Rattle.monitor.specs.Finding.{found_in, begun_as, allowed, protection_for, file_begun, IsKnown, IsAnswer, IsPrimeAt, begin_answer_at};
+ghost use Rattle.monitor.specs.Finding.{found_in, begun_as, allowed, protection_for, file_begun, IsKnown, IsAnswer};
+ghost use Rattle.monitor.specs.Finding.{IsPrimeAt, begin_answer_at};
 ghost use Rattle.monitor.specs.Entering.{IsEntering, IsEnterAnswer};
 ghost use Rattle.monitor.specs.Rows.{KeepsReading};
 ghost use Rattle.monitor.specs.Unserved.{IsReading, refusal_at, job_refused};
@@ -54,14 +56,16 @@ pub fn serve_enter<D: Disk>(
 ) -> Reply
     requires ready { IsReady (D.state volume.old.disk) volume.old.core volume.old.failed job.old }
     requires timely { moment.date ≤ 4095 }
-    ensures serving { ServesJob D.state volume.old.disk volume.new.disk volume.old.core volume.new.core volume.new.failed job.old job.new (Enter channel address) moment result }
+    ensures serving { ServesJob D.state volume.old.disk volume.new.disk volume.old.core volume.new.core
+        volume.new.failed job.old job.new (Enter channel address) moment result }
 {
     enter(alloc, volume, job, channel, address, moment)
 }
 
 /// What stands at a place of a volume.
 fn find<D: Disk>(volume: &Volume<D>, ppn: Ppn, file: &FileName) -> Found
-    ensures { (D.state volume.now.disk).honest → volume.now.failed ≡ false → (files : Files File) → RestsAt (D.state volume.now.disk) files
+    ensures { (D.state volume.now.disk).honest → volume.now.failed ≡ false → (files : Files File)
+        → RestsAt (D.state volume.now.disk) files
         → result ≡ found_in (get files ppn) file.now }
 {
     let protection = match volume.directory(ppn) {
@@ -169,7 +173,8 @@ pub fn name_at(core: &Core, address: u32) -> FileName
 
 /// How an output side began that writes a version.
 fn kind_of<D: Disk>(volume: &Volume<D>, pending: Pending) -> Kind
-    ensures { (p : PendingVersion) → pending_at volume.now.core.pending pending.key ≡ Some p → p.is_new ≡ is_create (kind_of result) }
+    ensures { (p : PendingVersion) → pending_at volume.now.core.pending pending.key ≡ Some p
+        → p.is_new ≡ is_create (kind_of result) }
 {
     if volume.is_new(pending) {
         Kind::Create
@@ -203,7 +208,8 @@ fn prime_for(
     ensures file { result.file ≡ file }
     ensures mode { result.mode ≡ Dump }
     ensures moment { result.moment ≡ moment }
-    ensures protection { result.protection ≡ protection_for found (protection_or (slice_index core.now (address + 2)) 0o057) }
+    ensures protection { result.protection
+        ≡ protection_for found (protection_or (slice_index core.now (address + 2)) 0o057) }
 {
     let asked = protection_or(word_at(core, address + 2), 0o057);
     let protection = protection_for(found, asked);
@@ -227,11 +233,16 @@ fn may_begin<D: Disk>(
     owner: Ppn,
     file: &FileName,
 ) -> Result<Found, ErrorCode>
-    ensures free { IfOk result (λ found. ((file.now.name == 0) ≡ false) × (claims volume.now.core.pending (place_of owner file.now) ≡ false)) }
-    ensures found { (D.state volume.now.disk).honest → volume.now.failed ≡ false → (files : Files File) → RestsAt (D.state volume.now.disk) files
+    ensures free { IfOk result (λ found. ((file.now.name == 0) ≡ false)
+        × (claims volume.now.core.pending (place_of owner file.now) ≡ false)) }
+    ensures found { (D.state volume.now.disk).honest → volume.now.failed ≡ false → (files : Files File)
+        → RestsAt (D.state volume.now.disk) files
         → MatchResult result
-        (λ found. (found ≡ found_in (get files owner) file.now) × ((kind : Kind) × (allowed found who owner (file.now.name == 0) (claims volume.now.core.pending (place_of owner file.now)) ≡ Ok kind)))
-        (λ code. allowed (found_in (get files owner) file.now) who owner (file.now.name == 0) (claims volume.now.core.pending (place_of owner file.now)) ≡ Err code) }
+        (λ found. (found ≡ found_in (get files owner) file.now)
+        × ((kind : Kind) × (allowed found who owner (file.now.name
+        == 0) (claims volume.now.core.pending (place_of owner file.now)) ≡ Ok kind)))
+        (λ code. allowed (found_in (get files owner) file.now) who owner (file.now.name
+        == 0) (claims volume.now.core.pending (place_of owner file.now)) ≡ Err code) }
 {
     let found = find(volume, owner, file);
     let claimed = volume.is_claimed(owner, file);
@@ -259,14 +270,19 @@ fn begin_at<D: Disk>(
     requires timely { moment.date ≤ 4095 }
     ensures untouched { (volume.new.disk ≡ volume.old.disk) × (volume.new.failed ≡ volume.old.failed) }
     ensures begun { IfOk result (λ begun. IsBegun volume.old.core volume.new.core begun.0.key begun.1) }
-    ensures free { IfOk result (λ begun. ((begun.1.file.name == 0) ≡ false) × (claims volume.old.core.pending (place_of begun.1.ppn begun.1.file) ≡ false)) }
+    ensures free { IfOk result (λ begun. ((begun.1.file.name == 0) ≡ false)
+        × (claims volume.old.core.pending (place_of begun.1.ppn begun.1.file) ≡ false)) }
     ensures same { OnErr result (volume.new.core ≡ volume.old.core) }
     ensures only { (IsErrOf result VolumeFailed → IsTrue volume.old.failed) × (IsErrOf result VolumeDevice → ⊥) }
     ensures prime { IfOk result (λ begun. IsPrimeAt job.now address moment begun.1) }
-    ensures protection { (D.state volume.new.disk).honest → volume.old.failed ≡ false → (files : Files File) → RestsAt (D.state volume.old.disk) files
-        → IfOk result (λ begun. begun.1.protection ≡ protection_for (found_in (get files begun.1.ppn) begun.1.file) (protection_or (slice_index job.now.core (address + 2)) 0o057)) }
-    ensures answered { (D.state volume.new.disk).honest → volume.old.failed ≡ false → (s : State) → IsKnown (D.state volume.old.disk) volume.old.core s
-        → (under : UnderKeys) → IsAnswer result (begin_answer_at (pack_of (D.state volume.old.disk)) s (job_of under job.now) (place_at (job_of under job.now) address)) }
+    ensures protection { (D.state volume.new.disk).honest → volume.old.failed ≡ false → (files : Files File)
+        → RestsAt (D.state volume.old.disk) files
+        → IfOk result (λ begun. begun.1.protection ≡ protection_for (found_in (get files begun.1.ppn) begun.1.file)
+        (protection_or (slice_index job.now.core (address + 2)) 0o057)) }
+    ensures answered { (D.state volume.new.disk).honest → volume.old.failed ≡ false → (s : State)
+        → IsKnown (D.state volume.old.disk) volume.old.core s
+        → (under : UnderKeys) → IsAnswer result (begin_answer_at (pack_of (D.state volume.old.disk)) s
+        (job_of under job.now) (place_at (job_of under job.now) address)) }
 {
     let Some(ppn) = owner_at(job, address) else {
         return Err(CallError::Refused(ErrorCode::NoDirectory));
@@ -313,17 +329,23 @@ fn enter<D: Disk>(
     ensures untouched { (volume.new.disk ≡ volume.old.disk) × (volume.new.failed ≡ volume.old.failed) }
     ensures only { (result ≡ Failed → ⊥) × (result ≡ Device → ⊥) }
     // What it leaves, by its answer.
-    ensures begun { result ≡ Done → (channel : Channel) × (key : ℕ) × (prime : Prime) × IsEntering volume.old.core volume.new.core job.old job.new number address moment channel key prime
+    ensures begun { result ≡ Done → (channel : Channel) × (key : ℕ) × (prime : Prime)
+        × IsEntering volume.old.core volume.new.core job.old job.new number address moment channel key prime
         × ((D.state volume.new.disk).honest → (files : Files File) → RestsAt (D.state volume.old.disk) files
-        → prime.protection ≡ protection_for (found_in (get files prime.ppn) prime.file) (protection_or (slice_index job.old.core (address + 2)) 0o057)) }
+        → prime.protection ≡ protection_for (found_in (get files prime.ppn) prime.file)
+        (protection_or (slice_index job.old.core (address + 2)) 0o057)) }
     ensures placed { ArePlaced volume.old.core → ArePlaced volume.new.core }
-    ensures kept { (result ≡ Done → ⊥) → (volume.new.core ≡ volume.old.core) × (job.new ≡ record job.old { core = job.new.core }) }
+    ensures kept { (result ≡ Done → ⊥) → (volume.new.core ≡ volume.old.core)
+        × (job.new ≡ record job.old { core = job.new.core }) }
     ensures memory { result ≡ NoMemory → job.new ≡ job.old }
     ensures reads { KeepsReading volume.old.core.live volume.new.core.live job.old job.new }
     // On a channel that reads no file is updated yet.
-    ensures unserved { IsReading (slot job.old.channels number) → (result ≡ refusal_at job.old address 4) × (job.new ≡ job_refused job.old address 4) }
-    ensures row { (D.state volume.new.disk).honest → reader_of (slot job.old.channels number) ≡ None → (s : State) → IsKnown (D.state volume.old.disk) volume.old.core s
-        → (under : UnderKeys) → IsEnterAnswer (pack_of (D.state volume.old.disk)) s (job_of under job.old) (job_of under job.new) (channel_at (job_of under job.old) number) address result }
+    ensures unserved { IsReading (slot job.old.channels number) → (result ≡ refusal_at job.old address 4)
+        × (job.new ≡ job_refused job.old address 4) }
+    ensures row { (D.state volume.new.disk).honest → reader_of (slot job.old.channels number) ≡ None → (s : State)
+        → IsKnown (D.state volume.old.disk) volume.old.core s
+        → (under : UnderKeys) → IsEnterAnswer (pack_of (D.state volume.old.disk)) s (job_of under job.old)
+        (job_of under job.new) (channel_at (job_of under job.old) number) address result }
     ensures refused { (code : ℕ) → result ≡ Refused code → job.new ≡ with_code job.old address code }
 {
     let Some(channel) = job.channel(number) else {

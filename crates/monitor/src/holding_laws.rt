@@ -18,8 +18,10 @@ use blockdisk::Disk;
 /// Who reads a version keeps it where one is published: that of another place stays current there, and the one that
 /// is superseded is past. The new version has a serial that none has that is read.
 pub fn readers_keep_what_is_superseded<D: Disk>(old: &D, new: &D)
-    ensures { (c c' : VolumeCore) (files : Files Version) (read : ℕ → Version) (key : ℕ) (p : PendingVersion) (words : ℕ) (place : Place) (x : Version)
-        → AreRead (D.state old.now) c files read → IsWholeCore (D.state old.now).size c → IsPublishedCore (D.state old.now).size c c' key p words
+    ensures { (c c' : VolumeCore) (files : Files Version) (read : ℕ
+        → Version) (key : ℕ) (p : PendingVersion) (words : ℕ) (place : Place) (x : Version)
+        → AreRead (D.state old.now) c files read → IsWholeCore (D.state old.now).size c
+        → IsPublishedCore (D.state old.now).size c c' key p words
         → AreDistinct (flat_map (λ d. values d.files) (values files)) → place ≡ place_of p.prime.ppn p.prime.file
         → ((k : ℕ) (v : LiveVersion) → slot c.live k ≡ Some v → 0 < v.readers → x.serial ≡ (read k).serial → ⊥)
         → KeepsRead (D.state old.now).contents (D.state new.now).contents c
@@ -28,19 +30,25 @@ pub fn readers_keep_what_is_superseded<D: Disk>(old: &D, new: &D)
 
 /// A reader comes to the version that a place has now, or goes from the one that it holds. All others keep theirs.
 pub fn readers_come_and_go<D: Disk>(disk: &D)
-    ensures comes { (c c' : VolumeCore) (files : Files Version) (read : ℕ → Version) (key : ℕ) (place : Place) (x : Version)
-        → AreRead (D.state disk.now) c files read → IsWholeCore (D.state disk.now).size c → file_at files place ≡ Some x → AreDistinct (flat_map (λ d. values d.files) (values files))
-        → ((v : LiveVersion) × (slot c.live key ≡ Some v) × (slot c'.live key ≡ Some (record v { readers = v.readers + 1 })))
+    ensures comes { (c c' : VolumeCore) (files : Files Version) (read : ℕ
+        → Version) (key : ℕ) (place : Place) (x : Version)
+        → AreRead (D.state disk.now) c files read → IsWholeCore (D.state disk.now).size c → file_at files place ≡ Some x
+        → AreDistinct (flat_map (λ d. values d.files) (values files))
+        → ((v : LiveVersion) × (slot c.live key ≡ Some v)
+        × (slot c'.live key ≡ Some (record v { readers = v.readers + 1 })))
         → ((k : ℕ) → (k ≡ key → ⊥) → slot c'.live k ≡ slot c.live k)
         → c' ≡ record c { live = c'.live }
-        → ((v : LiveVersion) × (slot c.live key ≡ Some v) × (v.is_current ≡ true) × (prime_at c place.ppn place.name ≡ Some v.at))
+        → ((v : LiveVersion) × (slot c.live key ≡ Some v) × (v.is_current ≡ true)
+        × (prime_at c place.ppn place.name ≡ Some v.at))
         → ((v : LiveVersion) × (slot c'.live key ≡ Some v) × IsVersionOf (D.state disk.now).contents v x.file)
         → AreRead (D.state disk.now) c' files (λ k. if k == key then x else read k) }
 
     // Where it was read before, it was this very version.
-    ensures again { (c : VolumeCore) (files : Files Version) (read : ℕ → Version) (key : ℕ) (v : LiveVersion) (place : Place) (x : Version)
+    ensures again { (c : VolumeCore) (files : Files Version) (read : ℕ
+        → Version) (key : ℕ) (v : LiveVersion) (place : Place) (x : Version)
         → AreRead (D.state disk.now) c files read → IsWholeCore (D.state disk.now).size c → file_at files place ≡ Some x
-        → slot c.live key ≡ Some v → 0 < v.readers → v.is_current ≡ true → prime_at c place.ppn place.name ≡ Some v.at → read key ≡ x }
+        → slot c.live key ≡ Some v → 0 < v.readers → v.is_current ≡ true → prime_at c place.ppn place.name ≡ Some v.at
+        → read key ≡ x }
     ensures goes { (c c' : VolumeCore) (files : Files Version) (read : ℕ → Version) (key : ℕ) (v : LiveVersion)
         → AreRead (D.state disk.now) c files read → slot c.live key ≡ Some v → 0 < v.readers
         → ((v.is_current ≡ true) ⊎ (1 < v.readers) → slot c'.live key ≡ Some (record v { readers = v.readers - 1 }))

@@ -115,7 +115,8 @@ impl Jobs {
 
     /// Takes a job out of its slot, to be put back.
     pub fn take(&mut self, number: u32) -> Option<Job>
-        ensures found { IfSome result (λ job. (slot self.old number ≡ Some job) × (self.new ≡ slice_set self.old number None)) }
+        ensures found { IfSome result (λ job. (slot self.old number ≡ Some job)
+            × (self.new ≡ slice_set self.old number None)) }
         ensures none { result ≡ None → (slot self.old number ≡ None) × (self.new ≡ self.old) }
     {
         let Some(_there) = self.job(number) else {
@@ -136,7 +137,8 @@ impl Jobs {
     /// Resets a job: its channels are closed, and the next ring of buffers goes where its first one does. Answers
     /// whether there is one of that number.
     pub fn reset(&mut self, number: u32) -> bool
-        ensures found { IsTrue result → (job : JobRecord) × (slot self.old number ≡ Some job) × (self.new ≡ slice_set self.old number (Some (reset_job job))) }
+        ensures found { IsTrue result → (job : JobRecord) × (slot self.old number ≡ Some job)
+            × (self.new ≡ slice_set self.old number (Some (reset_job job))) }
         ensures none { IsFalse result → (slot self.old number ≡ None) × (self.new ≡ self.old) }
     {
         let Some(mut job) = self.take(number) else {

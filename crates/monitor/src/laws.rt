@@ -17,5 +17,7 @@ pub fn files_have_a_start()
 /// What readers hold is booked once: beside the versions of files, each version that is read and no longer current
 /// costs what core has booked for it, however many readers there are.
 pub fn held_versions_are_booked_once()
-    ensures { (live : List (Option LiveVersion)) (now : List Version) (read : ℕ → Version) (pins : List ℕ) → ArePinned live pins → AreBooked live now read → distinct_cost (now ++ map read pins) ≡ distinct_cost now + total held_cost live }
+    ensures { (live : List (Option LiveVersion)) (now : List Version) (read : ℕ → Version) (pins : List ℕ)
+        → ArePinned live pins → AreBooked live now read → distinct_cost (now ++ map read pins)
+        ≡ distinct_cost now + total held_cost live }
 {}

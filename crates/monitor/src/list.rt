@@ -37,8 +37,10 @@ impl<D: Disk> Monitor<D> {
     /// `Refused(2)` where its protection doesn't let the job look names up; `NoMemory` where the list finds no
     /// room; `Failed` where the monitor has failed.
     pub fn list(&self, alloc: Global, job: u32, ppn: Ppn) -> Result<Vec<Entry>, Reply>
-        ensures listed { (D.state self.now.disk).honest → (service : Service) → Serves (D.state self.now.disk) self.now.map self.now.failed self.now.jobs service
-            → (answer : Result (List Entry) Reply) × IsListed (λ lines. lines.items) result answer × Lists service job ppn answer service }
+        ensures listed { (D.state self.now.disk).honest → (service : Service)
+            → Serves (D.state self.now.disk) self.now.map self.now.failed self.now.jobs service
+            → (answer : Result (List Entry) Reply) × IsListed (λ lines. lines.items) result answer
+            × Lists service job ppn answer service }
         ensures failed { IsErrOf result Failed ↔ IsTrue self.now.failed }
         ensures nobody { IsErrOf result NoJob ↔ (self.now.failed ≡ false) × (slot self.now.jobs job ≡ None) }
         ensures only { IfErr result IsListRefusal }

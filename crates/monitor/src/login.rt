@@ -38,7 +38,8 @@ fn log_in<D: Disk>(
     ensures leaves { Leaves volume.old.core volume.new.core }
     ensures untouched { (volume.new.disk ≡ volume.old.disk) × (volume.new.failed ≡ volume.old.failed) }
     // The answer, and the jobs by it.
-    ensures answered { (result ≡ login_answer number words) ⊎ ((result ≡ NoMemory) × (login_answer number words ≡ Done)) }
+    ensures answered { (result ≡ login_answer number words)
+        ⊎ ((result ≡ NoMemory) × (login_answer number words ≡ Done)) }
     ensures done { result ≡ Done → jobs.new ≡ slice_set jobs.old number (Some (new_job ppn words)) }
     ensures kept { (result ≡ Done → ⊥) → (jobs.new ≡ jobs.old) × (volume.new.core ≡ volume.old.core) }
 {
@@ -69,12 +70,14 @@ impl<D: Disk> Monitor<D> {
     /// The answer is `Done`; `NoJob` for another number; `AddressCheck` for another number of words; `NoMemory`
     /// where the core finds no room; or `Failed`. Where it isn't `Done` nothing is changed.
     pub fn login(&mut self, alloc: Global, job: u32, ppn: Ppn, words: u32) -> Reply
-        ensures answered { (old : Service) → Serves (D.state self.old.disk) self.old.map self.old.failed self.old.jobs old
+        ensures answered { (old : Service)
+            → Serves (D.state self.old.disk) self.old.map self.old.failed self.old.jobs old
             → (new : Service) × Serves (D.state self.new.disk) self.new.map self.new.failed self.new.jobs new
             × Answers (pack_of (D.state self.old.disk)) old (Login job ppn words) result new }
         ensures kept { self.new ≡ record self.old { map = self.new.map; jobs = self.new.jobs } }
         ensures failed { result ≡ Failed ↔ IsTrue self.old.failed }
-        ensures value { self.old.failed ≡ false → (result ≡ login_answer job words) ⊎ ((result ≡ NoMemory) × (login_answer job words ≡ Done)) }
+        ensures value { self.old.failed ≡ false → (result ≡ login_answer job words)
+            ⊎ ((result ≡ NoMemory) × (login_answer job words ≡ Done)) }
         ensures done { result ≡ Done → self.new.jobs ≡ slice_set self.old.jobs job (Some (new_job ppn words)) }
         ensures refused { (result ≡ Done → ⊥) → (self.new.jobs ≡ self.old.jobs) × (self.new.map ≡ self.old.map) }
         ensures others { (m : ℕ) → (m ≡ job → ⊥) → slot self.new.jobs m ≡ slot self.old.jobs m }

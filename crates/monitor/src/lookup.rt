@@ -1,4 +1,5 @@
-ghost use Rattle.std.specs.Prelude.{◌≡◌, ◌+◌, ◌<◌, ◌≤◌, ◌^◌, ℕ, true, false, None, Some, [], ◌∷◌, IfOk, IfErr, OnErr, length};
+ghost use Rattle.std.specs.Prelude.{◌≡◌, ◌+◌, ◌<◌, ◌≤◌, ◌^◌, ℕ, true, false, None, Some, [], ◌∷◌, IfOk, IfErr, OnErr};
+ghost use Rattle.std.specs.Prelude.{length};
 ghost use Rattle.words36.specs.Words.{join};
 ghost use Rattle.meaning.specs.Cores.{lies_outside, after_writes};
 ghost use Rattle.meaning.specs.Files.{File, Files};
@@ -54,7 +55,8 @@ pub fn serve_lookup<D: Disk>(
     address: u32,
 ) -> Reply
     requires ready { IsReady (D.state volume.old.disk) volume.old.core volume.old.failed job.old }
-    ensures serving { ServesAlways D.state volume.old.disk volume.new.disk volume.old.core volume.new.core volume.new.failed job.old job.new (Lookup channel address) result }
+    ensures serving { ServesAlways D.state volume.old.disk volume.new.disk volume.old.core volume.new.core
+        volume.new.failed job.old job.new (Lookup channel address) result }
 {
     lookup(volume, job, channel, address)
 }
@@ -74,7 +76,8 @@ fn readable<D: Disk>(
     owner: Ppn,
     file: &FileName,
 ) -> Result<FileFacts, ErrorCode>
-    ensures found { (D.state volume.now.disk).honest → volume.now.failed ≡ false → (files : Files File) → RestsAt (D.state volume.now.disk) files
+    ensures found { (D.state volume.now.disk).honest → volume.now.failed ≡ false → (files : Files File)
+        → RestsAt (D.state volume.now.disk) files
         → IsReadAnswer who owner file.now (get files owner) result }
     ensures only { IfErr result IsLookupRefusal }
 {
@@ -117,17 +120,23 @@ pub fn find_input<D: Disk>(
     ensures only { IfErr result IsLookupRefusal }
 
     // The version is the one that core has for the place, which has one reader more; and nothing else.
-    ensures place { IfOk result (λ found. (under : UnderKeys) → place_of found.0.ppn found.0.file ≡ place_at (job_of under job.now) address) }
+    ensures place { IfOk result (λ found. (under : UnderKeys) → place_of found.0.ppn found.0.file
+        ≡ place_at (job_of under job.now) address) }
     ensures next { IfOk result (λ found. found.0.next ≡ 1) }
-    ensures at { IfOk result (λ found. (v : LiveVersion) × (slot volume.old.core.live found.0.pin.key ≡ Some v) × (v.is_current ≡ true) × (prime_at volume.old.core found.0.ppn found.0.file ≡ Some v.at)) }
-    ensures pinned { IfOk result (λ found. (v : LiveVersion) × (slot volume.old.core.live found.0.pin.key ≡ Some v) × (slot volume.new.core.live found.0.pin.key ≡ Some (record v { readers = v.readers + 1 }))) }
-    ensures others { IfOk result (λ found. (k : ℕ) → (k ≡ found.0.pin.key → ⊥) → slot volume.new.core.live k ≡ slot volume.old.core.live k) }
+    ensures at { IfOk result (λ found. (v : LiveVersion) × (slot volume.old.core.live found.0.pin.key ≡ Some v)
+        × (v.is_current ≡ true) × (prime_at volume.old.core found.0.ppn found.0.file ≡ Some v.at)) }
+    ensures pinned { IfOk result (λ found. (v : LiveVersion) × (slot volume.old.core.live found.0.pin.key ≡ Some v)
+        × (slot volume.new.core.live found.0.pin.key ≡ Some (record v { readers = v.readers + 1 }))) }
+    ensures others { IfOk result (λ found. (k : ℕ) → (k ≡ found.0.pin.key → ⊥)
+        → slot volume.new.core.live k ≡ slot volume.old.core.live k) }
     ensures core { volume.new.core ≡ record volume.old.core { live = volume.new.core.live } }
 
     // It is answered as the machine answers on a channel without an output side, and the file is the machine's.
-    ensures answered { (D.state volume.new.disk).honest → (s : State) → IsKnown (D.state volume.old.disk) volume.old.core s
+    ensures answered { (D.state volume.new.disk).honest → (s : State)
+        → IsKnown (D.state volume.old.disk) volume.old.core s
         → (under : UnderKeys) (c : MachineChannel) → c.output ≡ None → lies_outside job.now.core address 4 ≡ false
-        → IsLookupAnswer (D.state volume.old.disk).contents volume.new.core.live s (job_of under job.now) c address result }
+        → IsLookupAnswer (D.state volume.old.disk).contents volume.new.core.live s
+        (job_of under job.now) c address result }
 {
     let Some(ppn) = owner_at(job, address) else {
         return Err(ErrorCode::NoDirectory);
@@ -163,7 +172,8 @@ fn attributes_of(facts: &FileFacts) -> Word
 
 /// The size of a file as half a word: minus the number of its words, or that of its blocks where it is long.
 fn size_of(facts: &FileFacts) -> Half
-    ensures { (file : File) → IsShown file facts.now → HasShortFacts file → join result 0 ≡ size_word (length file.body) }
+    ensures { (file : File) → IsShown file facts.now → HasShortFacts file
+        → join result 0 ≡ size_word (length file.body) }
 {
     if facts.words <= MOST_WORDS {
         Half::from_bits((HALF_LIMIT - facts.words) % HALF_LIMIT)
@@ -176,7 +186,8 @@ fn size_of(facts: &FileFacts) -> Half
 pub fn put_found(core: &mut Core, address: u32, facts: &FileFacts)
     requires { address + 4 ≤ 0o400000 }
     ensures { (file : File) → IsShown file facts.now → HasShortFacts file
-        → core.new ≡ after_writes (with_attributes 1 core.old address file) ((address + 3, size_word (length file.body)) ∷ []) }
+        → core.new ≡ after_writes (with_attributes 1 core.old address file) ((address + 3, size_word (length file.body))
+        ∷ []) }
 {
     let left = word_at(core, address + 1).left();
     let zero = Half::from_bits(0);
@@ -192,21 +203,25 @@ fn lookup<D: Disk>(volume: &mut Volume<D>, job: &mut Job, number: u32, address: 
     requires sound { IsSound (D.state volume.old.disk) volume.old.core volume.old.failed }
     // The volume serves, and knows what the job reads.
     requires alive { volume.old.failed ≡ false }
-    requires held { (key : ℕ) → times key (pins_of (readers_in (Some job.old))) ≤ readers_of (slot volume.old.core.live key) }
+    requires held { (key : ℕ) → times key (pins_of (readers_in (Some job.old)))
+        ≤ readers_of (slot volume.old.core.live key) }
     requires few { (key : ℕ) (v : LiveVersion) → slot volume.old.core.live key ≡ Some v → v.readers + 1 < 2 ^ 32 }
     // The volume, and what the job reads.
     ensures untouched { (volume.new.disk ≡ volume.old.disk) × (volume.new.failed ≡ volume.old.failed) }
     ensures only { (result ≡ Failed → ⊥) × (result ≡ Device → ⊥) × (result ≡ NoMemory → ⊥) }
     ensures pending { volume.new.core.pending ≡ volume.old.core.pending }
     ensures known { volume.new.core.known ≡ record volume.old.core.known { table = volume.new.core.known.table } }
-    ensures kept { (result ≡ Done → ⊥) → (volume.new.core ≡ volume.old.core) × (job.new ≡ record job.old { core = job.new.core }) }
+    ensures kept { (result ≡ Done → ⊥) → (volume.new.core ≡ volume.old.core)
+        × (job.new ≡ record job.old { core = job.new.core }) }
     ensures reads { KeepsReading volume.old.core.live volume.new.core.live job.old job.new }
     // What it answers and leaves, by its answer.
-    ensures looked { result ≡ Done → (channel : Channel) × (input : Input) × (held : VolumeCore) × IsLookingUp volume.old.core held volume.new.core job.old job.new number address channel input
+    ensures looked { result ≡ Done → (channel : Channel) × (input : Input) × (held : VolumeCore)
+        × IsLookingUp volume.old.core held volume.new.core job.old job.new number address channel input
         × ((D.state volume.new.disk).honest → (s : State) → IsKnown (D.state volume.old.disk) volume.old.core s
         → IsFound (D.state volume.old.disk).contents held.live s job.old job.new address input) }
     ensures row { (D.state volume.new.disk).honest → (s : State) → IsKnown (D.state volume.old.disk) volume.old.core s
-        → (under : UnderKeys) → IsLookupRow s (job_of under job.old) (job_of under job.new) (channel_at (job_of under job.old) number) address result }
+        → (under : UnderKeys) → IsLookupRow s (job_of under job.old) (job_of under job.new)
+        (channel_at (job_of under job.old) number) address result }
     ensures refused { (code : ℕ) → result ≡ Refused code → job.new ≡ with_code job.old address code }
 {
     let Some(channel) = job.channel(number) else {

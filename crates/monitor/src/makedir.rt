@@ -35,7 +35,8 @@ pub fn serve_make_dir<D: Disk>(
     address: u32,
 ) -> Reply
     requires ready { IsReady (D.state volume.old.disk) volume.old.core volume.old.failed job.old }
-    ensures serving { ServesAlways D.state volume.old.disk volume.new.disk volume.old.core volume.new.core volume.new.failed job.old job.new (MakeDir address) result }
+    ensures serving { ServesAlways D.state volume.old.disk volume.new.disk volume.old.core volume.new.core
+        volume.new.failed job.old job.new (MakeDir address) result }
 {
     make_dir(alloc, volume, job, address)
 }
@@ -51,24 +52,33 @@ fn is_system(ppn: Ppn) -> bool
 /// high bits, 775 (octal) where they are 0.
 fn make_dir<D: Disk>(alloc: Global, volume: &mut Volume<D>, job: &mut Job, address: u32) -> Reply
     requires serves { volume.old.failed ≡ false }
-    ensures outcome { IsMakeDir (D.state volume.old.disk).size volume.old.core ((volume.new.disk ≡ volume.old.disk) × (volume.new.core ≡ volume.old.core)) job.old job.new address result }
+    ensures outcome { IsMakeDir (D.state volume.old.disk).size volume.old.core ((volume.new.disk ≡ volume.old.disk)
+        × (volume.new.core ≡ volume.old.core)) job.old job.new address result }
     ensures keeps { Keeps volume.old.core.pending volume.new.core.pending job.old job.new }
     ensures reads { KeepsReading volume.old.core.live volume.new.core.live job.old job.new }
     // A crash finds the files as they were, or with the directory.
     ensures crash { (D.state volume.new.disk).honest → (f : Files File) → RestsAt (D.state volume.old.disk) f
-        → LeavesOnly (D.state volume.old.disk) (D.state volume.new.disk) (StandsForEither (D.state volume.old.disk).size f (files_made f (asked_owner job.old.core address) (asked_protection job.old.core address))) }
+        → LeavesOnly (D.state volume.old.disk) (D.state volume.new.disk)
+        (StandsForEither (D.state volume.old.disk).size f
+        (files_made f (asked_owner job.old.core address) (asked_protection job.old.core address))) }
     ensures done { (D.state volume.new.disk).honest → (f : Files File) → RestsAt (D.state volume.old.disk) f
-        → result ≡ Done → RestsAt (D.state volume.new.disk) (files_made f (asked_owner job.old.core address) (asked_protection job.old.core address)) }
+        → result ≡ Done → RestsAt (D.state volume.new.disk)
+        (files_made f (asked_owner job.old.core address) (asked_protection job.old.core address)) }
     // The versions in use stay, and so does each directory in its place, with the prime blocks of its files.
     ensures live { volume.new.core.live ≡ volume.old.core.live }
     ensures pending { volume.new.core.pending ≡ volume.old.core.pending }
-    ensures directories { (owner : ℕ) (d : KnownDirectory) → IsDirectoryOf volume.old.core owner d → IsDirectoryOf volume.new.core owner d }
-    ensures primes { (owner : ℕ) (name : FileName) (n : ℕ) → prime_at volume.old.core owner name ≡ Some n → prime_at volume.new.core owner name ≡ Some n }
-    ensures readers { (D.state volume.new.disk).honest → volume.new.failed ≡ false → KeepsRead (D.state volume.old.disk).contents (D.state volume.new.disk).contents volume.old.core }
-    ensures writers { (D.state volume.new.disk).honest → volume.new.failed ≡ false → KeepsEachWritten (D.state volume.old.disk).contents (D.state volume.new.disk).contents volume.old.core }
+    ensures directories { (owner : ℕ) (d : KnownDirectory) → IsDirectoryOf volume.old.core owner d
+        → IsDirectoryOf volume.new.core owner d }
+    ensures primes { (owner : ℕ) (name : FileName) (n : ℕ) → prime_at volume.old.core owner name ≡ Some n
+        → prime_at volume.new.core owner name ≡ Some n }
+    ensures readers { (D.state volume.new.disk).honest → volume.new.failed ≡ false
+        → KeepsRead (D.state volume.old.disk).contents (D.state volume.new.disk).contents volume.old.core }
+    ensures writers { (D.state volume.new.disk).honest → volume.new.failed ≡ false
+        → KeepsEachWritten (D.state volume.old.disk).contents (D.state volume.new.disk).contents volume.old.core }
     // It blames the device where that failed.
     ensures failed { IsTrue volume.new.failed ↔ (result ≡ Device) }
-    ensures counted { result ≡ Device → (D.state volume.new.disk).failures ≡ one_more (D.state volume.old.disk).failures }
+    ensures counted { result ≡ Device → (D.state volume.new.disk).failures
+        ≡ one_more (D.state volume.old.disk).failures }
     ensures served { (result ≡ Device → ⊥) → (D.state volume.new.disk).failures ≡ (D.state volume.old.disk).failures }
     ensures same { SameDisk (D.state volume.old.disk) (D.state volume.new.disk) }
 {

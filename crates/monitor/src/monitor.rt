@@ -37,7 +37,8 @@ impl<D: Disk> Model for Monitor<D> {
     ghost view = { λ m. record { disk = m.volume.disk; map = m.volume.core; failed = m.volume.failed; jobs = m.jobs } };
 
     // A publication that the device fails leaves core between the two.
-    ghost invariant = { λ m. m.volume.failed ≡ false → AreKeyed m.volume.core.pending m.jobs × ArePlaced m.volume.core × AreReading m.volume.core.live m.jobs };
+    ghost invariant = { λ m. m.volume.failed ≡ false → AreKeyed m.volume.core.pending m.jobs × ArePlaced m.volume.core
+        × AreReading m.volume.core.live m.jobs };
 }
 
 impl<D: Disk> Monitor<D> {
@@ -48,28 +49,38 @@ impl<D: Disk> Monitor<D> {
     /// The refusals of `Volume::open`, with the disk handed back.
     pub fn start(alloc: Global, disk: D) -> Result<Monitor<D>, (StartError, D)>
         ensures started { (files : Files File) → Stands (D.state disk).size (D.state disk).contents files
-            → (s : State) → IsStart files s → IfOk result (λ m. (D.state m.disk).honest → Serves (D.state m.disk) m.map m.failed m.jobs (Serving s)) }
+            → (s : State) → IsStart files s → IfOk result (λ m. (D.state m.disk).honest
+            → Serves (D.state m.disk) m.map m.failed m.jobs (Serving s)) }
         // It starts only where the disk stands for some files, and nothing but the recovery was written.
-        ensures recovered { IfOk result (λ m. (D.state m.disk).honest → IsRecovered (D.state disk).size (D.state disk).contents (D.state m.disk).contents) }
-        ensures stood { IfOk result (λ m. (D.state m.disk).honest → (files : Files File) × Stands (D.state disk).size (D.state disk).contents files
+        ensures recovered { IfOk result (λ m. (D.state m.disk).honest
+            → IsRecovered (D.state disk).size (D.state disk).contents (D.state m.disk).contents) }
+        ensures stood { IfOk result (λ m. (D.state m.disk).honest → (files : Files File)
+            × Stands (D.state disk).size (D.state disk).contents files
             × ((s : State) → IsStart files s → Serves (D.state m.disk) m.map m.failed m.jobs (Serving s))) }
         ensures settled { IfOk result (λ m. (D.state m.disk).honest → NoneOpen (D.state m.disk)) }
         ensures crash { IfOk result (λ m. (D.state m.disk).honest → HasStarted (D.state disk) (D.state m.disk)) }
-        ensures synced { IfOk result (λ m. (D.state m.disk).honest → SyncsFirst D.state disk m.disk ⊥ (StandsLike (D.state disk))) }
+        ensures synced { IfOk result (λ m. (D.state m.disk).honest
+            → SyncsFirst D.state disk m.disk ⊥ (StandsLike (D.state disk))) }
 
-        ensures refused { IfErr result (λ refused. (D.state refused.1).honest → Refuses (D.state disk).size (D.state refused.1).contents refused.0) }
+        ensures refused { IfErr result (λ refused. (D.state refused.1).honest
+            → Refuses (D.state disk).size (D.state refused.1).contents refused.0) }
         ensures kept { IfErr result (λ refused. (D.state refused.1).honest → (refused.0 ≡ Device → ⊥)
-            → Still (D.state disk) (D.state refused.1) ⊎ IsRecovered (D.state disk).size (D.state disk).contents (D.state refused.1).contents) }
-        ensures crash_refused { IfErr result (λ refused. (D.state refused.1).honest → HasStarted (D.state disk) (D.state refused.1)) }
-        ensures synced_refused { IfErr result (λ refused. (D.state refused.1).honest → SyncsFirst D.state disk refused.1 (refused.0 ≡ Device) (StandsLike (D.state disk))) }
+            → Still (D.state disk) (D.state refused.1)
+            ⊎ IsRecovered (D.state disk).size (D.state disk).contents (D.state refused.1).contents) }
+        ensures crash_refused { IfErr result (λ refused. (D.state refused.1).honest
+            → HasStarted (D.state disk) (D.state refused.1)) }
+        ensures synced_refused { IfErr result (λ refused. (D.state refused.1).honest
+            → SyncsFirst D.state disk refused.1 (refused.0 ≡ Device) (StandsLike (D.state disk))) }
 
         // On every disk a block that a refusal names lies in the free space, or is one of the table.
         ensures named { IfErr result (λ refused. NamesInSpace (D.state disk).size refused.0) }
         ensures same { IfOk result (λ m. SameDisk (D.state disk) (D.state m.disk)) }
         ensures served { IfOk result (λ m. (D.state m.disk).failures ≡ (D.state disk).failures) }
         ensures same_refused { IfErr result (λ refused. SameDisk (D.state disk) (D.state refused.1)) }
-        ensures failed { IfErr result (λ refused. refused.0 ≡ Device → (D.state refused.1).failures ≡ one_more (D.state disk).failures) }
-        ensures served_refused { IfErr result (λ refused. (refused.0 ≡ Device → ⊥) → (D.state refused.1).failures ≡ (D.state disk).failures) }
+        ensures failed { IfErr result (λ refused. refused.0 ≡ Device
+            → (D.state refused.1).failures ≡ one_more (D.state disk).failures) }
+        ensures served_refused { IfErr result (λ refused. (refused.0 ≡ Device → ⊥)
+            → (D.state refused.1).failures ≡ (D.state disk).failures) }
     {
         let volume = Volume::open(alloc, disk)?;
         match Jobs::new(alloc) {
@@ -88,7 +99,8 @@ impl<D: Disk> Monitor<D> {
     /// How many blocks are left when all is booked; it may be below 0. Nothing is promised of it where the
     /// monitor has failed.
     pub fn room(&self) -> i64
-        ensures { (D.state self.now.disk).honest → (s : State) → Serves (D.state self.now.disk) self.now.map self.now.failed self.now.jobs (Serving s)
+        ensures { (D.state self.now.disk).honest → (s : State)
+            → Serves (D.state self.now.disk) self.now.map self.now.failed self.now.jobs (Serving s)
             → result ≡ room (pack_of (D.state self.now.disk)) s }
     {
         let _failed = self.volume.has_failed(); // which says what holds of a volume between two calls

@@ -111,8 +111,10 @@ fn opened(core: &Core, address: u32) -> Channel
 /// and the addresses of the headers of the two rings. A mode with buffers isn't served: where all else is as it
 /// should be, it is answered as one that there isn't.
 pub fn open(job: &mut Job, number: u32, address: u32) -> Reply
-    ensures row { is_buffered (mode_at job.old.core address) ≡ false → IsRow job.old job.new (Open number address) result }
-    ensures unserved { is_buffered (mode_at job.old.core address) ≡ true → (job.new ≡ job.old) × ((under : UnderKeys) → result ≡ open_unserved (job_of under job.old) number address) }
+    ensures row { is_buffered (mode_at job.old.core address) ≡ false
+        → IsRow job.old job.new (Open number address) result }
+    ensures unserved { is_buffered (mode_at job.old.core address) ≡ true → (job.new ≡ job.old)
+        × ((under : UnderKeys) → result ≡ open_unserved (job_of under job.old) number address) }
     ensures keeps { (pending : List (Option PendingVersion)) → Keeps pending pending job.old job.new }
     ensures reads { (live : List (Option LiveVersion)) → KeepsReading live live job.old job.new }
     ensures only { (result ≡ Failed → ⊥) × (result ≡ Device → ⊥) × (result ≡ NoMemory → ⊥) }

@@ -1,4 +1,5 @@
-ghost use Rattle.std.specs.Prelude.{◌≡◌, ◌⊎◌, ◌↔◌, ◌<◌, ◌≤◌, ◌+◌, ◌^◌, ℕ, false, IsTrue, All, IfOk, IfErr, IsErrOf, length, None, Some};
+ghost use Rattle.std.specs.Prelude.{◌≡◌, ◌⊎◌, ◌↔◌, ◌<◌, ◌≤◌, ◌+◌, ◌^◌, ℕ, false, IsTrue, All, IfOk, IfErr, IsErrOf};
+ghost use Rattle.std.specs.Prelude.{length, None, Some};
 ghost use Rattle.std.specs.List.{AllByRecursion};
 ghost use Rattle.blockdisk.specs.Disk.{LeavesOnly, SameDisk, one_more};
 ghost use Rattle.meaning.specs.CommandLists.{dump_list, word_count};
@@ -41,7 +42,8 @@ pub fn serve_out<D: Disk>(
     address: u32,
 ) -> Reply
     requires ready { IsReady (D.state volume.old.disk) volume.old.core volume.old.failed job.old }
-    ensures serving { ServesAlways D.state volume.old.disk volume.new.disk volume.old.core volume.new.core volume.new.failed job.old job.new (Out channel address) result }
+    ensures serving { ServesAlways D.state volume.old.disk volume.new.disk volume.old.core volume.new.core
+        volume.new.failed job.old job.new (Out channel address) result }
 {
     out(alloc, volume, job, channel, address)
 }
@@ -107,28 +109,37 @@ fn out<D: Disk>(
 ) -> Reply
     // The volume serves, and knows what the job writes.
     requires serves { volume.old.failed ≡ false }
-    requires live { (key : ℕ) → times key (keys_of (sides_in (Some job.old))) ≤ present (pending_at volume.old.core.pending key) }
+    requires live { (key : ℕ) → times key (keys_of (sides_in (Some job.old)))
+        ≤ present (pending_at volume.old.core.pending key) }
     requires sides { AllByRecursion (IsSide volume.old.core.pending) (sides_in (Some job.old)) }
 
     // The words are put, or not, by the answer; and what the job writes and reads is known.
     ensures outcome { IsOut (D.state volume.old.disk) (D.state volume.new.disk) volume.old.core volume.new.core
-        ((volume.new.disk ≡ volume.old.disk) × (volume.new.core ≡ volume.old.core)) job.old job.new number address result }
+        ((volume.new.disk ≡ volume.old.disk) × (volume.new.core ≡ volume.old.core)) job.old job.new number
+        address result }
     ensures keeps { volume.new.failed ≡ false → Keeps volume.old.core.pending volume.new.core.pending job.old job.new }
     ensures reads { volume.new.failed ≡ false → KeepsReading volume.old.core.live volume.new.core.live job.old job.new }
     // A crash finds the files as they were.
     ensures quiet { (D.state volume.new.disk).honest → (f : Files File) → RestsAt (D.state volume.old.disk) f
-        → LeavesOnly (D.state volume.old.disk) (D.state volume.new.disk) (λ c. Stands (D.state volume.old.disk).size c f) }
-    ensures rests { (D.state volume.new.disk).honest → (f : Files File) → RestsAt (D.state volume.old.disk) f → RestsAt (D.state volume.new.disk) f }
+        → LeavesOnly (D.state volume.old.disk) (D.state volume.new.disk)
+        (λ c. Stands (D.state volume.old.disk).size c f) }
+    ensures rests { (D.state volume.new.disk).honest → (f : Files File) → RestsAt (D.state volume.old.disk) f
+        → RestsAt (D.state volume.new.disk) f }
     // No other version changes.
-    ensures others { (key : ℕ) → IsOther (slot job.old.channels number) key → pending_at volume.new.core.pending key ≡ pending_at volume.old.core.pending key }
+    ensures others { (key : ℕ) → IsOther (slot job.old.channels number) key
+        → pending_at volume.new.core.pending key ≡ pending_at volume.old.core.pending key }
     ensures live { volume.new.core.live ≡ volume.old.core.live }
     ensures known { volume.new.core.known ≡ record volume.old.core.known { table = volume.new.core.known.table } }
-    ensures readers { (D.state volume.new.disk).honest → KeepsRead (D.state volume.old.disk).contents (D.state volume.new.disk).contents volume.old.core }
-    ensures writers { (D.state volume.new.disk).honest → (key : ℕ) (p : PendingVersion) → IsOther (slot job.old.channels number) key → pending_at volume.old.core.pending key ≡ Some p
-        → (n : ℕ) → 0 < times n p.version.blocks → (D.state volume.new.disk).contents n ≡ (D.state volume.old.disk).contents n }
+    ensures readers { (D.state volume.new.disk).honest
+        → KeepsRead (D.state volume.old.disk).contents (D.state volume.new.disk).contents volume.old.core }
+    ensures writers { (D.state volume.new.disk).honest → (key : ℕ) (p : PendingVersion)
+        → IsOther (slot job.old.channels number) key → pending_at volume.old.core.pending key ≡ Some p
+        → (n : ℕ) → 0 < times n p.version.blocks → (D.state volume.new.disk).contents n
+        ≡ (D.state volume.old.disk).contents n }
     // It fails with the volume, and blames the device where that failed.
     ensures failed { IsTrue volume.new.failed ↔ ((result ≡ Device) ⊎ (result ≡ Failed)) }
-    ensures counted { result ≡ Device → (D.state volume.new.disk).failures ≡ one_more (D.state volume.old.disk).failures }
+    ensures counted { result ≡ Device → (D.state volume.new.disk).failures
+        ≡ one_more (D.state volume.old.disk).failures }
     ensures served { (result ≡ Device → ⊥) → (D.state volume.new.disk).failures ≡ (D.state volume.old.disk).failures }
     ensures same { SameDisk (D.state volume.old.disk) (D.state volume.new.disk) }
 {

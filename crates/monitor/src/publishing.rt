@@ -16,9 +16,12 @@ use volume::Volume;
 pub fn publish_output<D: Disk>(alloc: Global, volume: &mut Volume<D>, output: Output) -> Reply
     requires live { IsSome (pending_at volume.old.core.pending output.pending.key) }
     requires starts { 0 < output.next }
-    requires placed { (p : PendingVersion) → pending_at volume.old.core.pending output.pending.key ≡ Some p → IsPlaced volume.old.core p }
-    ensures whatever { MayPublish (D.state volume.old.disk) (D.state volume.new.disk) volume.old.core volume.new.core output.pending.key }
-    ensures answered { IsPublishing (D.state volume.old.disk) (D.state volume.new.disk) volume.old.core volume.new.core volume.old.failed volume.new.failed output.pending.key result }
+    requires placed { (p : PendingVersion) → pending_at volume.old.core.pending output.pending.key ≡ Some p
+        → IsPlaced volume.old.core p }
+    ensures whatever { MayPublish (D.state volume.old.disk) (D.state volume.new.disk) volume.old.core volume.new.core
+        output.pending.key }
+    ensures answered { IsPublishing (D.state volume.old.disk) (D.state volume.new.disk) volume.old.core
+        volume.new.core volume.old.failed volume.new.failed output.pending.key result }
     ensures memory { result ≡ NoMemory → (volume.new.disk ≡ volume.old.disk) × (volume.new.core ≡ volume.old.core) }
 {
     match volume.publish(alloc, output.pending, output.next, &[]) {

@@ -30,8 +30,8 @@ use words36::BLOCK_WORDS;
 /// What a channel reports of a body that has no more words.
 const END_OF_FILE: u32 = 0o20000;
 
-/// IN: moves words of the version that a channel reads into the areas of core that the command list at an address names.
-/// Its row is `read`.
+/// IN: moves words of the version that a channel reads into the areas of core that the command list at an address
+/// names. Its row is `read`.
 pub fn serve_in<D: Disk>(
     alloc: Global,
     volume: &mut Volume<D>,
@@ -40,7 +40,8 @@ pub fn serve_in<D: Disk>(
     address: u32,
 ) -> Reply
     requires ready { IsReady (D.state volume.old.disk) volume.old.core volume.old.failed job.old }
-    ensures serving { ServesAlways D.state volume.old.disk volume.new.disk volume.old.core volume.new.core volume.new.failed job.old job.new (In channel address) result }
+    ensures serving { ServesAlways D.state volume.old.disk volume.new.disk volume.old.core volume.new.core
+        volume.new.failed job.old job.new (In channel address) result }
 {
     read(alloc, volume, job, channel, address)
 }
@@ -75,19 +76,24 @@ fn read<D: Disk>(
     requires sound { IsSound (D.state volume.old.disk) volume.old.core volume.old.failed }
     // The volume serves, and knows what the job reads.
     requires alive { volume.old.failed ≡ false }
-    requires held { (key : ℕ) → times key (pins_of (readers_in (Some job.old))) ≤ readers_of (version_at volume.old.core.live key) }
+    requires held { (key : ℕ) → times key (pins_of (readers_in (Some job.old)))
+        ≤ readers_of (version_at volume.old.core.live key) }
     requires readers { HasReaders job.old }
 
     // The volume, and what the job reads.
     ensures core { volume.new.core ≡ volume.old.core }
-    ensures outcome { IsIn (D.state volume.old.disk) (D.state volume.new.disk) volume.old.core job.old job.new number address result }
+    ensures outcome { IsIn (D.state volume.old.disk) (D.state volume.new.disk) volume.old.core job.old
+        job.new number address result }
     ensures reads { KeepsReading volume.old.core.live volume.new.core.live job.old job.new }
     // The disk is only read, and the device is blamed where it failed.
-    ensures only_reads { (D.state volume.new.disk).honest → OnlyReads (D.state volume.old.disk) (D.state volume.new.disk) }
-    ensures rests { (D.state volume.new.disk).honest → (files : Files File) → RestsAt (D.state volume.old.disk) files → RestsAt (D.state volume.new.disk) files }
+    ensures only_reads { (D.state volume.new.disk).honest
+        → OnlyReads (D.state volume.old.disk) (D.state volume.new.disk) }
+    ensures rests { (D.state volume.new.disk).honest → (files : Files File) → RestsAt (D.state volume.old.disk) files
+        → RestsAt (D.state volume.new.disk) files }
     ensures failed { IsTrue volume.new.failed ↔ ((result ≡ Device) ⊎ (result ≡ Failed)) }
     ensures blamed { (D.state volume.new.disk).honest → result ≡ Failed → ⊥ }
-    ensures counted { result ≡ Device → (D.state volume.new.disk).failures ≡ one_more (D.state volume.old.disk).failures }
+    ensures counted { result ≡ Device → (D.state volume.new.disk).failures
+        ≡ one_more (D.state volume.old.disk).failures }
     ensures served { (result ≡ Device → ⊥) → (D.state volume.new.disk).failures ≡ (D.state volume.old.disk).failures }
     ensures same { SameDisk (D.state volume.old.disk) (D.state volume.new.disk) }
     // Which answers leave all alone.

@@ -1,4 +1,5 @@
-ghost use Rattle.std.specs.Prelude.{◌≡◌, ◌⊎◌, ◌↔◌, ◌+◌, ◌<◌, ◌≤◌, ℕ, List, [], false, IsTrue, All, length, min, None, Some};
+ghost use Rattle.std.specs.Prelude.{◌≡◌, ◌⊎◌, ◌↔◌, ◌+◌, ◌<◌, ◌≤◌, ℕ, List, [], false, IsTrue, All, length, min, None};
+ghost use Rattle.std.specs.Prelude.{Some};
 ghost use Rattle.blockdisk.specs.Disk.{SameDisk, one_more};
 ghost use Rattle.changeset.specs.Reads.{OnlyReads};
 ghost use Rattle.meaning.specs.CommandLists.{dump_list, word_count};
@@ -12,7 +13,8 @@ ghost use Rattle.volume.specs.Pins.{IsReadable};
 ghost use Rattle.volume.specs.Rest.{RestsAt};
 ghost use Rattle.volume.specs.declared.handles.VersionHandle.TheVariants.{Pinned};
 ghost use Rattle.volume.specs.declared.live.LiveVersion.{LiveVersion};
-ghost use Rattle.monitor.specs.declared.read_in.ReadIn.TheVariants.{Moved, AddressCheck, AtEnd, NoMemory, Device, Failed};
+ghost use Rattle.monitor.specs.declared.read_in.ReadIn.TheVariants.{Moved, AddressCheck, AtEnd, NoMemory, Device};
+ghost use Rattle.monitor.specs.declared.read_in.ReadIn.TheVariants.{Failed};
 
 use blockdisk::Disk;
 use std::alloc::Global;
@@ -41,7 +43,8 @@ pub enum ReadIn {
 fn fill(core: &mut Core, areas: &[Area], words: &[Word]) -> ReadIn
     requires { All (λ area. area.first + area.count ≤ length core.old) areas.now }
     ensures at_end { result ≡ AtEnd ↔ (words.now ≡ []) }
-    ensures moved { (n : ℕ) → result ≡ Moved n → (n ≡ length words.now) × (core.new ≡ after_writes core.old (dealt areas.now words.now)) }
+    ensures moved { (n : ℕ) → result ≡ Moved n → (n ≡ length words.now)
+        × (core.new ≡ after_writes core.old (dealt areas.now words.now)) }
     ensures kept { result ≡ AtEnd → core.new ≡ core.old }
     ensures length { length core.new ≡ length core.old }
     ensures either { (result ≡ AtEnd) ⊎ ((n : ℕ) × (0 < n) × (result ≡ Moved n)) }
@@ -71,27 +74,35 @@ pub fn read_in<D: Disk>(
     ensures checked { result ≡ AddressCheck ↔ (dump_list core.old address ≡ None) }
     ensures named { result ≡ Moved 0 ↔ (dump_list core.old address ≡ Some []) }
     // The words are those of the body that was pinned,
-    ensures moved { (D.state volume.new.disk).honest → (v : LiveVersion) → slot volume.old.core.live pin.key ≡ Some v → (body : List ℕ) → length body ≡ v.version.words
-        → HasBody (D.state volume.old.disk).contents v.version.blocks body → (areas : List Words) → dump_list core.old address ≡ Some areas
+    ensures moved { (D.state volume.new.disk).honest → (v : LiveVersion) → slot volume.old.core.live pin.key ≡ Some v
+        → (body : List ℕ) → length body ≡ v.version.words
+        → HasBody (D.state volume.old.disk).contents v.version.blocks body → (areas : List Words)
+        → dump_list core.old address ≡ Some areas
         → (n : ℕ) → result ≡ Moved n → core.new ≡ after_writes core.old (dealt areas (words_from body block)) }
     // and, on every disk, as many as the list names and the body has.
-    ensures number { (v : LiveVersion) → slot volume.old.core.live pin.key ≡ Some v → (body : List ℕ) → length body ≡ v.version.words → (areas : List Words) → dump_list core.old address ≡ Some areas
+    ensures number { (v : LiveVersion) → slot volume.old.core.live pin.key ≡ Some v → (body : List ℕ)
+        → length body ≡ v.version.words → (areas : List Words) → dump_list core.old address ≡ Some areas
         → (n : ℕ) → result ≡ Moved n → n ≡ min (word_count areas) (length (words_from body block)) }
-    ensures few { (areas : List Words) → dump_list core.old address ≡ Some areas → (n : ℕ) → result ≡ Moved n → n ≤ word_count areas }
-    ensures at_end { (v : LiveVersion) → slot volume.old.core.live pin.key ≡ Some v → (body : List ℕ) → length body ≡ v.version.words → (areas : List Words) → dump_list core.old address ≡ Some areas
+    ensures few { (areas : List Words) → dump_list core.old address ≡ Some areas → (n : ℕ) → result ≡ Moved n
+        → n ≤ word_count areas }
+    ensures at_end { (v : LiveVersion) → slot volume.old.core.live pin.key ≡ Some v → (body : List ℕ)
+        → length body ≡ v.version.words → (areas : List Words) → dump_list core.old address ≡ Some areas
         → result ≡ AtEnd → (0 < word_count areas) × (words_from body block ≡ []) }
     ensures kept { ((n : ℕ) → 0 < n → result ≡ Moved n → ⊥) → core.new ≡ core.old }
     ensures length { length core.new ≡ length core.old }
 
     // Nothing is written, and the volume stays.
     ensures reads { (D.state volume.new.disk).honest → OnlyReads (D.state volume.old.disk) (D.state volume.new.disk) }
-    ensures rests { (D.state volume.new.disk).honest → (files : Files File) → RestsAt (D.state volume.old.disk) files → RestsAt (D.state volume.new.disk) files }
+    ensures rests { (D.state volume.new.disk).honest → (files : Files File) → RestsAt (D.state volume.old.disk) files
+        → RestsAt (D.state volume.new.disk) files }
     ensures core { volume.new.core ≡ volume.old.core }
-    ensures idle { (result ≡ AddressCheck) ⊎ (result ≡ AtEnd) ⊎ (result ≡ Moved 0) ⊎ (result ≡ NoMemory) → volume.new.disk ≡ volume.old.disk }
+    ensures idle { (result ≡ AddressCheck) ⊎ (result ≡ AtEnd) ⊎ (result ≡ Moved 0) ⊎ (result ≡ NoMemory)
+        → volume.new.disk ≡ volume.old.disk }
     // It fails with the volume, and blames the device where that failed.
     ensures failed { IsTrue volume.new.failed ↔ ((result ≡ Device) ⊎ (result ≡ Failed)) }
     ensures blamed { result ≡ Failed → (D.state volume.new.disk).honest → ⊥ }
-    ensures counted { result ≡ Device → (D.state volume.new.disk).failures ≡ one_more (D.state volume.old.disk).failures }
+    ensures counted { result ≡ Device → (D.state volume.new.disk).failures
+        ≡ one_more (D.state volume.old.disk).failures }
     ensures served { (result ≡ Device → ⊥) → (D.state volume.new.disk).failures ≡ (D.state volume.old.disk).failures }
     ensures same { SameDisk (D.state volume.old.disk) (D.state volume.new.disk) }
 {

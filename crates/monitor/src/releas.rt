@@ -24,8 +24,8 @@ use meaning::Reply;
 use std::alloc::Global;
 use volume::Volume;
 
-/// RELEAS: closes both sides of a channel, as CLOSE without bits does, and the channel. Its rows are `release_output`, where
-/// it publishes, and `release`.
+/// RELEAS: closes both sides of a channel, as CLOSE without bits does, and the channel. Its rows are `release_output`,
+/// where it publishes, and `release`.
 pub fn serve_release<D: Disk>(
     alloc: Global,
     volume: &mut Volume<D>,
@@ -33,7 +33,8 @@ pub fn serve_release<D: Disk>(
     channel: u32,
 ) -> Reply
     requires ready { IsReady (D.state volume.old.disk) volume.old.core volume.old.failed job.old }
-    ensures serving { ServesAlways D.state volume.old.disk volume.new.disk volume.old.core volume.new.core volume.new.failed job.old job.new (Releas channel) result }
+    ensures serving { ServesAlways D.state volume.old.disk volume.new.disk volume.old.core volume.new.core
+        volume.new.failed job.old job.new (Releas channel) result }
 {
     match closed_side(job, channel, 0) {
         Some((_open, output)) => release_output(alloc, volume, job, channel, output),
@@ -43,7 +44,8 @@ pub fn serve_release<D: Disk>(
 
 /// RELEAS of a channel without an output side: what it reads is let go, and the channel closes.
 fn release<D: Disk>(volume: &mut Volume<D>, job: &mut Job, number: u32) -> Reply
-    requires held { (key : ℕ) → times key (pins_of (readers_in (Some job.old))) ≤ readers_of (version_at volume.old.core.live key) }
+    requires held { (key : ℕ) → times key (pins_of (readers_in (Some job.old)))
+        ≤ readers_of (version_at volume.old.core.live key) }
     requires unpublished { publishes_at (slot job.old.channels number) 0 ≡ false }
     ensures untouched { (volume.new.disk ≡ volume.old.disk) × (volume.new.failed ≡ volume.old.failed) }
     ensures row { IsRow job.old job.new (Releas number) result }
@@ -76,10 +78,13 @@ fn release_output<D: Disk>(
     requires single { reader_of (slot job.old.channels number) ≡ None }
     requires live { IsSome (pending_at volume.old.core.pending output.pending.key) }
     requires starts { 0 < output.next }
-    requires placed { (p : PendingVersion) → pending_at volume.old.core.pending output.pending.key ≡ Some p → IsPlaced volume.old.core p }
+    requires placed { (p : PendingVersion) → pending_at volume.old.core.pending output.pending.key ≡ Some p
+        → IsPlaced volume.old.core p }
     // The volume, whatever is answered.
-    ensures whatever { MayPublish (D.state volume.old.disk) (D.state volume.new.disk) volume.old.core volume.new.core output.pending.key }
-    ensures answered { IsPublishing (D.state volume.old.disk) (D.state volume.new.disk) volume.old.core volume.new.core volume.old.failed volume.new.failed output.pending.key result }
+    ensures whatever { MayPublish (D.state volume.old.disk) (D.state volume.new.disk) volume.old.core volume.new.core
+        output.pending.key }
+    ensures answered { IsPublishing (D.state volume.old.disk) (D.state volume.new.disk) volume.old.core
+        volume.new.core volume.old.failed volume.new.failed output.pending.key result }
     ensures memory { result ≡ NoMemory → (volume.new.disk ≡ volume.old.disk) × (volume.new.core ≡ volume.old.core) }
     // The job: the channel closes where it is done.
     ensures closed { result ≡ Done → job.new ≡ record job.old { channels = slice_set job.old.channels number None } }
@@ -87,8 +92,11 @@ fn release_output<D: Disk>(
     ensures keeps { result ≡ Done → Keeps volume.old.core.pending volume.new.core.pending job.old job.new }
     ensures stands { StillStands volume.old.core volume.new.core volume.new.failed job.old job.new }
     // The machine's row.
-    ensures row { volume.old.failed ≡ false → IsPublishRow (D.state volume.old.disk) (D.state volume.new.disk) volume.old.core volume.new.core volume.new.failed job.old job.new (Releas number) result }
-    ensures crash { CrashesAsRow (D.state volume.old.disk) (D.state volume.new.disk) volume.old.core job.old (Releas number) }
+    ensures row { volume.old.failed ≡ false
+        → IsPublishRow (D.state volume.old.disk) (D.state volume.new.disk) volume.old.core volume.new.core
+        volume.new.failed job.old job.new (Releas number) result }
+    ensures crash { CrashesAsRow (D.state volume.old.disk) (D.state volume.new.disk) volume.old.core job.old
+        (Releas number) }
 {
     let reply = publish_output(alloc, volume, output);
     if reply == Reply::Done {

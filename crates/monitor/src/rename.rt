@@ -16,8 +16,10 @@ use meaning::{ErrorCode, Reply};
 
 /// RENAME: it is out of order on a channel that doesn't read; and until files are renamed, on one that reads too.
 pub fn rename(job: &mut Job, number: u32, address: u32) -> Reply
-    ensures row { reader_of (slot job.old.channels number) ≡ None → IsRow job.old job.new (Rename number address) result }
-    ensures unserved { IsReading (slot job.old.channels number) → (result ≡ refusal_at job.old address 4) × (job.new ≡ job_refused job.old address 4) }
+    ensures row { reader_of (slot job.old.channels number) ≡ None
+        → IsRow job.old job.new (Rename number address) result }
+    ensures unserved { IsReading (slot job.old.channels number) → (result ≡ refusal_at job.old address 4)
+        × (job.new ≡ job_refused job.old address 4) }
     ensures keeps { (pending : List (Option PendingVersion)) → Keeps pending pending job.old job.new }
     ensures reads { (live : List (Option LiveVersion)) → KeepsReading live live job.old job.new }
     ensures only { (result ≡ Failed → ⊥) × (result ≡ Device → ⊥) × (result ≡ NoMemory → ⊥) }

@@ -20,11 +20,12 @@ use meaning::Reply;
 use volume::Volume;
 use words36::Moment;
 
-/// RESET: closes all channels of a job, drops what it has written and lets go what it reads; and the next ring of buffers
-/// goes where the first one does.
+/// RESET: closes all channels of a job, drops what it has written and lets go what it reads; and the next ring of
+/// buffers goes where the first one does.
 pub fn serve_reset<D: Disk>(volume: &mut Volume<D>, job: &mut Job) -> Reply
     requires ready { IsReady (D.state volume.old.disk) volume.old.core volume.old.failed job.old }
-    ensures serving { ServesAlways D.state volume.old.disk volume.new.disk volume.old.core volume.new.core volume.new.failed job.old job.new Reset result }
+    ensures serving { ServesAlways D.state volume.old.disk volume.new.disk volume.old.core volume.new.core
+        volume.new.failed job.old job.new Reset result }
 {
     close_channels(volume, &job.channels);
     job.reset();
@@ -41,8 +42,10 @@ pub fn reset<D: Disk>(volume: &mut Volume<D>, jobs: &mut Jobs, number: u32) -> b
     ensures reading { AreReading volume.new.core.live jobs.new }
     ensures leaves { Leaves volume.old.core volume.new.core }
     ensures untouched { (volume.new.disk ≡ volume.old.disk) × (volume.new.failed ≡ volume.old.failed) }
-    ensures found { IsTrue result → (job : JobRecord) × (slot jobs.old number ≡ Some job) × (jobs.new ≡ slice_set jobs.old number (Some (reset_job job))) }
-    ensures none { IsFalse result → (slot jobs.old number ≡ None) × (jobs.new ≡ jobs.old) × (volume.new.core ≡ volume.old.core) }
+    ensures found { IsTrue result → (job : JobRecord) × (slot jobs.old number ≡ Some job)
+        × (jobs.new ≡ slice_set jobs.old number (Some (reset_job job))) }
+    ensures none { IsFalse result → (slot jobs.old number ≡ None) × (jobs.new ≡ jobs.old)
+        × (volume.new.core ≡ volume.old.core) }
 {
     let Some(_there) = jobs.job(number) else {
         return false;
@@ -58,13 +61,15 @@ impl<D: Disk> Monitor<D> {
     /// The answer is `Done`; `DateRange` where the moment's date is above 4095, which layout 1 can't hold;
     /// `NoJob` where no job of that number is logged in; or `Failed`. It wants no memory and touches no disk.
     pub fn reset(&mut self, job: u32, moment: Moment) -> Reply
-        ensures answered { (old : Service) → Serves (D.state self.old.disk) self.old.map self.old.failed self.old.jobs old
+        ensures answered { (old : Service)
+            → Serves (D.state self.old.disk) self.old.map self.old.failed self.old.jobs old
             → (new : Service) × Serves (D.state self.new.disk) self.new.map self.new.failed self.new.jobs new
             × Answers (pack_of (D.state self.old.disk)) old (Calls job Reset moment) result new }
         ensures kept { self.new ≡ record self.old { map = self.new.map; jobs = self.new.jobs } }
         ensures failed { result ≡ Failed ↔ IsTrue self.old.failed }
         ensures value { self.old.failed ≡ false → result ≡ reset_answer moment.date (slot self.old.jobs job) }
-        ensures done { result ≡ Done → (there : JobRecord) × (slot self.old.jobs job ≡ Some there) × (self.new.jobs ≡ slice_set self.old.jobs job (Some (reset_job there))) }
+        ensures done { result ≡ Done → (there : JobRecord) × (slot self.old.jobs job ≡ Some there)
+            × (self.new.jobs ≡ slice_set self.old.jobs job (Some (reset_job there))) }
         ensures refused { (result ≡ Done → ⊥) → (self.new.jobs ≡ self.old.jobs) × (self.new.map ≡ self.old.map) }
         ensures others { (m : ℕ) → (m ≡ job → ⊥) → slot self.new.jobs m ≡ slot self.old.jobs m }
     {

@@ -37,41 +37,58 @@ pub fn start_after_crash<D: Disk, E: Disk>(
     left: E,
 ) -> Result<Monitor<E>, (StartError, E)>
     ensures found { (D.state stopped.now).honest → (E.state left).size ≡ (D.state stopped.now).size
-        → (t : ℕ) (s : State) (events : List Event) (replies : List Reply) (new : Service) → RunsOn (pack_of (D.state stopped.now)) (D.state stopped.now) t (Serving s) events replies new
+        → (t : ℕ) (s : State) (events : List Event) (replies : List Reply) (new : Service)
+        → RunsOn (pack_of (D.state stopped.now)) (D.state stopped.now) t (Serving s) events replies new
         → (starts : List (E × E)) → AreStopped E.state (D.state stopped.now) t starts (E.state left).contents
         → (found : State) × IsAlong (pack_of (D.state stopped.now)) (Serving s) events replies found
-        × IfOk result (λ m. (E.state m.disk).honest → ServesFiles (E.state m.disk) m.map m.failed m.jobs (without_serials found.files)) }
+        × IfOk result (λ m. (E.state m.disk).honest
+        → ServesFiles (E.state m.disk) m.map m.failed m.jobs (without_serials found.files)) }
     ensures refused { (D.state stopped.now).honest → (E.state left).size ≡ (D.state stopped.now).size
-        → (t : ℕ) (s : State) (events : List Event) (replies : List Reply) (new : Service) → RunsOn (pack_of (D.state stopped.now)) (D.state stopped.now) t (Serving s) events replies new
+        → (t : ℕ) (s : State) (events : List Event) (replies : List Reply) (new : Service)
+        → RunsOn (pack_of (D.state stopped.now)) (D.state stopped.now) t (Serving s) events replies new
         → (starts : List (E × E)) → AreStopped E.state (D.state stopped.now) t starts (E.state left).contents
         → IfErr result (λ refused. (E.state refused.1).honest → (refused.0 ≡ NoMemory) ⊎ (refused.0 ≡ Device)) }
     // What was left between the moment before an event and the moment after it: the files before it or after it.
     ensures between { (E.state left).size ≡ (D.state stopped.now).size
-        → (t u : ℕ) (s : State) (event : Event) (reply : Reply) → Between (D.state stopped.now) t u (StandsForEither (pack_of (D.state stopped.now)) s event reply)
-        → (D.state stopped.now).left_since t (E.state left).contents → ((D.state stopped.now).left_since u (E.state left).contents → ⊥)
-        → IfOk result (λ m. (E.state m.disk).honest → ServesFiles (E.state m.disk) m.map m.failed m.jobs (without_serials s.files)
-        ⊎ ServesFiles (E.state m.disk) m.map m.failed m.jobs (without_serials (step (pack_of (D.state stopped.now)) 0 s event).1.files)) }
+        → (t u : ℕ) (s : State) (event : Event) (reply : Reply)
+        → Between (D.state stopped.now) t u (StandsForEither (pack_of (D.state stopped.now)) s event reply)
+        → (D.state stopped.now).left_since t (E.state left).contents
+        → ((D.state stopped.now).left_since u (E.state left).contents → ⊥)
+        → IfOk result (λ m. (E.state m.disk).honest
+        → ServesFiles (E.state m.disk) m.map m.failed m.jobs (without_serials s.files)
+        ⊎ ServesFiles (E.state m.disk) m.map m.failed m.jobs
+        (without_serials (step (pack_of (D.state stopped.now)) 0 s event).1.files)) }
 
     // It may be stopped itself. Where all that a crash may leave at its beginning stands for the same files, whatever a
     // crash leaves at any moment of it does.
-    ensures again { (files : Files File) → ((c : Contents) → MayLeave (E.state left) c → Stands (E.state left).size c files)
-        → IfOk result (λ m. (E.state m.disk).honest → LeavesOnly (E.state left) (E.state m.disk) (λ c. Stands (E.state left).size c files)) }
-    ensures again_refused { (files : Files File) → ((c : Contents) → MayLeave (E.state left) c → Stands (E.state left).size c files)
-        → IfErr result (λ refused. (E.state refused.1).honest → LeavesOnly (E.state left) (E.state refused.1) (λ c. Stands (E.state left).size c files)) }
+    ensures again { (files : Files File)
+        → ((c : Contents) → MayLeave (E.state left) c → Stands (E.state left).size c files)
+        → IfOk result (λ m. (E.state m.disk).honest
+        → LeavesOnly (E.state left) (E.state m.disk) (λ c. Stands (E.state left).size c files)) }
+    ensures again_refused { (files : Files File)
+        → ((c : Contents) → MayLeave (E.state left) c → Stands (E.state left).size c files)
+        → IfErr result (λ refused. (E.state refused.1).honest
+        → LeavesOnly (E.state left) (E.state refused.1) (λ c. Stands (E.state left).size c files)) }
     ensures crash { IfOk result (λ m. (E.state m.disk).honest → HasStarted (E.state left) (E.state m.disk)) }
-    ensures crash_refused { IfErr result (λ refused. (E.state refused.1).honest → HasStarted (E.state left) (E.state refused.1)) }
+    ensures crash_refused { IfErr result (λ refused. (E.state refused.1).honest
+        → HasStarted (E.state left) (E.state refused.1)) }
 
     // What is refused, and what becomes of the disk, as of `Monitor::start`.
-    ensures faults { IfErr result (λ refused. (E.state refused.1).honest → Refuses (E.state left).size (E.state refused.1).contents refused.0) }
+    ensures faults { IfErr result (λ refused. (E.state refused.1).honest
+        → Refuses (E.state left).size (E.state refused.1).contents refused.0) }
     ensures kept { IfErr result (λ refused. (E.state refused.1).honest → (refused.0 ≡ Device → ⊥)
-        → Still (E.state left) (E.state refused.1) ⊎ IsRecovered (E.state left).size (E.state left).contents (E.state refused.1).contents) }
-    ensures recovered { IfOk result (λ m. (E.state m.disk).honest → IsRecovered (E.state left).size (E.state left).contents (E.state m.disk).contents) }
+        → Still (E.state left) (E.state refused.1)
+        ⊎ IsRecovered (E.state left).size (E.state left).contents (E.state refused.1).contents) }
+    ensures recovered { IfOk result (λ m. (E.state m.disk).honest
+        → IsRecovered (E.state left).size (E.state left).contents (E.state m.disk).contents) }
     ensures named { IfErr result (λ refused. NamesInSpace (E.state left).size refused.0) }
     ensures same { IfOk result (λ m. SameDisk (E.state left) (E.state m.disk)) }
     ensures served { IfOk result (λ m. (E.state m.disk).failures ≡ (E.state left).failures) }
     ensures same_refused { IfErr result (λ refused. SameDisk (E.state left) (E.state refused.1)) }
-    ensures failed { IfErr result (λ refused. refused.0 ≡ Device → (E.state refused.1).failures ≡ one_more (E.state left).failures) }
-    ensures served_refused { IfErr result (λ refused. (refused.0 ≡ Device → ⊥) → (E.state refused.1).failures ≡ (E.state left).failures) }
+    ensures failed { IfErr result (λ refused. refused.0 ≡ Device
+        → (E.state refused.1).failures ≡ one_more (E.state left).failures) }
+    ensures served_refused { IfErr result (λ refused. (refused.0 ≡ Device → ⊥)
+        → (E.state refused.1).failures ≡ (E.state left).failures) }
 {
     Monitor::start(alloc, left)
 }

@@ -1,4 +1,5 @@
-ghost use Rattle.std.specs.Prelude.{◌≡◌, ◌⊎◌, ◌↔◌, ◌<◌, ◌≤◌, ℕ, List, Some, length, map, slice_set, true, false, IsTrue, IfOk, IsErr};
+ghost use Rattle.std.specs.Prelude.{◌≡◌, ◌⊎◌, ◌↔◌, ◌<◌, ◌≤◌, ℕ, List, Some, length, map, slice_set, true, false};
+ghost use Rattle.std.specs.Prelude.{IsTrue, IfOk, IsErr};
 ghost use Rattle.std.specs.List.{AllByRecursion};
 ghost use Rattle.blockdisk.specs.Disk.{SameDisk, LeavesOnly, one_more};
 ghost use Rattle.meaning.specs.Crashes.{StandsForEither, RunsOn};
@@ -25,41 +26,56 @@ use std::alloc::Global;
 impl<D: Disk> Monitor<D> {
     /// Serves one event, and gives its reply: that of `login`, `deposit`, `examine` or `call`.
     pub fn event(&mut self, alloc: Global, event: &Event) -> Reply
-        ensures answered { (D.state self.new.disk).honest → (old : Service) → Serves (D.state self.old.disk) self.old.map self.old.failed self.old.jobs old → IsServedIn old event.now
+        ensures answered { (D.state self.new.disk).honest → (old : Service)
+            → Serves (D.state self.old.disk) self.old.map self.old.failed self.old.jobs old → IsServedIn old event.now
             → (new : Service) × Serves (D.state self.new.disk) self.new.map self.new.failed self.new.jobs new
             × Answers (pack_of (D.state self.old.disk)) old event.now result new }
-        // At any moment of it a crash leaves the files from before, or those after it where its answer is one that may change
-        // files: `Done`, and `Device`.
-        ensures crash { (D.state self.new.disk).honest → (s : State) → Serves (D.state self.old.disk) self.old.map self.old.failed self.old.jobs (Serving s)
-            → LeavesOnly (D.state self.old.disk) (D.state self.new.disk) (StandsForEither (pack_of (D.state self.old.disk)) s event.now result) }
+        // At any moment of it a crash leaves the files from before, or those after it where its answer is one that may
+        // change files: `Done`, and `Device`.
+        ensures crash { (D.state self.new.disk).honest → (s : State)
+            → Serves (D.state self.old.disk) self.old.map self.old.failed self.old.jobs (Serving s)
+            → LeavesOnly (D.state self.old.disk) (D.state self.new.disk)
+            (StandsForEither (pack_of (D.state self.old.disk)) s event.now result) }
         // The machine's record of another job stays, where it is served as the machine serves it.
-        ensures apart { (D.state self.new.disk).honest → (s : State) → Serves (D.state self.old.disk) self.old.map self.old.failed self.old.jobs (Serving s) → IsServedIn (Serving s) event.now
-            → (after : Service) × Serves (D.state self.new.disk) self.new.map self.new.failed self.new.jobs after × Answers (pack_of (D.state self.old.disk)) (Serving s) event.now result after
+        ensures apart { (D.state self.new.disk).honest → (s : State)
+            → Serves (D.state self.old.disk) self.old.map self.old.failed self.old.jobs (Serving s)
+            → IsServedIn (Serving s) event.now
+            → (after : Service) × Serves (D.state self.new.disk) self.new.map self.new.failed self.new.jobs after
+            × Answers (pack_of (D.state self.old.disk)) (Serving s) event.now result after
             × ((t : State) → after ≡ Serving t → (m : ℕ) → (m ≡ job_of event.now → ⊥) → job_at t m ≡ job_at s m) }
         // On every disk: no event of another job changes a job, and one that finds no memory leaves all as it was.
         ensures others { (m : ℕ) → (m ≡ job_of event.now → ⊥) → slot self.new.jobs m ≡ slot self.old.jobs m }
         ensures memory { result ≡ replies.NoMemory → self.new ≡ self.old }
         // Which events, and which answers, leave the disk alone; and which events take no memory.
         ensures idle { IsIdle result → self.new.disk ≡ self.old.disk }
-        ensures light { IsLightEvent event.now self.old.jobs → (result ≡ replies.NoMemory → ⊥) × (self.new.disk ≡ self.old.disk) }
+        ensures light { IsLightEvent event.now self.old.jobs → (result ≡ replies.NoMemory → ⊥)
+            × (self.new.disk ≡ self.old.disk) }
         ensures apart_from_disk { IsNoCall event.now → self.new.disk ≡ self.old.disk }
         // It fails with the device, and is Failed from then on; else only a broken promise of the disk makes it so.
         ensures failed { IsTrue self.new.failed ↔ ((result ≡ Device) ⊎ (result ≡ Failed)) }
         ensures broken { self.old.failed ≡ true → (result ≡ Failed) × (self.new ≡ self.old) }
         ensures blamed { (D.state self.new.disk).honest → result ≡ Failed → self.old.failed ≡ true }
-        ensures counted { result ≡ Device → (D.state self.new.disk).failures ≡ one_more (D.state self.old.disk).failures }
+        ensures counted { result ≡ Device → (D.state self.new.disk).failures
+            ≡ one_more (D.state self.old.disk).failures }
         ensures served { (result ≡ Device → ⊥) → (D.state self.new.disk).failures ≡ (D.state self.old.disk).failures }
         ensures same { SameDisk (D.state self.old.disk) (D.state self.new.disk) }
         // And what `call` says of a call alone.
-        ensures still { OfCall event.now (λ job call moment. (D.state self.new.disk).honest → (channel address : ℕ) → call ≡ In channel address → moment.date ≤ 4095 → (s : State) → Serves (D.state self.old.disk) self.old.map self.old.failed self.old.jobs (Serving s)
+        ensures still { OfCall event.now (λ job call moment. (D.state self.new.disk).honest → (channel address : ℕ)
+            → call ≡ In channel address → moment.date ≤ 4095 → (s : State)
+            → Serves (D.state self.old.disk) self.old.map self.old.failed self.old.jobs (Serving s)
             → (own : MachineJob) → job_at s job ≡ Some own → (result ≡ replies.NoMemory → ⊥) → (result ≡ Device → ⊥)
-            → (after : State) × Serves (D.state self.new.disk) self.new.map self.new.failed self.new.jobs (Serving after)
+            → (after : State)
+            × Serves (D.state self.new.disk) self.new.map self.new.failed self.new.jobs (Serving after)
             × (result ≡ (read_of own channel address).0) × (job_at after job ≡ Some (read_of own channel address).1)) }
-        ensures refused { OfCall event.now (λ job call moment. (code : ℕ) → result ≡ Refused code → IsRefused call job code self.old.jobs self.new.jobs) }
-        ensures late { OfCall event.now (λ job call moment. self.old.failed ≡ false → 4095 < moment.date → (result ≡ DateRange) × (self.new ≡ self.old)) }
+        ensures refused { OfCall event.now (λ job call moment. (code : ℕ) → result ≡ Refused code
+            → IsRefused call job code self.old.jobs self.new.jobs) }
+        ensures late { OfCall event.now (λ job call moment. self.old.failed ≡ false → 4095 < moment.date
+            → (result ≡ DateRange) × (self.new ≡ self.old)) }
         ensures kept { OfCall event.now (λ job call moment. KeepsCore call → self.new.map ≡ self.old.map) }
-        ensures unserved { OfCall event.now (λ job call moment. self.old.failed ≡ false → moment.date ≤ 4095 → (there : JobRecord) → slot self.old.jobs job ≡ Some there → IsUnserved call there
-            → (self.new.map ≡ self.old.map) × (after : JobRecord) × UnservedRow call there after result × (self.new.jobs ≡ slice_set self.old.jobs job (Some after))) }
+        ensures unserved { OfCall event.now (λ job call moment. self.old.failed ≡ false → moment.date ≤ 4095
+            → (there : JobRecord) → slot self.old.jobs job ≡ Some there → IsUnserved call there
+            → (self.new.map ≡ self.old.map) × (after : JobRecord) × UnservedRow call there after result
+            × (self.new.jobs ≡ slice_set self.old.jobs job (Some after))) }
     {
         match *event {
             Event::Login(job, ppn, words) => self.login(alloc, job, ppn, words),
@@ -73,28 +89,36 @@ impl<D: Disk> Monitor<D> {
     ///
     /// The replies, and what the monitor stands for after them, are a run of the file machine. At the moment after
     /// each event all that a crash may leave stands for the files after the events so far; between two such moments it
-    /// leaves these, or those after one event more where its answer is one that may change files (`Done`, `Device`). Who reads goes on in the file that its LOOKUP found.
-    /// An event that meets a fault of the disk is answered `Device`, and each event after it `Failed`.
+    /// leaves these, or those after one event more where its answer is one that may change files (`Done`, `Device`).
+    /// Who reads goes on in the file that its LOOKUP found. An event that meets a fault of the disk is answered
+    /// `Device`, and each event after it `Failed`.
     ///
     /// # Errors
     ///
     /// `NoMemory` where the replies find no room: then no event was served.
     pub fn serve(&mut self, alloc: Global, events: &[Event]) -> Result<Vec<Reply>, NoMemory>
-        // One run: by way of these services, one after each event, the replies are the machine's, moment by moment; and the
-        // words that an IN moves are those of the file that its LOOKUP found, whatever other jobs do.
-        ensures runs { IfOk result (λ replies. (D.state self.new.disk).honest → (s : State) → Serves (D.state self.old.disk) self.old.map self.old.failed self.old.jobs (Serving s)
+        // One run: by way of these services, one after each event, the replies are the machine's, moment by moment; and
+        // the words that an IN moves are those of the file that its LOOKUP found, whatever other jobs do.
+        ensures runs { IfOk result (λ replies. (D.state self.new.disk).honest → (s : State)
+            → Serves (D.state self.old.disk) self.old.map self.old.failed self.old.jobs (Serving s)
             → AreServed (pack_of (D.state self.old.disk)) (Serving s) events.now replies.items
-            → (services : List Service) × Serves (D.state self.new.disk) self.new.map self.new.failed self.new.jobs (last_of (Serving s) services)
-            × RunsOn (pack_of (D.state self.old.disk)) (D.state self.new.disk) (D.state self.old.disk).clock (Serving s) events.now replies.items (last_of (Serving s) services)
-            × RunsBy D.state (pack_of (D.state self.old.disk)) self.old.disk (Serving s) events.now replies.items services self.new.disk
+            → (services : List Service) × Serves (D.state self.new.disk) self.new.map self.new.failed self.new.jobs
+            (last_of (Serving s) services)
+            × RunsOn (pack_of (D.state self.old.disk)) (D.state self.new.disk) (D.state self.old.disk).clock
+            (Serving s) events.now replies.items (last_of (Serving s) services)
+            × RunsBy D.state (pack_of (D.state self.old.disk)) self.old.disk
+            (Serving s) events.now replies.items services self.new.disk
             × HoldsStill (Serving s) events.now replies.items services) }
         ensures count { IfOk result (λ replies. length replies.items ≡ length events.now) }
         ensures none { IsErr result → self.new ≡ self.old }
-        ensures broken { self.old.failed ≡ true → IfOk result (λ replies. AllByRecursion (λ reply. reply ≡ Failed) replies.items) × (self.new ≡ self.old) }
+        ensures broken { self.old.failed ≡ true
+            → IfOk result (λ replies. AllByRecursion (λ reply. reply ≡ Failed) replies.items) × (self.new ≡ self.old) }
         ensures same { SameDisk (D.state self.old.disk) (D.state self.new.disk) }
         // On every disk: Device is among the replies only where the failure count rose, by one; after it all is Failed.
-        ensures served { IfOk result (λ replies. AllByRecursion (λ reply. reply ≡ Device → ⊥) replies.items → (D.state self.new.disk).failures ≡ (D.state self.old.disk).failures) }
-        ensures counted { IfOk result (λ replies. TellsFault replies.items → (D.state self.new.disk).failures ≡ one_more (D.state self.old.disk).failures) }
+        ensures served { IfOk result (λ replies. AllByRecursion (λ reply. reply ≡ Device → ⊥) replies.items
+            → (D.state self.new.disk).failures ≡ (D.state self.old.disk).failures) }
+        ensures counted { IfOk result (λ replies. TellsFault replies.items
+            → (D.state self.new.disk).failures ≡ one_more (D.state self.old.disk).failures) }
         ensures once { IfOk result (λ replies. FailsOnce replies.items) }
     {
         let mut replies = Vec::with_capacity(alloc, events.len())?;

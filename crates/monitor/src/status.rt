@@ -26,7 +26,11 @@ pub fn cleared(status: u32) -> u32
 pub fn stop(job: &mut Job, number: u32, channel: Channel, bit: u32) -> Reply
     requires { bit < 2 ^ 18 }
     ensures answered { result ≡ Stopped (cleared channel.status + bit) }
-    ensures kept { job.new ≡ record job.old { channels = slice_set job.old.channels number (Some (record channel { status = cleared channel.status + bit })) } }
+    ensures kept { job.new
+        ≡ record job.old {
+          channels = slice_set job.old.channels number
+              (Some (record channel { status = cleared channel.status + bit }));
+        } }
 {
     let status = cleared(channel.status) + bit;
     job.set_channel(number, Some(Channel { status, ..channel }));

@@ -16,7 +16,8 @@ use words36::Word;
 /// Puts a word into the core of a job.
 fn deposit(jobs: &mut Jobs, number: u32, address: u32, word: Word) -> Reply
     ensures answered { result ≡ deposit_of address (slot jobs.old number) }
-    ensures done { result ≡ Done → (there : JobRecord) × (slot jobs.old number ≡ Some there) × (jobs.new ≡ slice_set jobs.old number (Some (record there { core = slice_set there.core address word }))) }
+    ensures done { result ≡ Done → (there : JobRecord) × (slot jobs.old number ≡ Some there)
+        × (jobs.new ≡ slice_set jobs.old number (Some (record there { core = slice_set there.core address word }))) }
     ensures refused { (result ≡ Done → ⊥) → jobs.new ≡ jobs.old }
 {
     let Some(mut job) = jobs.take(number) else {
@@ -49,13 +50,16 @@ impl<D: Disk> Monitor<D> {
     /// The answer is `Done`; `NoJob` where no job of that number is logged in; `AddressCheck` where its core has
     /// no such address; or `Failed`. Where it isn't `Done` nothing is changed.
     pub fn deposit(&mut self, job: u32, address: u32, word: Word) -> Reply
-        ensures answered { (old : Service) → Serves (D.state self.old.disk) self.old.map self.old.failed self.old.jobs old
+        ensures answered { (old : Service)
+            → Serves (D.state self.old.disk) self.old.map self.old.failed self.old.jobs old
             → (new : Service) × Serves (D.state self.new.disk) self.new.map self.new.failed self.new.jobs new
             × Answers (pack_of (D.state self.old.disk)) old (Deposit job address word) result new }
         ensures kept { self.new ≡ record self.old { jobs = self.new.jobs } }
         ensures failed { result ≡ Failed ↔ IsTrue self.old.failed }
         ensures value { self.old.failed ≡ false → result ≡ deposit_of address (slot self.old.jobs job) }
-        ensures done { result ≡ Done → (there : JobRecord) × (slot self.old.jobs job ≡ Some there) × (self.new.jobs ≡ slice_set self.old.jobs job (Some (record there { core = slice_set there.core address word }))) }
+        ensures done { result ≡ Done → (there : JobRecord) × (slot self.old.jobs job ≡ Some there)
+            × (self.new.jobs
+            ≡ slice_set self.old.jobs job (Some (record there { core = slice_set there.core address word }))) }
         ensures refused { (result ≡ Done → ⊥) → self.new.jobs ≡ self.old.jobs }
         ensures others { (m : ℕ) → (m ≡ job → ⊥) → slot self.new.jobs m ≡ slot self.old.jobs m }
     {
@@ -70,7 +74,8 @@ impl<D: Disk> Monitor<D> {
     /// The answer is else `NoJob` where no job of that number is logged in; `AddressCheck` where its core has no
     /// such address; or `Failed`.
     pub fn examine(&self, job: u32, address: u32) -> Reply
-        ensures answered { (old : Service) → Serves (D.state self.now.disk) self.now.map self.now.failed self.now.jobs old
+        ensures answered { (old : Service)
+            → Serves (D.state self.now.disk) self.now.map self.now.failed self.now.jobs old
             → (new : Service) × Serves (D.state self.now.disk) self.now.map self.now.failed self.now.jobs new
             × Answers (pack_of (D.state self.now.disk)) old (Examine job address) result new }
         ensures failed { result ≡ Failed ↔ IsTrue self.now.failed }

@@ -1,7 +1,9 @@
 -- What holds of the digits 0 to 6, and of 7 and all above it, holds of every number.
-use Rattle.std.proofs.Common.{◌≡◌, ◌≤◌, ◌<◌, ◌-◌, ◌^◌, ◌==◌, ℕ, zero, suc, Bool, false, nat_le, bit_and, refl, sym, ap, ◌∙◌, arith}
+use Rattle.std.proofs.Common.{◌≡◌, ◌≤◌, ◌<◌, ◌-◌, ◌^◌, ◌==◌, ℕ, zero, suc, Bool, false, nat_le, bit_and, refl, sym, ap}
+use Rattle.std.proofs.Common.{◌∙◌, arith}
 use Rattle.std.proofs.lemmas.Bool.Decides.{nat_tests}
-use Rattle.meaning.specs.Rights.{acts_of, may_execute, may_read, may_append, may_update, may_supersede, may_rename, may_protect}
+use Rattle.meaning.specs.Rights.{acts_of, may_execute, may_read, may_append, may_update, may_supersede, may_rename}
+use Rattle.meaning.specs.Rights.{may_protect}
 use Rattle.protect.specs.Allowing.{allows}
 
 by_digits : (f g : ℕ → Bool) → f 0 ≡ g 0 → f 1 ≡ g 1 → f 2 ≡ g 2 → f 3 ≡ g 3 → f 4 ≡ g 4 → f 5 ≡ g 5 → f 6 ≡ g 6
@@ -13,7 +15,8 @@ by_digits f g a b c d e p q more (suc (suc (suc zero))) = d
 by_digits f g a b c d e p q more (suc (suc (suc (suc zero)))) = e
 by_digits f g a b c d e p q more (suc (suc (suc (suc (suc zero))))) = p
 by_digits f g a b c d e p q more (suc (suc (suc (suc (suc (suc zero)))))) = q
-by_digits f g a b c d e p q more (suc (suc (suc (suc (suc (suc (suc m))))))) = more (suc (suc (suc (suc (suc (suc (suc m))))))) (omega arith)
+by_digits f g a b c d e p q more (suc (suc (suc (suc (suc (suc (suc m))))))) = more
+    (suc (suc (suc (suc (suc (suc (suc m))))))) (omega arith)
 
 gone : (d : ℕ) → 7 ≤ d → 7 - d ≡ 0
 gone d h = omega arith
@@ -32,22 +35,29 @@ not_zero : (d : ℕ) → 7 ≤ d → (d == 0) ≡ false
 not_zero d h = grind (arith, nat_tests)
 
 pub executes : (d : ℕ) → allows d 1 ≡ may_execute d
-executes = by_digits (λ d. allows d 1) may_execute refl refl refl refl refl refl refl (λ d h. above_of 1 refl d h ∙ sym (past d 6 (omega arith) h))
+executes = by_digits (λ d. allows d 1) may_execute refl refl refl refl refl refl refl (λ d h. above_of 1 refl d h
+    ∙ sym (past d 6 (omega arith) h))
 
 pub reads : (d : ℕ) → allows d 2 ≡ may_read d
-reads = by_digits (λ d. allows d 2) may_read refl refl refl refl refl refl refl (λ d h. above_of 2 refl d h ∙ sym (past d 5 (omega arith) h))
+reads = by_digits (λ d. allows d 2) may_read refl refl refl refl refl refl refl (λ d h. above_of 2 refl d h
+    ∙ sym (past d 5 (omega arith) h))
 
 pub appends : (d : ℕ) → allows d 4 ≡ may_append d
-appends = by_digits (λ d. allows d 4) may_append refl refl refl refl refl refl refl (λ d h. above_of 4 refl d h ∙ sym (past d 4 (omega arith) h))
+appends = by_digits (λ d. allows d 4) may_append refl refl refl refl refl refl refl (λ d h. above_of 4 refl d h
+    ∙ sym (past d 4 (omega arith) h))
 
 pub updates : (d : ℕ) → allows d 8 ≡ may_update d
-updates = by_digits (λ d. allows d 8) may_update refl refl refl refl refl refl refl (λ d h. above_of 8 refl d h ∙ sym (past d 3 (omega arith) h))
+updates = by_digits (λ d. allows d 8) may_update refl refl refl refl refl refl refl (λ d h. above_of 8 refl d h
+    ∙ sym (past d 3 (omega arith) h))
 
 pub supersedes : (d : ℕ) → allows d 16 ≡ may_supersede d
-supersedes = by_digits (λ d. allows d 16) may_supersede refl refl refl refl refl refl refl (λ d h. above_of 16 refl d h ∙ sym (past d 2 (omega arith) h))
+supersedes = by_digits (λ d. allows d 16) may_supersede refl refl refl refl refl refl refl (λ d h. above_of 16 refl d h
+    ∙ sym (past d 2 (omega arith) h))
 
 pub renames : (d : ℕ) → allows d 32 ≡ may_rename d
-renames = by_digits (λ d. allows d 32) may_rename refl refl refl refl refl refl refl (λ d h. above_of 32 refl d h ∙ sym (past d 1 (omega arith) h))
+renames = by_digits (λ d. allows d 32) may_rename refl refl refl refl refl refl refl (λ d h. above_of 32 refl d h
+    ∙ sym (past d 1 (omega arith) h))
 
 pub protects : (d : ℕ) → allows d 64 ≡ may_protect d
-protects = by_digits (λ d. allows d 64) may_protect refl refl refl refl refl refl refl (λ d h. above_of 64 refl d h ∙ sym (not_zero d h))
+protects = by_digits (λ d. allows d 64) may_protect refl refl refl refl refl refl refl (λ d h. above_of 64 refl d h
+    ∙ sym (not_zero d h))

@@ -1,5 +1,6 @@
 -- A list of blocks that grows by free ones.
-use Rattle.std.proofs.Common.{◌≡◌, ⊎_elim, inl, inr, ℕ, ◌+◌, ◌-◌, ◌<◌, List, [], ◌∷◌, ◌++◌, length, max, take, drop, refl, sym, ◌∙◌, ap, subst, arith, ◌≤◌}
+use Rattle.std.proofs.Common.{◌≡◌, ⊎_elim, inl, inr, ℕ, ◌+◌, ◌-◌, ◌<◌, List, [], ◌∷◌, ◌++◌, length, max, take, drop}
+use Rattle.std.proofs.Common.{refl, sym, ◌∙◌, ap, subst, arith, ◌≤◌}
 use Rattle.std.specs.Prelude.{slice_index}
 use Rattle.std.specs.List.{AllByRecursion}
 use Rattle.std.proofs.lemmas.Bool.{cases_eq, cases_lt}
@@ -25,24 +26,29 @@ takes_table : (t : TableState) (ns : List ℕ) (t' : TableState) → Takes t ns 
 takes_table t [] t' takes = subst (λ (u : TableState). u ≡ record t { held = u.held }) (sym takes) refl
 takes_table t (n ∷ ns) t' takes = takes_table (with_held t n (holds t n + 1)) ns t' takes.2
 
-takes_holds : (t : TableState) (ns : List ℕ) (t' : TableState) → IsTable t → Takes t ns t' → (m : ℕ) → holds t' m ≡ holds t m + times m ns
+takes_holds : (t : TableState) (ns : List ℕ) (t' : TableState) → IsTable t → Takes t ns t' → (m : ℕ)
+    → holds t' m ≡ holds t m + times m ns
 takes_holds t [] t' sound takes m = let e = ap (λ (u : TableState). holds u m) takes in omega arith
 takes_holds t (n ∷ ns) t' sound takes m =
-    let rest = takes_holds (with_held t n (holds t n + 1)) ns t' (sound-with_held t n (holds t n + 1) sound) takes.2 m in
+    let rest = takes_holds (with_held t n (holds t n + 1)) ns t' (sound-with_held t n (holds t n + 1) sound)
+    takes.2 m in
     let one = holds_taken t n m sound takes.0 in
     omega arith
 
-takes_uses : (t : TableState) (ns : List ℕ) (t' : TableState) → IsTable t → IsFixed t → Takes t ns t' → uses t' ≡ uses t + length ns
+takes_uses : (t : TableState) (ns : List ℕ) (t' : TableState) → IsTable t → IsFixed t → Takes t ns t'
+    → uses t' ≡ uses t + length ns
 takes_uses t [] t' sound fixed takes = let e = ap uses takes in omega arith
 takes_uses t (n ∷ ns) t' sound fixed takes =
-    let rest = takes_uses (with_held t n (holds t n + 1)) ns t' (sound-with_held t n (holds t n + 1) sound) fixed takes.2 in
+    let rest = takes_uses (with_held t n (holds t n + 1)) ns t' (sound-with_held t n (holds t n + 1) sound)
+    fixed takes.2 in
     let one = uses-with_held t n (holds t n + 1) sound (free_in_space t n fixed takes.1) takes.0 in
     omega arith
 
 apart_once : (n : ℕ) (ns : List ℕ) → AreApart ns → times n ns ≤ 1
 apart_once n [] apart = omega arith
 apart_once n (m ∷ ns) apart = ⊎_elim
-    (λ (is : n ≡ m). let here = times_head n m ns is in let none = ap (λ (z : ℕ). times z ns) is in let others = apart.0 in omega arith)
+    (λ (is : n ≡ m). let here = times_head n m ns is in let none = ap (λ (z : ℕ). times z ns) is in
+    let others = apart.0 in omega arith)
     (λ (other : n ≡ m → ⊥). let here = times_tail n m ns other in let rest = apart_once n ns apart.1 in omega arith)
     (cases_eq n m)
 
@@ -58,12 +64,14 @@ pub record IsGrown (size : ℕ) (t t' : TableState) (xs xs' : List ℕ) : Type 0
   -- what was held is none of the new ones
   pub others : (n : ℕ) → 0 < holds t n → times n xs' ≡ times n xs
 
-grown_by : (size : ℕ) (t t' : TableState) (xs ns : List ℕ) → t.size ≡ size → IsTable t → IsFixed t → AllByRecursion (InSpace size) xs → Takes t ns t' → IsGrown size t t' xs (xs ++ ns)
+grown_by : (size : ℕ) (t t' : TableState) (xs ns : List ℕ) → t.size ≡ size → IsTable t → IsFixed t
+    → AllByRecursion (InSpace size) xs → Takes t ns t' → IsGrown size t t' xs (xs ++ ns)
 grown_by size t t' xs ns is sound fixed inside takes = record {
   table = takes_table t ns t' takes;
   held = λ n. let a = takes_holds t ns t' sound takes n in let b = times-append n xs ns in omega arith;
   used = let a = takes_uses t ns t' sound fixed takes in let b = length-append xs ns in omega arith;
-  inside = all_append (InSpace size) xs ns inside (all_times (InSpace size) ns (λ n there. (may_be_written size t ns t' is sound fixed takes n there).1));
+  inside = all_append (InSpace size) xs ns inside
+      (all_times (InSpace size) ns (λ n there. (may_be_written size t ns t' is sound fixed takes n there).1));
   adds = λ held n.
       let parts = times-append n xs ns in
       ⊎_elim
@@ -77,11 +85,13 @@ grown_by size t t' xs ns is sound fixed inside takes = record {
       (cases_lt 0 (times n ns));
   front = λ j below. get_or_append_left xs ns 0 j below;
   longer = let b = length-append xs ns in omega arith;
-  others = λ n some. let a = takes_none t ns t' sound fixed takes n (λ free. let b = free.unheld in omega arith) in let b = times-append n xs ns in omega arith;
+  others = λ n some. let a = takes_none t ns t' sound fixed takes n (λ free. let b = free.unheld in omega arith) in
+      let b = times-append n xs ns in omega arith;
 }
 
 -- The list was made longer first, and its new places filled then.
-pub grown : (size : ℕ) (t t' : TableState) (xs zs longer xs' : List ℕ) (had : ℕ) → t.size ≡ size → IsTable t → IsFixed t → AllByRecursion (InSpace size) xs → had ≡ length xs → longer ≡ xs ++ zs
+pub grown : (size : ℕ) (t t' : TableState) (xs zs longer xs' : List ℕ) (had : ℕ) → t.size ≡ size → IsTable t
+    → IsFixed t → AllByRecursion (InSpace size) xs → had ≡ length xs → longer ≡ xs ++ zs
     → xs' ≡ take had longer ++ drop had xs' → Takes t (drop had xs') t' → IsGrown size t t' xs xs'
 grown size t t' xs zs longer xs' had is sound fixed inside count made filled takes =
     let front : take had longer ≡ xs = ap (take had) made ∙ all_of had xs zs (sym count) in
@@ -89,15 +99,18 @@ grown size t t' xs zs longer xs' had is sound fixed inside count made filled tak
     subst (IsGrown size t t' xs) e (grown_by size t t' xs (drop had xs') is sound fixed inside takes)
 
 -- A block of the list's own is one of the longer list's own.
-pub grown_keeps : (size : ℕ) (t t' : TableState) (xs xs' ys : List ℕ) → IsGrown size t t' xs xs' → KeepsOwn t' xs' ys → KeepsOwn t xs ys
+pub grown_keeps : (size : ℕ) (t t' : TableState) (xs xs' ys : List ℕ) → IsGrown size t t' xs xs' → KeepsOwn t' xs' ys
+    → KeepsOwn t xs ys
 grown_keeps size t t' xs xs' ys grown keeps j below clear one =
     let front = grown.front j below in
     let a = grown.longer in
     let b = grown.held (slice_index xs j) in
     let c = grown.others (slice_index xs j) (omega arith) in
     let held : holds t' (slice_index xs j) ≡ 1 = omega arith in
-    keeps j (omega arith) (ap (bit t') front ∙ bits_same t t' grown.table (slice_index xs j) ∙ clear) (ap (holds t') front ∙ held) ∙ front
+    keeps j (omega arith) (ap (bit t') front ∙ bits_same t t' grown.table (slice_index xs j)
+    ∙ clear) (ap (holds t') front ∙ held) ∙ front
 
 -- how long a body is after some words are put
-pub after_some : (words block count : ℕ) → 0 < count → length_after words block count ≡ max words (block_start block + count)
+pub after_some : (words block count : ℕ) → 0 < count
+    → length_after words block count ≡ max words (block_start block + count)
 after_some words block count some = grind (arith, nat_tests)

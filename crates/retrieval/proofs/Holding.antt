@@ -1,5 +1,6 @@
 -- Blocks that are held once more or once less: how often they are held, and how many uses there are.
-use Rattle.std.proofs.Common.{◌≡◌, ⊎_elim, ℕ, zero, suc, ◌+◌, ◌-◌, ◌<◌, ◌≤◌, List, [], ◌∷◌, length, refl, sym, ◌∙◌, ap, subst, arith}
+use Rattle.std.proofs.Common.{◌≡◌, ⊎_elim, ℕ, zero, suc, ◌+◌, ◌-◌, ◌<◌, ◌≤◌, List, [], ◌∷◌, length, refl, sym, ◌∙◌, ap}
+use Rattle.std.proofs.Common.{subst, arith}
 use Rattle.std.specs.Prelude.{slice_index, slice_set}
 use Rattle.std.specs.List.{AllByRecursion}
 use Rattle.std.proofs.lemmas.Bool.{cases_eq}
@@ -11,7 +12,8 @@ use Rattle.meaning.specs.Faults.{InSpace}
 use Rattle.meaning.specs.Maps.{times}
 use Rattle.meaning.specs.Regions.{space_start}
 use Rattle.changeset.specs.PutLaws.{times_head, times_tail}
-use Rattle.alloctab.specs.TableState.{TableState, IsTable, IsFree, bit, holds, with_held, space, used, used_in_space, uses}
+use Rattle.alloctab.specs.TableState.{TableState, IsTable, IsFree, bit, holds, with_held, space, used, used_in_space}
+use Rattle.alloctab.specs.TableState.{uses}
 use Rattle.alloctab.specs.TableLaws.{holds-with_held_same, holds-with_held_other, sound-with_held, sum_but_one}
 use Rattle.retrieval.specs.Bodies.{IsOwn}
 use Rattle.retrieval.specs.Writing.{IsFixed}
@@ -23,18 +25,21 @@ use Rattle.retrieval.proofs.Parts.{all_at, times_at}
 times_one : (m n : ℕ) (xs : List ℕ) → times m (n ∷ xs) ≡ times m xs + times m (n ∷ [])
 times_one m n xs = omega arith
 
-pub times_set : (m : ℕ) (xs : List ℕ) (i y : ℕ) → i < length xs → times m (slice_set xs i y) + times m (slice_index xs i ∷ []) ≡ times m xs + times m (y ∷ [])
+pub times_set : (m : ℕ) (xs : List ℕ) (i y : ℕ) → i < length xs
+    → times m (slice_set xs i y) + times m (slice_index xs i ∷ []) ≡ times m xs + times m (y ∷ [])
 times_set m [] i y below = absurd (omega arith)
 times_set m (x ∷ xs) zero y below = omega arith
 times_set m (x ∷ xs) (suc i) y below = let rest = times_set m xs i y (omega arith) in omega arith
 
 -- where it stands once, it stands at one place
-pub alone_at : (n : ℕ) (xs : List ℕ) (i j : ℕ) → times n xs ≡ 1 → i < length xs → j < length xs → slice_index xs i ≡ n → (j ≡ i → ⊥) → slice_index xs j ≡ n → ⊥
+pub alone_at : (n : ℕ) (xs : List ℕ) (i j : ℕ) → times n xs ≡ 1 → i < length xs → j < length xs → slice_index xs i ≡ n
+    → (j ≡ i → ⊥) → slice_index xs j ≡ n → ⊥
 alone_at n xs i j once below below' here other there =
     let a = times_set n xs i (suc n) below in
     let b = times_head n (slice_index xs i) [] (sym here) in
     let c = times_tail n (suc n) [] (λ e. absurd (omega arith)) in
-    let d = times_there n (slice_set xs i (suc n)) j (let l = length-set xs i (suc n) in omega arith) (get_or-set_other xs i j (suc n) 0 other ∙ there) in
+    let d = times_there n (slice_set xs i (suc n)) j (let l = length-set xs i (suc n) in
+    omega arith) (get_or-set_other xs i j (suc n) 0 other ∙ there) in
     omega arith
   where
     times_there : (m : ℕ) (ys : List ℕ) (k : ℕ) → k < length ys → slice_index ys k ≡ m → 0 < times m ys
@@ -44,28 +49,39 @@ alone_at n xs i j once below below' here other there =
 
 -- One block that is held once more, or once less.
 
-pub holds_taken : (t : TableState) (n m : ℕ) → IsTable t → n < t.size → holds (with_held t n (holds t n + 1)) m ≡ holds t m + times m (n ∷ [])
+pub holds_taken : (t : TableState) (n m : ℕ) → IsTable t → n < t.size
+    → holds (with_held t n (holds t n + 1)) m ≡ holds t m + times m (n ∷ [])
 holds_taken t n m sound inside = ⊎_elim
-    (λ (is : m ≡ n). let a = ap (holds (with_held t n (holds t n + 1))) is in let b = holds-with_held_same t n (holds t n + 1) sound inside in let e = ap (holds t) is in let f = times_head m n [] is in omega arith)
-    (λ (other : m ≡ n → ⊥). let a = holds-with_held_other t n m (holds t n + 1) other in let f = times_tail m n [] other in omega arith)
+    (λ (is : m ≡ n). let a = ap (holds (with_held t n (holds t n + 1))) is in
+    let b = holds-with_held_same t n (holds t n + 1) sound inside in let e = ap (holds t) is in
+    let f = times_head m n [] is in omega arith)
+    (λ (other : m ≡ n → ⊥). let a = holds-with_held_other t n m (holds t n + 1) other in
+    let f = times_tail m n [] other in omega arith)
     (cases_eq m n)
 
-pub holds_given : (t : TableState) (n m : ℕ) → IsTable t → n < t.size → 0 < holds t n → holds (with_held t n (holds t n - 1)) m + times m (n ∷ []) ≡ holds t m
+pub holds_given : (t : TableState) (n m : ℕ) → IsTable t → n < t.size → 0 < holds t n
+    → holds (with_held t n (holds t n - 1)) m + times m (n ∷ []) ≡ holds t m
 holds_given t n m sound inside some = ⊎_elim
-    (λ (is : m ≡ n). let a = ap (holds (with_held t n (holds t n - 1))) is in let b = holds-with_held_same t n (holds t n - 1) sound inside in let e = ap (holds t) is in let f = times_head m n [] is in omega arith)
-    (λ (other : m ≡ n → ⊥). let a = holds-with_held_other t n m (holds t n - 1) other in let f = times_tail m n [] other in omega arith)
+    (λ (is : m ≡ n). let a = ap (holds (with_held t n (holds t n - 1))) is in
+    let b = holds-with_held_same t n (holds t n - 1) sound inside in let e = ap (holds t) is in
+    let f = times_head m n [] is in omega arith)
+    (λ (other : m ≡ n → ⊥). let a = holds-with_held_other t n m (holds t n - 1) other in
+    let f = times_tail m n [] other in omega arith)
     (cases_eq m n)
 
 -- Uses.
 
-pub uses-with_held : (t : TableState) (n count : ℕ) → IsTable t → space_start t.size ≤ n → n < t.size → uses (with_held t n count) + holds t n ≡ uses t + count
+pub uses-with_held : (t : TableState) (n count : ℕ) → IsTable t → space_start t.size ≤ n → n < t.size
+    → uses (with_held t n count) + holds t n ≡ uses t + count
 uses-with_held t n count sound from inside =
     let start = space_start t.size in
     let i : ℕ = n - start in
     let at : start + (n - start) ≡ n = omega arith in
     let t' = with_held t n count in
-    let sums = sum_but_one (λ k. bit t (start + k) + holds t (start + k)) (λ k. bit t' (start + k) + holds t' (start + k)) (space t.size) (n - start) (omega arith)
-    (λ j other. let e = holds-with_held_other t n (start + j) count (λ (e : start + j ≡ n). other (omega arith)) in ap (λ (h : ℕ). bit t (start + j) + h) e) in
+    let sums = sum_but_one (λ k. bit t (start + k) + holds t (start + k)) (λ k. bit t' (start + k)
+    + holds t' (start + k)) (space t.size) (n - start) (omega arith)
+    (λ j other. let e = holds-with_held_other t n (start + j) count (λ (e : start + j ≡ n). other (omega arith)) in
+    ap (λ (h : ℕ). bit t (start + j) + h) e) in
     let old = ap (holds t) at in
     let new = ap (holds t') at in
     let bits = ap (bit t) at in
@@ -81,10 +97,12 @@ sum_le f g (suc k) each = let a = each k in let b = sum_le f g k each in omega a
 
 -- A block that is used is counted once at least.
 pub used_le_uses : (t : TableState) → used_in_space t ≤ uses t
-used_le_uses t = sum_le (λ k. used t (space_start t.size + k)) (λ k. bit t (space_start t.size + k) + holds t (space_start t.size + k)) (space t.size) (λ j. used_le t (space_start t.size + j))
+used_le_uses t = sum_le (λ k. used t (space_start t.size + k)) (λ k. bit t (space_start t.size + k)
+    + holds t (space_start t.size + k)) (space t.size) (λ j. used_le t (space_start t.size + j))
 
 -- A block of a list that is held for this list alone.
-pub held_once : (t : TableState) (xs : List ℕ) (i o : ℕ) → i < length xs → o ≡ slice_index xs i → ((m : ℕ) → times m xs ≤ holds t m) → holds t o ≡ 1 → times o xs ≡ 1
+pub held_once : (t : TableState) (xs : List ℕ) (i o : ℕ) → i < length xs → o ≡ slice_index xs i
+    → ((m : ℕ) → times m xs ≤ holds t m) → holds t o ≡ 1 → times o xs ≡ 1
 held_once t xs i o below is held one =
     let a = subst (λ (z : ℕ). 0 < times z xs) (sym is) (times_at xs i below) in
     let b = held o in
@@ -97,8 +115,10 @@ pub record IsSwapped (t t' : TableState) (xs : List ℕ) (i n : ℕ) : Type 0 wh
   pub alone : times n (slice_set xs i n) ≡ 1
   pub own : IsOwn t' (slice_set xs i n) n
 
-module _ (t t1 t2 : TableState) (xs : List ℕ) (i n o : ℕ) (sound : IsTable t) (fixed : IsFixed t) (below : i < length xs) (inside : AllByRecursion (InSpace t.size) xs)
-    (held : (m : ℕ) → times m xs ≤ holds t m) (is : o ≡ slice_index xs i) (small : n < t.size) (free : IsFree t n) (taken : t1 ≡ with_held t n (holds t n + 1)) where
+module _ (t t1 t2 : TableState) (xs : List ℕ) (i n o : ℕ) (sound : IsTable t) (fixed : IsFixed t) (below : i
+    < length xs) (inside : AllByRecursion (InSpace t.size) xs)
+    (held : (m : ℕ) → times m xs ≤ holds t m) (is : o ≡ slice_index xs i) (small : n < t.size) (free : IsFree t n)
+    (taken : t1 ≡ with_held t n (holds t n + 1)) where
   pub still_held : 0 < holds t1 o
   still_held =
       let a = subst (λ (z : ℕ). 0 < times z xs) (sym is) (times_at xs i below) in
@@ -142,7 +162,8 @@ module _ (t t1 t2 : TableState) (xs : List ℕ) (i n o : ℕ) (sound : IsTable t
       none = let a = held n in let b = free.unheld in omega arith
 
       other : n ≡ o → ⊥
-      other e = let a = ap (λ (z : ℕ). times z xs) e in let b = subst (λ (z : ℕ). 0 < times z xs) (sym is) (times_at xs i below) in let c = none in omega arith
+      other e = let a = ap (λ (z : ℕ). times z xs) e in
+          let b = subst (λ (z : ℕ). 0 < times z xs) (sym is) (times_at xs i below) in let c = none in omega arith
 
       all_held : (m : ℕ) → holds t2 m + times m xs ≡ holds t m + times m (slice_set xs i n)
       all_held m =

@@ -1,5 +1,6 @@
 -- Blocks that are written one after the other, each to a place of its own.
-use Rattle.std.proofs.Common.{◌≡◌, ◌⊎◌, ⊎_elim, inl, inr, ℕ, zero, suc, ◌+◌, ◌<◌, ◌≤◌, List, [], ◌∷◌, Some, length, refl, sym, ◌∙◌, ap, subst, arith}
+use Rattle.std.proofs.Common.{◌≡◌, ◌⊎◌, ⊎_elim, inl, inr, ℕ, zero, suc, ◌+◌, ◌<◌, ◌≤◌, List, [], ◌∷◌, Some, length}
+use Rattle.std.proofs.Common.{refl, sym, ◌∙◌, ap, subst, arith}
 use Rattle.std.specs.Prelude.{slice_index, slice_set}
 use Rattle.std.specs.List.{AllByRecursion}
 use Rattle.std.proofs.lemmas.Bool.{cases_eq, cases_lt}
@@ -20,10 +21,14 @@ module _ (before : Contents) (old : List ℕ) (at : ℕ) (words : List ℕ) (pla
   placed_none i is = record { stays = λ j below out. (refl, refl); placed = λ j from below. absurd (omega arith) }
 
   -- one block more
-  pub placed_more : (now now' : Contents) (blocks : List ℕ) (i n : ℕ) (new : List ℕ) → IsPlaced before now old blocks at words place kept first i → length blocks ≡ length old → first ≤ i → i < length blocks
-      → times n (slice_set blocks i n) ≡ 1 → ((m : ℕ) → (m ≡ n → ⊥) → now' m ≡ now m) → now' n ≡ Some new → IsNewBlock at words place kept i new
+  pub placed_more : (now now' : Contents) (blocks : List ℕ) (i n : ℕ) (new : List ℕ)
+      → IsPlaced before now old blocks at words place kept first i → length blocks ≡ length old → first ≤ i
+      → i < length blocks
+      → times n (slice_set blocks i n) ≡ 1 → ((m : ℕ) → (m ≡ n → ⊥) → now' m ≡ now m) → now' n ≡ Some new
+      → IsNewBlock at words place kept i new
       → IsPlaced before now' old (slice_set blocks i n) at words place kept first (i + 1)
-  placed_more now now' blocks i n new so_far long after below alone others put is_new = record { stays = stays; placed = placed }
+  placed_more now now' blocks i n new so_far long after below alone others put is_new =
+      record { stays = stays; placed = placed }
     where
       here : slice_index (slice_set blocks i n) i ≡ n
       here = get_or-set_same blocks i n 0 below
@@ -40,19 +45,28 @@ module _ (before : Contents) (old : List ℕ) (at : ℕ) (words : List ℕ) (pla
       outside j (inl a) e = absurd (omega arith)
       outside j (inr b) e = absurd (omega arith)
 
-      stays : (j : ℕ) → j < length old → (j < first) ⊎ (i + 1 ≤ j) → (slice_index (slice_set blocks i n) j ≡ slice_index old j) × (now' (slice_index old j) ≡ before (slice_index old j))
+      stays : (j : ℕ) → j < length old → (j < first) ⊎ (i + 1 ≤ j)
+          → (slice_index (slice_set blocks i n) j ≡ slice_index old j)
+          × (now' (slice_index old j) ≡ before (slice_index old j))
       stays j inside out =
           let other : j ≡ i → ⊥ = λ e. outside j out e in
           let was = so_far.stays j inside (⊎_elim (λ a. inl a) (λ b. inr (omega arith)) out) in
           (elsewhere j other ∙ was.0, others (slice_index old j) (λ e. apart j (omega arith) other (was.0 ∙ e)) ∙ was.1)
 
-      placed : (j : ℕ) → first ≤ j → j < i + 1 → HoldsNew now' at words place kept j (slice_index (slice_set blocks i n) j)
+      placed : (j : ℕ) → first ≤ j → j < i + 1
+          → HoldsNew now' at words place kept j (slice_index (slice_set blocks i n) j)
       placed j from upto = ⊎_elim
-          (λ (e : j ≡ i). subst (λ (z : ℕ). HoldsNew now' at words place kept z (slice_index (slice_set blocks i n) z)) (sym e) (record { new = new; is = ap now' here ∙ put; is_new = is_new }))
+          (λ (e : j ≡ i). subst (λ (z : ℕ). HoldsNew now' at words place kept z (slice_index (slice_set blocks i n) z))
+          (sym e) (record { new = new; is = ap now' here ∙ put; is_new = is_new }))
           (λ (other : j ≡ i → ⊥).
           let was = so_far.placed j from (omega arith) in
           let same = elsewhere j other in
-          record { new = was.new; is = ap now' same ∙ others (slice_index blocks j) (apart j (omega arith) other) ∙ was.is; is_new = was.is_new })
+          record {
+            new = was.new;
+            is = ap now' same ∙ others (slice_index blocks j) (apart j (omega arith) other)
+                ∙ was.is;
+            is_new = was.is_new;
+          })
           (cases_eq j i)
 
 -- What a table and a list keep while blocks are changed for others.
@@ -81,13 +95,20 @@ module _ (t t' : TableState) (same : t' ≡ record t { held = t'.held }) where
 
     -- what is own after is own before
     pub own_before : (n : ℕ) → IsOwn t' xs' n → IsOwn t xs n
-    own_before n own = record { clear = sym (bits_same n) ∙ own.clear; alone = let a = held n in let b = own.alone in omega arith }
+    own_before n own = record {
+      clear = sym (bits_same n) ∙ own.clear;
+      alone = let a = held n in let b = own.alone in
+          omega arith;
+    }
 
-    pub held_again : (t'' : TableState) (xs'' : List ℕ) → ((n : ℕ) → holds t'' n + times n xs' ≡ holds t' n + times n xs'') → (n : ℕ) → holds t'' n + times n xs ≡ holds t n + times n xs''
+    pub held_again : (t'' : TableState) (xs'' : List ℕ)
+        → ((n : ℕ) → holds t'' n + times n xs' ≡ holds t' n + times n xs'') → (n : ℕ)
+        → holds t'' n + times n xs ≡ holds t n + times n xs''
     held_again t'' xs'' next n = let a = held n in let b = next n in omega arith
 
     -- one list after the other
-    pub adds_on : (xs'' : List ℕ) → ((n : ℕ) → times n xs ≤ holds t n) → AddsFree t xs xs' → AddsFree t' xs' xs'' → AddsFree t xs xs''
+    pub adds_on : (xs'' : List ℕ) → ((n : ℕ) → times n xs ≤ holds t n) → AddsFree t xs xs' → AddsFree t' xs' xs''
+        → AddsFree t xs xs''
     adds_on xs'' all first second n = ⊎_elim
         (λ fewer. ⊎_elim (λ old. inl (omega arith)) (λ free. inr (free.0, let once = free.1 in omega arith)) (first n))
         (λ free.
@@ -102,15 +123,18 @@ module _ (t t' : TableState) (same : t' ≡ record t { held = t'.held }) where
         (second n)
 
 -- one place of a list in the free space
-pub inside_set : (size : ℕ) (xs : List ℕ) (i n : ℕ) → AllByRecursion (InSpace size) xs → InSpace size n → AllByRecursion (InSpace size) (slice_set xs i n)
+pub inside_set : (size : ℕ) (xs : List ℕ) (i n : ℕ) → AllByRecursion (InSpace size) xs → InSpace size n
+    → AllByRecursion (InSpace size) (slice_set xs i n)
 inside_set size [] i n all is = tt
 inside_set size (x ∷ xs) zero n all is = (is, all.1)
 inside_set size (x ∷ xs) (suc i) n all is = (all.0, inside_set size xs i n all.1 is)
 
 -- one place with a block of the old list's own, which is free where it isn't one of the list
-pub adds_set : (t : TableState) (old xs : List ℕ) (i n : ℕ) → AddsFree t old xs → i < length xs → times n (slice_set xs i n) ≡ 1 → IsOwn t old n → AddsFree t old (slice_set xs i n)
+pub adds_set : (t : TableState) (old xs : List ℕ) (i n : ℕ) → AddsFree t old xs → i < length xs
+    → times n (slice_set xs i n) ≡ 1 → IsOwn t old n → AddsFree t old (slice_set xs i n)
 adds_set t old xs i n so_far below once own m = ⊎_elim
-    (λ (is : m ≡ n). subst (λ (z : ℕ). (times z (slice_set xs i n) ≤ times z old) ⊎ (IsFree t z × (times z (slice_set xs i n) ≤ 1))) (sym is) here)
+    (λ (is : m ≡ n). subst (λ (z : ℕ). (times z (slice_set xs i n) ≤ times z old)
+    ⊎ (IsFree t z × (times z (slice_set xs i n) ≤ 1))) (sym is) here)
     (λ (other : m ≡ n → ⊥).
     let set = times_set m xs i n below in
     let none = times_tail m n [] other in
@@ -128,15 +152,20 @@ pub adds_clear : (t : TableState) (old new : List ℕ) → AddsFree t old new �
 adds_clear t old new adds n there = ⊎_elim (λ fewer. inl (omega arith)) (λ free. inr free.0.clear) (adds n)
 
 -- A block that is held once and stands in a list once stands there once still, as blocks are taken for others.
-pub few_more : (xs ys : List ℕ) (i n : ℕ) → i < length ys → times n (slice_set ys i n) ≡ 1 → ((m : ℕ) → times m xs ≤ 1 → times m ys ≤ 1) → (m : ℕ) → times m xs ≤ 1 → times m (slice_set ys i n) ≤ 1
+pub few_more : (xs ys : List ℕ) (i n : ℕ) → i < length ys → times n (slice_set ys i n) ≡ 1
+    → ((m : ℕ) → times m xs ≤ 1 → times m ys ≤ 1) → (m : ℕ) → times m xs ≤ 1 → times m (slice_set ys i n) ≤ 1
 few_more xs ys i n below once few m one = ⊎_elim
     (λ (is : m ≡ n). let a = ap (λ (z : ℕ). times z (slice_set ys i n)) is in omega arith)
-    (λ (other : m ≡ n → ⊥). let a = times_set m ys i n below in let b = times_tail m n [] other in let c = few m one in omega arith)
+    (λ (other : m ≡ n → ⊥). let a = times_set m ys i n below in let b = times_tail m n [] other in let c = few m one in
+    omega arith)
     (cases_eq m n)
 
 -- So it is never changed for another.
-pub stays_more : (t t' : TableState) (xs ys : List ℕ) (i n : ℕ) → t' ≡ record t { held = t'.held } → ((m : ℕ) → holds t' m + times m xs ≡ holds t m + times m ys) → ((m : ℕ) → times m xs ≤ holds t m)
-    → ((m : ℕ) → times m xs ≤ 1 → times m ys ≤ 1) → length ys ≡ length xs → KeepsOwn t xs ys → (bit t' (slice_index ys i) ≡ 0 → holds t' (slice_index ys i) ≡ 1 → n ≡ slice_index ys i) → KeepsOwn t xs (slice_set ys i n)
+pub stays_more : (t t' : TableState) (xs ys : List ℕ) (i n : ℕ) → t' ≡ record t { held = t'.held }
+    → ((m : ℕ) → holds t' m + times m xs ≡ holds t m + times m ys) → ((m : ℕ) → times m xs ≤ holds t m)
+    → ((m : ℕ) → times m xs ≤ 1 → times m ys ≤ 1) → length ys ≡ length xs → KeepsOwn t xs ys
+    → (bit t' (slice_index ys i) ≡ 0 → holds t' (slice_index ys i) ≡ 1 → n ≡ slice_index ys i)
+    → KeepsOwn t xs (slice_set ys i n)
 stays_more t t' xs ys i n same held all few long keeps own j below clear one = ⊎_elim
     (λ (is : j ≡ i).
     let m : ℕ = slice_index xs j in

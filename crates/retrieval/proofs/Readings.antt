@@ -1,5 +1,6 @@
 -- A version as it is read, block by block: what was read so far, and what a stop there says of the disk.
-use Rattle.std.proofs.Common.{◌≡◌, ℕ, zero, suc, ◌-◌, ◌<◌, ◌≤◌, List, [], ◌∷◌, ◌++◌, length, flat_map, Some, None, refl, sym, ◌∙◌, ap, subst, arith, append_assoc, append-nil, length-append}
+use Rattle.std.proofs.Common.{◌≡◌, ℕ, zero, suc, ◌-◌, ◌<◌, ◌≤◌, List, [], ◌∷◌, ◌++◌, length, flat_map, Some, None, refl}
+use Rattle.std.proofs.Common.{sym, ◌∙◌, ap, subst, arith, append_assoc, append-nil, length-append}
 use Rattle.std.specs.List.{AllByRecursion}
 use Rattle.std.proofs.lemmas.Bool.Decides.{nat_tests}
 use Rattle.std.proofs.lemmas.List.{map-append}
@@ -7,7 +8,8 @@ use Rattle.blockdisk.specs.Disk.{Contents, DiskState, MayLeave, Keeps}
 use Rattle.blockdisk.specs.Laws.{passes_start, passes_on, passes_weaker}
 use Rattle.meaning.specs.Maps.{times}
 use Rattle.meaning.specs.Costs.{blocks_of}
-use Rattle.meaning.specs.Retrieval.{Prime, Run, IsRun, run_blocks, Extension, all_runs, extension_numbers, first_extension, extension_block, prime_block, AreExtensions}
+use Rattle.meaning.specs.Retrieval.{Prime, Run, IsRun, run_blocks, Extension, all_runs, extension_numbers}
+use Rattle.meaning.specs.Retrieval.{first_extension, extension_block, prime_block, AreExtensions}
 use Rattle.meaning.specs.Walks.{LeadsOn, IsPrimeRead}
 use Rattle.meaning.specs.Faults.{InSpace, RunsInSpace, IsBadVersion}
 use Rattle.meaning.proofs.ExcludedFiles.{no_bad_version}
@@ -16,7 +18,8 @@ use Rattle.meaning.proofs.Walking.{flat-append, all_runs-append}
 use Rattle.retrieval.specs.Primes.{with_length}
 use Rattle.retrieval.specs.Spelling.{SpellsPrime, SpellsExtension}
 use Rattle.retrieval.specs.Versions.{VersionState}
-use Rattle.retrieval.specs.Reading.{IsBadPrime, IsBadExtension, Overfills, IsStarted, Extends, Follows, IsReadTo, IsVersionAt, IsWholeVersion}
+use Rattle.retrieval.specs.Reading.{IsBadPrime, IsBadExtension, Overfills, IsStarted, Extends, Follows, IsReadTo}
+use Rattle.retrieval.specs.Reading.{IsVersionAt, IsWholeVersion}
 use Rattle.retrieval.specs.declared.prime.Prime.{Prime as PrimeValue}
 use Rattle.meaning.proofs.SlotLaws.{all_append}
 use Rattle.alloctab.proofs.SpaceLaws.{in_space_some}
@@ -31,27 +34,73 @@ keeps_on s s' s'' first second = record {
   contents = λ n. second.contents n ∙ first.contents n;
   is_open = λ n. second.is_open n ∙ first.is_open n;
   time = passes_on s s' s'' (MayLeave s'') (MayLeave s'')
-      (passes_weaker s s' (MayLeave s') (MayLeave s'') first.time (λ c left n closed. left n (sym (second.is_open n) ∙ closed) ∙ sym (second.contents n)))
+      (passes_weaker s s' (MayLeave s') (MayLeave s'') first.time (λ c left n closed. left n (sym (second.is_open n)
+      ∙ closed) ∙ sym (second.contents n)))
       second.time (λ c left. left);
 }
 
 -- Walks.
 
-follows_more : (size : ℕ) (c : Contents) (first : ℕ) (es : List Extension) (n : ℕ) (words : List ℕ) (runs : List Run) (next : ℕ) → Follows size c first es n → InSpace size n → c n ≡ Some words
-    → SpellsExtension words runs next → RunsInSpace size runs → (0 < next → length runs ≡ 126) → Follows size c first (es ++ (n, runs) ∷ []) next
-follows_more size c first [] n words runs next walk here is s inside full =
-    (sym walk, subst (InSpace size) (sym walk) here, s.some, s.few, s.are_runs, inside, next, ap c walk ∙ is ∙ ap Some s.words_are, full, refl)
-follows_more size c first (e ∷ es) n words runs next walk here is s inside full =
-    (walk.0, walk.1, walk.2, walk.3, walk.4, walk.5, walk.6, walk.7, walk.8, follows_more size c walk.6 es n words runs next walk.9 here is s inside full)
+follows_more : (size : ℕ) (c : Contents) (first : ℕ) (es : List Extension) (n : ℕ) (words : List ℕ) (runs : List Run)
+    (next : ℕ) → Follows size c first es n → InSpace size n → c n ≡ Some words
+    → SpellsExtension words runs next → RunsInSpace size runs → (0 < next → length runs ≡ 126)
+    → Follows size c first (es ++ (n, runs) ∷ []) next
+follows_more size c first [] n words runs next walk here is s inside full = (
+  sym walk,
+  subst (InSpace size) (sym walk) here,
+  s.some,
+  s.few,
+  s.are_runs,
+  inside,
+  next,
+  ap c walk ∙ is ∙ ap Some s.words_are,
+  full,
+  refl,
+)
+follows_more size c first (e ∷ es) n words runs next walk here is s inside full = (
+  walk.0,
+  walk.1,
+  walk.2,
+  walk.3,
+  walk.4,
+  walk.5,
+  walk.6,
+  walk.7,
+  walk.8,
+  follows_more size c walk.6 es n words runs next walk.9 here is s inside full,
+)
 
-leads : (size : ℕ) (c : Contents) (first : ℕ) (es : List Extension) (last : ℕ) → Follows size c first es last → LeadsOn c first es last
+leads : (size : ℕ) (c : Contents) (first : ℕ) (es : List Extension) (last : ℕ) → Follows size c first es last
+    → LeadsOn c first es last
 leads size c first [] last walk = walk
-leads size c first (e ∷ es) last walk = (walk.0, in_space_some size first walk.1, walk.4, walk.6, walk.7, leads size c walk.6 es last walk.9)
+leads size c first (e ∷ es) last walk = (
+  walk.0,
+  in_space_some size first walk.1,
+  walk.4,
+  walk.6,
+  walk.7,
+  leads size c walk.6 es last walk.9,
+)
 
-leads_more : (c : Contents) (first : ℕ) (es : List Extension) (n : ℕ) (runs : List Run) (next : ℕ) → LeadsOn c first es n → 0 < n → AllByRecursion IsRun runs → c n ≡ Some (extension_block runs next)
+leads_more : (c : Contents) (first : ℕ) (es : List Extension) (n : ℕ) (runs : List Run) (next : ℕ)
+    → LeadsOn c first es n → 0 < n → AllByRecursion IsRun runs → c n ≡ Some (extension_block runs next)
     → LeadsOn c first (es ++ (n, runs) ∷ []) next
-leads_more c first [] n runs next walk some are is = (sym walk, let e = walk in omega arith, are, next, ap c walk ∙ is, refl)
-leads_more c first (e ∷ es) n runs next walk some are is = (walk.0, walk.1, walk.2, walk.3, walk.4, leads_more c walk.3 es n runs next walk.5 some are is)
+leads_more c first [] n runs next walk some are is = (
+  sym walk,
+  let e = walk in omega arith,
+  are,
+  next,
+  ap c walk ∙ is,
+  refl,
+)
+leads_more c first (e ∷ es) n runs next walk some are is = (
+  walk.0,
+  walk.1,
+  walk.2,
+  walk.3,
+  walk.4,
+  leads_more c walk.3 es n runs next walk.5 some are is,
+)
 
 -- a walk to the end
 module _ (size : ℕ) (c : Contents) where
@@ -74,14 +123,17 @@ module _ (size : ℕ) (c : Contents) where
     are_extensions walk.6 es walk.9,
   )
 
-  ribs_in : (first : ℕ) (es : List Extension) → Follows size c first es 0 → AllByRecursion (InSpace size) (extension_numbers es)
+  ribs_in : (first : ℕ) (es : List Extension) → Follows size c first es 0
+      → AllByRecursion (InSpace size) (extension_numbers es)
   ribs_in first [] walk = tt
   ribs_in first (e ∷ es) walk = (subst (InSpace size) (sym walk.0) walk.1, ribs_in walk.6 es walk.9)
 
   blocks_in : (first : ℕ) (es : List Extension) → Follows size c first es 0 → RunsInSpace size (all_runs es)
   blocks_in first [] walk = tt
   blocks_in first (e ∷ es) walk =
-      subst (AllByRecursion (InSpace size)) (sym (flat-append run_blocks e.1 (all_runs es))) (all_append (InSpace size) (flat_map run_blocks e.1) (flat_map run_blocks (all_runs es)) walk.5 (blocks_in walk.6 es walk.9))
+      subst (AllByRecursion (InSpace size)) (sym (flat-append run_blocks e.1 (all_runs es)))
+      (all_append (InSpace size) (flat_map run_blocks e.1) (flat_map run_blocks (all_runs es)) walk.5
+      (blocks_in walk.6 es walk.9))
 
 zero_behind : (n : ℕ) (ns : List ℕ) → times 0 (suc n ∷ ns) ≡ times 0 ns
 zero_behind n ns = grind (arith, nat_tests)
@@ -93,10 +145,18 @@ none_zero size (suc n ∷ ns) all = zero_behind n ns ∙ none_zero size ns all.1
 
 -- What was read so far.
 
-read_of : (c : Contents) (at : ℕ) (words : List ℕ) (p : Prime) (runs : List Run) (next : ℕ) → c at ≡ Some words → SpellsPrime words p runs next → IsPrimeRead c 1 at p runs next
-read_of c at words p runs next is s = record { words = is ∙ ap Some s.words_are; ppn_fits = s.ppn_fits; ext_fits = s.ext_fits; fits = s.fits; are_runs = s.are_runs }
+read_of : (c : Contents) (at : ℕ) (words : List ℕ) (p : Prime) (runs : List Run) (next : ℕ) → c at ≡ Some words
+    → SpellsPrime words p runs next → IsPrimeRead c 1 at p runs next
+read_of c at words p runs next is s = record {
+  words = is ∙ ap Some s.words_are;
+  ppn_fits = s.ppn_fits;
+  ext_fits = s.ext_fits;
+  fits = s.fits;
+  are_runs = s.are_runs;
+}
 
-pub read_started : (size : ℕ) (c : Contents) (at : ℕ) (words : List ℕ) (prime : PrimeValue) (v : VersionState) (next : ℕ) → c at ≡ Some words → IsStarted size words prime v next → IsReadTo size c at prime v next
+pub read_started : (size : ℕ) (c : Contents) (at : ℕ) (words : List ℕ) (prime : PrimeValue) (v : VersionState)
+    (next : ℕ) → c at ≡ Some words → IsStarted size words prime v next → IsReadTo size c at prime v next
 read_started size c at words prime v next is s = record {
   runs = s.runs;
   first = next;
@@ -111,60 +171,81 @@ read_started size c at words prime v next is s = record {
   ribs_are = s.ribs_are;
 }
 
-blocks_more : (runs : List Run) (es : List Extension) (n : ℕ) (more : List Run) → flat_map run_blocks (runs ++ all_runs (es ++ (n, more) ∷ [])) ≡ flat_map run_blocks (runs ++ all_runs es) ++ flat_map run_blocks more
+blocks_more : (runs : List Run) (es : List Extension) (n : ℕ) (more : List Run)
+    → flat_map run_blocks (runs ++ all_runs (es ++ (n, more) ∷ [])) ≡ flat_map run_blocks (runs ++ all_runs es)
+    ++ flat_map run_blocks more
 blocks_more runs es n more =
-    ap (λ (l : List Run). flat_map run_blocks (runs ++ l)) (all_runs-append es ((n, more) ∷ []) ∙ ap (λ (l : List Run). all_runs es ++ l) (append-nil more))
-    ∙ ap (flat_map run_blocks) (sym (append_assoc runs (all_runs es) more)) ∙ flat-append run_blocks (runs ++ all_runs es) more
+    ap (λ (l : List Run). flat_map run_blocks (runs ++ l)) (all_runs-append es ((n, more) ∷ [])
+    ∙ ap (λ (l : List Run). all_runs es ++ l) (append-nil more))
+    ∙ ap (flat_map run_blocks) (sym (append_assoc runs (all_runs es) more))
+    ∙ flat-append run_blocks (runs ++ all_runs es) more
 
-module _ (size : ℕ) (c : Contents) (at : ℕ) (prime : PrimeValue) (v : VersionState) (n : ℕ) (r : IsReadTo size c at prime v n) where
-  pub read_more : (words : List ℕ) (next : ℕ) (new : VersionState) → 0 < n → c n ≡ Some words → Extends size words n next v new → IsReadTo size c at prime new next
-  read_more words next new some is x = subst (λ (w : VersionState). IsReadTo size c at prime w next) (sym x.version_is) (record {
-    runs = r.runs;
-    first = r.first;
-    extensions = r.extensions ++ (n, x.runs) ∷ [];
-    read = r.read;
-    few = r.few;
-    inside = r.inside;
-    full = r.full;
-    walk = follows_more size c r.first r.extensions n words x.runs next r.walk (r.next_inside some) is x.spells x.inside x.full;
-    next_inside = x.next_inside;
-    blocks_are = ap (λ (l : List ℕ). l ++ flat_map run_blocks x.runs) r.blocks_are ∙ sym (blocks_more r.runs r.extensions n x.runs);
-    ribs_are = ap (λ (l : List ℕ). l ++ n ∷ []) r.ribs_are ∙ sym (map-append (λ (e : Extension). e.0) r.extensions ((n, x.runs) ∷ []));
-  })
+module _ (size : ℕ) (c : Contents) (at : ℕ) (prime : PrimeValue) (v : VersionState) (n : ℕ)
+    (r : IsReadTo size c at prime v n) where
+  pub read_more : (words : List ℕ) (next : ℕ) (new : VersionState) → 0 < n → c n ≡ Some words
+      → Extends size words n next v new → IsReadTo size c at prime new next
+  read_more words next new some is x = subst (λ (w : VersionState). IsReadTo size c at prime w next) (sym x.version_is)
+      (record {
+        runs = r.runs;
+        first = r.first;
+        extensions = r.extensions ++ (n, x.runs) ∷ [];
+        read = r.read;
+        few = r.few;
+        inside = r.inside;
+        full = r.full;
+        walk = follows_more size c r.first r.extensions n words x.runs next r.walk
+            (r.next_inside some) is x.spells x.inside x.full;
+        next_inside = x.next_inside;
+        blocks_are = ap (λ (l : List ℕ). l ++ flat_map run_blocks x.runs) r.blocks_are
+            ∙ sym (blocks_more r.runs r.extensions n x.runs);
+        ribs_are = ap (λ (l : List ℕ). l ++ n ∷ []) r.ribs_are
+            ∙ sym (map-append (λ (e : Extension). e.0) r.extensions ((n, x.runs) ∷ []));
+      })
 
   walked : LeadsOn c r.first r.extensions n
   walked = leads size c r.first r.extensions n r.walk
 
-  walked_on : (words : List ℕ) (runs : List Run) (next : ℕ) → 0 < n → c n ≡ Some words → SpellsExtension words runs next → LeadsOn c r.first (r.extensions ++ (n, runs) ∷ []) next
-  walked_on words runs next some is s = leads_more c r.first r.extensions n runs next walked some s.are_runs (is ∙ ap Some s.words_are)
+  walked_on : (words : List ℕ) (runs : List Run) (next : ℕ) → 0 < n → c n ≡ Some words → SpellsExtension words runs next
+      → LeadsOn c r.first (r.extensions ++ (n, runs) ∷ []) next
+  walked_on words runs next some is s = leads_more c r.first r.extensions n runs next walked some s.are_runs (is
+      ∙ ap Some s.words_are)
 
   -- an extension that is damaged
   pub damaged_extension : 0 < n → c n ≡ None → IsBadVersion size c 1 at n
-  damaged_extension some none = IsBadVersion.malformed_extension (with_length prime v.words) r.runs r.first r.extensions n r.read walked (r.next_inside some) (λ others after is some' few are. some_none (sym is ∙ none))
+  damaged_extension some none = IsBadVersion.malformed_extension (with_length prime v.words) r.runs r.first
+      r.extensions n r.read walked (r.next_inside some) (λ others after is some' few are. some_none (sym is ∙ none))
 
   -- or isn't as it should be
-  pub bad_extension : (words : List ℕ) → 0 < n → c n ≡ Some words → IsBadExtension size words → IsBadVersion size c 1 at n
+  pub bad_extension : (words : List ℕ) → 0 < n → c n ≡ Some words → IsBadExtension size words
+      → IsBadVersion size c 1 at n
   bad_extension words some is (IsBadExtension.malformed wrong) =
-      IsBadVersion.malformed_extension (with_length prime v.words) r.runs r.first r.extensions n r.read walked (r.next_inside some)
-      (λ others after has some' few are. wrong others after (record { words_are = some_same (sym is ∙ has); some = some'; few = few; are_runs = are }))
+      IsBadVersion.malformed_extension (with_length prime v.words) r.runs r.first r.extensions n r.read walked
+      (r.next_inside some)
+      (λ others after has some' few are. wrong others after
+      (record { words_are = some_same (sym is ∙ has); some = some'; few = few; are_runs = are }))
   bad_extension words some is (IsBadExtension.run_outside runs next s outside) =
-      IsBadVersion.extension_run_outside (with_length prime v.words) r.runs r.first r.extensions n runs next r.read (walked_on words runs next some is s) outside
+      IsBadVersion.extension_run_outside (with_length prime v.words) r.runs r.first r.extensions n runs next r.read
+      (walked_on words runs next some is s) outside
   bad_extension words some is (IsBadExtension.next_outside runs next s more outside) =
-      IsBadVersion.extension_next_outside (with_length prime v.words) r.runs r.first r.extensions n runs next r.read (walked_on words runs next some is s) more outside
+      IsBadVersion.extension_next_outside (with_length prime v.words) r.runs r.first r.extensions n runs next r.read
+      (walked_on words runs next some is s) more outside
   bad_extension words some is (IsBadExtension.short runs next s more less) =
-      IsBadVersion.extension_short (with_length prime v.words) r.runs r.first r.extensions n runs next r.read (walked_on words runs next some is s) more less
+      IsBadVersion.extension_short (with_length prime v.words) r.runs r.first r.extensions n runs next r.read
+      (walked_on words runs next some is s) more less
 
   -- or has more blocks than the length asks for
   pub bad_overfilled : (words : List ℕ) → 0 < n → c n ≡ Some words → Overfills words v → IsBadVersion size c 1 at at
   bad_overfilled words some is o =
-      IsBadVersion.too_many (with_length prime v.words) r.runs r.first o.next (r.extensions ++ (n, o.runs) ∷ []) r.read (walked_on words o.runs o.next some is o.spells)
+      IsBadVersion.too_many (with_length prime v.words) r.runs r.first o.next (r.extensions ++ (n, o.runs) ∷ []) r.read
+      (walked_on words o.runs o.next some is o.spells)
       (let e = ap length (blocks_more r.runs r.extensions n o.runs) in
       let f = length-append (flat_map run_blocks (r.runs ++ all_runs r.extensions)) (flat_map run_blocks o.runs) in
       let g = ap length r.blocks_are in
       let more = o.more in
       omega arith)
 
-module _ (size : ℕ) (c : Contents) (at : ℕ) (prime : PrimeValue) (v : VersionState) (r : IsReadTo size c at prime v 0) where
+module _ (size : ℕ) (c : Contents) (at : ℕ) (prime : PrimeValue) (v : VersionState)
+    (r : IsReadTo size c at prime v 0) where
   -- read to the end
   pub read_whole : length v.blocks ≡ blocks_of v.words → IsVersionAt size c at prime v
   read_whole enough = record {
@@ -172,7 +253,8 @@ module _ (size : ℕ) (c : Contents) (at : ℕ) (prime : PrimeValue) (v : Versio
       runs = r.runs;
       further = r.extensions;
       fits = r.read.fits;
-      prime_is = r.read.words ∙ ap (λ (n : ℕ). Some (prime_block (with_length prime v.words) r.runs n)) (sym (first_is size c r.first r.extensions r.walk));
+      prime_is = r.read.words ∙ ap (λ (n : ℕ). Some (prime_block (with_length prime v.words) r.runs n))
+          (sym (first_is size c r.first r.extensions r.walk));
       few = r.few;
       full = λ some. r.full (some_first size c r.first r.extensions r.walk some);
       extended = are_extensions size c r.first r.extensions r.walk;
@@ -183,8 +265,10 @@ module _ (size : ℕ) (c : Contents) (at : ℕ) (prime : PrimeValue) (v : Versio
       enough = enough;
     };
     ribs_inside = ribs;
-    blocks_inside = subst (AllByRecursion (InSpace size)) (sym (r.blocks_are ∙ flat-append run_blocks r.runs (all_runs r.extensions)))
-        (all_append (InSpace size) (flat_map run_blocks r.runs) (flat_map run_blocks (all_runs r.extensions)) r.inside (blocks_in size c r.first r.extensions r.walk));
+    blocks_inside = subst (AllByRecursion (InSpace size))
+        (sym (r.blocks_are ∙ flat-append run_blocks r.runs (all_runs r.extensions)))
+        (all_append (InSpace size) (flat_map run_blocks r.runs) (flat_map run_blocks (all_runs r.extensions)) r.inside
+        (blocks_in size c r.first r.extensions r.walk));
     ppn_fits = r.read.ppn_fits;
     ext_fits = r.read.ext_fits;
   }
@@ -194,29 +278,45 @@ module _ (size : ℕ) (c : Contents) (at : ℕ) (prime : PrimeValue) (v : Versio
 
   -- with too few blocks
   pub bad_count : (length v.blocks ≡ blocks_of v.words → ⊥) → IsBadVersion size c 1 at at
-  bad_count wrong = IsBadVersion.miscounted (with_length prime v.words) r.runs r.first r.extensions r.read (leads size c r.first r.extensions 0 r.walk) (λ same. wrong (ap length r.blocks_are ∙ same))
+  bad_count wrong = IsBadVersion.miscounted (with_length prime v.words) r.runs r.first r.extensions r.read
+      (leads size c r.first r.extensions 0 r.walk) (λ same. wrong (ap length r.blocks_are ∙ same))
 
 -- The prime block is damaged.
 pub damaged_prime : (size : ℕ) (c : Contents) (at : ℕ) → c at ≡ None → IsBadVersion size c 1 at at
 damaged_prime size c at none = IsBadVersion.malformed_prime (λ p runs next read few. some_none (sym read.words ∙ none))
 
 -- Or it isn't as it should be.
-pub bad_prime : (size : ℕ) (c : Contents) (at : ℕ) (words : List ℕ) → c at ≡ Some words → IsBadPrime size words → IsBadVersion size c 1 at at
+pub bad_prime : (size : ℕ) (c : Contents) (at : ℕ) (words : List ℕ) → c at ≡ Some words → IsBadPrime size words
+    → IsBadVersion size c 1 at at
 bad_prime size c at words is (IsBadPrime.malformed wrong) = IsBadVersion.malformed_prime
-    (λ p runs next read few. wrong p runs next (record { words_are = some_same (sym is ∙ read.words); ppn_fits = read.ppn_fits; ext_fits = read.ext_fits; fits = read.fits; few = few; are_runs = read.are_runs }))
-bad_prime size c at words is (IsBadPrime.run_outside p runs next s outside) = IsBadVersion.prime_run_outside p runs next (read_of c at words p runs next is s) outside
-bad_prime size c at words is (IsBadPrime.next_outside p runs next s some outside) = IsBadVersion.prime_next_outside p runs next (read_of c at words p runs next is s) some outside
-bad_prime size c at words is (IsBadPrime.short p runs next s some less) = IsBadVersion.prime_short p runs next (read_of c at words p runs next is s) some less
-bad_prime size c at words is (IsBadPrime.too_many p runs next s more) = IsBadVersion.too_many p runs next next [] (read_of c at words p runs next is s) refl
+    (λ p runs next read few. wrong p runs next
+    (record {
+      words_are = some_same (sym is ∙ read.words);
+      ppn_fits = read.ppn_fits;
+      ext_fits = read.ext_fits;
+      fits = read.fits;
+      few = few;
+      are_runs = read.are_runs;
+    }))
+bad_prime size c at words is (IsBadPrime.run_outside p runs next s outside) = IsBadVersion.prime_run_outside p runs next
+    (read_of c at words p runs next is s) outside
+bad_prime size c at words is (IsBadPrime.next_outside p runs next s some outside) = IsBadVersion.prime_next_outside
+    p runs next (read_of c at words p runs next is s) some outside
+bad_prime size c at words is (IsBadPrime.short p runs next s some less) = IsBadVersion.prime_short p runs next
+    (read_of c at words p runs next is s) some less
+bad_prime size c at words is (IsBadPrime.too_many p runs next s more) = IsBadVersion.too_many p runs next next []
+    (read_of c at words p runs next is s) refl
     (let e = ap (λ (l : List Run). length (flat_map run_blocks l)) (append-nil runs) in omega arith)
 
 -- An extension adds a block at least.
-pub blocks_grow : (runs : List Run) → 0 < length runs → AllByRecursion IsRun runs → 0 < length (flat_map run_blocks runs)
+pub blocks_grow : (runs : List Run) → 0 < length runs → AllByRecursion IsRun runs
+    → 0 < length (flat_map run_blocks runs)
 blocks_grow [] some are = absurd (omega arith)
 blocks_grow ((zero, first) ∷ runs) some are = absurd (let e = are.0.0 in omega arith)
 blocks_grow ((suc count, first) ∷ runs) some are = omega arith
 
-pub extended_longer : (size : ℕ) (words : List ℕ) (n next : ℕ) (old new : VersionState) → Extends size words n next old new → length old.blocks < length new.blocks
+pub extended_longer : (size : ℕ) (words : List ℕ) (n next : ℕ) (old new : VersionState)
+    → Extends size words n next old new → length old.blocks < length new.blocks
 extended_longer size words n next old new x =
     let e = ap (λ (v : VersionState). length v.blocks) x.version_is in
     let f = length-append old.blocks (flat_map run_blocks x.runs) in
@@ -227,17 +327,27 @@ pub falls : (a a' b b' : ℕ) → a' ≡ a → b < b' → b' ≤ a' → a' - b' 
 falls a a' b b' same less few = omega arith
 
 -- on a disk of this size
-pub bad_of : (size size' : ℕ) (c : Contents) (at k n : ℕ) → size ≡ size' → k ≡ n → IsBadVersion size c 1 at n → IsBadVersion size' c 1 at k
-bad_of size size' c at k n same is bad = subst (λ (s : ℕ). IsBadVersion s c 1 at k) same (subst (λ (m : ℕ). IsBadVersion size c 1 at m) (sym is) bad)
+pub bad_of : (size size' : ℕ) (c : Contents) (at k n : ℕ) → size ≡ size' → k ≡ n → IsBadVersion size c 1 at n
+    → IsBadVersion size' c 1 at k
+bad_of size size' c at k n same is bad = subst (λ (s : ℕ). IsBadVersion s c 1 at k) same
+    (subst (λ (m : ℕ). IsBadVersion size c 1 at m) (sym is) bad)
 
-pub extended_blocks : (size : ℕ) (words : List ℕ) (n next : ℕ) (old new : VersionState) → Extends size words n next old new → AllByRecursion (InSpace size) old.blocks → AllByRecursion (InSpace size) new.blocks
+pub extended_blocks : (size : ℕ) (words : List ℕ) (n next : ℕ) (old new : VersionState)
+    → Extends size words n next old new → AllByRecursion (InSpace size) old.blocks
+    → AllByRecursion (InSpace size) new.blocks
 extended_blocks size words n next old new x all =
-    subst (λ (v : VersionState). AllByRecursion (InSpace size) v.blocks) (sym x.version_is) (all_append (InSpace size) old.blocks (flat_map run_blocks x.runs) all x.inside)
+    subst (λ (v : VersionState). AllByRecursion (InSpace size) v.blocks) (sym x.version_is)
+    (all_append (InSpace size) old.blocks (flat_map run_blocks x.runs) all x.inside)
 
-pub extended_ribs : (size : ℕ) (words : List ℕ) (n next : ℕ) (old new : VersionState) → Extends size words n next old new → InSpace size n → AllByRecursion (InSpace size) old.ribs → AllByRecursion (InSpace size) new.ribs
+pub extended_ribs : (size : ℕ) (words : List ℕ) (n next : ℕ) (old new : VersionState)
+    → Extends size words n next old new → InSpace size n → AllByRecursion (InSpace size) old.ribs
+    → AllByRecursion (InSpace size) new.ribs
 extended_ribs size words n next old new x here all =
-    subst (λ (v : VersionState). AllByRecursion (InSpace size) v.ribs) (sym x.version_is) (all_append (InSpace size) old.ribs (n ∷ []) all (here, tt))
+    subst (λ (v : VersionState). AllByRecursion (InSpace size) v.ribs) (sym x.version_is)
+    (all_append (InSpace size) old.ribs (n ∷ []) all (here, tt))
 
 -- what is wrong with none of the blocks of a version that stands as it should
-pub none_wrong : (size : ℕ) (c : Contents) (at : ℕ) (p : Prime) (ribs blocks : List ℕ) → IsWholeVersion size c at p ribs blocks → (k : ℕ) → IsBadVersion size c 1 at k → ⊥
-none_wrong size c at p ribs blocks w k bad = no_bad_version 1 size c p at ribs blocks w.retrieved w.inside w.ppn_fits w.ext_fits k bad
+pub none_wrong : (size : ℕ) (c : Contents) (at : ℕ) (p : Prime) (ribs blocks : List ℕ)
+    → IsWholeVersion size c at p ribs blocks → (k : ℕ) → IsBadVersion size c 1 at k → ⊥
+none_wrong size c at p ribs blocks w k bad = no_bad_version 1 size c p at ribs blocks w.retrieved w.inside
+    w.ppn_fits w.ext_fits k bad

@@ -23,7 +23,8 @@ pub record AreFilled (ribs blocks next : ℕ) : Type 0 where
   pub some : 112 + 126 * ribs ≤ blocks + 125
   pub full : 0 < next → 112 + 126 * ribs ≤ blocks
 
-pub started_filled : (size : ℕ) (words : List ℕ) (prime : Prime) (v : VersionState) (next : ℕ) → IsStarted size words prime v next → AreFilled (length v.ribs) (length v.blocks) next
+pub started_filled : (size : ℕ) (words : List ℕ) (prime : Prime) (v : VersionState) (next : ℕ)
+    → IsStarted size words prime v next → AreFilled (length v.ribs) (length v.blocks) next
 started_filled size words prime v next started =
     let none = ap (λ (l : List ℕ). length l) started.ribs_are in
     let blocks = ap (λ (l : List ℕ). length l) started.blocks_are in
@@ -33,10 +34,13 @@ started_filled size words prime v next started =
       full = λ more. let all = started.full more in omega arith;
     }
 
-pub extended_filled : (size : ℕ) (words : List ℕ) (n next : ℕ) (old new : VersionState) → 0 < n → Extends size words n next old new → AreFilled (length old.ribs) (length old.blocks) n → AreFilled (length new.ribs) (length new.blocks) next
+pub extended_filled : (size : ℕ) (words : List ℕ) (n next : ℕ) (old new : VersionState) → 0 < n
+    → Extends size words n next old new → AreFilled (length old.ribs) (length old.blocks) n
+    → AreFilled (length new.ribs) (length new.blocks) next
 extended_filled size words n next old new more x filled =
     let ribs = ap (λ (v : VersionState). length v.ribs) x.version_is ∙ length-append old.ribs (n ∷ []) in
-    let blocks = ap (λ (v : VersionState). length v.blocks) x.version_is ∙ length-append old.blocks (flat_map run_blocks x.runs) in
+    let blocks = ap (λ (v : VersionState). length v.blocks) x.version_is
+    ∙ length-append old.blocks (flat_map run_blocks x.runs) in
     let few = runs-le x.runs x.spells.are_runs in
     let one = x.spells.some in
     let was = filled.full more in

@@ -6,10 +6,14 @@ use Rattle.meaning.specs.Faults.{InSpace}
 use Rattle.retrieval.specs.Spelling.{SpellsPrime, SpellsExtension}
 use Rattle.retrieval.specs.Reading.{IsBadPrime, IsBadExtension}
 
-pub prime_stuck : (size : ℕ) (words : List ℕ) (p : Prime) (runs : List Run) (next : ℕ) → SpellsPrime words p runs next → 0 < next → (length runs ≡ 112 → InSpace size next → ⊥) → IsBadPrime size words
+pub prime_stuck : (size : ℕ) (words : List ℕ) (p : Prime) (runs : List Run) (next : ℕ) → SpellsPrime words p runs next
+    → 0 < next → (length runs ≡ 112 → InSpace size next → ⊥) → IsBadPrime size words
 prime_stuck size words p runs next s some stuck =
-    ⊎_elim (λ (full : length runs ≡ 112). IsBadPrime.next_outside p runs next s some (stuck full)) (λ (less : length runs ≡ 112 → ⊥). IsBadPrime.short p runs next s some less) (cases_eq (length runs) 112)
+    ⊎_elim (λ (full : length runs ≡ 112). IsBadPrime.next_outside p runs next s some (stuck full))
+    (λ (less : length runs ≡ 112 → ⊥). IsBadPrime.short p runs next s some less) (cases_eq (length runs) 112)
 
-pub extension_stuck : (size : ℕ) (words : List ℕ) (runs : List Run) (next : ℕ) → SpellsExtension words runs next → 0 < next → (length runs ≡ 126 → InSpace size next → ⊥) → IsBadExtension size words
+pub extension_stuck : (size : ℕ) (words : List ℕ) (runs : List Run) (next : ℕ) → SpellsExtension words runs next
+    → 0 < next → (length runs ≡ 126 → InSpace size next → ⊥) → IsBadExtension size words
 extension_stuck size words runs next s some stuck =
-    ⊎_elim (λ (full : length runs ≡ 126). IsBadExtension.next_outside runs next s some (stuck full)) (λ (less : length runs ≡ 126 → ⊥). IsBadExtension.short runs next s some less) (cases_eq (length runs) 126)
+    ⊎_elim (λ (full : length runs ≡ 126). IsBadExtension.next_outside runs next s some (stuck full))
+    (λ (less : length runs ≡ 126 → ⊥). IsBadExtension.short runs next s some less) (cases_eq (length runs) 126)

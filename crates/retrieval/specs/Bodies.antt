@@ -24,4 +24,5 @@ AddsClear t old new = (n : ℕ) → 0 < times n new → (0 < times n old) ⊎ (b
 
 -- The blocks of a list that are held once, for it, stand at the same places of another list.
 abbrev pub KeepsOwn : TableState → List ℕ → List ℕ → Type 0
-KeepsOwn t blocks others = (i : ℕ) → i < length blocks → bit t (slice_index blocks i) ≡ 0 → holds t (slice_index blocks i) ≡ 1 → slice_index others i ≡ slice_index blocks i
+KeepsOwn t blocks others = (i : ℕ) → i < length blocks → bit t (slice_index blocks i) ≡ 0
+    → holds t (slice_index blocks i) ≡ 1 → slice_index others i ≡ slice_index blocks i

@@ -36,4 +36,5 @@ pub record IsExtensionHead (words : List ℕ) (count next : ℕ) : Type 0 where
 
 -- the first words of a prime block with so many pointers
 abbrev pub prime_front : Prime → ℕ → ℕ → List ℕ
-prime_front p count next = prime_word ∷ p.place.name.name ∷ extension_word p ∷ attributes p ∷ p.place.ppn ∷ p.words ∷ count ∷ next ∷ 0 ∷ 0 ∷ 0 ∷ 0 ∷ 0 ∷ 0 ∷ 0 ∷ 0 ∷ []
+prime_front p count next = prime_word ∷ p.place.name.name ∷ extension_word p ∷ attributes p ∷ p.place.ppn
+    ∷ p.words ∷ count ∷ next ∷ 0 ∷ 0 ∷ 0 ∷ 0 ∷ 0 ∷ 0 ∷ 0 ∷ 0 ∷ []

@@ -1,5 +1,6 @@
 -- Writing words over a body, block by block: the new words of each block, and how far it has come.
-use Rattle.std.specs.Prelude.{◌≡◌, ◌⊎◌, ℕ, ◌+◌, ◌-◌, ◌*◌, ◌/◌, ◌%◌, ◌<◌, ◌≤◌, ◌==◌, if◌then◌else◌, List, length, slice_index, Some}
+use Rattle.std.specs.Prelude.{◌≡◌, ◌⊎◌, ℕ, ◌+◌, ◌-◌, ◌*◌, ◌/◌, ◌%◌, ◌<◌, ◌≤◌, ◌==◌, if◌then◌else◌, List, length}
+use Rattle.std.specs.Prelude.{slice_index, Some}
 use Rattle.blockdisk.specs.Disk.{Contents}
 use Rattle.meaning.specs.Costs.{blocks_of}
 
@@ -11,19 +12,23 @@ kept_word place kept p = if p / 128 == place then slice_index kept (p % 128) els
 -- their block, and the block at this place is written with words of the body behind or before them.
 abbrev pub IsEdge : ℕ → ℕ → ℕ → ℕ → Type 0
 IsEdge length at count place =
-    ((length < at * 128) × (0 < length % 128) × (place ≡ length / 128)) ⊎ ((at * 128 + count < length) × (0 < (at * 128 + count) % 128) × (place ≡ (at * 128 + count) / 128))
+    ((length < at * 128) × (0 < length % 128) × (place ≡ length / 128))
+    ⊎ ((at * 128 + count < length) × (0 < (at * 128 + count) % 128) × (place ≡ (at * 128 + count) / 128))
 
 -- Where so many words are put from block `at` on, these are the words of the body that stay in the blocks from
 -- `first` on that are written.
 abbrev pub Stays : List ℕ → ℕ → ℕ → ℕ → ℕ → List ℕ → Type 0
 Stays body first at count place kept =
-    (p : ℕ) → first * 128 ≤ p → p < (at + blocks_of count) * 128 → (p < at * 128) ⊎ (at * 128 + count ≤ p) → kept_word place kept p ≡ slice_index body p
+    (p : ℕ) → first * 128 ≤ p → p < (at + blocks_of count) * 128 → (p < at * 128) ⊎ (at * 128 + count ≤ p)
+    → kept_word place kept p ≡ slice_index body p
 
 -- The words of block i, with words put from block `at` on over those that stay. Blocks are counted from 0.
 pub record IsNewBlock (at : ℕ) (words : List ℕ) (place : ℕ) (kept : List ℕ) (i : ℕ) (new : List ℕ) : Type 0 where
   pub whole : length new ≡ 128
-  pub put : (k : ℕ) → k < 128 → at * 128 ≤ i * 128 + k → i * 128 + k < at * 128 + length words → slice_index new k ≡ slice_index words (i * 128 + k - at * 128)
-  pub kept_is : (k : ℕ) → k < 128 → (i * 128 + k < at * 128) ⊎ (at * 128 + length words ≤ i * 128 + k) → slice_index new k ≡ kept_word place kept (i * 128 + k)
+  pub put : (k : ℕ) → k < 128 → at * 128 ≤ i * 128 + k → i * 128 + k < at * 128 + length words
+      → slice_index new k ≡ slice_index words (i * 128 + k - at * 128)
+  pub kept_is : (k : ℕ) → k < 128 → (i * 128 + k < at * 128) ⊎ (at * 128 + length words ≤ i * 128 + k)
+      → slice_index new k ≡ kept_word place kept (i * 128 + k)
 
 -- Block n of the disk has the new words of block i.
 pub record HoldsNew (contents : Contents) (at : ℕ) (words : List ℕ) (place : ℕ) (kept : List ℕ) (i n : ℕ) : Type 0 where
@@ -32,6 +37,8 @@ pub record HoldsNew (contents : Contents) (at : ℕ) (words : List ℕ) (place :
   pub is_new : IsNewBlock at words place kept i new
 
 -- The blocks from `first` up to i have their new words; at the other places the same blocks stand as before.
-pub record IsPlaced (before now : Contents) (old new : List ℕ) (at : ℕ) (words : List ℕ) (place : ℕ) (kept : List ℕ) (first i : ℕ) : Type 0 where
-  pub stays : (j : ℕ) → j < length old → (j < first) ⊎ (i ≤ j) → (slice_index new j ≡ slice_index old j) × (now (slice_index old j) ≡ before (slice_index old j))
+pub record IsPlaced (before now : Contents) (old new : List ℕ) (at : ℕ) (words : List ℕ) (place : ℕ) (kept : List ℕ)
+    (first i : ℕ) : Type 0 where
+  pub stays : (j : ℕ) → j < length old → (j < first) ⊎ (i ≤ j) → (slice_index new j ≡ slice_index old j)
+      × (now (slice_index old j) ≡ before (slice_index old j))
   pub placed : (j : ℕ) → first ≤ j → j < i → HoldsNew now at words place kept j (slice_index new j)

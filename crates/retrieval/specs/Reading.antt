@@ -5,7 +5,8 @@ use Rattle.words36.specs.Words.{IsPpn}
 use Rattle.blockdisk.specs.Disk.{Contents}
 use Rattle.meaning.specs.Maps.{times}
 use Rattle.meaning.specs.Costs.{blocks_of}
-use Rattle.meaning.specs.Retrieval.{Prime, Run, IsRun, run_blocks, Extension, all_runs, extension_numbers, extension_block, IsRetrieved}
+use Rattle.meaning.specs.Retrieval.{Prime, Run, IsRun, run_blocks, Extension, all_runs, extension_numbers}
+use Rattle.meaning.specs.Retrieval.{extension_block, IsRetrieved}
 use Rattle.meaning.specs.Walks.{IsPrimeRead}
 use Rattle.meaning.specs.Faults.{InSpace, RunsInSpace}
 use Rattle.retrieval.specs.Primes.{with_length}
@@ -16,17 +17,24 @@ use Rattle.retrieval.specs.declared.prime.Prime.{Prime as PrimeValue}
 -- The words of a prime block, with what is wrong with them.
 pub data IsBadPrime (size : ℕ) (words : List ℕ) : Type 0 where
   malformed : ((p : Prime) (runs : List Run) (next : ℕ) → SpellsPrime words p runs next → ⊥) → IsBadPrime size words
-  run_outside : (p : Prime) (runs : List Run) (next : ℕ) → SpellsPrime words p runs next → (RunsInSpace size runs → ⊥) → IsBadPrime size words
-  next_outside : (p : Prime) (runs : List Run) (next : ℕ) → SpellsPrime words p runs next → 0 < next → (InSpace size next → ⊥) → IsBadPrime size words
-  short : (p : Prime) (runs : List Run) (next : ℕ) → SpellsPrime words p runs next → 0 < next → (length runs ≡ 112 → ⊥) → IsBadPrime size words
-  too_many : (p : Prime) (runs : List Run) (next : ℕ) → SpellsPrime words p runs next → blocks_of p.words < length (flat_map run_blocks runs) → IsBadPrime size words
+  run_outside : (p : Prime) (runs : List Run) (next : ℕ) → SpellsPrime words p runs next → (RunsInSpace size runs → ⊥)
+      → IsBadPrime size words
+  next_outside : (p : Prime) (runs : List Run) (next : ℕ) → SpellsPrime words p runs next → 0 < next
+      → (InSpace size next → ⊥) → IsBadPrime size words
+  short : (p : Prime) (runs : List Run) (next : ℕ) → SpellsPrime words p runs next → 0 < next → (length runs ≡ 112 → ⊥)
+      → IsBadPrime size words
+  too_many : (p : Prime) (runs : List Run) (next : ℕ) → SpellsPrime words p runs next
+      → blocks_of p.words < length (flat_map run_blocks runs) → IsBadPrime size words
 
 -- The same of an extension.
 pub data IsBadExtension (size : ℕ) (words : List ℕ) : Type 0 where
   malformed : ((runs : List Run) (next : ℕ) → SpellsExtension words runs next → ⊥) → IsBadExtension size words
-  run_outside : (runs : List Run) (next : ℕ) → SpellsExtension words runs next → (RunsInSpace size runs → ⊥) → IsBadExtension size words
-  next_outside : (runs : List Run) (next : ℕ) → SpellsExtension words runs next → 0 < next → (InSpace size next → ⊥) → IsBadExtension size words
-  short : (runs : List Run) (next : ℕ) → SpellsExtension words runs next → 0 < next → (length runs ≡ 126 → ⊥) → IsBadExtension size words
+  run_outside : (runs : List Run) (next : ℕ) → SpellsExtension words runs next → (RunsInSpace size runs → ⊥)
+      → IsBadExtension size words
+  next_outside : (runs : List Run) (next : ℕ) → SpellsExtension words runs next → 0 < next → (InSpace size next → ⊥)
+      → IsBadExtension size words
+  short : (runs : List Run) (next : ℕ) → SpellsExtension words runs next → 0 < next → (length runs ≡ 126 → ⊥)
+      → IsBadExtension size words
 
 -- With the blocks of these runs there are more than the length asks for.
 pub record Overfills (words : List ℕ) (v : VersionState) : Type 0 where
@@ -53,18 +61,22 @@ pub record Extends (size : ℕ) (words : List ℕ) (n next : ℕ) (old new : Ver
   pub inside : RunsInSpace size runs
   pub full : 0 < next → length runs ≡ 126
   pub next_inside : 0 < next → InSpace size next
-  pub version_is : new ≡ record { words = old.words; blocks = old.blocks ++ flat_map run_blocks runs; ribs = old.ribs ++ n ∷ [] }
+  pub version_is : new
+      ≡ record { words = old.words; blocks = old.blocks ++ flat_map run_blocks runs; ribs = old.ribs ++ n ∷ [] }
   pub room : length new.blocks ≤ blocks_of new.words
 
 -- The extensions from `first` on, each good, the last naming `last`.
 abbrev pub Follows : ℕ → Contents → ℕ → List Extension → ℕ → Type 0
 Follows size contents first [] last = first ≡ last
 Follows size contents first (extension ∷ extensions) last =
-    (extension.0 ≡ first) × InSpace size first × (0 < length extension.1) × (length extension.1 ≤ 126) × AllByRecursion IsRun extension.1 × RunsInSpace size extension.1
-    × (next : ℕ) × (contents first ≡ Some (extension_block extension.1 next)) × (0 < next → length extension.1 ≡ 126) × Follows size contents next extensions last
+    (extension.0 ≡ first) × InSpace size first × (0 < length extension.1) × (length extension.1 ≤ 126)
+    × AllByRecursion IsRun extension.1 × RunsInSpace size extension.1
+    × (next : ℕ) × (contents first ≡ Some (extension_block extension.1 next)) × (0 < next → length extension.1 ≡ 126)
+    × Follows size contents next extensions last
 
 -- So far a version was read; the extension `next` follows, or none.
-pub record IsReadTo (size : ℕ) (contents : Contents) (at : ℕ) (prime : PrimeValue) (v : VersionState) (next : ℕ) : Type 0 where
+pub record IsReadTo (size : ℕ) (contents : Contents) (at : ℕ) (prime : PrimeValue) (v : VersionState)
+    (next : ℕ) : Type 0 where
   pub runs : List Run
   pub first : ℕ
   pub extensions : List Extension

@@ -1,4 +1,5 @@
-ghost use Rattle.std.specs.Prelude.{◌≡◌, ◌+◌, ◌-◌, ◌*◌, ◌<◌, ◌≤◌, ◌^◌, ℕ, List, Some, None, IfOk, IsErrOf, length, min, slice_index, take};
+ghost use Rattle.std.specs.Prelude.{◌≡◌, ◌+◌, ◌-◌, ◌*◌, ◌<◌, ◌≤◌, ◌^◌, ℕ, List, Some, None, IfOk, IsErrOf, length, min};
+ghost use Rattle.std.specs.Prelude.{slice_index, take};
 ghost use Rattle.std.specs.List.{AllByRecursion};
 ghost use Rattle.blockdisk.specs.Disk.{Keeps, SameDisk, one_more};
 ghost use Rattle.meaning.specs.Costs.{blocks_of};
@@ -17,7 +18,8 @@ use words36::{BLOCK_WORDS, Block, Word};
 pub(crate) fn read_data<D: Disk>(disk: &mut D, n: u32) -> Result<Block, BodyError>
     requires { n < (D.state disk.old).size }
     ensures words { (D.state disk.new).honest → IfOk result (λ block. (D.state disk.old).contents n ≡ Some block) }
-    ensures bad { (D.state disk.new).honest → (k : ℕ) → IsErrOf result (BadData k) → (k ≡ n) × ((D.state disk.old).contents n ≡ None) }
+    ensures bad { (D.state disk.new).honest → (k : ℕ) → IsErrOf result (BadData k)
+        → (k ≡ n) × ((D.state disk.old).contents n ≡ None) }
     ensures memory { IsErrOf result NoMemory → ⊥ }
     ensures keeps { (D.state disk.new).honest → Keeps (D.state disk.old) (D.state disk.new) }
     ensures same { SameDisk (D.state disk.old) (D.state disk.new) }
@@ -59,11 +61,15 @@ pub fn get_words<D: Disk>(
     requires counted { length version.now.blocks ≡ blocks_of version.now.words }
     requires first { 0 < block }
 
-    ensures words { (D.state disk.new).honest → (body : List ℕ) → length body ≡ version.now.words → HasBody (D.state disk.old).contents version.now.blocks body → IfOk result (λ words. words.items ≡ take count (words_from body block)) }
+    ensures words { (D.state disk.new).honest → (body : List ℕ) → length body ≡ version.now.words
+        → HasBody (D.state disk.old).contents version.now.blocks body
+        → IfOk result (λ words. words.items ≡ take count (words_from body block)) }
     // A damaged block is never answered as words.
-    ensures whole { (D.state disk.new).honest → IfOk result (λ words. (i : ℕ) → i * 128 < length words.items → (D.state disk.old).contents (slice_index version.now.blocks (block - 1 + i)) ≡ None → ⊥) }
+    ensures whole { (D.state disk.new).honest → IfOk result (λ words. (i : ℕ) → i * 128 < length words.items
+        → (D.state disk.old).contents (slice_index version.now.blocks (block - 1 + i)) ≡ None → ⊥) }
     ensures few { IfOk result (λ words. length words.items ≡ min count (version.now.words - block_start block)) }
-    ensures damaged { (D.state disk.new).honest → (k : ℕ) → IsErrOf result (BadData k) → (0 < times k version.now.blocks) × ((D.state disk.old).contents k ≡ None) }
+    ensures damaged { (D.state disk.new).honest → (k : ℕ) → IsErrOf result (BadData k)
+        → (0 < times k version.now.blocks) × ((D.state disk.old).contents k ≡ None) }
     ensures memory { IsErrOf result NoMemory → disk.new ≡ disk.old }
     // Where there are no words the disk isn't asked.
     ensures none { IfOk result (λ words. length words.items ≡ 0 → disk.new ≡ disk.old) }

@@ -24,7 +24,8 @@ fn put_pointers(words: &mut Block, blocks: &[u32])
     requires few { length blocks.now ≤ 112 }
     requires fit { AllByRecursion (λ n. n < 2 ^ 18) blocks.now }
     requires clear { drop 16 words.old ≡ replicate 112 0 }
-    ensures { words.new ≡ take 16 words.old ++ (map pointer (one_each blocks.now) ++ replicate (112 - length blocks.now) 0) }
+    ensures { words.new ≡ take 16 words.old
+        ++ (map pointer (one_each blocks.now) ++ replicate (112 - length blocks.now) 0) }
 {
     for (i, n) in blocks.iter().enumerate() {
         words[PRIME_HEAD + i] = pointer_to(*n);
@@ -34,7 +35,8 @@ fn put_pointers(words: &mut Block, blocks: &[u32])
 /// A prime block with so many pointers, which are not put in yet.
 fn without_pointers(prime: &Prime, version: &Version, count: usize) -> Block
     requires { count ≤ 112 }
-    ensures { result ≡ prime_front (with_length prime.now version.now.words) count (head_or_zero version.now.ribs) ++ replicate 112 0 }
+    ensures { result ≡ prime_front (with_length prime.now version.now.words) count (head_or_zero version.now.ribs)
+        ++ replicate 112 0 }
 {
     let mut words = [Word::ZERO; BLOCK_WORDS];
     words[0] = Word::from_bits(PRIME_WORD);
@@ -52,7 +54,8 @@ fn without_pointers(prime: &Prime, version: &Version, count: usize) -> Block
 /// is room, and the first of the ribs, or 0.
 pub fn prime_block(prime: &Prime, version: &Version) -> Block
     requires { AllByRecursion (λ n. n < 2 ^ 18) version.now.blocks }
-    ensures { result ≡ prime_block (with_length prime.now version.now.words) (one_each (take 112 version.now.blocks)) (head_or_zero version.now.ribs) }
+    ensures { result ≡ prime_block (with_length prime.now version.now.words) (one_each (take 112 version.now.blocks))
+        (head_or_zero version.now.ribs) }
 {
     let blocks = version.blocks();
     let count = blocks.len().min(PRIME_POINTERS);

@@ -28,7 +28,8 @@ struct Attributes {
 /// What the attributes in a prime block are: protection in bits 0 to 8, mode in 9 to 12, time in 13 to
 /// 23, date in 24 to 35.
 fn attributes_of(word: Word) -> Option<Attributes>
-    ensures some { IfSome result (λ a. IsAttributes word a.protection (mode_number a.mode) a.moment.minute a.moment.date) }
+    ensures some { IfSome result
+        (λ a. IsAttributes word a.protection (mode_number a.mode) a.moment.minute a.moment.date) }
     ensures none { IfNone result ((protection mode time date : ℕ) → IsAttributes word protection mode time date → ⊥) }
 {
     let bits = word.bits();

@@ -1,4 +1,5 @@
-ghost use Rattle.std.specs.Prelude.{◌≡◌, ◌+◌, ◌-◌, ◌*◌, ◌/◌, ◌%◌, ◌<◌, ◌≤◌, ◌++◌, ℕ, List, None, IfOk, IfSome, IfNone, IsErrOf, length, min, take, drop, slice_index};
+ghost use Rattle.std.specs.Prelude.{◌≡◌, ◌+◌, ◌-◌, ◌*◌, ◌/◌, ◌%◌, ◌<◌, ◌≤◌, ◌++◌, ℕ, List, None, IfOk, IfSome, IfNone};
+ghost use Rattle.std.specs.Prelude.{IsErrOf, length, min, take, drop, slice_index};
 ghost use Rattle.std.specs.List.{AllByRecursion};
 ghost use Rattle.blockdisk.specs.Disk.{Keeps, SameDisk, one_more};
 ghost use Rattle.meaning.specs.Costs.{blocks_of};
@@ -68,8 +69,11 @@ pub(crate) fn read_kept<D: Disk>(
     requires counted { length blocks.now ≡ blocks_of total }
     requires fits { at * 128 + count ≤ 2097152 }
 
-    ensures kept { (D.state disk.new).honest → (body : List ℕ) → length body ≡ total → AreWhole (D.state disk.old).contents blocks.now → HasBody (D.state disk.old).contents blocks.now body → IfOk result (λ kept. Stays body (min at (total / 128)) at count kept.place kept.words) }
-    ensures damaged { (D.state disk.new).honest → (k : ℕ) → IsErrOf result (BadData k) → (0 < times k blocks.now) × ((D.state disk.old).contents k ≡ None) }
+    ensures kept { (D.state disk.new).honest → (body : List ℕ) → length body ≡ total
+        → AreWhole (D.state disk.old).contents blocks.now → HasBody (D.state disk.old).contents blocks.now body
+        → IfOk result (λ kept. Stays body (min at (total / 128)) at count kept.place kept.words) }
+    ensures damaged { (D.state disk.new).honest → (k : ℕ) → IsErrOf result (BadData k)
+        → (0 < times k blocks.now) × ((D.state disk.old).contents k ≡ None) }
     ensures memory { IsErrOf result NoMemory → ⊥ }
     ensures keeps { (D.state disk.new).honest → Keeps (D.state disk.old) (D.state disk.new) }
     ensures same { SameDisk (D.state disk.old) (D.state disk.new) }

@@ -11,8 +11,10 @@ use words36::Block;
 
 /// What a prime block says before its pointers, or `None` where its words aren't those of a prime block.
 pub fn parse_prime(block: &Block) -> Option<PrimeHead>
-    ensures some { IfSome result (λ h. SpellsPrime block.now (with_length h.prime h.length) (runs_of (take h.count (drop 16 block.now))) h.next) }
-    ensures none { IfNone result ((p : PrimeRecord) (runs : List Run) (next : ℕ) → SpellsPrime block.now p runs next → ⊥) }
+    ensures some { IfSome result (λ h. SpellsPrime block.now (with_length h.prime h.length)
+        (runs_of (take h.count (drop 16 block.now))) h.next) }
+    ensures none { IfNone result ((p : PrimeRecord) (runs : List Run) (next : ℕ) → SpellsPrime block.now p runs next
+        → ⊥) }
 {
     let words = &block[..];
     let head = prime_head(block)?;

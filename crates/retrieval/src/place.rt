@@ -19,6 +19,7 @@ use words36::{BLOCK_WORDS, Word};
 /// Makes the block at a place the version's own: the one that is there, or a free one in its place, which
 /// no other version reaches. Answers it.
 pub(crate) fn own_place(table: &mut Table, version: &mut Version, i: usize) -> u32
+    // The place is one of the version, whose blocks are held, and one more may be taken.
     requires below { i < length version.old.blocks }
     requires inside { AllByRecursion (InSpace table.old.size) version.old.blocks }
     requires held { (n : ℕ) → times n version.old.blocks ≤ holds table.old n }
@@ -26,14 +27,18 @@ pub(crate) fn own_place(table: &mut Table, version: &mut Version, i: usize) -> u
     requires used { uses table.old < table.old.booked }
     requires room { table.old.booked ≤ space table.old.size }
 
+    // The block that is written, and the version with it.
     ensures version { version.new ≡ record version.old { blocks = slice_set version.old.blocks i result } }
     ensures inside { InSpace table.old.size result }
     ensures alone { times result version.new.blocks ≡ 1 }
     ensures own { IsOwn table.new version.new.blocks result }
-    ensures stays { bit table.old (slice_index version.old.blocks i) ≡ 0 → holds table.old (slice_index version.old.blocks i) ≡ 1 → result ≡ slice_index version.old.blocks i }
+    // The table: another block is held in the place of one that was not its own.
+    ensures stays { bit table.old (slice_index version.old.blocks i) ≡ 0
+        → holds table.old (slice_index version.old.blocks i) ≡ 1 → result ≡ slice_index version.old.blocks i }
 
     ensures table { table.new ≡ record table.old { held = table.new.held } }
-    ensures held { (n : ℕ) → holds table.new n + times n version.old.blocks ≡ holds table.old n + times n version.new.blocks }
+    ensures held { (n : ℕ) → holds table.new n + times n version.old.blocks
+        ≡ holds table.old n + times n version.new.blocks }
     ensures used { uses table.new ≡ uses table.old }
 {
     let _booked = table.booked(); // which says that the table is sound
@@ -63,29 +68,39 @@ pub(crate) fn write_places<D: Disk>(
     at: usize,
     words: &[Word],
 ) -> Result<(), Fault>
+    // The words and the places that they go to.
     requires size { table.old.size ≡ (D.state disk.old).size }
     requires fits { at + blocks_of (length words.now) ≤ length version.old.blocks }
     requires few { length version.old.blocks ≤ 16384 }
     requires order { first ≤ at }
+    // The blocks of the version are held, and enough more may be taken.
     requires inside { AllByRecursion (InSpace (D.state disk.old).size) version.old.blocks }
     requires held { (n : ℕ) → times n version.old.blocks ≤ holds table.old n }
     requires fixed { IsFixed table.old }
     requires used { uses table.old < table.old.booked }
     requires room { table.old.booked ≤ space table.old.size }
 
-    ensures placed { (D.state disk.new).honest → OnOk result (IsPlaced (D.state disk.old).contents (D.state disk.new).contents version.old.blocks version.new.blocks at words.now kept.now.place kept.now.words first (at + blocks_of (length words.now))) }
+    // The version, and what its blocks hold at Ok.
+    ensures placed { (D.state disk.new).honest
+        → OnOk result (IsPlaced (D.state disk.old).contents (D.state disk.new).contents version.old.blocks
+        version.new.blocks at words.now kept.now.place kept.now.words first (at + blocks_of (length words.now))) }
 
     ensures version { version.new ≡ record version.old { blocks = version.new.blocks } }
     ensures long { length version.new.blocks ≡ length version.old.blocks }
     ensures inside { AllByRecursion (InSpace (D.state disk.old).size) version.new.blocks }
     ensures adds { AddsFree table.old version.old.blocks version.new.blocks }
+    // The table, whatever is answered.
     ensures table { table.new ≡ record table.old { held = table.new.held } }
-    ensures held { (n : ℕ) → holds table.new n + times n version.old.blocks ≡ holds table.old n + times n version.new.blocks }
+    ensures held { (n : ℕ) → holds table.new n + times n version.old.blocks
+        ≡ holds table.old n + times n version.new.blocks }
     ensures used { uses table.new ≡ uses table.old }
     ensures stays { KeepsOwn table.old version.old.blocks version.new.blocks }
-    ensures modified { (D.state disk.new).honest → Modifies (IsOwn table.old version.old.blocks) (D.state disk.old) (D.state disk.new) }
+    // Only blocks of its own are written.
+    ensures modified { (D.state disk.new).honest
+        → Modifies (IsOwn table.old version.old.blocks) (D.state disk.old) (D.state disk.new) }
 
     ensures same { SameDisk (D.state disk.old) (D.state disk.new) }
+    // The device: what failed, and how often.
     ensures device { IsErrOf result Damaged → ⊥ }
     ensures failed { IsErrOf result DeviceFault → (D.state disk.new).failures ≡ one_more (D.state disk.old).failures }
     ensures served { OnOk result ((D.state disk.new).failures ≡ (D.state disk.old).failures) }

@@ -1,4 +1,5 @@
-ghost use Rattle.std.specs.Prelude.{◌≡◌, ◌+◌, ◌-◌, ◌*◌, ◌/◌, ◌<◌, ◌≤◌, ◌++◌, ℕ, List, None, IfOk, OnOk, OnErr, IsErrOf, length, min, take, replicate};
+ghost use Rattle.std.specs.Prelude.{◌≡◌, ◌+◌, ◌-◌, ◌*◌, ◌/◌, ◌<◌, ◌≤◌, ◌++◌, ℕ, List, None, IfOk, OnOk, OnErr, IsErrOf};
+ghost use Rattle.std.specs.Prelude.{length, min, take, replicate};
 ghost use Rattle.std.specs.List.{AllByRecursion};
 ghost use Rattle.blockdisk.specs.Disk.{Keeps, SameDisk, Modifies, one_more};
 ghost use Rattle.meaning.specs.Costs.{blocks_of};
@@ -33,15 +34,23 @@ fn prepare<D: Disk>(
     count: usize,
     blocks: usize,
 ) -> Result<Kept, BodyError>
+    // What the caller sees to.
     requires inside { AllByRecursion (InSpace (D.state disk.old).size) version.old.blocks }
     requires counted { length version.old.blocks ≡ blocks_of version.old.words }
     requires fits { at * 128 + count ≤ 2097152 }
     requires longer { length version.old.blocks ≤ blocks }
 
-    ensures ok { OnOk result (version.new ≡ record version.old { blocks = version.old.blocks ++ replicate (blocks - length version.old.blocks) 0 }) }
+    // What is kept of the words that stay.
+    ensures ok { OnOk result (version.new
+        ≡ record version.old { blocks = version.old.blocks ++ replicate (blocks - length version.old.blocks) 0 }) }
     ensures err { OnErr result (version.new ≡ version.old) }
-    ensures kept { (D.state disk.new).honest → (body : List ℕ) → length body ≡ version.old.words → AreWhole (D.state disk.old).contents version.old.blocks → HasBody (D.state disk.old).contents version.old.blocks body → IfOk result (λ kept. Stays body (min at (version.old.words / 128)) at count kept.place kept.words) }
-    ensures damaged { (D.state disk.new).honest → (k : ℕ) → IsErrOf result (BadData k) → (0 < times k version.old.blocks) × ((D.state disk.old).contents k ≡ None) }
+    ensures kept { (D.state disk.new).honest → (body : List ℕ) → length body ≡ version.old.words
+        → AreWhole (D.state disk.old).contents version.old.blocks
+        → HasBody (D.state disk.old).contents version.old.blocks body
+        → IfOk result (λ kept. Stays body (min at (version.old.words / 128)) at count kept.place kept.words) }
+    // Which refusal comes when, and what it leaves.
+    ensures damaged { (D.state disk.new).honest → (k : ℕ) → IsErrOf result (BadData k)
+        → (0 < times k version.old.blocks) × ((D.state disk.old).contents k ≡ None) }
     ensures memory { IsErrOf result NoMemory → disk.new ≡ disk.old }
     ensures keeps { (D.state disk.new).honest → Keeps (D.state disk.old) (D.state disk.new) }
     ensures same { SameDisk (D.state disk.old) (D.state disk.new) }
@@ -75,6 +84,7 @@ pub fn put_words<D: Disk>(
     block: u32,
     words: &[Word],
 ) -> Result<(), BodyError>
+    // What the caller sees to.
     requires volume { IsVolumeSize (D.state disk.old).size }
     requires size { table.old.size ≡ (D.state disk.old).size }
     requires fixed { IsFixed table.old }
@@ -83,10 +93,14 @@ pub fn put_words<D: Disk>(
     requires held { (n : ℕ) → times n version.old.blocks ≤ holds table.old n }
     requires first { 0 < block }
     requires fits { length_after version.old.words block (length words.now) ≤ most_blocks * 128 }
-    requires booked { uses table.old + (blocks_of (length_after version.old.words block (length words.now)) - length version.old.blocks) < table.old.booked }
+    requires booked { uses table.old + (blocks_of (length_after version.old.words block (length words.now))
+        - length version.old.blocks) < table.old.booked }
     requires room { table.old.booked ≤ space table.old.size }
 
-    ensures body { (D.state disk.new).honest → OnOk result ((body : List ℕ) → length body ≡ version.old.words → HasBody (D.state disk.old).contents version.old.blocks body → HasBody (D.state disk.new).contents version.new.blocks (splice body block words.now)) }
+    ensures body { (D.state disk.new).honest
+        → OnOk result ((body : List ℕ) → length body ≡ version.old.words
+        → HasBody (D.state disk.old).contents version.old.blocks body
+        → HasBody (D.state disk.new).contents version.new.blocks (splice body block words.now)) }
     ensures length { OnOk result (version.new.words ≡ length_after version.old.words block (length words.now)) }
     ensures counted { OnOk result (length version.new.blocks ≡ blocks_of version.new.words) }
 
@@ -96,12 +110,16 @@ pub fn put_words<D: Disk>(
     ensures adds { AddsFree table.old version.old.blocks version.new.blocks }
     ensures few { length version.new.blocks ≤ blocks_of (length_after version.old.words block (length words.now)) }
     ensures table { table.new ≡ record table.old { held = table.new.held } }
-    ensures held { (n : ℕ) → holds table.new n + times n version.old.blocks ≡ holds table.old n + times n version.new.blocks }
+    ensures held { (n : ℕ) → holds table.new n + times n version.old.blocks
+        ≡ holds table.old n + times n version.new.blocks }
     ensures used { uses table.new + length version.old.blocks ≡ uses table.old + length version.new.blocks }
     ensures stays { KeepsOwn table.old version.old.blocks version.new.blocks }
-    ensures modified { (D.state disk.new).honest → Modifies (IsOwn table.old version.old.blocks) (D.state disk.old) (D.state disk.new) }
-    ensures memory { IsErrOf result NoMemory → (table.new ≡ table.old) × (version.new ≡ version.old) × (disk.new ≡ disk.old) }
-    ensures damaged { (D.state disk.new).honest → (k : ℕ) → IsErrOf result (BadData k) → (0 < times k version.old.blocks) × ((D.state disk.old).contents k ≡ None) }
+    ensures modified { (D.state disk.new).honest
+        → Modifies (IsOwn table.old version.old.blocks) (D.state disk.old) (D.state disk.new) }
+    ensures memory { IsErrOf result NoMemory → (table.new ≡ table.old) × (version.new ≡ version.old)
+        × (disk.new ≡ disk.old) }
+    ensures damaged { (D.state disk.new).honest → (k : ℕ) → IsErrOf result (BadData k)
+        → (0 < times k version.old.blocks) × ((D.state disk.old).contents k ≡ None) }
     ensures left { OnErr result (version.new.words ≡ version.old.words) }
     ensures undone { (k : ℕ) → IsErrOf result (BadData k) → (table.new ≡ table.old) × (version.new ≡ version.old) }
 

@@ -1,11 +1,13 @@
-ghost use Rattle.std.specs.Prelude.{◌≡◌, ◌*◌, ◌<◌, ◌≤◌, ◌^◌, ◌⊎◌, ℕ, List, IsTrue, Some, None, IfSome, IfNone, IfOk, OnOk, IsErrOf, length};
+ghost use Rattle.std.specs.Prelude.{◌≡◌, ◌*◌, ◌<◌, ◌≤◌, ◌^◌, ◌⊎◌, ℕ, List, IsTrue, Some, None, IfSome, IfNone, IfOk};
+ghost use Rattle.std.specs.Prelude.{OnOk, IsErrOf, length};
 ghost use Rattle.std.specs.List.{AllByRecursion};
 ghost use Rattle.blockdisk.specs.Disk.{Keeps, SameDisk, one_more};
 ghost use Rattle.meaning.specs.Costs.{blocks_of};
 ghost use Rattle.meaning.specs.Regions.{IsVolumeSize};
 ghost use Rattle.meaning.specs.Retrieval.{Prime as PrimeRecord, IsRetrieved, most_blocks};
 ghost use Rattle.meaning.specs.Faults.{InSpace, IsBadVersion};
-ghost use Rattle.retrieval.specs.Reading.{IsBadPrime, IsBadExtension, Overfills, IsStarted, Extends, IsVersionAt, IsReadAs, IsWholeVersion};
+ghost use Rattle.retrieval.specs.Reading.{IsBadPrime, IsBadExtension, Overfills, IsStarted, Extends, IsVersionAt};
+ghost use Rattle.retrieval.specs.Reading.{IsReadAs, IsWholeVersion};
 ghost use Rattle.retrieval.specs.declared.error.RetrievalError.TheVariants.{BadRetrieval, Device, NoMemory};
 ghost use Rattle.retrieval.specs.Writing.{rib_count};
 
@@ -21,7 +23,8 @@ use words36::{BLOCK_WORDS, Block};
 fn read_block<D: Disk>(disk: &mut D, n: u32) -> Result<Block, RetrievalError>
     requires { n < (D.state disk.old).size }
     ensures words { (D.state disk.new).honest → IfOk result (λ block. (D.state disk.old).contents n ≡ Some block) }
-    ensures bad { (D.state disk.new).honest → (k : ℕ) → IsErrOf result (BadRetrieval k) → (k ≡ n) × ((D.state disk.old).contents n ≡ None) }
+    ensures bad { (D.state disk.new).honest → (k : ℕ) → IsErrOf result (BadRetrieval k)
+        → (k ≡ n) × ((D.state disk.old).contents n ≡ None) }
     ensures named { (k : ℕ) → IsErrOf result (BadRetrieval k) → k ≡ n }
     ensures memory { IsErrOf result NoMemory → ⊥ }
     ensures keeps { (D.state disk.new).honest → Keeps (D.state disk.old) (D.state disk.new) }
@@ -88,7 +91,8 @@ fn extend_version(
     requires words { version.old.words ≤ 2097152 }
     requires room { length version.old.blocks ≤ blocks_of version.old.words }
     ensures ok { IfOk result (λ next. Extends size block.now n next version.old version.new) }
-    ensures bad { (k : ℕ) → IsErrOf result (BadRetrieval k) → ((k ≡ n) × IsBadExtension size block.now) ⊎ ((k ≡ at) × Overfills block.now version.old) }
+    ensures bad { (k : ℕ) → IsErrOf result (BadRetrieval k) → ((k ≡ n) × IsBadExtension size block.now)
+        ⊎ ((k ≡ at) × Overfills block.now version.old) }
     ensures device { IsErrOf result Device → ⊥ }
 {
     let words = &block[..];
@@ -122,20 +126,30 @@ pub fn read_version<D: Disk>(
     disk: &mut D,
     at: u32,
 ) -> Result<(Prime, Version), RetrievalError>
+    // What the caller sees to.
     requires volume { IsVolumeSize (D.state disk.old).size }
     requires inside { at < (D.state disk.old).size }
-    ensures ok { (D.state disk.new).honest → IfOk result (λ read. IsVersionAt (D.state disk.old).size (D.state disk.old).contents at read.0 read.1) }
-    ensures bad { (D.state disk.new).honest → (k : ℕ) → IsErrOf result (BadRetrieval k) → IsBadVersion (D.state disk.old).size (D.state disk.old).contents 1 at k }
+    // What was read, or what stands at a prime block that is refused.
+    ensures ok { (D.state disk.new).honest
+        → IfOk result (λ read. IsVersionAt (D.state disk.old).size (D.state disk.old).contents at read.0 read.1) }
+    ensures bad { (D.state disk.new).honest → (k : ℕ) → IsErrOf result (BadRetrieval k)
+        → IsBadVersion (D.state disk.old).size (D.state disk.old).contents 1 at k }
 
     // Whatever the disk answers, a block that is named is the prime block or lies in the free space.
     ensures named { (k : ℕ) → IsErrOf result (BadRetrieval k) → (k ≡ at) ⊎ InSpace (D.state disk.old).size k }
-    ensures whole { (D.state disk.new).honest → (p : PrimeRecord) (ribs blocks : List ℕ) → IsWholeVersion (D.state disk.old).size (D.state disk.old).contents at p ribs blocks → (k : ℕ) → IsErrOf result (BadRetrieval k) → ⊥ }
-    ensures reads { (D.state disk.new).honest → (p : PrimeRecord) (ribs blocks : List ℕ) → IsRetrieved 1 (D.state disk.old).contents p at ribs blocks → p.place.name.ext < 2 ^ 18 → IfOk result (λ read. IsReadAs p ribs blocks read.0 read.1) }
+    ensures whole { (D.state disk.new).honest → (p : PrimeRecord) (ribs blocks : List ℕ)
+        → IsWholeVersion (D.state disk.old).size (D.state disk.old).contents at p ribs blocks → (k : ℕ)
+        → IsErrOf result (BadRetrieval k) → ⊥ }
+    ensures reads { (D.state disk.new).honest → (p : PrimeRecord) (ribs blocks : List ℕ)
+        → IsRetrieved 1 (D.state disk.old).contents p at ribs blocks → p.place.name.ext < 2 ^ 18
+        → IfOk result (λ read. IsReadAs p ribs blocks read.0 read.1) }
+    // It is as a version has to be.
     ensures blocks_inside { IfOk result (λ read. AllByRecursion (InSpace (D.state disk.old).size) read.1.blocks) }
     ensures ribs_inside { IfOk result (λ read. AllByRecursion (InSpace (D.state disk.old).size) read.1.ribs) }
     ensures counted { IfOk result (λ read. length read.1.blocks ≡ blocks_of read.1.words) }
     ensures few { IfOk result (λ read. read.1.words ≤ most_blocks * 128) }
     ensures few_ribs { IfOk result (λ read. length read.1.ribs ≤ rib_count (length read.1.blocks)) }
+    // The device: what failed, and how often.
     ensures keeps { (D.state disk.new).honest → Keeps (D.state disk.old) (D.state disk.new) }
     ensures same { SameDisk (D.state disk.old) (D.state disk.new) }
     ensures failed { IsErrOf result Device → (D.state disk.new).failures ≡ one_more (D.state disk.old).failures }

@@ -86,7 +86,8 @@ pub fn push_runs(
     ensures room { OnOk result (length version.new.blocks ≤ limit) }
     ensures inside { OnOk result (RunsInSpace size (runs_of pointers.now)) }
     ensures outside { IsErrOf result Outside → RunsInSpace size (runs_of pointers.now) → ⊥ }
-    ensures many { IsErrOf result TooMany → limit < length version.old.blocks + length (flat_map run_blocks (runs_of pointers.now)) }
+    ensures many { IsErrOf result TooMany
+        → limit < length version.old.blocks + length (flat_map run_blocks (runs_of pointers.now)) }
 {
     for word in pointers {
         push_pointer(*word, size, limit, version)?;

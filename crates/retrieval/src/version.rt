@@ -1,4 +1,5 @@
-ghost use Rattle.std.specs.Prelude.{◌≡◌, ◌+◌, ◌-◌, ◌<◌, ◌≤◌, ◌++◌, ◌∷◌, [], slice_set, slice_get, length, take, drop, replicate, Some, IfOk, OnOk, OnErr};
+ghost use Rattle.std.specs.Prelude.{◌≡◌, ◌+◌, ◌-◌, ◌<◌, ◌≤◌, ◌++◌, ◌∷◌, [], slice_set, slice_get, length, take, drop};
+ghost use Rattle.std.specs.Prelude.{replicate, Some, IfOk, OnOk, OnErr};
 ghost use Rattle.alloctab.specs.TableState.{IsTable, space, used_in_space};
 ghost use Rattle.retrieval.specs.Versions.{VersionState};
 ghost use Rattle.retrieval.specs.Writing.{Takes, IsFixed};
@@ -125,7 +126,8 @@ impl Version {
     ///
     /// `NoMemory` where there is no memory; nothing changes then.
     pub(crate) fn resize(&mut self, count: usize) -> Result<(), NoMemory>
-        ensures ok { OnOk result (self.new ≡ record self.old { blocks = take count self.old.blocks ++ replicate (count - length self.old.blocks) 0 }) }
+        ensures ok { OnOk result (self.new
+            ≡ record self.old { blocks = take count self.old.blocks ++ replicate (count - length self.old.blocks) 0 }) }
         ensures err { OnErr result (self.new ≡ self.old) }
     {
         match self.blocks.resize(count, 0) {

@@ -51,8 +51,10 @@ fn write_ribs<D: Disk>(disk: &mut D, ribs: &[u32], blocks: &[u32]) -> Result<(),
     requires apart { AreApart ribs.now }
     requires count { length ribs.now ≡ (length blocks.now + 125) / 126 }
     requires fit { AllByRecursion (λ n. n < 2 ^ 18) blocks.now }
-    ensures written { (D.state disk.new).honest → OnOk result (AreExtensions (D.state disk.new).contents (extensions_of ribs.now blocks.now)) }
-    ensures modified { (D.state disk.new).honest → Modifies (λ n. 0 < times n ribs.now) (D.state disk.old) (D.state disk.new) }
+    ensures written { (D.state disk.new).honest
+        → OnOk result (AreExtensions (D.state disk.new).contents (extensions_of ribs.now blocks.now)) }
+    ensures modified { (D.state disk.new).honest
+        → Modifies (λ n. 0 < times n ribs.now) (D.state disk.old) (D.state disk.new) }
     ensures same { SameDisk (D.state disk.old) (D.state disk.new) }
     ensures device { IsErrOf result Damaged → ⊥ }
     ensures failed { IsErrOf result DeviceFault → (D.state disk.new).failures ≡ one_more (D.state disk.old).failures }
@@ -119,6 +121,7 @@ pub fn write_retrieval_blocks<D: Disk>(
     prime: &Prime,
     version: &Version,
 ) -> Result<(), Fault>
+    // What the caller sees to.
     requires inside { AllByRecursion (λ n. n < (D.state disk.old).size) (at ∷ version.now.ribs) }
     requires apart { AreApart (at ∷ version.now.ribs) }
     requires nonzero { times 0 version.now.ribs ≡ 0 }
@@ -126,9 +129,14 @@ pub fn write_retrieval_blocks<D: Disk>(
     requires words { version.now.words ≤ 2097152 }
     requires enough { length version.now.blocks ≡ blocks_of version.now.words }
     requires fit { AllByRecursion (λ n. n < 2 ^ 18) version.now.blocks }
-    ensures written { (D.state disk.new).honest → OnOk result (IsRetrieved 1 (D.state disk.new).contents (with_length prime.now version.now.words) at version.now.ribs version.now.blocks) }
-    ensures modified { (D.state disk.new).honest → Modifies (λ n. 0 < times n (at ∷ version.now.ribs)) (D.state disk.old) (D.state disk.new) }
+    // The blocks that are written, and no others.
+    ensures written { (D.state disk.new).honest
+        → OnOk result (IsRetrieved 1 (D.state disk.new).contents (with_length prime.now version.now.words)
+        at version.now.ribs version.now.blocks) }
+    ensures modified { (D.state disk.new).honest
+        → Modifies (λ n. 0 < times n (at ∷ version.now.ribs)) (D.state disk.old) (D.state disk.new) }
     ensures same { SameDisk (D.state disk.old) (D.state disk.new) }
+    // The device: what failed, and how often.
     ensures device { IsErrOf result Damaged → ⊥ }
     ensures failed { IsErrOf result DeviceFault → (D.state disk.new).failures ≡ one_more (D.state disk.old).failures }
     ensures served { OnOk result ((D.state disk.new).failures ≡ (D.state disk.old).failures) }
@@ -164,20 +172,27 @@ pub fn write_version<D: Disk>(
     requires room { table.old.booked ≤ space table.old.size }
 
     // What was written stands there, and is read back: `whole` and `reads` of `read_version`.
-    ensures written { (D.state disk.new).honest → IfOk result (λ n. IsRetrieved 1 (D.state disk.new).contents (with_length prime.now version.new.words) n version.new.ribs version.new.blocks) }
-    ensures read_back { (D.state disk.new).honest → AllByRecursion (InSpace (D.state disk.old).size) version.old.blocks → IfOk result (λ n. IsWholeVersion (D.state disk.new).size (D.state disk.new).contents n (with_length prime.now version.new.words) version.new.ribs version.new.blocks) }
+    ensures written { (D.state disk.new).honest
+        → IfOk result (λ n. IsRetrieved 1 (D.state disk.new).contents (with_length prime.now version.new.words)
+        n version.new.ribs version.new.blocks) }
+    ensures read_back { (D.state disk.new).honest → AllByRecursion (InSpace (D.state disk.old).size) version.old.blocks
+        → IfOk result (λ n. IsWholeVersion (D.state disk.new).size (D.state disk.new).contents n
+        (with_length prime.now version.new.words) version.new.ribs version.new.blocks) }
     ensures kept { version.new ≡ record version.old { ribs = version.new.ribs } }
     ensures count { OnOk result (length version.new.ribs ≡ rib_count (length version.new.blocks)) }
 
     // The blocks taken were free, one after the other, also where the device failed.
     ensures taken { IfOk result (λ n. Takes table.old (n ∷ version.new.ribs) table.new) }
-    ensures own { IfOk result (λ n. AllByRecursion (λ k. IsFree table.old k × InSpace (D.state disk.old).size k) (n ∷ version.new.ribs)) }
+    ensures own { IfOk result (λ n. AllByRecursion (λ k. IsFree table.old k × InSpace (D.state disk.old).size k)
+        (n ∷ version.new.ribs)) }
     ensures apart { IfOk result (λ n. AreApart (n ∷ version.new.ribs)) }
     ensures left { IsErrOf result Device → (n : ℕ) × Takes table.old (n ∷ version.new.ribs) table.new }
 
     // Nothing but blocks that were free is written, whatever the answer.
-    ensures modified { (D.state disk.new).honest → Modifies (λ n. IsFree table.old n × InSpace (D.state disk.old).size n) (D.state disk.old) (D.state disk.new) }
-    ensures memory { IsErrOf result NoMemory → (table.new ≡ table.old) × (version.new ≡ version.old) × (disk.new ≡ disk.old) }
+    ensures modified { (D.state disk.new).honest
+        → Modifies (λ n. IsFree table.old n × InSpace (D.state disk.old).size n) (D.state disk.old) (D.state disk.new) }
+    ensures memory { IsErrOf result NoMemory → (table.new ≡ table.old) × (version.new ≡ version.old)
+        × (disk.new ≡ disk.old) }
     ensures bad { (k : ℕ) → IsErrOf result (BadRetrieval k) → ⊥ }
 
     // On every disk.

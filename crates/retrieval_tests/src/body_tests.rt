@@ -148,9 +148,13 @@ fn put_and_get<D: Disk>(
     requires held { (n : ℕ) → times n version.old.blocks ≤ holds table.old n }
     requires first { 0 < block }
     requires fits { length_after version.old.words block (length words.now) ≤ most_blocks * 128 }
-    requires booked { uses table.old + (blocks_of (length_after version.old.words block (length words.now)) - length version.old.blocks) < table.old.booked }
+    requires booked { uses table.old + (blocks_of (length_after version.old.words block (length words.now))
+        - length version.old.blocks) < table.old.booked }
     requires room { table.old.booked ≤ space table.old.size }
-    ensures read { (D.state disk.new).honest → (body : List ℕ) → length body ≡ version.old.words → HasBody (D.state disk.old).contents version.old.blocks body → IfOk result (λ got. got.items ≡ take (length_after version.old.words block (length words.now)) (words_from (splice body block words.now) 1)) }
+    ensures read { (D.state disk.new).honest → (body : List ℕ) → length body ≡ version.old.words
+        → HasBody (D.state disk.old).contents version.old.blocks body
+        → IfOk result (λ got. got.items ≡ take (length_after version.old.words block (length words.now))
+        (words_from (splice body block words.now) 1)) }
 {
     put_words(disk, table, version, block, words)?;
     get_words(alloc, disk, version, 1, version.length())

@@ -108,7 +108,9 @@ fn write_and_read<D: Disk>(
     requires fixed { IsFixed table.old }
     requires booked { used_in_space table.old + (1 + rib_count (length version.old.blocks)) ≤ table.old.booked }
     requires room { table.old.booked ≤ space table.old.size }
-    ensures read { (D.state disk.new).honest → IfOk result (λ read. IsReadAs (with_length prime.now version.old.words) version.new.ribs version.old.blocks read.0 read.1) }
+    ensures read { (D.state disk.new).honest
+        → IfOk result (λ read. IsReadAs (with_length prime.now version.old.words) version.new.ribs version.old.blocks
+        read.0 read.1) }
     ensures good { (D.state disk.new).honest → (k : ℕ) → IsErrOf result (BadRetrieval k) → ⊥ }
 {
     let at = write_version(alloc, disk, table, prime, version)?;

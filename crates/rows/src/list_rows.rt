@@ -331,7 +331,8 @@ fn play_example(
     Ok(())
 }
 
-/// The example that docs/EXAMPLES.md walks through: job 2 reads on in the file that it looked up, which job 1 supersedes.
+/// The example that docs/EXAMPLES.md walks through: job 2 reads on in the file that it looked up, which job 1
+/// supersedes.
 #[test]
 fn a_reader_across_a_supersede(rt: HostRuntime) -> Result<(), Fail> {
     let mut monitor = ready(&rt, rt.alloc(), 64)?;

@@ -112,7 +112,8 @@ pub(crate) fn write<D: Disk>(
     words: &[Word],
 ) -> Pending
     ensures live { IsSome (pending_at volume.new.core.pending result.key) }
-    ensures placed { (p : PendingVersion) → pending_at volume.new.core.pending result.key ≡ Some p → IsPlaced volume.new.core p }
+    ensures placed { (p : PendingVersion) → pending_at volume.new.core.pending result.key ≡ Some p
+        → IsPlaced volume.new.core p }
     ensures readers { (pin : Pin) → IsReadable volume.old.core (Pinned pin) → IsReadable volume.new.core (Pinned pin) }
 {
     let Ok(pending) = volume.begin(alloc, prime_of(rt, name)) else {
@@ -133,7 +134,8 @@ fn publish<D: Disk>(
     words: &[Word],
 ) -> Result<(), CallError>
     requires live { IsSome (pending_at volume.old.core.pending pending.key) }
-    requires placed { (p : PendingVersion) → pending_at volume.old.core.pending pending.key ≡ Some p → IsPlaced volume.old.core p }
+    requires placed { (p : PendingVersion) → pending_at volume.old.core.pending pending.key ≡ Some p
+        → IsPlaced volume.old.core p }
     requires first { 0 < block }
     ensures readers { (pin : Pin) → IsReadable volume.old.core (Pinned pin) → IsReadable volume.new.core (Pinned pin) }
 {
@@ -151,7 +153,8 @@ pub(crate) fn expect_published<D: Disk>(
     wanted: Result<(), CallError>,
 )
     requires live { IsSome (pending_at volume.old.core.pending pending.key) }
-    requires placed { (p : PendingVersion) → pending_at volume.old.core.pending pending.key ≡ Some p → IsPlaced volume.old.core p }
+    requires placed { (p : PendingVersion) → pending_at volume.old.core.pending pending.key ≡ Some p
+        → IsPlaced volume.old.core p }
     requires first { 0 < block }
     ensures readers { (pin : Pin) → IsReadable volume.old.core (Pinned pin) → IsReadable volume.new.core (Pinned pin) }
 {
@@ -184,7 +187,8 @@ fn expect_pins<D: Disk>(rt: &impl Abort, volume: &Volume<D>)
 /// Holds the version that FOO.TXT has, for a reader more.
 pub(crate) fn hold<D: Disk>(rt: &impl Abort, volume: &mut Volume<D>) -> Pin
     ensures live { IsReadable volume.new.core (Pinned result) }
-    ensures others { (pin : Pin) → (pin.key ≡ result.key → ⊥) → IsReadable volume.old.core (Pinned pin) → IsReadable volume.new.core (Pinned pin) }
+    ensures others { (pin : Pin) → (pin.key ≡ result.key → ⊥) → IsReadable volume.old.core (Pinned pin)
+        → IsReadable volume.new.core (Pinned pin) }
 {
     expect_pins(rt, volume);
     let Ok(pin) = volume.pin(ppn_of(rt), &file_name(FOO)) else {
@@ -202,7 +206,8 @@ pub(crate) fn expect_words<D: Disk>(
     words: &[Word],
 )
     requires live { IsReadable volume.old.core (Pinned pin) }
-    ensures readers { (reader : Pin) → IsReadable volume.old.core (Pinned reader) → IsReadable volume.new.core (Pinned reader) }
+    ensures readers { (reader : Pin) → IsReadable volume.old.core (Pinned reader)
+        → IsReadable volume.new.core (Pinned reader) }
 {
     match pin_tests::read(alloc, volume, pin, 1, u32::MAX) {
         Ok(read) => assert!(rt; read.as_slice() == words),
@@ -299,10 +304,12 @@ fn expect_no_room<D: Disk>(
     block: u32,
 )
     requires live { IsSome (pending_at volume.old.core.pending pending.key) }
-    requires placed { (p : PendingVersion) → pending_at volume.old.core.pending pending.key ≡ Some p → IsPlaced volume.old.core p }
+    requires placed { (p : PendingVersion) → pending_at volume.old.core.pending pending.key ≡ Some p
+        → IsPlaced volume.old.core p }
     requires first { 0 < block }
     ensures live { IsSome (pending_at volume.new.core.pending pending.key) }
-    ensures placed { (p : PendingVersion) → pending_at volume.new.core.pending pending.key ≡ Some p → IsPlaced volume.new.core p }
+    ensures placed { (p : PendingVersion) → pending_at volume.new.core.pending pending.key ≡ Some p
+        → IsPlaced volume.new.core p }
 {
     match volume.publish(alloc, pending, block, &[word(7)]) {
         Err(CallError::Refused(code)) => assert!(rt; code == ErrorCode::NoRoom),

@@ -163,7 +163,8 @@ fn begin_beside<D: Disk>(
     requires reader { IsReadable volume.old.core (Pinned pin) }
     ensures reader { IsReadable volume.new.core (Pinned pin) }
     ensures live { IsSome (pending_at volume.new.core.pending result.key) }
-    ensures others { (k : ℕ) → IsSome (pending_at volume.old.core.pending k) → IsSome (pending_at volume.new.core.pending k) }
+    ensures others { (k : ℕ) → IsSome (pending_at volume.old.core.pending k)
+        → IsSome (pending_at volume.new.core.pending k) }
     ensures apart { (k : ℕ) → IsSome (pending_at volume.old.core.pending k) → k ≡ result.key → ⊥ }
 {
     let Ok(pending) = volume.begin(alloc, prime_of(rt, name)) else {

@@ -1,7 +1,9 @@
 -- The steps of a ring as calls of a core: what each puts or leaves. None is AddressCheck.
-use Rattle.std.specs.Prelude.{ℕ, ◌+◌, ◌-◌, ◌*◌, ◌==◌, if◌then◌else◌, List, [], ◌∷◌, ◌++◌, length, replicate, Option, option_map}
+use Rattle.std.specs.Prelude.{ℕ, ◌+◌, ◌-◌, ◌*◌, ◌==◌, if◌then◌else◌, List, [], ◌∷◌, ◌++◌, length, replicate, Option}
+use Rattle.std.specs.Prelude.{option_map}
 use Rattle.meaning.specs.Cores.{after_writes, placed}
-use Rattle.meaning.specs.Rings.{pointer, bytes_in_word, data_words, in_ready, in_writes, out_ready, out_writes, ring_words, last_words, unused_header}
+use Rattle.meaning.specs.Rings.{pointer, bytes_in_word, data_words, in_ready, in_writes, out_ready, out_writes}
+use Rattle.meaning.specs.Rings.{ring_words, last_words, unused_header}
 use Rattle.usercore.specs.declared.ring_check.RingStep.{RingStep}
 use Rattle.usercore.specs.declared.ring_check.RingStep.TheVariants.{In, Out, Close}
 
@@ -13,11 +15,13 @@ words_put Close core header size = last_words core header
 
 -- the core after an IN of these words, with this status
 abbrev pub after_in : List ℕ → ℕ → ℕ → ℕ → List ℕ → Option (List ℕ)
-after_in core header size status words = option_map (λ ready. after_writes ready (in_writes ready header size status words)) (in_ready core header size)
+after_in core header size status words = option_map
+    (λ ready. after_writes ready (in_writes ready header size status words)) (in_ready core header size)
 
 -- the core after an OUT
 abbrev pub after_out : List ℕ → ℕ → ℕ → Option (List ℕ)
-after_out core header size = option_map (λ ready. after_writes ready (out_writes ready header size)) (out_ready core header size)
+after_out core header size = option_map (λ ready. after_writes ready (out_writes ready header size))
+    (out_ready core header size)
 
 -- the header of a ring that OPEN names: address 0 names none
 abbrev pub header_unset : ℕ → ℕ → List (ℕ × ℕ)
@@ -31,7 +35,8 @@ header_words header size a count = placed header (a ∷ pointer size (a + 1) ∷
 
 -- a buffer that is filled, and whose own word becomes this one
 abbrev pub filled_by : ℕ → ℕ → ℕ → ℕ → List ℕ → ℕ → List (ℕ × ℕ)
-filled_by header size status a words in_use = (a - 1, status) ∷ placed (a + 2) words ++ (a + 1, length words) ∷ (a, in_use) ∷ header_words header size a (length words)
+filled_by header size status a words in_use = (a - 1, status) ∷ placed (a + 2) words
+    ++ (a + 1, length words) ∷ (a, in_use) ∷ header_words header size a (length words)
 
 -- the data of a buffer that is emptied
 unfoldable pub zeroed : ℕ → List (ℕ × ℕ)

@@ -1,4 +1,5 @@
-ghost use Rattle.std.specs.Prelude.{◌≡◌, ◌<◌, ◌≤◌, ◌+◌, ◌^◌, ◌↔◌, All, IsOk, IfOk, OnOk, OnErr, IfErr, length, slice_range};
+ghost use Rattle.std.specs.Prelude.{◌≡◌, ◌<◌, ◌≤◌, ◌+◌, ◌^◌, ◌↔◌, All, IsOk, IfOk, OnOk, OnErr, IfErr, length};
+ghost use Rattle.std.specs.Prelude.{slice_range};
 ghost use Rattle.meaning.specs.Cores.{after_writes, placed, dealt, joined};
 ghost use Rattle.meaning.specs.CommandLists.{word_count};
 ghost use Rattle.usercore.specs.declared.error.CoreError.TheVariants.{AddressCheck};

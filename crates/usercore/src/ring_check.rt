@@ -1,4 +1,5 @@
-ghost use Rattle.std.specs.Prelude.{◌≡◌, ◌<◌, ◌≤◌, ◌+◌, ◌^◌, Some, None, IfOk, IfErr, OnErr, IfSome, IfNone, true, is_some, option_map, length, slice_range};
+ghost use Rattle.std.specs.Prelude.{◌≡◌, ◌<◌, ◌≤◌, ◌+◌, ◌^◌, Some, None, IfOk, IfErr, OnErr, IfSome, IfNone, true};
+ghost use Rattle.std.specs.Prelude.{is_some, option_map, length, slice_range};
 ghost use Rattle.meaning.specs.Rings.{current, put_count, last_is_good, in_ready, out_ready, ring_words, last_words};
 ghost use Rattle.meaning.specs.Cores.{first_free};
 ghost use Rattle.usercore.specs.ByteSizes.{bits_of};
@@ -35,7 +36,8 @@ impl Core {
         header: u32,
         bytes: ByteSize,
     ) -> Result<Area, CoreError>
-        ensures words { IfOk result (λ area. words_put step self.now header (bits_of bytes) ≡ Some (slice_range self.now area.first (area.first + area.count))) }
+        ensures words { IfOk result (λ area. words_put step self.now header (bits_of bytes)
+            ≡ Some (slice_range self.now area.first (area.first + area.count))) }
         ensures within { IfOk result (λ area. area.first + area.count ≤ length self.now) }
         ensures few { IfOk result (λ area. area.count ≤ 0o200) }
         ensures none { OnErr result (words_put step self.now header (bits_of bytes) ≡ None) }
@@ -70,10 +72,13 @@ impl Core {
     #[tactic(auto, using(crate::proofs::FirstRings::out_first_good, crate::proofs::FirstRings::out_first_bad, crate::proofs::FirstRings::out_used, crate::proofs::FirstRings::out_past, std::proofs::lemmas::Bool::Decides::nat_tests))]
     fn out_area(&self, header: usize, bytes: ByteSize) -> Option<Area>
         requires { header < 2 ^ 32 }
-        ensures words { IfSome result (λ area. option_map (λ ready. ring_words ready header) (out_ready self.now header (bits_of bytes)) ≡ Some (slice_range self.now area.first (area.first + area.count))) }
+        ensures words { IfSome result (λ area. option_map (λ ready. ring_words ready header)
+            (out_ready self.now header (bits_of bytes))
+            ≡ Some (slice_range self.now area.first (area.first + area.count))) }
         ensures within { IfSome result (λ area. area.first + area.count ≤ length self.now) }
         ensures few { IfSome result (λ area. area.count ≤ 0o200) }
-        ensures none { IfNone result (option_map (λ ready. ring_words ready header) (out_ready self.now header (bits_of bytes)) ≡ None) }
+        ensures none { IfNone result
+            (option_map (λ ready. ring_words ready header) (out_ready self.now header (bits_of bytes)) ≡ None) }
     {
         if !self.has_header(header) {
             return None;
@@ -103,7 +108,8 @@ impl Core {
     #[tactic(auto, using(std::proofs::lemmas::Bool::Decides::nat_tests), unfolding(meaning::specs::Rings::last_words))]
     fn close_area(&self, header: usize) -> Option<Area>
         requires { header < 2 ^ 32 }
-        ensures words { IfSome result (λ area. last_words self.now header ≡ Some (slice_range self.now area.first (area.first + area.count))) }
+        ensures words { IfSome result (λ area. last_words self.now header
+            ≡ Some (slice_range self.now area.first (area.first + area.count))) }
         ensures within { IfSome result (λ area. area.first + area.count ≤ length self.now) }
         ensures few { IfSome result (λ area. area.count ≤ 0o200) }
         ensures none { IfNone result (last_words self.now header ≡ None) }

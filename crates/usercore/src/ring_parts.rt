@@ -1,6 +1,7 @@
 ghost use Rattle.std.specs.Prelude.{◌≡◌, ◌<◌, ◌≤◌, ◌+◌, ◌*◌, ◌^◌, Some, IsSome, length};
 ghost use Rattle.meaning.specs.Cores.{after_writes};
-ghost use Rattle.meaning.specs.Rings.{data_words, buffer_words, base, buffer_writes, unused_header, setup, with_ring, left_behind, in_writes, put_behind, out_writes};
+ghost use Rattle.meaning.specs.Rings.{data_words, buffer_words, base, buffer_writes, unused_header, setup, with_ring};
+ghost use Rattle.meaning.specs.Rings.{left_behind, in_writes, put_behind, out_writes};
 ghost use Rattle.usercore.specs.ByteSizes.{bits_of};
 ghost use Rattle.usercore.specs.Steps.{header_unset, header_words, filled_by, emptied_by, closed_by};
 
@@ -88,7 +89,8 @@ impl Core {
     pub(crate) fn fill(&mut self, header: usize, bytes: ByteSize, status: IoStatus, words: &[Word])
         requires low { header < 2 ^ 32 }
         requires few { length words.now ≤ data_words }
-        ensures filled { self.new ≡ after_writes self.old (in_writes self.old header (bits_of bytes) status.0 words.now) }
+        ensures filled { self.new
+            ≡ after_writes self.old (in_writes self.old header (bits_of bytes) status.0 words.now) }
         ensures length { length self.new ≡ length self.old }
     {
         let target = self.target(header);
@@ -122,7 +124,8 @@ impl Core {
         requires low { header < 2 ^ 32 }
         requires fits { buffer < 2 ^ 18 }
         requires few { length words.now ≤ data_words }
-        ensures filled { self.new ≡ after_writes self.old (filled_by header (bits_of bytes) status.0 buffer words.now in_use) }
+        ensures filled { self.new
+            ≡ after_writes self.old (filled_by header (bits_of bytes) status.0 buffer words.now in_use) }
         ensures length { length self.new ≡ length self.old }
     {
         let count = words.len();

@@ -15,7 +15,8 @@ impl Core {
     /// Gives the headers that an OPEN names their first words, the output's first: a ring that isn't set up
     /// yet. Address 0 is no header.
     pub fn ring_open(&mut self, output: u32, input: u32, bytes: ByteSize)
-        ensures opened { (mode : ℕ) → byte_size mode ≡ bits_of bytes → self.new ≡ after_writes self.old (header_opened mode output ++ header_opened mode input) }
+        ensures opened { (mode : ℕ) → byte_size mode ≡ bits_of bytes
+            → self.new ≡ after_writes self.old (header_opened mode output ++ header_opened mode input) }
         ensures length { length self.new ≡ length self.old }
     {
         self.open_header(output as usize, bytes);
@@ -63,7 +64,8 @@ impl Core {
         status: IoStatus,
         words: &[Word],
     ) -> Result<(), CoreError>
-        ensures done { OnOk result (after_in self.old header (bits_of bytes) status.0 (take data_words words.now) ≡ Some self.new) }
+        ensures done { OnOk result (after_in self.old header (bits_of bytes) status.0 (take data_words words.now)
+            ≡ Some self.new) }
         ensures none { OnErr result (in_ready self.old header (bits_of bytes) ≡ None) }
         ensures refused { IfErr result (λ error. error ≡ AddressCheck) }
         ensures kept { OnErr result (self.new ≡ self.old) }
@@ -99,7 +101,8 @@ impl Core {
     /// Marks the headers of the sides that close, the output's first. Both are read before. Address 0 is no
     /// header, or one of a side that stays.
     pub fn ring_close(&mut self, output: u32, input: u32)
-        ensures closed { self.new ≡ after_writes self.old (closed_header self.old output ++ closed_header self.old input) }
+        ensures closed { self.new
+            ≡ after_writes self.old (closed_header self.old output ++ closed_header self.old input) }
         ensures length { length self.new ≡ length self.old }
     {
         let marked_input = marked(self.read(input as usize));

@@ -1,4 +1,5 @@
-ghost use Rattle.std.specs.Prelude.{◌≡◌, ◌<◌, ◌≤◌, ◌+◌, ◌↔◌, ◌⊎◌, IsOk, IfOk, IfErr, OnErr, IsErrOf, length, replicate, slice_index, slice_range, slice_set};
+ghost use Rattle.std.specs.Prelude.{◌≡◌, ◌<◌, ◌≤◌, ◌+◌, ◌↔◌, ◌⊎◌, IsOk, IfOk, IfErr, OnErr, IsErrOf, length, replicate};
+ghost use Rattle.std.specs.Prelude.{slice_index, slice_range, slice_set};
 ghost use Rattle.words36.specs.Words.{IsWord};
 ghost use Rattle.meaning.specs.Cores.{first_free, rings_begin, with_right};
 ghost use Rattle.usercore.specs.declared.error.CoreError.TheVariants.{AddressCheck};

@@ -1,5 +1,6 @@
 -- What is being created in a directory, counted over a slab's entries.
-use Rattle.std.proofs.Common.{◌≡◌, ℕ, ◌+◌, ◌≤◌, ◌==◌, Bool, true, false, if◌then◌else◌, List, [], ◌∷◌, Option, Some, None, refl, ap, arith}
+use Rattle.std.proofs.Common.{◌≡◌, ℕ, ◌+◌, ◌≤◌, ◌==◌, Bool, true, false, if◌then◌else◌, List, [], ◌∷◌, Option, Some}
+use Rattle.std.proofs.Common.{None, refl, ap, arith}
 use Rattle.meaning.specs.Maps.{total}
 use Rattle.slab.specs.Slab.{entries_from}
 use Rattle.volume.specs.Live.{creates}
@@ -9,7 +10,8 @@ use Rattle.volume.specs.declared.pending.PendingVersion.{PendingVersion}
 abbrev pub created : ℕ → List (ℕ × PendingVersion) → ℕ
 created ppn es = total (λ e. creates ppn (Some e.1)) es
 
-pub created_from : (ppn k : ℕ) (slots : List (Option PendingVersion)) → created ppn (entries_from k slots) ≡ total (creates ppn) slots
+pub created_from : (ppn k : ℕ) (slots : List (Option PendingVersion))
+    → created ppn (entries_from k slots) ≡ total (creates ppn) slots
 created_from ppn k [] = refl
 created_from ppn k (None ∷ rest) = let e = created_from ppn (k + 1) rest in omega arith
 created_from ppn k (Some p ∷ rest) = ap (λ (n : ℕ). creates ppn (Some p) + n) (created_from ppn (k + 1) rest)

@@ -1,12 +1,15 @@
 -- Lists of blocks whose bits are set or cleared, or that are held, one after the other.
-use Rattle.std.proofs.Common.{◌≡◌, ⊎_elim, ℕ, ◌+◌, ◌-◌, ◌/◌, ◌<◌, ◌≤◌, ◌^◌, Bool, true, false, List, [], ◌∷◌, ◌++◌, length, get_or, slice_index, slice_set, take, drop, refl, sym, ap, subst, ◌∙◌, arith}
+use Rattle.std.proofs.Common.{◌≡◌, ⊎_elim, ℕ, ◌+◌, ◌-◌, ◌/◌, ◌<◌, ◌≤◌, ◌^◌, Bool, true, false, List, [], ◌∷◌, ◌++◌}
+use Rattle.std.proofs.Common.{length, get_or, slice_index, slice_set, take, drop, refl, sym, ap, subst, ◌∙◌, arith}
 use Rattle.std.proofs.lemmas.Bool.{cases_eq, cases_lt}
 use Rattle.std.proofs.lemmas.List.{take_more, take-append-drop, get_or_past}
 use Rattle.changeset.specs.PutLaws.{times_head, times_tail}
 use Rattle.meaning.specs.Maps.{times}
 use Rattle.meaning.proofs.MapSums.{times-append}
 use Rattle.alloctab.specs.TableState.{TableState, IsTable, IsChanged, bit, holds, with_bit, with_held}
-use Rattle.alloctab.specs.TableLaws.{bit-with_bit_other, bit-taken, bit-freed, changed-with_bit_same, changed-with_bit_other, sound-with_bit, sound-with_held, holds-with_held_same, holds-with_held_other}
+use Rattle.alloctab.specs.TableLaws.{bit-with_bit_other, bit-taken, bit-freed, changed-with_bit_same}
+use Rattle.alloctab.specs.TableLaws.{changed-with_bit_other, sound-with_bit, sound-with_held, holds-with_held_same}
+use Rattle.alloctab.specs.TableLaws.{holds-with_held_other}
 use Rattle.volume.specs.Publishing.{Marks, SetsBits, ClearsBits, PutsInUse}
 use Rattle.volume.specs.Making.{put_in_use}
 use Rattle.volume.proofs.Releasing.{held_less}
@@ -23,8 +26,14 @@ marks_then t u v first second = record {
 }
 
 -- other counts mark nothing
-pub marks_counts : (t u : TableState) (held : List ℕ) → Marks t u → IsTable (record u { held = held }) → Marks t (record u { held = held })
-marks_counts t u held marks sound = record { sound = sound; size = marks.size; stays = marks.stays; moved = marks.moved }
+pub marks_counts : (t u : TableState) (held : List ℕ) → Marks t u → IsTable (record u { held = held })
+    → Marks t (record u { held = held })
+marks_counts t u held marks sound = record {
+  sound = sound;
+  size = marks.size;
+  stays = marks.stays;
+  moved = marks.moved;
+}
 
 marks_bit : (t : TableState) (n : ℕ) (set : Bool) → IsTable t → n < t.size → Marks t (with_bit t n set)
 marks_bit t n set sound inside = record {
@@ -34,7 +43,8 @@ marks_bit t n set sound inside = record {
       (λ same. subst (IsChanged (with_bit t n set)) (sym same) (changed-with_bit_same t n set sound inside))
       (λ apart. changed-with_bit_other t n i set apart ∙ is) (cases_eq i (n / 4608));
   moved = λ m still. ⊎_elim
-      (λ is. absurd (still (subst (λ (j : ℕ). IsChanged (with_bit t n set) (j / 4608)) (sym is) (changed-with_bit_same t n set sound inside))))
+      (λ is. absurd (still (subst (λ (j : ℕ). IsChanged (with_bit t n set) (j / 4608)) (sym is)
+      (changed-with_bit_same t n set sound inside))))
       (λ other. bit-with_bit_other t n m set other) (cases_eq m n);
 }
 
@@ -42,21 +52,25 @@ marks_bit t n set sound inside = record {
 
 module _ (blocks : List ℕ) (i b : ℕ) (below : i < length blocks) (is : b ≡ get_or blocks i 0) where
   pub next_times : (n : ℕ) → times n (take (i + 1) blocks) ≡ times n (take i blocks) + times n (b ∷ [])
-  next_times n = ap (times n) (take_more blocks i 0 below ∙ ap (λ (m : ℕ). take i blocks ++ m ∷ []) (sym is)) ∙ times-append n (take i blocks) (b ∷ [])
+  next_times n = ap (times n) (take_more blocks i 0 below ∙ ap (λ (m : ℕ). take i blocks ++ m ∷ []) (sym is))
+      ∙ times-append n (take i blocks) (b ∷ [])
 
   pub next_within : (n : ℕ) → times n (take i blocks) + times n (b ∷ []) ≤ times n blocks
   next_within n =
-      let parts : times n blocks ≡ times n (take (i + 1) blocks) + times n (drop (i + 1) blocks) = ap (times n) (sym (take-append-drop (i + 1) blocks)) ∙ times-append n (take (i + 1) blocks) (drop (i + 1) blocks) in
+      let parts : times n blocks ≡ times n (take (i + 1) blocks) + times n (drop (i + 1) blocks) = ap (times n)
+      (sym (take-append-drop (i + 1) blocks)) ∙ times-append n (take (i + 1) blocks) (drop (i + 1) blocks) in
       omega (arith, next_times n)
 
   pub next_there : 0 < times b blocks
   next_there = let one = times_head b b [] refl in omega (arith, next_within b)
 
   -- its bit is set
-  pub sets_next : (t u : TableState) → b < u.size → ((n : ℕ) → bit t n + times n blocks ≤ 1) → SetsBits t u (take i blocks) → SetsBits t (with_bit u b true) (take (i + 1) blocks)
+  pub sets_next : (t u : TableState) → b < u.size → ((n : ℕ) → bit t n + times n blocks ≤ 1)
+      → SetsBits t u (take i blocks) → SetsBits t (with_bit u b true) (take (i + 1) blocks)
   sets_next t u inside clear so_far =
       let marks = so_far.marks in
-      let free : bit u b ≡ 0 = let one = times_head b b [] refl in omega (arith, so_far.bits b, clear b, next_within b) in
+      let free : bit u b ≡ 0 = let one = times_head b b [] refl in
+      omega (arith, so_far.bits b, clear b, next_within b) in
       record {
         marks = marks_then t u (with_bit u b true) marks (marks_bit u b true marks.sound inside);
         held = so_far.held;
@@ -65,10 +79,12 @@ module _ (blocks : List ℕ) (i b : ℕ) (below : i < length blocks) (is : b ≡
       }
 
   -- its bit is cleared
-  pub clears_next : (t u : TableState) → b < u.size → ((n : ℕ) → times n blocks ≤ bit t n) → ((n : ℕ) → bit t n ≤ 1) → ClearsBits t u (take i blocks) → ClearsBits t (with_bit u b false) (take (i + 1) blocks)
+  pub clears_next : (t u : TableState) → b < u.size → ((n : ℕ) → times n blocks ≤ bit t n) → ((n : ℕ) → bit t n ≤ 1)
+      → ClearsBits t u (take i blocks) → ClearsBits t (with_bit u b false) (take (i + 1) blocks)
   clears_next t u inside set few so_far =
       let marks = so_far.marks in
-      let used : bit u b ≡ 1 = let one = times_head b b [] refl in omega (arith, so_far.bits b, set b, few b, next_within b) in
+      let used : bit u b ≡ 1 = let one = times_head b b [] refl in
+      omega (arith, so_far.bits b, set b, few b, next_within b) in
       record {
         marks = marks_then t u (with_bit u b false) marks (marks_bit u b false marks.sound inside);
         held = so_far.held;
@@ -77,10 +93,14 @@ module _ (blocks : List ℕ) (i b : ℕ) (below : i < length blocks) (is : b ≡
       }
 
   -- it is held once more
-  pub holds_next : (t u : TableState) → IsTable u → b < u.size → ((n : ℕ) → holds u n ≡ holds t n + times n (take i blocks)) → (n : ℕ) → holds (with_held u b (holds u b + 1)) n ≡ holds t n + times n (take (i + 1) blocks)
+  pub holds_next : (t u : TableState) → IsTable u → b < u.size
+      → ((n : ℕ) → holds u n ≡ holds t n + times n (take i blocks)) → (n : ℕ)
+      → holds (with_held u b (holds u b + 1)) n ≡ holds t n + times n (take (i + 1) blocks)
   holds_next t u sound inside so_far n = ⊎_elim
       (λ (same : n ≡ b).
-      let here : holds (with_held u b (holds u b + 1)) n ≡ holds u b + 1 = ap (holds (with_held u b (holds u b + 1))) same ∙ holds-with_held_same u b (holds u b + 1) sound inside in
+      let here : holds (with_held u b (holds u b + 1)) n
+      ≡ holds u b + 1 = ap (holds (with_held u b (holds u b + 1))) same
+      ∙ holds-with_held_same u b (holds u b + 1) sound inside in
       let was : holds u n ≡ holds u b = ap (holds u) same in
       let one = times_head n b [] same in
       omega (arith, next_times n, so_far n))
@@ -89,7 +109,8 @@ module _ (blocks : List ℕ) (i b : ℕ) (below : i < length blocks) (is : b ≡
       let none = times_tail n b [] other in
       omega (arith, next_times n, so_far n)) (cases_eq n b)
 
-  pub holds_fit : (t u : TableState) → ((n : ℕ) → holds t n + times n blocks < 2 ^ 32) → ((n : ℕ) → holds u n ≡ holds t n + times n (take i blocks)) → holds u b + 1 < 2 ^ 32
+  pub holds_fit : (t u : TableState) → ((n : ℕ) → holds t n + times n blocks < 2 ^ 32)
+      → ((n : ℕ) → holds u n ≡ holds t n + times n (take i blocks)) → holds u b + 1 < 2 ^ 32
   holds_fit t u fits so_far = let one = times_head b b [] refl in omega (arith, fits b, so_far b, next_within b)
 
 -- Blocks that come into use.
@@ -97,12 +118,19 @@ module _ (blocks : List ℕ) (i b : ℕ) (below : i < length blocks) (is : b ≡
 -- what is held has a place in the table
 pub held_inside : (t : TableState) (n : ℕ) → IsTable t → 0 < holds t n → n < t.size
 held_inside t n sound there = ⊎_elim (λ below. below)
-    (λ past. absurd (let none = get_or_past t.held n 0 (let long = sound.held_are in omega arith) in omega arith)) (cases_lt n t.size)
+    (λ past. absurd (let none = get_or_past t.held n 0 (let long = sound.held_are in omega arith) in omega arith))
+    (cases_lt n t.size)
 
 pub puts_in_use_none : (t : TableState) → IsTable t → PutsInUse t t []
-puts_in_use_none t sound = record { marks = marks_none t sound; booked = refl; bits = λ n. omega arith; held = λ n. omega arith }
+puts_in_use_none t sound = record {
+  marks = marks_none t sound;
+  booked = refl;
+  bits = λ n. omega arith;
+  held = λ n. omega arith;
+}
 
-pub puts_in_use_then : (t u v : TableState) (xs ys : List ℕ) → PutsInUse t u xs → PutsInUse u v ys → PutsInUse t v (xs ++ ys)
+pub puts_in_use_then : (t u v : TableState) (xs ys : List ℕ) → PutsInUse t u xs → PutsInUse u v ys
+    → PutsInUse t v (xs ++ ys)
 puts_in_use_then t u v xs ys first second = record {
   marks = marks_then t u v first.marks second.marks;
   booked = second.booked ∙ first.booked;
@@ -111,7 +139,8 @@ puts_in_use_then t u v xs ys first second = record {
 }
 
 -- set, and held once less
-pub puts_in_use_all : (t u v : TableState) (blocks : List ℕ) → SetsBits t u blocks → v ≡ record u { held = v.held } → IsTable v → ((n : ℕ) → holds v n + times n blocks ≡ holds u n) → PutsInUse t v blocks
+pub puts_in_use_all : (t u v : TableState) (blocks : List ℕ) → SetsBits t u blocks → v ≡ record u { held = v.held }
+    → IsTable v → ((n : ℕ) → holds v n + times n blocks ≡ holds u n) → PutsInUse t v blocks
 puts_in_use_all t u v blocks sets is sound less = subst (λ w. PutsInUse t w blocks) (sym is) (record {
   marks = marks_counts t u v.held sets.marks (subst IsTable is sound);
   booked = sets.booked;
@@ -120,15 +149,18 @@ puts_in_use_all t u v blocks sets is sound less = subst (λ w. PutsInUse t w blo
 })
 
 -- one block
-pub puts_in_use_one : (t : TableState) (n : ℕ) → IsTable t → n < t.size → bit t n ≡ 0 → 0 < holds t n → PutsInUse t (put_in_use t n) (n ∷ [])
+pub puts_in_use_one : (t : TableState) (n : ℕ) → IsTable t → n < t.size → bit t n ≡ 0 → 0 < holds t n
+    → PutsInUse t (put_in_use t n) (n ∷ [])
 puts_in_use_one t n sound inside clear held = record {
-  marks = marks_counts t (with_bit t n true) (slice_set t.held n (holds t n - 1)) (marks_bit t n true sound inside) (sound-with_held (with_bit t n true) n (holds t n - 1) (sound-with_bit t n true sound));
+  marks = marks_counts t (with_bit t n true) (slice_set t.held n (holds t n - 1)) (marks_bit t n true sound inside)
+      (sound-with_held (with_bit t n true) n (holds t n - 1) (sound-with_bit t n true sound));
   booked = refl;
   bits = bit-taken t n sound inside clear;
   held = held_less t.held n held;
 }
 
-pub clears_then : (t u v : TableState) (xs ys : List ℕ) → ClearsBits t u xs → ClearsBits u v ys → ClearsBits t v (xs ++ ys)
+pub clears_then : (t u v : TableState) (xs ys : List ℕ) → ClearsBits t u xs → ClearsBits u v ys
+    → ClearsBits t v (xs ++ ys)
 clears_then t u v xs ys first second = record {
   marks = marks_then t u v first.marks second.marks;
   held = second.held ∙ first.held;
@@ -136,5 +168,11 @@ clears_then t u v xs ys first second = record {
   bits = λ n. omega (arith, times-append n xs ys, first.bits n, second.bits n);
 }
 
-pub clears_one : (t : TableState) (n : ℕ) → IsTable t → n < t.size → bit t n ≡ 1 → ClearsBits t (with_bit t n false) (n ∷ [])
-clears_one t n sound inside set = record { marks = marks_bit t n false sound inside; held = refl; booked = refl; bits = bit-freed t n sound inside set }
+pub clears_one : (t : TableState) (n : ℕ) → IsTable t → n < t.size → bit t n ≡ 1
+    → ClearsBits t (with_bit t n false) (n ∷ [])
+clears_one t n sound inside set = record {
+  marks = marks_bit t n false sound inside;
+  held = refl;
+  booked = refl;
+  bits = bit-freed t n sound inside set;
+}

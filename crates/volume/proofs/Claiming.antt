@@ -11,7 +11,8 @@ use Rattle.volume.specs.Claims.{claims_at, claims}
 abbrev pub claimed_among : Place → List (ℕ × PendingVersion) → Bool
 claimed_among place es = list_any (λ e. claims_at place (Some e.1)) es
 
-pub claimed_from : (place : Place) (k : ℕ) (slots : List (Option PendingVersion)) → claimed_among place (entries_from k slots) ≡ claims slots place
+pub claimed_from : (place : Place) (k : ℕ) (slots : List (Option PendingVersion))
+    → claimed_among place (entries_from k slots) ≡ claims slots place
 claimed_from place k [] = refl
 claimed_from place k (None ∷ rest) = claimed_from place (k + 1) rest
 claimed_from place k (Some p ∷ rest) = ap (λ b. claims_at place (Some p) || b) (claimed_from place (k + 1) rest)

@@ -1,6 +1,7 @@
 -- What a map costs: bounds by which no sum of costs overflows, that it is what its files cost, and that no
 -- more blocks are in use than are booked.
-use Rattle.std.proofs.Common.{◌≡◌, ℕ, zero, suc, ◌+◌, ◌*◌, ◌<◌, ◌≤◌, List, [], ◌∷◌, map, length, get_or, take, drop, refl, ap, ◌∙◌, arith, ◌^◌}
+use Rattle.std.proofs.Common.{◌≡◌, ℕ, zero, suc, ◌+◌, ◌*◌, ◌<◌, ◌≤◌, List, [], ◌∷◌, map, length, get_or, take, drop}
+use Rattle.std.proofs.Common.{refl, ap, ◌∙◌, arith, ◌^◌}
 use Rattle.std.specs.List.{AllByRecursion}
 use Rattle.meaning.specs.Costs.{directory_cost}
 use Rattle.meaning.specs.Counts.{sum_below}
@@ -10,7 +11,8 @@ use Rattle.meaning.specs.Regions.{IsVolumeSize}
 use Rattle.meaning.specs.Retrieval.{most_blocks}
 use Rattle.meaning.proofs.Counting.{below_times}
 use Rattle.alloctab.specs.TableState.{TableState}
-use Rattle.volume.specs.Known.{KnownVersion, KnownDirectory, IsWholeVersion, IsWholeDirectory, cost_of_version, cost_of_directory}
+use Rattle.volume.specs.Known.{KnownVersion, KnownDirectory, IsWholeVersion, IsWholeDirectory, cost_of_version}
+use Rattle.volume.specs.Known.{cost_of_directory}
 use Rattle.volume.proofs.Lookups.{total-append, total-push, viewed_more, viewed_split}
 use Rattle.volume.proofs.FoundDirectories.{all_times_at}
 
@@ -20,15 +22,18 @@ below_few : (f : ℕ → ℕ) (k : ℕ) → ((n : ℕ) → f n ≤ 1) → sum_be
 below_few f zero few = omega arith
 below_few f (suc k) few = let a = few k in let r = below_few f k few in omega arith
 
-none_above : (size : ℕ) (blocks : List ℕ) → AllByRecursion (InSpace size) blocks → (n : ℕ) → size ≤ n → times n blocks ≡ 0
+none_above : (size : ℕ) (blocks : List ℕ) → AllByRecursion (InSpace size) blocks → (n : ℕ) → size ≤ n
+    → times n blocks ≡ 0
 none_above size blocks inside n above = by (times n blocks) refl
   where
     by : (k : ℕ) → times n blocks ≡ k → times n blocks ≡ 0
     by zero is = is
-    by (suc k) is = let there = (all_times_at (InSpace size) blocks n inside (omega arith)).below in absurd (omega arith)
+    by (suc k) is = let there = (all_times_at (InSpace size) blocks n inside (omega arith)).below in
+        absurd (omega arith)
 
 -- a chain has no more blocks than the disk
-pub chain_short : (size : ℕ) (blocks : List ℕ) → AllByRecursion (InSpace size) blocks → ((n : ℕ) → times n blocks ≤ 1) → length blocks ≤ size
+pub chain_short : (size : ℕ) (blocks : List ℕ) → AllByRecursion (InSpace size) blocks → ((n : ℕ) → times n blocks ≤ 1)
+    → length blocks ≤ size
 chain_short size blocks inside once =
     let few = below_few (λ n. times n blocks) size once in
     let all = below_times size blocks (none_above size blocks inside) in
@@ -40,11 +45,13 @@ entries_few entries blocks is few = omega arith
 pub version_few : (v : KnownVersion) → IsWholeVersion v → cost_of_version v ≤ 16515
 version_few v whole = let counted = whole.counted in let few = whole.few in omega arith
 
-versions_few : (vs : List KnownVersion) → AllByRecursion IsWholeVersion vs → total cost_of_version vs ≤ 16515 * length vs
+versions_few : (vs : List KnownVersion) → AllByRecursion IsWholeVersion vs
+    → total cost_of_version vs ≤ 16515 * length vs
 versions_few [] all = omega arith
 versions_few (v ∷ vs) all = let a = version_few v all.0 in let r = versions_few vs all.1 in omega arith
 
-pub directory_few : (size : ℕ) (d : KnownDirectory) → IsVolumeSize size → IsWholeDirectory size d → cost_of_directory d ≤ 100000000000
+pub directory_few : (size : ℕ) (d : KnownDirectory) → IsVolumeSize size → IsWholeDirectory size d
+    → cost_of_directory d ≤ 100000000000
 directory_few size d volume whole =
     let large = volume.large in
     let short = chain_short size d.chain.blocks whole.inside whole.chain.blocks_once in
@@ -53,16 +60,20 @@ directory_few size d volume whole =
     let aligned = whole.aligned in
     omega arith
 
-directories_few : (size : ℕ) (ds : List KnownDirectory) → IsVolumeSize size → AllByRecursion (IsWholeDirectory size) ds → total cost_of_directory ds ≤ 100000000000 * length ds
+directories_few : (size : ℕ) (ds : List KnownDirectory) → IsVolumeSize size → AllByRecursion (IsWholeDirectory size) ds
+    → total cost_of_directory ds ≤ 100000000000 * length ds
 directories_few size [] volume all = omega arith
-directories_few size (d ∷ ds) volume all = let a = directory_few size d volume all.0 in let r = directories_few size ds volume all.1 in omega arith
+directories_few size (d ∷ ds) volume all = let a = directory_few size d volume all.0 in
+    let r = directories_few size ds volume all.1 in omega arith
 
 pub few_blocks : (v : KnownVersion) → IsWholeVersion v → length v.version.blocks ≤ most_blocks
 few_blocks v whole = let counted = whole.counted in let few = whole.few in omega arith
 
 -- a map's cost is far from overflow, up to each directory
-pub booked_fits : (size : ℕ) (master : List ℕ) (entries front : ℕ) (ds : List KnownDirectory) → IsVolumeSize size → AllByRecursion (InSpace size) master → ((n : ℕ) → times n master ≤ 1)
-    → length master ≡ directory_cost entries → length ds ≡ entries → AllByRecursion (IsWholeDirectory size) ds → front ≤ total cost_of_directory ds → length master + front < 2 ^ 63
+pub booked_fits : (size : ℕ) (master : List ℕ) (entries front : ℕ) (ds : List KnownDirectory) → IsVolumeSize size
+    → AllByRecursion (InSpace size) master → ((n : ℕ) → times n master ≤ 1)
+    → length master ≡ directory_cost entries → length ds ≡ entries → AllByRecursion (IsWholeDirectory size) ds
+    → front ≤ total cost_of_directory ds → length master + front < 2 ^ 63
 booked_fits size master entries front ds volume inside once counted aligned all part =
     let large = volume.large in
     let short = chain_short size master inside once in
@@ -72,7 +83,8 @@ booked_fits size master entries front ds volume inside once counted aligned all 
 
 -- Sums in a loop.
 
-module _ {A B : Type 0} (view : A → B) (f : B → ℕ) (xs : List A) (i : ℕ) (x : A) (below : i < length xs) (is : x ≡ get_or xs i x) where
+module _ {A B : Type 0} (view : A → B) (f : B → ℕ) (xs : List A) (i : ℕ) (x : A) (below : i < length xs) (is : x
+    ≡ get_or xs i x) where
   pub sum_more : total f (map view (take (i + 1) xs)) ≡ total f (map view (take i xs)) + f (view x)
   sum_more = ap (total f) (viewed_more view xs i x below is) ∙ total-push f (map view (take i xs)) (view x)
 
@@ -83,5 +95,7 @@ module _ {A B : Type 0} (view : A → B) (f : B → ℕ) (xs : List A) (i : ℕ)
       omega arith
 
 -- what was booked is booked, and more
-pub booked_more : (t now new : TableState) (a b n : ℕ) → now ≡ record t { booked = a } → new ≡ record now { booked = now.booked + n } → a + n ≡ b → new ≡ record t { booked = b }
-booked_more t now new a b n first second sum = second ∙ (λ i. record (first i) { booked = (first i).booked + n }) ∙ (λ i. record t { booked = sum i })
+pub booked_more : (t now new : TableState) (a b n : ℕ) → now ≡ record t { booked = a }
+    → new ≡ record now { booked = now.booked + n } → a + n ≡ b → new ≡ record t { booked = b }
+booked_more t now new a b n first second sum = second ∙ (λ i. record (first i) { booked = (first i).booked + n })
+    ∙ (λ i. record t { booked = sum i })

@@ -16,7 +16,8 @@ pub few_of_entries : (k : ℕ) (slots : List (Option LiveVersion)) → HaveFew (
 few_of_entries k [] few key v is = absurd (some_none (sym is))
 few_of_entries k (None ∷ rest) few zero v is = absurd (some_none (sym is))
 few_of_entries k (None ∷ rest) few (suc key) v is = few_of_entries (k + 1) rest few key v is
-few_of_entries k (Some w ∷ rest) few zero v is = subst (λ (x : LiveVersion). x.readers + 1 < 2 ^ 32) (some_same is) few.0
+few_of_entries k (Some w ∷ rest) few zero v is = subst (λ (x : LiveVersion). x.readers + 1 < 2 ^ 32)
+    (some_same is) few.0
 few_of_entries k (Some w ∷ rest) few (suc key) v is = few_of_entries (k + 1) rest few.1 key v is
 
 pub entries_of_few : (k : ℕ) (slots : List (Option LiveVersion)) → AreFew slots → HaveFew (entries_from k slots)

@@ -1,5 +1,6 @@
 -- A version that is dropped: what is taken back, and that core stays whole.
-use Rattle.std.proofs.Common.{◌≡◌, ℕ, ◌+◌, ◌<◌, ◌≤◌, ◌^◌, Bool, true, false, List, length, slice_get, slice_index, Option, Some, None, IfSome, refl, sym, ap, subst, arith, if◌then◌else◌}
+use Rattle.std.proofs.Common.{◌≡◌, ℕ, ◌+◌, ◌<◌, ◌≤◌, ◌^◌, Bool, true, false, List, length, slice_get, slice_index}
+use Rattle.std.proofs.Common.{Option, Some, None, IfSome, refl, sym, ap, subst, arith, if◌then◌else◌}
 use Rattle.std.specs.Ordering.{nat_cmp}
 use Rattle.std.specs.FinMap.Entries.{find}
 use Rattle.meaning.specs.Costs.{cost_of_blocks}
@@ -18,12 +19,19 @@ use Rattle.volume.proofs.Pinning.{each_slot, all_updated}
 use Rattle.volume.proofs.StillHeld.{counting, counts_whole}
 
 -- the version that was taken out
-pub taken_out : (old new : Slab PendingVersion) (key : ℕ) (p : PendingVersion) → Updates old new key None → get old key ≡ Some p → Adds new.slots old.slots key p
-taken_out old new key p updates is = record { vacant = updates.changed; here = is; others = λ k other. sym (updates.others k other) }
+pub taken_out : (old new : Slab PendingVersion) (key : ℕ) (p : PendingVersion) → Updates old new key None
+    → get old key ≡ Some p → Adds new.slots old.slots key p
+taken_out old new key p updates is = record {
+  vacant = updates.changed;
+  here = is;
+  others = λ k other. sym (updates.others k other);
+}
 
-module _ (size : ℕ) (c : VolumeCore) (whole : IsWholeCore size c) (less : List (Option PendingVersion)) (key : ℕ) (p : PendingVersion) (adds : Adds less c.pending key p) where
+module _ (size : ℕ) (c : VolumeCore) (whole : IsWholeCore size c) (less : List (Option PendingVersion))
+    (key : ℕ) (p : PendingVersion) (adds : Adds less c.pending key p) where
   dropped_pending : IsWholePending size p
-  dropped_pending = subst (λ o. IfSome o (IsWholePending size)) adds.here (each_slot (λ o. IfSome o (IsWholePending size)) tt c.pending whole.waiting key)
+  dropped_pending = subst (λ o. IfSome o (IsWholePending size)) adds.here
+      (each_slot (λ o. IfSome o (IsWholePending size)) tt c.pending whole.waiting key)
 
   -- its directory is there
   pub dropped_there : p.is_new ≡ true → find nat_cmp p.prime.ppn c.known.master.entries ≡ None → ⊥
@@ -32,7 +40,8 @@ module _ (size : ℕ) (c : VolumeCore) (whole : IsWholeCore size c) (less : List
       let all = whole.housed p.prime.ppn none in
       absurd (omega arith)
 
-  pub dropped_few : (i : ℕ) (d : KnownDirectory) → slice_get c.known.directories i ≡ Some d → length d.chain.entries + total (creates p.prime.ppn) less < 2 ^ 63
+  pub dropped_few : (i : ℕ) (d : KnownDirectory) → slice_get c.known.directories i ≡ Some d
+      → length d.chain.entries + total (creates p.prime.ppn) less < 2 ^ 63
   dropped_few i d at =
       let few = entries_few size c p.prime.ppn i d whole at in
       let more = added_total less c.pending key p adds (creates p.prime.ppn) refl in
@@ -49,40 +58,54 @@ module _ (size : ℕ) (c : VolumeCore) (whole : IsWholeCore size c) (less : List
   dropped_blocks = few_blocks (record { prime = p.prime; version = p.version }) dropped_pending.whole
 
   -- what its directory costs less
-  pub dropped_growths : (share : ℕ) → (p.is_new ≡ false → share ≡ 0) → (p.is_new ≡ true → (d : KnownDirectory) × IsDirectoryOf c p.prime.ppn d × (share ≡ growth (length d.chain.entries + total (creates p.prime.ppn) less)))
-      → growths c.pending c.known.master.entries c.known.directories ≡ growths less c.known.master.entries c.known.directories + share
+  pub dropped_growths : (share : ℕ) → (p.is_new ≡ false → share ≡ 0)
+      → (p.is_new ≡ true → (d : KnownDirectory) × IsDirectoryOf c p.prime.ppn d
+      × (share ≡ growth (length d.chain.entries + total (creates p.prime.ppn) less)))
+      → growths c.pending c.known.master.entries c.known.directories
+      ≡ growths less c.known.master.entries c.known.directories + share
   dropped_growths share none some = by p.is_new refl
     where
-      by : (b : Bool) → p.is_new ≡ b → growths c.pending c.known.master.entries c.known.directories ≡ growths less c.known.master.entries c.known.directories + share
+      by : (b : Bool) → p.is_new ≡ b → growths c.pending c.known.master.entries c.known.directories
+          ≡ growths less c.known.master.entries c.known.directories + share
       by false old =
           let same = kept_growths less c.pending key p adds old c.known.master.entries c.known.directories in
           let no_share = none old in
           omega arith
       by true new =
           let of = some new in
-          let grown = added_growths less c.pending key p adds c.known.master.entries c.known.directories of.1.0 of.1.1 of.0 whole.map.chain.each_once of.1.2.is of.1.3 in
-          let here = ap (λ (b : Bool). if b then growth (length of.0.chain.entries + total (creates p.prime.ppn) less) else 0) new in
+          let grown = added_growths less c.pending key p adds c.known.master.entries c.known.directories
+          of.1.0 of.1.1 of.0 whole.map.chain.each_once of.1.2.is of.1.3 in
+          let here = ap (λ (b : Bool). if b then growth (length of.0.chain.entries + total (creates p.prime.ppn) less)
+          else 0) new in
           let is = of.2 in
           omega arith
 
-  module _ (share : ℕ) (shrinks : growths c.pending c.known.master.entries c.known.directories ≡ growths less c.known.master.entries c.known.directories + share) where
+  module _ (share : ℕ) (shrinks : growths c.pending c.known.master.entries c.known.directories
+      ≡ growths less c.known.master.entries c.known.directories + share) where
     pub dropped_booked : cost_of_blocks (length p.version.blocks) + share ≤ c.known.table.booked
     dropped_booked =
         let more = added_total less c.pending key p adds pending_cost refl in
         let all = whole.booked in
         omega arith
 
-    pub dropped_whole : (held : List ℕ) (booked : ℕ) → ((n : ℕ) → slice_index held n + times n p.version.blocks ≡ holds c.known.table n) → booked + (cost_of_blocks (length p.version.blocks) + share) ≡ c.known.table.booked
+    pub dropped_whole : (held : List ℕ) (booked : ℕ)
+        → ((n : ℕ) → slice_index held n + times n p.version.blocks ≡ holds c.known.table n)
+        → booked + (cost_of_blocks (length p.version.blocks) + share) ≡ c.known.table.booked
         → IsWholeCore size (record c { known = counting c.known held booked; pending = less })
     dropped_whole held booked fewer costs = record {
       map = counts_whole size c.known held booked whole.map;
       keyed = whole.keyed;
       standing = whole.standing;
-      waiting = all_updated (λ o. IfSome o (IsWholePending size)) c.pending less key (λ k other. sym (adds.others k other)) tt whole.waiting (subst (λ o. IfSome o (IsWholePending size)) (sym adds.vacant) tt);
+      waiting = all_updated (λ o. IfSome o (IsWholePending size)) c.pending less key
+          (λ k other. sym (adds.others k other)) tt whole.waiting
+          (subst (λ o. IfSome o (IsWholePending size)) (sym adds.vacant) tt);
       current = whole.current;
-      housed = λ ppn none. let more = added_total less c.pending key p adds (creates ppn) refl in let all = whole.housed ppn none in omega arith;
-      held = λ n. let more = added_total less c.pending key p adds (pending_reaches n) refl in let was = whole.held n in omega (arith, fewer n);
-      own = λ n some. let more = added_total less c.pending key p adds (pending_reaches n) refl in let few = whole.own n (omega arith) in omega (arith, fewer n);
+      housed = λ ppn none. let more = added_total less c.pending key p adds (creates ppn) refl in
+          let all = whole.housed ppn none in omega arith;
+      held = λ n. let more = added_total less c.pending key p adds (pending_reaches n) refl in let was = whole.held n in
+          omega (arith, fewer n);
+      own = λ n some. let more = added_total less c.pending key p adds (pending_reaches n) refl in
+          let few = whole.own n (omega arith) in omega (arith, fewer n);
       inside = λ n there. whole.inside n (omega (arith, fewer n));
       apart = λ n there. whole.apart n (omega (arith, fewer n));
       fits = let fits = whole.fits in omega arith;

@@ -12,64 +12,118 @@ use Rattle.meaning.specs.Faults.{InSpace, IsMasterEntryOf, IsBadRetrieval, IsDir
 use Rattle.alloctab.specs.Lists.{digit_at}
 use Rattle.directory.specs.Loading.{IsBadChain, IsTwiceInChain}
 use Rattle.volume.specs.declared.error.VolumeError.{VolumeError}
-use Rattle.volume.specs.declared.error.VolumeError.TheVariants.{NotVolume, BadHome, BadLog, BadDirectory, BadRetrieval, BlockTwice, TableWrong, Device, NoMemory, Failed, BadData}
+use Rattle.volume.specs.declared.error.VolumeError.TheVariants.{NotVolume, BadHome, BadLog, BadDirectory, BadRetrieval}
+use Rattle.volume.specs.declared.error.VolumeError.TheVariants.{BlockTwice, TableWrong, Device, NoMemory, Failed}
+use Rattle.volume.specs.declared.error.VolumeError.TheVariants.{BadData}
 use Rattle.volume.specs.Homes.{home_of_master}
 use Rattle.volume.specs.FileReading.{IsOtherPlace}
 use Rattle.volume.specs.FaultsFound.{NamesInSpace, IsFaultOfDirectories, SettledRefuses, IsBadFileOf, IsInChain}
 
 -- A block of the master directory's chain is not as it should be.
-pub master_fault : (size : ℕ) (contents : Contents) (first n : ℕ) → IsHome size contents (home_of_master first) → IsBadChain nat_cmp master_words (IsMasterEntryOf 1) (λ e. e.1.1) size contents first n
+pub master_fault : (size : ℕ) (contents : Contents) (first n : ℕ) → IsHome size contents (home_of_master first)
+    → IsBadChain nat_cmp master_words (IsMasterEntryOf 1) (λ e. e.1.1) size contents first n
     → SettledRefuses size contents (BadDirectory n)
-master_fault size contents first n home met =
-    (met.inside, inl (record { layout = 1; before = met.before; walk = record { master = first; home = home; walk = met.walk }; inside = met.inside; bad = met.bad }))
+master_fault size contents first n home met = (
+  met.inside,
+  inl (record {
+    layout = 1;
+    before = met.before;
+    walk = record { master = first; home = home; walk = met.walk };
+    inside = met.inside;
+    bad = met.bad;
+  }),
+)
 
 -- A block of it was reached before.
-pub master_twice : (size : ℕ) (contents : Contents) (reached : List Bool) (first n : ℕ) → IsHome size contents (home_of_master first) → ((k : ℕ) → digit_at reached k ≡ 0) → InSpace size n → IsTwiceInChain master_words contents reached first n
+pub master_twice : (size : ℕ) (contents : Contents) (reached : List Bool) (first n : ℕ)
+    → IsHome size contents (home_of_master first) → ((k : ℕ) → digit_at reached k ≡ 0) → InSpace size n
+    → IsTwiceInChain master_words contents reached first n
     → SettledRefuses size contents (BlockTwice n)
 master_twice size contents reached first n home fresh inside met = (
   inside,
   record {
     m = record { nodes = met.before; last = n; directories = [] };
-    read = record { layout = 1; walk = record { master = first; home = home; walk = met.walk }; once = tt; directories = tt };
+    read = record {
+      layout = 1;
+      walk = record { master = first; home = home; walk = met.walk };
+      once = tt;
+      directories = tt;
+    };
     twice = let t = met.twice in let z = fresh n in omega arith;
   },
 )
 
 -- The master directory was read, and one that it names is at fault.
-pub directories_fault : (size : ℕ) (contents : Contents) (first : ℕ) (nodes : List (Node MasterEntry)) (entries : List MasterEntry) (marks : ℕ → ℕ) (error : VolumeError) → IsHome size contents (home_of_master first)
-    → Leads master_words contents first nodes 0 → items nodes ≡ entries → ((n : ℕ) → marks n ≡ times n (numbers nodes)) → NamesInSpace size error → IsFaultOfDirectories size contents marks entries error
+pub directories_fault : (size : ℕ) (contents : Contents) (first : ℕ) (nodes : List (Node MasterEntry))
+    (entries : List MasterEntry) (marks : ℕ → ℕ) (error : VolumeError) → IsHome size contents (home_of_master first)
+    → Leads master_words contents first nodes 0 → items nodes ≡ entries → ((n : ℕ) → marks n ≡ times n (numbers nodes))
+    → NamesInSpace size error → IsFaultOfDirectories size contents marks entries error
     → SettledRefuses size contents error
 directories_fault size contents first nodes entries marks error home walk all marked = by_error error
   where
     master_walk : IsMasterWalk size contents 1 nodes 0
     master_walk = record { master = first; home = home; walk = walk }
 
-    named : (ppn word at : ℕ) → find nat_cmp ppn entries ≡ Some (word, at) → IsDirectoryNamed size contents 1 ppn word at
-    named ppn word at is = record { nodes = nodes; last = 0; walk = master_walk; entry = ap (λ (es : List MasterEntry). find nat_cmp ppn es) all ∙ is }
+    named : (ppn word at : ℕ) → find nat_cmp ppn entries ≡ Some (word, at)
+        → IsDirectoryNamed size contents 1 ppn word at
+    named ppn word at is = record {
+      nodes = nodes;
+      last = 0;
+      walk = master_walk;
+      entry = ap (λ (es : List MasterEntry). find nat_cmp ppn es) all ∙ is;
+    }
 
-    retrieval : (ppn word at n : ℕ) → find nat_cmp ppn entries ≡ Some (word, at) → IsInChain contents at (λ files. IsBadFileOf size contents ppn files n) → IsBadRetrieval size contents n
+    retrieval : (ppn word at n : ℕ) → find nat_cmp ppn entries ≡ Some (word, at)
+        → IsInChain contents at (λ files. IsBadFileOf size contents ppn files n) → IsBadRetrieval size contents n
     retrieval ppn word at n is met =
         let bad = met.fault in
         let place = place_of ppn bad.name in
         let there : IsFileNamed size contents 1 place bad.prime =
-        record { nodes = met.nodes; last = met.last; walk = record { word = word; first = at; named = named ppn word at is; walk = met.walk }; entry = bad.entry } in
+        record {
+          nodes = met.nodes;
+          last = met.last;
+          walk = record { word = word; first = at; named = named ppn word at is; walk = met.walk };
+          entry = bad.entry;
+        } in
         ⊎_elim
         (λ v. IsBadRetrieval.of_version 1 place bad.prime there v)
-        (λ other. IsBadRetrieval.of_another_place 1 place (subst (λ (p : ℕ). IsFileNamed size contents 1 place p) (sym other.0) there) (subst (λ (p : ℕ). IsOtherPlace contents place p) (sym other.0) other.1)) bad.bad
+        (λ other. IsBadRetrieval.of_another_place 1 place (subst (λ (p : ℕ). IsFileNamed size contents 1 place p)
+        (sym other.0) there) (subst (λ (p : ℕ). IsOtherPlace contents place p) (sym other.0) other.1)) bad.bad
 
-    by_error : (er : VolumeError) → NamesInSpace size er → IsFaultOfDirectories size contents marks entries er → SettledRefuses size contents er
+    by_error : (er : VolumeError) → NamesInSpace size er → IsFaultOfDirectories size contents marks entries er
+        → SettledRefuses size contents er
     by_error NotVolume inside met = absurd met
     by_error BadHome inside met = absurd met
     by_error BadLog inside met = met
     by_error (BadDirectory n) inside met =
-        let bad = met.fault in
-        (inside, inr (record { layout = 1; ppn = met.ppn; before = bad.before; walk = record { word = met.word; first = met.first; named = named met.ppn met.word met.first met.entry; walk = bad.walk }; inside = bad.inside; bad = bad.bad }))
+        let bad = met.fault in (
+          inside,
+          inr (record {
+            layout = 1;
+            ppn = met.ppn;
+            before = bad.before;
+            walk = record {
+              word = met.word;
+              first = met.first;
+              named = named met.ppn met.word met.first met.entry;
+              walk = bad.walk;
+            };
+            inside = bad.inside;
+            bad = bad.bad;
+          }),
+        )
     by_error (BadRetrieval n) inside met = (inside, retrieval met.ppn met.word met.first n met.entry met.fault)
     by_error (BlockTwice n) inside met = (
       inside,
       record {
         m = record { nodes = nodes; last = 0; directories = met.directories };
-        read = record { layout = 1; walk = master_walk; once = met.once; directories = subst (λ (es : List MasterEntry). AllByRecursion (IsDirectoryRead 1 contents es) met.directories) (sym all) met.read };
+        read = record {
+          layout = 1;
+          walk = master_walk;
+          once = met.once;
+          directories = subst (λ (es : List MasterEntry).
+              AllByRecursion (IsDirectoryRead 1 contents es) met.directories) (sym all) met.read;
+        };
         twice = let t = met.twice in let m = marked n in omega arith;
       },
     )
@@ -89,7 +143,17 @@ directories_fault size contents first nodes entries marks error home walk all ma
             prime = data_of.prime;
             extensions = bad.extensions;
             blocks = bad.blocks;
-            named = record { nodes = in_chain.nodes; last = in_chain.last; walk = record { word = met.word; first = met.first; named = named met.ppn met.word met.first met.entry; walk = in_chain.walk }; entry = data_of.entry };
+            named = record {
+              nodes = in_chain.nodes;
+              last = in_chain.last;
+              walk = record {
+                word = met.word;
+                first = met.first;
+                named = named met.ppn met.word met.first met.entry;
+                walk = in_chain.walk;
+              };
+              entry = data_of.entry;
+            };
             place_is = bad.place_is;
             retrieved = bad.retrieved;
             inside = bad.inside;

@@ -1,5 +1,6 @@
 -- A disk that was read whole.
-use Rattle.std.proofs.Common.{◌≡◌, inl, inr, ⊎_elim, ℕ, ◌+◌, ◌<◌, ◌≤◌, Bool, true, false, List, [], map, slice_get, Some, refl, sym, ap, subst, ◌∙◌, arith, append-nil, nat_cmp}
+use Rattle.std.proofs.Common.{◌≡◌, inl, inr, ⊎_elim, ℕ, ◌+◌, ◌<◌, ◌≤◌, Bool, true, false, List, [], map, slice_get}
+use Rattle.std.proofs.Common.{Some, refl, sym, ap, subst, ◌∙◌, arith, append-nil, nat_cmp}
 use Rattle.std.proofs.lemmas.Bool.{cases_eq}
 use Rattle.std.specs.Cmp.{nat_cmp_total}
 use Rattle.std.specs.FinMap.{nat_cmp-IsAntisymmetric}
@@ -9,7 +10,8 @@ use Rattle.meaning.specs.Maps.{EachOnce, times, total, from_entries}
 use Rattle.meaning.specs.Blocks.{head_or_zero}
 use Rattle.meaning.specs.Home.{IsHome}
 use Rattle.meaning.specs.Table.{fixed}
-use Rattle.meaning.specs.Directories.{Node, MasterEntry, master_words, IsMasterEntry, numbers, items, first_of, file_words}
+use Rattle.meaning.specs.Directories.{Node, MasterEntry, master_words, IsMasterEntry, numbers, items, first_of}
+use Rattle.meaning.specs.Directories.{file_words}
 use Rattle.meaning.specs.Stands.{StoredDirectory, DiskMap, entry_of, reaches, reaches_in_directory, IsMapped}
 use Rattle.meaning.specs.Readings.{found_map}
 use Rattle.meaning.specs.Faults.{IsWrongTable}
@@ -27,7 +29,9 @@ use Rattle.volume.specs.Found.{IsOnlySpace, IsMapRead, IsWrongFor, IsRightFor}
 use Rattle.volume.proofs.Lookups.{found_in_front}
 use Rattle.volume.proofs.FoundDirectories.{zip_at, mapped_at, all_at}
 
-module _ (size : ℕ) (contents : Contents) (first : ℕ) (master : ChainState MasterEntry) (directories : List KnownDirectory) (marks : ℕ → ℕ) (r : IsMapRead size contents first master directories marks) where
+module _ (size : ℕ) (contents : Contents) (first : ℕ) (master : ChainState MasterEntry)
+    (directories : List KnownDirectory) (marks : ℕ
+    → ℕ) (r : IsMapRead size contents first master directories marks) where
   nodes : List (Node MasterEntry)
   nodes = nodes_of master.blocks master.entries
 
@@ -38,9 +42,12 @@ module _ (size : ℕ) (contents : Contents) (first : ℕ) (master : ChainState M
   is_chain = master_chain master r.chain
 
   home : IsHome size contents (record { layout = 1; master = first_of (nodes_of master.blocks master.entries) })
-  home = subst (λ (n : ℕ). IsHome size contents (home_of_master n)) (sym r.begins ∙ ap head_or_zero (sym (numbers_of master.blocks master.entries)) ∙ head-numbers (nodes_of master.blocks master.entries)) r.home
+  home = subst (λ (n : ℕ). IsHome size contents (home_of_master n)) (sym r.begins
+      ∙ ap head_or_zero (sym (numbers_of master.blocks master.entries))
+      ∙ head-numbers (nodes_of master.blocks master.entries)) r.home
 
-  named : map (λ (e : ℕ × StoredDirectory). (e.0, entry_of e.1)) r.read.found ≡ items (nodes_of master.blocks master.entries)
+  named : map (λ (e : ℕ × StoredDirectory). (e.0, entry_of e.1)) r.read.found
+      ≡ items (nodes_of master.blocks master.entries)
   named = r.read.named ∙ sym (chain_items master_words IsMasterEntry master is_chain)
 
   once : EachOnce nat_cmp r.read.found
@@ -54,26 +61,40 @@ module _ (size : ℕ) (contents : Contents) (first : ℕ) (master : ChainState M
       omega arith
 
   pub map_is_mapped : IsMapped size contents map_found
-  map_is_mapped = map_mapped size 1 contents (nodes_of master.blocks master.entries) r.read.found home (chain_read master_words IsMasterEntry contents master is_chain r.on) named r.read.whole
+  map_is_mapped = map_mapped size 1 contents (nodes_of master.blocks master.entries) r.read.found home
+      (chain_read master_words IsMasterEntry contents master is_chain r.on) named r.read.whole
 
-  known : (table : TableState) → IsKnownMap (record { master = master; directories = directories; table = table }) map_found
+  known : (table : TableState)
+      → IsKnownMap (record { master = master; directories = directories; table = table }) map_found
   known table = record {
     layout = refl;
     chain = numbers_of master.blocks master.entries;
-    names = mapped-from_entries nat_cmp_total nat_cmp-IsAntisymmetric entry_of r.read.found ∙ ap from_entries r.read.named;
+    names = mapped-from_entries nat_cmp_total nat_cmp-IsAntisymmetric entry_of r.read.found
+        ∙ ap from_entries r.read.named;
     each = λ i e d at directory.
-        let z = zip_at (λ (x : ℕ × StoredDirectory) (k : KnownDirectory). IsKnownDirectory k x.1) r.read.found directories i d r.read.known directory in
-        let named_at : (z.0.0, entry_of z.0.1) ≡ e = some_same (sym (mapped_at (λ (x : ℕ × StoredDirectory). (x.0, entry_of x.1)) r.read.found i z.0 z.1) ∙ ap (λ (l : List MasterEntry). slice_get l i) r.read.named ∙ at) in
-        let there : find nat_cmp z.0.0 r.read.found ≡ Some z.0.1 = all_at (λ (x : ℕ × StoredDirectory). find nat_cmp x.0 r.read.found ≡ Some x.1) r.read.found i z.0 (found_in_front nat_cmp_total r.read.found r.read.found [] (sym (append-nil r.read.found)) once) z.1 in
-        (z.0.1, get-from_entries nat_cmp_total r.read.found e.0 ∙ ap (λ (q : MasterEntry). find nat_cmp q.0 r.read.found) (sym named_at) ∙ there, z.2);
+        let z = zip_at (λ (x : ℕ × StoredDirectory) (k : KnownDirectory). IsKnownDirectory k x.1) r.read.found
+        directories i d r.read.known directory in
+        let named_at : (z.0.0, entry_of z.0.1)
+        ≡ e = some_same (sym (mapped_at (λ (x : ℕ × StoredDirectory). (x.0, entry_of x.1)) r.read.found i z.0 z.1)
+        ∙ ap (λ (l : List MasterEntry). slice_get l i) r.read.named ∙ at) in
+        let there : find nat_cmp z.0.0 r.read.found
+        ≡ Some z.0.1 = all_at (λ (x : ℕ × StoredDirectory). find nat_cmp x.0 r.read.found ≡ Some x.1) r.read.found i z.0
+        (found_in_front nat_cmp_total r.read.found r.read.found [] (sym (append-nil r.read.found)) once) z.1 in (
+          z.0.1,
+          get-from_entries nat_cmp_total r.read.found e.0
+              ∙ ap (λ (q : MasterEntry). find nat_cmp q.0 r.read.found) (sym named_at) ∙ there,
+          z.2,
+        );
   }
 
   -- With a table that agrees the contents have the map.
-  pub map_held : (reached_marks : List Bool) (table : TableState) → ((n : ℕ) → digit_at reached_marks n ≡ marks n) → IsOnlySpace size reached_marks → IsRightFor size contents reached_marks table
+  pub map_held : (reached_marks : List Bool) (table : TableState) → ((n : ℕ) → digit_at reached_marks n ≡ marks n)
+      → IsOnlySpace size reached_marks → IsRightFor size contents reached_marks table
       → IsHeld size (record { master = master; directories = directories; table = table }) map_found contents
   map_held reached_marks table same only right = record {
     known = known table;
-    stands = map_stands size 1 contents (nodes_of master.blocks master.entries) r.read.found r.volume home (chain_read master_words IsMasterEntry contents master is_chain r.on) named r.read.whole
+    stands = map_stands size 1 contents (nodes_of master.blocks master.entries) r.read.found r.volume home
+        (chain_read master_words IsMasterEntry contents master is_chain r.on) named r.read.whole
         right.read.undamaged
         (λ n past. outside n past)
         (λ n. sym (right.read.bits_are n) ∙ right.right n ∙ ap (λ (k : ℕ). fixed size n + k) (same n ∙ counted n));
@@ -82,22 +103,28 @@ module _ (size : ℕ) (contents : Contents) (first : ℕ) (master : ChainState M
     bits = λ n. sym (right.read.bits_are n);
   }
     where
-      counted : (n : ℕ) → marks n ≡ times n (numbers (nodes_of master.blocks master.entries)) + total (λ e. reaches_in_directory n e.1) r.read.found
-      counted n = let b = r.read.marked n in let c = ap (times n) (numbers_of master.blocks master.entries) in omega arith
+      counted : (n : ℕ) → marks n ≡ times n (numbers (nodes_of master.blocks master.entries))
+          + total (λ e. reaches_in_directory n e.1) r.read.found
+      counted n = let b = r.read.marked n in let c = ap (times n) (numbers_of master.blocks master.entries) in
+          omega arith
 
-      outside : (n : ℕ) → size ≤ n → times n (numbers (nodes_of master.blocks master.entries)) + total (λ e. reaches_in_directory n e.1) r.read.found ≡ 0
+      outside : (n : ℕ) → size ≤ n → times n (numbers (nodes_of master.blocks master.entries))
+          + total (λ e. reaches_in_directory n e.1) r.read.found ≡ 0
       outside n past = none (digit_at reached_marks n) refl
         where
-          none : (k : ℕ) → digit_at reached_marks n ≡ k → times n (numbers (nodes_of master.blocks master.entries)) + total (λ e. reaches_in_directory n e.1) r.read.found ≡ 0
+          none : (k : ℕ) → digit_at reached_marks n ≡ k → times n (numbers (nodes_of master.blocks master.entries))
+              + total (λ e. reaches_in_directory n e.1) r.read.found ≡ 0
           none k is = ⊎_elim
               (λ (z : k ≡ 0). let a = counted n in let b = same n in omega arith)
-              (λ other. absurd (let x = only n (let y = some k other in omega arith) in let below = x.below in omega arith)) (cases_eq k 0)
+              (λ other. absurd (let x = only n (let y = some k other in omega arith) in let below = x.below in
+              omega arith)) (cases_eq k 0)
             where
               some : (j : ℕ) → (j ≡ 0 → ⊥) → 0 < j
               some j other = grind arith
 
   -- A table that doesn't is wrong.
-  pub table_fault : (reached_marks : List Bool) (n : ℕ) → ((k : ℕ) → digit_at reached_marks k ≡ marks k) → IsOnlySpace size reached_marks → IsWrongFor size contents reached_marks n → IsWrongTable size contents n
+  pub table_fault : (reached_marks : List Bool) (n : ℕ) → ((k : ℕ) → digit_at reached_marks k ≡ marks k)
+      → IsOnlySpace size reached_marks → IsWrongFor size contents reached_marks n → IsWrongTable size contents n
   table_fault reached_marks n same only wrong = record {
     m = map_found;
     volume = r.volume;
@@ -107,7 +134,8 @@ module _ (size : ℕ) (contents : Contents) (first : ℕ) (master : ChainState M
     i = wrong.i;
     in_table = wrong.in_table;
     block = wrong.block;
-    wrong = ⊎_elim (λ d. inl d) (λ w. inr (w.0, w.1, λ is. w.2 (is ∙ ap (λ (k : ℕ). fixed size w.0 + k) (reached w.0 ∙ sym (same w.0))))) wrong.wrong;
+    wrong = ⊎_elim (λ d. inl d) (λ w.
+        inr (w.0, w.1, λ is. w.2 (is ∙ ap (λ (k : ℕ). fixed size w.0 + k) (reached w.0 ∙ sym (same w.0))))) wrong.wrong;
   }
     where
       digit_few : (b : Bool) → digit b ≤ 1

@@ -1,5 +1,6 @@
 -- What a disk stands for on which a volume was just made.
-use Rattle.std.proofs.Common.{◌≡◌, inl, inr, ⊎_elim, ℕ, ◌+◌, ◌/◌, ◌<◌, ◌≤◌, [], ◌∷◌, Some, IsSome, refl, sym, ◌∙◌, ap, subst, arith, lit≤}
+use Rattle.std.proofs.Common.{◌≡◌, inl, inr, ⊎_elim, ℕ, ◌+◌, ◌/◌, ◌<◌, ◌≤◌, [], ◌∷◌, Some, IsSome, refl, sym, ◌∙◌, ap}
+use Rattle.std.proofs.Common.{subst, arith, lit≤}
 use Rattle.std.proofs.lemmas.Bool.{cases_eq}
 use Rattle.std.proofs.lemmas.Bool.Decides.{nat_tests}
 use Rattle.blockdisk.specs.Disk.{Contents, DiskState, NoneOpen, Modifies}
@@ -21,20 +22,24 @@ use Rattle.volume.proofs.FreshTable.{bit_below_few, fresh_bit_past, fresh_bit_is
 
 -- Writing it.
 
-pub written_more : (size from n : ℕ) (c d : Contents) → ((m : ℕ) → from ≤ m → m < n → c m ≡ Some (fresh_words size m)) → ((m : ℕ) → (m ≡ n → ⊥) → d m ≡ c m)
+pub written_more : (size from n : ℕ) (c d : Contents) → ((m : ℕ) → from ≤ m → m < n → c m ≡ Some (fresh_words size m))
+    → ((m : ℕ) → (m ≡ n → ⊥) → d m ≡ c m)
     → d n ≡ Some (fresh_words size n) → (m : ℕ) → from ≤ m → m < n + 1 → d m ≡ Some (fresh_words size m)
 written_more size from n c d before others here m low high = ⊎_elim
     (λ is. ap d is ∙ here ∙ ap (λ (k : ℕ). Some (fresh_words size k)) (sym is))
     (λ other. others m other ∙ before m low (omega arith)) (cases_eq m n)
 
 pub first_modified : (s s' : DiskState) → Modifies (λ n. (0 ≤ n) × (n < 5)) s s' → Modifies (IsInitBlock s.size) s s'
-first_modified s s' = modifies_wider (λ n. (0 ≤ n) × (n < 5)) (IsInitBlock s.size) s s' (λ n is. inl (let high = is.1 in omega arith))
+first_modified s s' = modifies_wider (λ n. (0 ≤ n) × (n < 5)) (IsInitBlock s.size) s s'
+    (λ n is. inl (let high = is.1 in omega arith))
 
-pub volume_modified : (s s' s'' : DiskState) (start end : ℕ) → start ≡ table_start s.size → end ≡ space_start s.size + 1 → Modifies (λ n. (0 ≤ n) × (n < 5)) s s'
+pub volume_modified : (s s' s'' : DiskState) (start end : ℕ) → start ≡ table_start s.size → end ≡ space_start s.size + 1
+    → Modifies (λ n. (0 ≤ n) × (n < 5)) s s'
     → Modifies (λ n. (start ≤ n) × (n < end)) s' s'' → Modifies (IsInitBlock s.size) s s''
 volume_modified s s' s'' start end at until first second =
     modifies_on (IsInitBlock s.size) s s' s'' (first_modified s s' first)
-    (modifies_wider (λ n. (start ≤ n) × (n < end)) (IsInitBlock s.size) s' s'' (λ n is. let low = is.0 in let high = is.1 in inr (omega arith, omega arith)) second)
+    (modifies_wider (λ n. (start ≤ n) × (n < end)) (IsInitBlock s.size) s' s'' (λ n is. let low = is.0 in
+    let high = is.1 in inr (omega arith, omega arith)) second)
 
 -- What it holds.
 
@@ -44,13 +49,20 @@ module _ (size : ℕ) (c : Contents) (volume : IsVolumeSize size) (bare : IsBare
 
   bit_is : (n : ℕ) → table_bit size c n ≡ fresh_bit size n
   bit_is n = ⊎_elim
-      (λ below. table_bit_at size c (table_words (fresh_bit size) (n / 4608)) (n / 4608) n below (bare.table (n / 4608) below) refl
+      (λ below. table_bit_at size c (table_words (fresh_bit size) (n / 4608)) (n / 4608) n below
+      (bare.table (n / 4608) below) refl
       ∙ table_words_spell (fresh_bit size) (bit_below_few (space_start size + 1)) (n / 4608) n refl)
-      (λ past. table_bit_past size c n past ∙ sym (fresh_bit_past size n volume past)) (in_or_past (n / 4608) (table_blocks size))
+      (λ past. table_bit_past size c n past ∙ sym (fresh_bit_past size n volume past))
+      (in_or_past (n / 4608) (table_blocks size))
 
   pub fresh_has_map : HasMap size c (bare_map size)
   fresh_has_map = map_stands size 1 c ((space_start size, []) ∷ []) [] volume
-      (inl (record { words = bare.home; layout = refl; master_from = omega arith; master_below = let small = volume.small in omega arith }))
+      (inl (record {
+        words = bare.home;
+        layout = refl;
+        master_from = omega arith;
+        master_below = let small = volume.small in omega arith;
+      }))
       (record { spelled = (bare.master, tt); filled = lit≤ tt; are_entries = tt; each_once = tt })
       refl tt table_is_some
       (λ n past. let small = volume.small in grind (arith, nat_tests))
@@ -69,8 +81,11 @@ module _ (size : ℕ) (c : Contents) (volume : IsVolumeSize size) (bare : IsBare
   pub fresh_stands : Stands size c empty
   fresh_stands = (c, inl (fresh_shut, λ n. refl), (bare_map size, fresh_has_map, no_files))
 
-pub fresh_rest : (size : ℕ) (s : DiskState) → s.size ≡ size → IsVolumeSize size → IsBare size s.contents → NoneOpen s → AtRest s (λ c. Stands size c empty)
+pub fresh_rest : (size : ℕ) (s : DiskState) → s.size ≡ size → IsVolumeSize size → IsBare size s.contents
+    → NoneOpen s → AtRest s (λ c. Stands size c empty)
 fresh_rest size s same volume bare none = record {
-  shut = λ c left is. fresh_shut size s.contents volume bare (subst (λ (n : ℕ). IsGateOpen n s.contents) same (subst (IsGateOpen s.size) (none_open_leaves s none c left) is));
-  all = λ c left. subst (λ (d : Contents). Stands size d empty) (sym (none_open_leaves s none c left)) (fresh_stands size s.contents volume bare);
+  shut = λ c left is. fresh_shut size s.contents volume bare
+      (subst (λ (n : ℕ). IsGateOpen n s.contents) same (subst (IsGateOpen s.size) (none_open_leaves s none c left) is));
+  all = λ c left. subst (λ (d : Contents). Stands size d empty) (sym (none_open_leaves s none c left))
+      (fresh_stands size s.contents volume bare);
 }

@@ -4,26 +4,36 @@ use Rattle.blockdisk.specs.Disk.{Contents}
 use Rattle.meaning.specs.Files.{Place}
 use Rattle.meaning.specs.Faults.{InSpace, IsBadVersion}
 use Rattle.volume.specs.declared.error.VolumeError.{VolumeError}
-use Rattle.volume.specs.declared.error.VolumeError.TheVariants.{NotVolume, BadHome, BadLog, BadDirectory, BadRetrieval, BlockTwice, TableWrong, Device, NoMemory, Failed, BadData}
-use Rattle.volume.specs.FileReading.{IsVersionRefusal, IsDataRefusal, IsFileRefusal, IsOtherPlace, IsReachedTwice, IsDamagedData}
+use Rattle.volume.specs.declared.error.VolumeError.TheVariants.{NotVolume, BadHome, BadLog, BadDirectory, BadRetrieval}
+use Rattle.volume.specs.declared.error.VolumeError.TheVariants.{BlockTwice, TableWrong, Device, NoMemory, Failed}
+use Rattle.volume.specs.declared.error.VolumeError.TheVariants.{BadData}
+use Rattle.volume.specs.FileReading.{IsVersionRefusal, IsDataRefusal, IsFileRefusal, IsOtherPlace, IsReachedTwice}
+use Rattle.volume.specs.FileReading.{IsDamagedData}
 use Rattle.volume.specs.FaultsFound.{NamesInSpace, IsFaultOfFile, IsTableRefusal}
 use Rattle.std.proofs.Common.{Bool, List}
 use Rattle.volume.proofs.Finding.{refusal}
 
 -- what an error has that is handed on
-pub handed : {T U E : Type 0} (P : E → Type 0) (outer : Result T E) (inner : Result U E) (x y : E) → outer ≡ Err x → x ≡ y → inner ≡ Err y → IfErr inner P → IfErr outer P
-handed P outer inner x y is same was met = subst (λ r. IfErr r P) (sym is) (subst P (sym same) (subst (λ r. IfErr r P) was met))
+pub handed : {T U E : Type 0} (P : E → Type 0) (outer : Result T E) (inner : Result U E) (x y : E) → outer ≡ Err x
+    → x ≡ y → inner ≡ Err y → IfErr inner P → IfErr outer P
+handed P outer inner x y is same was met = subst (λ r. IfErr r P) (sym is)
+    (subst P (sym same) (subst (λ r. IfErr r P) was met))
 
 -- each error of the result has P
-pub each_error : {T E : Type 0} (P : E → Type 0) (result : Result T E) → ((e : E) → result ≡ Err e → P e) → IfErr result P
+pub each_error : {T E : Type 0} (P : E → Type 0) (result : Result T E) → ((e : E) → result ≡ Err e → P e)
+    → IfErr result P
 each_error P (Ok x) all = tt
 each_error P (Err e) all = all e refl
 
-pub file_met_by : {T : Type 0} (size : ℕ) (contents : Contents) (reached : List Bool) (place : Place) (prime : ℕ) (result : Result T VolumeError) → IfErr result IsFileRefusal
-    → ((k : ℕ) → result ≡ Err (BadRetrieval k) → IsBadVersion size contents 1 prime k ⊎ ((k ≡ prime) × IsOtherPlace contents place prime))
-    → ((k : ℕ) → result ≡ Err (BlockTwice k) → IsReachedTwice contents place prime reached k) → ((k : ℕ) → result ≡ Err (BadData k) → IsDamagedData contents place prime k)
+pub file_met_by : {T : Type 0} (size : ℕ) (contents : Contents) (reached : List Bool) (place : Place)
+    (prime : ℕ) (result : Result T VolumeError) → IfErr result IsFileRefusal
+    → ((k : ℕ) → result ≡ Err (BadRetrieval k) → IsBadVersion size contents 1 prime k
+    ⊎ ((k ≡ prime) × IsOtherPlace contents place prime))
+    → ((k : ℕ) → result ≡ Err (BlockTwice k) → IsReachedTwice contents place prime reached k)
+    → ((k : ℕ) → result ≡ Err (BadData k) → IsDamagedData contents place prime k)
     → IfErr result (IsFaultOfFile size contents reached place prime)
-file_met_by size contents reached place prime result only bad twice damaged = each_error (IsFaultOfFile size contents reached place prime) result by_error
+file_met_by size contents reached place prime result only bad twice damaged = each_error
+    (IsFaultOfFile size contents reached place prime) result by_error
   where
     by_error : (e : VolumeError) → result ≡ Err e → IsFaultOfFile size contents reached place prime e
     by_error NotVolume is = refusal IsFileRefusal result NotVolume is only
@@ -38,16 +48,19 @@ file_met_by size contents reached place prime result only bad twice damaged = ea
     by_error Failed is = refusal IsFileRefusal result Failed is only
     by_error (BadData n) is = damaged n is
 
-pub found_on : {T E : Type 0} (P Q : E → Type 0) (result : Result T E) → ((e : E) → P e → Q e) → IfErr result P → IfErr result Q
+pub found_on : {T E : Type 0} (P Q : E → Type 0) (result : Result T E) → ((e : E) → P e → Q e) → IfErr result P
+    → IfErr result Q
 found_on P Q (Ok x) on met = tt
 found_on P Q (Err e) on met = on e met
 
-pub handed_back : {T U E : Type 0} (outer : Result T E) (inner : Result U E) (x y e : E) → outer ≡ Err x → x ≡ y → inner ≡ Err y → inner ≡ Err e → outer ≡ Err e
+pub handed_back : {T U E : Type 0} (outer : Result T E) (inner : Result U E) (x y e : E) → outer ≡ Err x
+    → x ≡ y → inner ≡ Err y → inner ≡ Err e → outer ≡ Err e
 handed_back outer inner x y e is same was inner_is = cc
 
 -- The block that is named lies in the free space.
 
-pub version_named : {T : Type 0} (size prime : ℕ) (result : Result T VolumeError) → InSpace size prime → IfErr result IsVersionRefusal → ((k : ℕ) → result ≡ Err (BadRetrieval k) → (k ≡ prime) ⊎ InSpace size k)
+pub version_named : {T : Type 0} (size prime : ℕ) (result : Result T VolumeError) → InSpace size prime
+    → IfErr result IsVersionRefusal → ((k : ℕ) → result ≡ Err (BadRetrieval k) → (k ≡ prime) ⊎ InSpace size k)
     → IfErr result (NamesInSpace size)
 version_named size prime result here only named = each_error (NamesInSpace size) result by_error
   where
@@ -64,7 +77,8 @@ version_named size prime result here only named = each_error (NamesInSpace size)
     by_error Failed is = tt
     by_error (BadData n) is = absurd (refusal IsVersionRefusal result (BadData n) is only)
 
-pub data_named : {T : Type 0} (size : ℕ) (result : Result T VolumeError) → IfErr result IsDataRefusal → ((k : ℕ) → result ≡ Err (BadData k) → InSpace size k) → IfErr result (NamesInSpace size)
+pub data_named : {T : Type 0} (size : ℕ) (result : Result T VolumeError) → IfErr result IsDataRefusal
+    → ((k : ℕ) → result ≡ Err (BadData k) → InSpace size k) → IfErr result (NamesInSpace size)
 data_named size result only named = each_error (NamesInSpace size) result by_error
   where
     by_error : (e : VolumeError) → result ≡ Err e → NamesInSpace size e
@@ -80,9 +94,12 @@ data_named size result only named = each_error (NamesInSpace size) result by_err
     by_error Failed is = tt
     by_error (BadData n) is = named n is
 
-pub home_named : {T : Type 0} (size : ℕ) (result : Result T VolumeError) → ((e : VolumeError) → result ≡ Err e → (e ≡ NotVolume) ⊎ (e ≡ BadHome) ⊎ (e ≡ Device)) → IfErr result (NamesInSpace size)
+pub home_named : {T : Type 0} (size : ℕ) (result : Result T VolumeError)
+    → ((e : VolumeError) → result ≡ Err e → (e ≡ NotVolume) ⊎ (e ≡ BadHome) ⊎ (e ≡ Device))
+    → IfErr result (NamesInSpace size)
 home_named size result only = each_error (NamesInSpace size) result (λ e is.
-    ⊎_elim (λ same. subst (NamesInSpace size) (sym same) tt) (⊎_elim (λ same. subst (NamesInSpace size) (sym same) tt) (λ same. subst (NamesInSpace size) (sym same) tt)) (only e is))
+    ⊎_elim (λ same. subst (NamesInSpace size) (sym same) tt) (⊎_elim (λ same. subst (NamesInSpace size) (sym same) tt)
+    (λ same. subst (NamesInSpace size) (sym same) tt)) (only e is))
 
 pub table_named : (size : ℕ) (error : VolumeError) → IsTableRefusal error → NamesInSpace size error
 table_named size NotVolume only = tt
@@ -97,9 +114,11 @@ table_named size NoMemory only = tt
 table_named size Failed only = tt
 table_named size (BadData n) only = absurd only
 
-pub named_on : {T : Type 0} (size size' : ℕ) (result : Result T VolumeError) → size ≡ size' → IfErr result (NamesInSpace size) → IfErr result (NamesInSpace size')
+pub named_on : {T : Type 0} (size size' : ℕ) (result : Result T VolumeError) → size ≡ size'
+    → IfErr result (NamesInSpace size) → IfErr result (NamesInSpace size')
 named_on size size' result same named = subst (λ (n : ℕ). IfErr result (NamesInSpace n)) same named
 
-pub found_named : {T E : Type 0} (P N Q : E → Type 0) (result : Result T E) → ((e : E) → P e → N e → Q e) → IfErr result P → IfErr result N → IfErr result Q
+pub found_named : {T E : Type 0} (P N Q : E → Type 0) (result : Result T E) → ((e : E) → P e → N e → Q e)
+    → IfErr result P → IfErr result N → IfErr result Q
 found_named P N Q (Ok x) on met named = tt
 found_named P N Q (Err e) on met named = on e met named

@@ -1,5 +1,6 @@
 -- What the words of a home copy say.
-use Rattle.std.proofs.Common.{◌≡◌, Bool, ◌==◌, ℕ, ◌<◌, ◌≤◌, List, [], ◌∷◌, length, get_or, replicate, Some, refl, sym, ◌∙◌, ap, subst, arith}
+use Rattle.std.proofs.Common.{◌≡◌, Bool, ◌==◌, ℕ, ◌<◌, ◌≤◌, List, [], ◌∷◌, length, get_or, replicate, Some, refl, sym}
+use Rattle.std.proofs.Common.{◌∙◌, ap, subst, arith}
 use Rattle.std.specs.Bool.{Decides}
 use Rattle.std.specs.Cmp.Lexicographic.{pointwise}
 use Rattle.std.proofs.lemmas.Bool.Decides.{Decides-eqb}
@@ -14,32 +15,55 @@ use Rattle.volume.specs.declared.home.HomeCopy.TheVariants.{Valid, Named, Unname
 use Rattle.volume.specs.Homes.{home_of_master, IsNoCopy, IsFound, holds_words}
 
 -- words that begin with the name
-pub has_name : (words : List ℕ) (n cell first : ℕ) → length words ≡ 128 → first ≡ get_or words 0 cell → first ≡ filser_word → HasName (holds_words words) n
+pub has_name : (words : List ℕ) (n cell first : ℕ) → length words ≡ 128 → first ≡ get_or words 0 cell
+    → first ≡ filser_word → HasName (holds_words words) n
 has_name [] n cell first long at is = absurd (omega arith)
 has_name (word ∷ words) n cell first long at is = (words, ap (λ (w : ℕ). Some (w ∷ words)) (sym at ∙ is))
 
 -- all words of a valid copy follow from the fifth, counted from 0
-pub no_copy : (size n cell master : ℕ) (words : List ℕ) → master ≡ get_or words 5 cell → (InSpace size master → words ≡ home_block size (home_of_master master) → ⊥) → IsNoCopy size (holds_words words) n
+pub no_copy : (size n cell master : ℕ) (words : List ℕ) → master ≡ get_or words 5 cell
+    → (InSpace size master → words ≡ home_block size (home_of_master master) → ⊥) → IsNoCopy size (holds_words words) n
 no_copy size n cell master words at wrong home copy =
     let whole : words ≡ home_block size home = some_same copy.words in
     let named : home.master ≡ master = sym (at ∙ ap (λ (l : List ℕ). get_or l 5 cell) whole) in
     let layout : home.layout ≡ 1 = copy.layout in
     wrong
-    (record { from = subst (λ (k : ℕ). space_start size ≤ k) named copy.master_from; below = subst (λ (k : ℕ). k < size) named copy.master_below })
+    (record {
+      from = subst (λ (k : ℕ). space_start size ≤ k) named copy.master_from;
+      below = subst (λ (k : ℕ). k < size) named copy.master_below;
+    })
     (whole ∙ (λ i. filser_word ∷ layout i ∷ size ∷ table_blocks size ∷ log_images size ∷ named i ∷ replicate 122 0))
 
-pub valid_copy : (size n master : ℕ) (words : List ℕ) → InSpace size master → words ≡ home_block size (home_of_master master) → IsHomeCopy size (holds_words words) n (home_of_master master)
-valid_copy size n master words inside whole = record { words = ap Some whole; layout = refl; master_from = inside.from; master_below = inside.below }
+pub valid_copy : (size n master : ℕ) (words : List ℕ) → InSpace size master
+    → words ≡ home_block size (home_of_master master) → IsHomeCopy size (holds_words words) n (home_of_master master)
+valid_copy size n master words inside whole = record {
+  words = ap Some whole;
+  layout = refl;
+  master_from = inside.from;
+  master_below = inside.below;
+}
 
 -- what is found in the words of a block is found in the block
-pub found_in : (size : ℕ) (c : Contents) (n : ℕ) (words : List ℕ) (copy : HomeCopy) → c n ≡ Some words → IsFound size (holds_words words) n copy → IsFound size c n copy
-found_in size c n words (Valid master) is found = record { words = is ∙ found.words; layout = found.layout; master_from = found.master_from; master_below = found.master_below }
+pub found_in : (size : ℕ) (c : Contents) (n : ℕ) (words : List ℕ) (copy : HomeCopy) → c n ≡ Some words
+    → IsFound size (holds_words words) n copy → IsFound size c n copy
+found_in size c n words (Valid master) is found = record {
+  words = is ∙ found.words;
+  layout = found.layout;
+  master_from = found.master_from;
+  master_below = found.master_below;
+}
 found_in size c n words Named is found = (
   (found.0.0, is ∙ found.0.1),
-  λ home copy. found.1 home (record { words = sym is ∙ copy.words; layout = copy.layout; master_from = copy.master_from; master_below = copy.master_below }),
+  λ home copy. found.1 home (record {
+    words = sym is ∙ copy.words;
+    layout = copy.layout;
+    master_from = copy.master_from;
+    master_below = copy.master_below;
+  }),
 )
 found_in size c n words Unnamed is found = λ named. found (named.0, sym is ∙ named.1)
 
 -- words that were compared
-pub same_words : (words others : List ℕ) (answer : Bool) → answer ≡ pointwise (λ a b. a == b) words others → Decides answer (words ≡ others)
+pub same_words : (words others : List ℕ) (answer : Bool) → answer ≡ pointwise (λ a b. a == b) words others
+    → Decides answer (words ≡ others)
 same_words words others answer is = slice_eq-Decides {E = λ a b. a == b} (λ a b. Decides-eqb a b) words others answer is

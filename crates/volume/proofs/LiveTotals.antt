@@ -1,5 +1,7 @@
 -- Sums over what is kept in core: a slot that is another, and that no more blocks are in use than are booked.
-use Rattle.std.proofs.Common.{◌≡◌, ℕ, zero, suc, ◌+◌, ◌-◌, ◌<◌, ◌≤◌, ⊎_elim, Bool, true, false, cond, eqb, ltb, if◌then◌else◌, ◌==◌, List, [], ◌∷◌, length, Option, Some, None, IfSome, slice_index_or, refl, sym, ap, subst, ◌∙◌, arith, length-append, add-suc}
+use Rattle.std.proofs.Common.{◌≡◌, ℕ, zero, suc, ◌+◌, ◌-◌, ◌<◌, ◌≤◌, ⊎_elim, Bool, true, false, cond, eqb, ltb}
+use Rattle.std.proofs.Common.{if◌then◌else◌, ◌==◌, List, [], ◌∷◌, length, Option, Some, None, IfSome, slice_index_or}
+use Rattle.std.proofs.Common.{refl, sym, ap, subst, ◌∙◌, arith, length-append, add-suc}
 use Rattle.std.proofs.lemmas.Bool.{cases_lt}
 use Rattle.std.proofs.lemmas.Bool.Decides.{nat_tests}
 use Rattle.std.specs.List.{AllByRecursion}
@@ -12,8 +14,10 @@ use Rattle.alloctab.specs.TableState.{bit, holds, used, uses, used_in_space, spa
 use Rattle.retrieval.specs.Writing.{rib_count}
 use Rattle.volume.specs.declared.live.LiveVersion.{LiveVersion}
 use Rattle.volume.specs.declared.pending.PendingVersion.{PendingVersion}
-use Rattle.volume.specs.Known.{KnownVersion, KnownDirectory, blocks_reached, reaches_in_entries, reaches_in_known, known_reaches, cost_of_version, cost_of_directory, IsWholeVersion, IsWholeDirectory}
-use Rattle.volume.specs.Live.{VolumeCore, as_known, held_reaches, held_cost, pending_reaches, pending_cost, growths, IsWholePending, IsWholeCore}
+use Rattle.volume.specs.Known.{KnownVersion, KnownDirectory, blocks_reached, reaches_in_entries, reaches_in_known}
+use Rattle.volume.specs.Known.{known_reaches, cost_of_version, cost_of_directory, IsWholeVersion, IsWholeDirectory}
+use Rattle.volume.specs.Live.{VolumeCore, as_known, held_reaches, held_cost, pending_reaches, pending_cost, growths}
+use Rattle.volume.specs.Live.{IsWholePending, IsWholeCore}
 use Rattle.meaning.proofs.Counting.{below_sum, below_none}
 use Rattle.retrieval.proofs.Holding.{sum_le}
 
@@ -27,7 +31,8 @@ module _ {X : Type 0} (f : Option X → ℕ) (none : f None ≡ 0) where
       let rest = total_none xs (λ k. all (suc k)) in
       omega arith
 
-  total_same : (old new : List (Option X)) → ((k : ℕ) → slice_index_or new k None ≡ slice_index_or old k None) → total f new ≡ total f old
+  total_same : (old new : List (Option X)) → ((k : ℕ) → slice_index_or new k None ≡ slice_index_or old k None)
+      → total f new ≡ total f old
   total_same [] new same = total_none new same
   total_same (x ∷ xs) [] same = sym (total_none (x ∷ xs) (λ k. sym (same k)))
   total_same (x ∷ xs) (y ∷ ys) same =
@@ -35,7 +40,8 @@ module _ {X : Type 0} (f : Option X → ℕ) (none : f None ≡ 0) where
       let rest = total_same xs ys (λ k. same (suc k)) in
       omega arith
 
-  updated : (old new : List (Option X)) (key : ℕ) → ((k : ℕ) → (k ≡ key → ⊥) → slice_index_or new k None ≡ slice_index_or old k None)
+  updated : (old new : List (Option X)) (key : ℕ)
+      → ((k : ℕ) → (k ≡ key → ⊥) → slice_index_or new k None ≡ slice_index_or old k None)
       → total f new + f (slice_index_or old key None) ≡ total f old + f (slice_index_or new key None)
   updated [] [] key others = refl
   updated [] (y ∷ ys) zero others =
@@ -61,9 +67,11 @@ module _ {X : Type 0} (f : Option X → ℕ) (none : f None ≡ 0) where
       omega arith
 
 pub total_updated : {X : Type 0} (f : Option X → ℕ) → f None ≡ 0 → (old new : List (Option X)) (key : ℕ) (x : Option X)
-    → slice_index_or new key None ≡ x → ((k : ℕ) → (k ≡ key → ⊥) → slice_index_or new k None ≡ slice_index_or old k None)
+    → slice_index_or new key None ≡ x
+    → ((k : ℕ) → (k ≡ key → ⊥) → slice_index_or new k None ≡ slice_index_or old k None)
     → total f new + f (slice_index_or old key None) ≡ total f old + f x
-total_updated f none old new key x is others = let e = updated f none old new key others in let s = ap f is in omega arith
+total_updated f none old new key x is others = let e = updated f none old new key others in let s = ap f is in
+    omega arith
 
 -- Sums over a stretch of blocks, from s on, k of them.
 
@@ -89,36 +97,43 @@ stretch_times s k (x ∷ xs) =
     omega arith
 
 -- a version's blocks are no more than it costs
-version_reaches : (prime : ℕ) (v : KnownVersion) → IsWholeVersion v → length (blocks_reached prime v.version) ≤ cost_of_version v
+version_reaches : (prime : ℕ) (v : KnownVersion) → IsWholeVersion v
+    → length (blocks_reached prime v.version) ≤ cost_of_version v
 version_reaches prime v whole =
     let few = whole.few_ribs in
     let parts = length-append v.version.ribs v.version.blocks in
     omega arith
 
-stretch_version : (s k prime : ℕ) (v : KnownVersion) → IsWholeVersion v → sum_below (λ i. times (s + i) (blocks_reached prime v.version)) k ≤ cost_of_version v
+stretch_version : (s k prime : ℕ) (v : KnownVersion) → IsWholeVersion v
+    → sum_below (λ i. times (s + i) (blocks_reached prime v.version)) k ≤ cost_of_version v
 stretch_version s k prime v whole =
     let one = stretch_times s k (blocks_reached prime v.version) in
     let few = version_reaches prime v whole in
     omega arith
 
-stretch_entries : (s k : ℕ) (es : List FileEntry) (vs : List KnownVersion) → AllByRecursion IsWholeVersion vs → sum_below (λ i. reaches_in_entries (s + i) es vs) k ≤ total cost_of_version vs
+stretch_entries : (s k : ℕ) (es : List FileEntry) (vs : List KnownVersion) → AllByRecursion IsWholeVersion vs
+    → sum_below (λ i. reaches_in_entries (s + i) es vs) k ≤ total cost_of_version vs
 stretch_entries s k [] vs all = omega (arith, below_none k)
 stretch_entries s k (e ∷ es) [] all = omega (arith, below_none k)
 stretch_entries s k (e ∷ es) (v ∷ vs) all =
     let one = stretch_version s k e.1 v all.0 in
     let rest = stretch_entries s k es vs all.1 in
-    let parts = below_sum (λ i. times (s + i) (blocks_reached e.1 v.version)) (λ i. reaches_in_entries (s + i) es vs) k in
+    let parts = below_sum (λ i. times (s + i) (blocks_reached e.1 v.version))
+    (λ i. reaches_in_entries (s + i) es vs) k in
     omega arith
 
-stretch_directory : (size s k : ℕ) (d : KnownDirectory) → IsWholeDirectory size d → sum_below (λ i. reaches_in_known (s + i) d) k ≤ cost_of_directory d
+stretch_directory : (size s k : ℕ) (d : KnownDirectory) → IsWholeDirectory size d
+    → sum_below (λ i. reaches_in_known (s + i) d) k ≤ cost_of_directory d
 stretch_directory size s k d whole =
     let chain = stretch_times s k d.chain.blocks in
     let entries = stretch_entries s k d.chain.entries d.versions whole.versions in
-    let parts = below_sum (λ i. times (s + i) d.chain.blocks) (λ i. reaches_in_entries (s + i) d.chain.entries d.versions) k in
+    let parts = below_sum (λ i. times (s + i) d.chain.blocks)
+    (λ i. reaches_in_entries (s + i) d.chain.entries d.versions) k in
     omega arith
 
 -- a sum over a list in each block of the stretch
-stretch_total : {X : Type 0} (P : X → Type 0) (s k : ℕ) (g : ℕ → X → ℕ) (f : X → ℕ) → ((x : X) → P x → sum_below (λ i. g (s + i) x) k ≤ f x) → (xs : List X) → AllByRecursion P xs
+stretch_total : {X : Type 0} (P : X → Type 0) (s k : ℕ) (g : ℕ → X → ℕ) (f : X → ℕ)
+    → ((x : X) → P x → sum_below (λ i. g (s + i) x) k ≤ f x) → (xs : List X) → AllByRecursion P xs
     → sum_below (λ i. total (g (s + i)) xs) k ≤ total f xs
 stretch_total P s k g f each [] all = omega (arith, below_none k)
 stretch_total P s k g f each (x ∷ xs) all =
@@ -127,7 +142,8 @@ stretch_total P s k g f each (x ∷ xs) all =
     let parts = below_sum (λ i. g (s + i) x) (λ i. total (g (s + i)) xs) k in
     omega arith
 
-stretch_held : (s k : ℕ) (o : Option LiveVersion) → IfSome o (λ v. IsWholeVersion (as_known v)) → sum_below (λ i. held_reaches (s + i) o) k ≤ held_cost o
+stretch_held : (s k : ℕ) (o : Option LiveVersion) → IfSome o (λ v. IsWholeVersion (as_known v))
+    → sum_below (λ i. held_reaches (s + i) o) k ≤ held_cost o
 stretch_held s k None whole = omega (arith, below_none k)
 stretch_held s k (Some v) whole = by v.is_current refl
   where
@@ -140,7 +156,8 @@ abbrev pub pending_blocks : Option PendingVersion → ℕ
 pending_blocks None = 0
 pending_blocks (Some p) = length p.version.blocks
 
-stretch_pending : (size s k : ℕ) (o : Option PendingVersion) → IfSome o (IsWholePending size) → sum_below (λ i. pending_reaches (s + i) o) k ≤ pending_blocks o
+stretch_pending : (size s k : ℕ) (o : Option PendingVersion) → IfSome o (IsWholePending size)
+    → sum_below (λ i. pending_reaches (s + i) o) k ≤ pending_blocks o
 stretch_pending size s k None whole = omega (arith, below_none k)
 stretch_pending size s k (Some p) whole = stretch_times s k p.version.blocks
 
@@ -151,7 +168,8 @@ waiting_cost [] = omega arith
 waiting_cost (None ∷ os) = let rest = waiting_cost os in omega arith
 waiting_cost (Some p ∷ os) = let rest = waiting_cost os in omega arith
 
-waiting_one : (pending : List (Option PendingVersion)) (key : ℕ) (p : PendingVersion) → slice_index_or pending key None ≡ Some p → total pending_blocks pending + 1 ≤ total pending_cost pending
+waiting_one : (pending : List (Option PendingVersion)) (key : ℕ) (p : PendingVersion)
+    → slice_index_or pending key None ≡ Some p → total pending_blocks pending + 1 ≤ total pending_cost pending
 waiting_one [] key p is = cc
 waiting_one (None ∷ os) zero p is = cc
 waiting_one (None ∷ os) (suc key) p is = let rest = waiting_one os key p is in omega arith
@@ -159,7 +177,8 @@ waiting_one (Some q ∷ os) zero p is = let rest = waiting_cost os in omega arit
 waiting_one (Some q ∷ os) (suc key) p is = let rest = waiting_one os key p is in omega arith
 
 -- and as many more as they have ribs
-waiting_ribs : (pending : List (Option PendingVersion)) (key : ℕ) (p : PendingVersion) → slice_index_or pending key None ≡ Some p → total pending_blocks pending + (1 + rib_count (length p.version.blocks)) ≤ total pending_cost pending
+waiting_ribs : (pending : List (Option PendingVersion)) (key : ℕ) (p : PendingVersion) → slice_index_or pending key None
+    ≡ Some p → total pending_blocks pending + (1 + rib_count (length p.version.blocks)) ≤ total pending_cost pending
 waiting_ribs [] key p is = cc
 waiting_ribs (None ∷ os) zero p is = cc
 waiting_ribs (None ∷ os) (suc key) p is = let rest = waiting_ribs os key p is in omega arith
@@ -167,7 +186,8 @@ waiting_ribs (Some q ∷ os) zero p is =
     let rest = waiting_cost os in
     let same : q ≡ p = cc in
     let blocks = ap (λ (x : PendingVersion). length x.version.blocks) same in
-    subst (λ (n : ℕ). total pending_blocks (Some q ∷ os) + (1 + rib_count n) ≤ total pending_cost (Some q ∷ os)) blocks (omega arith)
+    subst (λ (n : ℕ). total pending_blocks (Some q ∷ os) + (1 + rib_count n) ≤ total pending_cost (Some q ∷ os)) blocks
+    (omega arith)
 waiting_ribs (Some q ∷ os) (suc key) p is = let rest = waiting_ribs os key p is in omega arith
 
 -- What is in use.
@@ -179,7 +199,9 @@ same_stretch : (f g : ℕ → ℕ) (k : ℕ) → ((i : ℕ) → f i ≡ g i) →
 same_stretch f g zero same = refl
 same_stretch f g (suc k) same = let a = same k in let r = same_stretch f g k same in omega arith
 
-uses_by : (size : ℕ) (c : VolumeCore) → IsWholeCore size c → (more : ℕ) → total pending_blocks c.pending + more ≤ growths c.pending c.known.master.entries c.known.directories + total pending_cost c.pending → uses c.known.table + more ≤ c.known.table.booked
+uses_by : (size : ℕ) (c : VolumeCore) → IsWholeCore size c → (more : ℕ)
+    → total pending_blocks c.pending + more ≤ growths c.pending c.known.master.entries c.known.directories
+    + total pending_cost c.pending → uses c.known.table + more ≤ c.known.table.booked
 uses_by size c whole more waits =
     let t = c.known.table in
     let s = space_start t.size in
@@ -194,35 +216,47 @@ uses_by size c whole more waits =
     omega arith in
     let parts = below_sum (λ i. bit t (s + i)) (λ i. holds t (s + i)) k in
     let sets = same_stretch (λ i. bit t (s + i)) (λ i. known_reaches (s + i) master directories) k set in
-    let helds = same_stretch (λ i. holds t (s + i)) (λ i. total (held_reaches (s + i)) c.live + total (pending_reaches (s + i)) c.pending) k (λ i. whole.held (s + i)) in
-    let apart = below_sum (λ i. total (held_reaches (s + i)) c.live) (λ i. total (pending_reaches (s + i)) c.pending) k in
-    let waiting = stretch_total (λ o. IfSome o (IsWholePending size)) s k pending_reaches pending_blocks (stretch_pending size s k) c.pending whole.waiting in
+    let helds = same_stretch (λ i. holds t (s + i)) (λ i. total (held_reaches (s + i)) c.live
+    + total (pending_reaches (s + i)) c.pending) k (λ i. whole.held (s + i)) in
+    let apart = below_sum (λ i. total (held_reaches (s + i)) c.live) (λ i. total (pending_reaches (s + i)) c.pending)
+    k in
+    let waiting = stretch_total (λ o. IfSome o (IsWholePending size)) s k pending_reaches pending_blocks
+    (stretch_pending size s k) c.pending whole.waiting in
     let chain = stretch_times s k master.blocks in
-    let each = stretch_total (IsWholeDirectory size) s k reaches_in_known cost_of_directory (λ d is. stretch_directory size s k d is) directories whole.map.each in
+    let each = stretch_total (IsWholeDirectory size) s k reaches_in_known cost_of_directory
+    (λ d is. stretch_directory size s k d is) directories whole.map.each in
     let both = below_sum (λ i. times (s + i) master.blocks) (λ i. total (reaches_in_known (s + i)) directories) k in
-    let held = stretch_total (λ o. IfSome o (λ v. IsWholeVersion (as_known v))) s k held_reaches held_cost (stretch_held s k) c.live whole.standing in
+    let held = stretch_total (λ o. IfSome o (λ v. IsWholeVersion (as_known v))) s k held_reaches held_cost
+    (stretch_held s k) c.live whole.standing in
     let booked = whole.booked in
     omega arith
 
 -- as often as the blocks of the free space are set or held, so many are booked
 pub core_uses : (size : ℕ) (c : VolumeCore) → IsWholeCore size c → uses c.known.table ≤ c.known.table.booked
-core_uses size c whole = let few = waiting_cost c.pending in let all = uses_by size c whole 0 (omega arith) in omega arith
+core_uses size c whole = let few = waiting_cost c.pending in let all = uses_by size c whole 0 (omega arith) in
+    omega arith
 
 -- and one more where a version is being written
-pub core_uses_one : (size : ℕ) (c : VolumeCore) → IsWholeCore size c → (key : ℕ) (p : PendingVersion) → slice_index_or c.pending key None ≡ Some p → uses c.known.table + 1 ≤ c.known.table.booked
+pub core_uses_one : (size : ℕ) (c : VolumeCore) → IsWholeCore size c → (key : ℕ) (p : PendingVersion)
+    → slice_index_or c.pending key None ≡ Some p → uses c.known.table + 1 ≤ c.known.table.booked
 core_uses_one size c whole key p is = let one = waiting_one c.pending key p is in uses_by size c whole 1 (omega arith)
 
 -- and as many as it still asks for, with what the directories grow by
-pub core_uses_more : (size : ℕ) (c : VolumeCore) → IsWholeCore size c → (key : ℕ) (p : PendingVersion) → slice_index_or c.pending key None ≡ Some p → (more : ℕ) → more ≤ growths c.pending c.known.master.entries c.known.directories
+pub core_uses_more : (size : ℕ) (c : VolumeCore) → IsWholeCore size c → (key : ℕ) (p : PendingVersion)
+    → slice_index_or c.pending key None ≡ Some p → (more : ℕ)
+    → more ≤ growths c.pending c.known.master.entries c.known.directories
     → uses c.known.table + (more + (1 + rib_count (length p.version.blocks))) ≤ c.known.table.booked
-core_uses_more size c whole key p is more few = let ribs = waiting_ribs c.pending key p is in uses_by size c whole (more + (1 + rib_count (length p.version.blocks))) (omega arith)
+core_uses_more size c whole key p is more few = let ribs = waiting_ribs c.pending key p is in
+    uses_by size c whole (more + (1 + rib_count (length p.version.blocks))) (omega arith)
 
 stretch_at : (f : ℕ → ℕ) (k i : ℕ) → i < k → f i ≤ sum_below f k
 stretch_at f zero i below = absurd (omega arith)
-stretch_at f (suc k) i below = ⊎_elim (λ less. let r = stretch_at f k i less in omega arith) (λ past. let same : i ≡ k = omega arith in let here = ap f same in omega arith) (cases_lt i k)
+stretch_at f (suc k) i below = ⊎_elim (λ less. let r = stretch_at f k i less in
+    omega arith) (λ past. let same : i ≡ k = omega arith in let here = ap f same in omega arith) (cases_lt i k)
 
 -- a block is held no more often than blocks are booked
-pub core_holds : (size : ℕ) (c : VolumeCore) → IsWholeCore size c → (n : ℕ) → holds c.known.table n ≤ c.known.table.booked
+pub core_holds : (size : ℕ) (c : VolumeCore) → IsWholeCore size c → (n : ℕ)
+    → holds c.known.table n ≤ c.known.table.booked
 core_holds size c whole n = ⊎_elim
     (λ some.
     let t = c.known.table in
@@ -233,7 +267,8 @@ core_holds size c whole n = ⊎_elim
     let starts = ap space_start same in
     let i = n - space_start t.size in
     let place : space_start t.size + i ≡ n = omega arith in
-    let part = stretch_at (λ k. bit t (space_start t.size + k) + holds t (space_start t.size + k)) (space t.size) i (omega arith) in
+    let part = stretch_at (λ k. bit t (space_start t.size + k) + holds t (space_start t.size + k)) (space t.size) i
+    (omega arith) in
     let here = ap (holds t) place in
     let all = core_uses size c whole in
     omega arith)
@@ -249,4 +284,5 @@ pub core_used : (size : ℕ) (c : VolumeCore) → IsWholeCore size c → used_in
 core_used size c whole =
     let t = c.known.table in
     let s = space_start t.size in
-    sum_le (λ i. used t (s + i)) (λ i. bit t (s + i) + holds t (s + i)) (space t.size) (λ i. used_once (bit t (s + i)) (holds t (s + i)))
+    sum_le (λ i. used t (s + i)) (λ i. bit t (s + i) + holds t (s + i)) (space t.size)
+    (λ i. used_once (bit t (s + i)) (holds t (s + i)))

@@ -1,5 +1,6 @@
 -- What holds of the entries of a list, each key once.
-use Rattle.std.proofs.Common.{◌≡◌, ℕ, ◌+◌, ◌<◌, List, [], ◌∷◌, ◌++◌, map, length, get_or, take, drop, Some, refl, sym, ap, subst, ◌∙◌, Ordering, arith, append_assoc}
+use Rattle.std.proofs.Common.{◌≡◌, ℕ, ◌+◌, ◌<◌, List, [], ◌∷◌, ◌++◌, map, length, get_or, take, drop, Some, refl, sym}
+use Rattle.std.proofs.Common.{ap, subst, ◌∙◌, Ordering, arith, append_assoc}
 use Rattle.std.proofs.lemmas.List.{take_more, take-append-drop, map-append}
 use Rattle.std.specs.Cmp.{IsTotalOrder}
 use Rattle.std.specs.FinMap.Entries.{find}
@@ -9,22 +10,26 @@ use Rattle.meaning.proofs.MapLists.{each_entry}
 use Rattle.meaning.proofs.Walking.{all_front, all_back}
 
 module _ {A B : Type 0} where
-  pub all_of_map : (P : B → Type 0) (f : A → B) (xs : List A) → AllByRecursion P (map f xs) → AllByRecursion (λ x. P (f x)) xs
+  pub all_of_map : (P : B → Type 0) (f : A → B) (xs : List A) → AllByRecursion P (map f xs)
+      → AllByRecursion (λ x. P (f x)) xs
   all_of_map P f [] all = tt
   all_of_map P f (x ∷ xs) all = (all.0, all_of_map P f xs all.1)
 
-  pub all_to_map : (P : B → Type 0) (f : A → B) (xs : List A) → AllByRecursion (λ x. P (f x)) xs → AllByRecursion P (map f xs)
+  pub all_to_map : (P : B → Type 0) (f : A → B) (xs : List A) → AllByRecursion (λ x. P (f x)) xs
+      → AllByRecursion P (map f xs)
   all_to_map P f [] all = tt
   all_to_map P f (x ∷ xs) all = (all.0, all_to_map P f xs all.1)
 
-  pub zip_behind : (P : A → B → Type 0) (xs : List A) (ys : List B) (x : A) (y : B) → AllZip P xs ys → P x y → AllZip P (xs ++ x ∷ []) (ys ++ y ∷ [])
+  pub zip_behind : (P : A → B → Type 0) (xs : List A) (ys : List B) (x : A) (y : B) → AllZip P xs ys → P x y
+      → AllZip P (xs ++ x ∷ []) (ys ++ y ∷ [])
   zip_behind P [] [] x y zip is = (is, tt)
   zip_behind P [] (b ∷ ys) x y zip is = absurd zip
   zip_behind P (a ∷ xs) [] x y zip is = absurd zip
   zip_behind P (a ∷ xs) (b ∷ ys) x y zip is = (zip.0, zip_behind P xs ys x y zip.1 is)
 
 module _ {A : Type 0} where
-  pub all_both : (P Q R : A → Type 0) (xs : List A) → ((x : A) → P x → Q x → R x) → AllByRecursion P xs → AllByRecursion Q xs → AllByRecursion R xs
+  pub all_both : (P Q R : A → Type 0) (xs : List A) → ((x : A) → P x → Q x → R x) → AllByRecursion P xs
+      → AllByRecursion Q xs → AllByRecursion R xs
   all_both P Q R [] join p q = tt
   all_both P Q R (x ∷ xs) join p q = (join x p.0 q.0, all_both P Q R xs join p.1 q.1)
 
@@ -48,19 +53,25 @@ module _ {A : Type 0} where
   total-map f g (x ∷ xs) = ap (λ n. f (g x) + n) (total-map f g xs)
 
 -- the entries of the beginning of a list are what is found at their keys in the whole
-pub found_in_front : {K V : Type 0} {R : K → K → Ordering} (o : IsTotalOrder R) (all front rest : List (K × V)) → all ≡ front ++ rest → EachOnce R all → AllByRecursion (λ e. find R e.0 all ≡ Some e.1) front
+pub found_in_front : {K V : Type 0} {R : K → K → Ordering} (o : IsTotalOrder R) (all front rest : List (K × V))
+    → all ≡ front ++ rest → EachOnce R all → AllByRecursion (λ e. find R e.0 all ≡ Some e.1) front
 found_in_front {R = R} o all front rest is once =
-    all_front (λ e. find R e.0 all ≡ Some e.1) front rest (subst (AllByRecursion (λ e. find R e.0 all ≡ Some e.1)) is (each_entry o (λ k y. find R k all ≡ Some y) all once (λ k y e. e)))
+    all_front (λ e. find R e.0 all ≡ Some e.1) front rest (subst (AllByRecursion (λ e. find R e.0 all ≡ Some e.1)) is
+    (each_entry o (λ k y. find R k all ≡ Some y) all once (λ k y e. e)))
 
 -- the elements that a loop has gone over, and the one that it is at
-module _ {A B : Type 0} (view : A → B) (xs : List A) (i : ℕ) (x : A) (below : i < length xs) (is : x ≡ get_or xs i x) where
+module _ {A B : Type 0} (view : A → B) (xs : List A) (i : ℕ) (x : A) (below : i < length xs) (is : x
+    ≡ get_or xs i x) where
   pub viewed_more : map view (take (i + 1) xs) ≡ map view (take i xs) ++ view x ∷ []
-  viewed_more = ap (map view) (take_more xs i x below ∙ ap (λ (y : A). take i xs ++ y ∷ []) (sym is)) ∙ map-append view (take i xs) (x ∷ [])
+  viewed_more = ap (map view) (take_more xs i x below ∙ ap (λ (y : A). take i xs ++ y ∷ []) (sym is))
+      ∙ map-append view (take i xs) (x ∷ [])
 
   pub viewed_split : map view xs ≡ map view (take i xs) ++ view x ∷ map view (drop (i + 1) xs)
   viewed_split =
       ap (map view) (sym (take-append-drop (i + 1) xs)) ∙ map-append view (take (i + 1) xs) (drop (i + 1) xs)
-      ∙ ap (λ (l : List B). l ++ map view (drop (i + 1) xs)) viewed_more ∙ append_assoc (map view (take i xs)) (view x ∷ []) (map view (drop (i + 1) xs))
+      ∙ ap (λ (l : List B). l ++ map view (drop (i + 1) xs)) viewed_more
+      ∙ append_assoc (map view (take i xs)) (view x ∷ []) (map view (drop (i + 1) xs))
 
   pub viewed_at : (P : B → Type 0) → AllByRecursion P (map view xs) → P (view x)
-  viewed_at P all = (all_back P (map view (take i xs)) (view x ∷ map view (drop (i + 1) xs)) (subst (AllByRecursion P) viewed_split all)).0
+  viewed_at P all = (all_back P (map view (take i xs)) (view x ∷ map view (drop (i + 1) xs))
+      (subst (AllByRecursion P) viewed_split all)).0

@@ -1,5 +1,8 @@
 -- A version that was being written becomes current in core: what its steps ask for.
-use Rattle.std.proofs.Common.{◌≡◌, ◌↔◌, ℕ, zero, suc, ◌+◌, ◌-◌, ◌*◌, ◌^◌, ◌<◌, ◌≤◌, ◌==◌, Bool, true, false, if◌then◌else◌, List, [], ◌∷◌, ◌++◌, map, length, slice_get, slice_index_or, get_or, option_to_list, Option, Some, None, IfSome, IsSome, IsTrue, is_none, refl, sym, ap, subst, ◌∙◌, arith}
+use Rattle.std.proofs.Common.{◌≡◌, ◌↔◌, ℕ, zero, suc, ◌+◌, ◌-◌, ◌*◌, ◌^◌, ◌<◌, ◌≤◌, ◌==◌, Bool, true, false}
+use Rattle.std.proofs.Common.{if◌then◌else◌, List, [], ◌∷◌, ◌++◌, map, length, slice_get, slice_index_or, get_or}
+use Rattle.std.proofs.Common.{option_to_list, Option, Some, None, IfSome, IsSome, IsTrue, is_none, refl, sym, ap, subst}
+use Rattle.std.proofs.Common.{◌∙◌, arith}
 use Rattle.std.proofs.Common.{append-nil}
 use Rattle.std.proofs.lemmas.List.{length-map}
 use Rattle.std.proofs.lemmas.Bool.Decides.{nat_tests}
@@ -23,8 +26,10 @@ use Rattle.volume.specs.declared.live.LiveVersion.{LiveVersion}
 use Rattle.volume.specs.declared.pending.PendingVersion.{PendingVersion}
 use Rattle.volume.specs.Beginning.{is_absent, IsDirectoryOf}
 use Rattle.volume.specs.Cores.{file_view, master_view}
-use Rattle.volume.specs.Known.{KnownDirectory, blocks_reached, cost_of_version, cost_of_directory, IsWholeDirectory, IsWholeVersion}
-use Rattle.volume.specs.Live.{VolumeCore, slot, pending_at, as_known, IsCurrent, IsKeyed, pending_reaches, pending_cost, creates, growths, IsWholeCore}
+use Rattle.volume.specs.Known.{KnownDirectory, blocks_reached, cost_of_version, cost_of_directory, IsWholeDirectory}
+use Rattle.volume.specs.Known.{IsWholeVersion}
+use Rattle.volume.specs.Live.{VolumeCore, slot, pending_at, as_known, IsCurrent, IsKeyed, pending_reaches, pending_cost}
+use Rattle.volume.specs.Live.{creates, growths, IsWholeCore}
 use Rattle.volume.specs.LiveCores.{core_of, live_directory}
 use Rattle.volume.specs.Publishing.{PutsVersionInUse, Retires, left_of, IsPlaced}
 use Rattle.volume.proofs.Beginnings.{same_directory}
@@ -49,13 +54,15 @@ index_of (y ∷ xs) zero x is = sym (some_same is)
 index_of (y ∷ xs) (suc i) x is = index_of xs i x is
 
 -- what stands at an index
-pub index_is : {X : Type 0} (xs : List X) (i : ℕ) (x e : X) → i < length xs → x ≡ slice_index_or xs i e → slice_get xs i ≡ Some x
+pub index_is : {X : Type 0} (xs : List X) (i : ℕ) (x e : X) → i < length xs → x ≡ slice_index_or xs i e
+    → slice_get xs i ≡ Some x
 index_is [] i x e below is = absurd (omega arith)
 index_is (y ∷ xs) zero x e below is = ap Some (sym is)
 index_is (y ∷ xs) (suc i) x e below is = index_is xs i x e (omega arith) is
 
 -- a directory is there, at the place of its entry
-module _ (m : LiveMap) (whole : IsWholeCore m.table.size (core_of m)) (ppn place : ℕ) (w : ℕ × ℕ) (stands : StandsAt nat_cmp (map master_view m.master.entries) ppn w place) where
+module _ (m : LiveMap) (whole : IsWholeCore m.table.size (core_of m)) (ppn place : ℕ) (w : ℕ
+    × ℕ) (stands : StandsAt nat_cmp (map master_view m.master.entries) ppn w place) where
   pub place_within : place < length m.directories.items
   place_within =
       let within = stands.within in
@@ -76,21 +83,27 @@ no_number None none = refl
 no_number (Some n) none = absurd (omega arith)
 
 -- what one directory grows by is a part of what all do
-share_within : (pending : List (Option PendingVersion)) (es : List MasterEntry) (ds : List KnownDirectory) (i k : ℕ) (w : ℕ × ℕ) (d : KnownDirectory) → slice_get es i ≡ Some (k, w) → slice_get ds i ≡ Some d → share pending k d ≤ growths pending es ds
+share_within : (pending : List (Option PendingVersion)) (es : List MasterEntry) (ds : List KnownDirectory)
+    (i k : ℕ) (w : ℕ × ℕ) (d : KnownDirectory) → slice_get es i ≡ Some (k, w) → slice_get ds i ≡ Some d
+    → share pending k d ≤ growths pending es ds
 share_within pending [] ds i k w d is at = cc
 share_within pending (e ∷ es) [] i k w d is at = cc
 share_within pending (e ∷ es) (x ∷ ds) zero k w d is at =
     let key : e.0 ≡ k = ap (λ (y : MasterEntry). y.0) (some_same is) in
     let same : share pending e.0 x ≡ share pending k d = λ j. share pending (key j) (some_same at j) in
     omega arith
-share_within pending (e ∷ es) (x ∷ ds) (suc i) k w d is at = let rest = share_within pending es ds i k w d is at in omega arith
+share_within pending (e ∷ es) (x ∷ ds) (suc i) k w d is at = let rest = share_within pending es ds i k w d is at in
+    omega arith
 
 -- a chain whose last block is full takes one more for the next entry
-full_grows : (entries blocks more : ℕ) → blocks ≡ directory_cost entries → entries ≡ 42 * blocks → 0 < more → 1 ≤ directory_cost (entries + more) - directory_cost entries
+full_grows : (entries blocks more : ℕ) → blocks ≡ directory_cost entries → entries ≡ 42 * blocks → 0 < more
+    → 1 ≤ directory_cost (entries + more) - directory_cost entries
 full_grows entries blocks more counted full some = grind (arith, nat_tests)
 
-module _ (m : LiveMap) (whole : IsWholeCore m.table.size (core_of m)) (key : ℕ) (p : PendingVersion) (was : pending_at m.pending.slots key ≡ Some p) (placed : IsPlaced (core_of m) p)
-    (place : ℕ) (w : ℕ × ℕ) (stands : StandsAt nat_cmp (map master_view m.master.entries) p.prime.ppn w place) (d : LiveDirectory) (at : slice_get m.directories.items place ≡ Some d) where
+module _ (m : LiveMap) (whole : IsWholeCore m.table.size (core_of m)) (key : ℕ) (p : PendingVersion)
+    (was : pending_at m.pending.slots key ≡ Some p) (placed : IsPlaced (core_of m) p)
+    (place : ℕ) (w : ℕ × ℕ) (stands : StandsAt nat_cmp (map master_view m.master.entries) p.prime.ppn w place)
+    (d : LiveDirectory) (at : slice_get m.directories.items place ≡ Some d) where
   abbrev c : VolumeCore
   c = core_of m
 
@@ -107,7 +120,8 @@ module _ (m : LiveMap) (whole : IsWholeCore m.table.size (core_of m)) (key : ℕ
   is_directory = (place, w, stands, known_place)
 
   pub placed_here : placed.directory ≡ dk
-  placed_here = same_directory m.table.size c p.prime.ppn place w placed.directory dk whole placed.there stands.is known_place
+  placed_here = same_directory m.table.size c p.prime.ppn place w placed.directory dk whole placed.there
+      stands.is known_place
 
   pub new_here : p.is_new ≡ is_absent p.prime.file dk
   new_here = placed.is_new ∙ ap (is_absent p.prime.file) placed_here
@@ -144,22 +158,29 @@ module _ (m : LiveMap) (whole : IsWholeCore m.table.size (core_of m)) (key : ℕ
       let here = ap pending_cost was in
       whole.within (omega arith)
 
-  grown_booked : (grows : Bool) → (IsTrue grows ↔ TakesBlock name_cmp dk.chain p.prime.file) → (if grows then 1 else 0) ≤ growths c.pending c.known.master.entries c.known.directories
+  grown_booked : (grows : Bool) → (IsTrue grows ↔ TakesBlock name_cmp dk.chain p.prime.file)
+      → (if grows then 1 else 0) ≤ growths c.pending c.known.master.entries c.known.directories
   grown_booked false takes = omega arith
   grown_booked true takes =
       let full = takes.0 refl in
       let new : p.is_new ≡ true = new_here ∙ ap is_none full.0 in
       let part = total_at (creates p.prime.ppn) refl c.pending key in
       let here = ap (creates p.prime.ppn) was in
-      let one : creates p.prime.ppn (Some p) ≡ 1 = ap (λ (b : Bool). if b then (if p.prime.ppn == p.prime.ppn then 1 else 0) else 0) new ∙ itself p.prime.ppn in
-      let within = share_within c.pending c.known.master.entries c.known.directories place p.prime.ppn w dk stands.is known_place in
-      let more = full_grows (length dk.chain.entries) (length dk.chain.blocks) (total (creates p.prime.ppn) c.pending) whole_here.chain.counted full.1 (omega arith) in
+      let one : creates p.prime.ppn (Some p)
+      ≡ 1 = ap (λ (b : Bool). if b then (if p.prime.ppn == p.prime.ppn then 1 else 0) else 0) new
+      ∙ itself p.prime.ppn in
+      let within = share_within c.pending c.known.master.entries c.known.directories place p.prime.ppn
+      w dk stands.is known_place in
+      let more = full_grows (length dk.chain.entries) (length dk.chain.blocks)
+      (total (creates p.prime.ppn) c.pending) whole_here.chain.counted full.1 (omega arith) in
       omega arith
     where
       itself : (n : ℕ) → ◌≡◌ {A = ℕ} (if n == n then 1 else 0) 1
       itself n = grind (arith, nat_tests)
 
-  pub blocks_booked : (grows : Bool) (ribs : ℕ) → (IsTrue grows ↔ TakesBlock name_cmp dk.chain p.prime.file) → ribs ≡ rib_count (length p.version.blocks) → used_in_space m.table + (if grows then 1 else 0) + (1 + ribs) ≤ m.table.booked
+  pub blocks_booked : (grows : Bool) (ribs : ℕ) → (IsTrue grows ↔ TakesBlock name_cmp dk.chain p.prime.file)
+      → ribs ≡ rib_count (length p.version.blocks) → used_in_space m.table + (if grows then 1 else 0) + (1 + ribs)
+      ≤ m.table.booked
   blocks_booked grows ribs takes many =
       let all = core_uses_more m.table.size c whole key p was (if grows then 1 else 0) (grown_booked grows takes) in
       let most = core_used m.table.size c whole in
@@ -175,26 +196,38 @@ module _ (m : LiveMap) (whole : IsWholeCore m.table.size (core_of m)) (key : ℕ
 
   -- The version that the name had.
 
-  pub old_version : (i v k : ℕ) → StandsAt name_cmp (map file_view d.chain.entries) p.prime.file v i → slice_get d.keys.items i ≡ Some k
-      → (u : LiveVersion) × (slot m.versions.slots k ≡ Some u) × (u.is_current ≡ true) × (u.at ≡ v) × (slice_get dk.versions i ≡ Some (as_known u))
+  pub old_version : (i v k : ℕ) → StandsAt name_cmp (map file_view d.chain.entries) p.prime.file v i
+      → slice_get d.keys.items i ≡ Some k
+      → (u : LiveVersion) × (slot m.versions.slots k ≡ Some u) × (u.is_current ≡ true) × (u.at ≡ v)
+      × (slice_get dk.versions i ≡ Some (as_known u))
   old_version i v k named is =
-      let pair = zip_at (λ (e : FileEntry) (n : ℕ). IsCurrent c.live n e.1) dk.chain.entries d.keys.items i k keyed_here is in
+      let pair = zip_at (λ (e : FileEntry) (n : ℕ). IsCurrent c.live n e.1) dk.chain.entries d.keys.items
+      i k keyed_here is in
       let entry : pair.0 ≡ (p.prime.file, v) = some_same (sym pair.1 ∙ named.is) in
       let current = pair.2 in
-      let kept = kept_at c.live dk.chain.entries d.keys.items i k 0 keyed_here named.within (index_of d.keys.items i k is) in
-      let same : kept.0 ≡ current.version = some_same (sym kept.1 ∙ current.there) in
-      (current.version, current.there, current.current, current.at ∙ ap (λ (e : FileEntry). e.1) entry, kept.2 ∙ ap (λ (x : LiveVersion). Some (as_known x)) same)
+      let kept = kept_at c.live dk.chain.entries d.keys.items i k 0 keyed_here named.within
+      (index_of d.keys.items i k is) in
+      let same : kept.0 ≡ current.version = some_same (sym kept.1 ∙ current.there) in (
+        current.version,
+        current.there,
+        current.current,
+        current.at ∙ ap (λ (e : FileEntry). e.1) entry,
+        kept.2 ∙ ap (λ (x : LiveVersion). Some (as_known x)) same,
+      )
 
-  pub old_set : (k : ℕ) (u : LiveVersion) → slot m.versions.slots k ≡ Some u → u.is_current ≡ true → (n : ℕ) → times n (blocks_reached u.at u.version) ≤ bit m.table n
+  pub old_set : (k : ℕ) (u : LiveVersion) → slot m.versions.slots k ≡ Some u → u.is_current ≡ true → (n : ℕ)
+      → times n (blocks_reached u.at u.version) ≤ bit m.table n
   old_set k u there current n =
       let stand = current_stands m.table.size c whole k u there current n in
       let bits = whole.map.bits n in
       omega arith
 
   pub old_few : (k : ℕ) (u : LiveVersion) → slot m.versions.slots k ≡ Some u → length u.version.blocks ≤ most_blocks
-  old_few k u there = few_blocks (as_known u) (standing_at (λ v. IsWholeVersion (as_known v)) m.versions.slots k u whole.standing there)
+  old_few k u there = few_blocks (as_known u)
+      (standing_at (λ v. IsWholeVersion (as_known v)) m.versions.slots k u whole.standing there)
 
-  pub old_booked : (i : ℕ) (u : LiveVersion) → slice_get dk.versions i ≡ Some (as_known u) → cost_of_blocks (length u.version.blocks) ≤ m.table.booked
+  pub old_booked : (i : ℕ) (u : LiveVersion) → slice_get dk.versions i ≡ Some (as_known u)
+      → cost_of_blocks (length u.version.blocks) ≤ m.table.booked
   old_booked i u is =
       let one = part_of cost_of_version dk.versions i (as_known u) is in
       let all = part_of cost_of_directory c.known.directories place dk known_place in
@@ -210,17 +243,24 @@ module _ (m : LiveMap) (whole : IsWholeCore m.table.size (core_of m)) (key : ℕ
 
   -- What follows for the version before, once the new one has a key and its blocks are in use.
   module _ (o : Option ℕ) (name : FileName) (same : name ≡ p.prime.file) (now : List ℕ → ℕ → Type 0)
-      (replaced : IfSome o (λ k. (i : ℕ) × (v : ℕ) × StandsAt name_cmp (map file_view d.chain.entries) name v i × (slice_get d.keys.items i ≡ Some k) × now d.keys.items i))
-      (versions : List (Option LiveVersion)) (stay : (k : ℕ) (v : LiveVersion) → slot m.versions.slots k ≡ Some v → slot versions k ≡ Some v)
-      (t : TableState) (grown : List ℕ) (prime : ℕ) (ver : VersionState) (puts_in_use : PutsVersionInUse m.table t grown prime ver) where
+      (replaced : IfSome o (λ k. (i : ℕ) × (v : ℕ) × StandsAt name_cmp (map file_view d.chain.entries) name v i
+      × (slice_get d.keys.items i ≡ Some k) × now d.keys.items i))
+      (versions : List (Option LiveVersion)) (stay : (k : ℕ) (v : LiveVersion) → slot m.versions.slots k ≡ Some v
+      → slot versions k ≡ Some v)
+      (t : TableState) (grown : List ℕ) (prime : ℕ) (ver : VersionState)
+      (puts_in_use : PutsVersionInUse m.table t grown prime ver) where
     -- the one under that key
     abbrev OldAt : ℕ → Type 0
-    OldAt k = (u : LiveVersion) × (slot m.versions.slots k ≡ Some u) × (slot versions k ≡ Some u) × (u.is_current ≡ true) × (i : ℕ) × (slice_get dk.versions i ≡ Some (as_known u))
+    OldAt k = (u : LiveVersion) × (slot m.versions.slots k ≡ Some u) × (slot versions k ≡ Some u)
+        × (u.is_current ≡ true) × (i : ℕ) × (slice_get dk.versions i ≡ Some (as_known u))
 
-    old_at : (q : Option ℕ) → IfSome q (λ k. (i : ℕ) × (v : ℕ) × StandsAt name_cmp (map file_view d.chain.entries) name v i × (slice_get d.keys.items i ≡ Some k) × now d.keys.items i) → IfSome q OldAt
+    old_at : (q : Option ℕ) → IfSome q (λ k. (i : ℕ) × (v : ℕ)
+        × StandsAt name_cmp (map file_view d.chain.entries) name v i × (slice_get d.keys.items i ≡ Some k)
+        × now d.keys.items i) → IfSome q OldAt
     old_at None none = tt
     old_at (Some k) is =
-        let u = old_version is.0 is.1 k (subst (λ n. StandsAt name_cmp (map file_view d.chain.entries) n is.1 is.0) same is.2) is.3 in
+        let u = old_version is.0 is.1 k
+        (subst (λ n. StandsAt name_cmp (map file_view d.chain.entries) n is.1 is.0) same is.2) is.3 in
         (u.0, u.1, stay k u.0 u.1, u.2, is.0, u.4)
 
     by_slot : (P : LiveVersion → Type 0) (q : Option LiveVersion) (u : LiveVersion) → q ≡ Some u → P u → IfSome q P
@@ -237,8 +277,10 @@ module _ (m : LiveMap) (whole : IsWholeCore m.table.size (core_of m)) (key : ℕ
     pub retires_there : IfSome o (λ k. IsSome (slot versions k))
     retires_there = each_old (λ k. IsSome (slot versions k)) (λ k is. subst IsSome (sym is.2) refl)
 
-    pub retires_set : IfSome o (λ k. IfSome (slot versions k) (λ v. (n : ℕ) → times n (blocks_reached v.at v.version) ≤ bit t n))
-    retires_set = each_old (λ k. IfSome (slot versions k) (λ v. (n : ℕ) → times n (blocks_reached v.at v.version) ≤ bit t n))
+    pub retires_set : IfSome o (λ k. IfSome (slot versions k) (λ v. (n : ℕ)
+        → times n (blocks_reached v.at v.version) ≤ bit t n))
+    retires_set = each_old (λ k. IfSome (slot versions k) (λ v. (n : ℕ)
+        → times n (blocks_reached v.at v.version) ≤ bit t n))
         (λ k is. by_slot (λ v. (n : ℕ) → times n (blocks_reached v.at v.version) ≤ bit t n) (slot versions k) is.0 is.2
         (λ n. let set = old_set k is.0 is.1 is.3 n in let more = puts_in_use.bits n in omega arith))
 
@@ -246,25 +288,31 @@ module _ (m : LiveMap) (whole : IsWholeCore m.table.size (core_of m)) (key : ℕ
     retires_few = each_old (λ k. IfSome (slot versions k) (λ v. length v.version.blocks ≤ most_blocks))
         (λ k is. by_slot (λ v. length v.version.blocks ≤ most_blocks) (slot versions k) is.0 is.2 (old_few k is.0 is.1))
 
-    pub retires_booked : IfSome o (λ k. IfSome (slot versions k) (λ v. cost_of_blocks (length v.version.blocks) ≤ t.booked))
+    pub retires_booked : IfSome o (λ k. IfSome (slot versions k) (λ v. cost_of_blocks (length v.version.blocks)
+        ≤ t.booked))
     retires_booked = each_old (λ k. IfSome (slot versions k) (λ v. cost_of_blocks (length v.version.blocks) ≤ t.booked))
         (λ k is. by_slot (λ v. cost_of_blocks (length v.version.blocks) ≤ t.booked) (slot versions k) is.0 is.2
         (let booked = old_booked is.4 is.0 is.5 in let kept = puts_in_use.booked in omega arith))
 
     pub retires_fits : IfSome o (λ k. (n : ℕ) → holds t n + 1 < 2 ^ 32)
-    retires_fits = each_old (λ k. (n : ℕ) → holds t n + 1 < 2 ^ 32) (λ k is n. let few = holds_few n in let less = puts_in_use.held n in omega arith)
+    retires_fits = each_old (λ k. (n : ℕ) → holds t n + 1 < 2 ^ 32) (λ k is n. let few = holds_few n in
+        let less = puts_in_use.held n in omega arith)
 
     -- the new version stands under its key, whatever becomes of the old one
-    pub new_stands : (after : List (Option LiveVersion)) (new_key : ℕ) (new : LiveVersion) → slot m.versions.slots new_key ≡ None → slot versions new_key ≡ Some new
-        → ((k j : ℕ) → o ≡ Some k → (j ≡ k → ⊥) → slot after j ≡ slot versions j) → (o ≡ None → after ≡ versions) → slot after new_key ≡ Some new
+    pub new_stands : (after : List (Option LiveVersion)) (new_key : ℕ) (new : LiveVersion)
+        → slot m.versions.slots new_key ≡ None → slot versions new_key ≡ Some new
+        → ((k j : ℕ) → o ≡ Some k → (j ≡ k → ⊥) → slot after j ≡ slot versions j) → (o ≡ None → after ≡ versions)
+        → slot after new_key ≡ Some new
     new_stands after new_key new vacant there others none = by o refl (old_at o replaced)
       where
         by : (q : Option ℕ) → o ≡ q → IfSome q OldAt → slot after new_key ≡ Some new
         by None is is_old = ap (λ l. slot l new_key) (none is) ∙ there
-        by (Some k) is is_old = others k new_key is (λ same. some_none (sym is_old.1 ∙ ap (slot m.versions.slots) (sym same) ∙ vacant)) ∙ there
+        by (Some k) is is_old = others k new_key is (λ same. some_none (sym is_old.1
+            ∙ ap (slot m.versions.slots) (sym same) ∙ vacant)) ∙ there
 
     -- the table is sound at the end
-    pub retired_sound : (after : TableState) → ((k : ℕ) (v : LiveVersion) → o ≡ Some k → slot versions k ≡ Some v → Retires t after v (left_of (Some (k, v)))) → (o ≡ None → after ≡ t) → IsTable after
+    pub retired_sound : (after : TableState) → ((k : ℕ) (v : LiveVersion) → o ≡ Some k → slot versions k ≡ Some v
+        → Retires t after v (left_of (Some (k, v)))) → (o ≡ None → after ≡ t) → IsTable after
     retired_sound after retired none = by o refl (old_at o replaced)
       where
         by : (q : Option ℕ) → o ≡ q → IfSome q OldAt → IsTable after
@@ -272,25 +320,37 @@ module _ (m : LiveMap) (whole : IsWholeCore m.table.size (core_of m)) (key : ℕ
         by (Some k) is is_old = (retired k is_old.0 is is_old.2).marks.sound
 
   -- the chain has its block more where it grows
-  pub chain_grown : (grows : Bool) (o : Option ℕ) (name : FileName) (blocks : List ℕ) → name ≡ p.prime.file → (IsTrue grows ↔ TakesBlock name_cmp dk.chain p.prime.file) → length (option_to_list o) ≡ (if grows then 1 else 0)
-      → ((TakesBlock name_cmp dk.chain name → ⊥) → blocks ≡ d.chain.blocks) → ((n : ℕ) → TakesBlock name_cmp dk.chain name → o ≡ Some n → blocks ≡ d.chain.blocks ++ n ∷ []) → blocks ≡ d.chain.blocks ++ option_to_list o
+  pub chain_grown : (grows : Bool) (o : Option ℕ) (name : FileName) (blocks : List ℕ) → name ≡ p.prime.file
+      → (IsTrue grows ↔ TakesBlock name_cmp dk.chain p.prime.file)
+      → length (option_to_list o) ≡ (if grows then 1 else 0)
+      → ((TakesBlock name_cmp dk.chain name → ⊥) → blocks ≡ d.chain.blocks)
+      → ((n : ℕ) → TakesBlock name_cmp dk.chain name → o ≡ Some n → blocks ≡ d.chain.blocks ++ n ∷ [])
+      → blocks ≡ d.chain.blocks ++ option_to_list o
   chain_grown true o name blocks same takes count stays more =
       let one = one_number o count in
-      more one.0 (subst (TakesBlock name_cmp dk.chain) (sym same) (takes.0 refl)) one.1 ∙ ap (λ (q : Option ℕ). d.chain.blocks ++ option_to_list q) (sym one.1)
+      more one.0 (subst (TakesBlock name_cmp dk.chain) (sym same) (takes.0 refl)) one.1
+      ∙ ap (λ (q : Option ℕ). d.chain.blocks ++ option_to_list q) (sym one.1)
   chain_grown false o name blocks same takes count stays more =
-      stays (λ full. let yes : false ≡ true = takes.1 (subst (TakesBlock name_cmp dk.chain) same full) in cc) ∙ sym (ap (λ (ns : List ℕ). d.chain.blocks ++ ns) (no_number o count) ∙ append-nil d.chain.blocks)
+      stays (λ full. let yes : false ≡ true = takes.1 (subst (TakesBlock name_cmp dk.chain) same full) in cc)
+      ∙ sym (ap (λ (ns : List ℕ). d.chain.blocks ++ ns) (no_number o count) ∙ append-nil d.chain.blocks)
 
   -- that block stands in no chain
-  pub grown_free : (grows : Bool) (o : Option ℕ) (name : FileName) (t : TableState) (prime : ℕ) (ver : VersionState) → name ≡ p.prime.file → (IsTrue grows ↔ TakesBlock name_cmp dk.chain p.prime.file) → length (option_to_list o) ≡ (if grows then 1 else 0)
-      → PutsVersionInUse m.table t (option_to_list o) prime ver → TakesBlock name_cmp dk.chain name → (n : ℕ) × (o ≡ Some n) × (times n d.chain.blocks ≡ 0)
-  grown_free grows o name t prime ver same takes count puts_in_use full = by grows (takes.1 (subst (TakesBlock name_cmp dk.chain) same full)) count
+  pub grown_free : (grows : Bool) (o : Option ℕ) (name : FileName) (t : TableState) (prime : ℕ) (ver : VersionState)
+      → name ≡ p.prime.file → (IsTrue grows ↔ TakesBlock name_cmp dk.chain p.prime.file)
+      → length (option_to_list o) ≡ (if grows then 1 else 0)
+      → PutsVersionInUse m.table t (option_to_list o) prime ver → TakesBlock name_cmp dk.chain name
+      → (n : ℕ) × (o ≡ Some n) × (times n d.chain.blocks ≡ 0)
+  grown_free grows o name t prime ver same takes count puts_in_use full = by grows
+      (takes.1 (subst (TakesBlock name_cmp dk.chain) same full)) count
     where
-      by : (b : Bool) → IsTrue b → length (option_to_list o) ≡ (if b then 1 else 0) → (n : ℕ) × (o ≡ Some n) × (times n d.chain.blocks ≡ 0)
+      by : (b : Bool) → IsTrue b → length (option_to_list o) ≡ (if b then 1 else 0) → (n : ℕ) × (o ≡ Some n)
+          × (times n d.chain.blocks ≡ 0)
       by false holds count = cc
       by true holds count =
           let one = one_number o count in
           let list : option_to_list o ≡ one.0 ∷ [] = ap option_to_list one.1 in
-          let here : times one.0 (option_to_list o ++ prime ∷ ver.ribs) ≡ times one.0 (one.0 ∷ prime ∷ ver.ribs) = ap (λ (ns : List ℕ). times one.0 (ns ++ prime ∷ ver.ribs)) list in
+          let here : times one.0 (option_to_list o ++ prime ∷ ver.ribs)
+          ≡ times one.0 (one.0 ∷ prime ∷ ver.ribs) = ap (λ (ns : List ℕ). times one.0 (ns ++ prime ∷ ver.ribs)) list in
           let first = times_head one.0 one.0 (prime ∷ ver.ribs) refl in
           (one.0, one.1, free_elsewhere one.0 (puts_in_use.free one.0 (omega arith)).0.clear)
 

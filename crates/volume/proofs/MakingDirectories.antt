@@ -1,5 +1,7 @@
 -- What a call that makes a directory says of the disk, from what is known of core and of its calls.
-use Rattle.std.proofs.Common.{◌≡◌, ℕ, ◌+◌, ◌<◌, ◌≤◌, ◌⊎◌, inl, inr, ⊎_elim, Bool, true, false, List, [], ◌∷◌, ◌++◌, length, replicate, slice_index, ◌-◌, Option, Some, None, Err, IsErrOf, refl, sym, ◌∙◌, ap, subst, arith}
+use Rattle.std.proofs.Common.{◌≡◌, ℕ, ◌+◌, ◌<◌, ◌≤◌, ◌⊎◌, inl, inr, ⊎_elim, Bool, true, false, List, [], ◌∷◌, ◌++◌}
+use Rattle.std.proofs.Common.{length, replicate, slice_index, ◌-◌, Option, Some, None, Err, IsErrOf, refl, sym, ◌∙◌, ap}
+use Rattle.std.proofs.Common.{subst, arith}
 use Rattle.std.proofs.Common.{length-append}
 use Rattle.std.proofs.lemmas.Bool.{cases_eq}
 use Rattle.std.specs.List.{AllByRecursion, AllZip}
@@ -28,8 +30,10 @@ use Rattle.changeset.specs.PutLaws.{times_head, times_tail, with_puts_here, with
 use Rattle.changeset.specs.Rest.{AtRest, SettlesTo}
 use Rattle.alloctab.specs.TableState.{bit, holds, space, IsFree}
 use Rattle.retrieval.specs.Writing.{IsFixed}
-use Rattle.volume.specs.Known.{KnownDirectory, Known, IsHeld, reaches_in_entries, reaches_in_known, known_reaches, IsWholeDirectory, IsWholeMap, cost_of_directory, cost_of_known}
-use Rattle.volume.specs.Live.{VolumeCore, IsKeyed, AreStanding, held_reaches, held_cost, current_reaches, entry_reaches, pending_reaches, pending_cost, creates, growths, AreWaiting, IsWholeCore}
+use Rattle.volume.specs.Known.{KnownDirectory, Known, IsHeld, reaches_in_entries, reaches_in_known, known_reaches}
+use Rattle.volume.specs.Known.{IsWholeDirectory, IsWholeMap, cost_of_directory, cost_of_known}
+use Rattle.volume.specs.Live.{VolumeCore, IsKeyed, AreStanding, held_reaches, held_cost, current_reaches, entry_reaches}
+use Rattle.volume.specs.Live.{pending_reaches, pending_cost, creates, growths, AreWaiting, IsWholeCore}
 use Rattle.volume.specs.declared.pending.PendingVersion.{PendingVersion}
 use Rattle.volume.specs.Making.{LeadsTo, IsAligned, bare_known, entry_made, map_made, files_made, IsMade}
 use Rattle.volume.specs.Rest.{IsAtRest, IsSound, RestsAt, StandsForEither}
@@ -46,42 +50,60 @@ pub err_on : {T U E : Type 0} (x y : E) → IsErrOf {T = T} (Err x) y → IsErrO
 err_on x y is = let same : x ≡ y = cc in ap (λ e. Err e) same
 
 -- the files of the map are those that the disk is said to stand for
-pub files_are : (s : DiskState) (k : Known) (m : DiskMap) (f : Files File) → AtRest s (IsHeld s.size k m) → RestsAt s f → files_of m ≡ f
-files_are s k m f rest rests = stands_same s.size s.contents (files_of m) f (m, (rest.all s.contents (λ n closed. refl)).stands, refl) (rests.all s.contents (λ n closed. refl))
+pub files_are : (s : DiskState) (k : Known) (m : DiskMap) (f : Files File) → AtRest s (IsHeld s.size k m)
+    → RestsAt s f → files_of m ≡ f
+files_are s k m f rest rests = stands_same s.size s.contents (files_of m) f
+    (m, (rest.all s.contents (λ n closed. refl)).stands, refl) (rests.all s.contents (λ n closed. refl))
 
-pub crash_for : (s s' : DiskState) (k k' : Known) (m m' : DiskMap) (f f' : Files File) → files_of m ≡ f → files_of m' ≡ f'
-    → LeavesOnly s s' (λ c. SettlesTo s.size (IsHeld s.size k m) c ⊎ SettlesTo s.size (IsHeld s.size k' m') c) → LeavesOnly s s' (StandsForEither s.size f f')
+pub crash_for : (s s' : DiskState) (k k' : Known) (m m' : DiskMap) (f f' : Files File) → files_of m ≡ f
+    → files_of m' ≡ f'
+    → LeavesOnly s s' (λ c. SettlesTo s.size (IsHeld s.size k m) c ⊎ SettlesTo s.size (IsHeld s.size k' m') c)
+    → LeavesOnly s s' (StandsForEither s.size f f')
 crash_for s s' k k' m m' f f' is is' leaves =
-    leaves_weaker s s' (λ c. SettlesTo s.size (IsHeld s.size k m) c ⊎ SettlesTo s.size (IsHeld s.size k' m') c) (StandsForEither s.size f f') leaves
-    (λ c. ⊎_elim (λ old. inl (old.0, old.1, (m, old.2.stands, is))) (λ new. inr (new.0, new.1, (m', new.2.stands, is'))))
+    leaves_weaker s s' (λ c. SettlesTo s.size (IsHeld s.size k m) c ⊎ SettlesTo s.size (IsHeld s.size k' m') c)
+    (StandsForEither s.size f f') leaves
+    (λ c. ⊎_elim (λ old. inl (old.0, old.1, (m, old.2.stands, is)))
+    (λ new. inr (new.0, new.1, (m', new.2.stands, is'))))
 
-pub rest_for : (s s' : DiskState) (k' : Known) (m' : DiskMap) (f' : Files File) → s'.size ≡ s.size → files_of m' ≡ f' → AtRest s' (IsHeld s.size k' m') → RestsAt s' f'
+pub rest_for : (s s' : DiskState) (k' : Known) (m' : DiskMap) (f' : Files File) → s'.size ≡ s.size → files_of m' ≡ f'
+    → AtRest s' (IsHeld s.size k' m') → RestsAt s' f'
 rest_for s s' k' m' f' size is rest = record {
   shut = rest.shut;
   all = λ c left. (m', (subst (λ (b : ℕ). IsHeld b k' m' c) (sym size) (rest.all c left)).stands, is);
 }
 
-pub sound_for : (s s' : DiskState) (c' : VolumeCore) (failed : Bool) → s'.size ≡ s.size → IsWholeCore s.size c' → (s'.honest → failed ≡ false → HaveBodies s'.contents c') → (s'.honest → failed ≡ false → (m' : DiskMap) × AtRest s' (IsHeld s.size c'.known m')) → IsSound s' c' failed
+pub sound_for : (s s' : DiskState) (c' : VolumeCore) (failed : Bool) → s'.size ≡ s.size → IsWholeCore s.size c'
+    → (s'.honest → failed ≡ false → HaveBodies s'.contents c')
+    → (s'.honest → failed ≡ false → (m' : DiskMap) × AtRest s' (IsHeld s.size c'.known m')) → IsSound s' c' failed
 sound_for s s' c' failed size whole bodies rest = record {
   whole = subst (λ (b : ℕ). IsWholeCore b c') (sym size) whole;
   read = λ h ok. (bodies h ok).read;
   written = λ h ok. (bodies h ok).written;
-  rest = λ h ok. let r = rest h ok in record { map = r.0; rest = subst (λ (b : ℕ). AtRest s' (IsHeld b c'.known r.0)) (sym size) r.1 };
+  rest = λ h ok. let r = rest h ok in
+      record { map = r.0; rest = subst (λ (b : ℕ). AtRest s' (IsHeld b c'.known r.0)) (sym size) r.1 };
 }
 
 -- a sound volume that has failed stays sound, whatever the disk does
-pub sound_failed : (s s' : DiskState) (c' : VolumeCore) (failed : Bool) → s'.size ≡ s.size → IsWholeCore s.size c' → failed ≡ true → IsSound s' c' failed
-sound_failed s s' c' failed size whole gone = record { whole = subst (λ (b : ℕ). IsWholeCore b c') (sym size) whole; rest = λ h ok. absurd (apart (sym gone ∙ ok)); read = λ h ok. absurd (apart (sym gone ∙ ok)); written = λ h ok. absurd (apart (sym gone ∙ ok)) }
+pub sound_failed : (s s' : DiskState) (c' : VolumeCore) (failed : Bool) → s'.size ≡ s.size → IsWholeCore s.size c'
+    → failed ≡ true → IsSound s' c' failed
+sound_failed s s' c' failed size whole gone = record {
+  whole = subst (λ (b : ℕ). IsWholeCore b c') (sym size) whole;
+  rest = λ h ok. absurd (apart (sym gone ∙ ok));
+  read = λ h ok. absurd (apart (sym gone ∙ ok));
+  written = λ h ok. absurd (apart (sym gone ∙ ok));
+}
   where
     apart : true ≡ false → ⊥
     apart e = cc
 
 -- what is put has the same words whatever was there
-put_words : (puts : List Put) (n : ℕ) → IsPutIn puts n → (words : List ℕ) × ((c : Contents) → with_puts puts c n ≡ Some words)
+put_words : (puts : List Put) (n : ℕ) → IsPutIn puts n → (words : List ℕ)
+    × ((c : Contents) → with_puts puts c n ≡ Some words)
 put_words [] n there = absurd (omega arith)
 put_words (put ∷ puts) n there = by_case (cases_eq n put.block) (put_words puts n)
   where
-    by_case : (n ≡ put.block) ⊎ (n ≡ put.block → ⊥) → (IsPutIn puts n → (words : List ℕ) × ((c : Contents) → with_puts puts c n ≡ Some words))
+    by_case : (n ≡ put.block) ⊎ (n ≡ put.block → ⊥)
+        → (IsPutIn puts n → (words : List ℕ) × ((c : Contents) → with_puts puts c n ≡ Some words))
         → (words : List ℕ) × ((c : Contents) → with_puts (put ∷ puts) c n ≡ Some words)
     by_case (inl is) later = (put.words, λ c. with_puts_here put puts c n is)
     by_case (inr other) later =
@@ -104,19 +126,24 @@ whole_fixed size k whole n below =
     let is = whole.bits n in
     omega arith
 
-pub free_elsewhere : (size : ℕ) (k : Known) → IsWholeMap size k → (n : ℕ) → bit k.table n ≡ 0 → times n k.master.blocks ≡ 0
+pub free_elsewhere : (size : ℕ) (k : Known) → IsWholeMap size k → (n : ℕ) → bit k.table n ≡ 0
+    → times n k.master.blocks ≡ 0
 free_elsewhere size k whole n clear = let is = whole.bits n in omega arith
 
 -- one directory more
-growths_push : (pending : List (Option PendingVersion)) (es : List MasterEntry) (ds : List KnownDirectory) (e : MasterEntry) (d : KnownDirectory) → length ds ≡ length es
-    → growths pending (es ++ e ∷ []) (ds ++ d ∷ []) ≡ growths pending es ds + (directory_cost (length d.chain.entries + total (creates e.0) pending) - directory_cost (length d.chain.entries))
+growths_push : (pending : List (Option PendingVersion)) (es : List MasterEntry) (ds : List KnownDirectory)
+    (e : MasterEntry) (d : KnownDirectory) → length ds ≡ length es
+    → growths pending (es ++ e ∷ []) (ds ++ d ∷ [])
+    ≡ growths pending es ds + (directory_cost (length d.chain.entries + total (creates e.0) pending)
+    - directory_cost (length d.chain.entries))
 growths_push pending [] [] e d same = omega arith
 growths_push pending [] (x ∷ ds) e d same = absurd (omega arith)
 growths_push pending (y ∷ es) [] e d same = absurd (omega arith)
 growths_push pending (y ∷ es) (x ∷ ds) e d same = let rest = growths_push pending es ds e d (omega arith) in omega arith
 
 -- what isn't found in a longer list isn't found in its beginning
-absent_before : (q : ℕ) (es : List MasterEntry) (e : MasterEntry) → find nat_cmp q (es ++ e ∷ []) ≡ None → find nat_cmp q es ≡ None
+absent_before : (q : ℕ) (es : List MasterEntry) (e : MasterEntry) → find nat_cmp q (es ++ e ∷ []) ≡ None
+    → find nat_cmp q es ≡ None
 absent_before q es e none = by (find nat_cmp q es) (sym (find-append_both nat_cmp es (e ∷ []) q) ∙ none)
   where
     by : (o : Option (ℕ × ℕ)) → option_or o (find nat_cmp q (e ∷ [])) ≡ None → o ≡ None
@@ -125,7 +152,8 @@ absent_before q es e none = by (find nat_cmp q es) (sym (find-append_both nat_cm
 
 -- Of the directory that is made.
 
-module _ (size : ℕ) (k k' : Known) (ppn protection first : ℕ) (puts : List Put) (whole : IsWholeMap size k) (made : IsMade size k k' ppn protection first puts) where
+module _ (size : ℕ) (k k' : Known) (ppn protection first : ℕ) (puts : List Put) (whole : IsWholeMap size k)
+    (made : IsMade size k k' ppn protection first puts) where
   pub made_inside : AllByRecursion (InSpace size) k'.master.blocks
   made_inside = subst (AllByRecursion (InSpace size)) (sym made.entered.blocks) (both k.master.blocks whole.inside)
     where
@@ -135,7 +163,8 @@ module _ (size : ℕ) (k k' : Known) (ppn protection first : ℕ) (puts : List P
 
   pub made_aligned : IsAligned k'
   made_aligned =
-      let a = ap (λ (l : List KnownDirectory). length l) made.entered.directories ∙ length-append k.directories (bare_known first ∷ []) in
+      let a = ap (λ (l : List KnownDirectory). length l) made.entered.directories
+      ∙ length-append k.directories (bare_known first ∷ []) in
       let b = ap length made.entered.entries ∙ length-append k.master.entries _ in
       let e = whole.aligned in
       omega arith
@@ -143,17 +172,21 @@ module _ (size : ℕ) (k k' : Known) (ppn protection first : ℕ) (puts : List P
   bare_whole : IsWholeDirectory size (bare_known first)
   bare_whole = record { chain = bare_chain first; inside = (made.inside.0, tt); aligned = refl; versions = tt }
 
-  cost_more : length k'.master.blocks + total cost_of_directory k'.directories ≡ length k.master.blocks + total cost_of_directory k.directories + length (first ∷ made.grown)
+  cost_more : length k'.master.blocks + total cost_of_directory k'.directories
+      ≡ length k.master.blocks + total cost_of_directory k.directories + length (first ∷ made.grown)
   cost_more =
       let a = ap (λ (l : List ℕ). length l) made.entered.blocks ∙ length-append k.master.blocks made.grown in
-      let b = ap (total cost_of_directory) made.entered.directories ∙ total-push cost_of_directory k.directories (bare_known first) in
+      let b = ap (total cost_of_directory) made.entered.directories
+      ∙ total-push cost_of_directory k.directories (bare_known first) in
       let one : cost_of_directory (bare_known first) ≡ 1 = refl in
       omega arith
 
-  reaches_more : (n : ℕ) → known_reaches n k'.master k'.directories ≡ known_reaches n k.master k.directories + times n (first ∷ made.grown)
+  reaches_more : (n : ℕ) → known_reaches n k'.master k'.directories ≡ known_reaches n k.master k.directories
+      + times n (first ∷ made.grown)
   reaches_more n =
       let a = ap (times n) made.entered.blocks ∙ times-append n k.master.blocks made.grown in
-      let b = ap (total (reaches_in_known n)) made.entered.directories ∙ total-push (reaches_in_known n) k.directories (bare_known first) in
+      let b = ap (total (reaches_in_known n)) made.entered.directories
+      ∙ total-push (reaches_in_known n) k.directories (bare_known first) in
       let one : reaches_in_known n (bare_known first) ≡ times n (first ∷ []) + 0 = refl in
       omega arith
 
@@ -164,7 +197,8 @@ module _ (size : ℕ) (k k' : Known) (ppn protection first : ℕ) (puts : List P
     chain = made.entered.chain;
     inside = made_inside;
     aligned = made_aligned;
-    each = subst (AllByRecursion (IsWholeDirectory size)) (sym made.entered.directories) (all_push (IsWholeDirectory size) k.directories (bare_known first) whole.each bare_whole);
+    each = subst (AllByRecursion (IsWholeDirectory size)) (sym made.entered.directories)
+        (all_push (IsWholeDirectory size) k.directories (bare_known first) whole.each bare_whole);
     bits = λ n. let a = made.taken.bits n in let b = whole.bits n in let e = reaches_more n in omega arith;
     unchanged = made.taken.changed ∙ ap (λ (n : ℕ). replicate (table_blocks n) false) whole.size_is;
   }
@@ -172,39 +206,55 @@ module _ (size : ℕ) (k k' : Known) (ppn protection first : ℕ) (puts : List P
   -- a block that isn't free is none that were
   not_free : (n : ℕ) (ns : List ℕ) → (IsFree k.table n → ⊥) → AllByRecursion (IsFree k.table) ns → times n ns ≡ 0
   not_free n [] used all = refl
-  not_free n (m ∷ ns) used all = ⊎_elim (λ is. absurd (used (subst (IsFree k.table) (sym is) all.0))) (λ other. times_tail n m ns other ∙ not_free n ns used all.1) (cases_eq n m)
+  not_free n (m ∷ ns) used all = ⊎_elim (λ is. absurd (used (subst (IsFree k.table) (sym is) all.0)))
+      (λ other. times_tail n m ns other ∙ not_free n ns used all.1) (cases_eq n m)
 
   -- nothing is being created in it
-  growths_made : (c c' : VolumeCore) → IsWholeCore size c → c.known ≡ k → c'.known ≡ k' → c'.pending ≡ c.pending → growths c'.pending c'.known.master.entries c'.known.directories ≡ growths c.pending c.known.master.entries c.known.directories
+  growths_made : (c c' : VolumeCore) → IsWholeCore size c → c.known ≡ k → c'.known ≡ k' → c'.pending ≡ c.pending
+      → growths c'.pending c'.known.master.entries c'.known.directories
+      ≡ growths c.pending c.known.master.entries c.known.directories
   growths_made c c' core was is pending =
-      let absent : find nat_cmp ppn c.known.master.entries ≡ None = ap (λ x. find nat_cmp ppn x.master.entries) was ∙ made.absent in
+      let absent : find nat_cmp ppn c.known.master.entries ≡ None = ap (λ x. find nat_cmp ppn x.master.entries) was
+      ∙ made.absent in
       let none = core.housed ppn absent in
       let aligned = core.map.aligned in
       (λ i. growths (pending i) (is i).master.entries (is i).directories)
       ∙ (λ i. growths c.pending (made.entered.entries i) (made.entered.directories i))
-      ∙ growths_push c.pending k.master.entries k.directories (entry_made ppn protection first) (bare_known first) whole.aligned
-      ∙ (let same : directory_cost (0 + total (creates ppn) c.pending) ≡ directory_cost 0 = ap (λ (n : ℕ). directory_cost (0 + n)) none in omega arith)
+      ∙ growths_push c.pending k.master.entries k.directories (entry_made ppn protection first)
+      (bare_known first) whole.aligned
+      ∙ (let same : directory_cost (0 + total (creates ppn) c.pending)
+      ≡ directory_cost 0 = ap (λ (n : ℕ). directory_cost (0 + n)) none in omega arith)
       ∙ (λ i. growths c.pending (sym was i).master.entries (sym was i).directories)
 
   -- with the versions in use, which stay
-  pub made_core : (c c' : VolumeCore) → IsWholeCore size c → c.known ≡ k → c'.known ≡ k' → c'.live ≡ c.live → c'.pending ≡ c.pending → c'.keys ≡ c.keys ++ [] ∷ [] → IsWholeCore size c'
+  pub made_core : (c c' : VolumeCore) → IsWholeCore size c → c.known ≡ k → c'.known ≡ k' → c'.live ≡ c.live
+      → c'.pending ≡ c.pending → c'.keys ≡ c.keys ++ [] ∷ [] → IsWholeCore size c'
   made_core c c' core was is live pending keys =
-      let table : c'.known.table.held ≡ c.known.table.held = ap (λ x. x.table.held) is ∙ made.taken.held ∙ sym (ap (λ x. x.table.held) was) in
-      let directories : c'.known.directories ≡ c.known.directories ++ bare_known first ∷ [] = ap (λ x. x.directories) is ∙ made.entered.directories ∙ ap (λ x. x.directories ++ bare_known first ∷ []) (sym was) in
+      let table : c'.known.table.held ≡ c.known.table.held = ap (λ x. x.table.held) is ∙ made.taken.held
+      ∙ sym (ap (λ x. x.table.held) was) in
+      let directories : c'.known.directories ≡ c.known.directories ++ bare_known first ∷ [] = ap (λ x. x.directories) is
+      ∙ made.entered.directories ∙ ap (λ x. x.directories ++ bare_known first ∷ []) (sym was) in
       record {
         map = subst (IsWholeMap size) (sym is) made_whole;
         keyed = subst (λ l. AllZip (IsKeyed l) c'.known.directories c'.keys) (sym live)
-            (subst (AllZip (IsKeyed c.live) c'.known.directories) (sym keys) (subst (λ ds. AllZip (IsKeyed c.live) ds (c.keys ++ [] ∷ [])) (sym directories) (zip_behind (IsKeyed c.live) c.known.directories c.keys (bare_known first) [] core.keyed tt)));
+            (subst (AllZip (IsKeyed c.live) c'.known.directories) (sym keys)
+            (subst (λ ds. AllZip (IsKeyed c.live) ds (c.keys ++ [] ∷ [])) (sym directories)
+            (zip_behind (IsKeyed c.live) c.known.directories c.keys (bare_known first) [] core.keyed tt)));
         standing = subst AreStanding (sym live) core.standing;
         waiting = subst (AreWaiting size) (sym pending) core.waiting;
         current = λ n.
             let same = ap (total (current_reaches n)) live in
-            let more = ap (entry_reaches n) directories ∙ total-push (λ (d : KnownDirectory). reaches_in_entries n d.chain.entries d.versions) c.known.directories (bare_known first) in
+            let more = ap (entry_reaches n) directories
+            ∙ total-push (λ (d : KnownDirectory). reaches_in_entries n d.chain.entries d.versions) c.known.directories
+            (bare_known first) in
             let was = core.current n in
             omega arith;
         housed = λ q absent.
-            let entries : c'.known.master.entries ≡ c.known.master.entries ++ entry_made ppn protection first ∷ [] = ap (λ x. x.master.entries) is ∙ made.entered.entries ∙ ap (λ x. x.master.entries ++ entry_made ppn protection first ∷ []) (sym was) in
-            ap (total (creates q)) pending ∙ core.housed q (absent_before q c.known.master.entries (entry_made ppn protection first) (ap (find nat_cmp q) (sym entries) ∙ absent));
+            let entries : c'.known.master.entries ≡ c.known.master.entries ++ entry_made ppn protection first
+            ∷ [] = ap (λ x. x.master.entries) is ∙ made.entered.entries
+            ∙ ap (λ x. x.master.entries ++ entry_made ppn protection first ∷ []) (sym was) in
+            ap (total (creates q)) pending ∙ core.housed q (absent_before q c.known.master.entries
+            (entry_made ppn protection first) (ap (find nat_cmp q) (sym entries) ∙ absent));
         held = λ n.
             let same = ap (λ l. slice_index l n) table in
             let was = core.held n in
@@ -229,9 +279,11 @@ module _ (size : ℕ) (k k' : Known) (ppn protection first : ℕ) (puts : List P
             let kept : 0 < holds k.table n = subst (λ x. 0 < holds x.table n) was there in
             let new = not_free n made.grown (λ free. let none = free.unheld in omega arith) made.free.1 in
             let first_new = not_free n (first ∷ []) (λ free. let none = free.unheld in omega arith) (made.free.0, tt) in
-            let chain = ap (λ x. times n x.master.blocks) is ∙ ap (times n) made.entered.blocks ∙ times-append n k.master.blocks made.grown in
+            let chain = ap (λ x. times n x.master.blocks) is ∙ ap (times n) made.entered.blocks
+            ∙ times-append n k.master.blocks made.grown in
             let chain_was = ap (λ x. times n x.master.blocks) was in
-            let dirs = ap (total (λ (d : KnownDirectory). times n d.chain.blocks)) directories ∙ total-push (λ (d : KnownDirectory). times n d.chain.blocks) c.known.directories (bare_known first) in
+            let dirs = ap (total (λ (d : KnownDirectory). times n d.chain.blocks)) directories
+            ∙ total-push (λ (d : KnownDirectory). times n d.chain.blocks) c.known.directories (bare_known first) in
             omega arith;
         fits =
             let few = made.room in
@@ -266,14 +318,18 @@ module _ (size : ℕ) (k k' : Known) (ppn protection first : ℕ) (puts : List P
       let few = bit_few k'.table first in
       omega arith
 
-  pub leads : (before : Contents) (m : DiskMap) → protection < 512 → LeadsTo size before first (replicate 128 0) puts k m k' (map_made m k'.master.blocks ppn protection first)
-  leads before m fits c near held zeros = making_leads size k k' m ppn protection first puts whole made fits c held zeros
+  pub leads : (before : Contents) (m : DiskMap) → protection < 512
+      → LeadsTo size before first (replicate 128 0) puts k m k' (map_made m k'.master.blocks ppn protection first)
+  leads before m fits c near held zeros = making_leads size k k' m ppn protection first puts whole made
+      fits c held zeros
 
   -- a block in use is not written, but for those of the master directory
-  pub not_written : (n : ℕ) → space_start size ≤ n → times n k.master.blocks ≡ 0 → (IsFree k.table n → ⊥) → (n ≡ first) ⊎ (IsGateOrLog size n ⊎ IsPutIn puts n) → ⊥
+  pub not_written : (n : ℕ) → space_start size ≤ n → times n k.master.blocks ≡ 0 → (IsFree k.table n → ⊥)
+      → (n ≡ first) ⊎ (IsGateOrLog size n ⊎ IsPutIn puts n) → ⊥
   not_written n from none used = ⊎_elim
       (λ is. used (subst (IsFree k.table) (sym is) (made.free.0)))
-      (⊎_elim (λ log. let below = log.1 in omega arith) (not_put puts n (λ c. made.put.others c n (inr from) ∙ made.entered.put.others c n out)))
+      (⊎_elim (λ log. let below = log.1 in
+      omega arith) (not_put puts n (λ c. made.put.others c n (inr from) ∙ made.entered.put.others c n out)))
     where
       out : times n k'.master.blocks ≡ 0
       out =
@@ -282,28 +338,43 @@ module _ (size : ℕ) (k k' : Known) (ppn protection first : ℕ) (puts : List P
           omega arith
 
 -- What the write and the commit promise, for this directory.
-module _ (s s' : DiskState) (k k' : Known) (ppn protection first : ℕ) (puts : List Put) (fits : protection < 512) (whole : IsWholeMap s.size k) (made : IsMade s.size k k' ppn protection first puts) (at : IsAtRest s k) where
+module _ (s s' : DiskState) (k k' : Known) (ppn protection first : ℕ) (puts : List Put) (fits : protection
+    < 512) (whole : IsWholeMap s.size k) (made : IsMade s.size k k' ppn protection first puts) (at : IsAtRest s k) where
   pub made_crash : (f : Files File) → RestsAt s f
-      → ((m m' : DiskMap) → IsAligned k → IsAligned k' → AtRest s (IsHeld s.size k m) → bit k.table first ≡ 0 → LeadsTo s.size s.contents first (replicate 128 0) puts k m k' m'
+      → ((m m' : DiskMap) → IsAligned k → IsAligned k' → AtRest s (IsHeld s.size k m) → bit k.table first ≡ 0
+      → LeadsTo s.size s.contents first (replicate 128 0) puts k m k' m'
       → LeavesOnly s s' (λ c. SettlesTo s.size (IsHeld s.size k m) c ⊎ SettlesTo s.size (IsHeld s.size k' m') c))
       → LeavesOnly s s' (StandsForEither s.size f (files_made f ppn protection))
   made_crash f rests transaction =
       let next = map_made at.map k'.master.blocks ppn protection first in
       let same = files_are s k at.map f at.rest rests in
-      crash_for s s' k k' at.map next f (files_made f ppn protection) same (files_of_made at.map k'.master.blocks ppn protection 0 (first ∷ []) ∙ ap (λ (z : Files File). files_made z ppn protection) same)
-      (transaction at.map next whole.aligned (made_aligned s.size k k' ppn protection first puts whole made) at.rest (first_clear s.size k k' ppn protection first puts whole made) (leads s.size k k' ppn protection first puts whole made s.contents at.map fits))
+      crash_for s s' k k' at.map next f (files_made f ppn protection) same
+      (files_of_made at.map k'.master.blocks ppn protection 0 (first ∷ [])
+      ∙ ap (λ (z : Files File). files_made z ppn protection) same)
+      (transaction at.map next whole.aligned (made_aligned s.size k k' ppn protection first puts whole made) at.rest
+      (first_clear s.size k k' ppn protection first puts whole made)
+      (leads s.size k k' ppn protection first puts whole made s.contents at.map fits))
 
-  pub made_rest : ((m m' : DiskMap) → IsAligned k → IsAligned k' → AtRest s (IsHeld s.size k m) → bit k.table first ≡ 0 → LeadsTo s.size s.contents first (replicate 128 0) puts k m k' m' → AtRest s' (IsHeld s.size k' m'))
+  pub made_rest : ((m m' : DiskMap) → IsAligned k → IsAligned k' → AtRest s (IsHeld s.size k m) → bit k.table first ≡ 0
+      → LeadsTo s.size s.contents first (replicate 128 0) puts k m k' m' → AtRest s' (IsHeld s.size k' m'))
       → AtRest s' (IsHeld s.size k' (map_made at.map k'.master.blocks ppn protection first))
   made_rest transaction =
-      transaction at.map (map_made at.map k'.master.blocks ppn protection first) whole.aligned (made_aligned s.size k k' ppn protection first puts whole made) at.rest (first_clear s.size k k' ppn protection first puts whole made)
+      transaction at.map (map_made at.map k'.master.blocks ppn protection first) whole.aligned
+      (made_aligned s.size k k' ppn protection first puts whole made) at.rest
+      (first_clear s.size k k' ppn protection first puts whole made)
       (leads s.size k k' ppn protection first puts whole made s.contents at.map fits)
 
-  pub made_done : (f : Files File) → RestsAt s f → s'.size ≡ s.size → AtRest s' (IsHeld s.size k' (map_made at.map k'.master.blocks ppn protection first)) → RestsAt s' (files_made f ppn protection)
+  pub made_done : (f : Files File) → RestsAt s f → s'.size ≡ s.size
+      → AtRest s' (IsHeld s.size k' (map_made at.map k'.master.blocks ppn protection first))
+      → RestsAt s' (files_made f ppn protection)
   made_done f rests size rest =
       let same = files_are s k at.map f at.rest rests in
-      rest_for s s' k' (map_made at.map k'.master.blocks ppn protection first) (files_made f ppn protection) size (files_of_made at.map k'.master.blocks ppn protection 0 (first ∷ []) ∙ ap (λ (z : Files File). files_made z ppn protection) same) rest
+      rest_for s s' k' (map_made at.map k'.master.blocks ppn protection first) (files_made f ppn protection) size
+      (files_of_made at.map k'.master.blocks ppn protection 0 (first ∷ [])
+      ∙ ap (λ (z : Files File). files_made z ppn protection) same) rest
 
-  pub made_at : s'.size ≡ s.size → ((m m' : DiskMap) → IsAligned k → IsAligned k' → AtRest s (IsHeld s.size k m) → bit k.table first ≡ 0 → LeadsTo s.size s.contents first (replicate 128 0) puts k m k' m' → AtRest s' (IsHeld s.size k' m'))
+  pub made_at : s'.size ≡ s.size → ((m m' : DiskMap) → IsAligned k → IsAligned k' → AtRest s (IsHeld s.size k m)
+      → bit k.table first ≡ 0 → LeadsTo s.size s.contents first (replicate 128 0) puts k m k' m'
+      → AtRest s' (IsHeld s.size k' m'))
       → (m' : DiskMap) × AtRest s' (IsHeld s.size k' m')
   made_at size transaction = (map_made at.map k'.master.blocks ppn protection first, made_rest transaction)

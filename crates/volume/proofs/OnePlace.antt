@@ -1,5 +1,6 @@
 -- A prime block is that of one entry, and of one current version: each block is in one place.
-use Rattle.std.proofs.Common.{◌≡◌, ℕ, zero, suc, ◌+◌, ◌<◌, ◌≤◌, cond, Bool, true, false, if◌then◌else◌, List, [], ◌∷◌, ◌++◌, length, Option, Some, None, slice_index_or, refl, sym, ap, ◌∙◌, arith, ⊎_elim}
+use Rattle.std.proofs.Common.{◌≡◌, ℕ, zero, suc, ◌+◌, ◌<◌, ◌≤◌, cond, Bool, true, false, if◌then◌else◌, List, [], ◌∷◌}
+use Rattle.std.proofs.Common.{◌++◌, length, Option, Some, None, slice_index_or, refl, sym, ap, ◌∙◌, arith, ⊎_elim}
 use Rattle.std.proofs.lemmas.Bool.{cases_eq}
 use Rattle.std.specs.Cmp.{nat_cmp_total}
 use Rattle.std.specs.List.{AllByRecursion}
@@ -13,7 +14,8 @@ use Rattle.meaning.specs.Maps.{total, times}
 use Rattle.meaning.proofs.MapLaws.{some_same, some_none, tied}
 use Rattle.meaning.proofs.Names.{name_total, name_exact}
 use Rattle.changeset.specs.PutLaws.{times_head}
-use Rattle.volume.specs.Known.{KnownVersion, KnownDirectory, blocks_reached, reaches_in_entries, reaches_in_known, IsWholeDirectory}
+use Rattle.volume.specs.Known.{KnownVersion, KnownDirectory, blocks_reached, reaches_in_entries, reaches_in_known}
+use Rattle.volume.specs.Known.{IsWholeDirectory}
 use Rattle.volume.specs.Live.{VolumeCore, slot, current_reaches, IsWholeCore}
 use Rattle.volume.specs.Places.{prime_in, prime_at}
 use Rattle.volume.specs.declared.live.LiveVersion.{LiveVersion}
@@ -23,28 +25,35 @@ use Rattle.volume.proofs.Pinning.{entries_within, total_at}
 -- One current version.
 
 -- two slots count in a sum
-both_at : {X : Type 0} (f : Option X → ℕ) → f None ≡ 0 → (slots : List (Option X)) (k l : ℕ) → (k ≡ l → ⊥) → f (slice_index_or slots k None) + f (slice_index_or slots l None) ≤ total f slots
+both_at : {X : Type 0} (f : Option X → ℕ) → f None ≡ 0 → (slots : List (Option X)) (k l : ℕ) → (k ≡ l → ⊥)
+    → f (slice_index_or slots k None) + f (slice_index_or slots l None) ≤ total f slots
 both_at f none [] k l apart = omega arith
 both_at f none (o ∷ slots) zero zero apart = absurd (apart refl)
 both_at f none (o ∷ slots) zero (suc l) apart = let rest = total_at f none slots l in omega arith
 both_at f none (o ∷ slots) (suc k) zero apart = let rest = total_at f none slots k in omega arith
-both_at f none (o ∷ slots) (suc k) (suc l) apart = let rest = both_at f none slots k l (λ same. apart (ap suc same)) in omega arith
+both_at f none (o ∷ slots) (suc k) (suc l) apart = let rest = both_at f none slots k l (λ same. apart (ap suc same)) in
+    omega arith
 
 -- a version that is current reaches its prime block
-current_there : (live : List (Option LiveVersion)) (key n : ℕ) (v : LiveVersion) → slot live key ≡ Some v → v.is_current ≡ true → v.at ≡ n → 0 < current_reaches n (slot live key)
+current_there : (live : List (Option LiveVersion)) (key n : ℕ) (v : LiveVersion) → slot live key ≡ Some v
+    → v.is_current ≡ true → v.at ≡ n → 0 < current_reaches n (slot live key)
 current_there live key n v there current at =
-    let here = ap (current_reaches n) there ∙ ap (λ (b : Bool). if b then times n (blocks_reached v.at v.version) else 0) current in
+    let here = ap (current_reaches n) there
+    ∙ ap (λ (b : Bool). if b then times n (blocks_reached v.at v.version) else 0) current in
     let head = times_head n v.at (v.version.ribs ++ v.version.blocks) (sym at) in
     omega arith
 
 -- no block stands in two places of the directories
-pub reached_once : (size : ℕ) (c : VolumeCore) → IsWholeCore size c → (n : ℕ) → total (reaches_in_known n) c.known.directories ≤ 1
+pub reached_once : (size : ℕ) (c : VolumeCore) → IsWholeCore size c → (n : ℕ)
+    → total (reaches_in_known n) c.known.directories ≤ 1
 reached_once size c whole n =
     let bits = whole.map.bits n in
     let few = bit_few c.known.table n in
     omega arith
 
-pub one_key : (size : ℕ) (c : VolumeCore) → IsWholeCore size c → (key key' : ℕ) (v v' : LiveVersion) → slot c.live key ≡ Some v → slot c.live key' ≡ Some v' → v.is_current ≡ true → v'.is_current ≡ true → v.at ≡ v'.at → key ≡ key'
+pub one_key : (size : ℕ) (c : VolumeCore) → IsWholeCore size c → (key key' : ℕ) (v v' : LiveVersion)
+    → slot c.live key ≡ Some v → slot c.live key' ≡ Some v' → v.is_current ≡ true → v'.is_current ≡ true
+    → v.at ≡ v'.at → key ≡ key'
 one_key size c whole key key' v v' there there' current current' same = ⊎_elim
     (λ (is : key ≡ key'). is)
     (λ apart.
@@ -63,53 +72,78 @@ module _ (n : ℕ) where
   first_reaches : (e : FileEntry) (v : KnownVersion) → e.1 ≡ n → 0 < times n (blocks_reached e.1 v.version)
   first_reaches e v at = let head = times_head n e.1 (v.version.ribs ++ v.version.blocks) (sym at) in omega arith
 
-  name_reaches : (es : List FileEntry) (vs : List KnownVersion) (name : FileName) → length vs ≡ length es → find name_cmp name es ≡ Some n → 0 < reaches_in_entries n es vs
+  name_reaches : (es : List FileEntry) (vs : List KnownVersion) (name : FileName) → length vs ≡ length es
+      → find name_cmp name es ≡ Some n → 0 < reaches_in_entries n es vs
   name_reaches [] vs name same is = absurd (some_none (sym is))
   name_reaches (e ∷ es) [] name same is = absurd (omega arith)
-  name_reaches (e ∷ es) (v ∷ vs) name same is = by (eq_by_cmp name_cmp name e.0) is (name_reaches es vs name (omega arith))
+  name_reaches (e ∷ es) (v ∷ vs) name same is = by (eq_by_cmp name_cmp name e.0) is
+      (name_reaches es vs name (omega arith))
     where
-      by : (b : Bool) → cond b (Some e.1) (find name_cmp name es) ≡ Some n → (find name_cmp name es ≡ Some n → 0 < reaches_in_entries n es vs) → 0 < reaches_in_entries n (e ∷ es) (v ∷ vs)
+      by : (b : Bool) → cond b (Some e.1) (find name_cmp name es) ≡ Some n
+          → (find name_cmp name es ≡ Some n → 0 < reaches_in_entries n es vs)
+          → 0 < reaches_in_entries n (e ∷ es) (v ∷ vs)
       by true at later = let here = first_reaches e v (some_same at) in omega arith
       by false at later = let rest = later at in omega arith
 
-  one_name : (es : List FileEntry) (vs : List KnownVersion) (name name' : FileName) → length vs ≡ length es → reaches_in_entries n es vs ≤ 1 → find name_cmp name es ≡ Some n → find name_cmp name' es ≡ Some n → name ≡ name'
+  one_name : (es : List FileEntry) (vs : List KnownVersion) (name name' : FileName) → length vs ≡ length es
+      → reaches_in_entries n es vs ≤ 1 → find name_cmp name es ≡ Some n → find name_cmp name' es ≡ Some n → name ≡ name'
   one_name [] vs name name' same once is is' = absurd (some_none (sym is))
   one_name (e ∷ es) [] name name' same once is is' = absurd (omega arith)
-  one_name (e ∷ es) (v ∷ vs) name name' same once is is' = by (eq_by_cmp name_cmp name e.0) (eq_by_cmp name_cmp name' e.0) refl refl is is' (one_name es vs name name' (omega arith) (omega arith))
+  one_name (e ∷ es) (v ∷ vs) name name' same once is is' = by (eq_by_cmp name_cmp name e.0)
+      (eq_by_cmp name_cmp name' e.0) refl refl is is' (one_name es vs name name' (omega arith) (omega arith))
     where
-      by : (b b' : Bool) → eq_by_cmp name_cmp name e.0 ≡ b → eq_by_cmp name_cmp name' e.0 ≡ b' → cond b (Some e.1) (find name_cmp name es) ≡ Some n → cond b' (Some e.1) (find name_cmp name' es) ≡ Some n
+      by : (b b' : Bool) → eq_by_cmp name_cmp name e.0 ≡ b → eq_by_cmp name_cmp name' e.0 ≡ b'
+          → cond b (Some e.1) (find name_cmp name es) ≡ Some n → cond b' (Some e.1) (find name_cmp name' es) ≡ Some n
           → (find name_cmp name es ≡ Some n → find name_cmp name' es ≡ Some n → name ≡ name') → name ≡ name'
-      by true true t t' at at' later = tied name_total name_exact name e.0 t ∙ sym (tied name_total name_exact name' e.0 t')
-      by true false t t' at at' later = absurd (let here = first_reaches e v (some_same at) in let rest = name_reaches es vs name' (omega arith) at' in omega arith)
-      by false true t t' at at' later = absurd (let here = first_reaches e v (some_same at') in let rest = name_reaches es vs name (omega arith) at in omega arith)
+      by true true t t' at at' later = tied name_total name_exact name e.0 t
+          ∙ sym (tied name_total name_exact name' e.0 t')
+      by true false t t' at at' later = absurd (let here = first_reaches e v (some_same at) in
+          let rest = name_reaches es vs name' (omega arith) at' in omega arith)
+      by false true t t' at at' later = absurd (let here = first_reaches e v (some_same at') in
+          let rest = name_reaches es vs name (omega arith) at in omega arith)
       by false false t t' at at' later = later at at'
 
-  place_reaches : (size : ℕ) (es : List MasterEntry) (ds : List KnownDirectory) (ppn : ℕ) (name : FileName) → AllByRecursion (IsWholeDirectory size) ds → prime_in es ds ppn name ≡ Some n → 0 < total (reaches_in_known n) ds
+  place_reaches : (size : ℕ) (es : List MasterEntry) (ds : List KnownDirectory) (ppn : ℕ) (name : FileName)
+      → AllByRecursion (IsWholeDirectory size) ds → prime_in es ds ppn name ≡ Some n → 0 < total (reaches_in_known n) ds
   place_reaches size [] ds ppn name all is = absurd (some_none (sym is))
   place_reaches size (e ∷ es) [] ppn name all is = absurd (some_none (sym is))
-  place_reaches size (e ∷ es) (d ∷ ds) ppn name all is = by (eq_by_cmp nat_cmp ppn e.0) is (place_reaches size es ds ppn name all.1)
+  place_reaches size (e ∷ es) (d ∷ ds) ppn name all is = by (eq_by_cmp nat_cmp ppn e.0) is
+      (place_reaches size es ds ppn name all.1)
     where
-      by : (b : Bool) → cond b (find name_cmp name d.chain.entries) (prime_in es ds ppn name) ≡ Some n → (prime_in es ds ppn name ≡ Some n → 0 < total (reaches_in_known n) ds) → 0 < total (reaches_in_known n) (d ∷ ds)
+      by : (b : Bool) → cond b (find name_cmp name d.chain.entries) (prime_in es ds ppn name) ≡ Some n
+          → (prime_in es ds ppn name ≡ Some n → 0 < total (reaches_in_known n) ds)
+          → 0 < total (reaches_in_known n) (d ∷ ds)
       by true at later = let here = name_reaches d.chain.entries d.versions name all.0.aligned at in omega arith
       by false at later = let rest = later at in omega arith
 
-  places_one : (size : ℕ) (es : List MasterEntry) (ds : List KnownDirectory) (ppn ppn' : ℕ) (name name' : FileName) → AllByRecursion (IsWholeDirectory size) ds → total (reaches_in_known n) ds ≤ 1
+  places_one : (size : ℕ) (es : List MasterEntry) (ds : List KnownDirectory) (ppn ppn' : ℕ) (name name' : FileName)
+      → AllByRecursion (IsWholeDirectory size) ds → total (reaches_in_known n) ds ≤ 1
       → prime_in es ds ppn name ≡ Some n → prime_in es ds ppn' name' ≡ Some n → (ppn ≡ ppn') × (name ≡ name')
   places_one size [] ds ppn ppn' name name' all once is is' = absurd (some_none (sym is))
   places_one size (e ∷ es) [] ppn ppn' name name' all once is is' = absurd (some_none (sym is))
-  places_one size (e ∷ es) (d ∷ ds) ppn ppn' name name' all once is is' = by (eq_by_cmp nat_cmp ppn e.0) (eq_by_cmp nat_cmp ppn' e.0) refl refl is is' (places_one size es ds ppn ppn' name name' all.1 (omega arith))
+  places_one size (e ∷ es) (d ∷ ds) ppn ppn' name name' all once is is' = by (eq_by_cmp nat_cmp ppn e.0)
+      (eq_by_cmp nat_cmp ppn' e.0) refl refl is is' (places_one size es ds ppn ppn' name name' all.1 (omega arith))
     where
-      by : (b b' : Bool) → eq_by_cmp nat_cmp ppn e.0 ≡ b → eq_by_cmp nat_cmp ppn' e.0 ≡ b' → cond b (find name_cmp name d.chain.entries) (prime_in es ds ppn name) ≡ Some n
-          → cond b' (find name_cmp name' d.chain.entries) (prime_in es ds ppn' name') ≡ Some n → (prime_in es ds ppn name ≡ Some n → prime_in es ds ppn' name' ≡ Some n → (ppn ≡ ppn') × (name ≡ name'))
+      by : (b b' : Bool) → eq_by_cmp nat_cmp ppn e.0 ≡ b → eq_by_cmp nat_cmp ppn' e.0 ≡ b'
+          → cond b (find name_cmp name d.chain.entries) (prime_in es ds ppn name) ≡ Some n
+          → cond b' (find name_cmp name' d.chain.entries) (prime_in es ds ppn' name') ≡ Some n
+          → (prime_in es ds ppn name ≡ Some n → prime_in es ds ppn' name' ≡ Some n → (ppn ≡ ppn') × (name ≡ name'))
           → (ppn ≡ ppn') × (name ≡ name')
-      by true true t t' at at' later =
-          (tied nat_cmp_total nat_cmp-IsAntisymmetric ppn e.0 t ∙ sym (tied nat_cmp_total nat_cmp-IsAntisymmetric ppn' e.0 t'), one_name d.chain.entries d.versions name name' all.0.aligned (omega arith) at at')
+      by true true t t' at at' later = (
+        tied nat_cmp_total nat_cmp-IsAntisymmetric ppn e.0 t
+            ∙ sym (tied nat_cmp_total nat_cmp-IsAntisymmetric ppn' e.0 t'),
+        one_name d.chain.entries d.versions name name' all.0.aligned (omega arith) at at',
+      )
       by true false t t' at at' later =
-          absurd (let here = name_reaches d.chain.entries d.versions name all.0.aligned at in let rest = place_reaches size es ds ppn' name' all.1 at' in omega arith)
+          absurd (let here = name_reaches d.chain.entries d.versions name all.0.aligned at in
+          let rest = place_reaches size es ds ppn' name' all.1 at' in omega arith)
       by false true t t' at at' later =
-          absurd (let here = name_reaches d.chain.entries d.versions name' all.0.aligned at' in let rest = place_reaches size es ds ppn name all.1 at in omega arith)
+          absurd (let here = name_reaches d.chain.entries d.versions name' all.0.aligned at' in
+          let rest = place_reaches size es ds ppn name all.1 at in omega arith)
       by false false t t' at at' later = later at at'
 
-pub one_place : (size : ℕ) (c : VolumeCore) → IsWholeCore size c → (ppn ppn' : ℕ) (name name' : FileName) (n : ℕ) → prime_at c ppn name ≡ Some n → prime_at c ppn' name' ≡ Some n → (ppn ≡ ppn') × (name ≡ name')
+pub one_place : (size : ℕ) (c : VolumeCore) → IsWholeCore size c → (ppn ppn' : ℕ) (name name' : FileName) (n : ℕ)
+    → prime_at c ppn name ≡ Some n → prime_at c ppn' name' ≡ Some n → (ppn ≡ ppn') × (name ≡ name')
 one_place size c whole ppn ppn' name name' n is is' =
-    places_one n size c.known.master.entries c.known.directories ppn ppn' name name' whole.map.each (reached_once size c whole n) is is'
+    places_one n size c.known.master.entries c.known.directories ppn ppn' name name' whole.map.each
+    (reached_once size c whole n) is is'

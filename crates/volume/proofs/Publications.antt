@@ -19,17 +19,24 @@ use Rattle.volume.specs.declared.pending.PendingVersion.{PendingVersion}
 use Rattle.volume.proofs.PuttingCore.{waits}
 
 -- Where nothing was done, a crash leaves what stands for the files.
-pub unchanged_leaves : (s : DiskState) (f g : Files File) → RestsAt s f → ((c : Contents) → s.left_since s.clock c → MayLeave s c) → LeavesOnly s s (StandsForEither s.size f g)
-unchanged_leaves s f g rests only_now = leaves_start s (StandsForEither s.size f g) only_now (λ c left. inl (rest_settles s (λ d. SettledStands s.size d f) rests c left))
+pub unchanged_leaves : (s : DiskState) (f g : Files File) → RestsAt s f
+    → ((c : Contents) → s.left_since s.clock c → MayLeave s c) → LeavesOnly s s (StandsForEither s.size f g)
+unchanged_leaves s f g rests only_now = leaves_start s (StandsForEither s.size f g) only_now
+    (λ c left. inl (rest_settles s (λ d. SettledStands s.size d f) rests c left))
 
 -- Quiet writes leave the one.
-pub quiet_leaves_either : (s s' : DiskState) (f g : Files File) → LeavesOnly s s' (λ c. Stands s.size c f) → LeavesOnly s s' (StandsForEither s.size f g)
-quiet_leaves_either s s' f g leaves = leaves_weaker s s' (λ c. Stands s.size c f) (StandsForEither s.size f g) leaves (λ c is. inl is)
+pub quiet_leaves_either : (s s' : DiskState) (f g : Files File) → LeavesOnly s s' (λ c. Stands s.size c f)
+    → LeavesOnly s s' (StandsForEither s.size f g)
+quiet_leaves_either s s' f g leaves = leaves_weaker s s' (λ c. Stands s.size c f) (StandsForEither s.size f g) leaves
+    (λ c is. inl is)
 
 -- Quiet writes, and then a publication.
-pub both_leave : (s mid s' : DiskState) (f g : Files File) → mid.size ≡ s.size → LeavesOnly s mid (λ c. Stands s.size c f) → LeavesOnly mid s' (StandsForEither mid.size f g) → LeavesOnly s s' (StandsForEither s.size f g)
+pub both_leave : (s mid s' : DiskState) (f g : Files File) → mid.size ≡ s.size
+    → LeavesOnly s mid (λ c. Stands s.size c f) → LeavesOnly mid s' (StandsForEither mid.size f g)
+    → LeavesOnly s s' (StandsForEither s.size f g)
 both_leave s mid s' f g size first second =
-    leaves_on s mid s' (StandsForEither s.size f g) (StandsForEither mid.size f g) (quiet_leaves_either s mid f g first) second (λ c. subst (λ (n : ℕ). StandsForEither n f g c) size)
+    leaves_on s mid s' (StandsForEither s.size f g) (StandsForEither mid.size f g)
+    (quiet_leaves_either s mid f g first) second (λ c. subst (λ (n : ℕ). StandsForEither n f g c) size)
 
 -- The chains stay when words are put.
 module _ (c c' : VolumeCore) (known : c'.known ≡ record c.known { table = c'.known.table }) where
@@ -40,9 +47,15 @@ module _ (c c' : VolumeCore) (known : c'.known ≡ record c.known { table = c'.k
   directory_back ppn d there = subst (λ (k : Known). IsDirectoryOf (record c' { known = k }) ppn d) known there
 
   pub placed_on : (p : PendingVersion) (v : VersionState) → IsPlaced c p → IsPlaced c' (record p { version = v })
-  placed_on p v placed = record { named = placed.named; directory = placed.directory; there = directory_on p.prime.ppn placed.directory placed.there; is_new = placed.is_new }
+  placed_on p v placed = record {
+    named = placed.named;
+    directory = placed.directory;
+    there = directory_on p.prime.ppn placed.directory placed.there;
+    is_new = placed.is_new;
+  }
 
-  pub supplied_on : c'.keys ≡ c.keys → (p : PendingVersion) (v : VersionState) (room : ChainState FileEntry) (keys : List ℕ) → IsSupplied c p room keys → IsSupplied c' (record p { version = v }) room keys
+  pub supplied_on : c'.keys ≡ c.keys → (p : PendingVersion) (v : VersionState) (room : ChainState FileEntry)
+      (keys : List ℕ) → IsSupplied c p room keys → IsSupplied c' (record p { version = v }) room keys
   unfolding directory_back
   supplied_on same p v room keys supplied = record {
     fits = λ d there. supplied.fits d (directory_back p.prime.ppn d there);
@@ -52,7 +65,9 @@ module _ (c c' : VolumeCore) (known : c'.known ≡ record c.known { table = c'.k
   }
 
 -- There are as many ribs as the version's blocks ask for.
-pub ribs_on : (size : ℕ) (c : VolumeCore) (key : ℕ) (p : PendingVersion) (words blocks ribs : ℕ) → IsWholeCore size c → pending_at c.pending key ≡ Some p → p.version.words ≡ words → blocks ≡ blocks_of words → ribs ≡ rib_count blocks → ribs ≡ rib_count (length p.version.blocks)
+pub ribs_on : (size : ℕ) (c : VolumeCore) (key : ℕ) (p : PendingVersion) (words blocks ribs : ℕ) → IsWholeCore size c
+    → pending_at c.pending key ≡ Some p → p.version.words ≡ words → blocks ≡ blocks_of words → ribs ≡ rib_count blocks
+    → ribs ≡ rib_count (length p.version.blocks)
 ribs_on size c key p words blocks ribs whole there long many is =
     let counted = (waits size c whole key p there).whole.counted in
     is ∙ ap rib_count (many ∙ sym (counted ∙ ap blocks_of long))

@@ -1,5 +1,6 @@
 -- A version becomes the file of its name: which blocks are written for it, and that those of versions in use stay.
-use Rattle.std.proofs.Common.{◌≡◌, ℕ, zero, suc, ◌+◌, ◌<◌, ◌≤◌, ◌⊎◌, ⊎_elim, Bool, true, false, if◌then◌else◌, List, [], ◌∷◌, ◌++◌, length, Some, slice_get, refl, sym, ap, subst, ◌∙◌, arith}
+use Rattle.std.proofs.Common.{◌≡◌, ℕ, zero, suc, ◌+◌, ◌<◌, ◌≤◌, ◌⊎◌, ⊎_elim, Bool, true, false, if◌then◌else◌, List, []}
+use Rattle.std.proofs.Common.{◌∷◌, ◌++◌, length, Some, slice_get, refl, sym, ap, subst, ◌∙◌, arith}
 use Rattle.std.specs.List.{AllByRecursion}
 use Rattle.meaning.specs.declared.put.Put.{Put}
 use Rattle.meaning.specs.Costs.{blocks_of}
@@ -17,7 +18,8 @@ use Rattle.changeset.specs.Puts.{IsPutIn}
 use Rattle.changeset.specs.PutLaws.{times_head}
 use Rattle.retrieval.specs.Writing.{AreApart}
 use Rattle.volume.specs.Known.{KnownDirectory, blocks_reached}
-use Rattle.volume.specs.Live.{VolumeCore, slot, pending_at, held_reaches, current_reaches, pending_reaches, entry_reaches, IsWholePending, IsWholeCore}
+use Rattle.volume.specs.Live.{VolumeCore, slot, pending_at, held_reaches, current_reaches, pending_reaches}
+use Rattle.volume.specs.Live.{entry_reaches, IsWholePending, IsWholeCore}
 use Rattle.volume.specs.Publishing.{before, MakesCurrent}
 use Rattle.volume.specs.declared.live.LiveVersion.{LiveVersion}
 use Rattle.volume.specs.declared.pending.PendingVersion.{PendingVersion}
@@ -30,17 +32,22 @@ use Rattle.volume.proofs.PublishingSlots.{reaches_parts}
 use Rattle.volume.proofs.PuttingCore.{waits}
 
 -- The version that was put into core, under its new key, is the one that was written.
-pub record IsMadeCurrent (size : ℕ) (c c' : VolumeCore) (key : ℕ) (p : PendingVersion) (v : LiveVersion) (puts : List Put) : Type 0 where
+pub record IsMadeCurrent (size : ℕ) (c c' : VolumeCore) (key : ℕ) (p : PendingVersion) (v : LiveVersion)
+    (puts : List Put) : Type 0 where
   pub makes_current : MakesCurrent size c c' key p v.at v.version.ribs puts
   pub prime : v.prime ≡ p.prime
   pub words : v.version.words ≡ p.version.words
   pub blocks : v.version.blocks ≡ p.version.blocks
 
-pub made_current_of : (size bits : ℕ) (c c' : VolumeCore) (key : ℕ) (p : PendingVersion) (v : LiveVersion) (puts : List Put) (current : ℕ) → bits ≡ size
-    → (at : ℕ) × (ribs : List ℕ) × (makes_current : MakesCurrent bits c c' key p at ribs puts) × (current ≡ makes_current.new_key) → Some v ≡ slot c'.live current → IsMadeCurrent size c c' key p v puts
+pub made_current_of : (size bits : ℕ) (c c' : VolumeCore) (key : ℕ) (p : PendingVersion) (v : LiveVersion)
+    (puts : List Put) (current : ℕ) → bits ≡ size
+    → (at : ℕ) × (ribs : List ℕ) × (makes_current : MakesCurrent bits c c' key p at ribs puts)
+    × (current ≡ makes_current.new_key) → Some v ≡ slot c'.live current → IsMadeCurrent size c c' key p v puts
 made_current_of size bits c c' key p v puts current size_is made_current there =
     subst (λ (n : ℕ). IsMadeCurrent n c c' key p v puts) size_is
-    (subst (λ (u : LiveVersion). IsMadeCurrent bits c c' key p u puts) (sym (some_same (there ∙ ap (slot c'.live) made_current.3 ∙ made_current.2.here))) (record { makes_current = made_current.2; prime = refl; words = refl; blocks = refl }))
+    (subst (λ (u : LiveVersion). IsMadeCurrent bits c c' key p u puts)
+    (sym (some_same (there ∙ ap (slot c'.live) made_current.3 ∙ made_current.2.here)))
+    (record { makes_current = made_current.2; prime = refl; words = refl; blocks = refl }))
 
 -- Lists.
 
@@ -52,7 +59,10 @@ total_place f (y ∷ ys) (suc i) x is = let rest = total_place f ys i x is in om
 
 apart_once : (ns : List ℕ) → ((n : ℕ) → times n ns ≤ 1) → AreApart ns
 apart_once [] once = tt
-apart_once (n ∷ ns) once = (let head = times_head n n ns refl in let one = once n in omega arith, apart_once ns (λ k. let one = once k in omega arith))
+apart_once (n ∷ ns) once = (
+  let head = times_head n n ns refl in let one = once n in omega arith,
+  apart_once ns (λ k. let one = once k in omega arith),
+)
 
 -- A block of a version in use: it stands in no chain.
 pub record IsKept (size : ℕ) (c : VolumeCore) (n : ℕ) : Type 0 where
@@ -61,7 +71,8 @@ pub record IsKept (size : ℕ) (c : VolumeCore) (n : ℕ) : Type 0 where
   pub used : IsFree c.known.table n → ⊥
 
 module _ (size : ℕ) (c : VolumeCore) (whole : IsWholeCore size c) where
-  entry_apart : (n : ℕ) → 0 < entry_reaches n c.known.directories → total (λ d. times n d.chain.blocks) c.known.directories ≡ 0
+  entry_apart : (n : ℕ) → 0 < entry_reaches n c.known.directories
+      → total (λ d. times n d.chain.blocks) c.known.directories ≡ 0
   entry_apart n some =
       let parts = reaches_parts n c.known.directories in
       let bits = whole.map.bits n in
@@ -71,7 +82,8 @@ module _ (size : ℕ) (c : VolumeCore) (whole : IsWholeCore size c) where
   held_apart : (n : ℕ) → 0 < holds c.known.table n → total (λ d. times n d.chain.blocks) c.known.directories ≡ 0
   held_apart n some = let none = whole.apart n some in omega arith
 
-  pub read_kept : (k : ℕ) (v : LiveVersion) → slot c.live k ≡ Some v → 0 < v.readers → (n : ℕ) → 0 < times n v.version.blocks → IsKept size c n
+  pub read_kept : (k : ℕ) (v : LiveVersion) → slot c.live k ≡ Some v → 0 < v.readers → (n : ℕ)
+      → 0 < times n v.version.blocks → IsKept size c n
   read_kept k v is some n there = record { from = used.from; apart = by v.is_current refl; used = used.used }
     where
       used : IsUsed size c n
@@ -83,32 +95,37 @@ module _ (size : ℕ) (c : VolumeCore) (whole : IsWholeCore size c) where
       by : (b : Bool) → v.is_current ≡ b → total (λ d. times n d.chain.blocks) c.known.directories ≡ 0
       by true current = entry_apart n
           (let part = total_at (current_reaches n) refl c.live k in
-          let here = ap (current_reaches n) is ∙ ap (λ (b : Bool). if b then times n (blocks_reached v.at v.version) else 0) current in
+          let here = ap (current_reaches n) is
+          ∙ ap (λ (b : Bool). if b then times n (blocks_reached v.at v.version) else 0) current in
           let all = whole.current n in
           let one = stands in
           omega arith)
       by false ended = held_apart n
           (let part = total_at (held_reaches n) refl c.live k in
-          let here = ap (held_reaches n) is ∙ ap (λ (b : Bool). if b then 0 else times n (blocks_reached v.at v.version)) ended in
+          let here = ap (held_reaches n) is
+          ∙ ap (λ (b : Bool). if b then 0 else times n (blocks_reached v.at v.version)) ended in
           let all = whole.held n in
           let one = stands in
           omega arith)
 
-  written_held : (k : ℕ) (q : PendingVersion) → pending_at c.pending k ≡ Some q → (n : ℕ) → 0 < times n q.version.blocks → 0 < holds c.known.table n
+  written_held : (k : ℕ) (q : PendingVersion) → pending_at c.pending k ≡ Some q → (n : ℕ) → 0 < times n q.version.blocks
+      → 0 < holds c.known.table n
   written_held k q is n there =
       let part = total_at (pending_reaches n) refl c.pending k in
       let here = ap (pending_reaches n) is in
       let all = whole.held n in
       omega arith
 
-  pub written_kept : (k : ℕ) (q : PendingVersion) → pending_at c.pending k ≡ Some q → (n : ℕ) → 0 < times n q.version.blocks → IsKept size c n
+  pub written_kept : (k : ℕ) (q : PendingVersion) → pending_at c.pending k ≡ Some q → (n : ℕ)
+      → 0 < times n q.version.blocks → IsKept size c n
   written_kept k q is n there =
       let used = written_used size c whole k q is n there in
       record { from = used.from; apart = held_apart n (written_held k q is n there); used = used.used }
 
 -- The blocks of one that is published.
 
-module _ (size : ℕ) (c c' : VolumeCore) (key : ℕ) (p : PendingVersion) (v : LiveVersion) (puts : List Put) (whole : IsWholeCore size c) (made_current : IsMadeCurrent size c c' key p v puts) where
+module _ (size : ℕ) (c c' : VolumeCore) (key : ℕ) (p : PendingVersion) (v : LiveVersion) (puts : List Put)
+    (whole : IsWholeCore size c) (made_current : IsMadeCurrent size c c' key p v puts) where
   abbrev is : MakesCurrent size c c' key p v.at v.version.ribs puts
   is = made_current.makes_current
 
@@ -121,7 +138,8 @@ module _ (size : ℕ) (c c' : VolumeCore) (key : ℕ) (p : PendingVersion) (v : 
   in_space : AllByRecursion (InSpace size) (v.at ∷ v.version.ribs)
   in_space = (inside.0, all_front (InSpace size) v.version.ribs p.version.blocks inside.1)
 
-  parts : (n : ℕ) → times n (is.published.grown ++ (v.at ∷ (v.version.ribs ++ p.version.blocks))) ≡ times n is.published.grown + times n (v.at ∷ v.version.ribs) + times n p.version.blocks
+  parts : (n : ℕ) → times n (is.published.grown ++ (v.at ∷ (v.version.ribs ++ p.version.blocks)))
+      ≡ times n is.published.grown + times n (v.at ∷ v.version.ribs) + times n p.version.blocks
   parts n =
       let a = times-append n is.published.grown (v.at ∷ (v.version.ribs ++ p.version.blocks)) in
       let b = times-append n (v.at ∷ v.version.ribs) p.version.blocks in
@@ -133,24 +151,28 @@ module _ (size : ℕ) (c c' : VolumeCore) (key : ℕ) (p : PendingVersion) (v : 
   retrieval_inside = all_weaker (InSpace size) (λ n. n < size) (v.at ∷ v.version.ribs) (λ n there. there.below) in_space
 
   pub retrieval_apart : AreApart (v.at ∷ v.version.ribs)
-  retrieval_apart = apart_once (v.at ∷ v.version.ribs) (λ n. let few = is.published.fresh n in let sum = parts n in omega arith)
+  retrieval_apart = apart_once (v.at ∷ v.version.ribs) (λ n. let few = is.published.fresh n in let sum = parts n in
+      omega arith)
 
   pub retrieval_nonzero : times 0 v.version.ribs ≡ 0
   retrieval_nonzero = by (times 0 v.version.ribs) refl
     where
       by : (n : ℕ) → times 0 v.version.ribs ≡ n → n ≡ 0
       by zero none = refl
-      by (suc n) some = absurd (let from = (each_times (InSpace size) v.version.ribs 0 in_space.1 (omega arith)).from in omega arith)
+      by (suc n) some = absurd (let from = (each_times (InSpace size) v.version.ribs 0 in_space.1 (omega arith)).from in
+          omega arith)
 
   pub version_words : v.version.words ≤ 2097152
   version_words = let few = waiting.whole.few in let same = made_current.words in omega arith
 
   pub version_enough : length v.version.blocks ≡ blocks_of v.version.words
-  version_enough = ap (λ (l : List ℕ). length l) made_current.blocks ∙ waiting.whole.counted ∙ ap blocks_of (sym made_current.words)
+  version_enough = ap (λ (l : List ℕ). length l) made_current.blocks ∙ waiting.whole.counted
+      ∙ ap blocks_of (sym made_current.words)
 
   pub version_fits : AllByRecursion (λ n. n < 262144) v.version.blocks
   version_fits = subst (AllByRecursion (λ n. n < 262144)) (sym made_current.blocks)
-      (all_weaker (InSpace size) (λ n. n < 262144) p.version.blocks (λ n there. let below = there.below in let large = whole.map.volume.large in omega arith) waiting.inside)
+      (all_weaker (InSpace size) (λ n. n < 262144) p.version.blocks (λ n there. let below = there.below in
+      let large = whole.map.volume.large in omega arith) waiting.inside)
 
   -- which blocks are written
 
@@ -161,7 +183,8 @@ module _ (size : ℕ) (c c' : VolumeCore) (key : ℕ) (p : PendingVersion) (v : 
   }
 
   pub puts_in_range : AllByRecursion (IsTarget size) (targets puts)
-  puts_in_range = published_in_range size c.known c'.known p.prime.ppn p.prime.file v.at _ (before is.old) puts whole.map is.published
+  puts_in_range = published_in_range size c.known c'.known p.prime.ppn p.prime.file v.at _
+      (before is.old) puts whole.map is.published
 
   -- a block of a version in use isn't
   pub kept_retrieved : (n : ℕ) → IsKept size c n → 0 < times n (v.at ∷ v.version.ribs) → ⊥
@@ -178,8 +201,10 @@ module _ (size : ℕ) (c c' : VolumeCore) (key : ℕ) (p : PendingVersion) (v : 
     where
       by : (k : ℕ) → times n is.published.grown ≡ k → times n is.published.directory'.chain.blocks ≡ 0
       by zero none =
-          let all = published_times size c.known c'.known p.prime.ppn p.prime.file v.at _ (before is.old) puts whole.map is.published n in
-          let part = total_place (λ (d : KnownDirectory). times n d.chain.blocks) c.known.directories is.published.place is.published.directory is.published.directory_at in
+          let all = published_times size c.known c'.known p.prime.ppn p.prime.file v.at _
+          (before is.old) puts whole.map is.published n in
+          let part = total_place (λ (d : KnownDirectory). times n d.chain.blocks) c.known.directories is.published.place
+          is.published.directory is.published.directory_at in
           let apart = kept.apart in
           omega arith
       by (suc k) some = absurd (kept.used (grown_free n (omega arith)))
@@ -187,4 +212,5 @@ module _ (size : ℕ) (c c' : VolumeCore) (key : ℕ) (p : PendingVersion) (v : 
   pub kept_put : (n : ℕ) → IsKept size c n → IsGateOrLog size n ⊎ IsPutIn puts n → ⊥
   kept_put n kept = ⊎_elim
       (λ log. let from = kept.from in let below = log.1 in omega arith)
-      (published_elsewhere size c.known c'.known p.prime.ppn p.prime.file v.at _ (before is.old) puts whole.map is.published n kept.from (kept_chain n kept))
+      (published_elsewhere size c.known c'.known p.prime.ppn p.prime.file v.at _
+      (before is.old) puts whole.map is.published n kept.from (kept_chain n kept))

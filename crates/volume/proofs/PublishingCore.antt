@@ -1,5 +1,7 @@
 -- A version becomes the file of its name: what is in core stays whole.
-use Rattle.std.proofs.Common.{◌≡◌, ℕ, ◌+◌, ◌-◌, ◌<◌, ◌≤◌, ◌⊎◌, inl, inr, ⊎_elim, Bool, true, false, if◌then◌else◌, List, ◌∷◌, ◌++◌, length, slice_set, Option, Some, None, IfSome, is_none, refl, sym, ap, subst, ◌∙◌, arith}
+use Rattle.std.proofs.Common.{◌≡◌, ℕ, ◌+◌, ◌-◌, ◌<◌, ◌≤◌, ◌⊎◌, inl, inr, ⊎_elim, Bool, true, false, if◌then◌else◌, List}
+use Rattle.std.proofs.Common.{◌∷◌, ◌++◌, length, slice_set, Option, Some, None, IfSome, is_none, refl, sym, ap, subst}
+use Rattle.std.proofs.Common.{◌∙◌, arith}
 use Rattle.std.proofs.lemmas.Bool.{cases_lt}
 use Rattle.std.proofs.lemmas.List.{get_or_past, length-set}
 use Rattle.std.proofs.lemmas.Option.{slice_get_within}
@@ -17,8 +19,10 @@ use Rattle.meaning.proofs.DiskMaps.{fixed_below}
 use Rattle.meaning.proofs.MapSums.{times-append}
 use Rattle.alloctab.specs.TableState.{bit, holds}
 use Rattle.directory.specs.Chains.{ChainState, IsChain}
-use Rattle.volume.specs.Known.{KnownDirectory, blocks_reached, reaches_in_known, reaches_in_entries, cost_of_directory, cost_of_known, IsWholeVersion, IsWholeDirectory, IsWholeMap}
-use Rattle.volume.specs.Live.{VolumeCore, as_known, held_reaches, held_cost, current_reaches, pending_reaches, pending_cost, creates, growths, cost_beyond, IsWholePending, IsWholeCore}
+use Rattle.volume.specs.Known.{KnownDirectory, blocks_reached, reaches_in_known, reaches_in_entries, cost_of_directory}
+use Rattle.volume.specs.Known.{cost_of_known, IsWholeVersion, IsWholeDirectory, IsWholeMap}
+use Rattle.volume.specs.Live.{VolumeCore, as_known, held_reaches, held_cost, current_reaches, pending_reaches}
+use Rattle.volume.specs.Live.{pending_cost, creates, growths, cost_beyond, IsWholePending, IsWholeCore}
 use Rattle.volume.specs.Publishing.{given_up, added, before, left_of, MakesCurrent}
 use Rattle.volume.specs.declared.live.LiveVersion.{LiveVersion}
 use Rattle.volume.specs.declared.pending.PendingVersion.{PendingVersion}
@@ -28,11 +32,13 @@ use Rattle.volume.proofs.MakingHeld.{element_at}
 use Rattle.volume.proofs.MakingLaw.{bit_few}
 use Rattle.volume.proofs.Pinning.{all_updated}
 use Rattle.volume.proofs.PublishingPuts.{was_whole, published_times, published_inside}
-use Rattle.volume.proofs.PublishingSlots.{set_total, set_each, all_places, set_growths, came, reaches_parts, entered, Counts, counts, made_current_total, made_current_all}
+use Rattle.volume.proofs.PublishingSlots.{set_total, set_each, all_places, set_growths, came, reaches_parts, entered}
+use Rattle.volume.proofs.PublishingSlots.{Counts, counts, made_current_total, made_current_all}
 use Rattle.volume.proofs.PuttingCore.{waits}
 use Rattle.changeset.specs.PutLaws.{some_or_none}
 
-module _ (size : ℕ) (c c' : VolumeCore) (key : ℕ) (p : PendingVersion) (at : ℕ) (ribs : List ℕ) (puts : List Put) (whole : IsWholeCore size c) (is : MakesCurrent size c c' key p at ribs puts) where
+module _ (size : ℕ) (c c' : VolumeCore) (key : ℕ) (p : PendingVersion) (at : ℕ) (ribs : List ℕ) (puts : List Put)
+    (whole : IsWholeCore size c) (is : MakesCurrent size c c' key p at ribs puts) where
   abbrev new : LiveVersion
   new = record { prime = p.prime; version = record p.version { ribs = ribs }; at = at; readers = 0; is_current = true }
 
@@ -41,8 +47,10 @@ module _ (size : ℕ) (c c' : VolumeCore) (key : ℕ) (p : PendingVersion) (at :
   counted : (n : ℕ) → Counts c.live is.old n
   counted n = counts c.live c'.live is.old n is.ended
 
-  live_total : (f : Option LiveVersion → ℕ) → f None ≡ 0 → total f c'.live + f (entered is.old) ≡ total f c.live + f (Some new) + f (left_of is.old)
-  live_total f none = made_current_total f none c.live c'.live is.old is.new_key (Some new) is.vacant is.here is.ended is.others
+  live_total : (f : Option LiveVersion → ℕ) → f None ≡ 0 → total f c'.live + f (entered is.old)
+      ≡ total f c.live + f (Some new) + f (left_of is.old)
+  live_total f none = made_current_total f none c.live c'.live is.old is.new_key
+      (Some new) is.vacant is.here is.ended is.others
 
   adds : Adds c'.pending c.pending key p
   adds = record { vacant = is.gone; here = is.written; others = λ k other. sym (is.other_pending k other) }
@@ -50,37 +58,49 @@ module _ (size : ℕ) (c c' : VolumeCore) (key : ℕ) (p : PendingVersion) (at :
   pending_total : (f : Option PendingVersion → ℕ) → f None ≡ 0 → total f c.pending ≡ total f c'.pending + f (Some p)
   pending_total = added_total c'.pending c.pending key p adds
 
-  directory_total : (f : KnownDirectory → ℕ) → total f c'.known.directories + f is.published.directory ≡ total f c.known.directories + f is.published.directory'
+  directory_total : (f : KnownDirectory → ℕ) → total f c'.known.directories + f is.published.directory
+      ≡ total f c.known.directories + f is.published.directory'
   directory_total f =
-      let all = set_total f c.known.directories is.published.place is.published.directory is.published.directory' is.published.directory_at in
+      let all = set_total f c.known.directories is.published.place is.published.directory is.published.directory'
+      is.published.directory_at in
       let now = ap (total f) is.published.directories in
       omega arith
 
-  chain_times : (n : ℕ) → times n is.published.directory'.chain.blocks ≡ times n is.published.directory.chain.blocks + times n is.published.grown
-  chain_times = published_times size c.known c'.known p.prime.ppn p.prime.file at (as_known new) (before is.old) puts whole.map is.published
+  chain_times : (n : ℕ) → times n is.published.directory'.chain.blocks
+      ≡ times n is.published.directory.chain.blocks + times n is.published.grown
+  chain_times = published_times size c.known c'.known p.prime.ppn p.prime.file at (as_known new)
+      (before is.old) puts whole.map is.published
 
-  fresh_times : (n : ℕ) → times n (is.published.grown ++ blocks_reached at new.version) ≡ times n is.published.grown + times n (blocks_reached at new.version)
+  fresh_times : (n : ℕ) → times n (is.published.grown ++ blocks_reached at new.version)
+      ≡ times n is.published.grown + times n (blocks_reached at new.version)
   fresh_times n = times-append n is.published.grown (blocks_reached at new.version)
 
   -- The map.
 
   was : IsWholeDirectory size is.published.directory
-  was = was_whole size c.known c'.known p.prime.ppn p.prime.file at (as_known new) (before is.old) puts whole.map is.published
+  was = was_whole size c.known c'.known p.prime.ppn p.prime.file at (as_known new)
+      (before is.old) puts whole.map is.published
 
   was_waiting : IsWholePending size p
   was_waiting = waits size c whole key p is.written
 
   new_whole : IsWholeVersion (as_known new)
-  new_whole = record { counted = was_waiting.whole.counted; few = was_waiting.whole.few; few_ribs = let many = is.few_ribs in omega arith }
+  new_whole = record {
+    counted = was_waiting.whole.counted;
+    few = was_waiting.whole.few;
+    few_ribs = let many = is.few_ribs in omega arith;
+  }
 
   now_whole : IsWholeDirectory size is.published.directory'
   now_whole = record {
     chain = is.published.entry.chain;
-    inside = published_inside size c.known c'.known p.prime.ppn p.prime.file at (as_known new) (before is.old) puts whole.map is.published;
+    inside = published_inside size c.known c'.known p.prime.ppn p.prime.file at (as_known new)
+        (before is.old) puts whole.map is.published;
     aligned = is.published.entry.aligned;
     versions = all_places IsWholeVersion is.published.directory'.versions (λ i u there.
         let within = slice_get_within is.published.directory'.versions i u there in
-        let e = element_at is.published.directory'.chain.entries i (let aligned = is.published.entry.aligned in omega arith) in
+        let e = element_at is.published.directory'.chain.entries i (let aligned = is.published.entry.aligned in
+        omega arith) in
         ⊎_elim
         (λ of_new. subst IsWholeVersion (sym of_new.1) new_whole)
         (λ kept. all_at IsWholeVersion is.published.directory.versions kept.1 u was.versions kept.3)
@@ -92,13 +112,17 @@ module _ (size : ℕ) (c c' : VolumeCore) (key : ℕ) (p : PendingVersion) (at :
     volume = whole.map.volume;
     size_is = is.published.size_is ∙ whole.map.size_is;
     chain = subst (IsChain nat_cmp (IsMasterEntryOf 1)) (sym is.published.master) whole.map.chain;
-    inside = subst (λ (m : ChainState MasterEntry). AllByRecursion (InSpace size) m.blocks) (sym is.published.master) whole.map.inside;
+    inside = subst (λ (m : ChainState MasterEntry). AllByRecursion (InSpace size) m.blocks)
+        (sym is.published.master) whole.map.inside;
     aligned =
-        let now = ap (λ (ds : List KnownDirectory). length ds) is.published.directories ∙ length-set c.known.directories is.published.place is.published.directory' in
+        let now = ap (λ (ds : List KnownDirectory). length ds) is.published.directories
+        ∙ length-set c.known.directories is.published.place is.published.directory' in
         let entries = ap (λ (m : ChainState MasterEntry). length m.entries) is.published.master in
         let aligned = whole.map.aligned in
         omega arith;
-    each = subst (AllByRecursion (IsWholeDirectory size)) (sym is.published.directories) (set_each (IsWholeDirectory size) c.known.directories is.published.place is.published.directory' whole.map.each now_whole);
+    each = subst (AllByRecursion (IsWholeDirectory size)) (sym is.published.directories)
+        (set_each (IsWholeDirectory size) c.known.directories is.published.place is.published.directory'
+        whole.map.each now_whole);
     bits = λ n.
         let bits = is.published.bits n in
         let old = whole.map.bits n in
@@ -121,7 +145,9 @@ module _ (size : ℕ) (c c' : VolumeCore) (key : ℕ) (p : PendingVersion) (at :
       ⊎_elim (λ old. inl old) (λ none. inr (omega arith)) (some_or_none (holds c.known.table n))
 
   -- which stands in no other place
-  given_alone : (n : ℕ) → 0 < given_up n (before is.old) → (fixed size n ≡ 0) × (times n c.known.master.blocks + total (λ d. times n d.chain.blocks) c.known.directories ≡ 0) × (times n is.published.grown ≡ 0)
+  given_alone : (n : ℕ) → 0 < given_up n (before is.old) → (fixed size n ≡ 0)
+      × (times n c.known.master.blocks + total (λ d. times n d.chain.blocks) c.known.directories ≡ 0)
+      × (times n is.published.grown ≡ 0)
   given_alone n some =
       let within = (counted n).within in
       let current = whole.current n in
@@ -140,13 +166,16 @@ module _ (size : ℕ) (c c' : VolumeCore) (key : ℕ) (p : PendingVersion) (at :
       record {
         from = ⊎_elim (λ low. absurd (let one = fixed_below size n low in omega arith)) (λ from. from) (cases_lt n _);
         below = ⊎_elim
-            (λ below. let many = is.sound.held_are in let same = is.published.size_is in let size_is = whole.map.size_is in omega arith)
-            (λ past. absurd (let none : holds c'.known.table n ≡ 0 = get_or_past c'.known.table.held n 0 past in omega arith))
+            (λ below. let many = is.sound.held_are in let same = is.published.size_is in
+            let size_is = whole.map.size_is in omega arith)
+            (λ past. absurd (let none : holds c'.known.table n ≡ 0 = get_or_past c'.known.table.held n 0 past in
+            omega arith))
             (cases_lt n (length c'.known.table.held));
       })
       (held_before n some)
 
-  made_current_apart : (n : ℕ) → 0 < holds c'.known.table n → times n c'.known.master.blocks + total (λ d. times n d.chain.blocks) c'.known.directories ≡ 0
+  made_current_apart : (n : ℕ) → 0 < holds c'.known.table n
+      → times n c'.known.master.blocks + total (λ d. times n d.chain.blocks) c'.known.directories ≡ 0
   made_current_apart n some =
       let chain = chain_times n in
       let all = directory_total (λ d. times n d.chain.blocks) in
@@ -154,12 +183,14 @@ module _ (size : ℕ) (c c' : VolumeCore) (key : ℕ) (p : PendingVersion) (at :
       ⊎_elim
       (λ old.
       let none = whole.apart n old in
-      ⊎_elim (λ grown. absurd (let unheld = is.unheld n (let split = times-append n is.published.grown (at ∷ ribs) in omega arith) in omega arith)) (λ away. omega arith) (some_or_none (times n is.published.grown)))
+      ⊎_elim (λ grown. absurd (let unheld = is.unheld n (let split = times-append n is.published.grown (at ∷ ribs) in
+      omega arith) in omega arith)) (λ away. omega arith) (some_or_none (times n is.published.grown)))
       (λ given. let alone = given_alone n given in let chains = alone.1 in let grown = alone.2 in omega arith)
       (held_before n some)
 
   -- a block of another version that is being written is in nothing else still
-  made_current_own : (n : ℕ) → 0 < total (pending_reaches n) c'.pending → bit c'.known.table n + holds c'.known.table n ≤ 1
+  made_current_own : (n : ℕ) → 0 < total (pending_reaches n) c'.pending
+      → bit c'.known.table n + holds c'.known.table n ≤ 1
   made_current_own n some =
       let waiting = pending_total (pending_reaches n) refl in
       let alone = whole.own n (omega arith) in
@@ -170,9 +201,13 @@ module _ (size : ℕ) (c c' : VolumeCore) (key : ℕ) (p : PendingVersion) (at :
       let fresh = fresh_times n in
       let split = times-append n is.published.grown (at ∷ ribs) in
       let its = times-append n (at ∷ ribs) p.version.blocks in
-      let none : times n (is.published.grown ++ at ∷ ribs) ≡ 0 = ⊎_elim (λ taken. absurd (let unheld = is.unheld n taken in omega arith)) (λ no. no) (some_or_none (times n (is.published.grown ++ at ∷ ribs))) in
+      let none : times n (is.published.grown ++ at ∷ ribs)
+      ≡ 0 = ⊎_elim (λ taken. absurd (let unheld = is.unheld n taken in omega arith)) (λ no. no)
+      (some_or_none (times n (is.published.grown ++ at ∷ ribs))) in
       ⊎_elim
-      (λ given. absurd (let far = given_alone n given in let within = (counted n).within in let current = whole.current n in let parts = reaches_parts n c.known.directories in let all = whole.map.bits n in omega arith))
+      (λ given. absurd (let far = given_alone n given in let within = (counted n).within in
+      let current = whole.current n in let parts = reaches_parts n c.known.directories in let all = whole.map.bits n in
+      omega arith))
       (λ no. omega arith)
       (some_or_none (given_up n (before is.old)))
 
@@ -182,23 +217,33 @@ module _ (size : ℕ) (c c' : VolumeCore) (key : ℕ) (p : PendingVersion) (at :
   no_more_booked = let sum = is.booked in let cost = (counted 0).cost in omega arith
 
   -- the directory costs as much more as was booked for a new entry
-  made_current_growths : growths c.pending c.known.master.entries c.known.directories + length is.published.directory.chain.blocks ≡ growths c'.pending c'.known.master.entries c'.known.directories + length is.published.directory'.chain.blocks
+  made_current_growths : growths c.pending c.known.master.entries c.known.directories
+      + length is.published.directory.chain.blocks ≡ growths c'.pending c'.known.master.entries c'.known.directories
+      + length is.published.directory'.chain.blocks
   made_current_growths =
       let d = is.published.directory in
       let d' = is.published.directory' in
       let k = p.prime.ppn in
       let m = total (creates k) c'.pending in
-      let more = added_growths c'.pending c.pending key p adds c.known.master.entries c.known.directories is.published.place is.published.word d whole.map.chain.each_once is.published.there.is is.published.directory_at in
-      let other = set_growths c'.pending c.known.master.entries c.known.directories is.published.place k is.published.word d d' is.published.there.is is.published.directory_at in
-      let now : growths c'.pending c'.known.master.entries c'.known.directories ≡ growths c'.pending c.known.master.entries (slice_set c.known.directories is.published.place d') = (λ i. growths c'.pending (is.published.master i).entries (is.published.directories i)) in
-      let here = by p.is_new is.old is.is_new (length d.chain.entries) m (length d'.chain.entries) is.published.entry.count in
+      let more = added_growths c'.pending c.pending key p adds c.known.master.entries c.known.directories
+      is.published.place is.published.word d whole.map.chain.each_once is.published.there.is
+      is.published.directory_at in
+      let other = set_growths c'.pending c.known.master.entries c.known.directories is.published.place
+      k is.published.word d d' is.published.there.is is.published.directory_at in
+      let now : growths c'.pending c'.known.master.entries c'.known.directories
+      ≡ growths c'.pending c.known.master.entries (slice_set c.known.directories is.published.place d') =
+      (λ i. growths c'.pending (is.published.master i).entries (is.published.directories i)) in
+      let here = by p.is_new is.old is.is_new (length d.chain.entries) m
+      (length d'.chain.entries) is.published.entry.count in
       let counts_d = was.chain.counted in
       let counts_d' = is.published.entry.chain.counted in
       omega arith
     where
       by : (b : Bool) (old : Option (ℕ × LiveVersion)) → b ≡ is_none old → (n m n' : ℕ) → n' ≡ n + added (before old)
-          → directory_cost (n + m) - directory_cost n + (if b then growth (n + m) else 0) + directory_cost n ≡ directory_cost (n' + m) - directory_cost n' + directory_cost n'
-      by true None is_new n m n' count = came n m ∙ sym (ap (λ (l : ℕ). directory_cost (l + m) - directory_cost l + directory_cost l) count)
+          → directory_cost (n + m) - directory_cost n + (if b then growth (n + m) else 0) + directory_cost n
+          ≡ directory_cost (n' + m) - directory_cost n' + directory_cost n'
+      by true None is_new n m n' count = came n m
+          ∙ sym (ap (λ (l : ℕ). directory_cost (l + m) - directory_cost l + directory_cost l) count)
       by false (Some o) is_new n m n' count =
           let kept : n' ≡ n = omega arith in
           let same = ap (λ (l : ℕ). directory_cost (l + m) - directory_cost l + directory_cost l) kept in
@@ -223,8 +268,11 @@ module _ (size : ℕ) (c c' : VolumeCore) (key : ℕ) (p : PendingVersion) (at :
   made_current_whole = record {
     map = made_current_map;
     keyed = is.keyed;
-    standing = made_current_all size c c' key p at ribs puts is (λ o. IfSome o (λ v. IsWholeVersion (as_known v))) tt (subst (λ o. IfSome o (λ v. IsWholeVersion (as_known v))) (sym is.here) new_whole) (λ v of_v. of_v) whole.standing;
-    waiting = all_updated (λ o. IfSome o (IsWholePending size)) c.pending c'.pending key is.other_pending tt whole.waiting (subst (λ o. IfSome o (IsWholePending size)) (sym is.gone) tt);
+    standing = made_current_all size c c' key p at ribs puts is (λ o. IfSome o (λ v. IsWholeVersion (as_known v))) tt
+        (subst (λ o. IfSome o (λ v. IsWholeVersion (as_known v))) (sym is.here) new_whole)
+        (λ v of_v. of_v) whole.standing;
+    waiting = all_updated (λ o. IfSome o (IsWholePending size)) c.pending c'.pending key is.other_pending
+        tt whole.waiting (subst (λ o. IfSome o (IsWholePending size)) (sym is.gone) tt);
     current = λ n.
         let now = live_total (current_reaches n) refl in
         let old = (counted n).current in
@@ -235,7 +283,8 @@ module _ (size : ℕ) (c c' : VolumeCore) (key : ℕ) (p : PendingVersion) (at :
         omega arith;
     housed = λ ppn absent.
         let less = pending_total (creates ppn) refl in
-        let none = whole.housed ppn (subst (λ (m : ChainState MasterEntry). find nat_cmp ppn m.entries ≡ None) is.published.master absent) in
+        let none = whole.housed ppn (subst (λ (m : ChainState MasterEntry). find nat_cmp ppn m.entries
+        ≡ None) is.published.master absent) in
         omega arith;
     held = λ n.
         let sum = is.held n in

@@ -1,5 +1,6 @@
 -- A version becomes the file of its name: what the puts make of what is held.
-use Rattle.std.proofs.Common.{◌≡◌, ℕ, ◌+◌, ◌<◌, ◌≤◌, ◌⊎◌, inl, inr, ⊎_elim, List, ◌++◌, Some, option_map, slice_get, refl, sym, ◌∙◌, ap, subst, arith}
+use Rattle.std.proofs.Common.{◌≡◌, ℕ, ◌+◌, ◌<◌, ◌≤◌, ◌⊎◌, inl, inr, ⊎_elim, List, ◌++◌, Some, option_map, slice_get}
+use Rattle.std.proofs.Common.{refl, sym, ◌∙◌, ap, subst, arith}
 use Rattle.std.proofs.lemmas.Option.{slice_get_within}
 use Rattle.std.specs.Option.{IsSome}
 use Rattle.std.specs.Cmp.{nat_cmp_total}
@@ -13,8 +14,10 @@ use Rattle.meaning.specs.Regions.{table_blocks, table_start, space_start}
 use Rattle.meaning.specs.Log.{with_puts}
 use Rattle.meaning.specs.Table.{table_bit}
 use Rattle.meaning.specs.Directories.{MasterEntry, master_words, master_word, FileEntry, file_words, IsFileEntry}
-use Rattle.meaning.specs.Stands.{StoredFile, StoredDirectory, DiskMap, HasMap, IsVersion, directory_of, files_of, entry_of, place_of, reaches_in_file, reaches_in_directory, reaches}
-use Rattle.meaning.specs.Changes.{TableFollows, IsFileChain, entries_of, primes_of, reaches_in_found, with_directory, with_file}
+use Rattle.meaning.specs.Stands.{StoredFile, StoredDirectory, DiskMap, HasMap, IsVersion, directory_of, files_of}
+use Rattle.meaning.specs.Stands.{entry_of, place_of, reaches_in_file, reaches_in_directory, reaches}
+use Rattle.meaning.specs.Changes.{TableFollows, IsFileChain, entries_of, primes_of, reaches_in_found, with_directory}
+use Rattle.meaning.specs.Changes.{with_file}
 use Rattle.meaning.specs.Faults.{InSpace}
 use Rattle.meaning.proofs.Names.{name_total, name_exact}
 use Rattle.meaning.proofs.MapLaws.{some_same, get-insert_same, get-insert_other, insert_same}
@@ -29,10 +32,12 @@ use Rattle.alloctab.specs.TableState.{bit}
 use Rattle.directory.specs.Chains.{ChainState, IsOn}
 use Rattle.directory.specs.ChainLaws.{chain_stands, on_kept}
 use Rattle.volume.specs.Facts.{facts_of, known_facts}
-use Rattle.volume.specs.Known.{KnownVersion, KnownDirectory, Known, IsKnownFile, IsKnownDirectory, IsKnownMap, IsHeld, IsWholeMap, blocks_reached}
+use Rattle.volume.specs.Known.{KnownVersion, KnownDirectory, Known, IsKnownFile, IsKnownDirectory, IsKnownMap, IsHeld}
+use Rattle.volume.specs.Known.{IsWholeMap, blocks_reached}
 use Rattle.volume.specs.Publishing.{Before, given_up, files_put_in, files_published, IsPublished}
 use Rattle.volume.proofs.MakingHeld.{reached_in_space, element_at, chain_reached}
-use Rattle.volume.proofs.PublishingPuts.{set_cases, other_key, file_times, given_up_is, was_whole, published_times, published_inside, published_apart, published_stays}
+use Rattle.volume.proofs.PublishingPuts.{set_cases, other_key, file_times, given_up_is, was_whole, published_times}
+use Rattle.volume.proofs.PublishingPuts.{published_inside, published_apart, published_stays}
 use Rattle.volume.proofs.MakingLaw.{head_front, bits_same}
 use Rattle.changeset.specs.PutLaws.{some_or_none}
 
@@ -42,16 +47,21 @@ abbrev pub map_published : DiskMap → ℕ → StoredDirectory → List ℕ → 
 map_published m ppn stored chain name f = with_directory m m.chain ppn (with_file stored chain name f)
 
 -- its files
-pub published_files : (m : DiskMap) (ppn : ℕ) (stored : StoredDirectory) (chain : List ℕ) (name : FileName) (f : StoredFile) → get m.directories ppn ≡ Some stored
+pub published_files : (m : DiskMap) (ppn : ℕ) (stored : StoredDirectory) (chain : List ℕ) (name : FileName)
+    (f : StoredFile) → get m.directories ppn ≡ Some stored
     → files_of (map_published m ppn stored chain name f) ≡ files_published (files_of m) ppn name f.file
 published_files m ppn stored chain name f at =
     files_of_published m ppn stored name f chain
-    ∙ ap (λ o. files_put_in o (files_of m) ppn name f.file) (sym (get-map_values nat_cmp_total directory_of m.directories ppn ∙ ap (option_map directory_of) at))
+    ∙ ap (λ o. files_put_in o (files_of m) ppn name f.file)
+    (sym (get-map_values nat_cmp_total directory_of m.directories ppn ∙ ap (option_map directory_of) at))
 
 -- In the directory that the map has there.
 
-module _ (size : ℕ) (k k' : Known) (m : DiskMap) (ppn : ℕ) (name : FileName) (at : ℕ) (v : KnownVersion) (old : Before) (puts : List Put) (whole : IsWholeMap size k) (is : IsPublished size k k' ppn name at v old puts)
-    (stored : StoredDirectory) (stored_at : get m.directories ppn ≡ Some stored) (c : Contents) (held : IsHeld size k m c) (f : StoredFile) (facts : facts_of f ≡ known_facts at v.prime v.version) (version : IsVersion 1 c (place_of ppn name) f) where
+module _ (size : ℕ) (k k' : Known) (m : DiskMap) (ppn : ℕ) (name : FileName) (at : ℕ) (v : KnownVersion)
+    (old : Before) (puts : List Put) (whole : IsWholeMap size k) (is : IsPublished size k k' ppn name at v old puts)
+    (stored : StoredDirectory) (stored_at : get m.directories ppn ≡ Some stored) (c : Contents)
+    (held : IsHeld size k m c) (f : StoredFile) (facts : facts_of f ≡ known_facts at v.prime v.version)
+    (version : IsVersion 1 c (place_of ppn name) f) where
   -- which blocks are meant
 
   stored_is : IsKnownDirectory is.directory stored
@@ -66,13 +76,15 @@ module _ (size : ℕ) (k k' : Known) (m : DiskMap) (ppn : ℕ) (name : FileName)
   new_times = published_times size k k' ppn name at v old puts whole is
 
   fresh_times : (n : ℕ) → times n (is.grown ++ blocks_reached at v.version) ≡ times n is.grown + reaches_in_file n f
-  fresh_times n = times-append n is.grown (blocks_reached at v.version) ∙ ap (λ (r : ℕ). times n is.grown + r) (sym (file_times f at v facts n))
+  fresh_times n = times-append n is.grown (blocks_reached at v.version)
+      ∙ ap (λ (r : ℕ). times n is.grown + r) (sym (file_times f at v facts n))
 
   given_times : (n : ℕ) → reaches_in_found n (get stored.files name) ≡ given_up n old
   given_times = given_up_is is.directory stored name old stored_is is.entry.was
 
   fresh_unreached : (n : ℕ) → 0 < times n (is.grown ++ blocks_reached at v.version) → reaches n m ≡ 0
-  fresh_unreached n there = let few = is.fresh n in let e = held.bits n in let b = held.stands.marked.bits n in omega arith
+  fresh_unreached n there = let few = is.fresh n in let e = held.bits n in let b = held.stands.marked.bits n in
+      omega arith
 
   -- the chain with that of the master directory
   in_map : (n : ℕ) → times n m.chain + times n is.directory.chain.blocks ≤ reaches n m
@@ -83,16 +95,21 @@ module _ (size : ℕ) (k k' : Known) (m : DiskMap) (ppn : ℕ) (name : FileName)
 
   -- what stays
 
-  others : (n : ℕ) → (n < table_start size) ⊎ (space_start size ≤ n) → times n is.directory'.chain.blocks ≡ 0 → with_puts puts c n ≡ c n
+  others : (n : ℕ) → (n < table_start size) ⊎ (space_start size ≤ n) → times n is.directory'.chain.blocks ≡ 0
+      → with_puts puts c n ≡ c n
   others = published_stays size k k' ppn name at v old puts whole is c
 
-  mid_table : (i : ℕ) → i < table_blocks size → with_puts is.chain_puts c (table_start size + i) ≡ c (table_start size + i)
-  mid_table i below = is.put_chain.others c (table_start size + i) (out_of_chain (table_start size + i) (inl (omega arith)))
+  mid_table : (i : ℕ) → i < table_blocks size → with_puts is.chain_puts c (table_start size + i)
+      ≡ c (table_start size + i)
+  mid_table i below = is.put_chain.others c (table_start size + i)
+      (out_of_chain (table_start size + i) (inl (omega arith)))
 
   reached_stays : (n : ℕ) → 0 < reaches n m → times n is.directory.chain.blocks ≡ 0 → with_puts puts c n ≡ c n
   reached_stays n there none =
       others n (inr (reached_in_space size c m held.stands n there).from)
-      (let e = new_times n in let g = fresh_times n in ⊎_elim (λ fresh. absurd (let z = fresh_unreached n fresh in omega arith)) (λ no. omega arith) (some_or_none (times n (is.grown ++ blocks_reached at v.version))))
+      (let e = new_times n in let g = fresh_times n in
+      ⊎_elim (λ fresh. absurd (let z = fresh_unreached n fresh in omega arith)) (λ no. omega arith)
+      (some_or_none (times n (is.grown ++ blocks_reached at v.version))))
 
   new_version : IsVersion 1 (with_puts puts c) (place_of ppn name) f
   new_version = version_kept 1 c (with_puts puts c) (place_of ppn name) f version (λ n there.
@@ -101,24 +118,29 @@ module _ (size : ℕ) (k k' : Known) (m : DiskMap) (ppn : ℕ) (name : FileName)
       let few = is.fresh n in
       let z = fresh_unreached n (omega arith) in
       let most = in_map n in
-      others n (inr (each_times (InSpace size) (is.grown ++ blocks_reached at v.version) n is.inside (omega arith)).from) (omega arith))
+      others n (inr (each_times (InSpace size) (is.grown ++ blocks_reached at v.version) n is.inside
+      (omega arith)).from) (omega arith))
 
   -- the chain of the directory
 
   new_on : IsOn file_words (with_puts puts c) is.directory'.chain
-  new_on = on_kept file_words (with_puts is.chain_puts c) (with_puts puts c) is.directory'.chain (is.put_chain.spells c (held.chains is.place is.directory is.directory_at))
-      (λ n there. is.put.others c n (inr (each_times (InSpace size) is.directory'.chain.blocks n (published_inside size k k' ppn name at v old puts whole is) there).from))
+  new_on = on_kept file_words (with_puts is.chain_puts c) (with_puts puts c) is.directory'.chain
+      (is.put_chain.spells c (held.chains is.place is.directory is.directory_at))
+      (λ n there. is.put.others c n (inr (each_times (InSpace size) is.directory'.chain.blocks n
+      (published_inside size k k' ppn name at v old puts whole is) there).from))
 
   primes : from_entries is.directory'.chain.entries ≡ insert (primes_of stored) name f.prime
   primes = is.entry.names ∙ (λ i. insert (sym stored_is.names i) name (sym facts i).prime)
 
   new_chain : IsFileChain (with_puts puts c) is.directory'.chain.blocks (insert (primes_of stored) name f.prime)
-  new_chain = subst (IsFileChain (with_puts puts c) is.directory'.chain.blocks) primes (chain_stands file_words IsFileEntry (with_puts puts c) is.directory'.chain is.entry.chain new_on)
+  new_chain = subst (IsFileChain (with_puts puts c) is.directory'.chain.blocks) primes
+      (chain_stands file_words IsFileEntry (with_puts puts c) is.directory'.chain is.entry.chain new_on)
 
   first_block : head_or_zero is.directory'.chain.blocks ≡ head_or_zero stored.chain
   first_block =
       ap head_or_zero is.blocks
-      ∙ head_front is.directory.chain.blocks is.grown (let e = (was_whole size k k' ppn name at v old puts whole is).chain.counted in omega arith)
+      ∙ head_front is.directory.chain.blocks is.grown
+      (let e = (was_whole size k k' ppn name at v old puts whole is).chain.counted in omega arith)
       ∙ ap head_or_zero (sym stored_is.chain)
 
   -- the table
@@ -126,33 +148,44 @@ module _ (size : ℕ) (k k' : Known) (m : DiskMap) (ppn : ℕ) (name : FileName)
   new_bits : (n : ℕ) → table_bit size (with_puts puts c) n ≡ bit k'.table n
   new_bits = is.put.spells c (λ n. bits_same size c (with_puts is.chain_puts c) mid_table n ∙ held.bits n)
 
-  follows : TableFollows size c (with_puts puts c) (λ n. times n stored.chain + reaches_in_found n (get stored.files name)) (λ n. times n is.directory'.chain.blocks + reaches_in_file n f)
+  follows : TableFollows size c (with_puts puts c) (λ n. times n stored.chain
+      + reaches_in_found n (get stored.files name)) (λ n. times n is.directory'.chain.blocks + reaches_in_file n f)
   follows = record {
-    undamaged = is.put.undamaged c (λ i below. subst IsSome (sym (mid_table i below)) (held.stands.marked.undamaged i below));
+    undamaged = is.put.undamaged c
+        (λ i below. subst IsSome (sym (mid_table i below)) (held.stands.marked.undamaged i below));
     inside = λ n past. let none = out_of_chain n (inr past) in let g = fresh_times n in
-        ⊎_elim (λ there. absurd (let below = (each_times (InSpace size) (is.grown ++ blocks_reached at v.version) n is.inside there).below in omega arith)) (λ no. omega arith)
+        ⊎_elim (λ there. absurd (let below = (each_times (InSpace size) (is.grown
+        ++ blocks_reached at v.version) n is.inside there).below in omega arith)) (λ no. omega arith)
         (some_or_none (times n (is.grown ++ blocks_reached at v.version)));
-    bits = λ n. let a = new_bits n in let b = is.bits n in let e = held.bits n in let g = fresh_times n in let h = new_times n in let s = stored_times n in let was = given_times n in omega arith;
+    bits = λ n. let a = new_bits n in let b = is.bits n in let e = held.bits n in let g = fresh_times n in
+        let h = new_times n in let s = stored_times n in let was = given_times n in omega arith;
   }
 
   new_map : HasMap size (with_puts puts c) (map_published m ppn stored is.directory'.chain.blocks name f)
-  new_map = published size c (with_puts puts c) m ppn stored name (get stored.files name) f is.directory'.chain.blocks held.stands stored_at refl new_chain first_block
+  new_map = published size c (with_puts puts c) m ppn stored name (get stored.files name) f is.directory'.chain.blocks
+      held.stands stored_at refl new_chain first_block
       (subst (λ (l : ℕ). IsVersion l (with_puts puts c) (place_of ppn name) f) (sym held.known.layout) new_version)
       (record {
-        home = record { first = others 1 (inl (omega arith)) (out_of_chain 1 (inl (omega arith))); second = others 2 (inl (omega arith)) (out_of_chain 2 (inl (omega arith))) };
+        home = record {
+          first = others 1 (inl (omega arith)) (out_of_chain 1 (inl (omega arith)));
+          second = others 2 (inl (omega arith)) (out_of_chain 2 (inl (omega arith)));
+        };
         others = λ n there none. reached_stays n there (let s = stored_times n in omega arith);
       })
       follows
 
   -- core
 
-  each_file : (i : ℕ) (e : FileEntry) (u : KnownVersion) → slice_get is.directory'.chain.entries i ≡ Some e → slice_get is.directory'.versions i ≡ Some u → IsKnownFile (with_file stored is.directory'.chain.blocks name f) e u
+  each_file : (i : ℕ) (e : FileEntry) (u : KnownVersion) → slice_get is.directory'.chain.entries i ≡ Some e
+      → slice_get is.directory'.versions i ≡ Some u
+      → IsKnownFile (with_file stored is.directory'.chain.blocks name f) e u
   each_file i e u here also = ⊎_elim
       (λ new.
       let entry : e ≡ (name, at) = new.0 in
       let known : u ≡ v = new.1 in (
         f,
-        ap (λ (z : FileEntry). get (insert stored.files name f) z.0) entry ∙ get-insert_same name_total stored.files name f,
+        ap (λ (z : FileEntry). get (insert stored.files name f) z.0) entry
+            ∙ get-insert_same name_total stored.files name f,
         facts ∙ sym (λ j. known_facts (entry j).1 (known j).prime (known j).version),
       ))
       (λ kept.
@@ -161,63 +194,88 @@ module _ (size : ℕ) (k k' : Known) (m : DiskMap) (ppn : ℕ) (name : FileName)
       (is.entry.each i e u here also)
 
   new_known : IsKnownDirectory is.directory' (with_file stored is.directory'.chain.blocks name f)
-  new_known = record { chain = refl; names = map_values-insert name_total name_exact (λ x. x.prime) stored.files name f ∙ sym primes; each = each_file }
+  new_known = record {
+    chain = refl;
+    names = map_values-insert name_total name_exact (λ x. x.prime) stored.files name f
+        ∙ sym primes;
+    each = each_file;
+  }
 
-  changed : (i : ℕ) (x : KnownDirectory) → slice_get k'.directories i ≡ Some x → ((i ≡ is.place) × (x ≡ is.directory')) ⊎ ((i ≡ is.place → ⊥) × (slice_get k.directories i ≡ Some x))
-  changed i x also = set_cases k.directories is.place i is.directory' x (ap (λ ds. slice_get ds i) (sym is.directories) ∙ also)
+  changed : (i : ℕ) (x : KnownDirectory) → slice_get k'.directories i ≡ Some x → ((i ≡ is.place) × (x ≡ is.directory'))
+      ⊎ ((i ≡ is.place → ⊥) × (slice_get k.directories i ≡ Some x))
+  changed i x also = set_cases k.directories is.place i is.directory' x (ap (λ ds. slice_get ds i) (sym is.directories)
+      ∙ also)
 
   -- an entry in another place has another key
   apart : (i : ℕ) (e : MasterEntry) → slice_get k.master.entries i ≡ Some e → (i ≡ is.place → ⊥) → e.0 ≡ ppn → ⊥
-  apart i e here other = other_key k.master.entries i is.place ppn e is.word whole.chain.each_once here is.there.is other
+  apart i e here other = other_key k.master.entries i is.place ppn e is.word whole.chain.each_once here
+      is.there.is other
 
-  each_known : (i : ℕ) (e : MasterEntry) (x : KnownDirectory) → slice_get k'.master.entries i ≡ Some e → slice_get k'.directories i ≡ Some x
-      → (s : StoredDirectory) × (get (insert m.directories ppn (with_file stored is.directory'.chain.blocks name f)) e.0 ≡ Some s) × IsKnownDirectory x s
+  each_known : (i : ℕ) (e : MasterEntry) (x : KnownDirectory) → slice_get k'.master.entries i ≡ Some e
+      → slice_get k'.directories i ≡ Some x
+      → (s : StoredDirectory) × (get (insert m.directories ppn (with_file stored is.directory'.chain.blocks name f)) e.0
+      ≡ Some s) × IsKnownDirectory x s
   each_known i e x here also = by_place (changed i x also)
     where
       was : slice_get k.master.entries i ≡ Some e
       was = ap (λ (z : ChainState MasterEntry). slice_get z.entries i) (sym is.master) ∙ here
 
       by_place : ((i ≡ is.place) × (x ≡ is.directory')) ⊎ ((i ≡ is.place → ⊥) × (slice_get k.directories i ≡ Some x))
-          → (s : StoredDirectory) × (get (insert m.directories ppn (with_file stored is.directory'.chain.blocks name f)) e.0 ≡ Some s) × IsKnownDirectory x s
+          → (s : StoredDirectory) × (get (insert m.directories ppn (with_file stored is.directory'.chain.blocks name f))
+          e.0 ≡ Some s) × IsKnownDirectory x s
       by_place (inl new) =
           let entry : e ≡ (ppn, is.word) = some_same (sym was ∙ ap (slice_get k.master.entries) new.0 ∙ is.there.is) in (
             with_file stored is.directory'.chain.blocks name f,
-            ap (λ (z : MasterEntry). get (insert m.directories ppn (with_file stored is.directory'.chain.blocks name f)) z.0) entry ∙ get-insert_same nat_cmp_total m.directories ppn (with_file stored is.directory'.chain.blocks name f),
-            subst (λ (z : KnownDirectory). IsKnownDirectory z (with_file stored is.directory'.chain.blocks name f)) (sym new.1) new_known,
+            ap (λ (z : MasterEntry). get (insert m.directories ppn (with_file stored is.directory'.chain.blocks name f))
+                z.0) entry ∙ get-insert_same nat_cmp_total m.directories ppn
+                (with_file stored is.directory'.chain.blocks name f),
+            subst (λ (z : KnownDirectory). IsKnownDirectory z (with_file stored is.directory'.chain.blocks name f))
+                (sym new.1) new_known,
           )
       by_place (inr kept) =
-          let found = held.known.each i e x was kept.1 in
-          (found.0, get-insert_other nat_cmp_total nat_cmp-IsAntisymmetric m.directories ppn (with_file stored is.directory'.chain.blocks name f) e.0 (apart i e was kept.0) ∙ found.1, found.2)
+          let found = held.known.each i e x was kept.1 in (
+            found.0,
+            get-insert_other nat_cmp_total nat_cmp-IsAntisymmetric m.directories ppn
+                (with_file stored is.directory'.chain.blocks name f) e.0 (apart i e was kept.0) ∙ found.1,
+            found.2,
+          )
 
-  names : map_values entry_of (insert m.directories ppn (with_file stored is.directory'.chain.blocks name f)) ≡ from_entries k'.master.entries
+  names : map_values entry_of (insert m.directories ppn (with_file stored is.directory'.chain.blocks name f))
+      ≡ from_entries k'.master.entries
   names =
-      map_values-insert nat_cmp_total nat_cmp-IsAntisymmetric entry_of m.directories ppn (with_file stored is.directory'.chain.blocks name f)
+      map_values-insert nat_cmp_total nat_cmp-IsAntisymmetric entry_of m.directories ppn
+      (with_file stored is.directory'.chain.blocks name f)
       ∙ ap (λ (n : ℕ). insert (entries_of m) ppn (master_word stored.protection stored.quota, n)) first_block
-      ∙ insert_same nat_cmp_total nat_cmp-IsAntisymmetric (entries_of m) ppn (entry_of stored) (get-map_values nat_cmp_total entry_of m.directories ppn ∙ ap (option_map entry_of) stored_at)
+      ∙ insert_same nat_cmp_total nat_cmp-IsAntisymmetric (entries_of m) ppn (entry_of stored)
+      (get-map_values nat_cmp_total entry_of m.directories ppn ∙ ap (option_map entry_of) stored_at)
       ∙ held.known.names ∙ ap (λ (z : ChainState MasterEntry). from_entries z.entries) (sym is.master)
 
   master_times : (n : ℕ) → times n m.chain ≡ times n k.master.blocks
   master_times n = ap (times n) held.known.chain
 
   new_master : IsOn master_words (with_puts puts c) k'.master
-  new_master = subst (IsOn master_words (with_puts puts c)) (sym is.master) (on_kept master_words c (with_puts puts c) k.master held.master (λ n there.
+  new_master = subst (IsOn master_words (with_puts puts c)) (sym is.master)
+      (on_kept master_words c (with_puts puts c) k.master held.master (λ n there.
       let most = in_map n in
       let few = once size c m held.stands.marked n in
       let e = master_times n in
       reached_stays n (omega arith) (omega arith)))
 
   -- the chains of two directories have no block in common
-  two_chains : (i : ℕ) (x : KnownDirectory) → (i ≡ is.place → ⊥) → slice_get k.directories i ≡ Some x → (n : ℕ) → times n x.chain.blocks + times n is.directory.chain.blocks ≤ reaches n m
+  two_chains : (i : ℕ) (x : KnownDirectory) → (i ≡ is.place → ⊥) → slice_get k.directories i ≡ Some x → (n : ℕ)
+      → times n x.chain.blocks + times n is.directory.chain.blocks ≤ reaches n m
   two_chains i x other also n =
       let within = slice_get_within k.directories i x also in
       let e = element_at k.master.entries i (omega (arith, within, whole.aligned)) in
       let found = held.known.each i e.0 x e.1 also in
-      let both = two-le-sum nat_cmp_total nat_cmp-IsAntisymmetric (reaches_in_directory n) m.directories e.0.0 ppn found.0 stored found.1 stored_at (λ same. apart i e.0 e.1 other (sym same)) in
+      let both = two-le-sum nat_cmp_total nat_cmp-IsAntisymmetric (reaches_in_directory n) m.directories
+      e.0.0 ppn found.0 stored found.1 stored_at (λ same. apart i e.0 e.1 other (sym same)) in
       let same = ap (times n) found.2.chain in
       let s = stored_times n in
       omega arith
 
-  new_chains : (i : ℕ) (x : KnownDirectory) → slice_get k'.directories i ≡ Some x → IsOn file_words (with_puts puts c) x.chain
+  new_chains : (i : ℕ) (x : KnownDirectory) → slice_get k'.directories i ≡ Some x
+      → IsOn file_words (with_puts puts c) x.chain
   new_chains i x also = ⊎_elim
       (λ new. subst (λ (z : KnownDirectory). IsOn file_words (with_puts puts c) z.chain) (sym new.1) new_on)
       (λ kept. on_kept file_words c (with_puts puts c) x.chain (held.chains i x kept.1) (λ n there.
@@ -226,7 +284,8 @@ module _ (size : ℕ) (k k' : Known) (m : DiskMap) (ppn : ℕ) (name : FileName)
       reached_stays n (omega arith) (omega arith)))
       (changed i x also)
 
-  pub publishing_leads_in : IsHeld size k' (map_published m ppn stored is.directory'.chain.blocks name f) (with_puts puts c)
+  pub publishing_leads_in : IsHeld size k' (map_published m ppn stored is.directory'.chain.blocks name f)
+      (with_puts puts c)
   publishing_leads_in = record {
     known = record {
       layout = held.known.layout;
@@ -242,14 +301,21 @@ module _ (size : ℕ) (k k' : Known) (m : DiskMap) (ppn : ℕ) (name : FileName)
 
 -- In the directory that the map has for the place in core.
 
-module _ (size : ℕ) (k k' : Known) (m : DiskMap) (ppn : ℕ) (name : FileName) (at : ℕ) (v : KnownVersion) (old : Before) (puts : List Put) (is : IsPublished size k k' ppn name at v old puts) (known : IsKnownMap k m) where
+module _ (size : ℕ) (k k' : Known) (m : DiskMap) (ppn : ℕ) (name : FileName) (at : ℕ) (v : KnownVersion)
+    (old : Before) (puts : List Put) (is : IsPublished size k k' ppn name at v old puts) (known : IsKnownMap k m) where
   abbrev pub stored : StoredDirectory
   stored = (known.each is.place (ppn, is.word) is.directory is.there.is is.directory_at).0
 
   pub stored_at : get m.directories ppn ≡ Some stored
   stored_at = (known.each is.place (ppn, is.word) is.directory is.there.is is.directory_at).1
 
-module _ (size : ℕ) (k k' : Known) (m : DiskMap) (ppn : ℕ) (name : FileName) (at : ℕ) (v : KnownVersion) (old : Before) (puts : List Put) (whole : IsWholeMap size k) (is : IsPublished size k k' ppn name at v old puts)
-    (c : Contents) (held : IsHeld size k m c) (f : StoredFile) (facts : facts_of f ≡ known_facts at v.prime v.version) (version : IsVersion 1 c (place_of ppn name) f) where
-  pub publishing_leads : IsHeld size k' (map_published m ppn (stored size k k' m ppn name at v old puts is held.known) is.directory'.chain.blocks name f) (with_puts puts c)
-  publishing_leads = publishing_leads_in size k k' m ppn name at v old puts whole is (stored size k k' m ppn name at v old puts is held.known) (stored_at size k k' m ppn name at v old puts is held.known) c held f facts version
+module _ (size : ℕ) (k k' : Known) (m : DiskMap) (ppn : ℕ) (name : FileName) (at : ℕ) (v : KnownVersion)
+    (old : Before) (puts : List Put) (whole : IsWholeMap size k) (is : IsPublished size k k' ppn name at v old puts)
+    (c : Contents) (held : IsHeld size k m c) (f : StoredFile) (facts : facts_of f ≡ known_facts at v.prime v.version)
+    (version : IsVersion 1 c (place_of ppn name) f) where
+  pub publishing_leads : IsHeld size k'
+      (map_published m ppn (stored size k k' m ppn name at v old puts is held.known) is.directory'.chain.blocks name f)
+      (with_puts puts c)
+  publishing_leads = publishing_leads_in size k k' m ppn name at v old puts whole is
+      (stored size k k' m ppn name at v old puts is held.known)
+      (stored_at size k k' m ppn name at v old puts is held.known) c held f facts version

@@ -1,5 +1,8 @@
--- A version becomes the file of its name: the slots in which it and the one before stand, and lists of which one element is another.
-use Rattle.std.proofs.Common.{◌≡◌, ℕ, zero, suc, ◌+◌, ◌-◌, ◌<◌, ◌≤◌, ◌==◌, ◌⊎◌, inl, inr, ⊎_elim, Bool, true, false, if◌then◌else◌, List, [], ◌∷◌, slice_get, slice_set, Option, Some, None, slice_index_or, refl, sym, ap, subst, ◌∙◌, arith, eqb-true}
+-- A version becomes the file of its name: the slots in which it and the one before stand, and lists of which one
+-- element is another.
+use Rattle.std.proofs.Common.{◌≡◌, ℕ, zero, suc, ◌+◌, ◌-◌, ◌<◌, ◌≤◌, ◌==◌, ◌⊎◌, inl, inr, ⊎_elim, Bool, true, false}
+use Rattle.std.proofs.Common.{if◌then◌else◌, List, [], ◌∷◌, slice_get, slice_set, Option, Some, None, slice_index_or}
+use Rattle.std.proofs.Common.{refl, sym, ap, subst, ◌∙◌, arith, eqb-true}
 use Rattle.std.proofs.lemmas.Bool.{cases_eq}
 use Rattle.std.proofs.lemmas.List.{get_or-set_other}
 use Rattle.std.specs.List.{AllByRecursion}
@@ -11,7 +14,8 @@ use Rattle.meaning.specs.Maps.{total, times}
 use Rattle.meaning.specs.Room.{growth}
 use Rattle.meaning.proofs.MapLaws.{some_same, some_none}
 use Rattle.volume.specs.Known.{KnownDirectory, blocks_reached, reaches_in_known}
-use Rattle.volume.specs.Live.{VolumeCore, slot, pending_at, held_reaches, held_cost, current_reaches, entry_reaches, growths}
+use Rattle.volume.specs.Live.{VolumeCore, slot, pending_at, held_reaches, held_cost, current_reaches, entry_reaches}
+use Rattle.volume.specs.Live.{growths}
 use Rattle.volume.specs.Publishing.{given_up, cost_before, Entered, before, left_of, IsEnded, HasOtherKey, MakesCurrent}
 use Rattle.volume.specs.Rest.{HasSomeBody}
 use Rattle.volume.specs.declared.live.LiveVersion.{LiveVersion}
@@ -24,30 +28,35 @@ use Rattle.volume.proofs.Pinning.{each_slot, total_at}
 
 -- One element of a list is another.
 
-pub set_total : {A : Type 0} (f : A → ℕ) (xs : List A) (i : ℕ) (x y : A) → slice_get xs i ≡ Some x → total f (slice_set xs i y) + f x ≡ total f xs + f y
+pub set_total : {A : Type 0} (f : A → ℕ) (xs : List A) (i : ℕ) (x y : A) → slice_get xs i ≡ Some x
+    → total f (slice_set xs i y) + f x ≡ total f xs + f y
 set_total f [] i x y is = absurd (some_none (sym is))
 set_total f (z ∷ xs) zero x y is = let same = ap f (some_same is) in omega arith
 set_total f (z ∷ xs) (suc i) x y is = let rest = set_total f xs i x y is in omega arith
 
-pub set_each : {A : Type 0} (P : A → Type 0) (xs : List A) (i : ℕ) (y : A) → AllByRecursion P xs → P y → AllByRecursion P (slice_set xs i y)
+pub set_each : {A : Type 0} (P : A → Type 0) (xs : List A) (i : ℕ) (y : A) → AllByRecursion P xs → P y
+    → AllByRecursion P (slice_set xs i y)
 set_each P [] i y all is = tt
 set_each P (z ∷ xs) zero y all is = (is, all.1)
 set_each P (z ∷ xs) (suc i) y all is = (all.0, set_each P xs i y all.1 is)
 
 -- what holds at each place holds of all
-pub all_places : {A : Type 0} (P : A → Type 0) (xs : List A) → ((i : ℕ) (x : A) → slice_get xs i ≡ Some x → P x) → AllByRecursion P xs
+pub all_places : {A : Type 0} (P : A → Type 0) (xs : List A) → ((i : ℕ) (x : A) → slice_get xs i ≡ Some x → P x)
+    → AllByRecursion P xs
 all_places P [] each = tt
 all_places P (x ∷ xs) each = (each 0 x refl, all_places P xs (λ i. each (suc i)))
 
 -- what directories reach: their chains and their versions
-pub reaches_parts : (n : ℕ) (ds : List KnownDirectory) → total (reaches_in_known n) ds ≡ total (λ d. times n d.chain.blocks) ds + entry_reaches n ds
+pub reaches_parts : (n : ℕ) (ds : List KnownDirectory)
+    → total (reaches_in_known n) ds ≡ total (λ d. times n d.chain.blocks) ds + entry_reaches n ds
 reaches_parts n [] = refl
 reaches_parts n (d ∷ ds) = let rest = reaches_parts n ds in omega arith
 
 -- The cost of directories with their entries and such as are to come.
 
 -- an entry that was to come is there
-pub came : (n m : ℕ) → directory_cost (n + m) - directory_cost n + growth (n + m) + directory_cost n ≡ directory_cost (n + 1 + m) - directory_cost (n + 1) + directory_cost (n + 1)
+pub came : (n m : ℕ) → directory_cost (n + m) - directory_cost n + growth (n + m) + directory_cost n
+    ≡ directory_cost (n + 1 + m) - directory_cost (n + 1) + directory_cost (n + 1)
 came n m =
     let a = cost_rises n m in
     let b = cost_rises (n + m) 1 in
@@ -56,7 +65,8 @@ came n m =
     omega arith
 
 -- the directory of this entry is another
-pub set_growths : (pending : List (Option PendingVersion)) (es : List MasterEntry) (ds : List KnownDirectory) (i ppn : ℕ) (word : ℕ × ℕ) (d d' : KnownDirectory) → slice_get es i ≡ Some (ppn, word) → slice_get ds i ≡ Some d
+pub set_growths : (pending : List (Option PendingVersion)) (es : List MasterEntry) (ds : List KnownDirectory)
+    (i ppn : ℕ) (word : ℕ × ℕ) (d d' : KnownDirectory) → slice_get es i ≡ Some (ppn, word) → slice_get ds i ≡ Some d
     → growths pending es (slice_set ds i d') + share pending ppn d ≡ growths pending es ds + share pending ppn d'
 set_growths pending [] ds i ppn word d d' there is = absurd (some_none (sym there))
 set_growths pending (e ∷ es) [] i ppn word d d' there is = absurd (some_none (sym is))
@@ -64,7 +74,8 @@ set_growths pending (e ∷ es) (x ∷ ds) zero ppn word d d' there is =
     let key = ap (λ (z : MasterEntry). share pending z.0 d') (some_same there) in
     let was : share pending e.0 x ≡ share pending ppn d = (λ j. share pending (some_same there j).0 (some_same is j)) in
     omega arith
-set_growths pending (e ∷ es) (x ∷ ds) (suc i) ppn word d d' there is = let rest = set_growths pending es ds i ppn word d d' there is in omega arith
+set_growths pending (e ∷ es) (x ∷ ds) (suc i) ppn word d d' there is = let rest = set_growths pending
+    es ds i ppn word d d' there is in omega arith
 
 -- The version of before.
 
@@ -77,10 +88,13 @@ entered (Some o) = Some o.1
 abbrev pub left : LiveVersion → Option LiveVersion
 left v = left_of (Some (0, v))
 
-pub left_cases : (v : LiveVersion) → ((v.readers ≡ 0) × (left v ≡ None)) ⊎ (left v ≡ Some (record v { is_current = false }))
+pub left_cases : (v : LiveVersion) → ((v.readers ≡ 0) × (left v ≡ None))
+    ⊎ (left v ≡ Some (record v { is_current = false }))
 left_cases v = by (v.readers == 0) refl
   where
-    by : (b : Bool) → (v.readers == 0) ≡ b → ((v.readers ≡ 0) × ((if b then None else Some (record v { is_current = false })) ≡ None)) ⊎ ((if b then None else Some (record v { is_current = false })) ≡ Some (record v { is_current = false }))
+    by : (b : Bool) → (v.readers == 0) ≡ b
+        → ((v.readers ≡ 0) × ((if b then None else Some (record v { is_current = false })) ≡ None))
+        ⊎ ((if b then None else Some (record v { is_current = false })) ≡ Some (record v { is_current = false }))
     by true is = inl (eqb-true v.readers 0 is, refl)
     by false is = inr refl
 
@@ -88,10 +102,12 @@ left_reaches : (n : ℕ) (v : LiveVersion) → current_reaches n (left v) ≡ 0
 left_reaches n v = ⊎_elim (λ none. ap (current_reaches n) none.1) (λ some. ap (current_reaches n) some) (left_cases v)
 
 left_held : (n : ℕ) (v : LiveVersion) → held_reaches n (left v) ≤ times n (blocks_reached v.at v.version)
-left_held n v = ⊎_elim (λ none. let is = ap (held_reaches n) none.1 in omega arith) (λ some. let is = ap (held_reaches n) some in omega arith) (left_cases v)
+left_held n v = ⊎_elim (λ none. let is = ap (held_reaches n) none.1 in
+    omega arith) (λ some. let is = ap (held_reaches n) some in omega arith) (left_cases v)
 
 left_cost : (v : LiveVersion) → held_cost (left v) ≤ cost_before (before (Some (0, v)))
-left_cost v = ⊎_elim (λ none. let is = ap held_cost none.1 in omega arith) (λ some. let is = ap held_cost some in omega arith) (left_cases v)
+left_cost v = ⊎_elim (λ none. let is = ap held_cost none.1 in omega arith) (λ some. let is = ap held_cost some in
+    omega arith) (left_cases v)
 
 -- What it counts for, before and after.
 pub record Counts (live : List (Option LiveVersion)) (old : Entered) (n : ℕ) : Type 0 where
@@ -103,12 +119,22 @@ pub record Counts (live : List (Option LiveVersion)) (old : Entered) (n : ℕ) :
   pub cost : held_cost (left_of old) ≤ cost_before (before old)
   pub within : given_up n (before old) ≤ total (current_reaches n) live
 
-pub counts : (live live' : List (Option LiveVersion)) (old : Entered) (n : ℕ) → IsEnded live live' old → Counts live old n
-counts live live' None n is = record { current = refl; unheld = refl; uncosted = refl; ended = refl; held = omega arith; cost = omega arith; within = omega arith }
+pub counts : (live live' : List (Option LiveVersion)) (old : Entered) (n : ℕ) → IsEnded live live' old
+    → Counts live old n
+counts live live' None n is = record {
+  current = refl;
+  unheld = refl;
+  uncosted = refl;
+  ended = refl;
+  held = omega arith;
+  cost = omega arith;
+  within = omega arith;
+}
 counts live live' (Some o) n is =
     let v = o.1 in
     let reached = times n (blocks_reached v.at v.version) in
-    let current : current_reaches n (Some v) ≡ reached = ap (λ (b : Bool). if b then times n (blocks_reached v.at v.version) else 0) is.1 in
+    let current : current_reaches n (Some v)
+    ≡ reached = ap (λ (b : Bool). if b then times n (blocks_reached v.at v.version) else 0) is.1 in
     record {
       current = current;
       unheld = ap (λ (b : Bool). if b then 0 else times n (blocks_reached v.at v.version)) is.1;
@@ -116,18 +142,23 @@ counts live live' (Some o) n is =
       ended = left_reaches n v;
       held = left_held n v;
       cost = left_cost v;
-      within = let part = total_at (current_reaches n) refl live o.0 in let here = ap (current_reaches n) is.0 in omega arith;
+      within = let part = total_at (current_reaches n) refl live o.0 in let here = ap (current_reaches n) is.0 in
+          omega arith;
     }
 
 -- The versions in use: one is new, and what is left of the one before stands in its slot.
 
-set_here : {X : Type 0} (slots : List (Option X)) (k : ℕ) (q : X) (x : Option X) → slice_index_or slots k None ≡ Some q → slice_index_or (slice_set slots k x) k None ≡ x
+set_here : {X : Type 0} (slots : List (Option X)) (k : ℕ) (q : X) (x : Option X) → slice_index_or slots k None ≡ Some q
+    → slice_index_or (slice_set slots k x) k None ≡ x
 set_here [] k q x is = absurd (some_none (sym is))
 set_here (o ∷ slots) zero q x is = refl
 set_here (o ∷ slots) (suc k) q x is = set_here slots k q x is
 
-pub made_current_total : (f : Option LiveVersion → ℕ) → f None ≡ 0 → (live live' : List (Option LiveVersion)) (old : Entered) (key : ℕ) (x : Option LiveVersion) → slot live key ≡ None → slot live' key ≡ x → IsEnded live live' old
-    → ((k : ℕ) → (k ≡ key → ⊥) → HasOtherKey old k → slot live' k ≡ slot live k) → total f live' + f (entered old) ≡ total f live + f x + f (left_of old)
+pub made_current_total : (f : Option LiveVersion → ℕ) → f None ≡ 0
+    → (live live' : List (Option LiveVersion)) (old : Entered) (key : ℕ) (x : Option LiveVersion) → slot live key ≡ None
+    → slot live' key ≡ x → IsEnded live live' old
+    → ((k : ℕ) → (k ≡ key → ⊥) → HasOtherKey old k → slot live' k ≡ slot live k)
+    → total f live' + f (entered old) ≡ total f live + f x + f (left_of old)
 made_current_total f none live live' None key x vacant here ended others =
     let all = total_updated f none live live' key x here (λ k other. others k other tt) in
     let was = ap f vacant in
@@ -135,9 +166,11 @@ made_current_total f none live live' None key x vacant here ended others =
 made_current_total f none live live' (Some o) key x vacant here ended others =
     let mid = slice_set live o.0 (left_of (Some o)) in
     let apart : key ≡ o.0 → ⊥ = λ same. some_none (sym ended.0 ∙ sym (ap (slot live) same) ∙ vacant) in
-    let first = total_updated f none live mid o.0 (left_of (Some o)) (set_here live o.0 o.1 (left_of (Some o)) ended.0) (λ k other. elsewhere k other) in
+    let first = total_updated f none live mid o.0 (left_of (Some o)) (set_here live o.0 o.1 (left_of (Some o)) ended.0)
+    (λ k other. elsewhere k other) in
     let second = total_updated f none mid live' key x here (λ k other. ⊎_elim
-    (λ (same : k ≡ o.0). ap (slot live') same ∙ ended.2 ∙ sym (set_here live o.0 o.1 (left_of (Some o)) ended.0) ∙ sym (ap (slot mid) same))
+    (λ (same : k ≡ o.0). ap (slot live') same ∙ ended.2 ∙ sym (set_here live o.0 o.1 (left_of (Some o)) ended.0)
+    ∙ sym (ap (slot mid) same))
     (λ differs. others k other differs ∙ sym (elsewhere k differs)) (cases_eq k o.0)) in
     let was = ap f ended.0 in
     let empty = ap f (elsewhere key apart ∙ vacant) in
@@ -147,19 +180,25 @@ made_current_total f none live live' (Some o) key x vacant here ended others =
     elsewhere k other = get_or-set_other live o.0 k (left_of (Some o)) None other
 
 -- another slot is as it was, or holds what is left of the one before
-pub made_current_slot : (live live' : List (Option LiveVersion)) (old : Entered) (key : ℕ) → IsEnded live live' old → ((k : ℕ) → (k ≡ key → ⊥) → HasOtherKey old k → slot live' k ≡ slot live k)
-    → (k : ℕ) → (k ≡ key → ⊥) → (slot live' k ≡ slot live k) ⊎ ((v : LiveVersion) × (slot live k ≡ Some v) × (slot live' k ≡ left v))
+pub made_current_slot : (live live' : List (Option LiveVersion)) (old : Entered) (key : ℕ) → IsEnded live live' old
+    → ((k : ℕ) → (k ≡ key → ⊥) → HasOtherKey old k → slot live' k ≡ slot live k)
+    → (k : ℕ) → (k ≡ key → ⊥) → (slot live' k ≡ slot live k)
+    ⊎ ((v : LiveVersion) × (slot live k ≡ Some v) × (slot live' k ≡ left v))
 made_current_slot live live' None key ended others k other = inl (others k other tt)
 made_current_slot live live' (Some o) key ended others k other = ⊎_elim
     (λ (same : k ≡ o.0). inr (o.1, ap (slot live) same ∙ ended.0, ap (slot live') same ∙ ended.2))
     (λ differs. inl (others k other differs)) (cases_eq k o.0)
 
-module _ (size : ℕ) (c c' : VolumeCore) (key : ℕ) (p : PendingVersion) (at : ℕ) (ribs : List ℕ) (puts : List Put) (is : MakesCurrent size c c' key p at ribs puts) where
-  slot_of : (k : ℕ) → (k ≡ is.new_key → ⊥) → (slot c'.live k ≡ slot c.live k) ⊎ ((v : LiveVersion) × (slot c.live k ≡ Some v) × (slot c'.live k ≡ left v))
+module _ (size : ℕ) (c c' : VolumeCore) (key : ℕ) (p : PendingVersion) (at : ℕ) (ribs : List ℕ) (puts : List Put)
+    (is : MakesCurrent size c c' key p at ribs puts) where
+  slot_of : (k : ℕ) → (k ≡ is.new_key → ⊥) → (slot c'.live k ≡ slot c.live k)
+      ⊎ ((v : LiveVersion) × (slot c.live k ≡ Some v) × (slot c'.live k ≡ left v))
   slot_of = made_current_slot c.live c'.live is.old is.new_key is.ended is.others
 
   -- what holds of all versions, and of what is left of them, still does
-  pub made_current_all : (P : Option LiveVersion → Type 0) → P None → P (slot c'.live is.new_key) → ((v : LiveVersion) → P (Some v) → P (Some (record v { is_current = false }))) → AllByRecursion P c.live → AllByRecursion P c'.live
+  pub made_current_all : (P : Option LiveVersion → Type 0) → P None → P (slot c'.live is.new_key)
+      → ((v : LiveVersion) → P (Some v) → P (Some (record v { is_current = false }))) → AllByRecursion P c.live
+      → AllByRecursion P c'.live
   made_current_all P none new ends all = all_slots P c'.live (λ k. ⊎_elim
       (λ (same : k ≡ is.new_key). subst (λ n. P (slot c'.live n)) (sym same) new)
       (λ other. ⊎_elim
@@ -171,21 +210,25 @@ module _ (size : ℕ) (c c' : VolumeCore) (key : ℕ) (p : PendingVersion) (at :
       (slot_of k other)) (cases_eq k is.new_key))
 
   -- a version that readers hold is still there
-  pub made_current_readers : (k : ℕ) (v : LiveVersion) → slot c.live k ≡ Some v → 0 < v.readers → (b : Bool) × (slot c'.live k ≡ Some (record v { is_current = b }))
+  pub made_current_readers : (k : ℕ) (v : LiveVersion) → slot c.live k ≡ Some v → 0 < v.readers
+      → (b : Bool) × (slot c'.live k ≡ Some (record v { is_current = b }))
   made_current_readers k v there read = ⊎_elim
       (λ kept. (v.is_current, kept ∙ there))
       (λ ended.
       let same : ended.0 ≡ v = some_same (sym ended.1 ∙ there) in (
         false,
         ⊎_elim
-            (λ gone. absurd (let readers = ap (λ (u : LiveVersion). u.readers) same in let none = gone.0 in omega arith))
+            (λ gone. absurd (let readers = ap (λ (u : LiveVersion). u.readers) same in let none = gone.0 in
+            omega arith))
             (λ stays. ended.2 ∙ stays ∙ ap (λ (u : LiveVersion). Some (record u { is_current = false })) same)
             (left_cases ended.0),
       ))
       (slot_of k (λ (same : k ≡ is.new_key). some_none (sym there ∙ ap (slot c.live) same ∙ is.vacant)))
 
 -- the words of each are there, and nobody reads the new one yet
-pub made_current_bodies : (contents : Contents) (size : ℕ) (c c' : VolumeCore) (key : ℕ) (p : PendingVersion) (at : ℕ) (ribs : List ℕ) (puts : List Put) → MakesCurrent size c c' key p at ribs puts → HaveBodies contents c → HaveBodies contents c'
+pub made_current_bodies : (contents : Contents) (size : ℕ) (c c' : VolumeCore) (key : ℕ) (p : PendingVersion)
+    (at : ℕ) (ribs : List ℕ) (puts : List Put) → MakesCurrent size c c' key p at ribs puts → HaveBodies contents c
+    → HaveBodies contents c'
 made_current_bodies contents size c c' key p at ribs puts is bodies = record {
   read = λ k v there read. ⊎_elim
       (λ (same : k ≡ is.new_key).
@@ -198,7 +241,8 @@ made_current_bodies contents size c c' key p at ribs puts is bodies = record {
       (λ stays.
       let same : v ≡ record ended.0 { is_current = false } = some_same (sym there ∙ ended.2 ∙ stays) in
       let readers = ap (λ (u : LiveVersion). u.readers) same in
-      subst (λ (u : LiveVersion). HasSomeBody contents u.version) (sym same) (bodies.read k ended.0 ended.1 (omega arith)))
+      subst (λ (u : LiveVersion). HasSomeBody contents u.version) (sym same)
+      (bodies.read k ended.0 ended.1 (omega arith)))
       (left_cases ended.0))
       (slot_of size c c' key p at ribs puts is k other)) (cases_eq k is.new_key);
   written = λ k q there. ⊎_elim

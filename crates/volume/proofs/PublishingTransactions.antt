@@ -1,10 +1,13 @@
--- A version becomes the file of its name on the disk: its retrieval blocks are written, and then the puts are committed.
-use Rattle.std.proofs.Common.{◌≡◌, ℕ, ◌<◌, ◌⊎◌, inl, true, false, List, ◌∷◌, length, Some, Result, Ok, Err, OnOk, is_err, refl, sym, ap, subst, ◌∙◌, arith}
+-- A version becomes the file of its name on the disk: its retrieval blocks are written, and then the puts are
+-- committed.
+use Rattle.std.proofs.Common.{◌≡◌, ℕ, ◌<◌, ◌⊎◌, inl, true, false, List, ◌∷◌, length, Some, Result, Ok, Err, OnOk}
+use Rattle.std.proofs.Common.{is_err, refl, sym, ap, subst, ◌∙◌, arith}
 use Rattle.blockdisk.specs.Disk.{Contents, DiskState, MayLeave, NoneOpen, SameDisk, SameOutside, Modifies, LeavesOnly}
 use Rattle.blockdisk.specs.Laws.{leaves_weaker}
 use Rattle.changeset.specs.Crashes.{IsGateOrLog, IsShut, AllOrNone}
 use Rattle.changeset.specs.Puts.{IsPutIn}
-use Rattle.changeset.specs.Rest.{Ignores, AtRest, SettlesTo, quiet_rest, quiet_leaves, quiet_stands, transaction_leaves, commit_rest}
+use Rattle.changeset.specs.Rest.{Ignores, AtRest, SettlesTo, quiet_rest, quiet_leaves, quiet_stands, transaction_leaves}
+use Rattle.changeset.specs.Rest.{commit_rest}
 use Rattle.meaning.specs.declared.put.Put.{Put}
 use Rattle.meaning.specs.Files.{File, Files}
 use Rattle.meaning.specs.Log.{with_puts}
@@ -24,7 +27,8 @@ use Rattle.volume.specs.declared.pending.PendingVersion.{PendingVersion}
 use Rattle.volume.proofs.LiveBodies.{HaveBodies, body_stays}
 use Rattle.volume.proofs.MakingDirectories.{files_are, crash_for, rest_for, sound_for, sound_failed, whole_fixed}
 use Rattle.volume.proofs.MakingHeld.{ignores_log}
-use Rattle.volume.proofs.PublishingBlocks.{IsMadeCurrent, IsKept, read_kept, written_kept, retrieval_free, kept_retrieved, kept_put}
+use Rattle.volume.proofs.PublishingBlocks.{IsMadeCurrent, IsKept, read_kept, written_kept, retrieval_free}
+use Rattle.volume.proofs.PublishingBlocks.{kept_retrieved, kept_put}
 use Rattle.volume.proofs.PublishingCore.{made_current_whole}
 use Rattle.volume.proofs.PublishingLaw.{map_published, published_files, publishing_leads_in, stored, stored_at}
 use Rattle.volume.proofs.PublishingSlots.{made_current_bodies}
@@ -36,8 +40,10 @@ ok_is (Ok x) A none is = is
 ok_is (Err e) A none is = absurd (cc)
 
 -- the same version, as it was when it was still being written
-retrieved_as : (contents : Contents) (prime prime' : Prime) (words words' at : ℕ) (ribs blocks blocks' : List ℕ) → prime ≡ prime' → words ≡ words' → blocks ≡ blocks'
-    → IsRetrieved 1 contents (with_length prime words) at ribs blocks → IsRetrieved 1 contents (with_length prime' words') at ribs blocks'
+retrieved_as : (contents : Contents) (prime prime' : Prime) (words words' at : ℕ) (ribs blocks blocks' : List ℕ)
+    → prime ≡ prime' → words ≡ words' → blocks ≡ blocks'
+    → IsRetrieved 1 contents (with_length prime words) at ribs blocks
+    → IsRetrieved 1 contents (with_length prime' words') at ribs blocks'
 retrieved_as contents prime prime' words words' at ribs blocks blocks' same long lies is =
     subst (λ (x : Prime). IsRetrieved 1 contents (with_length x words') at ribs blocks') same
     (subst (λ (w : ℕ). IsRetrieved 1 contents (with_length prime w) at ribs blocks') long
@@ -45,7 +51,8 @@ retrieved_as contents prime prime' words words' at ribs blocks blocks' same long
 
 -- The retrieval blocks are written.
 
-module _ (s mid : DiskState) (c c' : VolumeCore) (key : ℕ) (p : PendingVersion) (v : LiveVersion) (puts : List Put) (sound : IsSound s c false) (made_current : IsMadeCurrent s.size c c' key p v puts) (same : SameDisk s mid) where
+module _ (s mid : DiskState) (c c' : VolumeCore) (key : ℕ) (p : PendingVersion) (v : LiveVersion) (puts : List Put)
+    (sound : IsSound s c false) (made_current : IsMadeCurrent s.size c c' key p v puts) (same : SameDisk s mid) where
   pub new_whole : IsWholeCore s.size c'
   new_whole = made_current_whole s.size c c' key p v.at v.version.ribs puts sound.whole made_current.makes_current
 
@@ -53,13 +60,15 @@ module _ (s mid : DiskState) (c c' : VolumeCore) (key : ℕ) (p : PendingVersion
   pub written_failed : IsSound mid c' true
   written_failed = sound_failed s mid c' true same.size new_whole refl
 
-module _ (s mid : DiskState) (c c' : VolumeCore) (key : ℕ) (p : PendingVersion) (v : LiveVersion) (puts : List Put) (sound : IsSound s c false) (made_current : IsMadeCurrent s.size c c' key p v puts) (same : SameDisk s mid)
+module _ (s mid : DiskState) (c c' : VolumeCore) (key : ℕ) (p : PendingVersion) (v : LiveVersion) (puts : List Put)
+    (sound : IsSound s c false) (made_current : IsMadeCurrent s.size c c' key p v puts) (same : SameDisk s mid)
     (h : s.honest) (modified : Modifies (λ n. 0 < times n (v.at ∷ v.version.ribs)) s mid) where
   at_rest : IsAtRest s c.known
   at_rest = sound.rest h refl
 
   ignores : Ignores (λ n. 0 < times n (v.at ∷ v.version.ribs)) (IsHeld s.size c.known at_rest.map)
-  ignores = ignores_clear s.size c.known at_rest.map (λ n. 0 < times n (v.at ∷ v.version.ribs)) sound.whole.map.aligned (λ n there. (retrieval_free s.size c c' key p v puts sound.whole made_current n there).clear)
+  ignores = ignores_clear s.size c.known at_rest.map (λ n. 0 < times n (v.at ∷ v.version.ribs)) sound.whole.map.aligned
+      (λ n there. (retrieval_free s.size c c' key p v puts sound.whole made_current n there).clear)
 
   not_gate : 0 < times 3 (v.at ∷ v.version.ribs) → ⊥
   not_gate there =
@@ -68,32 +77,40 @@ module _ (s mid : DiskState) (c c' : VolumeCore) (key : ℕ) (p : PendingVersion
       omega arith
 
   mid_rest : AtRest mid (IsHeld s.size c.known at_rest.map)
-  mid_rest = quiet_rest (λ n. 0 < times n (v.at ∷ v.version.ribs)) s mid (IsHeld s.size c.known at_rest.map) ignores not_gate same.size at_rest.rest modified
+  mid_rest = quiet_rest (λ n. 0 < times n (v.at ∷ v.version.ribs)) s mid
+      (IsHeld s.size c.known at_rest.map) ignores not_gate same.size at_rest.rest modified
 
   pub mid_shut : IsShut mid
   mid_shut = mid_rest.shut
 
   -- no crash sees this
-  pub written_crash : (f g : Files File) → RestsAt s f → ((d : Contents) → s.left_since s.clock d → MayLeave s d) → LeavesOnly s mid (StandsForEither s.size f g)
+  pub written_crash : (f g : Files File) → RestsAt s f → ((d : Contents) → s.left_since s.clock d → MayLeave s d)
+      → LeavesOnly s mid (StandsForEither s.size f g)
   written_crash f g rests only_now =
       let is = files_are s c.known at_rest.map f at_rest.rest rests in
       leaves_weaker s mid (SettlesTo s.size (IsHeld s.size c.known at_rest.map)) (StandsForEither s.size f g)
-      (quiet_stands s mid (IsHeld s.size c.known at_rest.map) (quiet_leaves (λ n. 0 < times n (v.at ∷ v.version.ribs)) s mid (IsHeld s.size c.known at_rest.map) ignores not_gate at_rest.rest only_now modified))
+      (quiet_stands s mid (IsHeld s.size c.known at_rest.map)
+      (quiet_leaves (λ n. 0 < times n (v.at ∷ v.version.ribs)) s mid (IsHeld s.size c.known at_rest.map)
+      ignores not_gate at_rest.rest only_now modified))
       (λ d held. inl (held.0, held.1, (at_rest.map, held.2.stands, is)))
 
   -- nor a reader, nor a writer
   kept_written : (n : ℕ) → IsKept s.size c n → mid.contents n ≡ s.contents n
   kept_written n kept = modified.contents n (kept_retrieved s.size c c' key p v puts sound.whole made_current n kept)
 
-  pub written_readers : (k : ℕ) (u : LiveVersion) → slot c.live k ≡ Some u → 0 < u.readers → (n : ℕ) → 0 < times n u.version.blocks → mid.contents n ≡ s.contents n
+  pub written_readers : (k : ℕ) (u : LiveVersion) → slot c.live k ≡ Some u → 0 < u.readers → (n : ℕ)
+      → 0 < times n u.version.blocks → mid.contents n ≡ s.contents n
   written_readers k u is some n there = kept_written n (read_kept s.size c sound.whole k u is some n there)
 
-  pub written_writers : (k : ℕ) (q : PendingVersion) → pending_at c.pending k ≡ Some q → (n : ℕ) → 0 < times n q.version.blocks → mid.contents n ≡ s.contents n
+  pub written_writers : (k : ℕ) (q : PendingVersion) → pending_at c.pending k ≡ Some q → (n : ℕ)
+      → 0 < times n q.version.blocks → mid.contents n ≡ s.contents n
   written_writers k q is n there = kept_written n (written_kept s.size c sound.whole k q is n there)
 
   -- The file stands then, and the puts make it the one of its name.
 
-  module _ (retrieved : IsRetrieved 1 mid.contents (with_length v.prime v.version.words) v.at v.version.ribs v.version.blocks) (body : List ℕ) (long : length body ≡ p.version.words) (has : HasBody s.contents p.version.blocks body) where
+  module _ (retrieved : IsRetrieved 1 mid.contents (with_length v.prime v.version.words) v.at v.version.ribs
+      v.version.blocks) (body : List ℕ) (long : length body ≡ p.version.words)
+      (has : HasBody s.contents p.version.blocks body) where
     abbrev file : StoredFile
     file = record { file = file_of p.prime body; prime = v.at; extensions = v.version.ribs; blocks = p.version.blocks }
 
@@ -102,18 +119,27 @@ module _ (s mid : DiskState) (c c' : VolumeCore) (key : ℕ) (p : PendingVersion
 
     version : IsVersion 1 mid.contents (place_of p.prime.ppn p.prime.file) file
     version = record {
-      retrieved = retrieved_as mid.contents v.prime p.prime v.version.words (length body) v.at v.version.ribs v.version.blocks p.version.blocks made_current.prime (made_current.words ∙ sym long) made_current.blocks retrieved;
-      body = body_kept s.contents mid.contents p.version.blocks body has (λ n there. written_writers key p made_current.makes_current.written n there);
+      retrieved = retrieved_as mid.contents v.prime p.prime v.version.words
+          (length body) v.at v.version.ribs v.version.blocks p.version.blocks made_current.prime (made_current.words
+          ∙ sym long) made_current.blocks retrieved;
+      body = body_kept s.contents mid.contents p.version.blocks body has
+          (λ n there. written_writers key p made_current.makes_current.written n there);
     }
 
-    abbrev published : IsPublished s.size c.known c'.known p.prime.ppn p.prime.file v.at (record { prime = p.prime; version = record p.version { ribs = v.version.ribs } }) (before made_current.makes_current.old) puts
+    abbrev published : IsPublished s.size c.known c'.known p.prime.ppn p.prime.file v.at
+        (record { prime = p.prime; version = record p.version { ribs = v.version.ribs } })
+        (before made_current.makes_current.old) puts
     published = made_current.makes_current.published
 
     abbrev in_map : StoredDirectory
-    in_map = stored s.size c.known c'.known at_rest.map p.prime.ppn p.prime.file v.at (record { prime = p.prime; version = record p.version { ribs = v.version.ribs } }) (before made_current.makes_current.old) puts published (at_rest.rest.all s.contents (λ n closed. refl)).known
+    in_map = stored s.size c.known c'.known at_rest.map p.prime.ppn p.prime.file v.at
+        (record { prime = p.prime; version = record p.version { ribs = v.version.ribs } })
+        (before made_current.makes_current.old) puts published (at_rest.rest.all s.contents (λ n closed. refl)).known
 
     in_map_at : get at_rest.map.directories p.prime.ppn ≡ Some in_map
-    in_map_at = stored_at s.size c.known c'.known at_rest.map p.prime.ppn p.prime.file v.at (record { prime = p.prime; version = record p.version { ribs = v.version.ribs } }) (before made_current.makes_current.old) puts published (at_rest.rest.all s.contents (λ n closed. refl)).known
+    in_map_at = stored_at s.size c.known c'.known at_rest.map p.prime.ppn p.prime.file v.at
+        (record { prime = p.prime; version = record p.version { ribs = v.version.ribs } })
+        (before made_current.makes_current.old) puts published (at_rest.rest.all s.contents (λ n closed. refl)).known
 
     abbrev new_map : DiskMap
     new_map = map_published at_rest.map p.prime.ppn in_map published.directory'.chain.blocks p.prime.file file
@@ -122,7 +148,9 @@ module _ (s mid : DiskState) (c c' : VolumeCore) (key : ℕ) (p : PendingVersion
     new_files f = files_published f p.prime.ppn p.prime.file (file_of p.prime body)
 
     leads : IsHeld s.size c'.known new_map (with_puts puts mid.contents)
-    leads = publishing_leads_in s.size c.known c'.known at_rest.map p.prime.ppn p.prime.file v.at (record { prime = p.prime; version = record p.version { ribs = v.version.ribs } }) (before made_current.makes_current.old) puts sound.whole.map published
+    leads = publishing_leads_in s.size c.known c'.known at_rest.map p.prime.ppn p.prime.file v.at
+        (record { prime = p.prime; version = record p.version { ribs = v.version.ribs } })
+        (before made_current.makes_current.old) puts sound.whole.map published
         in_map in_map_at mid.contents (mid_rest.all mid.contents (λ n closed. refl)) file facts version
 
     names : (f : Files File) → RestsAt s f → files_of new_map ≡ new_files f
@@ -131,25 +159,37 @@ module _ (s mid : DiskState) (c c' : VolumeCore) (key : ℕ) (p : PendingVersion
         ∙ ap new_files (files_are s c.known at_rest.map f at_rest.rest rests)
 
     ignores_new : Ignores (IsGateOrLog s.size) (IsHeld s.size c'.known new_map)
-    ignores_new = ignores_log s.size c'.known new_map (new_whole s mid c c' key p v puts sound made_current same).map.aligned
+    ignores_new = ignores_log s.size c'.known new_map
+        (new_whole s mid c c' key p v puts sound made_current same).map.aligned
 
     -- the commit leaves the files of before, or those with the new one
-    pub committed_crash : (s' : DiskState) → LeavesOnly mid s' (AllOrNone puts mid) → (f : Files File) → RestsAt s f → ((d : Contents) → s.left_since s.clock d → MayLeave s d)
+    pub committed_crash : (s' : DiskState) → LeavesOnly mid s' (AllOrNone puts mid) → (f : Files File)
+        → RestsAt s f → ((d : Contents) → s.left_since s.clock d → MayLeave s d)
         → LeavesOnly s s' (StandsForEither s.size f (files_published f p.prime.ppn p.prime.file (file_of p.prime body)))
     committed_crash s' leaves f rests only_now =
-        crash_for s s' c.known c'.known at_rest.map new_map f (new_files f) (files_are s c.known at_rest.map f at_rest.rest rests) (names f rests)
-        (transaction_leaves (λ n. 0 < times n (v.at ∷ v.version.ribs)) puts s mid s' (IsHeld s.size c.known at_rest.map) (IsHeld s.size c'.known new_map) ignores not_gate
-        (ignores_log s.size c.known at_rest.map sound.whole.map.aligned) ignores_new same.size at_rest.rest only_now modified leads leaves)
+        crash_for s s' c.known c'.known at_rest.map new_map f (new_files f)
+        (files_are s c.known at_rest.map f at_rest.rest rests) (names f rests)
+        (transaction_leaves (λ n. 0 < times n (v.at ∷ v.version.ribs)) puts s mid s' (IsHeld s.size c.known at_rest.map)
+        (IsHeld s.size c'.known new_map) ignores not_gate
+        (ignores_log s.size c.known at_rest.map sound.whole.map.aligned) ignores_new same.size at_rest.rest
+        only_now modified leads leaves)
 
-    committed_rest : (s' : DiskState) → SameOutside (IsGateOrLog mid.size) (with_puts puts mid.contents) s'.contents → NoneOpen s' → IsShut s' → AtRest s' (IsHeld s.size c'.known new_map)
+    committed_rest : (s' : DiskState) → SameOutside (IsGateOrLog mid.size) (with_puts puts mid.contents) s'.contents
+        → NoneOpen s' → IsShut s' → AtRest s' (IsHeld s.size c'.known new_map)
     committed_rest s' all none shut =
-        commit_rest puts mid s' (IsHeld s.size c'.known new_map) (subst (λ (b : ℕ). Ignores (IsGateOrLog b) (IsHeld s.size c'.known new_map)) (sym same.size) ignores_new) leads all none shut
+        commit_rest puts mid s' (IsHeld s.size c'.known new_map)
+        (subst (λ (b : ℕ). Ignores (IsGateOrLog b) (IsHeld s.size c'.known new_map)) (sym same.size) ignores_new)
+        leads all none shut
 
-    pub committed_done : (s' : DiskState) → SameDisk mid s' → SameOutside (IsGateOrLog mid.size) (with_puts puts mid.contents) s'.contents → NoneOpen s' → IsShut s' → (f : Files File) → RestsAt s f
+    pub committed_done : (s' : DiskState) → SameDisk mid s'
+        → SameOutside (IsGateOrLog mid.size) (with_puts puts mid.contents) s'.contents → NoneOpen s' → IsShut s'
+        → (f : Files File) → RestsAt s f
         → RestsAt s' (files_published f p.prime.ppn p.prime.file (file_of p.prime body))
-    committed_done s' after all none shut f rests = rest_for s s' c'.known new_map (new_files f) (after.size ∙ same.size) (names f rests) (committed_rest s' all none shut)
+    committed_done s' after all none shut f rests = rest_for s s' c'.known new_map (new_files f) (after.size
+        ∙ same.size) (names f rests) (committed_rest s' all none shut)
 
-    pub committed_at : (s' : DiskState) → SameOutside (IsGateOrLog mid.size) (with_puts puts mid.contents) s'.contents → NoneOpen s' → IsShut s' → (m : DiskMap) × AtRest s' (IsHeld s.size c'.known m)
+    pub committed_at : (s' : DiskState) → SameOutside (IsGateOrLog mid.size) (with_puts puts mid.contents) s'.contents
+        → NoneOpen s' → IsShut s' → (m : DiskMap) × AtRest s' (IsHeld s.size c'.known m)
     committed_at s' all none shut = (new_map, committed_rest s' all none shut)
 
   -- The puts are committed.
@@ -157,30 +197,44 @@ module _ (s mid : DiskState) (c c' : VolumeCore) (key : ℕ) (p : PendingVersion
   module _ (s' : DiskState) (after : Modifies (λ n. IsGateOrLog mid.size n ⊎ IsPutIn puts n) mid s') where
     kept_committed : (n : ℕ) → IsKept s.size c n → s'.contents n ≡ s.contents n
     kept_committed n kept =
-        after.contents n (λ there. kept_put s.size c c' key p v puts sound.whole made_current n kept (subst (λ (b : ℕ). IsGateOrLog b n ⊎ IsPutIn puts n) same.size there)) ∙ kept_written n kept
+        after.contents n (λ there. kept_put s.size c c' key p v puts sound.whole made_current n kept
+        (subst (λ (b : ℕ). IsGateOrLog b n ⊎ IsPutIn puts n) same.size there)) ∙ kept_written n kept
 
-    pub committed_readers : (k : ℕ) (u : LiveVersion) → slot c.live k ≡ Some u → 0 < u.readers → (n : ℕ) → 0 < times n u.version.blocks → s'.contents n ≡ s.contents n
+    pub committed_readers : (k : ℕ) (u : LiveVersion) → slot c.live k ≡ Some u → 0 < u.readers → (n : ℕ)
+        → 0 < times n u.version.blocks → s'.contents n ≡ s.contents n
     committed_readers k u is some n there = kept_committed n (read_kept s.size c sound.whole k u is some n there)
 
-    pub committed_writers : (k : ℕ) (q : PendingVersion) → pending_at c.pending k ≡ Some q → (n : ℕ) → 0 < times n q.version.blocks → s'.contents n ≡ s.contents n
+    pub committed_writers : (k : ℕ) (q : PendingVersion) → pending_at c.pending k ≡ Some q → (n : ℕ)
+        → 0 < times n q.version.blocks → s'.contents n ≡ s.contents n
     committed_writers k q is n there = kept_committed n (written_kept s.size c sound.whole k q is n there)
 
     pub committed_bodies : HaveBodies s'.contents c'
-    committed_bodies = made_current_bodies s'.contents s.size c c' key p v.at v.version.ribs puts made_current.makes_current (record {
-      read = λ k u is some. body_stays s.contents s'.contents u.version (sound.read h refl k u is some) (committed_readers k u is some);
-      written = λ k q is. body_stays s.contents s'.contents q.version (sound.written h refl k q is) (committed_writers k q is);
-    })
+    committed_bodies = made_current_bodies s'.contents s.size c c' key p v.at v.version.ribs puts
+        made_current.makes_current (record {
+          read = λ k u is some. body_stays s.contents s'.contents u.version (sound.read h refl k u is some)
+              (committed_readers k u is some);
+          written = λ k q is. body_stays s.contents s'.contents q.version (sound.written h refl k q is)
+              (committed_writers k q is);
+        })
 
 -- The whole of it: a volume that was sound is sound.
 
-module _ (s mid s' : DiskState) (c c' : VolumeCore) (key : ℕ) (p : PendingVersion) (v : LiveVersion) (puts : List Put) (sound : IsSound s c false) (made_current : IsMadeCurrent s.size c c' key p v puts) (same : SameDisk s mid) (after : SameDisk mid s') where
+module _ (s mid s' : DiskState) (c c' : VolumeCore) (key : ℕ) (p : PendingVersion) (v : LiveVersion) (puts : List Put)
+    (sound : IsSound s c false) (made_current : IsMadeCurrent s.size c c' key p v puts) (same : SameDisk s mid)
+    (after : SameDisk mid s') where
   pub committed_failed : IsSound s' c' true
-  committed_failed = sound_failed s s' c' true (after.size ∙ same.size) (new_whole s mid c c' key p v puts sound made_current same) refl
+  committed_failed = sound_failed s s' c' true (after.size
+      ∙ same.size) (new_whole s mid c c' key p v puts sound made_current same) refl
 
-  pub committed_sound : (mid.honest → Modifies (λ n. 0 < times n (v.at ∷ v.version.ribs)) s mid) → (mid.honest → IsRetrieved 1 mid.contents (with_length v.prime v.version.words) v.at v.version.ribs v.version.blocks)
-      → (s'.honest → Modifies (λ n. IsGateOrLog mid.size n ⊎ IsPutIn puts n) mid s') → (s'.honest → SameOutside (IsGateOrLog mid.size) (with_puts puts mid.contents) s'.contents) → (s'.honest → NoneOpen s') → (s'.honest → IsShut mid → IsShut s')
+  pub committed_sound : (mid.honest → Modifies (λ n. 0 < times n (v.at ∷ v.version.ribs)) s mid)
+      → (mid.honest
+      → IsRetrieved 1 mid.contents (with_length v.prime v.version.words) v.at v.version.ribs v.version.blocks)
+      → (s'.honest → Modifies (λ n. IsGateOrLog mid.size n ⊎ IsPutIn puts n) mid s')
+      → (s'.honest → SameOutside (IsGateOrLog mid.size) (with_puts puts mid.contents) s'.contents)
+      → (s'.honest → NoneOpen s') → (s'.honest → IsShut mid → IsShut s')
       → IsSound s' c' false
-  committed_sound modified retrieved put all none shut = sound_for s s' c' false (after.size ∙ same.size) (new_whole s mid c c' key p v puts sound made_current same)
+  committed_sound modified retrieved put all none shut = sound_for s s' c' false (after.size
+      ∙ same.size) (new_whole s mid c c' key p v puts sound made_current same)
       (λ h' ok.
       let m = after.was_honest h' in
       let h = same.was_honest m in
@@ -189,5 +243,6 @@ module _ (s mid s' : DiskState) (c c' : VolumeCore) (key : ℕ) (p : PendingVers
       let m = after.was_honest h' in
       let h = same.was_honest m in
       let has = sound.written h refl key p made_current.makes_current.written in
-      committed_at s mid c c' key p v puts sound made_current same h (modified m) (retrieved m) has.0 has.1 has.2 s' (all h') (none h')
+      committed_at s mid c c' key p v puts sound made_current same h (modified m) (retrieved m) has.0 has.1 has.2 s'
+      (all h') (none h')
       (shut h' (mid_shut s mid c c' key p v puts sound made_current same h (modified m))))

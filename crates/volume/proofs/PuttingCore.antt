@@ -1,5 +1,6 @@
 -- A version that is being written has other blocks: what is in core stays whole.
-use Rattle.std.proofs.Common.{◌≡◌, ◌⊎◌, ⊎_elim, inl, inr, ℕ, zero, suc, ◌+◌, ◌<◌, ◌≤◌, List, [], ◌∷◌, length, slice_set, Option, Some, None, IfSome, IsSome, slice_index_or, refl, sym, ap, subst, ◌∙◌, arith}
+use Rattle.std.proofs.Common.{◌≡◌, ◌⊎◌, ⊎_elim, inl, inr, ℕ, zero, suc, ◌+◌, ◌<◌, ◌≤◌, List, [], ◌∷◌, length, slice_set}
+use Rattle.std.proofs.Common.{Option, Some, None, IfSome, IsSome, slice_index_or, refl, sym, ap, subst, ◌∙◌, arith}
 use Rattle.std.proofs.lemmas.Bool.{cases_lt}
 use Rattle.meaning.specs.Costs.{directory_cost}
 use Rattle.meaning.specs.Directories.{MasterEntry}
@@ -8,7 +9,8 @@ use Rattle.meaning.specs.Maps.{total, times}
 use Rattle.alloctab.specs.TableState.{TableState, bit, holds}
 use Rattle.retrieval.specs.Versions.{VersionState}
 use Rattle.volume.specs.Known.{KnownDirectory, reaches_in_known}
-use Rattle.volume.specs.Live.{VolumeCore, pending_at, pending_reaches, pending_cost, creates, growths, IsWholePending, IsWholeCore}
+use Rattle.volume.specs.Live.{VolumeCore, pending_at, pending_reaches, pending_cost, creates, growths, IsWholePending}
+use Rattle.volume.specs.Live.{IsWholeCore}
 use Rattle.volume.specs.Putting.{IsReady, Regrows, Regrown}
 use Rattle.volume.specs.declared.pending.PendingVersion.{PendingVersion}
 use Rattle.volume.proofs.FoundDirectories.{all_times_at}
@@ -17,7 +19,9 @@ use Rattle.volume.proofs.MakingDirectories.{whole_fixed}
 use Rattle.volume.proofs.Pinning.{each_slot, total_at, all_updated, counts_whole}
 
 -- directories grow by as many entries as before
-growths_same : (old new : List (Option PendingVersion)) → ((ppn : ℕ) → total (creates ppn) new ≡ total (creates ppn) old) → (es : List MasterEntry) (ds : List KnownDirectory) → growths new es ds ≡ growths old es ds
+growths_same : (old new : List (Option PendingVersion))
+    → ((ppn : ℕ) → total (creates ppn) new ≡ total (creates ppn) old)
+    → (es : List MasterEntry) (ds : List KnownDirectory) → growths new es ds ≡ growths old es ds
 growths_same old new same [] ds = refl
 growths_same old new same (e ∷ es) [] = refl
 growths_same old new same (e ∷ es) (d ∷ ds) =
@@ -26,13 +30,16 @@ growths_same old new same (e ∷ es) (d ∷ ds) =
     omega arith
 
 -- a directory's chain is a part of what it reaches
-pub chains_within : (n : ℕ) (ds : List KnownDirectory) → total (λ (d : KnownDirectory). times n d.chain.blocks) ds ≤ total (reaches_in_known n) ds
+pub chains_within : (n : ℕ) (ds : List KnownDirectory) → total (λ (d : KnownDirectory). times n d.chain.blocks) ds
+    ≤ total (reaches_in_known n) ds
 chains_within n [] = omega arith
 chains_within n (d ∷ ds) = let rest = chains_within n ds in omega arith
 
-module _ (size : ℕ) (c : VolumeCore) (whole : IsWholeCore size c) (key : ℕ) (p : PendingVersion) (was : pending_at c.pending key ≡ Some p) where
+module _ (size : ℕ) (c : VolumeCore) (whole : IsWholeCore size c) (key : ℕ) (p : PendingVersion)
+    (was : pending_at c.pending key ≡ Some p) where
   pub waits : IsWholePending size p
-  waits = subst (λ o. IfSome o (IsWholePending size)) was (each_slot (λ o. IfSome o (IsWholePending size)) tt c.pending whole.waiting key)
+  waits = subst (λ o. IfSome o (IsWholePending size)) was
+      (each_slot (λ o. IfSome o (IsWholePending size)) tt c.pending whole.waiting key)
 
   -- words can be put into it
   pub ready : IsReady size c.known.table p.version
@@ -58,12 +65,14 @@ module _ (size : ℕ) (c : VolumeCore) (whole : IsWholeCore size c) (key : ℕ) 
         whole.within (omega arith);
   }
 
-  module _ (t : TableState) (pending : List (Option PendingVersion)) (v : VersionState) (is : Regrown size c.known.table t pending key p v)
+  module _ (t : TableState) (pending : List (Option PendingVersion)) (v : VersionState)
+      (is : Regrown size c.known.table t pending key p v)
       (others : (k : ℕ) → (k ≡ key → ⊥) → pending_at pending k ≡ pending_at c.pending k) where
     grown : Regrows size c.known.table t p.version v
     grown = is.1
 
-    new_total : (f : Option PendingVersion → ℕ) → f None ≡ 0 → total f pending + f (Some p) ≡ total f c.pending + f (Some (record p { version = v }))
+    new_total : (f : Option PendingVersion → ℕ) → f None ≡ 0
+        → total f pending + f (Some p) ≡ total f c.pending + f (Some (record p { version = v }))
     new_total f none =
         let all = total_updated f none c.pending pending key (Some (record p { version = v })) is.0 others in
         let here = ap f was in
@@ -77,13 +86,18 @@ module _ (size : ℕ) (c : VolumeCore) (whole : IsWholeCore size c) (key : ℕ) 
 
     new_waits : IsWholePending size (record p { version = v })
     new_waits = record {
-      whole = record { counted = grown.counted; few = grown.few; few_ribs = let none = ap (λ (l : List ℕ). length l) (grown.ribs ∙ waits.bare) in omega arith };
+      whole = record {
+        counted = grown.counted;
+        few = grown.few;
+        few_ribs = let none = ap (λ (l : List ℕ). length l) (grown.ribs ∙ waits.bare) in omega arith;
+      };
       inside = grown.inside;
       bare = grown.ribs ∙ waits.bare;
     }
 
     -- a block that is held was held, or its bit was clear and it is one of the version
-    held_or_new : (n : ℕ) → 0 < holds t n → (0 < holds c.known.table n) ⊎ ((bit c.known.table n ≡ 0) × (0 < times n v.blocks))
+    held_or_new : (n : ℕ) → 0 < holds t n → (0 < holds c.known.table n)
+        ⊎ ((bit c.known.table n ≡ 0) × (0 < times n v.blocks))
     held_or_new n some = ⊎_elim
         (λ was_held. inl was_held)
         (λ unheld.
@@ -94,18 +108,24 @@ module _ (size : ℕ) (c : VolumeCore) (whole : IsWholeCore size c) (key : ℕ) 
         (cases_lt 0 (holds c.known.table n))
 
     -- one whose bit is clear stands in no chain
-    clear_apart : (n : ℕ) → bit c.known.table n ≡ 0 → times n c.known.master.blocks + total (λ d. times n d.chain.blocks) c.known.directories ≡ 0
+    clear_apart : (n : ℕ) → bit c.known.table n ≡ 0
+        → times n c.known.master.blocks + total (λ d. times n d.chain.blocks) c.known.directories ≡ 0
     clear_apart n clear =
         let is = whole.map.bits n in
         let most = chains_within n c.known.directories in
         omega arith
 
-    regrown_whole : IsWholeCore size (record c { known = record c.known { table = record c.known.table { held = t.held; booked = t.booked } }; pending = pending })
+    regrown_whole : IsWholeCore size
+        (record c {
+          known = record c.known { table = record c.known.table { held = t.held; booked = t.booked } };
+          pending = pending;
+        })
     regrown_whole = record {
       map = counts_whole size c.known t.held t.booked whole.map;
       keyed = whole.keyed;
       standing = whole.standing;
-      waiting = all_updated (λ o. IfSome o (IsWholePending size)) c.pending pending key others tt whole.waiting (subst (λ o. IfSome o (IsWholePending size)) (sym is.0) new_waits);
+      waiting = all_updated (λ o. IfSome o (IsWholePending size)) c.pending pending key others tt whole.waiting
+          (subst (λ o. IfSome o (IsWholePending size)) (sym is.0) new_waits);
       current = whole.current;
       housed = λ ppn absent. new_creates ppn ∙ whole.housed ppn absent;
       held = λ n.
@@ -118,8 +138,10 @@ module _ (size : ℕ) (c : VolumeCore) (whole : IsWholeCore size c) (key : ℕ) 
           let sum = grown.held n in
           ⊎_elim
           (λ fewer. let few = whole.own n (omega arith) in omega arith)
-          (λ free. let clear = free.0.clear in let unheld = free.0.unheld in let once = free.1 in omega arith) (grown.adds n);
-      inside = λ n some. ⊎_elim (λ old. whole.inside n old) (λ new. all_times_at (InSpace size) v.blocks n grown.inside new.1) (held_or_new n some);
+          (λ free. let clear = free.0.clear in let unheld = free.0.unheld in let once = free.1 in
+          omega arith) (grown.adds n);
+      inside = λ n some. ⊎_elim (λ old. whole.inside n old)
+          (λ new. all_times_at (InSpace size) v.blocks n grown.inside new.1) (held_or_new n some);
       apart = λ n some. ⊎_elim (λ old. whole.apart n old) (λ new. clear_apart n new.0) (held_or_new n some);
       fits = let few = grown.within in let large = whole.map.volume.large in omega arith;
       within = λ some. grown.within;
@@ -132,7 +154,8 @@ module _ (size : ℕ) (c : VolumeCore) (whole : IsWholeCore size c) (key : ℕ) 
     }
 
     pub put_whole : IsWholeCore size (record c { known = record c.known { table = t }; pending = pending })
-    put_whole = subst (λ (u : TableState). IsWholeCore size (record c { known = record c.known { table = u }; pending = pending })) (sym grown.table) regrown_whole
+    put_whole = subst (λ (u : TableState). IsWholeCore size
+        (record c { known = record c.known { table = u }; pending = pending })) (sym grown.table) regrown_whole
 
 -- One version in its slot.
 
@@ -141,21 +164,42 @@ some_of None is = absurd (cc)
 some_of (Some x) is = (x, refl)
 
 -- the value in a slot is another
-set_at : {X : Type 0} (slots : List (Option X)) (key : ℕ) (q : X) (x : Option X) → slice_index_or slots key None ≡ Some q → slice_index_or (slice_set slots key x) key None ≡ x
+set_at : {X : Type 0} (slots : List (Option X)) (key : ℕ) (q : X) (x : Option X)
+    → slice_index_or slots key None ≡ Some q → slice_index_or (slice_set slots key x) key None ≡ x
 set_at [] key q x is = cc
 set_at (o ∷ os) zero q x is = refl
 set_at (o ∷ os) (suc key) q x is = set_at os key q x is
 
 -- as it was
 pub regrows_same : (size : ℕ) (t : TableState) (v : VersionState) → IsReady size t v → Regrows size t t v v
-regrows_same size t v is = record { counted = is.counted; few = is.few; ribs = refl; inside = is.inside; adds = λ n. inl (omega arith); table = refl; held = λ n. refl; booked = refl; within = is.within }
+regrows_same size t v is = record {
+  counted = is.counted;
+  few = is.few;
+  ribs = refl;
+  inside = is.inside;
+  adds = λ n. inl (omega arith);
+  table = refl;
+  held = λ n. refl;
+  booked = refl;
+  within = is.within;
+}
 
-module _ (slots : List (Option PendingVersion)) (key : ℕ) (q p : PendingVersion) (got : Some q ≡ pending_at slots key) (was : pending_at slots key ≡ Some p) where
+module _ (slots : List (Option PendingVersion)) (key : ℕ) (q p : PendingVersion) (got : Some q
+    ≡ pending_at slots key) (was : pending_at slots key ≡ Some p) where
   pub same_version : q ≡ p
   same_version = let both : Some q ≡ Some p = got ∙ was in cc
 
-  pub now_put : (v : VersionState) → pending_at (slice_set slots key (Some (record q { version = v }))) key ≡ Some (record p { version = v })
-  now_put v = set_at slots key q (Some (record q { version = v })) (sym got) ∙ ap (λ (u : PendingVersion). Some (record u { version = v })) same_version
+  pub now_put : (v : VersionState) → pending_at (slice_set slots key (Some (record q { version = v }))) key
+      ≡ Some (record p { version = v })
+  now_put v = set_at slots key q (Some (record q { version = v })) (sym got)
+      ∙ ap (λ (u : PendingVersion). Some (record u { version = v })) same_version
 
-  pub regrown_same : (size : ℕ) (t : TableState) → IsReady size t p.version → (v : VersionState) × Regrown size t t (slice_set slots key (Some q)) key p v
-  regrown_same size t is = (p.version, (set_at slots key q (Some q) (sym got) ∙ ap (λ (u : PendingVersion). Some u) same_version, regrows_same size t p.version is))
+  pub regrown_same : (size : ℕ) (t : TableState) → IsReady size t p.version → (v : VersionState)
+      × Regrown size t t (slice_set slots key (Some q)) key p v
+  regrown_same size t is = (
+    p.version,
+    (
+      set_at slots key q (Some q) (sym got) ∙ ap (λ (u : PendingVersion). Some u) same_version,
+      regrows_same size t p.version is,
+    ),
+  )

@@ -1,6 +1,8 @@
 -- Words are put into a version that is being written: what is read and written besides it stays, and no crash
 -- sees the writes.
-use Rattle.std.proofs.Common.{◌≡◌, inl, inr, ⊎_elim, ℕ, zero, suc, ◌+◌, ◌<◌, ◌≤◌, Bool, true, false, if◌then◌else◌, List, [], ◌∷◌, length, Option, Some, None, slice_index_or, refl, sym, ap, subst, ◌∙◌, arith}
+use Rattle.std.proofs.Common.{◌≡◌, inl, inr, ⊎_elim, ℕ, zero, suc, ◌+◌, ◌<◌, ◌≤◌, Bool, true, false, if◌then◌else◌}
+use Rattle.std.proofs.Common.{List, [], ◌∷◌, length, Option, Some, None, slice_index_or, refl, sym, ap, subst, ◌∙◌}
+use Rattle.std.proofs.Common.{arith}
 use Rattle.std.proofs.lemmas.Bool.{cases_eq, cases_lt}
 use Rattle.std.specs.List.{AllZip}
 use Rattle.blockdisk.specs.Disk.{Contents, DiskState, MayLeave, SameDisk, SameOutside, Modifies, LeavesOnly}
@@ -38,7 +40,8 @@ use Rattle.volume.proofs.PuttingCore.{put_whole}
 -- Quiet writes.
 
 -- Blocks whose bits are clear are not looked at.
-pub ignores_clear : (size : ℕ) (k : Known) (m : DiskMap) (In : ℕ → Type 0) → IsAligned k → ((n : ℕ) → In n → bit k.table n ≡ 0) → Ignores In (IsHeld size k m)
+pub ignores_clear : (size : ℕ) (k : Known) (m : DiskMap) (In : ℕ → Type 0) → IsAligned k
+    → ((n : ℕ) → In n → bit k.table n ≡ 0) → Ignores In (IsHeld size k m)
 ignores_clear size k m In aligned clear c d same h =
     held_kept size k m c d aligned h (quiet size c d free m h.stands) stays (quiet_bits size c d free)
   where
@@ -48,7 +51,8 @@ ignores_clear size k m In aligned clear c d same h =
     -- a clear bit is one of the free space
     in_space : (n : ℕ) → bit k.table n ≡ 0 → space_start size ≤ n
     in_space n none = ⊎_elim
-        (λ below. absurd (let one = fixed_below size n below in let is = bits_are n in let known = h.bits n in omega arith))
+        (λ below. absurd (let one = fixed_below size n below in let is = bits_are n in let known = h.bits n in
+        omega arith))
         (λ from. from) (cases_lt n (space_start size))
 
     free : DifferInFree size c c d
@@ -57,10 +61,12 @@ ignores_clear size k m In aligned clear c d same h =
         (λ set. inl (same n (λ there. set (clear n there)))) (cases_eq (bit k.table n) 0)
 
     stays : (n : ℕ) → 0 < reaches n m → d n ≡ c n
-    stays n there = same n (λ is. let none = clear n is in let known = h.bits n in let e = bits_are n in absurd (omega arith))
+    stays n there = same n (λ is. let none = clear n is in let known = h.bits n in let e = bits_are n in
+        absurd (omega arith))
 
 -- The same map, with another table that has its bits.
-same_bits : (size : ℕ) (k : Known) (t : TableState) (m : DiskMap) (c : Contents) → ((n : ℕ) → bit t n ≡ bit k.table n) → IsHeld size k m c → IsHeld size (record k { table = t }) m c
+same_bits : (size : ℕ) (k : Known) (t : TableState) (m : DiskMap) (c : Contents) → ((n : ℕ) → bit t n ≡ bit k.table n)
+    → IsHeld size k m c → IsHeld size (record k { table = t }) m c
 same_bits size k t m c same h = record {
   known = record { layout = h.known.layout; chain = h.known.chain; names = h.known.names; each = h.known.each };
   stands = h.stands;
@@ -69,7 +75,8 @@ same_bits size k t m c same h = record {
   bits = λ n. h.bits n ∙ sym (same n);
 }
 
-module _ (s s' : DiskState) (k : Known) (blocks : List ℕ) (aligned : IsAligned k) (at : IsAtRest s k) (size : s'.size ≡ s.size) (modified : Modifies (IsOwn k.table blocks) s s') (gate : bit k.table 3 ≡ 1) where
+module _ (s s' : DiskState) (k : Known) (blocks : List ℕ) (aligned : IsAligned k) (at : IsAtRest s k) (size : s'.size
+    ≡ s.size) (modified : Modifies (IsOwn k.table blocks) s s') (gate : bit k.table 3 ≡ 1) where
   ignores : Ignores (IsOwn k.table blocks) (IsHeld s.size k at.map)
   ignores = ignores_clear s.size k at.map (IsOwn k.table blocks) aligned (λ n own. own.clear)
 
@@ -80,11 +87,13 @@ module _ (s s' : DiskState) (k : Known) (blocks : List ℕ) (aligned : IsAligned
   rest_after = quiet_rest (IsOwn k.table blocks) s s' (IsHeld s.size k at.map) ignores not_gate size at.rest modified
 
   -- a crash finds the files from before
-  pub put_quiet : (f : Files File) → RestsAt s f → ((c : Contents) → s.left_since s.clock c → MayLeave s c) → LeavesOnly s s' (λ c. Stands s.size c f)
+  pub put_quiet : (f : Files File) → RestsAt s f → ((c : Contents) → s.left_since s.clock c → MayLeave s c)
+      → LeavesOnly s s' (λ c. Stands s.size c f)
   put_quiet f rests only_now =
       let same = files_are s k at.map f at.rest rests in
       leaves_weaker s s' (SettlesTo s.size (IsHeld s.size k at.map)) (λ c. Stands s.size c f)
-      (quiet_stands s s' (IsHeld s.size k at.map) (quiet_leaves (IsOwn k.table blocks) s s' (IsHeld s.size k at.map) ignores not_gate at.rest only_now modified))
+      (quiet_stands s s' (IsHeld s.size k at.map) (quiet_leaves (IsOwn k.table blocks) s s'
+      (IsHeld s.size k at.map) ignores not_gate at.rest only_now modified))
       (λ c held. (held.0, held.1, (at.map, held.2.stands, same)))
 
   -- and so does a start
@@ -92,23 +101,31 @@ module _ (s s' : DiskState) (k : Known) (blocks : List ℕ) (aligned : IsAligned
   put_rests f rests = rest_for s s' k at.map f size (files_are s k at.map f at.rest rests) rest_after
 
   -- what is in core is still the disk's
-  pub put_at : (t : TableState) → ((n : ℕ) → bit t n ≡ bit k.table n) → (m : DiskMap) × AtRest s' (IsHeld s.size (record k { table = t }) m)
-  put_at t same = (at.map, record { shut = rest_after.shut; all = λ c left. same_bits s.size k t at.map c same (rest_after.all c left) })
+  pub put_at : (t : TableState) → ((n : ℕ) → bit t n ≡ bit k.table n)
+      → (m : DiskMap) × AtRest s' (IsHeld s.size (record k { table = t }) m)
+  put_at t same = (
+    at.map,
+    record { shut = rest_after.shut; all = λ c left. same_bits s.size k t at.map c same (rest_after.all c left) },
+  )
 
 -- The words of other versions.
 
 -- two slots count in a sum
-total_two : {X : Type 0} (f : Option X → ℕ) → f None ≡ 0 → (slots : List (Option X)) (i j : ℕ) → (i ≡ j → ⊥) → f (slice_index_or slots i None) + f (slice_index_or slots j None) ≤ total f slots
+total_two : {X : Type 0} (f : Option X → ℕ) → f None ≡ 0 → (slots : List (Option X)) (i j : ℕ) → (i ≡ j → ⊥)
+    → f (slice_index_or slots i None) + f (slice_index_or slots j None) ≤ total f slots
 total_two f none [] i j other = omega arith
 total_two f none (o ∷ os) zero zero other = absurd (other refl)
 total_two f none (o ∷ os) zero (suc j) other = let part = total_at f none os j in omega arith
 total_two f none (o ∷ os) (suc i) zero other = let part = total_at f none os i in omega arith
-total_two f none (o ∷ os) (suc i) (suc j) other = let rest = total_two f none os i j (λ same. other (ap suc same)) in omega arith
+total_two f none (o ∷ os) (suc i) (suc j) other = let rest = total_two f none os i j (λ same. other (ap suc same)) in
+    omega arith
 
-module _ (size : ℕ) (c : VolumeCore) (whole : IsWholeCore size c) (key : ℕ) (p : PendingVersion) (was : pending_at c.pending key ≡ Some p) where
+module _ (size : ℕ) (c : VolumeCore) (whole : IsWholeCore size c) (key : ℕ) (p : PendingVersion)
+    (was : pending_at c.pending key ≡ Some p) where
   -- what is the version's own is no other's
 
-  read_apart : (k : ℕ) (v : LiveVersion) → slot c.live k ≡ Some v → 0 < v.readers → (n : ℕ) → 0 < times n v.version.blocks → IsOwn c.known.table p.version.blocks n → ⊥
+  read_apart : (k : ℕ) (v : LiveVersion) → slot c.live k ≡ Some v → 0 < v.readers → (n : ℕ)
+      → 0 < times n v.version.blocks → IsOwn c.known.table p.version.blocks n → ⊥
   read_apart k v is some n there own = by v.is_current refl
     where
       stands : 0 < times n (blocks_reached v.at v.version)
@@ -123,7 +140,8 @@ module _ (size : ℕ) (c : VolumeCore) (whole : IsWholeCore size c) (key : ℕ) 
           omega arith
       by false ended =
           let part = total_at (held_reaches n) refl c.live k in
-          let here = ap (held_reaches n) is ∙ ap (λ (b : Bool). if b then 0 else times n (blocks_reached v.at v.version)) ended in
+          let here = ap (held_reaches n) is
+          ∙ ap (λ (b : Bool). if b then 0 else times n (blocks_reached v.at v.version)) ended in
           let mine = total_at (pending_reaches n) refl c.pending key in
           let its = ap (pending_reaches n) was in
           let all = whole.held n in
@@ -131,7 +149,8 @@ module _ (size : ℕ) (c : VolumeCore) (whole : IsWholeCore size c) (key : ℕ) 
           let alone = own.alone in
           omega arith
 
-  written_apart : (k : ℕ) (q : PendingVersion) → (k ≡ key → ⊥) → pending_at c.pending k ≡ Some q → (n : ℕ) → 0 < times n q.version.blocks → IsOwn c.known.table p.version.blocks n → ⊥
+  written_apart : (k : ℕ) (q : PendingVersion) → (k ≡ key → ⊥) → pending_at c.pending k ≡ Some q → (n : ℕ)
+      → 0 < times n q.version.blocks → IsOwn c.known.table p.version.blocks n → ⊥
   written_apart k q other is n there own =
       let two = total_two (pending_reaches n) refl c.pending k key other in
       let here = ap (pending_reaches n) is in
@@ -140,26 +159,35 @@ module _ (size : ℕ) (c : VolumeCore) (whole : IsWholeCore size c) (key : ℕ) 
       let alone = own.alone in
       omega arith
 
-  pub keeps_read : (old new : Contents) → SameOutside (IsOwn c.known.table p.version.blocks) old new → KeepsRead old new c
+  pub keeps_read : (old new : Contents) → SameOutside (IsOwn c.known.table p.version.blocks) old new
+      → KeepsRead old new c
   keeps_read old new same k v is some n there = same n (read_apart k v is some n there)
 
-  pub keeps_written : (old new : Contents) → SameOutside (IsOwn c.known.table p.version.blocks) old new → KeepsWritten old new c key
+  pub keeps_written : (old new : Contents) → SameOutside (IsOwn c.known.table p.version.blocks) old new
+      → KeepsWritten old new c key
   keeps_written old new same k q other is n there = same n (written_apart k q other is n there)
 
   -- the words of all versions after the words are put
-  pub put_bodies : (s s' : DiskState) (failed : Bool) → IsSound s c failed → s.honest → failed ≡ false → SameOutside (IsOwn c.known.table p.version.blocks) s.contents s'.contents
-      → (c' : VolumeCore) (v : VersionState) (block : ℕ) (words : List ℕ) → c'.live ≡ c.live → ((k : ℕ) → (k ≡ key → ⊥) → pending_at c'.pending k ≡ pending_at c.pending k) → pending_at c'.pending key ≡ Some (record p { version = v })
+  pub put_bodies : (s s' : DiskState) (failed : Bool) → IsSound s c failed → s.honest → failed ≡ false
+      → SameOutside (IsOwn c.known.table p.version.blocks) s.contents s'.contents
+      → (c' : VolumeCore) (v : VersionState) (block : ℕ) (words : List ℕ) → c'.live ≡ c.live
+      → ((k : ℕ) → (k ≡ key → ⊥) → pending_at c'.pending k ≡ pending_at c.pending k)
+      → pending_at c'.pending key ≡ Some (record p { version = v })
       → v.words ≡ length_after p.version.words block (length words)
-      → ((body : List ℕ) → length body ≡ p.version.words → HasBody s.contents p.version.blocks body → HasBody s'.contents v.blocks (splice body block words)) → HaveBodies s'.contents c'
+      → ((body : List ℕ) → length body ≡ p.version.words → HasBody s.contents p.version.blocks body
+      → HasBody s'.contents v.blocks (splice body block words)) → HaveBodies s'.contents c'
   put_bodies s s' failed sound h ok same c' v block words live others now long put = record {
     read = λ k u is some.
         let old : slot c.live k ≡ Some u = ap (λ l. slot l k) (sym live) ∙ is in
-        body_stays s.contents s'.contents u.version (sound.read h ok k u old some) (λ n there. same n (read_apart k u old some n there));
+        body_stays s.contents s'.contents u.version (sound.read h ok k u old some)
+        (λ n there. same n (read_apart k u old some n there));
     written = λ k q is. ⊎_elim
-        (λ (here : k ≡ key). subst (λ (u : PendingVersion). HasSomeBody s'.contents u.version) (some_is (sym now ∙ ap (pending_at c'.pending) (sym here) ∙ is)) new_body)
+        (λ (here : k ≡ key). subst (λ (u : PendingVersion). HasSomeBody s'.contents u.version)
+        (some_is (sym now ∙ ap (pending_at c'.pending) (sym here) ∙ is)) new_body)
         (λ other.
         let old : pending_at c.pending k ≡ Some q = sym (others k other) ∙ is in
-        body_stays s.contents s'.contents q.version (sound.written h ok k q old) (λ n there. same n (written_apart k q other old n there)))
+        body_stays s.contents s'.contents q.version (sound.written h ok k q old)
+        (λ n there. same n (written_apart k q other old n there)))
         (cases_eq k key);
   }
     where
@@ -168,11 +196,16 @@ module _ (size : ℕ) (c : VolumeCore) (whole : IsWholeCore size c) (key : ℕ) 
 
       new_body : HasSomeBody s'.contents v
       new_body =
-          let had = sound.written h ok key p was in
-          (splice had.0 block words, length-splice had.0 block words ∙ ap (λ (n : ℕ). length_after n block (length words)) had.1 ∙ sym long, put had.0 had.1 had.2)
+          let had = sound.written h ok key p was in (
+            splice had.0 block words,
+            length-splice had.0 block words
+                ∙ ap (λ (n : ℕ). length_after n block (length words)) had.1 ∙ sym long,
+            put had.0 had.1 had.2,
+          )
 
 -- a block of a version that has its words isn't damaged
-undamaged_at : (contents : Contents) (blocks : List ℕ) (each : List (List ℕ)) → AllZip (λ n words. contents n ≡ Some words) blocks each → (k : ℕ) → 0 < times k blocks → contents k ≡ None → ⊥
+undamaged_at : (contents : Contents) (blocks : List ℕ) (each : List (List ℕ))
+    → AllZip (λ n words. contents n ≡ Some words) blocks each → (k : ℕ) → 0 < times k blocks → contents k ≡ None → ⊥
 undamaged_at contents [] each zip k there none = omega arith
 undamaged_at contents (n ∷ ns) [] zip k there none = absurd zip
 undamaged_at contents (n ∷ ns) (w ∷ ws) zip k there none = ⊎_elim
@@ -180,31 +213,46 @@ undamaged_at contents (n ∷ ns) (w ∷ ws) zip k there none = ⊎_elim
     (λ other. undamaged_at contents ns ws zip.1 k (let tail = times_tail k n ns other in omega arith) none)
     (cases_eq k n)
 
-pub none_damaged : (contents : Contents) (v : VersionState) → HasSomeBody contents v → (k : ℕ) → 0 < times k v.blocks → contents k ≡ None → ⊥
+pub none_damaged : (contents : Contents) (v : VersionState) → HasSomeBody contents v → (k : ℕ) → 0 < times k v.blocks
+    → contents k ≡ None → ⊥
 none_damaged contents v has k there none = undamaged_at contents v.blocks has.2.each has.2.undamaged k there none
 
 -- The whole of it.
 
-module _ (s s' : DiskState) (c : VolumeCore) (sound : IsSound s c false) (same : SameDisk s s') (key : ℕ) (p : PendingVersion) (was : pending_at c.pending key ≡ Some p)
-    (t : TableState) (pending : List (Option PendingVersion)) (v : VersionState) (is : Regrown s.size c.known.table t pending key p v) (others : (k : ℕ) → (k ≡ key → ⊥) → pending_at pending k ≡ pending_at c.pending k)
+module _ (s s' : DiskState) (c : VolumeCore) (sound : IsSound s c false) (same : SameDisk s s') (key : ℕ)
+    (p : PendingVersion) (was : pending_at c.pending key ≡ Some p)
+    (t : TableState) (pending : List (Option PendingVersion)) (v : VersionState)
+    (is : Regrown s.size c.known.table t pending key p v) (others : (k : ℕ) → (k ≡ key → ⊥)
+    → pending_at pending k ≡ pending_at c.pending k)
     (modified : s'.honest → Modifies (IsOwn c.known.table p.version.blocks) s s') where
   gate_set : bit c.known.table 3 ≡ 1
   gate_set = whole_fixed s.size c.known sound.whole.map 3 (omega arith)
 
   pub put_failed : IsSound s' (record c { known = record c.known { table = t }; pending = pending }) true
-  put_failed = sound_failed s s' (record c { known = record c.known { table = t }; pending = pending }) true same.size (put_whole s.size c sound.whole key p was t pending v is others) refl
+  put_failed = sound_failed s s' (record c { known = record c.known { table = t }; pending = pending }) true same.size
+      (put_whole s.size c sound.whole key p was t pending v is others) refl
 
-  pub put_done : (w : VersionState) (block : ℕ) (words : List ℕ) → pending_at pending key ≡ Some (record p { version = w }) → w.words ≡ length_after p.version.words block (length words)
-      → (s'.honest → (body : List ℕ) → length body ≡ p.version.words → HasBody s.contents p.version.blocks body → HasBody s'.contents w.blocks (splice body block words))
+  pub put_done : (w : VersionState) (block : ℕ) (words : List ℕ) → pending_at pending key
+      ≡ Some (record p { version = w }) → w.words ≡ length_after p.version.words block (length words)
+      → (s'.honest → (body : List ℕ) → length body ≡ p.version.words → HasBody s.contents p.version.blocks body
+      → HasBody s'.contents w.blocks (splice body block words))
       → IsSound s' (record c { known = record c.known { table = t }; pending = pending }) false
-  put_done w block words now long put = sound_for s s' (record c { known = record c.known { table = t }; pending = pending }) false same.size (put_whole s.size c sound.whole key p was t pending v is others)
+  put_done w block words now long put = sound_for s s'
+      (record c { known = record c.known { table = t }; pending = pending }) false same.size
+      (put_whole s.size c sound.whole key p was t pending v is others)
       (λ h' ok. let h : s.honest = same.was_honest h' in
-      put_bodies s.size c sound.whole key p was s s' false sound h refl (modified h').contents (record c { known = record c.known { table = t }; pending = pending }) w block words refl others now long (put h'))
+      put_bodies s.size c sound.whole key p was s s' false sound h refl (modified h').contents
+      (record c { known = record c.known { table = t }; pending = pending }) w block words refl others now long
+      (put h'))
       (λ h' ok. let h : s.honest = same.was_honest h' in
-      put_at s s' c.known p.version.blocks sound.whole.map.aligned (sound.rest h refl) same.size (modified h') gate_set t (λ n. ap (λ (u : TableState). bit u n) is.1.table))
+      put_at s s' c.known p.version.blocks sound.whole.map.aligned (sound.rest h refl) same.size
+      (modified h') gate_set t (λ n. ap (λ (u : TableState). bit u n) is.1.table))
 
-  pub crash_finds : s'.honest → (f : Files File) → RestsAt s f → ((d : Contents) → s.left_since s.clock d → MayLeave s d) → LeavesOnly s s' (λ d. Stands s.size d f)
-  crash_finds h f rests only_now = put_quiet s s' c.known p.version.blocks sound.whole.map.aligned (sound.rest (same.was_honest h) refl) same.size (modified h) gate_set f rests only_now
+  pub crash_finds : s'.honest → (f : Files File) → RestsAt s f
+      → ((d : Contents) → s.left_since s.clock d → MayLeave s d) → LeavesOnly s s' (λ d. Stands s.size d f)
+  crash_finds h f rests only_now = put_quiet s s' c.known p.version.blocks sound.whole.map.aligned
+      (sound.rest (same.was_honest h) refl) same.size (modified h) gate_set f rests only_now
 
   pub rest_finds : s'.honest → (f : Files File) → RestsAt s f → RestsAt s' f
-  rest_finds h f rests = put_rests s s' c.known p.version.blocks sound.whole.map.aligned (sound.rest (same.was_honest h) refl) same.size (modified h) gate_set f rests
+  rest_finds h f rests = put_rests s s' c.known p.version.blocks sound.whole.map.aligned
+      (sound.rest (same.was_honest h) refl) same.size (modified h) gate_set f rests

@@ -1,5 +1,6 @@
 -- Words that are read: what stays, and that a version which can be read has its words.
-use Rattle.std.proofs.Common.{◌≡◌, ℕ, ◌<◌, Bool, true, false, if◌then◌else◌, List, [], ◌∷◌, Option, Some, None, option_map, IfSome, refl, sym, ap, subst, ◌∙◌, arith, ⊎_elim}
+use Rattle.std.proofs.Common.{◌≡◌, ℕ, ◌<◌, Bool, true, false, if◌then◌else◌, List, [], ◌∷◌, Option, Some, None}
+use Rattle.std.proofs.Common.{option_map, IfSome, refl, sym, ap, subst, ◌∙◌, arith, ⊎_elim}
 use Rattle.std.proofs.lemmas.Bool.{cases_eq, cases_lt}
 use Rattle.std.proofs.lemmas.List.{get_or_past}
 use Rattle.std.specs.List.{AllByRecursion, AllZip}
@@ -31,17 +32,26 @@ use Rattle.volume.proofs.Starting.{rest_read}
 
 -- Reading changes nothing.
 
-pub rests_read : (s s' : DiskState) (files : Files File) → s'.size ≡ s.size → OnlyReads s s' → RestsAt s files → RestsAt s' files
-rests_read s s' files size reads rests = subst (λ (n : ℕ). AtRest s' (λ c. SettledStands n c files)) (sym size) (rest_read s s' (λ c. SettledStands s.size c files) size reads rests)
+pub rests_read : (s s' : DiskState) (files : Files File) → s'.size ≡ s.size → OnlyReads s s' → RestsAt s files
+    → RestsAt s' files
+rests_read s s' files size reads rests = subst (λ (n : ℕ). AtRest s' (λ c. SettledStands n c files)) (sym size)
+    (rest_read s s' (λ c. SettledStands s.size c files) size reads rests)
 
-pub sound_read : (s s' : DiskState) (c : VolumeCore) (failed : Bool) → s'.size ≡ s.size → (s'.honest → s.honest) → (s'.honest → OnlyReads s s') → IsSound s c failed → IsSound s' c failed
+pub sound_read : (s s' : DiskState) (c : VolumeCore) (failed : Bool) → s'.size ≡ s.size → (s'.honest → s.honest)
+    → (s'.honest → OnlyReads s s') → IsSound s c failed → IsSound s' c failed
 sound_read s s' c failed size honest reads sound = record {
   whole = subst (λ (n : ℕ). IsWholeCore n c) (sym size) sound.whole;
   rest = λ h ok.
       let own = sound.rest (honest h) ok in
-      record { map = own.map; rest = subst (λ (n : ℕ). AtRest s' (IsHeld n c.known own.map)) (sym size) (rest_read s s' (IsHeld s.size c.known own.map) size (reads h) own.rest) };
-  read = λ h ok key v at some. body_stays s.contents s'.contents v.version (sound.read (honest h) ok key v at some) (λ n there. (reads h).still.contents n);
-  written = λ h ok key p at. body_stays s.contents s'.contents p.version (sound.written (honest h) ok key p at) (λ n there. (reads h).still.contents n);
+      record {
+        map = own.map;
+        rest = subst (λ (n : ℕ). AtRest s' (IsHeld n c.known own.map)) (sym size)
+            (rest_read s s' (IsHeld s.size c.known own.map) size (reads h) own.rest);
+      };
+  read = λ h ok key v at some. body_stays s.contents s'.contents v.version (sound.read (honest h) ok key v at some)
+      (λ n there. (reads h).still.contents n);
+  written = λ h ok key p at. body_stays s.contents s'.contents p.version (sound.written (honest h) ok key p at)
+      (λ n there. (reads h).still.contents n);
 }
 
 -- What can be read lies in the free space.
@@ -55,17 +65,23 @@ module _ (size : ℕ) (c : VolumeCore) (whole : IsWholeCore size c) (table : IsT
       let none : bit c.known.table n ≡ 0 = ap digit (get_or_past c.known.table.bits n false (omega arith)) in
       absurd (omega arith)) (cases_lt n size)
 
-  read_inside : (key : ℕ) (v : LiveVersion) → slot c.live key ≡ Some v → 0 < v.readers → (n : ℕ) → 0 < times n v.version.blocks → InSpace size n
-  read_inside key v is some n there = record { from = (read_used size c whole key v is some n there).from; below = by v.is_current refl }
+  read_inside : (key : ℕ) (v : LiveVersion) → slot c.live key ≡ Some v → 0 < v.readers → (n : ℕ)
+      → 0 < times n v.version.blocks → InSpace size n
+  read_inside key v is some n there = record {
+    from = (read_used size c whole key v is some n there).from;
+    below = by v.is_current refl;
+  }
     where
       stands : 0 < times n (blocks_reached v.at v.version)
       stands = let parts = times-append n v.version.ribs v.version.blocks in omega arith
 
       by : (b : Bool) → v.is_current ≡ b → n < size
-      by true current = set_below n (let most = current_stands size c whole key v is current n in let here = stands in let is = whole.map.bits n in omega arith)
+      by true current = set_below n (let most = current_stands size c whole key v is current n in let here = stands in
+          let is = whole.map.bits n in omega arith)
       by false ended = (whole.inside n
           (let part = total_at (held_reaches n) refl c.live key in
-          let here = ap (held_reaches n) is ∙ ap (λ (b : Bool). if b then 0 else times n (blocks_reached v.at v.version)) ended in
+          let here = ap (held_reaches n) is
+          ∙ ap (λ (b : Bool). if b then 0 else times n (blocks_reached v.at v.version)) ended in
           let all = whole.held n in
           let one = stands in
           omega arith)).below
@@ -74,27 +90,41 @@ module _ (size : ℕ) (c : VolumeCore) (whole : IsWholeCore size c) (table : IsT
   all_of P [] has = tt
   all_of P (n ∷ ns) has = (has n (times_here n ns), all_of P ns (λ m there. has m (times_later m n ns there)))
 
-  pub readable_inside : (handle : VersionHandle) (v : VersionState) → IsReadable c handle → version_under c handle ≡ Some v → AllByRecursion (InSpace size) v.blocks
+  pub readable_inside : (handle : VersionHandle) (v : VersionState) → IsReadable c handle
+      → version_under c handle ≡ Some v → AllByRecursion (InSpace size) v.blocks
   readable_inside (Pinned pin) v readable is =
-      let same : readable.0.version ≡ v = some_same (sym (ap (option_map (λ (w : LiveVersion). w.version)) readable.1) ∙ is) in
-      subst (λ (w : VersionState). AllByRecursion (InSpace size) w.blocks) same (all_of (InSpace size) readable.0.version.blocks (read_inside pin.key readable.0 readable.1 readable.2))
+      let same : readable.0.version ≡ v = some_same (sym (ap (option_map (λ (w : LiveVersion). w.version)) readable.1)
+      ∙ is) in
+      subst (λ (w : VersionState). AllByRecursion (InSpace size) w.blocks) same
+      (all_of (InSpace size) readable.0.version.blocks (read_inside pin.key readable.0 readable.1 readable.2))
   readable_inside (Pending pending) v readable is =
-      let same : readable.0.version ≡ v = some_same (sym (ap (option_map (λ (p : PendingVersion). p.version)) readable.1) ∙ is) in
-      let here = subst (λ (o : Option PendingVersion). IfSome o (IsWholePending size)) readable.1 (each_slot (λ o. IfSome o (IsWholePending size)) tt c.pending whole.waiting pending.key) in
+      let same : readable.0.version
+      ≡ v = some_same (sym (ap (option_map (λ (p : PendingVersion). p.version)) readable.1) ∙ is) in
+      let here = subst (λ (o : Option PendingVersion). IfSome o (IsWholePending size)) readable.1
+      (each_slot (λ o. IfSome o (IsWholePending size)) tt c.pending whole.waiting pending.key) in
       subst (λ (w : VersionState). AllByRecursion (InSpace size) w.blocks) same here.inside
 
 -- On an honest disk none of its blocks is damaged.
 
-pub readable_body : (s : DiskState) (c : VolumeCore) (failed : Bool) → IsSound s c failed → s.honest → failed ≡ false → (handle : VersionHandle) (v : VersionState) → IsReadable c handle → version_under c handle ≡ Some v → HasSomeBody s.contents v
+pub readable_body : (s : DiskState) (c : VolumeCore) (failed : Bool) → IsSound s c failed → s.honest → failed ≡ false
+    → (handle : VersionHandle) (v : VersionState) → IsReadable c handle → version_under c handle ≡ Some v
+    → HasSomeBody s.contents v
 readable_body s c failed sound h ok (Pinned pin) v readable is =
-    subst (HasSomeBody s.contents) (some_same (sym (ap (option_map (λ (w : LiveVersion). w.version)) readable.1) ∙ is)) (sound.read h ok pin.key readable.0 readable.1 readable.2)
+    subst (HasSomeBody s.contents) (some_same (sym (ap (option_map (λ (w : LiveVersion). w.version)) readable.1) ∙ is))
+    (sound.read h ok pin.key readable.0 readable.1 readable.2)
 readable_body s c failed sound h ok (Pending pending) v readable is =
-    subst (HasSomeBody s.contents) (some_same (sym (ap (option_map (λ (p : PendingVersion). p.version)) readable.1) ∙ is)) (sound.written h ok pending.key readable.0 readable.1)
+    subst (HasSomeBody s.contents) (some_same (sym (ap (option_map (λ (p : PendingVersion). p.version)) readable.1)
+    ∙ is)) (sound.written h ok pending.key readable.0 readable.1)
 
-zip_there : (contents : Contents) (blocks : List ℕ) (each : List (List ℕ)) (n : ℕ) → AllZip (λ n words. contents n ≡ Some words) blocks each → 0 < times n blocks → (words : List ℕ) × (contents n ≡ Some words)
+zip_there : (contents : Contents) (blocks : List ℕ) (each : List (List ℕ)) (n : ℕ)
+    → AllZip (λ n words. contents n ≡ Some words) blocks each → 0 < times n blocks → (words : List ℕ)
+    × (contents n ≡ Some words)
 zip_there contents [] each n zip there = absurd (omega arith)
 zip_there contents (b ∷ bs) [] n zip there = absurd zip
-zip_there contents (b ∷ bs) (w ∷ ws) n zip there = ⊎_elim (λ (same : n ≡ b). (w, ap contents same ∙ zip.0)) (λ other. zip_there contents bs ws n zip.1 (let tail = times_tail n b bs other in omega arith)) (cases_eq n b)
+zip_there contents (b ∷ bs) (w ∷ ws) n zip there = ⊎_elim (λ (same : n ≡ b). (w, ap contents same ∙ zip.0))
+    (λ other. zip_there contents bs ws n zip.1 (let tail = times_tail n b bs other in omega arith)) (cases_eq n b)
 
-pub undamaged : (contents : Contents) (v : VersionState) (n : ℕ) → HasSomeBody contents v → 0 < times n v.blocks → contents n ≡ None → ⊥
-undamaged contents v n has there none = some_none (sym (zip_there contents v.blocks has.2.each n has.2.undamaged there).1 ∙ none)
+pub undamaged : (contents : Contents) (v : VersionState) (n : ℕ) → HasSomeBody contents v → 0 < times n v.blocks
+    → contents n ≡ None → ⊥
+undamaged contents v n has there none = some_none
+    (sym (zip_there contents v.blocks has.2.each n has.2.undamaged there).1 ∙ none)

@@ -1,9 +1,11 @@
 -- A start: recovery, and then reading alone.
-use Rattle.std.proofs.Common.{◌≡◌, ◌⊎◌, inl, inr, ⊎_elim, ℕ, ◌<◌, ◌≤◌, List, [], ◌∷◌, Option, Some, None, Result, Ok, Err, IfOk, refl, sym, ap, subst, ◌∙◌, arith}
+use Rattle.std.proofs.Common.{◌≡◌, ◌⊎◌, inl, inr, ⊎_elim, ℕ, ◌<◌, ◌≤◌, List, [], ◌∷◌, Option, Some, None, Result, Ok}
+use Rattle.std.proofs.Common.{Err, IfOk, refl, sym, ap, subst, ◌∙◌, arith}
 use Rattle.std.proofs.lemmas.Bool.{cases_eq}
 use Rattle.blockdisk.specs.Disk.{Contents, DiskState, MayLeave, NoneOpen, LeavesOnly}
 use Rattle.blockdisk.specs.Laws.{none_open_leaves, leaves_still, leaves_weaker, leaves_on}
-use Rattle.changeset.specs.Crashes.{IsGate, IsGateOrLog, IsLost, IsRecovered, SyncsFirst, SettlesLike, SettlesLikeBefore}
+use Rattle.changeset.specs.Crashes.{IsGate, IsGateOrLog, IsLost, IsRecovered, SyncsFirst, SettlesLike}
+use Rattle.changeset.specs.Crashes.{SettlesLikeBefore}
 use Rattle.changeset.specs.Reads.{OnlyReads}
 use Rattle.changeset.specs.Rest.{AtRest, Ignores, recover_leaves, recover_rest, like_settles}
 use Rattle.meaning.specs.Files.{File, Files}
@@ -15,14 +17,17 @@ use Rattle.meaning.specs.Faults as faults
 use Rattle.meaning.proofs.DiskMaps.{log_ignored}
 use Rattle.meaning.proofs.Settled.{settled_same}
 use Rattle.volume.specs.declared.error.VolumeError.{VolumeError}
-use Rattle.volume.specs.declared.error.VolumeError.TheVariants.{NotVolume, BadHome, BadLog, BadDirectory, BadRetrieval, BlockTwice, TableWrong, Device, NoMemory, Failed, BadData}
+use Rattle.volume.specs.declared.error.VolumeError.TheVariants.{NotVolume, BadHome, BadLog, BadDirectory, BadRetrieval}
+use Rattle.volume.specs.declared.error.VolumeError.TheVariants.{BlockTwice, TableWrong, Device, NoMemory, Failed}
+use Rattle.volume.specs.declared.error.VolumeError.TheVariants.{BadData}
 use Rattle.volume.specs.Known.{Known, IsHeld}
 use Rattle.volume.specs.FaultsFound.{SettledRefuses, Refuses}
 use Rattle.volume.specs.Rest.{IsAtRest, RestsAt, StandsLike, StandsLikeBefore}
 
 -- Answers.
 
-pub ok_on : {T E : Type 0} (P Q : T → Type 0) (result : Result T E) → ((x : T) → P x → Q x) → IfOk result P → IfOk result Q
+pub ok_on : {T E : Type 0} (P Q : T → Type 0) (result : Result T E) → ((x : T) → P x → Q x) → IfOk result P
+    → IfOk result Q
 ok_on P Q (Ok x) on is = on x is
 ok_on P Q (Err e) on is = tt
 
@@ -35,84 +40,112 @@ ok_always P (Err e) is = tt
 pub stands_ignores_log : (size : ℕ) (files : Files File) → Ignores (IsGateOrLog size) (λ c. SettledStands size c files)
 stands_ignores_log size files c d same stands = (
   stands.0,
-  log_ignored size c d stands.0 (λ n place. same n (λ is. let low = is.0 in let high = is.1 in ⊎_elim (λ e. absurd (omega arith)) (⊎_elim (λ e. absurd (omega arith)) (λ le. absurd (omega arith))) place)) stands.1,
+  log_ignored size c d stands.0 (λ n place. same n (λ is. let low = is.0 in let high = is.1 in
+      ⊎_elim (λ e. absurd (omega arith)) (⊎_elim (λ e. absurd (omega arith)) (λ le. absurd (omega arith))) place))
+      stands.1,
   stands.2,
 )
 
 pub stands_ignores_gate : (size : ℕ) (files : Files File) → Ignores IsGate (λ c. SettledStands size c files)
-stands_ignores_gate size files c d same stands = stands_ignores_log size files c d (λ n out. same n (λ is. out (omega arith, omega arith))) stands
+stands_ignores_gate size files c d same stands = stands_ignores_log size files c d
+    (λ n out. same n (λ is. out (omega arith, omega arith))) stands
 
 -- Recovery.
 
 pub crash_recovered : (s s' : DiskState) → LeavesOnly s s' (SettlesLikeBefore s) → LeavesOnly s s' (StandsLikeBefore s)
-crash_recovered s s' leaves = recover_leaves s s' (λ (files : Files File) c. SettledStands s.size c files) (stands_ignores_log s.size) leaves
+crash_recovered s s' leaves = recover_leaves s s' (λ (files : Files File) c. SettledStands s.size c files)
+    (stands_ignores_log s.size) leaves
 
 settles_stands : (s : DiskState) (c : Contents) → SettlesLike s.size s.contents c → StandsLike s c
-settles_stands s c like files stands = like_settles s.size (λ d. SettledStands s.size d files) s.contents c (stands_ignores_log s.size files) like stands
+settles_stands s c like files stands = like_settles s.size (λ d. SettledStands s.size d files) s.contents c
+    (stands_ignores_log s.size files) like stands
 
 -- what recovery answered, and what is answered for it
 pub synced_recovered : {D : Type 0} (state : D → DiskState) (old new : D) (fault fault' : Type 0) → (fault → fault')
-    → SyncsFirst state old new fault (SettlesLike (state old).size (state old).contents) → SyncsFirst state old new fault' (StandsLike (state old))
+    → SyncsFirst state old new fault (SettlesLike (state old).size (state old).contents)
+    → SyncsFirst state old new fault' (StandsLike (state old))
 synced_recovered {D} state old new fault fault' on first = ⊎_elim
     (λ failed. inl (on failed.0, failed.1))
     (λ from. inr (
       from.0,
       from.1,
-      leaves_weaker (state from.0) (state new) (SettlesLike (state old).size (state old).contents) (StandsLike (state old)) from.2 (settles_stands (state old)),
+      leaves_weaker (state from.0) (state new) (SettlesLike (state old).size (state old).contents)
+          (StandsLike (state old)) from.2 (settles_stands (state old)),
     )) first
 
 -- Reading behind it.
 
-pub crash_read : (s s' s'' : DiskState) (P : Contents → Type 0) → LeavesOnly s s' P → ((c : Contents) → s'.left_since s'.clock c → MayLeave s' c) → OnlyReads s' s'' → LeavesOnly s s'' P
-crash_read s s' s'' P first only_now reads = leaves_on s s' s'' P (MayLeave s') first (leaves_still s' s'' (MayLeave s') only_now reads.still (λ c left. left)) (λ c left. first.now c left)
+pub crash_read : (s s' s'' : DiskState) (P : Contents → Type 0) → LeavesOnly s s' P
+    → ((c : Contents) → s'.left_since s'.clock c → MayLeave s' c) → OnlyReads s' s'' → LeavesOnly s s'' P
+crash_read s s' s'' P first only_now reads = leaves_on s s' s'' P (MayLeave s') first
+    (leaves_still s' s'' (MayLeave s') only_now reads.still (λ c left. left)) (λ c left. first.now c left)
 
-pub synced_read : {D : Type 0} (state : D → DiskState) (old mid new : D) (fault fault' : Type 0) (P : Contents → Type 0) → (fault → ⊥)
-    → ((c : Contents) → (state mid).left_since (state mid).clock c → MayLeave (state mid) c) → OnlyReads (state mid) (state new) → SyncsFirst state old mid fault P → SyncsFirst state old new fault' P
+pub synced_read : {D : Type 0} (state : D → DiskState) (old mid new : D) (fault fault' : Type 0) (P : Contents → Type 0)
+    → (fault → ⊥)
+    → ((c : Contents) → (state mid).left_since (state mid).clock c → MayLeave (state mid) c)
+    → OnlyReads (state mid) (state new) → SyncsFirst state old mid fault P → SyncsFirst state old new fault' P
 synced_read {D} state old mid new fault fault' P none only_now reads first = ⊎_elim
     (λ failed. absurd (none failed.0))
     (λ from. inr (from.0, from.1, crash_read (state from.0) (state mid) (state new) P from.2 only_now reads)) first
 
 -- The same of what is answered in another form.
-pub synced_as : {D : Type 0} (state : D → DiskState) (old new : D) (fault fault' : Type 0) (P : Contents → Type 0) → (fault → fault') → SyncsFirst state old new fault P → SyncsFirst state old new fault' P
-synced_as {D} state old new fault fault' P on first = ⊎_elim (λ failed. inl (on failed.0, failed.1)) (λ from. inr from) first
+pub synced_as : {D : Type 0} (state : D → DiskState) (old new : D) (fault fault' : Type 0) (P : Contents → Type 0)
+    → (fault → fault') → SyncsFirst state old new fault P → SyncsFirst state old new fault' P
+synced_as {D} state old new fault fault' P on first = ⊎_elim (λ failed. inl (on failed.0, failed.1))
+    (λ from. inr from) first
 
-pub rest_read : (s s' : DiskState) (Q : Contents → Type 0) → s'.size ≡ s.size → OnlyReads s s' → AtRest s Q → AtRest s' Q
+pub rest_read : (s s' : DiskState) (Q : Contents → Type 0) → s'.size ≡ s.size → OnlyReads s s' → AtRest s Q
+    → AtRest s' Q
 rest_read s s' Q size reads rest = record {
   shut = λ c left is_open. rest.shut c (reads.still.crash c left) (subst (λ (n : ℕ). IsGateOpen n c) size is_open);
   all = λ c left. rest.all c (reads.still.crash c left);
 }
 
 -- What the contents are known to hold is what all that a crash may leave holds.
-pub rest_known : (s s' s'' : DiskState) (known : Known) (m : DiskMap) → s'.size ≡ s.size → s''.size ≡ s'.size → IsRecovered s.size s.contents s'.contents → NoneOpen s' → OnlyReads s' s'' → IsHeld s'.size known m s'.contents → IsAtRest s'' known
+pub rest_known : (s s' s'' : DiskState) (known : Known) (m : DiskMap) → s'.size ≡ s.size → s''.size ≡ s'.size
+    → IsRecovered s.size s.contents s'.contents → NoneOpen s' → OnlyReads s' s'' → IsHeld s'.size known m s'.contents
+    → IsAtRest s'' known
 rest_known s s' s'' known m size size' recovered none reads held = record {
   map = m;
   rest = rest_read s' s'' (IsHeld s''.size known m) size' reads (record {
-    shut = λ c left is_open. recovered.gate (subst (IsGateOpen s.size) (none_open_leaves s' none c left) (subst (λ (n : ℕ). IsGateOpen n c) size is_open));
-    all = λ c left. subst (IsHeld s''.size known m) (sym (none_open_leaves s' none c left)) (subst (λ (n : ℕ). IsHeld n known m s'.contents) (sym size') held);
+    shut = λ c left is_open. recovered.gate (subst (IsGateOpen s.size) (none_open_leaves s' none c left)
+        (subst (λ (n : ℕ). IsGateOpen n c) size is_open));
+    all = λ c left. subst (IsHeld s''.size known m) (sym (none_open_leaves s' none c left))
+        (subst (λ (n : ℕ). IsHeld n known m s'.contents) (sym size') held);
   });
 }
 
 -- The files are those that the disk stood for.
-pub rest_files : (s s' s'' : DiskState) (files : Files File) → s'.size ≡ s.size → s''.size ≡ s'.size → IsRecovered s.size s.contents s'.contents → NoneOpen s' → OnlyReads s' s'' → Stands s.size s.contents files → RestsAt s'' files
+pub rest_files : (s s' s'' : DiskState) (files : Files File) → s'.size ≡ s.size → s''.size ≡ s'.size
+    → IsRecovered s.size s.contents s'.contents → NoneOpen s' → OnlyReads s' s'' → Stands s.size s.contents files
+    → RestsAt s'' files
 rest_files s s' s'' files size size' recovered none reads stands =
     subst (λ (n : ℕ). AtRest s'' (λ c. SettledStands n c files)) (sym (size' ∙ size))
     (rest_read s' s'' (λ c. SettledStands s.size c files) size' reads
     (recover_rest s s' (λ c. SettledStands s.size c files) (stands_ignores_gate s.size files) size
-    (λ settled is. subst (λ c. SettledStands s.size c files) (settled_same s.size s.contents stands.0 settled stands.1 is) stands.2) recovered none))
+    (λ settled is. subst (λ c. SettledStands s.size c files)
+    (settled_same s.size s.contents stands.0 settled stands.1 is) stands.2) recovered none))
 
 -- They stood for some files before the recovery, since what was recovered is what settled.
-pub stood_before : (s s' s'' : DiskState) (known : Known) (m : DiskMap) → s'.size ≡ s.size → s''.size ≡ s'.size → IsRecovered s.size s.contents s'.contents → NoneOpen s' → OnlyReads s' s'' → IsHeld s'.size known m s'.contents
+pub stood_before : (s s' s'' : DiskState) (known : Known) (m : DiskMap) → s'.size ≡ s.size → s''.size ≡ s'.size
+    → IsRecovered s.size s.contents s'.contents → NoneOpen s' → OnlyReads s' s'' → IsHeld s'.size known m s'.contents
     → (files : Files File) × Stands s.size s.contents files × RestsAt s'' files
 stood_before s s' s'' known m size size' recovered none reads held =
-    let there : SettledStands s.size s'.contents (files_of m) = (m, subst (λ (n : ℕ). HasMap n s'.contents m) size held.stands, refl) in
-    let before : Stands s.size s.contents (files_of m) =
-    (recovered.settled, recovered.is_settled, stands_ignores_gate s.size (files_of m) s'.contents recovered.settled (λ n out. sym (recovered.others n out)) there) in
+    let there : SettledStands s.size s'.contents
+    (files_of m) = (m, subst (λ (n : ℕ). HasMap n s'.contents m) size held.stands, refl) in
+    let before : Stands s.size s.contents (files_of m) = (
+      recovered.settled,
+      recovered.is_settled,
+      stands_ignores_gate s.size (files_of m) s'.contents recovered.settled
+          (λ n out. sym (recovered.others n out)) there,
+    ) in
     (files_of m, before, rest_files s s' s'' (files_of m) size size' recovered none reads before)
 
 -- Faults.
 
 -- With a closed gate the contents are settled.
-pub closed_refuses : (size : ℕ) (contents : Contents) → (IsGateOpen size contents → ⊥) → (error : VolumeError) → SettledRefuses size contents error → Refuses size contents error
+pub closed_refuses : (size : ℕ) (contents : Contents) → (IsGateOpen size contents → ⊥) → (error : VolumeError)
+    → SettledRefuses size contents error → Refuses size contents error
 closed_refuses size contents closed = by_error
   where
     fault : (f : StartFault) → IsSettledFault size contents f → HasFault size contents f
@@ -135,7 +168,8 @@ lists_apart : (xs ys : List ℕ) → (xs ≡ ys) ⊎ (xs ≡ ys → ⊥)
 lists_apart [] [] = inl refl
 lists_apart [] (y ∷ ys) = inr (λ e. cc)
 lists_apart (x ∷ xs) [] = inr (λ e. cc)
-lists_apart (x ∷ xs) (y ∷ ys) = ⊎_elim (λ heads. ⊎_elim (λ tails. inl (λ i. heads i ∷ tails i)) (λ other. inr (λ e. other (cc))) (lists_apart xs ys)) (λ other. inr (λ e. other (cc))) (cases_eq x y)
+lists_apart (x ∷ xs) (y ∷ ys) = ⊎_elim (λ heads. ⊎_elim (λ tails. inl (λ i. heads i ∷ tails i))
+    (λ other. inr (λ e. other (cc))) (lists_apart xs ys)) (λ other. inr (λ e. other (cc))) (cases_eq x y)
 
 -- Where nothing settles, the gate is open.
 lost_gate : (size : ℕ) (contents : Contents) → IsLost size contents → contents 3 ≡ Some open_gate
@@ -145,14 +179,18 @@ lost_gate size contents lost = by_block (contents 3) refl
     by_block None is = absurd (lost contents (inl (λ o. (let e = o.gate in cc), λ n. refl)))
     by_block (Some words) is = ⊎_elim
         (λ same. is ∙ ap Some same)
-        (λ other. absurd (lost contents (inl (λ o. other (let e : Some words ≡ Some open_gate = sym is ∙ o.gate in cc), λ n. refl)))) (lists_apart words open_gate)
+        (λ other. absurd (lost contents (inl (
+          λ o. other (let e : Some words ≡ Some open_gate = sym is ∙ o.gate in cc),
+          λ n. refl,
+        )))) (lists_apart words open_gate)
 
 low_or_high : (m n : ℕ) → (m ≤ n) ⊎ (n < m)
 low_or_high m n = grind arith
 
 volume_or_not : (size : ℕ) → IsVolumeSize size ⊎ (IsVolumeSize size → ⊥)
 volume_or_not size = ⊎_elim
-    (λ small. ⊎_elim (λ large. inl (record { small = small; large = large })) (λ past. inr (λ v. let l = v.large in absurd (omega arith))) (low_or_high size 131072))
+    (λ small. ⊎_elim (λ large. inl (record { small = small; large = large })) (λ past. inr (λ v. let l = v.large in
+    absurd (omega arith))) (low_or_high size 131072))
     (λ low. inr (λ v. let l = v.small in absurd (omega arith))) (low_or_high 64 size)
 
 lost_open : (size : ℕ) (contents : Contents) → IsLost size contents → IsGateOpen size contents
@@ -163,4 +201,10 @@ lost_open size contents lost = ⊎_elim
 pub lost_refuses : (size : ℕ) (contents : Contents) → IsLost size contents → Refuses size contents BadLog
 lost_refuses size contents lost =
     let is_open = lost_open size contents lost in
-    inl (record { open_gate = is_open; no_log = λ puts log. lost (with_puts puts contents) (inr (is_open, puts, log, λ n. refl)) }, refl)
+    inl (
+      record {
+        open_gate = is_open;
+        no_log = λ puts log. lost (with_puts puts contents) (inr (is_open, puts, log, λ n. refl));
+      },
+      refl,
+    )

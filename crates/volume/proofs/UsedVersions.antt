@@ -1,5 +1,6 @@
 -- A version that comes into use, with the blocks that are taken for it and for the chain of its directory.
-use Rattle.std.proofs.Common.{◌≡◌, ⊎_elim, ℕ, ◌+◌, ◌<◌, ◌≤◌, List, [], ◌∷◌, ◌++◌, length, refl, sym, ap, subst, ◌∙◌, arith}
+use Rattle.std.proofs.Common.{◌≡◌, ⊎_elim, ℕ, ◌+◌, ◌<◌, ◌≤◌, List, [], ◌∷◌, ◌++◌, length, refl, sym, ap, subst, ◌∙◌}
+use Rattle.std.proofs.Common.{arith}
 use Rattle.std.proofs.lemmas.Bool.{cases_eq}
 use Rattle.changeset.specs.PutLaws.{times_head, times_tail, some_or_none}
 use Rattle.meaning.specs.Faults.{InSpace}
@@ -13,24 +14,28 @@ use Rattle.retrieval.proofs.Taking.{Stays, takes_stays, takes_each, takes_apart,
 use Rattle.volume.specs.Known.{blocks_reached}
 use Rattle.volume.specs.Making.{taken, put_in_use}
 use Rattle.volume.specs.Publishing.{Marks, PutsInUse, PutsVersionInUse}
-use Rattle.volume.proofs.BlockLists.{marks_none, marks_then, marks_counts, held_inside, puts_in_use_none, puts_in_use_then, puts_in_use_one}
+use Rattle.volume.proofs.BlockLists.{marks_none, marks_then, marks_counts, held_inside, puts_in_use_none}
+use Rattle.volume.proofs.BlockLists.{puts_in_use_then, puts_in_use_one}
 use Rattle.volume.proofs.MakingLaw.{bit_few}
 
 -- Blocks that are taken.
 
-pub takes_append : (t : TableState) (xs : List ℕ) (u : TableState) (ys : List ℕ) (v : TableState) → Takes t xs u → Takes u ys v → Takes t (xs ++ ys) v
+pub takes_append : (t : TableState) (xs : List ℕ) (u : TableState) (ys : List ℕ) (v : TableState) → Takes t xs u
+    → Takes u ys v → Takes t (xs ++ ys) v
 takes_append t [] u ys v first second = subst (λ (w : TableState). Takes w ys v) first second
 takes_append t (n ∷ xs) u ys v first second = (first.0, first.1, takes_append (taken t n) xs u ys v first.2 second)
 
 -- nothing changes but what is held
 pub takes_kept : (t : TableState) (ns : List ℕ) (t' : TableState) → Takes t ns t' → t' ≡ record t { held = t'.held }
-takes_kept t [] t' takes = takes ∙ ap (λ (l : List ℕ). record t { held = l }) (sym (ap (λ (u : TableState). u.held) takes))
+takes_kept t [] t' takes = takes
+    ∙ ap (λ (l : List ℕ). record t { held = l }) (sym (ap (λ (u : TableState). u.held) takes))
 takes_kept t (n ∷ ns) t' takes = takes_kept (taken t n) ns t' takes.2
 
 held_more : (t : TableState) (m n : ℕ) → IsTable t → m < t.size → holds (taken t m) n ≡ holds t n + times n (m ∷ [])
 held_more t m n sound inside = ⊎_elim
     (λ (is : n ≡ m).
-    let here : holds (taken t m) n ≡ holds t m + 1 = ap (holds (taken t m)) is ∙ holds-with_held_same t m (holds t m + 1) sound inside in
+    let here : holds (taken t m) n ≡ holds t m + 1 = ap (holds (taken t m)) is
+    ∙ holds-with_held_same t m (holds t m + 1) sound inside in
     let was : holds t n ≡ holds t m = ap (holds t) is in
     let one = times_head n m [] is in
     omega arith)
@@ -40,15 +45,18 @@ held_more t m n sound inside = ⊎_elim
     omega arith) (cases_eq n m)
 
 -- each is held once more
-pub takes_holds : (t : TableState) (ns : List ℕ) (t' : TableState) → IsTable t → Takes t ns t' → (n : ℕ) → holds t' n ≡ holds t n + times n ns
-takes_holds t [] t' sound takes n = let same : holds t' n ≡ holds t n = ap (λ (u : TableState). holds u n) takes in omega arith
+pub takes_holds : (t : TableState) (ns : List ℕ) (t' : TableState) → IsTable t → Takes t ns t' → (n : ℕ)
+    → holds t' n ≡ holds t n + times n ns
+takes_holds t [] t' sound takes n = let same : holds t' n ≡ holds t n = ap (λ (u : TableState). holds u n) takes in
+    omega arith
 takes_holds t (m ∷ ns) t' sound takes n =
     let first = held_more t m n sound takes.0 in
     let rest = takes_holds (taken t m) ns t' (sound-with_held t m (holds t m + 1) sound) takes.2 n in
     omega arith
 
 -- and none twice
-pub takes_once : (t : TableState) (ns : List ℕ) (t' : TableState) → IsTable t → IsFixed t → Takes t ns t' → (n : ℕ) → times n ns ≤ 1
+pub takes_once : (t : TableState) (ns : List ℕ) (t' : TableState) → IsTable t → IsFixed t → Takes t ns t'
+    → (n : ℕ) → times n ns ≤ 1
 takes_once t [] t' sound fixed takes n = omega arith
 takes_once t (m ∷ ns) t' sound fixed takes n = ⊎_elim
     (λ (is : n ≡ m).
@@ -62,7 +70,8 @@ takes_once t (m ∷ ns) t' sound fixed takes n = ⊎_elim
     omega arith) (cases_eq n m)
 
 -- What is booked is enough for the others too.
-pub booked_after : (t t' : TableState) (ns : List ℕ) (count others : ℕ) → IsTable t → IsFixed t → Takes t ns t' → length ns ≡ count → used_in_space t + count + others ≤ t.booked → used_in_space t' + others ≤ t'.booked
+pub booked_after : (t t' : TableState) (ns : List ℕ) (count others : ℕ) → IsTable t → IsFixed t → Takes t ns t'
+    → length ns ≡ count → used_in_space t + count + others ≤ t.booked → used_in_space t' + others ≤ t'.booked
 booked_after t t' ns count others sound fixed takes many enough =
     let stays = takes_stays t ns t' sound fixed takes in
     omega (arith, stays.counted, stays.booked)
@@ -78,17 +87,20 @@ pub record IsTaken (t u : TableState) (grown : List ℕ) (at : ℕ) (v : Version
   pub free : (n : ℕ) → 0 < times n (grown ++ at ∷ v.ribs) → IsFree t n × InSpace t.size n
 
 -- how often a block stands among all of them
-all_times : (n : ℕ) (grown : List ℕ) (at : ℕ) (v : VersionState) → times n (grown ++ blocks_reached at v) ≡ times n grown + (times n (at ∷ []) + (times n v.ribs + times n v.blocks))
+all_times : (n : ℕ) (grown : List ℕ) (at : ℕ) (v : VersionState) → times n (grown ++ blocks_reached at v)
+    ≡ times n grown + (times n (at ∷ []) + (times n v.ribs + times n v.blocks))
 all_times n grown at v =
     let whole = times-append n grown (blocks_reached at v) in
     let rest = times-append n v.ribs v.blocks in
     omega arith
 
-taken_times : (n : ℕ) (grown : List ℕ) (at : ℕ) (v : VersionState) → times n (grown ++ at ∷ v.ribs) ≡ times n grown + (times n (at ∷ []) + times n v.ribs)
+taken_times : (n : ℕ) (grown : List ℕ) (at : ℕ) (v : VersionState)
+    → times n (grown ++ at ∷ v.ribs) ≡ times n grown + (times n (at ∷ []) + times n v.ribs)
 taken_times n grown at v = let whole = times-append n grown (at ∷ v.ribs) in omega arith
 
 -- A block that was free is no data block of the version, and a data block was not taken.
-pub is_taken : (t s u : TableState) (grown : List ℕ) (at : ℕ) (old v : VersionState) → v ≡ record old { ribs = v.ribs } → IsTable t → IsFixed t
+pub is_taken : (t s u : TableState) (grown : List ℕ) (at : ℕ) (old v : VersionState) → v ≡ record old { ribs = v.ribs }
+    → IsTable t → IsFixed t
     → ((n : ℕ) → times n old.blocks ≤ holds t n) → ((n : ℕ) → 0 < times n old.blocks → bit t n + holds t n ≤ 1)
     → Takes t grown s → Takes s (at ∷ v.ribs) u → IsTaken t u grown at v
 is_taken t s u grown at old v kept sound fixed held own first second = record {
@@ -119,12 +131,30 @@ is_taken t s u grown at old v kept sound fixed held own first second = record {
     among : (n : ℕ) → 0 < times n blocks → bit t n + times n (grown ++ blocks_reached at v) ≤ 1
     among n there =
         let free = (takes_each t blocks u sound fixed takes n there).1 in
-        omega (arith, free.clear, free.unheld, held n, same_blocks n, takes_once t blocks u sound fixed takes n, all_times n grown at v, taken_times n grown at v)
+        omega (
+          arith,
+          free.clear,
+          free.unheld,
+          held n,
+          same_blocks n,
+          takes_once t blocks u sound fixed takes n,
+          all_times n grown at v,
+          taken_times n grown at v,
+        )
 
     apart : (n : ℕ) → times n blocks ≡ 0 → bit t n + times n (grown ++ blocks_reached at v) ≤ 1
     apart n none = ⊎_elim
-        (λ (some : 0 < times n old.blocks). omega (arith, own n some, held n, same_blocks n, none, all_times n grown at v, taken_times n grown at v))
-        (λ (no : times n old.blocks ≡ 0). omega (arith, bit_few t n, same_blocks n, none, no, all_times n grown at v, taken_times n grown at v)) (some_or_none (times n old.blocks))
+        (λ (some : 0 < times n old.blocks).
+        omega (arith, own n some, held n, same_blocks n, none, all_times n grown at v, taken_times n grown at v))
+        (λ (no : times n old.blocks ≡ 0). omega (
+          arith,
+          bit_few t n,
+          same_blocks n,
+          none,
+          no,
+          all_times n grown at v,
+          taken_times n grown at v,
+        )) (some_or_none (times n old.blocks))
 
 -- They come into use one after the other.
 module _ {t u : TableState} {grown : List ℕ} {at : ℕ} {v : VersionState} (took : IsTaken t u grown at v) where
@@ -146,13 +176,16 @@ module _ {t u : TableState} {grown : List ℕ} {at : ℕ} {v : VersionState} (to
   -- the prime block
   module _ {w : TableState} (is : w ≡ put_in_use u at) where
     pub puts_in_use_at : PutsInUse u w (at ∷ [])
-    puts_in_use_at = subst (λ (x : TableState). PutsInUse u x (at ∷ [])) (sym is) (puts_in_use_one u at took.marks.sound at_inside at_clear at_held)
+    puts_in_use_at = subst (λ (x : TableState). PutsInUse u x (at ∷ [])) (sym is)
+        (puts_in_use_one u at took.marks.sound at_inside at_clear at_held)
 
     pub ribs_held : {listed : List ℕ} → listed ≡ v.ribs → (n : ℕ) → times n listed ≤ holds w n
-    ribs_held same n = let list = ap (times n) same in omega (arith, puts_in_use_at.held n, all_held n, all_times n grown at v)
+    ribs_held same n = let list = ap (times n) same in
+        omega (arith, puts_in_use_at.held n, all_held n, all_times n grown at v)
 
     pub ribs_clear : {listed : List ℕ} → listed ≡ v.ribs → (n : ℕ) → bit w n + times n listed ≤ 1
-    ribs_clear same n = let list = ap (times n) same in omega (arith, puts_in_use_at.bits n, all_clear n, all_times n grown at v)
+    ribs_clear same n = let list = ap (times n) same in
+        omega (arith, puts_in_use_at.bits n, all_clear n, all_times n grown at v)
 
     -- the ribs
     module _ {ribs : List ℕ} (of : ribs ≡ v.ribs) {x : TableState} (puts_in_use : PutsInUse w x ribs) where
@@ -160,38 +193,56 @@ module _ {t u : TableState} {grown : List ℕ} {at : ℕ} {v : VersionState} (to
       puts_in_use_ribs = puts_in_use_then u w x (at ∷ []) v.ribs puts_in_use_at (subst (PutsInUse w x) of puts_in_use)
 
       pub blocks_held : {listed : List ℕ} → listed ≡ v.blocks → (n : ℕ) → times n listed ≤ holds x n
-      blocks_held same n = let list = ap (times n) same in omega (arith, puts_in_use_ribs.held n, all_held n, all_times n grown at v)
+      blocks_held same n = let list = ap (times n) same in
+          omega (arith, puts_in_use_ribs.held n, all_held n, all_times n grown at v)
 
       pub blocks_clear : {listed : List ℕ} → listed ≡ v.blocks → (n : ℕ) → bit x n + times n listed ≤ 1
-      blocks_clear same n = let list = ap (times n) same in omega (arith, puts_in_use_ribs.bits n, all_clear n, all_times n grown at v)
+      blocks_clear same n = let list = ap (times n) same in
+          omega (arith, puts_in_use_ribs.bits n, all_clear n, all_times n grown at v)
 
       -- the data blocks
-      module _ {blocks : List ℕ} (named : blocks ≡ v.blocks) {y : TableState} (puts_in_use_blocks : PutsInUse x y blocks) where
+      module _ {blocks : List ℕ} (named : blocks ≡ v.blocks) {y : TableState}
+          (puts_in_use_blocks : PutsInUse x y blocks) where
         puts_in_use_reached : PutsInUse u y (blocks_reached at v)
-        puts_in_use_reached = puts_in_use_then u x y (at ∷ v.ribs) v.blocks puts_in_use_ribs (subst (PutsInUse x y) named puts_in_use_blocks)
+        puts_in_use_reached = puts_in_use_then u x y (at ∷ v.ribs) v.blocks puts_in_use_ribs
+            (subst (PutsInUse x y) named puts_in_use_blocks)
 
         grown_held : (n : ℕ) → times n grown ≤ holds y n
         grown_held n = omega (arith, puts_in_use_reached.held n, all_held n, times-append n grown (blocks_reached at v))
 
         grown_clear : (n : ℕ) → bit y n + times n grown ≤ 1
-        grown_clear n = omega (arith, puts_in_use_reached.bits n, all_clear n, times-append n grown (blocks_reached at v))
+        grown_clear n = omega (
+          arith,
+          puts_in_use_reached.bits n,
+          all_clear n,
+          times-append n grown (blocks_reached at v),
+        )
 
         puts_in_use_version : (z : TableState) → PutsInUse y z grown → PutsVersionInUse t z grown at v
         puts_in_use_version z last =
             let whole = puts_in_use_then u y z (blocks_reached at v) grown puts_in_use_reached last in
-            let both : (n : ℕ) → times n (blocks_reached at v ++ grown) ≡ times n (grown ++ blocks_reached at v) = λ n. omega (arith, times-append n (blocks_reached at v) grown, times-append n grown (blocks_reached at v)) in
+            let both : (n : ℕ) → times n (blocks_reached at v ++ grown) ≡ times n (grown ++ blocks_reached at v) = λ n.
+            omega (arith, times-append n (blocks_reached at v) grown, times-append n grown (blocks_reached at v)) in
             record {
               marks = marks_then t u z took.marks whole.marks;
               booked = whole.booked ∙ took.booked;
               bits = λ n. omega (arith, whole.bits n, took.bits n, both n);
-              held = λ n. omega (arith, whole.held n, took.held n, both n, all_times n grown at v, taken_times n grown at v);
+              held = λ n. omega (
+                arith,
+                whole.held n,
+                took.held n,
+                both n,
+                all_times n grown at v,
+                taken_times n grown at v,
+              );
               fresh = took.fresh;
               free = took.free;
             }
 
         -- where no chain grows
         pub used_alone : grown ≡ [] → PutsVersionInUse t y grown at v
-        used_alone none = puts_in_use_version y (subst (PutsInUse y y) (sym none) (puts_in_use_none y puts_in_use_blocks.marks.sound))
+        used_alone none = puts_in_use_version y
+            (subst (PutsInUse y y) (sym none) (puts_in_use_none y puts_in_use_blocks.marks.sound))
 
         -- where one grows
         module _ {k : ℕ} (one : grown ≡ k ∷ []) where
@@ -212,4 +263,6 @@ module _ {t u : TableState} {grown : List ℕ} {at : ℕ} {v : VersionState} (to
 
           pub used_grown : (z : TableState) → z ≡ put_in_use y k → PutsVersionInUse t z (k ∷ []) at v
           used_grown z last = subst (λ (l : List ℕ). PutsVersionInUse t z l at v) one
-              (puts_in_use_version z (subst (λ (s : TableState). PutsInUse y s grown) (sym last) (subst (PutsInUse y (put_in_use y k)) (sym one) (puts_in_use_one y k puts_in_use_blocks.marks.sound more_inside more_clear more_held))))
+              (puts_in_use_version z (subst (λ (s : TableState). PutsInUse y s grown) (sym last)
+              (subst (PutsInUse y (put_in_use y k)) (sym one)
+              (puts_in_use_one y k puts_in_use_blocks.marks.sound more_inside more_clear more_held))))

@@ -30,7 +30,8 @@ is_absent name d = is_none (find name_cmp name d.chain.entries)
 
 -- the directory of core with this ppn
 abbrev pub IsDirectoryOf : VolumeCore → ℕ → KnownDirectory → Type 0
-IsDirectoryOf c ppn d = (place : ℕ) × (v : ℕ × ℕ) × StandsAt nat_cmp c.known.master.entries ppn v place × (slice_get c.known.directories place ≡ Some d)
+IsDirectoryOf c ppn d = (place : ℕ) × (v : ℕ × ℕ) × StandsAt nat_cmp c.known.master.entries ppn v place
+    × (slice_get c.known.directories place ≡ Some d)
 
 -- A version is begun under a key; all else is as before, but for what is booked.
 pub record IsBegun (c c' : VolumeCore) (key : ℕ) (prime : Prime) : Type 0 where
@@ -41,4 +42,10 @@ pub record IsBegun (c c' : VolumeCore) (key : ℕ) (prime : Prime) : Type 0 wher
   pub others : (k : ℕ) → (k ≡ key → ⊥) → pending_at c'.pending k ≡ pending_at c.pending k
   pub live : c'.live ≡ c.live
   pub keys : c'.keys ≡ c.keys
-  pub known : c'.known ≡ record c.known { table = record c.known.table { booked = c.known.table.booked + begin_cost (is_absent prime.file directory) (entries_with c directory prime.ppn) } }
+  pub known : c'.known
+      ≡ record c.known {
+        table = record c.known.table {
+          booked = c.known.table.booked
+              + begin_cost (is_absent prime.file directory) (entries_with c directory prime.ppn);
+        };
+      }

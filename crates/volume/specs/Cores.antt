@@ -24,4 +24,8 @@ abbrev pub known_directory : StoredDirectory → KnownDirectory
 known_directory d = record { chain = viewed file_view d.chain; versions = map known_version d.versions.items }
 
 abbrev pub known_of : DiskMap → Known
-known_of m = record { master = viewed master_view m.master; directories = map known_directory m.directories.items; table = m.table }
+known_of m = record {
+  master = viewed master_view m.master;
+  directories = map known_directory m.directories.items;
+  table = m.table;
+}

@@ -11,12 +11,15 @@ use Rattle.meaning.specs.Files.{Place, name_cmp}
 use Rattle.meaning.specs.Directories.{Node, items, MasterEntry, FileEntry, file_words, IsFileEntry}
 use Rattle.meaning.specs.Stands.{place_of}
 use Rattle.meaning.specs.Walks.{Leads}
-use Rattle.meaning.specs.Faults.{InSpace, IsBadVersion, ReadFile, ReadDirectory, times_in_file, times_in_directory, IsFileRead, IsDirectoryRead, IsSettledFault, HasFault}
+use Rattle.meaning.specs.Faults.{InSpace, IsBadVersion, ReadFile, ReadDirectory, times_in_file, times_in_directory}
+use Rattle.meaning.specs.Faults.{IsFileRead, IsDirectoryRead, IsSettledFault, HasFault}
 use Rattle.meaning.specs.Faults as faults
 use Rattle.directory.specs.Loading.{IsBadChain}
 use Rattle.volume.specs.FileReading.{IsOtherPlace, IsReachedTwice, IsDamagedData}
 use Rattle.volume.specs.declared.error.VolumeError.{VolumeError}
-use Rattle.volume.specs.declared.error.VolumeError.TheVariants.{NotVolume, BadHome, BadLog, BadDirectory, BadRetrieval, BlockTwice, TableWrong, Device, NoMemory, Failed, BadData}
+use Rattle.volume.specs.declared.error.VolumeError.TheVariants.{NotVolume, BadHome, BadLog, BadDirectory, BadRetrieval}
+use Rattle.volume.specs.declared.error.VolumeError.TheVariants.{BlockTwice, TableWrong, Device, NoMemory, Failed}
+use Rattle.volume.specs.declared.error.VolumeError.TheVariants.{BadData}
 
 -- A block that a refusal names lies in the free space; that of TableWrong is one of the table. It holds on every
 -- disk, since numbers are checked before a block is read.
@@ -34,7 +37,8 @@ IsFaultOfFile size contents reached place prime NotVolume = ⊥
 IsFaultOfFile size contents reached place prime BadHome = ⊥
 IsFaultOfFile size contents reached place prime BadLog = ⊥
 IsFaultOfFile size contents reached place prime (BadDirectory n) = ⊥
-IsFaultOfFile size contents reached place prime (BadRetrieval n) = IsBadVersion size contents 1 prime n ⊎ ((n ≡ prime) × IsOtherPlace contents place prime)
+IsFaultOfFile size contents reached place prime (BadRetrieval n) = IsBadVersion size contents 1 prime n
+    ⊎ ((n ≡ prime) × IsOtherPlace contents place prime)
 IsFaultOfFile size contents reached place prime (BlockTwice n) = IsReachedTwice contents place prime reached n
 IsFaultOfFile size contents reached place prime (TableWrong n) = ⊥
 IsFaultOfFile size contents reached place prime Device = Unit {0}
@@ -59,7 +63,8 @@ pub record IsBadDataOf (contents : Contents) (ppn : ℕ) (entries : List FileEnt
   pub bad : IsDamagedData contents (place_of ppn name) prime n
 
 -- Block n was reached twice.
-pub record IsTwiceInFiles (contents : Contents) (marks : ℕ → ℕ) (ppn : ℕ) (entries : List FileEntry) (n : ℕ) : Type 0 where
+pub record IsTwiceInFiles (contents : Contents) (marks : ℕ
+    → ℕ) (ppn : ℕ) (entries : List FileEntry) (n : ℕ) : Type 0 where
   pub files : List (FileName × ReadFile)
   pub once : EachOnce name_cmp files
   pub read : AllByRecursion (IsFileRead 1 contents ppn entries) files
@@ -103,13 +108,15 @@ IsFaultOfDirectory size contents marks ppn first NotVolume = ⊥
 IsFaultOfDirectory size contents marks ppn first BadHome = ⊥
 IsFaultOfDirectory size contents marks ppn first BadLog = ⊥
 IsFaultOfDirectory size contents marks ppn first (BadDirectory n) = IsBadFileChain size contents first n
-IsFaultOfDirectory size contents marks ppn first (BadRetrieval n) = IsInChain contents first (λ entries. IsBadFileOf size contents ppn entries n)
+IsFaultOfDirectory size contents marks ppn first (BadRetrieval n) = IsInChain contents first
+    (λ entries. IsBadFileOf size contents ppn entries n)
 IsFaultOfDirectory size contents marks ppn first (BlockTwice n) = IsTwiceInDirectory contents marks ppn first n
 IsFaultOfDirectory size contents marks ppn first (TableWrong n) = ⊥
 IsFaultOfDirectory size contents marks ppn first Device = Unit {0}
 IsFaultOfDirectory size contents marks ppn first NoMemory = Unit {0}
 IsFaultOfDirectory size contents marks ppn first Failed = ⊥
-IsFaultOfDirectory size contents marks ppn first (BadData n) = IsInChain contents first (λ entries. IsBadDataOf contents ppn entries n)
+IsFaultOfDirectory size contents marks ppn first (BadData n) = IsInChain contents first
+    (λ entries. IsBadDataOf contents ppn entries n)
 
 -- The directories that the master directory names, given by its entries.
 
@@ -121,7 +128,8 @@ pub record IsInEntry (entries : List MasterEntry) (Fault : ℕ → ℕ → Type 
   pub entry : find nat_cmp ppn entries ≡ Some (word, first)
   pub fault : Fault ppn first
 
-pub record IsTwiceInDirectories (contents : Contents) (marks : ℕ → ℕ) (entries : List MasterEntry) (n : ℕ) : Type 0 where
+pub record IsTwiceInDirectories (contents : Contents) (marks : ℕ
+    → ℕ) (entries : List MasterEntry) (n : ℕ) : Type 0 where
   pub directories : List (ℕ × ReadDirectory)
   pub once : EachOnce nat_cmp directories
   pub read : AllByRecursion (IsDirectoryRead 1 contents entries) directories
@@ -131,14 +139,17 @@ abbrev pub IsFaultOfDirectories : ℕ → Contents → (ℕ → ℕ) → List Ma
 IsFaultOfDirectories size contents marks entries NotVolume = ⊥
 IsFaultOfDirectories size contents marks entries BadHome = ⊥
 IsFaultOfDirectories size contents marks entries BadLog = ⊥
-IsFaultOfDirectories size contents marks entries (BadDirectory n) = IsInEntry entries (λ ppn first. IsBadFileChain size contents first n)
-IsFaultOfDirectories size contents marks entries (BadRetrieval n) = IsInEntry entries (λ ppn first. IsInChain contents first (λ files. IsBadFileOf size contents ppn files n))
+IsFaultOfDirectories size contents marks entries (BadDirectory n) = IsInEntry entries
+    (λ ppn first. IsBadFileChain size contents first n)
+IsFaultOfDirectories size contents marks entries (BadRetrieval n) = IsInEntry entries
+    (λ ppn first. IsInChain contents first (λ files. IsBadFileOf size contents ppn files n))
 IsFaultOfDirectories size contents marks entries (BlockTwice n) = IsTwiceInDirectories contents marks entries n
 IsFaultOfDirectories size contents marks entries (TableWrong n) = ⊥
 IsFaultOfDirectories size contents marks entries Device = Unit {0}
 IsFaultOfDirectories size contents marks entries NoMemory = Unit {0}
 IsFaultOfDirectories size contents marks entries Failed = ⊥
-IsFaultOfDirectories size contents marks entries (BadData n) = IsInEntry entries (λ ppn first. IsInChain contents first (λ files. IsBadDataOf contents ppn files n))
+IsFaultOfDirectories size contents marks entries (BadData n) = IsInEntry entries
+    (λ ppn first. IsInChain contents first (λ files. IsBadDataOf contents ppn files n))
 
 -- what a reader of the table refuses
 abbrev pub IsTableRefusal : VolumeError → Type 0

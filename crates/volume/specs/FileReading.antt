@@ -45,7 +45,8 @@ pub record IsWholeBlock (contents : Contents) (n : ℕ) : Type 0 where
 
 -- A file of this place stands at the prime block, and this is what is known of it: what the prime block
 -- says, and where the version lies.
-pub record IsFileFound (contents : Contents) (place : Place) (at : ℕ) (prime : PrimeValue) (v : VersionState) : Type 0 where
+pub record IsFileFound (contents : Contents) (place : Place) (at : ℕ) (prime : PrimeValue)
+    (v : VersionState) : Type 0 where
   pub file : StoredFile
   pub stands : IsVersion 1 contents place file
   pub prime_is : file.prime ≡ at
@@ -56,7 +57,8 @@ pub record IsFileFound (contents : Contents) (place : Place) (at : ℕ) (prime :
 -- The block is no prime block of this place.
 abbrev pub IsOtherPlace : Contents → Place → ℕ → Type 0
 IsOtherPlace contents place n =
-    (p : Prime) (runs : List Run) (next : ℕ) → contents n ≡ Some (prime_block p runs next) → p.place ≡ place → IsPrime 1 p → length runs ≤ 112 → AllByRecursion IsRun runs → ⊥
+    (p : Prime) (runs : List Run) (next : ℕ) → contents n ≡ Some (prime_block p runs next) → p.place ≡ place
+    → IsPrime 1 p → length runs ≤ 112 → AllByRecursion IsRun runs → ⊥
 
 -- The retrieval blocks of a file of this place were read, and with its blocks block n is reached twice.
 pub record IsReachedTwice (contents : Contents) (place : Place) (at : ℕ) (reached : List Bool) (n : ℕ) : Type 0 where

@@ -6,7 +6,8 @@ use Rattle.blockdisk.specs.Disk.{Contents}
 use Rattle.meaning.specs.Maps.{EachOnce, times, total}
 use Rattle.meaning.specs.Files.{name_cmp}
 use Rattle.meaning.specs.Directories.{items, MasterEntry, master_words, FileEntry, file_words}
-use Rattle.meaning.specs.Stands.{StoredFile, StoredDirectory, place_of, entry_of, reaches_in_file, reaches_in_directory, IsVersion, IsWhole}
+use Rattle.meaning.specs.Stands.{StoredFile, StoredDirectory, place_of, entry_of, reaches_in_file, reaches_in_directory}
+use Rattle.meaning.specs.Stands.{IsVersion, IsWhole}
 use Rattle.meaning.specs.Walks.{Leads}
 use Rattle.meaning.specs.Faults.{InSpace, IsMasterEntryOf, ReadDirectory, times_in_directory, IsFileRead}
 use Rattle.meaning.specs.Regions.{IsVolumeSize, table_blocks, table_start}
@@ -39,13 +40,15 @@ pub record IsAdded {A B : Type 0} (view : A → B) (old new : List A) (P : B →
   pub is : P (view added)
 
 -- The version of an entry was read, and its blocks were marked.
-pub record IsMarkedFile (contents : Contents) (ppn : ℕ) (entry : FileEntry) (marks marks' : ℕ → ℕ) (v : KnownVersion) : Type 0 where
+pub record IsMarkedFile (contents : Contents) (ppn : ℕ) (entry : FileEntry) (marks marks' : ℕ
+    → ℕ) (v : KnownVersion) : Type 0 where
   pub found : IsFileFound contents (place_of ppn entry.0) entry.1 v.prime v.version
   pub marked : (n : ℕ) → marks' n ≡ marks n + times n (entry.1 ∷ (v.version.ribs ++ v.version.blocks))
 
 -- The versions of these entries of a directory. `marks` tells how often each block was reached before and
 -- after they were read.
-pub record AreFilesRead (contents : Contents) (ppn : ℕ) (entries : List FileEntry) (versions : List KnownVersion) (marks marks' : ℕ → ℕ) : Type 0 where
+pub record AreFilesRead (contents : Contents) (ppn : ℕ) (entries : List FileEntry) (versions : List KnownVersion)
+    (marks marks' : ℕ → ℕ) : Type 0 where
   pub found : List (FileName × StoredFile)
   pub named : map (λ e. (e.0, e.1.prime)) found ≡ entries
   pub whole : AllByRecursion (λ e. IsVersion 1 contents (place_of ppn e.0) e.1) found
@@ -59,7 +62,8 @@ pub record IsEntryRead (contents : Contents) (entry : MasterEntry) (directory : 
   pub files : AllByRecursion (IsFileRead 1 contents entry.0 (items directory.nodes)) directory.files
 
 -- One directory, which this entry of the master directory names.
-pub record IsDirectoryFound (contents : Contents) (entry : MasterEntry) (directory : KnownDirectory) (marks marks' : ℕ → ℕ) : Type 0 where
+pub record IsDirectoryFound (contents : Contents) (entry : MasterEntry) (directory : KnownDirectory) (marks marks' : ℕ
+    → ℕ) : Type 0 where
   pub found : StoredDirectory
   pub named : entry_of found ≡ entry.1
   pub whole : IsWhole 1 contents entry.0 found
@@ -71,7 +75,8 @@ pub record IsDirectoryFound (contents : Contents) (entry : MasterEntry) (directo
   pub counted : (n : ℕ) → times_in_directory n read ≡ reaches_in_directory n found
 
 -- The directories of these entries.
-pub record AreDirectoriesRead (contents : Contents) (entries : List MasterEntry) (directories : List KnownDirectory) (marks marks' : ℕ → ℕ) : Type 0 where
+pub record AreDirectoriesRead (contents : Contents) (entries : List MasterEntry) (directories : List KnownDirectory)
+    (marks marks' : ℕ → ℕ) : Type 0 where
   pub found : List (ℕ × StoredDirectory)
   pub named : map (λ e. (e.0, entry_of e.1)) found ≡ entries
   pub whole : AllByRecursion (λ e. IsWhole 1 contents e.0 e.1) found
@@ -84,7 +89,8 @@ pub record AreDirectoriesRead (contents : Contents) (entries : List MasterEntry)
   pub marked : (n : ℕ) → marks' n ≡ marks n + total (λ e. reaches_in_directory n e.1) found
 
 -- What was read: the master directory, and the directories that it names.
-pub record IsMapRead (size : ℕ) (contents : Contents) (first : ℕ) (master : ChainState MasterEntry) (directories : List KnownDirectory) (marks : ℕ → ℕ) : Type 0 where
+pub record IsMapRead (size : ℕ) (contents : Contents) (first : ℕ) (master : ChainState MasterEntry)
+    (directories : List KnownDirectory) (marks : ℕ → ℕ) : Type 0 where
   pub volume : IsVolumeSize size
   pub home : IsHome size contents (home_of_master first)
   pub chain : IsChain nat_cmp (IsMasterEntryOf 1) master
@@ -97,7 +103,8 @@ pub record IsWrongFor (size : ℕ) (contents : Contents) (reached : List Bool) (
   pub i : ℕ
   pub in_table : i < table_blocks size
   pub block : n ≡ table_start size + i
-  pub wrong : (contents n ≡ None) ⊎ ((k : ℕ) × (k / 4608 ≡ i) × (table_bit size contents k ≡ wanted_bit size reached k → ⊥))
+  pub wrong : (contents n ≡ None)
+      ⊎ ((k : ℕ) × (k / 4608 ≡ i) × (table_bit size contents k ≡ wanted_bit size reached k → ⊥))
 
 -- The table is that of the contents, and as the reached blocks ask for.
 pub record IsRightFor (size : ℕ) (contents : Contents) (reached : List Bool) (table : TableState) : Type 0 where

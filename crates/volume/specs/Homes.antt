@@ -1,5 +1,6 @@
 -- What a home copy says, and what a volume holds that was just made.
-use Rattle.std.specs.Prelude.{◌≡◌, ◌⊎◌, ℕ, ◌+◌, ◌-◌, ◌<◌, ◌≤◌, ◌==◌, nat_lt, if◌then◌else◌, List, [], ◌∷◌, replicate, Some}
+use Rattle.std.specs.Prelude.{◌≡◌, ◌⊎◌, ℕ, ◌+◌, ◌-◌, ◌<◌, ◌≤◌, ◌==◌, nat_lt, if◌then◌else◌, List, [], ◌∷◌, replicate}
+use Rattle.std.specs.Prelude.{Some}
 use Rattle.blockdisk.specs.Disk.{Contents}
 use Rattle.meaning.specs.Regions.{table_blocks, table_start, space_start}
 use Rattle.meaning.specs.Home.{Home, home_block, IsHomeCopy}

@@ -47,14 +47,16 @@ IsKnownFile d e v = (f : StoredFile) × (get d.files e.0 ≡ Some f) × (facts_o
 pub record IsKnownDirectory (k : KnownDirectory) (d : StoredDirectory) : Type 0 where
   pub chain : d.chain ≡ k.chain.blocks
   pub names : map_values (λ f. f.prime) d.files ≡ from_entries k.chain.entries
-  pub each : (i : ℕ) (e : FileEntry) (v : KnownVersion) → slice_get k.chain.entries i ≡ Some e → slice_get k.versions i ≡ Some v → IsKnownFile d e v
+  pub each : (i : ℕ) (e : FileEntry) (v : KnownVersion) → slice_get k.chain.entries i ≡ Some e
+      → slice_get k.versions i ≡ Some v → IsKnownFile d e v
 
 -- The map is the one in core, in layout 1.
 pub record IsKnownMap (k : Known) (m : DiskMap) : Type 0 where
   pub layout : m.layout ≡ 1
   pub chain : m.chain ≡ k.master.blocks
   pub names : map_values entry_of m.directories ≡ from_entries k.master.entries
-  pub each : (i : ℕ) (e : MasterEntry) (d : KnownDirectory) → slice_get k.master.entries i ≡ Some e → slice_get k.directories i ≡ Some d
+  pub each : (i : ℕ) (e : MasterEntry) (d : KnownDirectory) → slice_get k.master.entries i ≡ Some e
+      → slice_get k.directories i ≡ Some d
       → (s : StoredDirectory) × (get m.directories e.0 ≡ Some s) × IsKnownDirectory d s
 
 -- The contents have this map, and their chains and their table are those in core.
@@ -67,7 +69,8 @@ pub record IsHeld (size : ℕ) (k : Known) (m : DiskMap) (contents : Contents) :
 
 -- What is so in core, whatever the disk does.
 
--- the number of blocks is that of the length, and no more than a file may have; there are no more ribs than they ask for
+-- the number of blocks is that of the length, and no more than a file may have; there are no more ribs than they ask
+-- for
 pub record IsWholeVersion (v : KnownVersion) : Type 0 where
   pub counted : length v.version.blocks ≡ blocks_of v.version.words
   pub few : v.version.words ≤ most_blocks * 128

@@ -1,7 +1,8 @@
 -- What a volume keeps in core: what it knows of its disk, the key of each file's version, and the versions
 -- under their keys. One is current where a file of the disk has it; another is there while readers hold it.
 -- Besides them there are versions that are being written, which nobody else sees.
-use Rattle.std.specs.Prelude.{◌≡◌, ℕ, ◌+◌, ◌-◌, ◌^◌, ◌<◌, ◌≤◌, ◌==◌, true, if◌then◌else◌, List, [], ◌∷◌, length, Option, Some, None, IfSome, slice_index_or}
+use Rattle.std.specs.Prelude.{◌≡◌, ℕ, ◌+◌, ◌-◌, ◌^◌, ◌<◌, ◌≤◌, ◌==◌, true, if◌then◌else◌, List, [], ◌∷◌, length, Option}
+use Rattle.std.specs.Prelude.{Some, None, IfSome, slice_index_or}
 use Rattle.std.specs.List.{AllByRecursion, AllZip}
 use Rattle.std.specs.Ordering.{nat_cmp}
 use Rattle.std.specs.FinMap.Entries.{find}
@@ -12,7 +13,8 @@ use Rattle.meaning.specs.Faults.{InSpace}
 use Rattle.alloctab.specs.TableState.{bit, holds, space}
 use Rattle.volume.specs.declared.live.LiveVersion.{LiveVersion}
 use Rattle.volume.specs.declared.pending.PendingVersion.{PendingVersion}
-use Rattle.volume.specs.Known.{Known, KnownVersion, KnownDirectory, blocks_reached, reaches_in_entries, cost_of_known, IsWholeVersion, IsWholeMap}
+use Rattle.volume.specs.Known.{Known, KnownVersion, KnownDirectory, blocks_reached, reaches_in_entries, cost_of_known}
+use Rattle.volume.specs.Known.{IsWholeVersion, IsWholeMap}
 
 pub record VolumeCore : Type 0 where
   pub known : Known
@@ -89,11 +91,13 @@ abbrev pub growths : List (Option PendingVersion) → List MasterEntry → List 
 growths pending [] directories = 0
 growths pending (e ∷ es) [] = 0
 growths pending (e ∷ es) (d ∷ ds) =
-    directory_cost (length d.chain.entries + total (creates e.0) pending) - directory_cost (length d.chain.entries) + growths pending es ds
+    directory_cost (length d.chain.entries + total (creates e.0) pending) - directory_cost (length d.chain.entries)
+    + growths pending es ds
 
 -- what is booked beyond the files
 abbrev pub cost_beyond : VolumeCore → ℕ
-cost_beyond c = growths c.pending c.known.master.entries c.known.directories + total held_cost c.live + total pending_cost c.pending
+cost_beyond c = growths c.pending c.known.master.entries c.known.directories + total held_cost c.live
+    + total pending_cost c.pending
 
 -- each version is whole
 abbrev pub AreStanding : List (Option LiveVersion) → Type 0
@@ -124,7 +128,8 @@ pub record IsWholeCore (size : ℕ) (c : VolumeCore) : Type 0 where
   -- a block of a version that is being written is in nothing else
   pub own : (n : ℕ) → 0 < total (pending_reaches n) c.pending → bit c.known.table n + holds c.known.table n ≤ 1
   -- no block that is held stands in a chain
-  pub apart : (n : ℕ) → 0 < holds c.known.table n → times n c.known.master.blocks + total (λ d. times n d.chain.blocks) c.known.directories ≡ 0
+  pub apart : (n : ℕ) → 0 < holds c.known.table n
+      → times n c.known.master.blocks + total (λ d. times n d.chain.blocks) c.known.directories ≡ 0
   -- what the map costs is booked, and what is beyond
   pub fits : c.known.table.booked < 2 ^ 63
   pub booked : c.known.table.booked ≡ cost_of_known c.known.master c.known.directories + cost_beyond c

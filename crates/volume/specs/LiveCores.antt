@@ -17,7 +17,11 @@ live_directory live d = record { chain = viewed file_view d.chain; versions = fi
 
 abbrev pub core_of : LiveMap → VolumeCore
 core_of m = record {
-  known = record { master = viewed master_view m.master; directories = map (live_directory m.versions.slots) m.directories.items; table = m.table };
+  known = record {
+    master = viewed master_view m.master;
+    directories = map (live_directory m.versions.slots) m.directories.items;
+    table = m.table;
+  };
   keys = map (λ d. d.keys.items) m.directories.items;
   live = m.versions.slots;
   pending = m.pending.slots;

@@ -1,5 +1,6 @@
 -- What a directory that is made does to core, to the table and to the disk.
-use Rattle.std.specs.Prelude.{◌≡◌, ◌⊎◌, ℕ, ◌+◌, ◌-◌, ◌*◌, ◌/◌, ◌<◌, ◌≤◌, ◌==◌, if◌then◌else◌, true, false, List, [], ◌∷◌, ◌++◌, length, replicate, option_to_list, Some, None, IsSome}
+use Rattle.std.specs.Prelude.{◌≡◌, ◌⊎◌, ℕ, ◌+◌, ◌-◌, ◌*◌, ◌/◌, ◌<◌, ◌≤◌, ◌==◌, if◌then◌else◌, true, false, List, []}
+use Rattle.std.specs.Prelude.{◌∷◌, ◌++◌, length, replicate, option_to_list, Some, None, IsSome}
 use Rattle.std.specs.List.{AllByRecursion}
 use Rattle.std.specs.Ordering.{nat_cmp}
 use Rattle.std.specs.FinMap.Entries.{find}
@@ -26,7 +27,8 @@ use Rattle.volume.specs.Known.{KnownDirectory, Known, IsHeld}
 -- else is as before.
 abbrev pub LeadsTo : ℕ → Contents → ℕ → List ℕ → List Put → Known → DiskMap → Known → DiskMap → Type 0
 LeadsTo size before fresh words puts k m k' m' =
-    (c : Contents) → SameOutside (λ n. n ≡ fresh) before c → IsHeld size k m c → c fresh ≡ Some words → IsHeld size k' m' (with_puts puts c)
+    (c : Contents) → SameOutside (λ n. n ≡ fresh) before c → IsHeld size k m c → c fresh ≡ Some words
+    → IsHeld size k' m' (with_puts puts c)
 
 -- as many directories as entries of the master directory
 abbrev pub IsAligned : Known → Type 0
@@ -68,10 +70,14 @@ pub record TakesBlocks (t t' : TableState) (blocks : List ℕ) : Type 0 where
 
 -- The puts `after` are those of `before` and such as make the new table of the old one.
 pub record PutsTable (size : ℕ) (t t' : TableState) (before after : List Put) : Type 0 where
-  pub spells : (c : Contents) → ((n : ℕ) → table_bit size (with_puts before c) n ≡ bit t n) → (n : ℕ) → table_bit size (with_puts after c) n ≡ bit t' n
-  pub undamaged : (c : Contents) → ((i : ℕ) → i < table_blocks size → IsSome (with_puts before c (table_start size + i))) → (i : ℕ) → i < table_blocks size → IsSome (with_puts after c (table_start size + i))
+  pub spells : (c : Contents) → ((n : ℕ) → table_bit size (with_puts before c) n ≡ bit t n) → (n : ℕ)
+      → table_bit size (with_puts after c) n ≡ bit t' n
+  pub undamaged : (c : Contents) → ((i : ℕ) → i < table_blocks size
+      → IsSome (with_puts before c (table_start size + i))) → (i : ℕ) → i < table_blocks size
+      → IsSome (with_puts after c (table_start size + i))
   -- nothing else changes
-  pub others : (c : Contents) (n : ℕ) → (n < table_start size) ⊎ (space_start size ≤ n) → with_puts after c n ≡ with_puts before c n
+  pub others : (c : Contents) (n : ℕ) → (n < table_start size) ⊎ (space_start size ≤ n)
+      → with_puts after c n ≡ with_puts before c n
   pub in_range : AllByRecursion (IsTarget size) (targets before) → AllByRecursion (IsTarget size) (targets after)
   pub few : length after ≤ length before + table_blocks size
 

@@ -1,5 +1,6 @@
 -- Versions that readers hold.
-use Rattle.std.specs.Prelude.{◌≡◌, ◌⊎◌, ◌<◌, ℕ, true, List, length, Option, None, Some, option_map, slice_get, Result, Ok, Err}
+use Rattle.std.specs.Prelude.{◌≡◌, ◌⊎◌, ◌<◌, ℕ, true, List, length, Option, None, Some, option_map, slice_get, Result}
+use Rattle.std.specs.Prelude.{Ok, Err}
 use Rattle.std.specs.Ordering.{nat_cmp}
 use Rattle.std.specs.FinMap.Entries.{find}
 use Rattle.words36.specs.declared.names.FileName.{FileName}
@@ -42,7 +43,8 @@ abbrev pub IsNoFile : VolumeCore → ℕ → FileName → CallError → Type 0
 IsNoFile c ppn name error =
     ((find nat_cmp ppn c.known.master.entries ≡ None) × (error ≡ Refused NoDirectory))
     ⊎ ((place : ℕ) × (word : ℕ × ℕ) × StandsAt nat_cmp c.known.master.entries ppn word place
-    × (directory : KnownDirectory) × (slice_get c.known.directories place ≡ Some directory) × (find name_cmp name directory.chain.entries ≡ None) × (error ≡ Refused NotFound))
+    × (directory : KnownDirectory) × (slice_get c.known.directories place ≡ Some directory)
+    × (find name_cmp name directory.chain.entries ≡ None) × (error ≡ Refused NotFound))
 
 -- The version is that of the file, and its blocks have the file's words.
 pub record IsVersionOf (contents : Contents) (v : LiveVersion) (file : File) : Type 0 where
@@ -56,10 +58,12 @@ pub record IsVersionOf (contents : Contents) (v : LiveVersion) (file : File) : T
 -- What is answered where a file's version is to be held, for a file that there is or for none.
 abbrev pub IsFilePinned : Contents → List (Option LiveVersion) → Result Pin CallError → Option File → Type 0
 IsFilePinned contents live answer None = answer ≡ Err (Refused NotFound)
-IsFilePinned contents live answer (Some file) = (pin : Pin) × (answer ≡ Ok pin) × (v : LiveVersion) × (slot live pin.key ≡ Some v) × IsVersionOf contents v file
+IsFilePinned contents live answer (Some file) = (pin : Pin) × (answer ≡ Ok pin) × (v : LiveVersion)
+    × (slot live pin.key ≡ Some v) × IsVersionOf contents v file
 
 -- The same for a name in a directory that there is, or in none.
-abbrev pub IsPinAnswer : Contents → List (Option LiveVersion) → FileName → Result Pin CallError → Option (Directory File) → Type 0
+abbrev pub IsPinAnswer : Contents → List (Option LiveVersion) → FileName → Result Pin CallError
+    → Option (Directory File) → Type 0
 IsPinAnswer contents live name answer None = answer ≡ Err (Refused NoDirectory)
 IsPinAnswer contents live name answer (Some d) = IsFilePinned contents live answer (get d.files name)
 

@@ -12,7 +12,8 @@ use Rattle.volume.specs.Live.{VolumeCore}
 abbrev pub prime_in : List MasterEntry → List KnownDirectory → ℕ → FileName → Option ℕ
 prime_in [] ds ppn name = None
 prime_in (e ∷ es) [] ppn name = None
-prime_in (e ∷ es) (d ∷ ds) ppn name = cond (eq_by_cmp nat_cmp ppn e.0) (find name_cmp name d.chain.entries) (prime_in es ds ppn name)
+prime_in (e ∷ es) (d ∷ ds) ppn name = cond (eq_by_cmp nat_cmp ppn e.0) (find name_cmp name d.chain.entries)
+    (prime_in es ds ppn name)
 
 -- the prime block that the entry of a place has; none where there is no such directory, or no such entry in it
 abbrev pub prime_at : VolumeCore → ℕ → FileName → Option ℕ

@@ -1,5 +1,6 @@
 -- A version that was written becomes the file of its name: what this does to core, to the table and to the disk.
-use Rattle.std.specs.Prelude.{◌≡◌, ◌⊎◌, ℕ, ◌+◌, ◌/◌, ◌<◌, ◌≤◌, ◌==◌, true, false, if◌then◌else◌, List, [], ◌∷◌, ◌++◌, length, replicate, slice_get, slice_set, Option, None, Some, is_none}
+use Rattle.std.specs.Prelude.{◌≡◌, ◌⊎◌, ℕ, ◌+◌, ◌/◌, ◌<◌, ◌≤◌, ◌==◌, true, false, if◌then◌else◌, List, [], ◌∷◌, ◌++◌}
+use Rattle.std.specs.Prelude.{length, replicate, slice_get, slice_set, Option, None, Some, is_none}
 use Rattle.std.specs.List.{AllByRecursion, AllZip}
 use Rattle.std.specs.Ordering.{nat_cmp}
 use Rattle.std.specs.FinMap.Entries.{find}
@@ -56,8 +57,8 @@ pub record PutsInUse (t u : TableState) (blocks : List ℕ) : Type 0 where
   pub bits : (n : ℕ) → bit u n ≡ bit t n + times n blocks
   pub held : (n : ℕ) → holds u n + times n blocks ≡ holds t n
 
--- A version that was being written comes into use, with prime block `at`, its ribs, and the block by which a chain grows:
--- these were free.
+-- A version that was being written comes into use, with prime block `at`, its ribs, and the block by which a chain
+-- grows: these were free.
 pub record PutsVersionInUse (t u : TableState) (grown : List ℕ) (at : ℕ) (v : VersionState) : Type 0 where
   pub marks : Marks t u
   pub booked : u.booked ≡ t.booked
@@ -66,7 +67,8 @@ pub record PutsVersionInUse (t u : TableState) (grown : List ℕ) (at : ℕ) (v 
   pub fresh : (n : ℕ) → bit t n + times n (grown ++ blocks_reached at v) ≤ 1
   pub free : (n : ℕ) → 0 < times n (grown ++ at ∷ v.ribs) → IsFree t n × InSpace t.size n
 
--- A version goes out of use: its bits are cleared. While readers hold it, its blocks are held and its cost stays booked.
+-- A version goes out of use: its bits are cleared. While readers hold it, its blocks are held and its cost stays
+-- booked.
 pub record Retires (t u : TableState) (v : LiveVersion) (left : Option LiveVersion) : Type 0 where
   pub marks : Marks t u
   pub bits : (n : ℕ) → bit u n + times n (blocks_reached v.at v.version) ≡ bit t n
@@ -77,7 +79,13 @@ pub record Retires (t u : TableState) (v : LiveVersion) (left : Option LiveVersi
 
 -- the file that a version is, with these words
 abbrev pub file_of : Prime → List ℕ → File
-file_of prime body = record { protection = prime.protection; mode = mode_number prime.mode; time = prime.moment.minute; date = prime.moment.date; body = body }
+file_of prime body = record {
+  protection = prime.protection;
+  mode = mode_number prime.mode;
+  time = prime.moment.minute;
+  date = prime.moment.date;
+  body = body;
+}
 
 abbrev pub files_put_in : Option (Directory File) → Files File → ℕ → FileName → File → Files File
 files_put_in None files ppn name file = files
@@ -113,23 +121,28 @@ IsNamed d name None = find name_cmp name d.chain.entries ≡ None
 IsNamed d name (Some v) = (i : ℕ) × StandsAt name_cmp d.chain.entries name v.0 i × (slice_get d.versions i ≡ Some v.1)
 
 -- The name has this prime block and version now: in the place of those before, or behind the others.
-pub record IsEntryPut (d d' : KnownDirectory) (name : FileName) (at : ℕ) (v : KnownVersion) (old : Before) : Type 0 where
+pub record IsEntryPut (d d' : KnownDirectory) (name : FileName) (at : ℕ) (v : KnownVersion)
+    (old : Before) : Type 0 where
   pub was : IsNamed d name old
   pub chain : IsChain name_cmp IsFileEntry d'.chain
   pub aligned : length d'.versions ≡ length d'.chain.entries
   pub count : length d'.chain.entries ≡ length d.chain.entries + added old
   pub names : from_entries {R = name_cmp} d'.chain.entries ≡ insert (from_entries d.chain.entries) name at
   -- each entry is the new one, or one of another name, as it was
-  pub each : (i : ℕ) (e : FileEntry) (u : KnownVersion) → slice_get d'.chain.entries i ≡ Some e → slice_get d'.versions i ≡ Some u
-      → ((e ≡ (name, at)) × (u ≡ v)) ⊎ ((e.0 ≡ name → ⊥) × (j : ℕ) × (slice_get d.chain.entries j ≡ Some e) × (slice_get d.versions j ≡ Some u))
-  pub reaches : (n : ℕ) → reaches_in_entries n d'.chain.entries d'.versions + given_up n old ≡ reaches_in_entries n d.chain.entries d.versions + times n (blocks_reached at v.version)
+  pub each : (i : ℕ) (e : FileEntry) (u : KnownVersion) → slice_get d'.chain.entries i ≡ Some e
+      → slice_get d'.versions i ≡ Some u
+      → ((e ≡ (name, at)) × (u ≡ v)) ⊎ ((e.0 ≡ name → ⊥) × (j : ℕ) × (slice_get d.chain.entries j ≡ Some e)
+      × (slice_get d.versions j ≡ Some u))
+  pub reaches : (n : ℕ) → reaches_in_entries n d'.chain.entries d'.versions + given_up n old
+      ≡ reaches_in_entries n d.chain.entries d.versions + times n (blocks_reached at v.version)
   pub cost : total cost_of_version d'.versions + cost_before old ≡ total cost_of_version d.versions + cost_of_version v
 
 -- The map.
 
 -- The version under prime block `at` has become the file of its name in core, and these puts will make it so on
 -- the disk.
-pub record IsPublished (size : ℕ) (k k' : Known) (ppn : ℕ) (name : FileName) (at : ℕ) (v : KnownVersion) (old : Before) (puts : List Put) : Type 0 where
+pub record IsPublished (size : ℕ) (k k' : Known) (ppn : ℕ) (name : FileName) (at : ℕ) (v : KnownVersion)
+    (old : Before) (puts : List Put) : Type 0 where
   pub place : ℕ
   pub word : ℕ × ℕ
   pub there : StandsAt nat_cmp k.master.entries ppn word place
@@ -175,10 +188,13 @@ abbrev pub HasOtherKey : Entered → ℕ → Type 0
 HasOtherKey None k = Unit {0}
 HasOtherKey (Some o) k = k ≡ o.0 → ⊥
 
--- The version under `key`, which was being written, has become the file of its name, with prime block `at` and these ribs.
-pub record MakesCurrent (size : ℕ) (c c' : VolumeCore) (key : ℕ) (p : PendingVersion) (at : ℕ) (ribs : List ℕ) (puts : List Put) : Type 0 where
+-- The version under `key`, which was being written, has become the file of its name, with prime block `at` and these
+-- ribs.
+pub record MakesCurrent (size : ℕ) (c c' : VolumeCore) (key : ℕ) (p : PendingVersion) (at : ℕ) (ribs : List ℕ)
+    (puts : List Put) : Type 0 where
   pub old : Entered
-  pub published : IsPublished size c.known c'.known p.prime.ppn p.prime.file at (record { prime = p.prime; version = record p.version { ribs = ribs } }) (before old) puts
+  pub published : IsPublished size c.known c'.known p.prime.ppn p.prime.file
+      at (record { prime = p.prime; version = record p.version { ribs = ribs } }) (before old) puts
   pub few_ribs : length ribs ≡ rib_count (length p.version.blocks)
   -- it is written no more
   pub written : pending_at c.pending key ≡ Some p
@@ -189,13 +205,15 @@ pub record MakesCurrent (size : ℕ) (c c' : VolumeCore) (key : ℕ) (p : Pendin
   -- it is current, under a key of its own, and the one before is not
   pub new_key : ℕ
   pub vacant : slot c.live new_key ≡ None
-  pub here : slot c'.live new_key ≡ Some (record { prime = p.prime; version = record p.version { ribs = ribs }; at = at; readers = 0; is_current = true })
+  pub here : slot c'.live new_key ≡ Some
+      (record { prime = p.prime; version = record p.version { ribs = ribs }; at = at; readers = 0; is_current = true })
   pub ended : IsEnded c.live c'.live old
   pub others : (k : ℕ) → (k ≡ new_key → ⊥) → HasOtherKey old k → slot c'.live k ≡ slot c.live k
   pub keyed : AllZip (IsKeyed c'.live) c'.known.directories c'.keys
   -- its blocks are held no more; those of the one before are while readers hold it
   pub unheld : (n : ℕ) → 0 < times n (published.grown ++ at ∷ ribs) → holds c.known.table n ≡ 0
-  pub held : (n : ℕ) → holds c'.known.table n + times n p.version.blocks ≡ holds c.known.table n + held_reaches n (left_of old)
+  pub held : (n : ℕ) → holds c'.known.table n + times n p.version.blocks
+      ≡ holds c.known.table n + held_reaches n (left_of old)
   pub booked : c'.known.table.booked + cost_before (before old) ≡ c.known.table.booked + held_cost (left_of old)
   pub unchanged : c'.known.table.changed ≡ replicate (table_blocks size) false
   -- no block is held past the end of the disk
@@ -210,12 +228,16 @@ pub record IsPlaced (c : VolumeCore) (p : PendingVersion) : Type 0 where
   pub is_new : p.is_new ≡ is_absent p.prime.file directory
 
 -- Lists with a place for its entry and its key, where its name is new.
-pub record IsSupplied (c : VolumeCore) (p : PendingVersion) (reserve : ChainState FileEntry) (keys : List ℕ) : Type 0 where
+pub record IsSupplied (c : VolumeCore) (p : PendingVersion) (reserve : ChainState FileEntry)
+    (keys : List ℕ) : Type 0 where
   pub fits : (d : KnownDirectory) → IsDirectoryOf c p.prime.ppn d → IsReserve name_cmp d.chain p.prime.file reserve
-  pub longer : (i : ℕ) (w : ℕ × ℕ) (d : KnownDirectory) (ks : List ℕ) → StandsAt nat_cmp c.known.master.entries p.prime.ppn w i → slice_get c.known.directories i ≡ Some d → slice_get c.keys i ≡ Some ks
+  pub longer : (i : ℕ) (w : ℕ × ℕ) (d : KnownDirectory) (ks : List ℕ)
+      → StandsAt nat_cmp c.known.master.entries p.prime.ppn w i → slice_get c.known.directories i ≡ Some d
+      → slice_get c.keys i ≡ Some ks
       → find name_cmp p.prime.file d.chain.entries ≡ None → (k : ℕ) × (keys ≡ ks ++ k ∷ [])
 
--- What a publication does to core: the version has its last words put, so that it has so many, and turns into the file of its name.
+-- What a publication does to core: the version has its last words put, so that it has so many, and turns into the file
+-- of its name.
 pub record IsPublishedCore (size : ℕ) (c c' : VolumeCore) (key : ℕ) (p : PendingVersion) (words : ℕ) : Type 0 where
   -- core with the last words put
   pub put : VolumeCore

@@ -38,5 +38,7 @@ pub record Regrows (size : ℕ) (t t' : TableState) (old new : VersionState) : T
   pub within : t'.booked ≤ space size
 
 -- The version under this key is so.
-abbrev pub Regrown : ℕ → TableState → TableState → List (Option PendingVersion) → ℕ → PendingVersion → VersionState → Type 0
-Regrown size t t' pending key p v = (pending_at pending key ≡ Some (record p { version = v })) × Regrows size t t' p.version v
+abbrev pub Regrown : ℕ → TableState → TableState → List (Option PendingVersion) → ℕ → PendingVersion → VersionState
+    → Type 0
+Regrown size t t' pending key p v = (pending_at pending key ≡ Some (record p { version = v }))
+    × Regrows size t t' p.version v

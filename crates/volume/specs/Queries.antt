@@ -69,7 +69,8 @@ line e = record { name = e.0; protection = e.1.protection; date = e.1.date; bloc
 
 -- The line of the entry with this name in a directory in core.
 abbrev pub IsLine : KnownDirectory → FileName → Entry → Type 0
-IsLine d name l = (facts : FileFacts) × IsNamedVersion d name facts × (l ≡ record { name = name; protection = facts.protection; date = facts.moment.date; blocks = facts.blocks })
+IsLine d name l = (facts : FileFacts) × IsNamedVersion d name facts
+    × (l ≡ record { name = name; protection = facts.protection; date = facts.moment.date; blocks = facts.blocks })
 
 -- What a list is refused by.
 abbrev pub IsListRefusal : CallError → Type 0

@@ -26,8 +26,10 @@ HasSomeBody contents v = (body : List ℕ) × (length body ≡ v.words) × HasBo
 pub record IsSound (s : DiskState) (c : VolumeCore) (failed : Bool) : Type 0 where
   pub whole : IsWholeCore s.size c
   pub rest : s.honest → failed ≡ false → IsAtRest s c.known
-  pub read : s.honest → failed ≡ false → (key : ℕ) (v : LiveVersion) → slot c.live key ≡ Some v → 0 < v.readers → HasSomeBody s.contents v.version
-  pub written : s.honest → failed ≡ false → (key : ℕ) (p : PendingVersion) → pending_at c.pending key ≡ Some p → HasSomeBody s.contents p.version
+  pub read : s.honest → failed ≡ false → (key : ℕ) (v : LiveVersion) → slot c.live key ≡ Some v → 0 < v.readers
+      → HasSomeBody s.contents v.version
+  pub written : s.honest → failed ≡ false → (key : ℕ) (p : PendingVersion) → pending_at c.pending key ≡ Some p
+      → HasSomeBody s.contents p.version
 
 -- all that a crash may leave has a closed gate and stands for these files
 abbrev pub RestsAt : DiskState → Files File → Type 0
@@ -39,7 +41,8 @@ StandsForEither size f g c = Stands size c f ⊎ Stands size c g
 
 -- it stands for whatever something stood for that a crash could leave at s
 abbrev pub StandsLikeBefore : DiskState → Contents → Type 0
-StandsLikeBefore s c = (d : Contents) × MayLeave s d × ((files : Files File) → Stands s.size d files → Stands s.size c files)
+StandsLikeBefore s c = (d : Contents) × MayLeave s d × ((files : Files File) → Stands s.size d files
+    → Stands s.size c files)
 
 -- it stands for whatever the contents at s stand for
 abbrev pub StandsLike : DiskState → Contents → Type 0
@@ -47,12 +50,15 @@ StandsLike s c = (files : Files File) → Stands s.size s.contents files → Sta
 
 -- The blocks of the versions that readers hold stay.
 abbrev pub KeepsRead : Contents → Contents → VolumeCore → Type 0
-KeepsRead old new c = (key : ℕ) (v : LiveVersion) → slot c.live key ≡ Some v → 0 < v.readers → (n : ℕ) → 0 < times n v.version.blocks → new n ≡ old n
+KeepsRead old new c = (key : ℕ) (v : LiveVersion) → slot c.live key ≡ Some v → 0 < v.readers → (n : ℕ)
+    → 0 < times n v.version.blocks → new n ≡ old n
 
 -- So do those of the versions that are being written,
 abbrev pub KeepsEachWritten : Contents → Contents → VolumeCore → Type 0
-KeepsEachWritten old new c = (k : ℕ) (p : PendingVersion) → pending_at c.pending k ≡ Some p → (n : ℕ) → 0 < times n p.version.blocks → new n ≡ old n
+KeepsEachWritten old new c = (k : ℕ) (p : PendingVersion) → pending_at c.pending k ≡ Some p → (n : ℕ)
+    → 0 < times n p.version.blocks → new n ≡ old n
 
 -- or those of all of them but for this one.
 abbrev pub KeepsWritten : Contents → Contents → VolumeCore → ℕ → Type 0
-KeepsWritten old new c key = (k : ℕ) (p : PendingVersion) → (k ≡ key → ⊥) → pending_at c.pending k ≡ Some p → (n : ℕ) → 0 < times n p.version.blocks → new n ≡ old n
+KeepsWritten old new c key = (k : ℕ) (p : PendingVersion) → (k ≡ key → ⊥) → pending_at c.pending k ≡ Some p
+    → (n : ℕ) → 0 < times n p.version.blocks → new n ≡ old n

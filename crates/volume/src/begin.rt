@@ -1,4 +1,5 @@
-ghost use Rattle.std.specs.Prelude.{◌≡◌, ◌↔◌, ◌⊎◌, ◌+◌, ◌<◌, ◌^◌, ℕ, true, false, if◌then◌else◌, None, Some, slice_get, length, IfOk, OnErr, IsErrOf, IsTrue};
+ghost use Rattle.std.specs.Prelude.{◌≡◌, ◌↔◌, ◌⊎◌, ◌+◌, ◌<◌, ◌^◌, ℕ, true, false, if◌then◌else◌, None, Some, slice_get};
+ghost use Rattle.std.specs.Prelude.{length, IfOk, OnErr, IsErrOf, IsTrue};
 ghost use Rattle.std.specs.Ordering.{nat_cmp};
 ghost use Rattle.std.specs.FinMap.Entries.{find};
 ghost use Rattle.meaning.specs.declared.code.ErrorCode.{ErrorCode};
@@ -57,8 +58,10 @@ fn growth(entries: u64) -> u32
 /// created in it.
 pub fn growth_at(core: &LiveMap, place: usize, ppn: Ppn) -> u32
     requires inside { place < length core.now.directories.items }
-    requires few { (d : KnownDirectory) → slice_get (core_of core.now).known.directories place ≡ Some d → entries_with (core_of core.now) d ppn < 2 ^ 64 }
-    ensures value { (d : KnownDirectory) → slice_get (core_of core.now).known.directories place ≡ Some d → result ≡ growth (entries_with (core_of core.now) d ppn) }
+    requires few { (d : KnownDirectory) → slice_get (core_of core.now).known.directories place ≡ Some d
+        → entries_with (core_of core.now) d ppn < 2 ^ 64 }
+    ensures value { (d : KnownDirectory) → slice_get (core_of core.now).known.directories place ≡ Some d
+        → result ≡ growth (entries_with (core_of core.now) d ppn) }
     ensures few { result < 2 }
 {
     let entries = core.directories[place].chain.len() as u64;
@@ -68,8 +71,10 @@ pub fn growth_at(core: &LiveMap, place: usize, ppn: Ppn) -> u32
 /// What a version costs that is begun in the directory at a place.
 fn begin_cost(core: &LiveMap, place: usize, ppn: Ppn, is_new: bool) -> u32
     requires inside { place < length core.now.directories.items }
-    requires few { (d : KnownDirectory) → slice_get (core_of core.now).known.directories place ≡ Some d → entries_with (core_of core.now) d ppn < 2 ^ 64 }
-    ensures value { (d : KnownDirectory) → slice_get (core_of core.now).known.directories place ≡ Some d → result ≡ begin_cost is_new (entries_with (core_of core.now) d ppn) }
+    requires few { (d : KnownDirectory) → slice_get (core_of core.now).known.directories place ≡ Some d
+        → entries_with (core_of core.now) d ppn < 2 ^ 64 }
+    ensures value { (d : KnownDirectory) → slice_get (core_of core.now).known.directories place ≡ Some d
+        → result ≡ begin_cost is_new (entries_with (core_of core.now) d ppn) }
     ensures few { result < 3 }
 {
     if is_new {
@@ -92,9 +97,12 @@ pub fn begin_in_core(core: &mut LiveMap, alloc: Global, prime: Prime) -> Result<
     ensures begun { IfOk result (λ key. IsBegun (core_of core.old) (core_of core.new) key prime) }
     ensures same { OnErr result (core_of core.new ≡ core_of core.old) }
     ensures whole { IsWholeCore core.new.table.size (core_of core.new) }
-    ensures absent { IsErrOf result (Refused NoDirectory) ↔ (find nat_cmp prime.ppn (core_of core.old).known.master.entries ≡ None) }
+    ensures absent { IsErrOf result (Refused NoDirectory)
+        ↔ (find nat_cmp prime.ppn (core_of core.old).known.master.entries ≡ None) }
     ensures room { (d : KnownDirectory) → IsDirectoryOf (core_of core.old) prime.ppn d
-        → (IsErrOf result (Refused NoRoom) ↔ (space core.old.table.size < core.old.table.booked + begin_cost (is_absent prime.file d) (entries_with (core_of core.old) d prime.ppn))) }
+        → (IsErrOf result (Refused NoRoom)
+        ↔ (space core.old.table.size < core.old.table.booked + begin_cost (is_absent prime.file d)
+        (entries_with (core_of core.old) d prime.ppn))) }
     ensures codes { (code : ErrorCode) → IsErrOf result (Refused code) → (code ≡ NoDirectory) ⊎ (code ≡ NoRoom) }
     ensures plain { (IsErrOf result Device → ⊥) × (IsErrOf result Failed → ⊥) }
 {
@@ -133,9 +141,12 @@ impl<D: Disk> Volume<D> {
 
         // Which error comes when.
         ensures failed { IsErrOf result Failed ↔ IsTrue self.old.failed }
-        ensures absent { self.old.failed ≡ false → (IsErrOf result (Refused NoDirectory) ↔ (find nat_cmp prime.ppn self.old.core.known.master.entries ≡ None)) }
+        ensures absent { self.old.failed ≡ false → (IsErrOf result (Refused NoDirectory)
+            ↔ (find nat_cmp prime.ppn self.old.core.known.master.entries ≡ None)) }
         ensures room { self.old.failed ≡ false → (d : KnownDirectory) → IsDirectoryOf self.old.core prime.ppn d
-            → (IsErrOf result (Refused NoRoom) ↔ (space (D.state self.old.disk).size < self.old.core.known.table.booked + begin_cost (is_absent prime.file d) (entries_with self.old.core d prime.ppn))) }
+            → (IsErrOf result (Refused NoRoom)
+            ↔ (space (D.state self.old.disk).size < self.old.core.known.table.booked
+            + begin_cost (is_absent prime.file d) (entries_with self.old.core d prime.ppn))) }
         ensures codes { (code : ErrorCode) → IsErrOf result (Refused code) → (code ≡ NoDirectory) ⊎ (code ≡ NoRoom) }
         ensures served { IsErrOf result Device → ⊥ }
     {

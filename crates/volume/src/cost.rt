@@ -38,7 +38,8 @@ fn book_directory(table: &mut Table, directory: &StoredDirectory)
     requires volume { IsVolumeSize table.old.size }
     requires whole { IsWholeDirectory table.old.size (known_directory directory.now) }
     requires fits { table.old.booked + cost_of_directory (known_directory directory.now) < 2 ^ 64 }
-    ensures { table.new ≡ record table.old { booked = table.old.booked + cost_of_directory (known_directory directory.now) } }
+    ensures { table.new
+        ≡ record table.old { booked = table.old.booked + cost_of_directory (known_directory directory.now) } }
 {
     table.book(directory.chain.blocks().len() as u32);
     let versions = directory.versions.as_slice();
@@ -55,7 +56,11 @@ pub fn book_map(table: &mut Table, master: &Chain<MasterEntry>, directories: &[S
     requires inside { AllByRecursion (InSpace table.old.size) master.now.blocks }
     requires aligned { length directories.now ≡ length master.now.entries }
     requires each { AllByRecursion (IsWholeDirectory table.old.size) (map known_directory directories.now) }
-    ensures { table.new ≡ record table.old { booked = cost_of_known (viewed master_view master.now) (map known_directory directories.now) } }
+    ensures { table.new
+        ≡ record table.old {
+          booked = cost_of_known (viewed master_view master.now)
+              (map known_directory directories.now);
+        } }
 {
     table.book(master.blocks().len() as u32);
     for directory in directories {
@@ -67,7 +72,9 @@ pub fn book_map(table: &mut Table, master: &Chain<MasterEntry>, directories: &[S
 /// space are in use than are booked.
 pub fn known_maps_are_booked()
     ensures cost { (size : ℕ) (known : Known) (m : DiskMap) → IsKnownMap known m
-        → IsChain nat_cmp (IsMasterEntryOf 1) known.master → length known.directories ≡ length known.master.entries → AllByRecursion (IsWholeDirectory size) known.directories
+        → IsChain nat_cmp (IsMasterEntryOf 1) known.master → length known.directories ≡ length known.master.entries
+        → AllByRecursion (IsWholeDirectory size) known.directories
         → cost_of_known known.master known.directories ≡ cost_of_files (files_of m) }
-    ensures used { (size : ℕ) (core : VolumeCore) → IsWholeCore size core → used_in_space core.known.table ≤ core.known.table.booked }
+    ensures used { (size : ℕ) (core : VolumeCore) → IsWholeCore size core
+        → used_in_space core.known.table ≤ core.known.table.booked }
 {}

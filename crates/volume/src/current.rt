@@ -1,4 +1,5 @@
-ghost use Rattle.std.specs.Prelude.{◌≡◌, ◌↔◌, ◌+◌, ◌<◌, ◌≤◌, ◌^◌, ◌++◌, ◌∷◌, [], ℕ, List, if◌then◌else◌, length, map, slice_get, slice_set, option_to_list, Some, None, IsSome, IfSome, IfNone, IsTrue};
+ghost use Rattle.std.specs.Prelude.{◌≡◌, ◌↔◌, ◌+◌, ◌<◌, ◌≤◌, ◌^◌, ◌++◌, ◌∷◌, [], ℕ, List, if◌then◌else◌, length, map};
+ghost use Rattle.std.specs.Prelude.{slice_get, slice_set, option_to_list, Some, None, IsSome, IfSome, IfNone, IsTrue};
 ghost use Rattle.std.specs.Ordering.{nat_cmp};
 ghost use Rattle.std.specs.FinMap.Entries.{find};
 ghost use Rattle.meaning.specs.Costs.{cost_of_blocks};
@@ -15,7 +16,8 @@ ghost use Rattle.volume.specs.Cores.{file_view, master_view};
 ghost use Rattle.volume.specs.Known.{blocks_reached};
 ghost use Rattle.volume.specs.Live.{slot, pending_at, IsWholeCore};
 ghost use Rattle.volume.specs.LiveCores.{core_of};
-ghost use Rattle.volume.specs.Publishing.{ClearsBits, PutsVersionInUse, Retires, left_of, MakesCurrent, IsPlaced, IsSupplied};
+ghost use Rattle.volume.specs.Publishing.{ClearsBits, PutsVersionInUse, Retires, left_of, MakesCurrent, IsPlaced};
+ghost use Rattle.volume.specs.Publishing.{IsSupplied};
 ghost use Rattle.volume.specs.declared.live.LiveDirectory.{LiveDirectory};
 ghost use Rattle.volume.specs.declared.live.LiveVersion.{LiveVersion};
 ghost use Rattle.volume.specs.declared.pending.PendingVersion.{PendingVersion};
@@ -99,19 +101,32 @@ fn put_entry(
     set: &mut ChangeSet,
 ) -> Option<usize>
     requires reserve { IsReserve name_cmp (viewed file_view directory.old.chain) entry.name (viewed file_view reserve) }
-    requires keys { find name_cmp entry.name (map file_view directory.old.chain.entries) ≡ None → (k : ℕ) × (keys.items ≡ directory.old.keys.items ++ k ∷ []) }
-    requires grown { TakesBlock name_cmp (viewed file_view directory.old.chain) entry.name → (n : ℕ) × (grown ≡ Some n) × (times n directory.old.chain.blocks ≡ 0) }
+    requires keys { find name_cmp entry.name (map file_view directory.old.chain.entries) ≡ None
+        → (k : ℕ) × (keys.items ≡ directory.old.keys.items ++ k ∷ []) }
+    requires grown { TakesBlock name_cmp (viewed file_view directory.old.chain) entry.name
+        → (n : ℕ) × (grown ≡ Some n) × (times n directory.old.chain.blocks ≡ 0) }
     requires aligned { length directory.old.keys.items ≡ length directory.old.chain.entries }
     requires empty { set.old ≡ [] }
-    ensures items { map file_view directory.new.chain.entries ≡ inserted name_cmp (map file_view directory.old.chain.entries) (file_view entry) }
-    ensures map { from_entries {R = name_cmp} (map file_view directory.new.chain.entries) ≡ insert (from_entries (map file_view directory.old.chain.entries)) entry.name entry.prime }
-    ensures same { (TakesBlock name_cmp (viewed file_view directory.old.chain) entry.name → ⊥) → directory.new.chain.blocks ≡ directory.old.chain.blocks }
-    ensures more { (n : ℕ) → TakesBlock name_cmp (viewed file_view directory.old.chain) entry.name → grown ≡ Some n → directory.new.chain.blocks ≡ directory.old.chain.blocks ++ n ∷ [] }
+    // The list of keys, and the map with the entry.
+    ensures items { map file_view directory.new.chain.entries
+        ≡ inserted name_cmp (map file_view directory.old.chain.entries) (file_view entry) }
+    ensures map { from_entries {R = name_cmp} (map file_view directory.new.chain.entries)
+        ≡ insert (from_entries (map file_view directory.old.chain.entries)) entry.name entry.prime }
+    ensures same { (TakesBlock name_cmp (viewed file_view directory.old.chain) entry.name → ⊥)
+        → directory.new.chain.blocks ≡ directory.old.chain.blocks }
+    ensures more { (n : ℕ) → TakesBlock name_cmp (viewed file_view directory.old.chain) entry.name → grown ≡ Some n
+        → directory.new.chain.blocks ≡ directory.old.chain.blocks ++ n ∷ [] }
+    // What is put of the chain.
     ensures chain { IsChain name_cmp IsFileEntry (viewed file_view directory.new.chain) }
-    ensures put { PutsChain file_words (viewed file_view directory.old.chain) (viewed file_view directory.new.chain) [] set.new }
+    ensures put { PutsChain file_words (viewed file_view directory.old.chain)
+        (viewed file_view directory.new.chain) [] set.new }
     ensures few { length set.new ≤ 2 }
-    ensures replaced { IfSome result (λ old. (i : ℕ) × (w : ℕ) × StandsAt name_cmp (map file_view directory.old.chain.entries) entry.name w i × (slice_get directory.old.keys.items i ≡ Some old) × (directory.new.keys.items ≡ slice_set directory.old.keys.items i key)) }
-    ensures added { IfNone result ((find name_cmp entry.name (map file_view directory.old.chain.entries) ≡ None) × (directory.new.keys.items ≡ directory.old.keys.items ++ key ∷ [])) }
+    ensures replaced { IfSome result (λ old. (i : ℕ) × (w : ℕ)
+        × StandsAt name_cmp (map file_view directory.old.chain.entries) entry.name w i
+        × (slice_get directory.old.keys.items i ≡ Some old)
+        × (directory.new.keys.items ≡ slice_set directory.old.keys.items i key)) }
+    ensures added { IfNone result ((find name_cmp entry.name (map file_view directory.old.chain.entries) ≡ None)
+        × (directory.new.keys.items ≡ directory.old.keys.items ++ key ∷ [])) }
 {
     let place = directory.chain.find(&entry.name);
     directory.chain.insert_into(reserve, entry, grown, set);
@@ -153,14 +168,15 @@ fn file_entry(name: FileName, prime: u32) -> FileEntry
 /// Whether the chain at a place takes a block for an entry with this name.
 fn takes_block(core: &LiveMap, place: usize, name: &FileName) -> bool
     requires { place < length core.now.directories.items }
-    ensures { (d : LiveDirectory) → slice_get core.now.directories.items place ≡ Some d → (IsTrue result ↔ TakesBlock name_cmp (viewed file_view d.chain) name.now) }
+    ensures { (d : LiveDirectory) → slice_get core.now.directories.items place ≡ Some d
+        → (IsTrue result ↔ TakesBlock name_cmp (viewed file_view d.chain) name.now) }
 {
     let chain = &core.directories[place].chain;
     chain.find(name).is_none() && chain.needs_block()
 }
 
-/// Makes the version under a key, which was being written, the file of its name in core, with the puts that will make it
-/// so on the disk once its retrieval blocks are written. Answers its key among the versions that stand.
+/// Makes the version under a key, which was being written, the file of its name in core, with the puts that will make
+/// it so on the disk once its retrieval blocks are written. Answers its key among the versions that stand.
 pub(crate) fn make_current(
     core: &mut LiveMap,
     key: usize,
@@ -169,13 +185,17 @@ pub(crate) fn make_current(
 ) -> usize
     requires whole { IsWholeCore core.old.table.size (core_of core.old) }
     requires there { IsSome (pending_at (core_of core.old).pending key) }
-    requires placed { (p : PendingVersion) → pending_at (core_of core.old).pending key ≡ Some p → IsPlaced (core_of core.old) p }
-    requires ribs { (p : PendingVersion) → pending_at (core_of core.old).pending key ≡ Some p → length supplies.ribs.items ≡ rib_count (length p.version.blocks) }
-    requires supplied { (p : PendingVersion) → pending_at (core_of core.old).pending key ≡ Some p → IsSupplied (core_of core.old) p (viewed file_view supplies.reserve) supplies.keys.items }
+    requires placed { (p : PendingVersion) → pending_at (core_of core.old).pending key ≡ Some p
+        → IsPlaced (core_of core.old) p }
+    requires ribs { (p : PendingVersion) → pending_at (core_of core.old).pending key ≡ Some p
+        → length supplies.ribs.items ≡ rib_count (length p.version.blocks) }
+    requires supplied { (p : PendingVersion) → pending_at (core_of core.old).pending key ≡ Some p
+        → IsSupplied (core_of core.old) p (viewed file_view supplies.reserve) supplies.keys.items }
     requires slot { HasRoomFor core.old.versions 1 }
     requires empty { set.old ≡ [] }
     ensures { (p : PendingVersion) → pending_at (core_of core.old).pending key ≡ Some p
-        → (at : ℕ) × (ribs : List ℕ) × (makes_current : MakesCurrent core.old.table.size (core_of core.old) (core_of core.new) key p at ribs set.new) × (result ≡ makes_current.new_key) }
+        → (at : ℕ) × (ribs : List ℕ) × (makes_current : MakesCurrent core.old.table.size (core_of core.old)
+        (core_of core.new) key p at ribs set.new) × (result ≡ makes_current.new_key) }
 {
     let Some(
         PendingVersion {
@@ -234,7 +254,8 @@ fn hold_version(table: &mut Table, version: &LiveVersion)
     requires sound { IsTable table.old }
     requires inside { (n : ℕ) → 0 < times n (blocks_reached version.now.at version.now.version) → n < table.old.size }
     requires fits { (n : ℕ) → holds table.old n + times n (blocks_reached version.now.at version.now.version) < 2 ^ 32 }
-    ensures held { (n : ℕ) → holds table.new n ≡ holds table.old n + times n (blocks_reached version.now.at version.now.version) }
+    ensures held { (n : ℕ)
+        → holds table.new n ≡ holds table.old n + times n (blocks_reached version.now.at version.now.version) }
     ensures rest { table.new ≡ record table.old { held = table.new.held } }
     ensures sound { IsTable table.new }
 {
@@ -248,12 +269,16 @@ fn hold_version(table: &mut Table, version: &LiveVersion)
 pub(crate) fn retire(versions: &mut Slab<LiveVersion>, table: &mut Table, key: usize)
     requires sound { IsTable table.old }
     requires there { IsSome (slot versions.old.slots key) }
-    requires set { IfSome (slot versions.old.slots key) (λ v. (n : ℕ) → times n (blocks_reached v.at v.version) ≤ bit table.old n) }
+    requires set { IfSome (slot versions.old.slots key) (λ v. (n : ℕ)
+        → times n (blocks_reached v.at v.version) ≤ bit table.old n) }
     requires few { IfSome (slot versions.old.slots key) (λ v. length v.version.blocks ≤ most_blocks) }
-    requires booked { IfSome (slot versions.old.slots key) (λ v. cost_of_blocks (length v.version.blocks) ≤ table.old.booked) }
+    requires booked { IfSome (slot versions.old.slots key) (λ v. cost_of_blocks (length v.version.blocks)
+        ≤ table.old.booked) }
     requires fits { (n : ℕ) → holds table.old n + 1 < 2 ^ 32 }
-    ensures retired { (v : LiveVersion) → slot versions.old.slots key ≡ Some v → Retires table.old table.new v (left_of (Some (key, v))) }
-    ensures left { (v : LiveVersion) → slot versions.old.slots key ≡ Some v → slot versions.new.slots key ≡ left_of (Some (key, v)) }
+    ensures retired { (v : LiveVersion) → slot versions.old.slots key ≡ Some v
+        → Retires table.old table.new v (left_of (Some (key, v))) }
+    ensures left { (v : LiveVersion) → slot versions.old.slots key ≡ Some v
+        → slot versions.new.slots key ≡ left_of (Some (key, v)) }
     ensures others { (k : ℕ) → (k ≡ key → ⊥) → slot versions.new.slots k ≡ slot versions.old.slots k }
 {
     let Some(version) = versions.get_mut(key) else {
@@ -273,13 +298,19 @@ pub(crate) fn retire(versions: &mut Slab<LiveVersion>, table: &mut Table, key: u
 fn retire_before(versions: &mut Slab<LiveVersion>, table: &mut Table, old: Option<usize>)
     requires sound { IsTable table.old }
     requires there { IfSome old (λ key. IsSome (slot versions.old.slots key)) }
-    requires set { IfSome old (λ key. IfSome (slot versions.old.slots key) (λ v. (n : ℕ) → times n (blocks_reached v.at v.version) ≤ bit table.old n)) }
-    requires few { IfSome old (λ key. IfSome (slot versions.old.slots key) (λ v. length v.version.blocks ≤ most_blocks)) }
-    requires booked { IfSome old (λ key. IfSome (slot versions.old.slots key) (λ v. cost_of_blocks (length v.version.blocks) ≤ table.old.booked)) }
+    requires set { IfSome old (λ key. IfSome (slot versions.old.slots key) (λ v. (n : ℕ)
+        → times n (blocks_reached v.at v.version) ≤ bit table.old n)) }
+    requires few { IfSome old (λ key. IfSome (slot versions.old.slots key) (λ v. length v.version.blocks
+        ≤ most_blocks)) }
+    requires booked { IfSome old (λ key. IfSome (slot versions.old.slots key)
+        (λ v. cost_of_blocks (length v.version.blocks) ≤ table.old.booked)) }
     requires fits { IfSome old (λ key. (n : ℕ) → holds table.old n + 1 < 2 ^ 32) }
-    ensures retired { (key : ℕ) (v : LiveVersion) → old ≡ Some key → slot versions.old.slots key ≡ Some v → Retires table.old table.new v (left_of (Some (key, v))) }
-    ensures left { (key : ℕ) (v : LiveVersion) → old ≡ Some key → slot versions.old.slots key ≡ Some v → slot versions.new.slots key ≡ left_of (Some (key, v)) }
-    ensures others { (key k : ℕ) → old ≡ Some key → (k ≡ key → ⊥) → slot versions.new.slots k ≡ slot versions.old.slots k }
+    ensures retired { (key : ℕ) (v : LiveVersion) → old ≡ Some key → slot versions.old.slots key ≡ Some v
+        → Retires table.old table.new v (left_of (Some (key, v))) }
+    ensures left { (key : ℕ) (v : LiveVersion) → old ≡ Some key → slot versions.old.slots key ≡ Some v
+        → slot versions.new.slots key ≡ left_of (Some (key, v)) }
+    ensures others { (key k : ℕ) → old ≡ Some key → (k ≡ key → ⊥)
+        → slot versions.new.slots k ≡ slot versions.old.slots k }
     ensures none { old ≡ None → (versions.new ≡ versions.old) × (table.new ≡ table.old) }
 {
     let Some(key) = old else {

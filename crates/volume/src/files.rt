@@ -1,4 +1,5 @@
-ghost use Rattle.std.specs.Prelude.{◌≡◌, ◌+◌, ◌*◌, ◌<◌, ◌≤◌, ◌⊎◌, ◌∷◌, ◌++◌, ℕ, None, IfOk, IfErr, OnOk, IsErrOf, length};
+ghost use Rattle.std.specs.Prelude.{◌≡◌, ◌+◌, ◌*◌, ◌<◌, ◌≤◌, ◌⊎◌, ◌∷◌, ◌++◌, ℕ, None, IfOk, IfErr, OnOk, IsErrOf};
+ghost use Rattle.std.specs.Prelude.{length};
 ghost use Rattle.std.specs.List.{AllByRecursion};
 ghost use Rattle.blockdisk.specs.Disk.{Keeps, SameDisk, one_more};
 ghost use Rattle.meaning.specs.Maps.{times};
@@ -10,9 +11,11 @@ ghost use Rattle.meaning.specs.Faults.{InSpace, IsBadVersion};
 ghost use Rattle.alloctab.specs.Lists.{digit_at};
 ghost use Rattle.retrieval.specs.Reading.{IsVersionAt};
 ghost use Rattle.retrieval.specs.Writing.{rib_count};
-ghost use Rattle.volume.specs.FileReading.{IsWholeBlock, IsFileFound, IsOtherPlace, IsReachedTwice, IsDamagedData, IsVersionRefusal, IsDataRefusal, IsFileRefusal};
+ghost use Rattle.volume.specs.FileReading.{IsWholeBlock, IsFileFound, IsOtherPlace, IsReachedTwice, IsDamagedData};
+ghost use Rattle.volume.specs.FileReading.{IsVersionRefusal, IsDataRefusal, IsFileRefusal};
 ghost use Rattle.volume.specs.FaultsFound.{NamesInSpace};
-ghost use Rattle.volume.specs.declared.error.VolumeError.TheVariants.{BadRetrieval, BlockTwice, Device, NoMemory, BadData};
+ghost use Rattle.volume.specs.declared.error.VolumeError.TheVariants.{BadRetrieval, BlockTwice, Device, NoMemory};
+ghost use Rattle.volume.specs.declared.error.VolumeError.TheVariants.{BadData};
 
 use crate::VolumeError;
 use crate::marks::mark_version;
@@ -39,19 +42,27 @@ fn read_named<D: Disk>(
     name: FileName,
     prime: u32,
 ) -> Result<StoredVersion, VolumeError>
+    // What the caller sees to.
     requires volume { IsVolumeSize (D.state disk.old).size }
     requires inside { prime < (D.state disk.old).size }
-    ensures ok { (D.state disk.new).honest → IfOk result (λ v. IsVersionAt (D.state disk.old).size (D.state disk.old).contents prime v.prime v.version) }
+    // The version that was read, of this name.
+    ensures ok { (D.state disk.new).honest
+        → IfOk result (λ v. IsVersionAt (D.state disk.old).size (D.state disk.old).contents prime v.prime v.version) }
     ensures name { IfOk result (λ v. v.prime.file ≡ name) }
     ensures ppn { IfOk result (λ v. v.prime.ppn ≡ ppn) }
+    // It is as a version has to be.
     ensures blocks_inside { IfOk result (λ v. AllByRecursion (InSpace (D.state disk.old).size) v.version.blocks) }
     ensures ribs_inside { IfOk result (λ v. AllByRecursion (InSpace (D.state disk.old).size) v.version.ribs) }
     ensures counted { IfOk result (λ v. length v.version.blocks ≡ blocks_of v.version.words) }
     ensures few { IfOk result (λ v. v.version.words ≤ most_blocks * 128) }
     ensures few_ribs { IfOk result (λ v. length v.version.ribs ≤ rib_count (length v.version.blocks)) }
-    ensures bad_version { (D.state disk.new).honest → (k : ℕ) → IsErrOf result (BadRetrieval k) → IsBadVersion (D.state disk.old).size (D.state disk.old).contents 1 prime k ⊎ ((k ≡ prime) × IsOtherPlace (D.state disk.old).contents (place_of ppn name) prime) }
+    // Which refusal comes when.
+    ensures bad_version { (D.state disk.new).honest → (k : ℕ) → IsErrOf result (BadRetrieval k)
+        → IsBadVersion (D.state disk.old).size (D.state disk.old).contents 1 prime k
+        ⊎ ((k ≡ prime) × IsOtherPlace (D.state disk.old).contents (place_of ppn name) prime) }
     ensures only { IfErr result IsVersionRefusal }
     ensures named { (k : ℕ) → IsErrOf result (BadRetrieval k) → (k ≡ prime) ⊎ InSpace (D.state disk.old).size k }
+    // The device: what failed, and how often.
     ensures keeps { (D.state disk.new).honest → Keeps (D.state disk.old) (D.state disk.new) }
     ensures same { SameDisk (D.state disk.old) (D.state disk.new) }
     ensures failed { IsErrOf result Device → (D.state disk.new).failures ≡ one_more (D.state disk.old).failures }
@@ -75,8 +86,10 @@ fn read_named<D: Disk>(
 /// Reads each of these data blocks once.
 fn read_data<D: Disk>(disk: &mut D, blocks: &[u32]) -> Result<(), VolumeError>
     requires { AllByRecursion (InSpace (D.state disk.old).size) blocks.now }
-    ensures ok { (D.state disk.new).honest → OnOk result (AllByRecursion (IsWholeBlock (D.state disk.old).contents) blocks.now) }
-    ensures damaged { (D.state disk.new).honest → (k : ℕ) → IsErrOf result (BadData k) → (0 < times k blocks.now) × ((D.state disk.old).contents k ≡ None) }
+    ensures ok { (D.state disk.new).honest
+        → OnOk result (AllByRecursion (IsWholeBlock (D.state disk.old).contents) blocks.now) }
+    ensures damaged { (D.state disk.new).honest → (k : ℕ) → IsErrOf result (BadData k)
+        → (0 < times k blocks.now) × ((D.state disk.old).contents k ≡ None) }
     ensures only { IfErr result IsDataRefusal }
     ensures named { (k : ℕ) → IsErrOf result (BadData k) → InSpace (D.state disk.old).size k }
     ensures keeps { (D.state disk.new).honest → Keeps (D.state disk.old) (D.state disk.new) }
@@ -111,25 +124,36 @@ pub fn read_file<D: Disk>(
     prime: u32,
     reached: &mut Reached,
 ) -> Result<StoredVersion, VolumeError>
+    // What the caller sees to.
     requires volume { IsVolumeSize (D.state disk.old).size }
     requires inside { InSpace (D.state disk.old).size prime }
     requires marks { length reached.old ≡ (D.state disk.old).size }
-    ensures ok { (D.state disk.new).honest → IfOk result (λ v. IsFileFound (D.state disk.old).contents (place_of ppn name) prime v.prime v.version) }
+    // The version that was read, of this name, with its blocks marked.
+    ensures ok { (D.state disk.new).honest
+        → IfOk result (λ v. IsFileFound (D.state disk.old).contents (place_of ppn name) prime v.prime v.version) }
     ensures name { IfOk result (λ v. v.prime.file ≡ name) }
     ensures ppn { IfOk result (λ v. v.prime.ppn ≡ ppn) }
-    ensures marks { IfOk result (λ v. (n : ℕ) → digit_at reached.new n ≡ digit_at reached.old n + times n (prime ∷ (v.version.ribs ++ v.version.blocks))) }
+    ensures marks { IfOk result (λ v. (n : ℕ)
+        → digit_at reached.new n ≡ digit_at reached.old n + times n (prime ∷ (v.version.ribs ++ v.version.blocks))) }
+    // It is as a version has to be.
     ensures blocks_inside { IfOk result (λ v. AllByRecursion (InSpace (D.state disk.old).size) v.version.blocks) }
     ensures ribs_inside { IfOk result (λ v. AllByRecursion (InSpace (D.state disk.old).size) v.version.ribs) }
     ensures counted { IfOk result (λ v. length v.version.blocks ≡ blocks_of v.version.words) }
     ensures few { IfOk result (λ v. v.version.words ≤ most_blocks * 128) }
     ensures few_ribs { IfOk result (λ v. length v.version.ribs ≤ rib_count (length v.version.blocks)) }
     ensures length { length reached.new ≡ length reached.old }
+    // Which refusal comes when.
     ensures memory { IsErrOf result NoMemory → reached.new ≡ reached.old }
-    ensures bad_version { (D.state disk.new).honest → (k : ℕ) → IsErrOf result (BadRetrieval k) → IsBadVersion (D.state disk.old).size (D.state disk.old).contents 1 prime k ⊎ ((k ≡ prime) × IsOtherPlace (D.state disk.old).contents (place_of ppn name) prime) }
-    ensures twice { (D.state disk.new).honest → (k : ℕ) → IsErrOf result (BlockTwice k) → IsReachedTwice (D.state disk.old).contents (place_of ppn name) prime reached.old k }
-    ensures bad_data { (D.state disk.new).honest → (k : ℕ) → IsErrOf result (BadData k) → IsDamagedData (D.state disk.old).contents (place_of ppn name) prime k }
+    ensures bad_version { (D.state disk.new).honest → (k : ℕ) → IsErrOf result (BadRetrieval k)
+        → IsBadVersion (D.state disk.old).size (D.state disk.old).contents 1 prime k
+        ⊎ ((k ≡ prime) × IsOtherPlace (D.state disk.old).contents (place_of ppn name) prime) }
+    ensures twice { (D.state disk.new).honest → (k : ℕ) → IsErrOf result (BlockTwice k)
+        → IsReachedTwice (D.state disk.old).contents (place_of ppn name) prime reached.old k }
+    ensures bad_data { (D.state disk.new).honest → (k : ℕ) → IsErrOf result (BadData k)
+        → IsDamagedData (D.state disk.old).contents (place_of ppn name) prime k }
     ensures only { IfErr result IsFileRefusal }
     ensures named { IfErr result (NamesInSpace (D.state disk.old).size) }
+    // The device: what failed, and how often.
     ensures keeps { (D.state disk.new).honest → Keeps (D.state disk.old) (D.state disk.new) }
     ensures same { SameDisk (D.state disk.old) (D.state disk.new) }
     ensures failed { IsErrOf result Device → (D.state disk.new).failures ≡ one_more (D.state disk.old).failures }

@@ -29,15 +29,22 @@ use words36::{BLOCK_WORDS, Block, Word};
 /// device failed.
 pub fn init<D: Disk>(disk: &mut D) -> Result<(), VolumeError>
     // The disk is a volume then, and stands for no files: whatever a crash leaves.
-    ensures stands { (D.state disk.new).honest → OnOk result (AtRest (D.state disk.new) (λ c. Stands (D.state disk.old).size c empty)) }
-    ensures map { (D.state disk.new).honest → OnOk result (HasMap (D.state disk.old).size (D.state disk.new).contents (bare_map (D.state disk.old).size)) }
+    ensures stands { (D.state disk.new).honest
+        → OnOk result (AtRest (D.state disk.new) (λ c. Stands (D.state disk.old).size c empty)) }
+    ensures map { (D.state disk.new).honest
+        → OnOk result (HasMap (D.state disk.old).size (D.state disk.new).contents (bare_map (D.state disk.old).size)) }
     ensures settled { (D.state disk.new).honest → OnOk result (NoneOpen (D.state disk.new)) }
-    ensures shut { (D.state disk.new).honest → OnOk result (IsGateOpen (D.state disk.old).size (D.state disk.new).contents → ⊥) }
+    ensures shut { (D.state disk.new).honest
+        → OnOk result (IsGateOpen (D.state disk.old).size (D.state disk.new).contents → ⊥) }
 
     // What is written, and where.
-    ensures bare { (D.state disk.new).honest → OnOk result (IsBare (D.state disk.old).size (D.state disk.new).contents) }
-    ensures modified { (D.state disk.new).honest → OnOk result (Modifies (IsInitBlock (D.state disk.old).size) (D.state disk.old) (D.state disk.new)) }
-    ensures near { (D.state disk.new).honest → LeavesOnly (D.state disk.old) (D.state disk.new) (Near (IsInitBlock (D.state disk.old).size) (D.state disk.old)) }
+    ensures bare { (D.state disk.new).honest
+        → OnOk result (IsBare (D.state disk.old).size (D.state disk.new).contents) }
+    ensures modified { (D.state disk.new).honest
+        → OnOk result (Modifies (IsInitBlock (D.state disk.old).size) (D.state disk.old) (D.state disk.new)) }
+    ensures near { (D.state disk.new).honest
+        → LeavesOnly (D.state disk.old) (D.state disk.new)
+        (Near (IsInitBlock (D.state disk.old).size) (D.state disk.old)) }
 
     // On every disk.
     ensures range { IsErrOf result NotVolume ↔ (IsVolumeSize (D.state disk.old).size → ⊥) }
@@ -59,10 +66,14 @@ pub fn init<D: Disk>(disk: &mut D) -> Result<(), VolumeError>
 /// Writes the blocks of a volume with no directory, and waits until they are on the disk.
 fn write_volume<D: Disk>(disk: &mut D) -> Result<(), Fault>
     requires { IsVolumeSize (D.state disk.old).size }
-    ensures bare { (D.state disk.new).honest → OnOk result (IsBare (D.state disk.old).size (D.state disk.new).contents) }
+    ensures bare { (D.state disk.new).honest
+        → OnOk result (IsBare (D.state disk.old).size (D.state disk.new).contents) }
     ensures settled { (D.state disk.new).honest → OnOk result (NoneOpen (D.state disk.new)) }
-    ensures modified { (D.state disk.new).honest → OnOk result (Modifies (IsInitBlock (D.state disk.old).size) (D.state disk.old) (D.state disk.new)) }
-    ensures near { (D.state disk.new).honest → LeavesOnly (D.state disk.old) (D.state disk.new) (Near (IsInitBlock (D.state disk.old).size) (D.state disk.old)) }
+    ensures modified { (D.state disk.new).honest
+        → OnOk result (Modifies (IsInitBlock (D.state disk.old).size) (D.state disk.old) (D.state disk.new)) }
+    ensures near { (D.state disk.new).honest
+        → LeavesOnly (D.state disk.old) (D.state disk.new)
+        (Near (IsInitBlock (D.state disk.old).size) (D.state disk.old)) }
     ensures same { SameDisk (D.state disk.old) (D.state disk.new) }
     ensures device { IsErrOf result Damaged → ⊥ }
     ensures failed { IsErrOf result Failed → (D.state disk.new).failures ≡ one_more (D.state disk.old).failures }
@@ -80,7 +91,8 @@ fn write_fresh<D: Disk>(disk: &mut D, from: u32, end: u32) -> Result<(), Fault>
     requires inside { end ≤ (D.state disk.old).size }
     ensures written { (D.state disk.new).honest → OnOk result ((n : ℕ) → from ≤ n → n < end
         → (D.state disk.new).contents n ≡ Some (fresh_words (D.state disk.old).size n)) }
-    ensures modified { (D.state disk.new).honest → Modifies (λ n. (from ≤ n) × (n < end)) (D.state disk.old) (D.state disk.new) }
+    ensures modified { (D.state disk.new).honest
+        → Modifies (λ n. (from ≤ n) × (n < end)) (D.state disk.old) (D.state disk.new) }
     ensures same { SameDisk (D.state disk.old) (D.state disk.new) }
     ensures device { IsErrOf result Damaged → ⊥ }
     ensures failed { IsErrOf result Failed → (D.state disk.new).failures ≡ one_more (D.state disk.old).failures }

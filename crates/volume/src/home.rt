@@ -71,7 +71,8 @@ fn copy_of(size: u32, words: &Block) -> HomeCopy
 fn read_copy<D: Disk>(disk: &mut D, n: u32) -> Result<HomeCopy, VolumeError>
     requires volume { IsVolumeSize (D.state disk.old).size }
     requires first { n ≤ 2 }
-    ensures found { (D.state disk.new).honest → IfOk result (λ copy. IsFound (D.state disk.old).size (D.state disk.old).contents n copy) }
+    ensures found { (D.state disk.new).honest
+        → IfOk result (λ copy. IsFound (D.state disk.old).size (D.state disk.old).contents n copy) }
     ensures inside { IfOk result (λ copy. IsFoundInSpace (D.state disk.old).size copy) }
     ensures reads { (D.state disk.new).honest → OnlyReads (D.state disk.old) (D.state disk.new) }
     ensures only { (e : VolumeError) → IsErrOf result e → e ≡ Device }
@@ -95,11 +96,14 @@ fn read_copy<D: Disk>(disk: &mut D, n: u32) -> Result<HomeCopy, VolumeError>
 /// `NotVolume` where the disk has a number of blocks that no volume has, or neither copy has the name;
 /// `BadHome` where a copy has the name and none is valid; `Device` where the device failed.
 pub fn read_home<D: Disk>(disk: &mut D) -> Result<u32, VolumeError>
-    ensures ok { (D.state disk.new).honest → IfOk result (λ master. IsHome (D.state disk.old).size (D.state disk.old).contents (home_of_master master)) }
+    ensures ok { (D.state disk.new).honest
+        → IfOk result (λ master. IsHome (D.state disk.old).size (D.state disk.old).contents (home_of_master master)) }
     ensures inside { IfOk result (λ master. InSpace (D.state disk.old).size master) }
     ensures volume { IfOk result (λ master. IsVolumeSize (D.state disk.old).size) }
-    ensures not_volume { (D.state disk.new).honest → IsErrOf result NotVolume → IsNotVolume (D.state disk.old).size (D.state disk.old).contents }
-    ensures bad { (D.state disk.new).honest → IsErrOf result BadHome → IsBadHome (D.state disk.old).size (D.state disk.old).contents }
+    ensures not_volume { (D.state disk.new).honest → IsErrOf result NotVolume
+        → IsNotVolume (D.state disk.old).size (D.state disk.old).contents }
+    ensures bad { (D.state disk.new).honest → IsErrOf result BadHome
+        → IsBadHome (D.state disk.old).size (D.state disk.old).contents }
     ensures only { (e : VolumeError) → IsErrOf result e → (e ≡ NotVolume) ⊎ (e ≡ BadHome) ⊎ (e ≡ Device) }
 
     // A disk of another size isn't touched.

@@ -34,10 +34,12 @@ fn push_line(
     entry: &FileEntry,
     lines: &mut Vec<Entry>,
 ) -> Result<(), CallError>
-    requires keyed { IsKeyed versions.now.slots (live_directory versions.now.slots directory.now) directory.now.keys.items }
+    requires keyed { IsKeyed versions.now.slots (live_directory versions.now.slots directory.now)
+        directory.now.keys.items }
     requires standing { AreStanding versions.now.slots }
     requires there { find name_cmp entry.now.name (map file_view directory.now.chain.entries) ≡ Some entry.now.prime }
-    ensures ok { OnOk result (IsAdded (λ l. l) lines.old.items lines.new.items (IsLine (live_directory versions.now.slots directory.now) entry.now.name)) }
+    ensures ok { OnOk result (IsAdded (λ l. l) lines.old.items lines.new.items
+        (IsLine (live_directory versions.now.slots directory.now) entry.now.name)) }
     ensures only { IfErr result (λ e. e ≡ NoMemory) }
 {
     let facts = named_facts(versions, directory, &entry.name)?;
@@ -63,9 +65,12 @@ fn directory_lines(
     versions: &Slab<LiveVersion>,
     directory: &LiveDirectory,
 ) -> Result<Vec<Entry>, CallError>
-    requires keyed { IsKeyed versions.now.slots (live_directory versions.now.slots directory.now) directory.now.keys.items }
+    requires keyed { IsKeyed versions.now.slots (live_directory versions.now.slots directory.now)
+        directory.now.keys.items }
     requires standing { AreStanding versions.now.slots }
-    ensures listed { IfOk result (λ lines. AllZip (λ e l. IsLine (live_directory versions.now.slots directory.now) e.0 l) (entries (from_entries {R = name_cmp} (map file_view directory.now.chain.entries))) lines.items) }
+    ensures listed { IfOk result (λ lines.
+        AllZip (λ e l. IsLine (live_directory versions.now.slots directory.now) e.0 l)
+        (entries (from_entries {R = name_cmp} (map file_view directory.now.chain.entries))) lines.items) }
     ensures only { IfErr result (λ e. e ≡ NoMemory) }
 {
     let Ok(sorted) = directory.chain.list_sorted(alloc) else {
@@ -87,9 +92,12 @@ impl<D: Disk> Volume<D> {
     /// `Refused(NoDirectory)` where there is no such directory, `NoMemory` where the list finds no room,
     /// `Failed` where the volume failed before.
     pub fn list(&self, alloc: Global, ppn: Ppn) -> Result<Vec<Entry>, CallError>
-        ensures listed { (D.state self.now.disk).honest → self.now.failed ≡ false → (files : Files File) → RestsAt (D.state self.now.disk) files
-            → IfOk result (λ lines. (d : Directory File) × (get files ppn ≡ Some d) × (lines.items ≡ map line (entries d.files))) }
-        ensures refused { (D.state self.now.disk).honest → self.now.failed ≡ false → (files : Files File) → RestsAt (D.state self.now.disk) files
+        ensures listed { (D.state self.now.disk).honest → self.now.failed ≡ false → (files : Files File)
+            → RestsAt (D.state self.now.disk) files
+            → IfOk result (λ lines. (d : Directory File) × (get files ppn ≡ Some d)
+            × (lines.items ≡ map line (entries d.files))) }
+        ensures refused { (D.state self.now.disk).honest → self.now.failed ≡ false → (files : Files File)
+            → RestsAt (D.state self.now.disk) files
             → (IsErrOf result (Refused NoDirectory) ↔ (get files ppn ≡ None)) }
         ensures failed { IsErrOf result Failed ↔ IsTrue self.now.failed }
         ensures only { IfErr result IsListRefusal }

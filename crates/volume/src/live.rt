@@ -1,4 +1,5 @@
-ghost use Rattle.std.specs.Prelude.{◌≡◌, ◌<◌, ◌≤◌, ◌+◌, ◌-◌, ◌^◌, ◌↔◌, ◌⊎◌, [], ℕ, None, Some, true, false, map, filter_map, length, IfOk, OnOk, IfSome, IsSome, IsTrue};
+ghost use Rattle.std.specs.Prelude.{◌≡◌, ◌<◌, ◌≤◌, ◌+◌, ◌-◌, ◌^◌, ◌↔◌, ◌⊎◌, [], ℕ, None, Some, true, false, map};
+ghost use Rattle.std.specs.Prelude.{filter_map, length, IfOk, OnOk, IfSome, IsSome, IsTrue};
 ghost use Rattle.std.specs.List.{AllByRecursion, AllZip};
 ghost use Rattle.meaning.specs.Costs.{cost_of_blocks};
 ghost use Rattle.meaning.specs.Maps.{times, total};
@@ -68,7 +69,14 @@ fn keep_version(
     versions: &mut Slab<LiveVersion>,
 ) -> Result<usize, NoMemory>
     ensures vacant { IfOk result (λ key. slot versions.old.slots key ≡ None) }
-    ensures kept { IfOk result (λ key. Updates versions.old versions.new key (Some (record { prime = version.prime; version = version.version; at = entry.now.prime; readers = 0; is_current = true }))) }
+    ensures kept { IfOk result (λ key. Updates versions.old versions.new key
+        (Some (record {
+          prime = version.prime;
+          version = version.version;
+          at = entry.now.prime;
+          readers = 0;
+          is_current = true;
+        }))) }
 {
     let StoredVersion { prime, version } = version;
     let live = LiveVersion {
@@ -94,11 +102,16 @@ fn keep_versions(
     requires aligned { length stored.items ≡ length entries.now }
     requires whole { AllByRecursion IsWholeVersion (map known_version stored.items) }
     requires read { (key : ℕ) → IfSome (slot versions.old.slots key) IsFirstRead }
-    ensures stay { OnOk result ((key : ℕ) (v : LiveVersion) → slot versions.old.slots key ≡ Some v → slot versions.new.slots key ≡ Some v) }
+    ensures stay { OnOk result ((key : ℕ) (v : LiveVersion) → slot versions.old.slots key ≡ Some v
+        → slot versions.new.slots key ≡ Some v) }
     ensures read { OnOk result ((key : ℕ) → IfSome (slot versions.new.slots key) IsFirstRead) }
-    ensures keyed { IfOk result (λ keys. AllZip (λ e key. IsCurrent versions.new.slots key e.1) (map file_view entries.now) keys.items) }
-    ensures known { IfOk result (λ keys. filter_map (known_at versions.new.slots) keys.items ≡ map known_version stored.items) }
-    ensures current { OnOk result ((n : ℕ) → total (current_reaches n) versions.new.slots ≡ total (current_reaches n) versions.old.slots + reaches_in_entries n (map file_view entries.now) (map known_version stored.items)) }
+    ensures keyed { IfOk result (λ keys. AllZip (λ e key. IsCurrent versions.new.slots key e.1)
+        (map file_view entries.now) keys.items) }
+    ensures known { IfOk result (λ keys. filter_map (known_at versions.new.slots) keys.items
+        ≡ map known_version stored.items) }
+    ensures current { OnOk result ((n : ℕ) → total (current_reaches n) versions.new.slots
+        ≡ total (current_reaches n) versions.old.slots + reaches_in_entries n (map file_view entries.now)
+        (map known_version stored.items)) }
 {
     let mut keys = Vec::new(alloc);
     for (entry, version) in entries.iter().zip(stored) {
@@ -119,11 +132,14 @@ fn keep_directory(
     requires aligned { length directory.versions.items ≡ length directory.chain.entries }
     requires whole { AllByRecursion IsWholeVersion (map known_version directory.versions.items) }
     requires read { (key : ℕ) → IfSome (slot versions.old.slots key) IsFirstRead }
-    ensures stay { OnOk result ((key : ℕ) (v : LiveVersion) → slot versions.old.slots key ≡ Some v → slot versions.new.slots key ≡ Some v) }
+    ensures stay { OnOk result ((key : ℕ) (v : LiveVersion) → slot versions.old.slots key ≡ Some v
+        → slot versions.new.slots key ≡ Some v) }
     ensures read { OnOk result ((key : ℕ) → IfSome (slot versions.new.slots key) IsFirstRead) }
     ensures keyed { IfOk result (λ live. IsKeyed versions.new.slots (known_directory directory) live.keys.items) }
     ensures known { IfOk result (λ live. live_directory versions.new.slots live ≡ known_directory directory) }
-    ensures current { OnOk result ((n : ℕ) → total (current_reaches n) versions.new.slots ≡ total (current_reaches n) versions.old.slots + reaches_in_entries n (map file_view directory.chain.entries) (map known_version directory.versions.items)) }
+    ensures current { OnOk result ((n : ℕ) → total (current_reaches n) versions.new.slots
+        ≡ total (current_reaches n) versions.old.slots + reaches_in_entries n (map file_view directory.chain.entries)
+        (map known_version directory.versions.items)) }
 {
     let StoredDirectory {
         chain,
@@ -141,10 +157,12 @@ fn keep_directory(
 pub fn keep(alloc: Global, map: DiskMap) -> Result<LiveMap, NoMemory>
     requires whole { (size : ℕ) × IsWholeMap size (known_of map) }
     ensures known { IfOk result (λ live. (core_of live).known ≡ known_of map) }
-    ensures keyed { IfOk result (λ live. AllZip (IsKeyed (core_of live).live) (core_of live).known.directories (core_of live).keys) }
+    ensures keyed { IfOk result (λ live. AllZip (IsKeyed (core_of live).live) (core_of live).known.directories
+        (core_of live).keys) }
     ensures read { IfOk result (λ live. AllByRecursion (λ o. IfSome o IsFirstRead) (core_of live).live) }
     ensures none { IfOk result (λ live. (core_of live).pending ≡ []) }
-    ensures current { IfOk result (λ live. (n : ℕ) → total (current_reaches n) (core_of live).live ≡ entry_reaches n (core_of live).known.directories) }
+    ensures current { IfOk result (λ live. (n : ℕ) → total (current_reaches n) (core_of live).live
+        ≡ entry_reaches n (core_of live).known.directories) }
 {
     let DiskMap {
         master,
@@ -171,7 +189,8 @@ pub fn keep(alloc: Global, map: DiskMap) -> Result<LiveMap, NoMemory>
 /// One reader more of the version under a key.
 fn add_reader(versions: &mut Slab<LiveVersion>, key: usize)
     requires few { IfSome (slot versions.old.slots key) (λ v. v.readers + 1 < 2 ^ 32) }
-    ensures counted { IfSome (slot versions.old.slots key) (λ v. slot versions.new.slots key ≡ Some (record v { readers = v.readers + 1 })) }
+    ensures counted { IfSome (slot versions.old.slots key) (λ v. slot versions.new.slots key
+        ≡ Some (record v { readers = v.readers + 1 })) }
     ensures others { (k : ℕ) → (k ≡ key → ⊥) → slot versions.new.slots k ≡ slot versions.old.slots k }
 {
     if let Some(version) = versions.get_mut(key) {
@@ -182,7 +201,8 @@ fn add_reader(versions: &mut Slab<LiveVersion>, key: usize)
 /// One reader less of the version under a key.
 fn remove_reader(versions: &mut Slab<LiveVersion>, key: usize)
     requires held { IfSome (slot versions.old.slots key) (λ v. 0 < v.readers) }
-    ensures counted { IfSome (slot versions.old.slots key) (λ v. slot versions.new.slots key ≡ Some (record v { readers = v.readers - 1 })) }
+    ensures counted { IfSome (slot versions.old.slots key) (λ v. slot versions.new.slots key
+        ≡ Some (record v { readers = v.readers - 1 })) }
     ensures others { (k : ℕ) → (k ≡ key → ⊥) → slot versions.new.slots k ≡ slot versions.old.slots k }
 {
     if let Some(version) = versions.get_mut(key) {
@@ -218,7 +238,8 @@ fn release_version(table: &mut Table, version: &LiveVersion)
     requires inside { (n : ℕ) → 0 < holds table.old n → n < table.old.size }
     requires few { length version.now.version.blocks ≤ most_blocks }
     requires booked { cost_of_blocks (length version.now.version.blocks) ≤ table.old.booked }
-    ensures held { (n : ℕ) → holds table.new n + times n (blocks_reached version.now.at version.now.version) ≡ holds table.old n }
+    ensures held { (n : ℕ) → holds table.new n + times n (blocks_reached version.now.at version.now.version)
+        ≡ holds table.old n }
     ensures booked { table.new.booked + cost_of_blocks (length version.now.version.blocks) ≡ table.old.booked }
     ensures rest { table.new ≡ record table.old { held = table.new.held; booked = table.new.booked } }
 {
@@ -233,7 +254,8 @@ pub fn pin_version(map: &mut LiveMap, key: usize)
     requires there { IsSome (slot (core_of map.old).live key) }
     requires few { IfSome (slot (core_of map.old).live key) (λ v. v.readers + 1 < 2 ^ 32) }
     ensures core { (core_of map.new) ≡ record (core_of map.old) { live = (core_of map.new).live } }
-    ensures pinned { (v : LiveVersion) → slot (core_of map.old).live key ≡ Some v → slot (core_of map.new).live key ≡ Some (record v { readers = v.readers + 1 }) }
+    ensures pinned { (v : LiveVersion) → slot (core_of map.old).live key ≡ Some v
+        → slot (core_of map.new).live key ≡ Some (record v { readers = v.readers + 1 }) }
     ensures others { (k : ℕ) → (k ≡ key → ⊥) → slot (core_of map.new).live k ≡ slot (core_of map.old).live k }
     ensures whole { (size : ℕ) → IsWholeCore size (core_of map.old) → IsWholeCore size (core_of map.new) }
 {
@@ -249,13 +271,21 @@ pub fn unpin_version(map: &mut LiveMap, key: usize)
     ensures known { (core_of map.new).known ≡ record (core_of map.old).known { table = (core_of map.new).known.table } }
     ensures keys { (core_of map.new).keys ≡ (core_of map.old).keys }
     ensures pending { (core_of map.new).pending ≡ (core_of map.old).pending }
-    ensures table { (core_of map.new).known.table ≡ record (core_of map.old).known.table { held = (core_of map.new).known.table.held; booked = (core_of map.new).known.table.booked } }
-    ensures stays { (v : LiveVersion) → slot (core_of map.old).live key ≡ Some v → (v.is_current ≡ true) ⊎ (1 < v.readers)
-        → (slot (core_of map.new).live key ≡ Some (record v { readers = v.readers - 1 })) × ((core_of map.new).known.table ≡ (core_of map.old).known.table) }
+    ensures table { (core_of map.new).known.table
+        ≡ record (core_of map.old).known.table {
+          held = (core_of map.new).known.table.held;
+          booked = (core_of map.new).known.table.booked;
+        } }
+    ensures stays { (v : LiveVersion) → slot (core_of map.old).live key ≡ Some v → (v.is_current ≡ true)
+        ⊎ (1 < v.readers)
+        → (slot (core_of map.new).live key ≡ Some (record v { readers = v.readers - 1 }))
+        × ((core_of map.new).known.table ≡ (core_of map.old).known.table) }
     ensures gone { (v : LiveVersion) → slot (core_of map.old).live key ≡ Some v → v.is_current ≡ false → v.readers ≡ 1
         → (slot (core_of map.new).live key ≡ None)
-        × ((n : ℕ) → holds (core_of map.new).known.table n + times n (blocks_reached v.at v.version) ≡ holds (core_of map.old).known.table n)
-        × ((core_of map.new).known.table.booked + cost_of_blocks (length v.version.blocks) ≡ (core_of map.old).known.table.booked) }
+        × ((n : ℕ) → holds (core_of map.new).known.table n + times n (blocks_reached v.at v.version)
+        ≡ holds (core_of map.old).known.table n)
+        × ((core_of map.new).known.table.booked + cost_of_blocks (length v.version.blocks)
+        ≡ (core_of map.old).known.table.booked) }
     ensures others { (k : ℕ) → (k ≡ key → ⊥) → slot (core_of map.new).live k ≡ slot (core_of map.old).live k }
     ensures whole { (size : ℕ) → IsWholeCore size (core_of map.old) → IsWholeCore size (core_of map.new) }
 {

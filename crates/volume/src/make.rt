@@ -1,4 +1,6 @@
-ghost use Rattle.std.specs.Prelude.{◌≡◌, ◌↔◌, ◌⊎◌, ◌+◌, ◌<◌, ◌≤◌, ◌++◌, ◌∷◌, [], ℕ, true, if◌then◌else◌, IsTrue, IsSome, IfSome, IfNone, IfOk, OnOk, OnErr, IsErrOf, None, Some, option_to_list, length, false};
+ghost use Rattle.std.specs.Prelude.{◌≡◌, ◌↔◌, ◌⊎◌, ◌+◌, ◌<◌, ◌≤◌, ◌++◌, ◌∷◌, [], ℕ, true, if◌then◌else◌, IsTrue};
+ghost use Rattle.std.specs.Prelude.{IsSome, IfSome, IfNone, IfOk, OnOk, OnErr, IsErrOf, None, Some, option_to_list};
+ghost use Rattle.std.specs.Prelude.{length, false};
 ghost use Rattle.std.specs.List.{AllByRecursion};
 ghost use Rattle.std.specs.Ordering.{nat_cmp};
 ghost use Rattle.std.specs.FinMap.Entries.{find};
@@ -16,7 +18,8 @@ ghost use Rattle.volume.specs.Beginning.{IsDirectoryOf};
 ghost use Rattle.volume.specs.Known.{KnownDirectory};
 ghost use Rattle.volume.specs.Live.{IsWholeCore};
 ghost use Rattle.volume.specs.LiveCores.{core_of};
-ghost use Rattle.volume.specs.Making.{put_in_use, Uses, TakesBlocks, PutsTable, growth, fresh_list, files_made, IsEntered, IsMade};
+ghost use Rattle.volume.specs.Making.{put_in_use, Uses, TakesBlocks, PutsTable, growth, fresh_list, files_made};
+ghost use Rattle.volume.specs.Making.{IsEntered, IsMade};
 ghost use Rattle.volume.specs.Places.{prime_at};
 ghost use Rattle.volume.specs.Rest.{RestsAt, StandsForEither, KeepsRead, KeepsEachWritten};
 ghost use Rattle.volume.specs.declared.error.CallError.TheVariants.{Refused, Device, Failed};
@@ -88,7 +91,8 @@ pub(crate) fn use_block(table: &mut Table, n: u32)
 /// Brings blocks that were taken into use, the first one last.
 fn bring(table: &mut Table, fresh: FreshBlocks)
     requires taken { (before : TableState) × IsTable before × Takes before (fresh_list fresh) table.old }
-    ensures { (before : TableState) → IsTable before → Takes before (fresh_list fresh) table.old → Uses before table.new (fresh_list fresh) }
+    ensures { (before : TableState) → IsTable before → Takes before (fresh_list fresh) table.old
+        → Uses before table.new (fresh_list fresh) }
 {
     if let Some(n) = fresh.master {
         use_block(table, n);
@@ -100,8 +104,10 @@ fn bring(table: &mut Table, fresh: FreshBlocks)
 fn use_blocks(table: &mut Table, fresh: FreshBlocks, set: &mut ChangeSet)
     requires taken { (before : TableState) × IsTable before × Takes before (fresh_list fresh) table.old }
     requires room { length set.old ≤ 2 }
-    ensures taken { (before : TableState) → IsTable before → Takes before (fresh_list fresh) table.old → TakesBlocks before table.new (fresh_list fresh) }
-    ensures put { (before : TableState) → IsTable before → Takes before (fresh_list fresh) table.old → PutsTable before.size before table.new set.old set.new }
+    ensures taken { (before : TableState) → IsTable before → Takes before (fresh_list fresh) table.old
+        → TakesBlocks before table.new (fresh_list fresh) }
+    ensures put { (before : TableState) → IsTable before → Takes before (fresh_list fresh) table.old
+        → PutsTable before.size before table.new set.old set.new }
 {
     bring(table, fresh);
     table.changes(set);
@@ -123,7 +129,8 @@ fn enter(
     requires count { length (option_to_list fresh) ≡ growth (core_of core.old).known.master }
     requires new { (n : ℕ) → fresh ≡ Some n → times n core.old.master.blocks ≡ 0 }
     requires empty { set.old ≡ [] }
-    ensures entered { OnOk result (IsEntered (core_of core.old).known (core_of core.new).known entry.ppn entry.protection entry.first (option_to_list fresh) set.new) }
+    ensures entered { OnOk result (IsEntered (core_of core.old).known
+        (core_of core.new).known entry.ppn entry.protection entry.first (option_to_list fresh) set.new) }
     ensures table { (core_of core.new).known.table ≡ (core_of core.old).known.table }
     ensures live { (core_of core.new).live ≡ (core_of core.old).live }
     ensures pending { (core_of core.new).pending ≡ (core_of core.old).pending }
@@ -157,13 +164,17 @@ fn make_in_core(
     requires whole { IsWholeCore core.old.table.size (core_of core.old) }
     requires protection { protection < 512 }
     requires empty { set.old ≡ [] }
-    ensures made { IfOk result (λ first. IsMade core.old.table.size (core_of core.old).known (core_of core.new).known ppn protection first set.new) }
+    ensures made { IfOk result (λ first. IsMade core.old.table.size (core_of core.old).known
+        (core_of core.new).known ppn protection first set.new) }
     ensures live { (core_of core.new).live ≡ (core_of core.old).live }
     ensures pending { (core_of core.new).pending ≡ (core_of core.old).pending }
     ensures keys { OnOk result ((core_of core.new).keys ≡ (core_of core.old).keys ++ [] ∷ []) }
     ensures same { OnErr result (core_of core.new ≡ core_of core.old) }
-    ensures exists { IsErrOf result (Refused NameExists) ↔ (find nat_cmp ppn (core_of core.old).known.master.entries ≡ None → ⊥) }
-    ensures room { find nat_cmp ppn (core_of core.old).known.master.entries ≡ None → (IsErrOf result (Refused NoRoom) ↔ (space core.old.table.size < core.old.table.booked + 1 + growth (core_of core.old).known.master)) }
+    ensures exists { IsErrOf result (Refused NameExists)
+        ↔ (find nat_cmp ppn (core_of core.old).known.master.entries ≡ None → ⊥) }
+    ensures room { find nat_cmp ppn (core_of core.old).known.master.entries ≡ None
+        → (IsErrOf result (Refused NoRoom)
+        ↔ (space core.old.table.size < core.old.table.booked + 1 + growth (core_of core.old).known.master)) }
     ensures codes { (code : ErrorCode) → IsErrOf result (Refused code) → (code ≡ NameExists) ⊎ (code ≡ NoRoom) }
     ensures plain { (IsErrOf result Device → ⊥) × (IsErrOf result Failed → ⊥) }
 {
@@ -210,8 +221,9 @@ impl<D: Disk> Volume<D> {
     ///
     /// # Errors
     ///
-    /// `Failed` where the volume failed before. `Refused` with `NameExists` where there is a directory of this project-programmer number, and
-    /// with `NoRoom` where a block, and one more where the master directory has to grow, exceed the room;
+    /// `Failed` where the volume failed before. `Refused` with `NameExists` where there is a directory of this
+    /// project-programmer number, and with `NoRoom` where a block, and one more where the master directory has to grow,
+    /// exceed the room;
     /// `NoMemory` where core can't grow. All is as before then. `Device` where the device failed, and the
     /// volume with it: a later start finds the directory, or all as before.
     pub fn make_dir(&mut self, alloc: Global, ppn: Ppn, protection: u16) -> Result<(), CallError>
@@ -220,33 +232,47 @@ impl<D: Disk> Volume<D> {
         // Let all that a crash may leave stand for f. Then a crash at any moment leaves what stands for f, or for
         // f with the directory.
         ensures crash { (D.state self.new.disk).honest → (f : Files File) → RestsAt (D.state self.old.disk) f
-            → LeavesOnly (D.state self.old.disk) (D.state self.new.disk) (StandsForEither (D.state self.old.disk).size f (files_made f ppn protection)) }
+            → LeavesOnly (D.state self.old.disk) (D.state self.new.disk)
+            (StandsForEither (D.state self.old.disk).size f (files_made f ppn protection)) }
         // At Ok all that a crash may leave stands for f with the directory.
-        ensures done { (D.state self.new.disk).honest → (f : Files File) → RestsAt (D.state self.old.disk) f → OnOk result (RestsAt (D.state self.new.disk) (files_made f ppn protection)) }
+        ensures done { (D.state self.new.disk).honest → (f : Files File) → RestsAt (D.state self.old.disk) f
+            → OnOk result (RestsAt (D.state self.new.disk) (files_made f ppn protection)) }
         // The versions in use stay, and no block in use changes, but those of the master directory; where the device
         // failed, no closed one does.
         ensures live { self.new.core.live ≡ self.old.core.live }
         ensures pending { self.new.core.pending ≡ self.old.core.pending }
-        ensures kept { (D.state self.new.disk).honest → (n : ℕ) → space_start (D.state self.old.disk).size ≤ n → times n self.old.core.known.master.blocks ≡ 0 → (IsFree self.old.core.known.table n → ⊥)
-            → (IsErrOf result Device → (D.state self.old.disk).is_open n ≡ false) → (D.state self.new.disk).contents n ≡ (D.state self.old.disk).contents n }
-        ensures readers { (D.state self.new.disk).honest → (IsErrOf result Device → ⊥) → KeepsRead (D.state self.old.disk).contents (D.state self.new.disk).contents self.old.core }
-        ensures writers { (D.state self.new.disk).honest → (IsErrOf result Device → ⊥) → KeepsEachWritten (D.state self.old.disk).contents (D.state self.new.disk).contents self.old.core }
+        ensures kept { (D.state self.new.disk).honest → (n : ℕ) → space_start (D.state self.old.disk).size ≤ n
+            → times n self.old.core.known.master.blocks ≡ 0 → (IsFree self.old.core.known.table n → ⊥)
+            → (IsErrOf result Device → (D.state self.old.disk).is_open n ≡ false)
+            → (D.state self.new.disk).contents n ≡ (D.state self.old.disk).contents n }
+        ensures readers { (D.state self.new.disk).honest → (IsErrOf result Device → ⊥)
+            → KeepsRead (D.state self.old.disk).contents (D.state self.new.disk).contents self.old.core }
+        ensures writers { (D.state self.new.disk).honest → (IsErrOf result Device → ⊥)
+            → KeepsEachWritten (D.state self.old.disk).contents (D.state self.new.disk).contents self.old.core }
         // So does each directory in its place.
-        ensures directories { (owner : ℕ) (d : KnownDirectory) → IsDirectoryOf self.old.core owner d → IsDirectoryOf self.new.core owner d }
+        ensures directories { (owner : ℕ) (d : KnownDirectory) → IsDirectoryOf self.old.core owner d
+            → IsDirectoryOf self.new.core owner d }
         // And each of its files has its prime block.
-        ensures primes { (owner : ℕ) (name : FileName) (n : ℕ) → prime_at self.old.core owner name ≡ Some n → prime_at self.new.core owner name ≡ Some n }
+        ensures primes { (owner : ℕ) (name : FileName) (n : ℕ) → prime_at self.old.core owner name ≡ Some n
+            → prime_at self.new.core owner name ≡ Some n }
 
         // Which error comes when, and what it leaves.
-        ensures refused { (IsErrOf result Device → ⊥) → OnErr result ((self.new.disk ≡ self.old.disk) × (self.new.core ≡ self.old.core)) }
+        ensures refused { (IsErrOf result Device → ⊥)
+            → OnErr result ((self.new.disk ≡ self.old.disk) × (self.new.core ≡ self.old.core)) }
         ensures failed { self.old.failed ≡ true → IsErrOf result Failed }
         ensures given_up { IsErrOf result Failed → self.old.failed ≡ true }
-        ensures exists { self.old.failed ≡ false → (IsErrOf result (Refused NameExists) ↔ (find nat_cmp ppn self.old.core.known.master.entries ≡ None → ⊥)) }
+        ensures exists { self.old.failed ≡ false
+            → (IsErrOf result (Refused NameExists) ↔ (find nat_cmp ppn self.old.core.known.master.entries ≡ None → ⊥)) }
         ensures room { self.old.failed ≡ false → find nat_cmp ppn self.old.core.known.master.entries ≡ None
-            → (IsErrOf result (Refused NoRoom) ↔ (space (D.state self.old.disk).size < self.old.core.known.table.booked + 1 + growth self.old.core.known.master)) }
+            → (IsErrOf result (Refused NoRoom)
+            ↔ (space (D.state self.old.disk).size < self.old.core.known.table.booked + 1
+            + growth self.old.core.known.master)) }
         ensures codes { (code : ErrorCode) → IsErrOf result (Refused code) → (code ≡ NameExists) ⊎ (code ≡ NoRoom) }
         ensures device { IsErrOf result Device → self.new.failed ≡ true }
-        ensures counted { IsErrOf result Device → (D.state self.new.disk).failures ≡ one_more (D.state self.old.disk).failures }
-        ensures served { (IsErrOf result Device → ⊥) → (D.state self.new.disk).failures ≡ (D.state self.old.disk).failures }
+        ensures counted { IsErrOf result Device → (D.state self.new.disk).failures
+            ≡ one_more (D.state self.old.disk).failures }
+        ensures served { (IsErrOf result Device → ⊥) → (D.state self.new.disk).failures
+            ≡ (D.state self.old.disk).failures }
         ensures still { (IsErrOf result Device → ⊥) → self.new.failed ≡ self.old.failed }
         ensures same { SameDisk (D.state self.old.disk) (D.state self.new.disk) }
     {

@@ -35,8 +35,10 @@ pub fn mark_version(reached: &mut Reached, prime: u32, version: &Version) -> Res
     requires prime { prime < length reached.old }
     requires ribs { AllByRecursion (λ n. n < length reached.old) version.now.ribs }
     requires blocks { AllByRecursion (λ n. n < length reached.old) version.now.blocks }
-    ensures ok { OnOk result ((n : ℕ) → digit_at reached.new n ≡ digit_at reached.old n + times n (prime ∷ (version.now.ribs ++ version.now.blocks))) }
-    ensures twice { (n : ℕ) → IsErrOf result n → 2 ≤ digit_at reached.old n + times n (prime ∷ (version.now.ribs ++ version.now.blocks)) }
+    ensures ok { OnOk result ((n : ℕ) → digit_at reached.new n
+        ≡ digit_at reached.old n + times n (prime ∷ (version.now.ribs ++ version.now.blocks))) }
+    ensures twice { (n : ℕ) → IsErrOf result n
+        → 2 ≤ digit_at reached.old n + times n (prime ∷ (version.now.ribs ++ version.now.blocks)) }
     ensures among { (n : ℕ) → IsErrOf result n → 0 < times n (prime ∷ (version.now.ribs ++ version.now.blocks)) }
     ensures length { length reached.new ≡ length reached.old }
 {

@@ -39,19 +39,29 @@ fn load_master<D: Disk>(
     first: u32,
     reached: &mut Reached,
 ) -> Result<Chain<MasterEntry>, VolumeError>
+    // What the caller sees to.
     requires volume { IsVolumeSize (D.state disk.old).size }
     requires inside { InSpace (D.state disk.old).size first }
     requires marks { length reached.old ≡ (D.state disk.old).size }
     requires fresh { (n : ℕ) → digit_at reached.old n ≡ 0 }
-    ensures on { (D.state disk.new).honest → IfOk result (λ chain. IsOn master_words (D.state disk.old).contents (viewed master_view chain)) }
-    ensures walk { (D.state disk.new).honest → IfOk result (λ chain. Leads master_words (D.state disk.old).contents first (nodes_of chain.blocks (map master_view chain.entries)) 0) }
+    // The chain that was read, as the disk spells it, with its blocks marked.
+    ensures on { (D.state disk.new).honest
+        → IfOk result (λ chain. IsOn master_words (D.state disk.old).contents (viewed master_view chain)) }
+    ensures walk { (D.state disk.new).honest
+        → IfOk result (λ chain. Leads master_words (D.state disk.old).contents first
+        (nodes_of chain.blocks (map master_view chain.entries)) 0) }
     ensures begins { IfOk result (λ chain. head_or_zero chain.blocks ≡ first) }
     ensures chain { IfOk result (λ chain. IsChain nat_cmp (IsMasterEntryOf 1) (viewed master_view chain)) }
     ensures inside { IfOk result (λ chain. AllByRecursion (InSpace (D.state disk.old).size) chain.blocks) }
-    ensures targets { IfOk result (λ chain. AllByRecursion (λ e. InSpace (D.state disk.old).size e.1.1) (map master_view chain.entries)) }
+    ensures targets { IfOk result (λ chain. AllByRecursion (λ e. InSpace (D.state disk.old).size e.1.1)
+        (map master_view chain.entries)) }
     ensures marked { IfOk result (λ chain. (n : ℕ) → digit_at reached.new n ≡ times n chain.blocks) }
-    ensures fault { (D.state disk.new).honest → IsHome (D.state disk.old).size (D.state disk.old).contents (home_of_master first) → IfErr result (SettledRefuses (D.state disk.old).size (D.state disk.old).contents) }
+    // Which refusal comes when.
+    ensures fault { (D.state disk.new).honest
+        → IsHome (D.state disk.old).size (D.state disk.old).contents (home_of_master first)
+        → IfErr result (SettledRefuses (D.state disk.old).size (D.state disk.old).contents) }
     ensures named { IfErr result (NamesInSpace (D.state disk.old).size) }
+    // The device: what failed, and how often.
     ensures length { length reached.new ≡ length reached.old }
     ensures reads { (D.state disk.new).honest → OnlyReads (D.state disk.old) (D.state disk.new) }
     ensures same { SameDisk (D.state disk.old) (D.state disk.new) }
@@ -74,21 +84,31 @@ fn read_tree<D: Disk>(
     first: u32,
     reached: &mut Reached,
 ) -> Result<(Chain<MasterEntry>, Vec<StoredDirectory>), VolumeError>
+    // What the caller sees to.
     requires volume { IsVolumeSize (D.state disk.old).size }
     requires inside { InSpace (D.state disk.old).size first }
     requires marks { length reached.old ≡ (D.state disk.old).size }
     requires fresh { (n : ℕ) → digit_at reached.old n ≡ 0 }
-    ensures read { (D.state disk.new).honest → IsHome (D.state disk.old).size (D.state disk.old).contents (home_of_master first)
-        → IfOk result (λ tree. IsMapRead (D.state disk.old).size (D.state disk.old).contents first (viewed master_view tree.0) (map known_directory tree.1.items) (digit_at reached.new)) }
-    ensures fault { (D.state disk.new).honest → IsHome (D.state disk.old).size (D.state disk.old).contents (home_of_master first) → IfErr result (SettledRefuses (D.state disk.old).size (D.state disk.old).contents) }
+    // What was read, or met where it is refused.
+    ensures read { (D.state disk.new).honest
+        → IsHome (D.state disk.old).size (D.state disk.old).contents (home_of_master first)
+        → IfOk result (λ tree. IsMapRead (D.state disk.old).size (D.state disk.old).contents first
+        (viewed master_view tree.0) (map known_directory tree.1.items) (digit_at reached.new)) }
+    ensures fault { (D.state disk.new).honest
+        → IsHome (D.state disk.old).size (D.state disk.old).contents (home_of_master first)
+        → IfErr result (SettledRefuses (D.state disk.old).size (D.state disk.old).contents) }
     ensures named { IfErr result (NamesInSpace (D.state disk.old).size) }
-    ensures marked { IfOk result (λ tree. (n : ℕ) → digit_at reached.new n ≡ known_reaches n (viewed master_view tree.0) (map known_directory tree.1.items)) }
+    // It is as a map has to be, with its blocks marked.
+    ensures marked { IfOk result (λ tree. (n : ℕ)
+        → digit_at reached.new n ≡ known_reaches n (viewed master_view tree.0) (map known_directory tree.1.items)) }
     ensures space { IfOk result (λ tree. IsOnlySpace (D.state disk.old).size reached.new) }
     ensures chain { IfOk result (λ tree. IsChain nat_cmp (IsMasterEntryOf 1) (viewed master_view tree.0)) }
     ensures inside { IfOk result (λ tree. AllByRecursion (InSpace (D.state disk.old).size) tree.0.blocks) }
-    ensures whole { IfOk result (λ tree. AllByRecursion (IsWholeDirectory (D.state disk.old).size) (map known_directory tree.1.items)) }
+    ensures whole { IfOk result (λ tree. AllByRecursion (IsWholeDirectory (D.state disk.old).size)
+        (map known_directory tree.1.items)) }
     ensures aligned { IfOk result (λ tree. length tree.1.items ≡ length tree.0.entries) }
     ensures length { length reached.new ≡ length reached.old }
+    // The device: what failed, and how often.
     ensures reads { (D.state disk.new).honest → OnlyReads (D.state disk.old) (D.state disk.new) }
     ensures same { SameDisk (D.state disk.old) (D.state disk.new) }
     ensures failed { IsErrOf result Device → (D.state disk.new).failures ≡ one_more (D.state disk.old).failures }
@@ -101,16 +121,22 @@ fn read_tree<D: Disk>(
 
 /// Reads the allocation table of a disk of which these blocks are reached.
 fn load_table<D: Disk>(alloc: Global, disk: &mut D, reached: &Reached) -> Result<Table, VolumeError>
+    // What the caller sees to.
     requires volume { IsVolumeSize (D.state disk.old).size }
     requires marks { length reached.now ≡ (D.state disk.old).size }
-    ensures right { (D.state disk.new).honest → IfOk result (IsRightFor (D.state disk.old).size (D.state disk.old).contents reached.now) }
-    ensures wrong { (D.state disk.new).honest → (n : ℕ) → IsErrOf result (TableWrong n) → IsWrongFor (D.state disk.old).size (D.state disk.old).contents reached.now n }
+    // The table is right, or the refusal names a block that is not.
+    ensures right { (D.state disk.new).honest
+        → IfOk result (IsRightFor (D.state disk.old).size (D.state disk.old).contents reached.now) }
+    ensures wrong { (D.state disk.new).honest → (n : ℕ) → IsErrOf result (TableWrong n)
+        → IsWrongFor (D.state disk.old).size (D.state disk.old).contents reached.now n }
     ensures wanted { IfOk result (λ table. (n : ℕ) → bit table n ≡ wanted_bit (D.state disk.old).size reached.now n) }
     ensures only { IfErr result IsTableRefusal }
+    // It is as a table is at first.
     ensures size { IfOk result (λ table. table.size ≡ (D.state disk.old).size) }
     ensures unheld { IfOk result (λ table. table.held ≡ replicate (D.state disk.old).size 0) }
     ensures unbooked { IfOk result (λ table. table.booked ≡ 0) }
     ensures unchanged { IfOk result (λ table. table.changed ≡ replicate (table_blocks (D.state disk.old).size) false) }
+    // The device: what failed, and how often.
     ensures reads { (D.state disk.new).honest → OnlyReads (D.state disk.old) (D.state disk.new) }
     ensures same { SameDisk (D.state disk.old) (D.state disk.new) }
     ensures failed { IsErrOf result Device → (D.state disk.new).failures ≡ one_more (D.state disk.old).failures }
@@ -130,8 +156,11 @@ fn load_table<D: Disk>(alloc: Global, disk: &mut D, reached: &Reached) -> Result
 
 /// Reads all that a disk reaches from its home blocks, each block once, and its allocation table.
 pub fn read_map<D: Disk>(alloc: Global, disk: &mut D) -> Result<DiskMap, VolumeError>
-    ensures held { (D.state disk.new).honest → IfOk result (λ read. (m : MapValue) × IsHeld (D.state disk.old).size (known_of read) m (D.state disk.old).contents) }
-    ensures fault { (D.state disk.new).honest → IfErr result (SettledRefuses (D.state disk.old).size (D.state disk.old).contents) }
+    ensures held { (D.state disk.new).honest
+        → IfOk result (λ read. (m : MapValue)
+        × IsHeld (D.state disk.old).size (known_of read) m (D.state disk.old).contents) }
+    ensures fault { (D.state disk.new).honest
+        → IfErr result (SettledRefuses (D.state disk.old).size (D.state disk.old).contents) }
     ensures named { IfErr result (NamesInSpace (D.state disk.old).size) }
     ensures whole { IfOk result (λ read. IsWholeMap (D.state disk.old).size (known_of read)) }
     ensures booked { IfOk result (λ read. IsBooked (D.state disk.old).size (known_of read)) }

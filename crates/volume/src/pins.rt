@@ -1,4 +1,5 @@
-ghost use Rattle.std.specs.Prelude.{◌≡◌, ◌↔◌, ◌⊎◌, ◌+◌, ◌-◌, ◌<◌, ◌^◌, ℕ, true, false, None, Some, IfOk, IfErr, IsErr, IsErrOf, IsSome, IfSome, IsTrue, length};
+ghost use Rattle.std.specs.Prelude.{◌≡◌, ◌↔◌, ◌⊎◌, ◌+◌, ◌-◌, ◌<◌, ◌^◌, ℕ, true, false, None, Some, IfOk, IfErr, IsErr};
+ghost use Rattle.std.specs.Prelude.{IsErrOf, IsSome, IfSome, IsTrue, length};
 ghost use Rattle.meaning.specs.declared.code.ErrorCode.TheVariants.{NoDirectory, NotFound};
 ghost use Rattle.meaning.specs.Files.{File, Files};
 ghost use Rattle.meaning.specs.Maps.{get, times};
@@ -44,8 +45,10 @@ fn find_version(map: &LiveMap, ppn: Ppn, name: &FileName) -> Result<usize, CallE
 
 /// Whether each of these versions may have one reader more than it has.
 fn have_few_readers(versions: &Slab<LiveVersion>) -> bool
-    ensures few { IsTrue result → (key : ℕ) (v : LiveVersion) → slot versions.now.slots key ≡ Some v → v.readers + 1 < 2 ^ 32 }
-    ensures many { result ≡ false → ((key : ℕ) (v : LiveVersion) → slot versions.now.slots key ≡ Some v → v.readers + 1 < 2 ^ 32) → ⊥ }
+    ensures few { IsTrue result → (key : ℕ) (v : LiveVersion) → slot versions.now.slots key ≡ Some v
+        → v.readers + 1 < 2 ^ 32 }
+    ensures many { result ≡ false → ((key : ℕ) (v : LiveVersion) → slot versions.now.slots key ≡ Some v
+        → v.readers + 1 < 2 ^ 32) → ⊥ }
 {
     for (_, version) in versions.iter() {
         if version.readers == u32::MAX {
@@ -59,8 +62,10 @@ impl<D: Disk> Volume<D> {
     /// Whether a version may be pinned: each may have one reader more than it has. It is so until one version has
     /// as many readers as a number of 32 bits counts.
     pub fn can_pin(&self) -> bool
-        ensures few { IsTrue result → (key : ℕ) (v : LiveVersion) → slot self.now.core.live key ≡ Some v → v.readers + 1 < 2 ^ 32 }
-        ensures many { result ≡ false → ((key : ℕ) (v : LiveVersion) → slot self.now.core.live key ≡ Some v → v.readers + 1 < 2 ^ 32) → ⊥ }
+        ensures few { IsTrue result → (key : ℕ) (v : LiveVersion) → slot self.now.core.live key ≡ Some v
+            → v.readers + 1 < 2 ^ 32 }
+        ensures many { result ≡ false → ((key : ℕ) (v : LiveVersion) → slot self.now.core.live key ≡ Some v
+            → v.readers + 1 < 2 ^ 32) → ⊥ }
     {
         have_few_readers(&self.map.versions)
     }
@@ -74,14 +79,18 @@ impl<D: Disk> Volume<D> {
     /// `Failed` where the volume failed before.
     pub fn pin(&mut self, ppn: Ppn, name: &FileName) -> Result<Pin, CallError>
         requires few { (key : ℕ) (v : LiveVersion) → slot self.old.core.live key ≡ Some v → v.readers + 1 < 2 ^ 32 }
-        ensures value { (D.state self.new.disk).honest → self.old.failed ≡ false → (files : Files File) → RestsAt (D.state self.old.disk) files
+        ensures value { (D.state self.new.disk).honest → self.old.failed ≡ false → (files : Files File)
+            → RestsAt (D.state self.old.disk) files
             → IsPinAnswer (D.state self.old.disk).contents self.new.core.live name.now result (get files ppn) }
 
         // It is the version that core has for the place.
-        ensures at { IfOk result (λ pin. (v : LiveVersion) × (slot self.old.core.live pin.key ≡ Some v) × (v.is_current ≡ true) × (prime_at self.old.core ppn name.now ≡ Some v.at)) }
+        ensures at { IfOk result (λ pin. (v : LiveVersion) × (slot self.old.core.live pin.key ≡ Some v)
+            × (v.is_current ≡ true) × (prime_at self.old.core ppn name.now ≡ Some v.at)) }
         // One reader more of this version, and nothing else.
-        ensures pinned { IfOk result (λ pin. (v : LiveVersion) × (slot self.old.core.live pin.key ≡ Some v) × (slot self.new.core.live pin.key ≡ Some (record v { readers = v.readers + 1 }))) }
-        ensures others { IfOk result (λ pin. (k : ℕ) → (k ≡ pin.key → ⊥) → slot self.new.core.live k ≡ slot self.old.core.live k) }
+        ensures pinned { IfOk result (λ pin. (v : LiveVersion) × (slot self.old.core.live pin.key ≡ Some v)
+            × (slot self.new.core.live pin.key ≡ Some (record v { readers = v.readers + 1 }))) }
+        ensures others { IfOk result (λ pin. (k : ℕ) → (k ≡ pin.key → ⊥)
+            → slot self.new.core.live k ≡ slot self.old.core.live k) }
         ensures core { self.new.core ≡ record self.old.core { live = self.new.core.live } }
         ensures same { IsErr result → self.new.core ≡ self.old.core }
         ensures untouched { (self.new.disk ≡ self.old.disk) × (self.new.failed ≡ self.old.failed) }
@@ -100,12 +109,17 @@ impl<D: Disk> Volume<D> {
     /// free then, and its booking is taken back. It takes no memory and touches no disk.
     pub fn unpin(&mut self, pin: Pin)
         requires live { (v : LiveVersion) × (slot self.old.core.live pin.key ≡ Some v) × (0 < v.readers) }
-        ensures stays { (v : LiveVersion) → slot self.old.core.live pin.key ≡ Some v → (v.is_current ≡ true) ⊎ (1 < v.readers)
-            → (slot self.new.core.live pin.key ≡ Some (record v { readers = v.readers - 1 })) × (self.new.core.known.table ≡ self.old.core.known.table) }
-        ensures gone { (v : LiveVersion) → slot self.old.core.live pin.key ≡ Some v → v.is_current ≡ false → v.readers ≡ 1
+        ensures stays { (v : LiveVersion) → slot self.old.core.live pin.key ≡ Some v → (v.is_current ≡ true)
+            ⊎ (1 < v.readers)
+            → (slot self.new.core.live pin.key ≡ Some (record v { readers = v.readers - 1 }))
+            × (self.new.core.known.table ≡ self.old.core.known.table) }
+        ensures gone { (v : LiveVersion) → slot self.old.core.live pin.key ≡ Some v → v.is_current ≡ false
+            → v.readers ≡ 1
             → (slot self.new.core.live pin.key ≡ None)
-            × ((n : ℕ) → holds self.new.core.known.table n + times n (blocks_reached v.at v.version) ≡ holds self.old.core.known.table n)
-            × (self.new.core.known.table.booked + cost_of_blocks (length v.version.blocks) ≡ self.old.core.known.table.booked) }
+            × ((n : ℕ) → holds self.new.core.known.table n + times n (blocks_reached v.at v.version)
+            ≡ holds self.old.core.known.table n)
+            × (self.new.core.known.table.booked + cost_of_blocks (length v.version.blocks)
+            ≡ self.old.core.known.table.booked) }
         ensures others { (k : ℕ) → (k ≡ pin.key → ⊥) → slot self.new.core.live k ≡ slot self.old.core.live k }
         ensures pending { self.new.core.pending ≡ self.old.core.pending }
         ensures keys { self.new.core.keys ≡ self.old.core.keys }

@@ -1,4 +1,5 @@
-ghost use Rattle.std.specs.Prelude.{◌≡◌, ◌⊎◌, ◌↔◌, ◌+◌, ◌-◌, ◌*◌, ◌<◌, ◌≤◌, ℕ, Bool, List, false, true, length, OnOk, OnErr, IfOk, IfErr, IsErrOf, IsSome, Some, None};
+ghost use Rattle.std.specs.Prelude.{◌≡◌, ◌⊎◌, ◌↔◌, ◌+◌, ◌-◌, ◌*◌, ◌<◌, ◌≤◌, ℕ, Bool, List, false, true, length, OnOk};
+ghost use Rattle.std.specs.Prelude.{OnErr, IfOk, IfErr, IsErrOf, IsSome, Some, None};
 ghost use Rattle.blockdisk.specs.Disk.{LeavesOnly, SameDisk, one_more};
 ghost use Rattle.meaning.specs.declared.code.ErrorCode.{ErrorCode};
 ghost use Rattle.meaning.specs.declared.code.ErrorCode.TheVariants.{NoRoom};
@@ -16,7 +17,8 @@ ghost use Rattle.slab.specs.Slab.{HasRoomFor};
 ghost use Rattle.volume.specs.Cores.{file_view};
 ghost use Rattle.volume.specs.Live.{VolumeCore, slot, pending_at, IsWholeCore};
 ghost use Rattle.volume.specs.LiveCores.{core_of};
-ghost use Rattle.volume.specs.Publishing.{MakesCurrent, IsPlaced, IsPublishedCore, IsSupplied, file_of, files_published};
+ghost use Rattle.volume.specs.Publishing.{MakesCurrent, IsPlaced, IsPublishedCore, IsSupplied, file_of};
+ghost use Rattle.volume.specs.Publishing.{files_published};
 ghost use Rattle.volume.specs.Rest.{IsSound, RestsAt, StandsForEither, KeepsRead, KeepsWritten};
 ghost use Rattle.volume.specs.declared.error.CallError.TheVariants.{Refused, Device, Failed, NoMemory};
 ghost use Rattle.volume.specs.declared.live.LiveVersion.{LiveVersion};
@@ -46,10 +48,13 @@ fn last_blocks(map: &LiveMap, key: usize, block: u32, count: usize) -> Result<us
     requires whole { IsWholeCore map.now.table.size (core_of map.now) }
     requires there { IsSome (pending_at (core_of map.now).pending key) }
     requires first { 0 < block }
-    ensures blocks { IfOk result (λ blocks. (p : PendingVersion) → pending_at (core_of map.now).pending key ≡ Some p → blocks ≡ blocks_of (length_after p.version.words block count)) }
+    ensures blocks { IfOk result (λ blocks. (p : PendingVersion) → pending_at (core_of map.now).pending key ≡ Some p
+        → blocks ≡ blocks_of (length_after p.version.words block count)) }
     ensures room { (p : PendingVersion) → pending_at (core_of map.now).pending key ≡ Some p
-        → (IsErrOf result (Refused NoRoom) ↔ ((0 < count) × ((most_blocks * 128 < length_after p.version.words block count)
-        ⊎ (space map.now.table.size < map.now.table.booked + (version_cost (length_after p.version.words block count) - version_cost p.version.words))))) }
+        → (IsErrOf result (Refused NoRoom)
+        ↔ ((0 < count) × ((most_blocks * 128 < length_after p.version.words block count)
+        ⊎ (space map.now.table.size < map.now.table.booked
+        + (version_cost (length_after p.version.words block count) - version_cost p.version.words))))) }
     ensures only { IfErr result (λ error. error ≡ Refused NoRoom) }
 {
     let Some(pending) = map.pending.get(key) else {
@@ -82,29 +87,41 @@ fn publish_written<D: Disk>(
     key: usize,
     supplies: Supplies,
 ) -> Result<(), CallError>
+    // What the caller sees to.
     requires sound { IsSound (D.state disk.old) (core_of map.old) false }
     requires alive { failed.old ≡ false }
     requires there { IsSome (pending_at (core_of map.old).pending key) }
-    requires placed { (p : PendingVersion) → pending_at (core_of map.old).pending key ≡ Some p → IsPlaced (core_of map.old) p }
-    requires ribs { (p : PendingVersion) → pending_at (core_of map.old).pending key ≡ Some p → length supplies.ribs.items ≡ rib_count (length p.version.blocks) }
-    requires supplied { (p : PendingVersion) → pending_at (core_of map.old).pending key ≡ Some p → IsSupplied (core_of map.old) p (viewed file_view supplies.room) supplies.keys.items }
+    requires placed { (p : PendingVersion) → pending_at (core_of map.old).pending key ≡ Some p
+        → IsPlaced (core_of map.old) p }
+    requires ribs { (p : PendingVersion) → pending_at (core_of map.old).pending key ≡ Some p
+        → length supplies.ribs.items ≡ rib_count (length p.version.blocks) }
+    requires supplied { (p : PendingVersion) → pending_at (core_of map.old).pending key ≡ Some p
+        → IsSupplied (core_of map.old) p (viewed file_view supplies.room) supplies.keys.items }
     requires slot { HasRoomFor map.old.versions 1 }
 
+    // What it does to core and disk.
     ensures sound { IsSound (D.state disk.new) (core_of map.new) failed.new }
     ensures made_current { (p : PendingVersion) → pending_at (core_of map.old).pending key ≡ Some p
-        → (at : ℕ) × (ribs : List ℕ) × (puts : List Put) × MakesCurrent (D.state disk.old).size (core_of map.old) (core_of map.new) key p at ribs puts }
-    ensures crash { (D.state disk.new).honest → (f : Files File) → RestsAt (D.state disk.old) f → (p : PendingVersion) → pending_at (core_of map.old).pending key ≡ Some p
+        → (at : ℕ) × (ribs : List ℕ) × (puts : List Put)
+        × MakesCurrent (D.state disk.old).size (core_of map.old) (core_of map.new) key p at ribs puts }
+    ensures crash { (D.state disk.new).honest → (f : Files File) → RestsAt (D.state disk.old) f → (p : PendingVersion)
+        → pending_at (core_of map.old).pending key ≡ Some p
         → (body : List ℕ) → length body ≡ p.version.words → HasBody (D.state disk.old).contents p.version.blocks body
-        → LeavesOnly (D.state disk.old) (D.state disk.new) (StandsForEither (D.state disk.old).size f (files_published f p.prime.ppn p.prime.file (file_of p.prime body))) }
-    ensures done { (D.state disk.new).honest → (f : Files File) → RestsAt (D.state disk.old) f → (p : PendingVersion) → pending_at (core_of map.old).pending key ≡ Some p
+        → LeavesOnly (D.state disk.old) (D.state disk.new) (StandsForEither (D.state disk.old).size f
+        (files_published f p.prime.ppn p.prime.file (file_of p.prime body))) }
+    ensures done { (D.state disk.new).honest → (f : Files File) → RestsAt (D.state disk.old) f → (p : PendingVersion)
+        → pending_at (core_of map.old).pending key ≡ Some p
         → (body : List ℕ) → length body ≡ p.version.words → HasBody (D.state disk.old).contents p.version.blocks body
         → OnOk result (RestsAt (D.state disk.new) (files_published f p.prime.ppn p.prime.file (file_of p.prime body))) }
     // The blocks of other versions stay. Where the device failed, they may have been open and be anything.
-    ensures readers { (D.state disk.new).honest → (IsErrOf result Device → ⊥) → (k : ℕ) (v : LiveVersion) → slot (core_of map.old).live k ≡ Some v → 0 < v.readers
+    ensures readers { (D.state disk.new).honest → (IsErrOf result Device → ⊥) → (k : ℕ) (v : LiveVersion)
+        → slot (core_of map.old).live k ≡ Some v → 0 < v.readers
         → (n : ℕ) → 0 < times n v.version.blocks → (D.state disk.new).contents n ≡ (D.state disk.old).contents n }
-    ensures writers { (D.state disk.new).honest → (IsErrOf result Device → ⊥) → (k : ℕ) (q : PendingVersion) → (k ≡ key → ⊥) → pending_at (core_of map.old).pending k ≡ Some q
+    ensures writers { (D.state disk.new).honest → (IsErrOf result Device → ⊥) → (k : ℕ) (q : PendingVersion)
+        → (k ≡ key → ⊥) → pending_at (core_of map.old).pending k ≡ Some q
         → (n : ℕ) → 0 < times n q.version.blocks → (D.state disk.new).contents n ≡ (D.state disk.old).contents n }
 
+    // Which refusal comes when, and what it leaves.
     ensures only { IfErr result (λ error. error ≡ Device) }
     ensures device { IsErrOf result Device → failed.new ≡ true }
     ensures still { OnOk result (failed.new ≡ false) }
@@ -153,42 +170,63 @@ impl<D: Disk> Volume<D> {
         requires live { IsSome (pending_at self.old.core.pending pending.key) }
         requires first { 0 < block }
         // Nobody has made its name meanwhile, or taken it away, as claims see to.
-        requires placed { (p : PendingVersion) → pending_at self.old.core.pending pending.key ≡ Some p → IsPlaced self.old.core p }
+        requires placed { (p : PendingVersion) → pending_at self.old.core.pending pending.key ≡ Some p
+            → IsPlaced self.old.core p }
 
         // Let all that a crash may leave stand for f, and the version have this body. Then a crash at any moment leaves
         // what stands for f, or for f with the version, its last words put, as the file of its name.
-        ensures crash { (D.state self.new.disk).honest → (f : Files File) → RestsAt (D.state self.old.disk) f → (p : PendingVersion) → pending_at self.old.core.pending pending.key ≡ Some p
-            → (body : List ℕ) → length body ≡ p.version.words → HasBody (D.state self.old.disk).contents p.version.blocks body
-            → LeavesOnly (D.state self.old.disk) (D.state self.new.disk) (StandsForEither (D.state self.old.disk).size f (files_published f p.prime.ppn p.prime.file (file_of p.prime (splice body block words.now)))) }
+        ensures crash { (D.state self.new.disk).honest → (f : Files File) → RestsAt (D.state self.old.disk) f
+            → (p : PendingVersion) → pending_at self.old.core.pending pending.key ≡ Some p
+            → (body : List ℕ) → length body ≡ p.version.words
+            → HasBody (D.state self.old.disk).contents p.version.blocks body
+            → LeavesOnly (D.state self.old.disk) (D.state self.new.disk)
+            (StandsForEither (D.state self.old.disk).size f
+            (files_published f p.prime.ppn p.prime.file (file_of p.prime (splice body block words.now)))) }
         // At Ok all that a crash may leave stands for the latter.
-        ensures done { (D.state self.new.disk).honest → (f : Files File) → RestsAt (D.state self.old.disk) f → (p : PendingVersion) → pending_at self.old.core.pending pending.key ≡ Some p
-            → (body : List ℕ) → length body ≡ p.version.words → HasBody (D.state self.old.disk).contents p.version.blocks body
-            → OnOk result (RestsAt (D.state self.new.disk) (files_published f p.prime.ppn p.prime.file (file_of p.prime (splice body block words.now)))) }
+        ensures done { (D.state self.new.disk).honest → (f : Files File) → RestsAt (D.state self.old.disk) f
+            → (p : PendingVersion) → pending_at self.old.core.pending pending.key ≡ Some p
+            → (body : List ℕ) → length body ≡ p.version.words
+            → HasBody (D.state self.old.disk).contents p.version.blocks body
+            → OnOk result (RestsAt (D.state self.new.disk)
+            (files_published f p.prime.ppn p.prime.file (file_of p.prime (splice body block words.now)))) }
         // What it does to core, once the last words are put.
-        ensures published { OnOk result ((p : PendingVersion) → pending_at self.old.core.pending pending.key ≡ Some p → IsPublishedCore (D.state self.old.disk).size self.old.core self.new.core pending.key p (length_after p.version.words block (length words.now))) }
+        ensures published { OnOk result ((p : PendingVersion) → pending_at self.old.core.pending pending.key ≡ Some p
+            → IsPublishedCore (D.state self.old.disk).size self.old.core self.new.core pending.key p
+            (length_after p.version.words block (length words.now))) }
         ensures gone { OnOk result (pending_at self.new.core.pending pending.key ≡ None) }
-        // All other versions stay, whatever the answer; and their blocks do, but where the device failed, since they may
-        // have been open then.
-        ensures others { (k : ℕ) → (k ≡ pending.key → ⊥) → pending_at self.new.core.pending k ≡ pending_at self.old.core.pending k }
-        ensures held { (k : ℕ) (v : LiveVersion) → slot self.old.core.live k ≡ Some v → 0 < v.readers → (b : Bool) × (slot self.new.core.live k ≡ Some (record v { is_current = b })) }
-        ensures readers { (D.state self.new.disk).honest → (IsErrOf result Device → ⊥) → KeepsRead (D.state self.old.disk).contents (D.state self.new.disk).contents self.old.core }
-        ensures writers { (D.state self.new.disk).honest → (IsErrOf result Device → ⊥) → KeepsWritten (D.state self.old.disk).contents (D.state self.new.disk).contents self.old.core pending.key }
+        // All other versions stay, whatever the answer; and their blocks do, but where the device failed, since they
+        // may have been open then.
+        ensures others { (k : ℕ) → (k ≡ pending.key → ⊥) → pending_at self.new.core.pending k
+            ≡ pending_at self.old.core.pending k }
+        ensures held { (k : ℕ) (v : LiveVersion) → slot self.old.core.live k ≡ Some v → 0 < v.readers
+            → (b : Bool) × (slot self.new.core.live k ≡ Some (record v { is_current = b })) }
+        ensures readers { (D.state self.new.disk).honest → (IsErrOf result Device → ⊥)
+            → KeepsRead (D.state self.old.disk).contents (D.state self.new.disk).contents self.old.core }
+        ensures writers { (D.state self.new.disk).honest → (IsErrOf result Device → ⊥)
+            → KeepsWritten (D.state self.old.disk).contents (D.state self.new.disk).contents self.old.core pending.key }
 
         // Which error comes when, and what it leaves.
         ensures failed { self.old.failed ≡ true → IsErrOf result Failed }
         ensures broken { self.old.failed ≡ true → (self.new.disk ≡ self.old.disk) × (self.new.core ≡ self.old.core) }
         ensures given_up { IsErrOf result Failed → (self.old.failed ≡ true) ⊎ ((D.state self.new.disk).honest → ⊥) }
-        ensures room { self.old.failed ≡ false → (p : PendingVersion) → pending_at self.old.core.pending pending.key ≡ Some p
-            → (IsErrOf result (Refused NoRoom) ↔ ((0 < length words.now) × ((most_blocks * 128 < length_after p.version.words block (length words.now))
-            ⊎ (space (D.state self.old.disk).size < self.old.core.known.table.booked + (version_cost (length_after p.version.words block (length words.now)) - version_cost p.version.words))))) }
+        ensures room { self.old.failed ≡ false → (p : PendingVersion) → pending_at self.old.core.pending pending.key
+            ≡ Some p
+            → (IsErrOf result (Refused NoRoom)
+            ↔ ((0 < length words.now) × ((most_blocks * 128 < length_after p.version.words block (length words.now))
+            ⊎ (space (D.state self.old.disk).size < self.old.core.known.table.booked
+            + (version_cost (length_after p.version.words block (length words.now))
+            - version_cost p.version.words))))) }
         ensures codes { (code : ErrorCode) → IsErrOf result (Refused code) → code ≡ NoRoom }
-        ensures refused { (code : ErrorCode) → IsErrOf result (Refused code) → (self.new.disk ≡ self.old.disk) × (self.new.core ≡ self.old.core) }
+        ensures refused { (code : ErrorCode) → IsErrOf result (Refused code) → (self.new.disk ≡ self.old.disk)
+            × (self.new.core ≡ self.old.core) }
         ensures memory { IsErrOf result NoMemory → (self.new.disk ≡ self.old.disk) × (self.new.core ≡ self.old.core) }
         ensures device { IsErrOf result Device → self.new.failed ≡ true }
         ensures ended { IsErrOf result Failed → self.new.failed ≡ true }
         ensures still { (IsErrOf result Device → ⊥) → (IsErrOf result Failed → ⊥) → self.new.failed ≡ self.old.failed }
-        ensures counted { IsErrOf result Device → (D.state self.new.disk).failures ≡ one_more (D.state self.old.disk).failures }
-        ensures served { (IsErrOf result Device → ⊥) → (D.state self.new.disk).failures ≡ (D.state self.old.disk).failures }
+        ensures counted { IsErrOf result Device → (D.state self.new.disk).failures
+            ≡ one_more (D.state self.old.disk).failures }
+        ensures served { (IsErrOf result Device → ⊥) → (D.state self.new.disk).failures
+            ≡ (D.state self.old.disk).failures }
         ensures same { SameDisk (D.state self.old.disk) (D.state self.new.disk) }
     {
         if self.failed {

@@ -1,4 +1,5 @@
-ghost use Rattle.std.specs.Prelude.{◌≡◌, ◌↔◌, ◌⊎◌, ◌+◌, ◌-◌, ◌*◌, ◌<◌, ◌≤◌, ℕ, List, true, false, length, None, Some, IfNone, IfSome, IsSome, OnOk, IsErrOf};
+ghost use Rattle.std.specs.Prelude.{◌≡◌, ◌↔◌, ◌⊎◌, ◌+◌, ◌-◌, ◌*◌, ◌<◌, ◌≤◌, ℕ, List, true, false, length, None, Some};
+ghost use Rattle.std.specs.Prelude.{IfNone, IfSome, IsSome, OnOk, IsErrOf};
 ghost use Rattle.std.specs.List.{AllByRecursion};
 ghost use Rattle.blockdisk.specs.Disk.{LeavesOnly, SameDisk, Modifies, one_more};
 ghost use Rattle.meaning.specs.declared.code.ErrorCode.{ErrorCode};
@@ -63,7 +64,8 @@ pub(crate) fn growth(version: &Version, block: u32, count: usize) -> Option<u32>
     requires first { 0 < block }
     requires some { 0 < count }
     requires few { version.now.words ≤ most_blocks * 128 }
-    ensures more { IfSome result (λ more. more + cost_of_blocks (length version.now.blocks) ≡ version_cost (length_after version.now.words block count)) }
+    ensures more { IfSome result (λ more. more + cost_of_blocks (length version.now.blocks)
+        ≡ version_cost (length_after version.now.words block count)) }
     ensures few { IfSome result (λ more. length_after version.now.words block count ≤ most_blocks * 128) }
     ensures none { IfNone result (most_blocks * 128 < length_after version.now.words block count) }
 {
@@ -86,26 +88,39 @@ fn put_booked<D: Disk>(
     block: u32,
     words: &[Word],
 ) -> Result<(), BodyError>
+    // The version and its blocks,
     requires volume { IsVolumeSize (D.state disk.old).size }
     requires size { table.old.size ≡ (D.state disk.old).size }
     requires fixed { IsFixed table.old }
     requires inside { AllByRecursion (InSpace (D.state disk.old).size) version.old.blocks }
     requires counted { length version.old.blocks ≡ blocks_of version.old.words }
     requires held { (n : ℕ) → times n version.old.blocks ≤ holds table.old n }
+    // what is put,
     requires first { 0 < block }
     requires some { 0 < length words.now }
     requires fits { length_after version.old.words block (length words.now) ≤ most_blocks * 128 }
+    // and what may be booked.
     requires used { uses table.old < table.old.booked }
     requires cost { cost_of_blocks (length version.old.blocks) ≤ table.old.booked }
-    requires more { more + cost_of_blocks (length version.old.blocks) ≡ version_cost (length_after version.old.words block (length words.now)) }
+    requires more { more + cost_of_blocks (length version.old.blocks)
+        ≡ version_cost (length_after version.old.words block (length words.now)) }
     requires room { table.old.booked + more ≤ space table.old.size }
 
-    ensures body { (D.state disk.new).honest → OnOk result ((body : List ℕ) → length body ≡ version.old.words → HasBody (D.state disk.old).contents version.old.blocks body → HasBody (D.state disk.new).contents version.new.blocks (splice body block words.now)) }
+    // What is put, at Ok.
+    ensures body { (D.state disk.new).honest
+        → OnOk result ((body : List ℕ) → length body ≡ version.old.words
+        → HasBody (D.state disk.old).contents version.old.blocks body
+        → HasBody (D.state disk.new).contents version.new.blocks (splice body block words.now)) }
     ensures length { OnOk result (version.new.words ≡ length_after version.old.words block (length words.now)) }
+    // What it does to the table, and which blocks are written.
     ensures grown { Regrows (D.state disk.old).size table.old table.new version.old version.new }
-    ensures modified { (D.state disk.new).honest → Modifies (IsOwn table.old version.old.blocks) (D.state disk.old) (D.state disk.new) }
-    ensures memory { IsErrOf result body.NoMemory → (table.new ≡ table.old) × (version.new ≡ version.old) × (disk.new ≡ disk.old) }
-    ensures damaged { (D.state disk.new).honest → (k : ℕ) → IsErrOf result (body.BadData k) → (0 < times k version.old.blocks) × ((D.state disk.old).contents k ≡ None) }
+    ensures modified { (D.state disk.new).honest
+        → Modifies (IsOwn table.old version.old.blocks) (D.state disk.old) (D.state disk.new) }
+    // Which refusal comes when, and what it leaves.
+    ensures memory { IsErrOf result body.NoMemory → (table.new ≡ table.old) × (version.new ≡ version.old)
+        × (disk.new ≡ disk.old) }
+    ensures damaged { (D.state disk.new).honest → (k : ℕ) → IsErrOf result (body.BadData k)
+        → (0 < times k version.old.blocks) × ((D.state disk.old).contents k ≡ None) }
     ensures same { SameDisk (D.state disk.old) (D.state disk.new) }
     ensures failed { IsErrOf result body.Device → (D.state disk.new).failures ≡ one_more (D.state disk.old).failures }
     ensures served { (IsErrOf result body.Device → ⊥) → (D.state disk.new).failures ≡ (D.state disk.old).failures }
@@ -141,26 +156,42 @@ fn put_pending<D: Disk>(
     block: u32,
     words: &[Word],
 ) -> Result<(), CallError>
+    // The version and its blocks, and what is put.
     requires volume { IsVolumeSize (D.state disk.old).size }
     requires size { table.old.size ≡ (D.state disk.old).size }
     requires there { IsSome (pending_at pending.old.slots key) }
-    requires ready { (p : PendingVersion) → pending_at pending.old.slots key ≡ Some p → IsReady (D.state disk.old).size table.old p.version }
+    requires ready { (p : PendingVersion) → pending_at pending.old.slots key ≡ Some p
+        → IsReady (D.state disk.old).size table.old p.version }
     requires first { 0 < block }
     requires some { 0 < length words.now }
 
-    ensures put { OnOk result ((p : PendingVersion) → pending_at pending.old.slots key ≡ Some p → (v : VersionState) × (pending_at pending.new.slots key ≡ Some (record p { version = v })) × (v.words ≡ length_after p.version.words block (length words.now))
-        × ((D.state disk.new).honest → (body : List ℕ) → length body ≡ p.version.words → HasBody (D.state disk.old).contents p.version.blocks body → HasBody (D.state disk.new).contents v.blocks (splice body block words.now))) }
-    ensures grown { (p : PendingVersion) → pending_at pending.old.slots key ≡ Some p → (v : VersionState) × Regrown (D.state disk.old).size table.old table.new pending.new.slots key p v }
+    // What is put, at Ok.
+    ensures put { OnOk result ((p : PendingVersion) → pending_at pending.old.slots key ≡ Some p
+        → (v : VersionState) × (pending_at pending.new.slots key ≡ Some (record p { version = v }))
+        × (v.words ≡ length_after p.version.words block (length words.now))
+        × ((D.state disk.new).honest → (body : List ℕ) → length body ≡ p.version.words
+        → HasBody (D.state disk.old).contents p.version.blocks body
+        → HasBody (D.state disk.new).contents v.blocks (splice body block words.now))) }
+    // What it does to the table and to others, and which blocks are written.
+    ensures grown { (p : PendingVersion) → pending_at pending.old.slots key ≡ Some p → (v : VersionState)
+        × Regrown (D.state disk.old).size table.old table.new pending.new.slots key p v }
     ensures others { (k : ℕ) → (k ≡ key → ⊥) → pending_at pending.new.slots k ≡ pending_at pending.old.slots k }
-    ensures modified { (D.state disk.new).honest → (p : PendingVersion) → pending_at pending.old.slots key ≡ Some p → Modifies (IsOwn table.old p.version.blocks) (D.state disk.old) (D.state disk.new) }
+    ensures modified { (D.state disk.new).honest → (p : PendingVersion) → pending_at pending.old.slots key ≡ Some p
+        → Modifies (IsOwn table.old p.version.blocks) (D.state disk.old) (D.state disk.new) }
 
+    // Which refusal comes when, and what it leaves.
     ensures room { (p : PendingVersion) → pending_at pending.old.slots key ≡ Some p
-        → (IsErrOf result (Refused NoRoom) ↔ ((most_blocks * 128 < length_after p.version.words block (length words.now))
-        ⊎ (space table.old.size < table.old.booked + (version_cost (length_after p.version.words block (length words.now)) - version_cost p.version.words)))) }
+        → (IsErrOf result (Refused NoRoom)
+        ↔ ((most_blocks * 128 < length_after p.version.words block (length words.now))
+        ⊎ (space table.old.size < table.old.booked
+        + (version_cost (length_after p.version.words block (length words.now)) - version_cost p.version.words)))) }
     ensures codes { (code : ErrorCode) → IsErrOf result (Refused code) → code ≡ NoRoom }
-    ensures refused { (code : ErrorCode) → IsErrOf result (Refused code) → (disk.new ≡ disk.old) × (table.new ≡ table.old) × (pending.new.slots ≡ pending.old.slots) }
-    ensures memory { IsErrOf result NoMemory → (disk.new ≡ disk.old) × (table.new ≡ table.old) × (pending.new.slots ≡ pending.old.slots) }
-    ensures damaged { (D.state disk.new).honest → (p : PendingVersion) → pending_at pending.old.slots key ≡ Some p → IsErrOf result Failed → (k : ℕ) × (0 < times k p.version.blocks) × ((D.state disk.old).contents k ≡ None) }
+    ensures refused { (code : ErrorCode) → IsErrOf result (Refused code) → (disk.new ≡ disk.old)
+        × (table.new ≡ table.old) × (pending.new.slots ≡ pending.old.slots) }
+    ensures memory { IsErrOf result NoMemory → (disk.new ≡ disk.old) × (table.new ≡ table.old)
+        × (pending.new.slots ≡ pending.old.slots) }
+    ensures damaged { (D.state disk.new).honest → (p : PendingVersion) → pending_at pending.old.slots key ≡ Some p
+        → IsErrOf result Failed → (k : ℕ) × (0 < times k p.version.blocks) × ((D.state disk.old).contents k ≡ None) }
 
     ensures same { SameDisk (D.state disk.old) (D.state disk.new) }
     ensures failed { IsErrOf result Device → (D.state disk.new).failures ≡ one_more (D.state disk.old).failures }
@@ -201,34 +232,45 @@ pub(crate) fn put_in_core<D: Disk>(
     // Its writes are quiet: whatever a crash leaves at any moment stands for the files from before.
     ensures quiet { (D.state disk.new).honest → (f : Files File) → RestsAt (D.state disk.old) f
         → LeavesOnly (D.state disk.old) (D.state disk.new) (λ c. Stands (D.state disk.old).size c f) }
-    ensures rests { (D.state disk.new).honest → (f : Files File) → RestsAt (D.state disk.old) f → RestsAt (D.state disk.new) f }
+    ensures rests { (D.state disk.new).honest → (f : Files File) → RestsAt (D.state disk.old) f
+        → RestsAt (D.state disk.new) f }
     // At Ok the version has the words put.
     ensures put { OnOk result ((p : PendingVersion) → pending_at (core_of map.old).pending key ≡ Some p
-        → (v : VersionState) × (pending_at (core_of map.new).pending key ≡ Some (record p { version = v })) × (v.words ≡ length_after p.version.words block (length words.now))
-        × ((D.state disk.new).honest → (body : List ℕ) → length body ≡ p.version.words → HasBody (D.state disk.old).contents p.version.blocks body → HasBody (D.state disk.new).contents v.blocks (splice body block words.now))) }
+        → (v : VersionState) × (pending_at (core_of map.new).pending key ≡ Some (record p { version = v }))
+        × (v.words ≡ length_after p.version.words block (length words.now))
+        × ((D.state disk.new).honest → (body : List ℕ) → length body ≡ p.version.words
+        → HasBody (D.state disk.old).contents p.version.blocks body
+        → HasBody (D.state disk.new).contents v.blocks (splice body block words.now))) }
     // It is there still, whatever the answer.
     ensures stays { IsSome (pending_at (core_of map.new).pending key) }
     // All other versions stay, and their blocks do.
-    ensures others { (k : ℕ) → (k ≡ key → ⊥) → pending_at (core_of map.new).pending k ≡ pending_at (core_of map.old).pending k }
+    ensures others { (k : ℕ) → (k ≡ key → ⊥) → pending_at (core_of map.new).pending k
+        ≡ pending_at (core_of map.old).pending k }
     ensures live { (core_of map.new).live ≡ (core_of map.old).live }
     ensures versions { map.new.versions ≡ map.old.versions }
     ensures keys { (core_of map.new).keys ≡ (core_of map.old).keys }
     ensures known { (core_of map.new).known ≡ record (core_of map.old).known { table = (core_of map.new).known.table } }
-    ensures kept { (D.state disk.new).honest → (p : PendingVersion) → pending_at (core_of map.old).pending key ≡ Some p → (n : ℕ) → (IsOwn (core_of map.old).known.table p.version.blocks n → ⊥)
+    ensures kept { (D.state disk.new).honest → (p : PendingVersion) → pending_at (core_of map.old).pending key ≡ Some p
+        → (n : ℕ) → (IsOwn (core_of map.old).known.table p.version.blocks n → ⊥)
         → (D.state disk.new).contents n ≡ (D.state disk.old).contents n }
     // So no reader and no other writer sees that a block of theirs changes.
-    ensures readers { (D.state disk.new).honest → KeepsRead (D.state disk.old).contents (D.state disk.new).contents (core_of map.old) }
-    ensures writers { (D.state disk.new).honest → KeepsWritten (D.state disk.old).contents (D.state disk.new).contents (core_of map.old) key }
+    ensures readers { (D.state disk.new).honest
+        → KeepsRead (D.state disk.old).contents (D.state disk.new).contents (core_of map.old) }
+    ensures writers { (D.state disk.new).honest
+        → KeepsWritten (D.state disk.old).contents (D.state disk.new).contents (core_of map.old) key }
 
     // Which error comes when, and what it leaves.
     ensures failed { failed.old ≡ true → IsErrOf result Failed }
     ensures broken { failed.old ≡ true → (disk.new ≡ disk.old) × (core_of map.new ≡ core_of map.old) }
     ensures given_up { IsErrOf result Failed → (failed.old ≡ true) ⊎ ((D.state disk.new).honest → ⊥) }
     ensures room { failed.old ≡ false → (p : PendingVersion) → pending_at (core_of map.old).pending key ≡ Some p
-        → (IsErrOf result (Refused NoRoom) ↔ ((0 < length words.now) × ((most_blocks * 128 < length_after p.version.words block (length words.now))
-        ⊎ (space (D.state disk.old).size < (core_of map.old).known.table.booked + (version_cost (length_after p.version.words block (length words.now)) - version_cost p.version.words))))) }
+        → (IsErrOf result (Refused NoRoom)
+        ↔ ((0 < length words.now) × ((most_blocks * 128 < length_after p.version.words block (length words.now))
+        ⊎ (space (D.state disk.old).size < (core_of map.old).known.table.booked
+        + (version_cost (length_after p.version.words block (length words.now)) - version_cost p.version.words))))) }
     ensures codes { (code : ErrorCode) → IsErrOf result (Refused code) → code ≡ NoRoom }
-    ensures refused { (code : ErrorCode) → IsErrOf result (Refused code) → (disk.new ≡ disk.old) × (core_of map.new ≡ core_of map.old) }
+    ensures refused { (code : ErrorCode) → IsErrOf result (Refused code) → (disk.new ≡ disk.old)
+        × (core_of map.new ≡ core_of map.old) }
     ensures memory { IsErrOf result NoMemory → (disk.new ≡ disk.old) × (core_of map.new ≡ core_of map.old) }
     ensures device { IsErrOf result Device → failed.new ≡ true }
     ensures gone { IsErrOf result Failed → failed.new ≡ true }
@@ -275,40 +317,57 @@ impl<D: Disk> Volume<D> {
 
         // Its writes are quiet: whatever a crash leaves at any moment stands for the files from before.
         ensures quiet { (D.state self.new.disk).honest → (f : Files File) → RestsAt (D.state self.old.disk) f
-            → LeavesOnly (D.state self.old.disk) (D.state self.new.disk) (λ c. Stands (D.state self.old.disk).size c f) }
-        ensures rests { (D.state self.new.disk).honest → (f : Files File) → RestsAt (D.state self.old.disk) f → RestsAt (D.state self.new.disk) f }
+            → LeavesOnly (D.state self.old.disk) (D.state self.new.disk)
+            (λ c. Stands (D.state self.old.disk).size c f) }
+        ensures rests { (D.state self.new.disk).honest → (f : Files File) → RestsAt (D.state self.old.disk) f
+            → RestsAt (D.state self.new.disk) f }
         // At Ok the version has the words put.
         ensures put { OnOk result ((p : PendingVersion) → pending_at self.old.core.pending pending.key ≡ Some p
-            → (v : VersionState) × (pending_at self.new.core.pending pending.key ≡ Some (record p { version = v })) × (v.words ≡ length_after p.version.words block (length words.now))
-            × ((D.state self.new.disk).honest → (body : List ℕ) → length body ≡ p.version.words → HasBody (D.state self.old.disk).contents p.version.blocks body → HasBody (D.state self.new.disk).contents v.blocks (splice body block words.now))) }
+            → (v : VersionState) × (pending_at self.new.core.pending pending.key ≡ Some (record p { version = v }))
+            × (v.words ≡ length_after p.version.words block (length words.now))
+            × ((D.state self.new.disk).honest → (body : List ℕ) → length body ≡ p.version.words
+            → HasBody (D.state self.old.disk).contents p.version.blocks body
+            → HasBody (D.state self.new.disk).contents v.blocks (splice body block words.now))) }
         // It is there still, whatever the answer.
         ensures stays { IsSome (pending_at self.new.core.pending pending.key) }
         // All other versions stay, and their blocks do.
-        ensures others { (k : ℕ) → (k ≡ pending.key → ⊥) → pending_at self.new.core.pending k ≡ pending_at self.old.core.pending k }
+        ensures others { (k : ℕ) → (k ≡ pending.key → ⊥) → pending_at self.new.core.pending k
+            ≡ pending_at self.old.core.pending k }
         ensures live { self.new.core.live ≡ self.old.core.live }
         ensures keys { self.new.core.keys ≡ self.old.core.keys }
         ensures known { self.new.core.known ≡ record self.old.core.known { table = self.new.core.known.table } }
-        ensures kept { (D.state self.new.disk).honest → (p : PendingVersion) → pending_at self.old.core.pending pending.key ≡ Some p → (n : ℕ) → (IsOwn self.old.core.known.table p.version.blocks n → ⊥)
+        ensures kept { (D.state self.new.disk).honest → (p : PendingVersion)
+            → pending_at self.old.core.pending pending.key ≡ Some p → (n : ℕ)
+            → (IsOwn self.old.core.known.table p.version.blocks n → ⊥)
             → (D.state self.new.disk).contents n ≡ (D.state self.old.disk).contents n }
         // So no reader and no other writer sees that a block of theirs changes.
-        ensures readers { (D.state self.new.disk).honest → KeepsRead (D.state self.old.disk).contents (D.state self.new.disk).contents self.old.core }
-        ensures writers { (D.state self.new.disk).honest → KeepsWritten (D.state self.old.disk).contents (D.state self.new.disk).contents self.old.core pending.key }
+        ensures readers { (D.state self.new.disk).honest
+            → KeepsRead (D.state self.old.disk).contents (D.state self.new.disk).contents self.old.core }
+        ensures writers { (D.state self.new.disk).honest
+            → KeepsWritten (D.state self.old.disk).contents (D.state self.new.disk).contents self.old.core pending.key }
 
         // Which error comes when, and what it leaves.
         ensures failed { self.old.failed ≡ true → IsErrOf result Failed }
         ensures broken { self.old.failed ≡ true → (self.new.disk ≡ self.old.disk) × (self.new.core ≡ self.old.core) }
         ensures given_up { IsErrOf result Failed → (self.old.failed ≡ true) ⊎ ((D.state self.new.disk).honest → ⊥) }
-        ensures room { self.old.failed ≡ false → (p : PendingVersion) → pending_at self.old.core.pending pending.key ≡ Some p
-            → (IsErrOf result (Refused NoRoom) ↔ ((0 < length words.now) × ((most_blocks * 128 < length_after p.version.words block (length words.now))
-            ⊎ (space (D.state self.old.disk).size < self.old.core.known.table.booked + (version_cost (length_after p.version.words block (length words.now)) - version_cost p.version.words))))) }
+        ensures room { self.old.failed ≡ false → (p : PendingVersion) → pending_at self.old.core.pending pending.key
+            ≡ Some p
+            → (IsErrOf result (Refused NoRoom)
+            ↔ ((0 < length words.now) × ((most_blocks * 128 < length_after p.version.words block (length words.now))
+            ⊎ (space (D.state self.old.disk).size < self.old.core.known.table.booked
+            + (version_cost (length_after p.version.words block (length words.now))
+            - version_cost p.version.words))))) }
         ensures codes { (code : ErrorCode) → IsErrOf result (Refused code) → code ≡ NoRoom }
-        ensures refused { (code : ErrorCode) → IsErrOf result (Refused code) → (self.new.disk ≡ self.old.disk) × (self.new.core ≡ self.old.core) }
+        ensures refused { (code : ErrorCode) → IsErrOf result (Refused code) → (self.new.disk ≡ self.old.disk)
+            × (self.new.core ≡ self.old.core) }
         ensures memory { IsErrOf result NoMemory → (self.new.disk ≡ self.old.disk) × (self.new.core ≡ self.old.core) }
         ensures device { IsErrOf result Device → self.new.failed ≡ true }
         ensures gone { IsErrOf result Failed → self.new.failed ≡ true }
         ensures still { (IsErrOf result Device → ⊥) → (IsErrOf result Failed → ⊥) → self.new.failed ≡ self.old.failed }
-        ensures counted { IsErrOf result Device → (D.state self.new.disk).failures ≡ one_more (D.state self.old.disk).failures }
-        ensures served { (IsErrOf result Device → ⊥) → (D.state self.new.disk).failures ≡ (D.state self.old.disk).failures }
+        ensures counted { IsErrOf result Device → (D.state self.new.disk).failures
+            ≡ one_more (D.state self.old.disk).failures }
+        ensures served { (IsErrOf result Device → ⊥) → (D.state self.new.disk).failures
+            ≡ (D.state self.old.disk).failures }
         ensures same { SameDisk (D.state self.old.disk) (D.state self.new.disk) }
     {
         put_in_core(

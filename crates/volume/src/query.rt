@@ -1,4 +1,5 @@
-ghost use Rattle.std.specs.Prelude.{◌≡◌, ◌↔◌, ◌<◌, ◌^◌, ◌-ℤ◌, pos, ℕ, true, false, length, map, None, IfOk, IfErr, IsErr, IsErrOf, IsTrue};
+ghost use Rattle.std.specs.Prelude.{◌≡◌, ◌↔◌, ◌<◌, ◌^◌, ◌-ℤ◌, pos, ℕ, true, false, length, map, None, IfOk, IfErr};
+ghost use Rattle.std.specs.Prelude.{IsErr, IsErrOf, IsTrue};
 ghost use Rattle.std.specs.List.{AllByRecursion};
 ghost use Rattle.std.specs.Ordering.{nat_cmp};
 ghost use Rattle.std.specs.FinMap.Entries.{find};
@@ -50,7 +51,8 @@ pub fn named_facts(
     directory: &LiveDirectory,
     name: &FileName,
 ) -> Result<FileFacts, CallError>
-    requires keyed { IsKeyed versions.now.slots (live_directory versions.now.slots directory.now) directory.now.keys.items }
+    requires keyed { IsKeyed versions.now.slots (live_directory versions.now.slots directory.now)
+        directory.now.keys.items }
     requires standing { AreStanding versions.now.slots }
     ensures found { IfOk result (IsNamedVersion (live_directory versions.now.slots directory.now) name.now) }
     ensures none { IsErr result → find name_cmp name.now (map file_view directory.now.chain.entries) ≡ None }
@@ -103,7 +105,8 @@ impl<D: Disk> Volume<D> {
     /// It may be negative, as on an image that another program made with long runs, which cost less there than
     /// they are counted here.
     pub fn room(&self) -> i64
-        ensures { (D.state self.now.disk).honest → self.now.failed ≡ false → (files : Files File) → RestsAt (D.state self.now.disk) files
+        ensures { (D.state self.now.disk).honest → self.now.failed ≡ false → (files : Files File)
+            → RestsAt (D.state self.now.disk) files
             → result ≡ room_of (D.state self.now.disk).size files (cost_beyond self.now.core) }
     {
         let size = self.disk.blocks();
@@ -117,7 +120,8 @@ impl<D: Disk> Volume<D> {
     ///
     /// `Refused(NoDirectory)` where there is none, `Failed` where the volume failed before.
     pub fn directory(&self, ppn: Ppn) -> Result<u16, CallError>
-        ensures value { (D.state self.now.disk).honest → self.now.failed ≡ false → (files : Files File) → RestsAt (D.state self.now.disk) files
+        ensures value { (D.state self.now.disk).honest → self.now.failed ≡ false → (files : Files File)
+            → RestsAt (D.state self.now.disk) files
             → result ≡ protection_answer (get files ppn) }
         ensures failed { IsErrOf result Failed ↔ IsTrue self.now.failed }
         ensures only { IfErr result IsPlainRefusal }
@@ -136,7 +140,8 @@ impl<D: Disk> Volume<D> {
     /// `Refused(NoDirectory)` where there is no such directory, `Refused(NotFound)` where it has no such file,
     /// `Failed` where the volume failed before.
     pub fn look(&self, ppn: Ppn, name: &FileName) -> Result<FileFacts, CallError>
-        ensures value { (D.state self.now.disk).honest → self.now.failed ≡ false → (files : Files File) → RestsAt (D.state self.now.disk) files
+        ensures value { (D.state self.now.disk).honest → self.now.failed ≡ false → (files : Files File)
+            → RestsAt (D.state self.now.disk) files
             → IsLookAnswer name.now result (get files ppn) }
         ensures failed { IsErrOf result Failed ↔ IsTrue self.now.failed }
         ensures only { IfErr result IsPlainRefusal }

@@ -13,9 +13,12 @@ ghost use Rattle.std.specs.Ordering.{nat_cmp};
 ghost use Rattle.alloctab.specs.Lists.{digit_at};
 ghost use Rattle.directory.specs.Chains.{nodes_of, IsChain, IsOn, viewed};
 ghost use Rattle.volume.specs.Cores.{file_view, master_view, known_version, known_directory};
-ghost use Rattle.volume.specs.Known.{blocks_reached, reaches_in_entries, reaches_in_known, IsWholeVersion, IsWholeDirectory};
-ghost use Rattle.volume.specs.Found.{IsOnlySpace, IsAdded, IsMarkedFile, AreFilesRead, IsDirectoryFound, AreDirectoriesRead};
-ghost use Rattle.volume.specs.FaultsFound.{NamesInSpace, IsFaultOfFile, IsFaultOfFiles, IsFaultOfDirectory, IsFaultOfDirectories};
+ghost use Rattle.volume.specs.Known.{blocks_reached, reaches_in_entries, reaches_in_known, IsWholeVersion};
+ghost use Rattle.volume.specs.Known.{IsWholeDirectory};
+ghost use Rattle.volume.specs.Found.{IsOnlySpace, IsAdded, IsMarkedFile, AreFilesRead, IsDirectoryFound};
+ghost use Rattle.volume.specs.Found.{AreDirectoriesRead};
+ghost use Rattle.volume.specs.FaultsFound.{NamesInSpace, IsFaultOfFile, IsFaultOfFiles, IsFaultOfDirectory};
+ghost use Rattle.volume.specs.FaultsFound.{IsFaultOfDirectories};
 ghost use Rattle.volume.specs.declared.error.VolumeError.TheVariants.{Device};
 
 use crate::VolumeError;
@@ -34,18 +37,29 @@ fn load_files<D: Disk>(
     first: u32,
     reached: &mut Reached,
 ) -> Result<Chain<FileEntry>, VolumeError>
+    // What the caller sees to.
     requires volume { IsVolumeSize (D.state disk.old).size }
     requires inside { InSpace (D.state disk.old).size first }
     requires marks { length reached.old ≡ (D.state disk.old).size }
-    ensures on { (D.state disk.new).honest → IfOk result (λ chain. IsOn file_words (D.state disk.old).contents (viewed file_view chain)) }
-    ensures walk { (D.state disk.new).honest → IfOk result (λ chain. Leads file_words (D.state disk.old).contents first (nodes_of chain.blocks (map file_view chain.entries)) 0) }
+    // The chain that was read, as the disk spells it, with its blocks marked.
+    ensures on { (D.state disk.new).honest
+        → IfOk result (λ chain. IsOn file_words (D.state disk.old).contents (viewed file_view chain)) }
+    ensures walk { (D.state disk.new).honest
+        → IfOk result (λ chain. Leads file_words (D.state disk.old).contents first
+        (nodes_of chain.blocks (map file_view chain.entries)) 0) }
     ensures begins { IfOk result (λ chain. head_or_zero chain.blocks ≡ first) }
     ensures chain { IfOk result (λ chain. IsChain name_cmp IsFileEntry (viewed file_view chain)) }
     ensures inside { IfOk result (λ chain. AllByRecursion (InSpace (D.state disk.old).size) chain.blocks) }
-    ensures targets { IfOk result (λ chain. AllByRecursion (λ e. InSpace (D.state disk.old).size e.1) (map file_view chain.entries)) }
-    ensures marked { IfOk result (λ chain. (n : ℕ) → digit_at reached.new n ≡ digit_at reached.old n + times n chain.blocks) }
-    ensures fault { (D.state disk.new).honest → (ppn : ℕ) → IfErr result (IsFaultOfDirectory (D.state disk.old).size (D.state disk.old).contents (digit_at reached.old) ppn first) }
+    ensures targets { IfOk result (λ chain. AllByRecursion (λ e. InSpace (D.state disk.old).size e.1)
+        (map file_view chain.entries)) }
+    ensures marked { IfOk result (λ chain. (n : ℕ)
+        → digit_at reached.new n ≡ digit_at reached.old n + times n chain.blocks) }
+    // Which refusal comes when.
+    ensures fault { (D.state disk.new).honest → (ppn : ℕ)
+        → IfErr result (IsFaultOfDirectory (D.state disk.old).size (D.state disk.old).contents
+        (digit_at reached.old) ppn first) }
     ensures named { IfErr result (NamesInSpace (D.state disk.old).size) }
+    // The device: what failed, and how often.
     ensures length { length reached.new ≡ length reached.old }
     ensures keeps { (D.state disk.new).honest → Keeps (D.state disk.old) (D.state disk.new) }
     ensures same { SameDisk (D.state disk.old) (D.state disk.new) }
@@ -70,16 +84,27 @@ fn add_file<D: Disk>(
     reached: &mut Reached,
     versions: &mut Vec<StoredVersion>,
 ) -> Result<(), VolumeError>
+    // What the caller sees to.
     requires volume { IsVolumeSize (D.state disk.old).size }
     requires inside { InSpace (D.state disk.old).size entry.now.prime }
     requires marks { length reached.old ≡ (D.state disk.old).size }
-    ensures read { (D.state disk.new).honest → OnOk result (IsAdded known_version versions.old.items versions.new.items (IsMarkedFile (D.state disk.old).contents ppn (file_view entry.now) (digit_at reached.old) (digit_at reached.new))) }
-    ensures marked { OnOk result (IsAdded known_version versions.old.items versions.new.items (λ v. (n : ℕ) → digit_at reached.new n ≡ digit_at reached.old n + times n (blocks_reached entry.now.prime v.version))) }
-    ensures fault { (D.state disk.new).honest → IfErr result (IsFaultOfFile (D.state disk.old).size (D.state disk.old).contents reached.old (place_of ppn entry.now.name) entry.now.prime) }
+    // What was read, or met where it is refused.
+    ensures read { (D.state disk.new).honest
+        → OnOk result (IsAdded known_version versions.old.items versions.new.items
+        (IsMarkedFile (D.state disk.old).contents ppn (file_view entry.now) (digit_at reached.old)
+        (digit_at reached.new))) }
+    ensures marked { OnOk result (IsAdded known_version versions.old.items versions.new.items (λ v. (n : ℕ)
+        → digit_at reached.new n ≡ digit_at reached.old n + times n (blocks_reached entry.now.prime v.version))) }
+    ensures fault { (D.state disk.new).honest
+        → IfErr result (IsFaultOfFile (D.state disk.old).size (D.state disk.old).contents reached.old
+        (place_of ppn entry.now.name) entry.now.prime) }
     ensures named { IfErr result (NamesInSpace (D.state disk.old).size) }
+    // It is as a map has to be.
     ensures whole { OnOk result (IsAdded known_version versions.old.items versions.new.items IsWholeVersion) }
     ensures aligned { OnOk result (length versions.new.items ≡ length versions.old.items + 1) }
-    ensures space { IsOnlySpace (D.state disk.old).size reached.old → OnOk result (IsOnlySpace (D.state disk.old).size reached.new) }
+    ensures space { IsOnlySpace (D.state disk.old).size reached.old
+        → OnOk result (IsOnlySpace (D.state disk.old).size reached.new) }
+    // The device: what failed, and how often.
     ensures length { length reached.new ≡ length reached.old }
     ensures keeps { (D.state disk.new).honest → Keeps (D.state disk.old) (D.state disk.new) }
     ensures same { SameDisk (D.state disk.old) (D.state disk.new) }
@@ -101,17 +126,27 @@ fn read_files<D: Disk>(
     entries: &[FileEntry],
     reached: &mut Reached,
 ) -> Result<Vec<StoredVersion>, VolumeError>
+    // What the caller sees to.
     requires volume { IsVolumeSize (D.state disk.old).size }
     requires inside { AllByRecursion (λ e. InSpace (D.state disk.old).size e.1) (map file_view entries.now) }
     requires once { EachOnce name_cmp (map file_view entries.now) }
     requires marks { length reached.old ≡ (D.state disk.old).size }
-    ensures read { (D.state disk.new).honest → IfOk result (λ versions. AreFilesRead (D.state disk.old).contents ppn (map file_view entries.now) (map known_version versions.items) (digit_at reached.old) (digit_at reached.new)) }
-    ensures marked { IfOk result (λ versions. (n : ℕ) → digit_at reached.new n ≡ digit_at reached.old n + reaches_in_entries n (map file_view entries.now) (map known_version versions.items)) }
-    ensures fault { (D.state disk.new).honest → IfErr result (IsFaultOfFiles (D.state disk.old).size (D.state disk.old).contents (digit_at reached.old) ppn (map file_view entries.now)) }
+    // What was read, or met where it is refused.
+    ensures read { (D.state disk.new).honest
+        → IfOk result (λ versions. AreFilesRead (D.state disk.old).contents ppn (map file_view entries.now)
+        (map known_version versions.items) (digit_at reached.old) (digit_at reached.new)) }
+    ensures marked { IfOk result (λ versions. (n : ℕ) → digit_at reached.new n ≡ digit_at reached.old n
+        + reaches_in_entries n (map file_view entries.now) (map known_version versions.items)) }
+    ensures fault { (D.state disk.new).honest
+        → IfErr result (IsFaultOfFiles (D.state disk.old).size (D.state disk.old).contents (digit_at reached.old) ppn
+        (map file_view entries.now)) }
     ensures named { IfErr result (NamesInSpace (D.state disk.old).size) }
+    // It is as a map has to be.
     ensures whole { IfOk result (λ versions. AllByRecursion IsWholeVersion (map known_version versions.items)) }
     ensures aligned { IfOk result (λ versions. length versions.items ≡ length entries.now) }
-    ensures space { IsOnlySpace (D.state disk.old).size reached.old → IfOk result (λ versions. IsOnlySpace (D.state disk.old).size reached.new) }
+    ensures space { IsOnlySpace (D.state disk.old).size reached.old
+        → IfOk result (λ versions. IsOnlySpace (D.state disk.old).size reached.new) }
+    // The device: what failed, and how often.
     ensures length { length reached.new ≡ length reached.old }
     ensures keeps { (D.state disk.new).honest → Keeps (D.state disk.old) (D.state disk.new) }
     ensures same { SameDisk (D.state disk.old) (D.state disk.new) }
@@ -132,15 +167,25 @@ fn read_directory<D: Disk>(
     entry: &MasterEntry,
     reached: &mut Reached,
 ) -> Result<StoredDirectory, VolumeError>
+    // What the caller sees to.
     requires volume { IsVolumeSize (D.state disk.old).size }
     requires inside { InSpace (D.state disk.old).size entry.now.first }
     requires marks { length reached.old ≡ (D.state disk.old).size }
-    ensures read { (D.state disk.new).honest → IfOk result (λ directory. IsDirectoryFound (D.state disk.old).contents (master_view entry.now) (known_directory directory) (digit_at reached.old) (digit_at reached.new)) }
-    ensures marked { IfOk result (λ directory. (n : ℕ) → digit_at reached.new n ≡ digit_at reached.old n + reaches_in_known n (known_directory directory)) }
-    ensures fault { (D.state disk.new).honest → IfErr result (IsFaultOfDirectory (D.state disk.old).size (D.state disk.old).contents (digit_at reached.old) entry.now.ppn entry.now.first) }
+    // What was read, or met where it is refused.
+    ensures read { (D.state disk.new).honest
+        → IfOk result (λ directory. IsDirectoryFound (D.state disk.old).contents (master_view entry.now)
+        (known_directory directory) (digit_at reached.old) (digit_at reached.new)) }
+    ensures marked { IfOk result (λ directory. (n : ℕ)
+        → digit_at reached.new n ≡ digit_at reached.old n + reaches_in_known n (known_directory directory)) }
+    ensures fault { (D.state disk.new).honest
+        → IfErr result (IsFaultOfDirectory (D.state disk.old).size (D.state disk.old).contents
+        (digit_at reached.old) entry.now.ppn entry.now.first) }
     ensures named { IfErr result (NamesInSpace (D.state disk.old).size) }
+    // It is as a map has to be.
     ensures whole { IfOk result (λ directory. IsWholeDirectory (D.state disk.old).size (known_directory directory)) }
-    ensures space { IsOnlySpace (D.state disk.old).size reached.old → IfOk result (λ directory. IsOnlySpace (D.state disk.old).size reached.new) }
+    ensures space { IsOnlySpace (D.state disk.old).size reached.old
+        → IfOk result (λ directory. IsOnlySpace (D.state disk.old).size reached.new) }
+    // The device: what failed, and how often.
     ensures length { length reached.new ≡ length reached.old }
     ensures keeps { (D.state disk.new).honest → Keeps (D.state disk.old) (D.state disk.new) }
     ensures same { SameDisk (D.state disk.old) (D.state disk.new) }
@@ -160,16 +205,28 @@ fn add_directory<D: Disk>(
     reached: &mut Reached,
     directories: &mut Vec<StoredDirectory>,
 ) -> Result<(), VolumeError>
+    // What the caller sees to.
     requires volume { IsVolumeSize (D.state disk.old).size }
     requires inside { InSpace (D.state disk.old).size entry.now.first }
     requires marks { length reached.old ≡ (D.state disk.old).size }
-    ensures read { (D.state disk.new).honest → OnOk result (IsAdded known_directory directories.old.items directories.new.items (λ d. IsDirectoryFound (D.state disk.old).contents (master_view entry.now) d (digit_at reached.old) (digit_at reached.new))) }
-    ensures marked { OnOk result (IsAdded known_directory directories.old.items directories.new.items (λ d. (n : ℕ) → digit_at reached.new n ≡ digit_at reached.old n + reaches_in_known n d)) }
-    ensures fault { (D.state disk.new).honest → IfErr result (IsFaultOfDirectory (D.state disk.old).size (D.state disk.old).contents (digit_at reached.old) entry.now.ppn entry.now.first) }
+    // What was read, or met where it is refused.
+    ensures read { (D.state disk.new).honest
+        → OnOk result (IsAdded known_directory directories.old.items directories.new.items
+        (λ d. IsDirectoryFound (D.state disk.old).contents (master_view entry.now) d (digit_at reached.old)
+        (digit_at reached.new))) }
+    ensures marked { OnOk result (IsAdded known_directory directories.old.items directories.new.items (λ d. (n : ℕ)
+        → digit_at reached.new n ≡ digit_at reached.old n + reaches_in_known n d)) }
+    ensures fault { (D.state disk.new).honest
+        → IfErr result (IsFaultOfDirectory (D.state disk.old).size (D.state disk.old).contents
+        (digit_at reached.old) entry.now.ppn entry.now.first) }
     ensures named { IfErr result (NamesInSpace (D.state disk.old).size) }
-    ensures whole { OnOk result (IsAdded known_directory directories.old.items directories.new.items (IsWholeDirectory (D.state disk.old).size)) }
+    // It is as a map has to be.
+    ensures whole { OnOk result (IsAdded known_directory directories.old.items directories.new.items
+        (IsWholeDirectory (D.state disk.old).size)) }
     ensures aligned { OnOk result (length directories.new.items ≡ length directories.old.items + 1) }
-    ensures space { IsOnlySpace (D.state disk.old).size reached.old → OnOk result (IsOnlySpace (D.state disk.old).size reached.new) }
+    ensures space { IsOnlySpace (D.state disk.old).size reached.old
+        → OnOk result (IsOnlySpace (D.state disk.old).size reached.new) }
+    // The device: what failed, and how often.
     ensures length { length reached.new ≡ length reached.old }
     ensures keeps { (D.state disk.new).honest → Keeps (D.state disk.old) (D.state disk.new) }
     ensures same { SameDisk (D.state disk.old) (D.state disk.new) }
@@ -190,17 +247,28 @@ pub fn read_directories<D: Disk>(
     entries: &[MasterEntry],
     reached: &mut Reached,
 ) -> Result<Vec<StoredDirectory>, VolumeError>
+    // What the caller sees to.
     requires volume { IsVolumeSize (D.state disk.old).size }
     requires inside { AllByRecursion (λ e. InSpace (D.state disk.old).size e.1.1) (map master_view entries.now) }
     requires once { EachOnce nat_cmp (map master_view entries.now) }
     requires marks { length reached.old ≡ (D.state disk.old).size }
-    ensures read { (D.state disk.new).honest → IfOk result (λ directories. AreDirectoriesRead (D.state disk.old).contents (map master_view entries.now) (map known_directory directories.items) (digit_at reached.old) (digit_at reached.new)) }
-    ensures marked { IfOk result (λ directories. (n : ℕ) → digit_at reached.new n ≡ digit_at reached.old n + total (reaches_in_known n) (map known_directory directories.items)) }
-    ensures fault { (D.state disk.new).honest → IfErr result (IsFaultOfDirectories (D.state disk.old).size (D.state disk.old).contents (digit_at reached.old) (map master_view entries.now)) }
+    // What was read, or met where it is refused.
+    ensures read { (D.state disk.new).honest
+        → IfOk result (λ directories. AreDirectoriesRead (D.state disk.old).contents (map master_view entries.now)
+        (map known_directory directories.items) (digit_at reached.old) (digit_at reached.new)) }
+    ensures marked { IfOk result (λ directories. (n : ℕ) → digit_at reached.new n
+        ≡ digit_at reached.old n + total (reaches_in_known n) (map known_directory directories.items)) }
+    ensures fault { (D.state disk.new).honest
+        → IfErr result (IsFaultOfDirectories (D.state disk.old).size (D.state disk.old).contents (digit_at reached.old)
+        (map master_view entries.now)) }
     ensures named { IfErr result (NamesInSpace (D.state disk.old).size) }
-    ensures whole { IfOk result (λ directories. AllByRecursion (IsWholeDirectory (D.state disk.old).size) (map known_directory directories.items)) }
+    // It is as a map has to be.
+    ensures whole { IfOk result (λ directories. AllByRecursion (IsWholeDirectory (D.state disk.old).size)
+        (map known_directory directories.items)) }
     ensures aligned { IfOk result (λ directories. length directories.items ≡ length entries.now) }
-    ensures space { IsOnlySpace (D.state disk.old).size reached.old → IfOk result (λ directories. IsOnlySpace (D.state disk.old).size reached.new) }
+    ensures space { IsOnlySpace (D.state disk.old).size reached.old
+        → IfOk result (λ directories. IsOnlySpace (D.state disk.old).size reached.new) }
+    // The device: what failed, and how often.
     ensures length { length reached.new ≡ length reached.old }
     ensures keeps { (D.state disk.new).honest → Keeps (D.state disk.old) (D.state disk.new) }
     ensures same { SameDisk (D.state disk.old) (D.state disk.new) }

@@ -36,23 +36,33 @@ pub fn read_volume<D: Disk>(alloc: Global, disk: &mut D) -> Result<DiskMap, Volu
     // A crash at any moment leaves what stands for whatever something stood for that a crash could leave
     // before; from the end of the first sync on, for whatever the contents stood for. Where that sync failed
     // nothing else was done.
-    ensures crash { (D.state disk.new).honest → LeavesOnly (D.state disk.old) (D.state disk.new) (StandsLikeBefore (D.state disk.old)) }
-    ensures synced { (D.state disk.new).honest → SyncsFirst D.state disk.old disk.new (IsErrOf result Device) (StandsLike (D.state disk.old)) }
+    ensures crash { (D.state disk.new).honest
+        → LeavesOnly (D.state disk.old) (D.state disk.new) (StandsLikeBefore (D.state disk.old)) }
+    ensures synced { (D.state disk.new).honest
+        → SyncsFirst D.state disk.old disk.new (IsErrOf result Device) (StandsLike (D.state disk.old)) }
 
     // At Ok the disk was recovered and nothing else, it stood for some files, and these it stands for; and the map
     // is the disk's.
-    ensures recovered { (D.state disk.new).honest → IfOk result (λ map. IsRecovered (D.state disk.old).size (D.state disk.old).contents (D.state disk.new).contents) }
-    ensures stood { (D.state disk.new).honest → IfOk result (λ map. (files : Files File) × Stands (D.state disk.old).size (D.state disk.old).contents files × RestsAt (D.state disk.new) files) }
+    ensures recovered { (D.state disk.new).honest
+        → IfOk result (λ map. IsRecovered (D.state disk.old).size (D.state disk.old).contents
+        (D.state disk.new).contents) }
+    ensures stood { (D.state disk.new).honest
+        → IfOk result (λ map. (files : Files File) × Stands (D.state disk.old).size (D.state disk.old).contents files
+        × RestsAt (D.state disk.new) files) }
     ensures rest { (D.state disk.new).honest → IfOk result (λ map. IsAtRest (D.state disk.new) (known_of map)) }
-    ensures files { (D.state disk.new).honest → (files : Files File) → Stands (D.state disk.old).size (D.state disk.old).contents files → IfOk result (λ map. RestsAt (D.state disk.new) files) }
+    ensures files { (D.state disk.new).honest → (files : Files File)
+        → Stands (D.state disk.old).size (D.state disk.old).contents files
+        → IfOk result (λ map. RestsAt (D.state disk.new) files) }
     ensures settled { (D.state disk.new).honest → IfOk result (λ map. NoneOpen (D.state disk.new)) }
     ensures whole { IfOk result (λ map. IsWholeMap (D.state disk.old).size (known_of map)) }
     ensures booked { IfOk result (λ map. IsBooked (D.state disk.old).size (known_of map)) }
 
     // A refusal names a fault that stands; but for Device the disk was recovered, or nothing was written.
-    ensures refused { (D.state disk.new).honest → IfErr result (Refuses (D.state disk.old).size (D.state disk.new).contents) }
+    ensures refused { (D.state disk.new).honest
+        → IfErr result (Refuses (D.state disk.old).size (D.state disk.new).contents) }
     ensures kept { (D.state disk.new).honest → (IsErrOf result Device → ⊥)
-        → Still (D.state disk.old) (D.state disk.new) ⊎ IsRecovered (D.state disk.old).size (D.state disk.old).contents (D.state disk.new).contents }
+        → Still (D.state disk.old) (D.state disk.new)
+        ⊎ IsRecovered (D.state disk.old).size (D.state disk.old).contents (D.state disk.new).contents }
 
     // On every disk.
     ensures named { IfErr result (NamesInSpace (D.state disk.old).size) }
@@ -76,12 +86,18 @@ impl<D: Disk> Volume<D> {
     ///
     /// `NotVolume` where the disk has not from 64 to 131072 blocks, with nothing written; `Device`.
     pub fn init(disk: &mut D) -> Result<(), VolumeError>
-        ensures stands { (D.state disk.new).honest → OnOk result (AtRest (D.state disk.new) (λ c. Stands (D.state disk.old).size c empty)) }
+        ensures stands { (D.state disk.new).honest
+            → OnOk result (AtRest (D.state disk.new) (λ c. Stands (D.state disk.old).size c empty)) }
         ensures settled { (D.state disk.new).honest → OnOk result (NoneOpen (D.state disk.new)) }
-        ensures shut { (D.state disk.new).honest → OnOk result (IsGateOpen (D.state disk.old).size (D.state disk.new).contents → ⊥) }
-        ensures bare { (D.state disk.new).honest → OnOk result (IsBare (D.state disk.old).size (D.state disk.new).contents) }
-        ensures modified { (D.state disk.new).honest → OnOk result (Modifies (IsInitBlock (D.state disk.old).size) (D.state disk.old) (D.state disk.new)) }
-        ensures near { (D.state disk.new).honest → LeavesOnly (D.state disk.old) (D.state disk.new) (Near (IsInitBlock (D.state disk.old).size) (D.state disk.old)) }
+        ensures shut { (D.state disk.new).honest
+            → OnOk result (IsGateOpen (D.state disk.old).size (D.state disk.new).contents → ⊥) }
+        ensures bare { (D.state disk.new).honest
+            → OnOk result (IsBare (D.state disk.old).size (D.state disk.new).contents) }
+        ensures modified { (D.state disk.new).honest
+            → OnOk result (Modifies (IsInitBlock (D.state disk.old).size) (D.state disk.old) (D.state disk.new)) }
+        ensures near { (D.state disk.new).honest
+            → LeavesOnly (D.state disk.old) (D.state disk.new)
+            (Near (IsInitBlock (D.state disk.old).size) (D.state disk.old)) }
         ensures range { IsErrOf result NotVolume ↔ (IsVolumeSize (D.state disk.old).size → ⊥) }
         ensures untouched { IsErrOf result NotVolume → disk.new ≡ disk.old }
         ensures only { IfErr result (λ error. (error ≡ NotVolume) ⊎ (error ≡ Device)) }
@@ -105,26 +121,38 @@ impl<D: Disk> Volume<D> {
         // Nobody reads or writes a version yet.
         ensures unread { IfOk result (λ volume. AllByRecursion (λ o. IfSome o IsFirstRead) volume.core.live) }
         ensures unwritten { IfOk result (λ volume. volume.core.pending ≡ []) }
-        ensures recovered { IfOk result (λ volume. (D.state volume.disk).honest → IsRecovered (D.state disk).size (D.state disk).contents (D.state volume.disk).contents) }
-        ensures stood { IfOk result (λ volume. (D.state volume.disk).honest → (files : Files File) × Stands (D.state disk).size (D.state disk).contents files × RestsAt (D.state volume.disk) files) }
-        ensures files { (files : Files File) → Stands (D.state disk).size (D.state disk).contents files → IfOk result (λ volume. (D.state volume.disk).honest → RestsAt (D.state volume.disk) files) }
+        ensures recovered { IfOk result (λ volume. (D.state volume.disk).honest
+            → IsRecovered (D.state disk).size (D.state disk).contents (D.state volume.disk).contents) }
+        ensures stood { IfOk result (λ volume. (D.state volume.disk).honest → (files : Files File)
+            × Stands (D.state disk).size (D.state disk).contents files × RestsAt (D.state volume.disk) files) }
+        ensures files { (files : Files File) → Stands (D.state disk).size (D.state disk).contents files
+            → IfOk result (λ volume. (D.state volume.disk).honest → RestsAt (D.state volume.disk) files) }
         ensures settled { IfOk result (λ volume. (D.state volume.disk).honest → NoneOpen (D.state volume.disk)) }
-        ensures crash { IfOk result (λ volume. (D.state volume.disk).honest → LeavesOnly (D.state disk) (D.state volume.disk) (StandsLikeBefore (D.state disk))) }
-        ensures synced { IfOk result (λ volume. (D.state volume.disk).honest → SyncsFirst D.state disk volume.disk ⊥ (StandsLike (D.state disk))) }
+        ensures crash { IfOk result (λ volume. (D.state volume.disk).honest
+            → LeavesOnly (D.state disk) (D.state volume.disk) (StandsLikeBefore (D.state disk))) }
+        ensures synced { IfOk result (λ volume. (D.state volume.disk).honest
+            → SyncsFirst D.state disk volume.disk ⊥ (StandsLike (D.state disk))) }
 
-        ensures refused { IfErr result (λ refused. (D.state refused.1).honest → Refuses (D.state disk).size (D.state refused.1).contents refused.0) }
+        // Where it refuses.
+        ensures refused { IfErr result (λ refused. (D.state refused.1).honest
+            → Refuses (D.state disk).size (D.state refused.1).contents refused.0) }
         // On every disk a block that it names lies in the free space, or is one of the table.
         ensures named { IfErr result (λ refused. NamesInSpace (D.state disk).size refused.0) }
         ensures kept { IfErr result (λ refused. (D.state refused.1).honest → (refused.0 ≡ Device → ⊥)
-            → Still (D.state disk) (D.state refused.1) ⊎ IsRecovered (D.state disk).size (D.state disk).contents (D.state refused.1).contents) }
-        ensures crash_refused { IfErr result (λ refused. (D.state refused.1).honest → LeavesOnly (D.state disk) (D.state refused.1) (StandsLikeBefore (D.state disk))) }
-        ensures synced_refused { IfErr result (λ refused. (D.state refused.1).honest → SyncsFirst D.state disk refused.1 (refused.0 ≡ Device) (StandsLike (D.state disk))) }
+            → Still (D.state disk) (D.state refused.1)
+            ⊎ IsRecovered (D.state disk).size (D.state disk).contents (D.state refused.1).contents) }
+        ensures crash_refused { IfErr result (λ refused. (D.state refused.1).honest
+            → LeavesOnly (D.state disk) (D.state refused.1) (StandsLikeBefore (D.state disk))) }
+        ensures synced_refused { IfErr result (λ refused. (D.state refused.1).honest
+            → SyncsFirst D.state disk refused.1 (refused.0 ≡ Device) (StandsLike (D.state disk))) }
 
         ensures same { IfOk result (λ volume. SameDisk (D.state disk) (D.state volume.disk)) }
         ensures served { IfOk result (λ volume. (D.state volume.disk).failures ≡ (D.state disk).failures) }
         ensures same_refused { IfErr result (λ refused. SameDisk (D.state disk) (D.state refused.1)) }
-        ensures failed { IfErr result (λ refused. refused.0 ≡ Device → (D.state refused.1).failures ≡ one_more (D.state disk).failures) }
-        ensures served_refused { IfErr result (λ refused. (refused.0 ≡ Device → ⊥) → (D.state refused.1).failures ≡ (D.state disk).failures) }
+        ensures failed { IfErr result (λ refused. refused.0 ≡ Device
+            → (D.state refused.1).failures ≡ one_more (D.state disk).failures) }
+        ensures served_refused { IfErr result (λ refused. (refused.0 ≡ Device → ⊥)
+            → (D.state refused.1).failures ≡ (D.state disk).failures) }
     {
         let mut disk = disk;
         match read_volume(alloc, &mut disk) {

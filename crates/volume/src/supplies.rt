@@ -51,10 +51,12 @@ pub(crate) fn find_supplies(
 ) -> Result<Supplies, NoMemory>
     requires whole { IsWholeCore map.old.table.size (core_of map.old) }
     requires there { IsSome (pending_at (core_of map.old).pending key) }
-    requires placed { (p : PendingVersion) → pending_at (core_of map.old).pending key ≡ Some p → IsPlaced (core_of map.old) p }
+    requires placed { (p : PendingVersion) → pending_at (core_of map.old).pending key ≡ Some p
+        → IsPlaced (core_of map.old) p }
     ensures core { core_of map.new ≡ core_of map.old }
     ensures ribs { IfOk result (λ supplies. length supplies.ribs.items ≡ rib_count blocks) }
-    ensures supplied { IfOk result (λ supplies. (p : PendingVersion) → pending_at (core_of map.old).pending key ≡ Some p → IsSupplied (core_of map.old) p (viewed file_view supplies.reserve) supplies.keys.items) }
+    ensures supplied { IfOk result (λ supplies. (p : PendingVersion) → pending_at (core_of map.old).pending key ≡ Some p
+        → IsSupplied (core_of map.old) p (viewed file_view supplies.reserve) supplies.keys.items) }
     ensures slot { IfOk result (λ supplies. HasRoomFor map.new.versions 1) }
 {
     let Some(version) = map.pending.get(key) else {

@@ -34,15 +34,25 @@ pub fn write_and_commit<D: Disk>(
     requires few { length set.now ≤ log_images (D.state disk.old).size }
 
     // A crash at any moment leaves what settles as before or with all puts.
-    ensures crash { (D.state disk.new).honest → (k k' : Known) (m m' : DiskMap) → IsAligned k → IsAligned k' → AtRest (D.state disk.old) (IsHeld (D.state disk.old).size k m)
-        → bit k.table fresh ≡ 0 → LeadsTo (D.state disk.old).size (D.state disk.old).contents fresh words.now set.now k m k' m'
-        → LeavesOnly (D.state disk.old) (D.state disk.new) (λ c. SettlesTo (D.state disk.old).size (IsHeld (D.state disk.old).size k m) c ⊎ SettlesTo (D.state disk.old).size (IsHeld (D.state disk.old).size k' m') c) }
+    ensures crash { (D.state disk.new).honest → (k k' : Known) (m m' : DiskMap) → IsAligned k → IsAligned k'
+        → AtRest (D.state disk.old) (IsHeld (D.state disk.old).size k m)
+        → bit k.table fresh ≡ 0
+        → LeadsTo (D.state disk.old).size (D.state disk.old).contents fresh words.now set.now k m k' m'
+        → LeavesOnly (D.state disk.old) (D.state disk.new)
+        (λ c. SettlesTo (D.state disk.old).size (IsHeld (D.state disk.old).size k m) c
+        ⊎ SettlesTo (D.state disk.old).size (IsHeld (D.state disk.old).size k' m') c) }
     // At Ok it is the latter.
-    ensures done { (D.state disk.new).honest → (k k' : Known) (m m' : DiskMap) → IsAligned k → IsAligned k' → AtRest (D.state disk.old) (IsHeld (D.state disk.old).size k m)
-        → bit k.table fresh ≡ 0 → LeadsTo (D.state disk.old).size (D.state disk.old).contents fresh words.now set.now k m k' m'
+    ensures done { (D.state disk.new).honest → (k k' : Known) (m m' : DiskMap) → IsAligned k → IsAligned k'
+        → AtRest (D.state disk.old) (IsHeld (D.state disk.old).size k m)
+        → bit k.table fresh ≡ 0
+        → LeadsTo (D.state disk.old).size (D.state disk.old).contents fresh words.now set.now k m k' m'
         → OnOk result (AtRest (D.state disk.new) (IsHeld (D.state disk.old).size k' m')) }
-    ensures modified { (D.state disk.new).honest → OnOk result (Modifies (λ n. (n ≡ fresh) ⊎ (IsGateOrLog (D.state disk.old).size n ⊎ IsPutIn set.now n)) (D.state disk.old) (D.state disk.new)) }
-    ensures near { (D.state disk.new).honest → LeavesOnly (D.state disk.old) (D.state disk.new) (Near (λ n. (n ≡ fresh) ⊎ (IsGateOrLog (D.state disk.old).size n ⊎ IsPutIn set.now n)) (D.state disk.old)) }
+    ensures modified { (D.state disk.new).honest
+        → OnOk result (Modifies (λ n. (n ≡ fresh) ⊎ (IsGateOrLog (D.state disk.old).size n ⊎ IsPutIn set.now n))
+        (D.state disk.old) (D.state disk.new)) }
+    ensures near { (D.state disk.new).honest
+        → LeavesOnly (D.state disk.old) (D.state disk.new)
+        (Near (λ n. (n ≡ fresh) ⊎ (IsGateOrLog (D.state disk.old).size n ⊎ IsPutIn set.now n)) (D.state disk.old)) }
     ensures same { SameDisk (D.state disk.old) (D.state disk.new) }
     ensures device { IsErrOf result Damaged → ⊥ }
     ensures failed { IsErrOf result Device → (D.state disk.new).failures ≡ one_more (D.state disk.old).failures }
@@ -58,16 +68,27 @@ pub fn write_and_commit<D: Disk>(
 ///
 /// `Device` where the device failed: recovery then finds all puts made, or none.
 pub fn commit_puts<D: Disk>(disk: &mut D, set: &ChangeSet) -> Result<(), Fault>
+    // What the caller sees to.
     requires volume { IsVolumeSize (D.state disk.old).size }
     requires in_range { AllByRecursion (IsTarget (D.state disk.old).size) (targets set.now) }
     requires few { length set.now ≤ log_images (D.state disk.old).size }
-    ensures crash { (D.state disk.new).honest → IsShut (D.state disk.old) → LeavesOnly (D.state disk.old) (D.state disk.new) (AllOrNone set.now (D.state disk.old)) }
-    ensures all { (D.state disk.new).honest → OnOk result (SameOutside (IsGateOrLog (D.state disk.old).size) (with_puts set.now (D.state disk.old).contents) (D.state disk.new).contents) }
+    // What a crash leaves, and what there is at Ok.
+    ensures crash { (D.state disk.new).honest → IsShut (D.state disk.old)
+        → LeavesOnly (D.state disk.old) (D.state disk.new) (AllOrNone set.now (D.state disk.old)) }
+    ensures all { (D.state disk.new).honest
+        → OnOk result (SameOutside (IsGateOrLog (D.state disk.old).size) (with_puts set.now (D.state disk.old).contents)
+        (D.state disk.new).contents) }
     ensures settled { (D.state disk.new).honest → OnOk result (NoneOpen (D.state disk.new)) }
     ensures shut { (D.state disk.new).honest → IsShut (D.state disk.old) → OnOk result (IsShut (D.state disk.new)) }
-    ensures modified { (D.state disk.new).honest → OnOk result (Modifies (λ n. IsGateOrLog (D.state disk.old).size n ⊎ IsPutIn set.now n) (D.state disk.old) (D.state disk.new)) }
-    ensures near { (D.state disk.new).honest → LeavesOnly (D.state disk.old) (D.state disk.new) (Near (λ n. IsGateOrLog (D.state disk.old).size n ⊎ IsPutIn set.now n) (D.state disk.old)) }
+    // Which blocks are written, whatever is answered.
+    ensures modified { (D.state disk.new).honest
+        → OnOk result (Modifies (λ n. IsGateOrLog (D.state disk.old).size n ⊎ IsPutIn set.now n) (D.state disk.old)
+        (D.state disk.new)) }
+    ensures near { (D.state disk.new).honest
+        → LeavesOnly (D.state disk.old) (D.state disk.new) (Near (λ n. IsGateOrLog (D.state disk.old).size n
+        ⊎ IsPutIn set.now n) (D.state disk.old)) }
     ensures same { SameDisk (D.state disk.old) (D.state disk.new) }
+    // The device: what failed, and how often.
     ensures device { IsErrOf result Damaged → ⊥ }
     ensures failed { IsErrOf result Device → (D.state disk.new).failures ≡ one_more (D.state disk.old).failures }
     ensures served { OnOk result ((D.state disk.new).failures ≡ (D.state disk.old).failures) }

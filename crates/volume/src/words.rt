@@ -1,4 +1,5 @@
-ghost use Rattle.std.specs.Prelude.{◌≡◌, ◌↔◌, ◌⊎◌, ◌+◌, ◌-◌, ◌*◌, ◌<◌, ℕ, List, true, false, Some, None, IfOk, IsErrOf, length, min, slice_index, take};
+ghost use Rattle.std.specs.Prelude.{◌≡◌, ◌↔◌, ◌⊎◌, ◌+◌, ◌-◌, ◌*◌, ◌<◌, ℕ, List, true, false, Some, None, IfOk, IsErrOf};
+ghost use Rattle.std.specs.Prelude.{length, min, slice_index, take};
 ghost use Rattle.std.specs.List.{AllByRecursion};
 ghost use Rattle.blockdisk.specs.Disk.{Keeps, SameDisk, one_more};
 ghost use Rattle.changeset.specs.Reads.{OnlyReads};
@@ -60,16 +61,22 @@ impl<D: Disk> Volume<D> {
     ) -> Result<Vec<Word>, CallError>
         requires live { IsReadable self.old.core handle }
         requires first { 0 < block }
-        ensures words { (D.state self.new.disk).honest → (v : VersionState) → version_under self.old.core handle ≡ Some v → (body : List ℕ) → length body ≡ v.words
-            → HasBody (D.state self.old.disk).contents v.blocks body → IfOk result (λ words. words.items ≡ take count (words_from body block)) }
+        ensures words { (D.state self.new.disk).honest → (v : VersionState)
+            → version_under self.old.core handle ≡ Some v → (body : List ℕ) → length body ≡ v.words
+            → HasBody (D.state self.old.disk).contents v.blocks body
+            → IfOk result (λ words. words.items ≡ take count (words_from body block)) }
         // A damaged block is never answered as words.
-        ensures whole { (D.state self.new.disk).honest → (v : VersionState) → version_under self.old.core handle ≡ Some v
-            → IfOk result (λ words. (i : ℕ) → i * 128 < length words.items → (D.state self.old.disk).contents (slice_index v.blocks (block - 1 + i)) ≡ None → ⊥) }
-        ensures few { (v : VersionState) → version_under self.old.core handle ≡ Some v → IfOk result (λ words. length words.items ≡ min count (v.words - block_start block)) }
+        ensures whole { (D.state self.new.disk).honest → (v : VersionState)
+            → version_under self.old.core handle ≡ Some v
+            → IfOk result (λ words. (i : ℕ) → i * 128 < length words.items
+            → (D.state self.old.disk).contents (slice_index v.blocks (block - 1 + i)) ≡ None → ⊥) }
+        ensures few { (v : VersionState) → version_under self.old.core handle ≡ Some v
+            → IfOk result (λ words. length words.items ≡ min count (v.words - block_start block)) }
 
         // Nothing is written, and core stays.
         ensures reads { (D.state self.new.disk).honest → OnlyReads (D.state self.old.disk) (D.state self.new.disk) }
-        ensures rests { (D.state self.new.disk).honest → (files : Files File) → RestsAt (D.state self.old.disk) files → RestsAt (D.state self.new.disk) files }
+        ensures rests { (D.state self.new.disk).honest → (files : Files File) → RestsAt (D.state self.old.disk) files
+            → RestsAt (D.state self.new.disk) files }
         ensures core { self.new.core ≡ self.old.core }
 
         // Which error comes when, and what it leaves.
@@ -83,8 +90,10 @@ impl<D: Disk> Volume<D> {
         ensures gone { IsErrOf result Failed → self.new.failed ≡ true }
         ensures device { IsErrOf result Device → self.new.failed ≡ true }
         ensures still { (IsErrOf result Device → ⊥) → (IsErrOf result Failed → ⊥) → self.new.failed ≡ self.old.failed }
-        ensures counted { IsErrOf result Device → (D.state self.new.disk).failures ≡ one_more (D.state self.old.disk).failures }
-        ensures served { (IsErrOf result Device → ⊥) → (D.state self.new.disk).failures ≡ (D.state self.old.disk).failures }
+        ensures counted { IsErrOf result Device → (D.state self.new.disk).failures
+            ≡ one_more (D.state self.old.disk).failures }
+        ensures served { (IsErrOf result Device → ⊥) → (D.state self.new.disk).failures
+            ≡ (D.state self.old.disk).failures }
         ensures same { SameDisk (D.state self.old.disk) (D.state self.new.disk) }
     {
         if self.failed {

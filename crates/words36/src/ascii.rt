@@ -1,4 +1,5 @@
-ghost use Rattle.std.specs.Prelude.{◌≡◌, ◌%◌, ◌≤◌, ◌<◌, ◌^◌, ◌⊎◌, ◌↔◌, IfOk, IfErr, OnOk, IsErrOf, All, Any, length, map};
+ghost use Rattle.std.specs.Prelude.{◌≡◌, ◌%◌, ◌≤◌, ◌<◌, ◌^◌, ◌⊎◌, ◌↔◌, IfOk, IfErr, OnOk, IsErrOf, All, Any, length};
+ghost use Rattle.std.specs.Prelude.{map};
 ghost use Rattle.words36.specs.Ascii.{ascii_word_of, five_characters, packed, unpacked, null_padded, without_last_bit};
 
 use crate::{Word, WordError};

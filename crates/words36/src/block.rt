@@ -1,4 +1,5 @@
-ghost use Rattle.std.specs.Prelude.{◌≡◌, ◌+◌, ◌<◌, ◌≤◌, ◌^◌, ◌↔◌, ◌++◌, ℕ, List, Ok, IfOk, IfErr, IfSome, IsSome, IsErrOf, length, take, drop};
+ghost use Rattle.std.specs.Prelude.{◌≡◌, ◌+◌, ◌<◌, ◌≤◌, ◌^◌, ◌↔◌, ◌++◌, ℕ, List, Ok, IfOk, IfErr, IfSome, IsSome};
+ghost use Rattle.std.specs.Prelude.{IsErrOf, length, take, drop};
 ghost use Rattle.words36.specs.Words.{IsWord};
 ghost use Rattle.words36.specs.Blocks.{IsBlock, IsFirstBadWord, block_bytes, word_bytes, number_at};
 

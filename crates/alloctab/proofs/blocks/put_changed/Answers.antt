@@ -7,7 +7,10 @@ use Rattle.alloctab.proofs.blocks.put_changed.Goals as goal
 
 pub unreachable-requires : goal.unreachable-requires
 unreachable-requires c =
-    let left : length (with_changed c.args.start (digit_at c.args.bits.now) (flag_at c.args.changed.now) c.loop-i.i c.args.set.now) < 37 = room_left c.args.start (digit_at c.args.bits.now) c.args.changed.now c.loop-i.i 37 c.args.set.now (omega arith) c.if-is_changed.true c.requires.room in
+    let left : length (with_changed c.args.start (digit_at c.args.bits.now)
+    (flag_at c.args.changed.now) c.loop-i.i c.args.set.now)
+    < 37 = room_left c.args.start (digit_at c.args.bits.now) c.args.changed.now c.loop-i.i 37 c.args.set.now
+    (omega arith) c.if-is_changed.true c.requires.room in
     let same = ap (λ (l : List Put). length l) c.loop-i.invariant in
     let full : length c.loop-i.set ≡ 37 = c.in-Err.ensures.full.1 in
     omega arith

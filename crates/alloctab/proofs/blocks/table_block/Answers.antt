@@ -17,10 +17,12 @@ loop-place-preserved c =
       long = length-set c.loop-place.words c.loop-place.place c.table_word.result ∙ c.loop-place.invariant.long;
       front = take_more_set c.loop-place.words c.loop-place.place c.table_word.result (omega arith)
           ∙ ap (λ (l : List ℕ). l ++ c.table_word.result ∷ []) c.loop-place.invariant.front
-          ∙ ap (λ (w : ℕ). words ++ w ∷ []) (c.table_word.ensures ∙ ap (λ (from : ℕ). number_of bits from 36) (omega arith))
+          ∙ ap (λ (w : ℕ). words ++ w ∷ []) (c.table_word.ensures
+          ∙ ap (λ (from : ℕ). number_of bits from 36) (omega arith))
           ∙ sym (words_more bits (4608 * c.args.i) c.loop-place.place);
     }
 
 pub returns : goal.returns
 returns c =
-    sym (take_all c.loop-place.place c.loop-place.words (omega arith)) ∙ c.loop-place.invariant.front ∙ table_words_are (digit_at c.args.bits.now) c.args.i c.loop-place.place (omega arith)
+    sym (take_all c.loop-place.place c.loop-place.words (omega arith)) ∙ c.loop-place.invariant.front
+    ∙ table_words_are (digit_at c.args.bits.now) c.args.i c.loop-place.place (omega arith)

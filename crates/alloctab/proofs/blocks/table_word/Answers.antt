@@ -14,8 +14,11 @@ loop-place-preserved c =
     let few : digit flag ≤ 1 = digit_few flag in
     let set : c.from.result ≡ bits (c.args.from + c.loop-place.place) = search rules in
     let is : c.loop-place.number * 2 + c.from.result ≡ number_of bits c.args.from (c.loop-place.place + 1) =
-    ap (λ (n : ℕ). n * 2 + c.from.result) c.loop-place.invariant.number_is ∙ ap (λ (n : ℕ). number_of bits c.args.from c.loop-place.place * 2 + n) set ∙ sym (number_more bits c.args.from c.loop-place.place) in
+    ap (λ (n : ℕ). n * 2 + c.from.result) c.loop-place.invariant.number_is
+    ∙ ap (λ (n : ℕ). number_of bits c.args.from c.loop-place.place * 2 + n) set
+    ∙ sym (number_more bits c.args.from c.loop-place.place) in
     record {
       number_is = is;
-      below = subst (λ (n : ℕ). n < 2 ^ (c.loop-place.place + 1)) (sym is) (number_below bits (λ n. digit_few (flag_at c.args.bits.now n)) c.args.from (c.loop-place.place + 1));
+      below = subst (λ (n : ℕ). n < 2 ^ (c.loop-place.place + 1)) (sym is)
+          (number_below bits (λ n. digit_few (flag_at c.args.bits.now n)) c.args.from (c.loop-place.place + 1));
     }

@@ -9,13 +9,16 @@ pub returns-in_err-read_bits-clause-wrong : goal.returns-in_err-read_bits-clause
 returns-in_err-read_bits-clause-wrong g c h n is =
     let old = g.D.Disk.state c.args.disk.now in
     let now = g.D.Disk.state c.loop-i.disk in
-    let contents = same_contents old.contents now.contents (c.loop-i.invariant.reads (c.in_err-read_bits.ensures.same.was_honest h)).still.contents in
+    let contents = same_contents old.contents now.contents
+    (c.loop-i.invariant.reads (c.in_err-read_bits.ensures.same.was_honest h)).still.contents in
     let p = err_from_is_err_and c.from_residual.result c.from_residual.ensures.1 in
-    bad_moved now.size old.size now.contents old.contents n c.loop-i.invariant.same.size contents (c.in_err-read_bits.ensures.wrong h n (rw (p.1, p.2) at is))
+    bad_moved now.size old.size now.contents old.contents n c.loop-i.invariant.same.size contents
+    (c.in_err-read_bits.ensures.wrong h n (rw (p.1, p.2) at is))
 
 pub returns-in_err-read_bits-clause-reads : goal.returns-in_err-read_bits-clause-reads
 returns-in_err-read_bits-clause-reads g c h =
-    only_reads_on (g.D.Disk.state c.args.disk.now) (g.D.Disk.state c.loop-i.disk) (g.D.Disk.state c.read_bits.new.disk) (c.loop-i.invariant.reads (c.read_bits.ensures.same.was_honest h)) (c.read_bits.ensures.reads h)
+    only_reads_on (g.D.Disk.state c.args.disk.now) (g.D.Disk.state c.loop-i.disk) (g.D.Disk.state c.read_bits.new.disk)
+    (c.loop-i.invariant.reads (c.read_bits.ensures.same.was_honest h)) (c.read_bits.ensures.reads h)
 
 pub loop-i-preserved : goal.loop-i-preserved
 loop-i-preserved g c =
@@ -25,9 +28,12 @@ loop-i-preserved g c =
     record {
       same = same_disk_on old now new c.loop-i.invariant.same c.read_bits.ensures.same;
       served = c.in_ok-read_bits.ensures.served (λ is. search rules) ∙ c.loop-i.invariant.served;
-      reads = λ h. only_reads_on old now new (c.loop-i.invariant.reads (c.read_bits.ensures.same.was_honest h)) (c.read_bits.ensures.reads h);
+      reads = λ h. only_reads_on old now new (c.loop-i.invariant.reads (c.read_bits.ensures.same.was_honest h))
+          (c.read_bits.ensures.reads h);
       read = λ h. read_more old.size old.contents c.loop-i.i c.loop-i.bits c.read_bits.new.bits
-          (reads_moved now.size old.size now.contents old.contents c.loop-i.i c.loop-i.bits c.read_bits.new.bits c.loop-i.invariant.same.size (same_contents old.contents now.contents (c.loop-i.invariant.reads (c.read_bits.ensures.same.was_honest h)).still.contents)
+          (reads_moved now.size old.size now.contents old.contents c.loop-i.i c.loop-i.bits c.read_bits.new.bits
+          c.loop-i.invariant.same.size (same_contents old.contents now.contents
+          (c.loop-i.invariant.reads (c.read_bits.ensures.same.was_honest h)).still.contents)
           (c.in_ok-read_bits.ensures.read h))
           (c.loop-i.invariant.read (c.read_bits.ensures.same.was_honest h));
     }

@@ -10,5 +10,6 @@ invariant-loop-i g l = record {
   same : SameDisk (g.D.Disk.state l.fn.disk) (g.D.Disk.state l.disk);
   served : (g.D.Disk.state l.disk).failures ≡ (g.D.Disk.state l.fn.disk).failures;
   reads : (g.D.Disk.state l.disk).honest → OnlyReads (g.D.Disk.state l.fn.disk) (g.D.Disk.state l.disk);
-  read : (g.D.Disk.state l.disk).honest → IsTableBelow l.i (g.D.Disk.state l.fn.disk).size (g.D.Disk.state l.fn.disk).contents (digit_at l.bits);
+  read : (g.D.Disk.state l.disk).honest
+      → IsTableBelow l.i (g.D.Disk.state l.fn.disk).size (g.D.Disk.state l.fn.disk).contents (digit_at l.bits);
 }

@@ -12,7 +12,8 @@ use Rattle.bench.proofs.files.publish_file.Goals as goal
 -- Words put at the first block of an empty body are the body.
 splice_in_empty : (words : List ℕ) → splice [] 1 words ≡ words
 splice_in_empty [] = refl
-splice_in_empty (w ∷ ws) = ap (λ (rest : List ℕ). (w ∷ ws) ++ rest) (drop-nil (block_start 1 + length (w ∷ ws))) ∙ append-nil (w ∷ ws)
+splice_in_empty (w ∷ ws) = ap (λ (rest : List ℕ). (w ∷ ws) ++ rest) (drop-nil (block_start 1 + length (w ∷ ws)))
+    ∙ append-nil (w ∷ ws)
 
 empty_body : (contents : Contents) → HasBody contents [] []
 empty_body contents = record { each = []; undamaged = tt; whole = tt; body_is = refl }
@@ -25,6 +26,8 @@ returns-clause-done g c h f rests =
     let rests' = subst (λ d. RestsAt (g.D.Disk.state d.inner) f) (sym same) rests in
     let put = c.in_ok-put_words.ensures.put _ c.in_ok-pending.ensures.begun.here in
     let body = splice [] 1 c.args.words.now in
-    subst (λ (words : List ℕ). RestsAt (g.D.Disk.state c.publish.new.self.disk.inner) (files_published f c.args.prime.ppn c.args.prime.file (file_of c.args.prime words))) (splice_in_empty c.args.words.now)
+    subst (λ (words : List ℕ). RestsAt (g.D.Disk.state c.publish.new.self.disk.inner)
+    (files_published f c.args.prime.ppn c.args.prime.file (file_of c.args.prime words)))
+    (splice_in_empty c.args.words.now)
     (c.in_ok-publish.ensures.done h f (c.put_words.ensures.rests h' f rests') _ put.1 body
     (length-splice [] 1 c.args.words.now ∙ sym put.2) (put.3 h' [] refl (empty_body begun.contents)))

@@ -11,13 +11,16 @@ pub returns-in-Some-clause-ok : goal.returns-in-Some-clause-ok
 returns-in-Some-clause-ok c =
     let puts = c.args.puts.now.items in
     let new = slice_set c.as_mut_slice.result.now c.in-Some.i c.args.put in
-    let long : length new ≡ length puts = length-set c.as_mut_slice.result.now c.in-Some.i c.args.put ∙ ap (λ (l : List Put). length l) c.as_mut_slice.ensures.value in
+    let long : length new ≡ length puts = length-set c.as_mut_slice.result.now c.in-Some.i c.args.put
+    ∙ ap (λ (l : List Put). length l) c.as_mut_slice.ensures.value in
     take_at new (drop (length new) puts) (length puts) long
-    ∙ ap (λ (l : List Put). slice_set l c.in-Some.i c.args.put) (c.as_mut_slice.ensures.value ∙ sym c.as_slice.ensures.value)
+    ∙ ap (λ (l : List Put). slice_set l c.in-Some.i c.args.put) (c.as_mut_slice.ensures.value
+    ∙ sym c.as_slice.ensures.value)
     ∙ set_there c.as_slice.result.now c.in-Some.i c.args.put c.in-Some.ensures.found.1 c.in-Some.ensures.first
     ∙ ap (replaced c.args.put) c.as_slice.ensures.value
 
 pub returns-in-Ok-clause-ok : goal.returns-in-Ok-clause-ok
 returns-in-Ok-clause-ok c =
     c.in-Ok.ensures.ok ∙ ap (λ (l : List Put). l ++ c.args.put ∷ []) (sym c.as_slice.ensures.value)
-    ∙ sym (replaced-new c.args.put c.as_slice.result.now c.in-None.ensures.none) ∙ ap (replaced c.args.put) c.as_slice.ensures.value
+    ∙ sym (replaced-new c.args.put c.as_slice.result.now c.in-None.ensures.none)
+    ∙ ap (replaced c.args.put) c.as_slice.ensures.value

@@ -8,14 +8,17 @@ pub loop-i-init : goal.loop-i-init
 loop-i-init g c = record {
   same = same_disk_start (g.D.Disk.state c.args.disk.now);
   served = refl;
-  modified = λ h. modifies_start (λ n. (log_start ≤ n) × (n < log_start + length c.args.puts.now)) (g.D.Disk.state c.args.disk.now);
+  modified = λ h. modifies_start (λ n. (log_start ≤ n) × (n < log_start + length c.args.puts.now))
+      (g.D.Disk.state c.args.disk.now);
   images = λ h. tt;
 }
 
 pub returns-in_err-write-clause-modified : goal.returns-in_err-write-clause-modified
 returns-in_err-write-clause-modified g c h =
-    modifies_write (λ n. (log_start ≤ n) × (n < log_start + length c.args.puts.now)) (log_start + c.loop-i.i) (g.D.Disk.state c.args.disk.now) (g.D.Disk.state c.loop-i.disk) (g.D.Disk.state c.write.new.self)
-    (omega arith, omega (arith, c.loop-i-test.true)) (c.loop-i.invariant.modified (c.write.ensures.same.was_honest h)) (c.write.ensures.writes h)
+    modifies_write (λ n. (log_start ≤ n) × (n < log_start + length c.args.puts.now)) (log_start + c.loop-i.i)
+    (g.D.Disk.state c.args.disk.now) (g.D.Disk.state c.loop-i.disk) (g.D.Disk.state c.write.new.self)
+    (omega arith, omega (arith, c.loop-i-test.true)) (c.loop-i.invariant.modified (c.write.ensures.same.was_honest h))
+    (c.write.ensures.writes h)
 
 pub loop-i-preserved : goal.loop-i-preserved
 loop-i-preserved g c =
@@ -25,9 +28,13 @@ loop-i-preserved g c =
     record {
       same = same_disk_on s now new c.loop-i.invariant.same c.write.ensures.same;
       served = c.in_ok-write.ensures.served ∙ c.loop-i.invariant.served;
-      modified = λ h. modifies_write (λ n. (log_start ≤ n) × (n < log_start + length c.args.puts.now)) (log_start + c.loop-i.i) s now new
-          (omega arith, omega (arith, c.loop-i-test.true)) (c.loop-i.invariant.modified (c.write.ensures.same.was_honest h)) (c.write.ensures.writes h);
+      modified = λ h. modifies_write (λ n. (log_start ≤ n) × (n < log_start + length c.args.puts.now))
+          (log_start + c.loop-i.i) s now new
+          (omega arith, omega (arith, c.loop-i-test.true))
+          (c.loop-i.invariant.modified (c.write.ensures.same.was_honest h)) (c.write.ensures.writes h);
       images = λ h.
-          images_more c.args.puts.now c.loop-i.i c.index-puts-i.result c.loop-i-test.true c.index-puts-i.is now.contents new.contents log_start (log_start + c.loop-i.i) refl
-          (c.loop-i.invariant.images (c.write.ensures.same.was_honest h)) (c.write.ensures.writes h).contents (c.in_ok-write.ensures.put h);
+          images_more c.args.puts.now c.loop-i.i c.index-puts-i.result c.loop-i-test.true c.index-puts-i.is
+          now.contents new.contents log_start (log_start + c.loop-i.i) refl
+          (c.loop-i.invariant.images (c.write.ensures.same.was_honest h)) (c.write.ensures.writes h).contents
+          (c.in_ok-write.ensures.put h);
     }

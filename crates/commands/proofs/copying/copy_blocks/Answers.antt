@@ -7,14 +7,19 @@ pub loop-init : goal.loop-init
 loop-init g c next = blocks_none g.S.FileService.machine g.met.S.FileService.stands _ c.args.moment c.args.count next
 
 pub loop-preserved : goal.loop-preserved
-loop-preserved g c = blocks_more g.S.FileService.machine _ _ _ c.args.moment c.args.count c.loop.counter (c.takes.result ∷ c.puts.result ∷ []) (λ i. c.takes.ensures.made i ∷ c.puts.ensures.made i ∷ []) c.loop-test.true c.loop.invariant
+loop-preserved g c = blocks_more g.S.FileService.machine _ _ _ c.args.moment c.args.count c.loop.counter
+    (c.takes.result ∷ c.puts.result ∷ []) (λ i. c.takes.ensures.made i ∷ c.puts.ensures.made i
+    ∷ []) c.loop-test.true c.loop.invariant
     (c.in_ok-ask_all.ensures c.args.moment)
 
 pub returns-in_err-ask_all : goal.returns-in_err-ask_all
 returns-in_err-ask_all g c =
     let p = err_from_is_err_and c.from_residual.result c.from_residual.ensures.1 in
-    rw (p.1, p.2) (blocks_fail g.S.FileService.machine _ _ _ c.args.moment c.args.count c.loop.counter (c.takes.result ∷ c.puts.result ∷ []) (λ i. c.takes.ensures.made i ∷ c.puts.ensures.made i ∷ []) c.loop-test.true c.loop.invariant
+    rw (p.1, p.2) (blocks_fail g.S.FileService.machine _ _ _ c.args.moment c.args.count c.loop.counter
+    (c.takes.result ∷ c.puts.result ∷ []) (λ i. c.takes.ensures.made i ∷ c.puts.ensures.made i
+    ∷ []) c.loop-test.true c.loop.invariant
     c.in_err-ask_all.field-0.0 (c.in_err-ask_all.ensures c.args.moment))
 
 pub returns : goal.returns
-returns g c = blocks_all g.S.FileService.machine _ _ c.args.moment c.args.count c.loop.counter (omega arith) c.loop.invariant
+returns g c = blocks_all g.S.FileService.machine _ _ c.args.moment c.args.count c.loop.counter
+    (omega arith) c.loop.invariant

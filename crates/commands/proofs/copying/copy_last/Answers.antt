@@ -12,15 +12,24 @@ pub returns-in_err-ask_all : goal.returns-in_err-ask_all
 returns-in_err-ask_all g c =
     let p = err_from_is_err_and c.from_residual-in_err-ask_all.result c.from_residual-in_err-ask_all.ensures.1 in
     let behind = goes_to c.args.moment c.args.n ∷ takes c.args.moment ∷ puts c.args.moment ∷ [] in
-    rw (p.1, p.2) (λ next. led_on g.S.FileService.machine _ _ _ (sizes c.args.moment c.args.n c.args.size (λ count. each c.args.moment (lists count ++ behind) next)) (each c.args.moment (lists c.in_ok-count.count ++ behind) next) _
+    rw (p.1, p.2) (λ next. led_on g.S.FileService.machine _ _ _
+    (sizes c.args.moment c.args.n c.args.size (λ count. each c.args.moment (lists count ++ behind) next))
+    (each c.args.moment (lists c.in_ok-count.count ++ behind) next) _
     (c.in_ok-count.ensures.led (λ count. each c.args.moment (lists count ++ behind) next))
-    (led_first g.S.FileService.machine _ _ c.args.moment c.lists.result (lists c.in_ok-count.count) behind next _ c.lists.ensures.made (c.in_err-ask_all.ensures c.args.moment (each c.args.moment behind next))))
+    (led_first g.S.FileService.machine _ _ c.args.moment c.lists.result (lists c.in_ok-count.count) behind
+    next _ c.lists.ensures.made (c.in_err-ask_all.ensures c.args.moment (each c.args.moment behind next))))
 
 pub returns : goal.returns
 returns g c next =
     let behind = goes_to c.args.moment c.args.n ∷ takes c.args.moment ∷ puts c.args.moment ∷ [] in
-    led_on g.S.FileService.machine _ _ _ (sizes c.args.moment c.args.n c.args.size (λ count. each c.args.moment (lists count ++ behind) next)) (each c.args.moment (lists c.in_ok-count.count ++ behind) next) _
+    led_on g.S.FileService.machine _ _ _
+    (sizes c.args.moment c.args.n c.args.size (λ count. each c.args.moment (lists count ++ behind) next))
+    (each c.args.moment (lists c.in_ok-count.count ++ behind) next) _
     (c.in_ok-count.ensures.led (λ count. each c.args.moment (lists count ++ behind) next))
-    (led_on g.S.FileService.machine _ _ _ (each c.args.moment (lists c.in_ok-count.count ++ behind) next) (each c.args.moment behind next) _
-    (led_first g.S.FileService.machine _ _ c.args.moment c.lists.result (lists c.in_ok-count.count) behind next _ c.lists.ensures.made (c.in_ok-ask_all.ensures c.args.moment (each c.args.moment behind next)))
-    (led_each g.S.FileService.machine _ _ c.args.moment (c.goes_to.result ∷ c.takes.result ∷ c.puts.result ∷ []) behind next _ (λ i. c.goes_to.ensures.made i ∷ c.takes.ensures.made i ∷ c.puts.ensures.made i ∷ []) (c.ask_all-2.ensures c.args.moment next)))
+    (led_on g.S.FileService.machine _ _ _ (each c.args.moment (lists c.in_ok-count.count ++ behind) next)
+    (each c.args.moment behind next) _
+    (led_first g.S.FileService.machine _ _ c.args.moment c.lists.result (lists c.in_ok-count.count) behind
+    next _ c.lists.ensures.made (c.in_ok-ask_all.ensures c.args.moment (each c.args.moment behind next)))
+    (led_each g.S.FileService.machine _ _ c.args.moment (c.goes_to.result ∷ c.takes.result ∷ c.puts.result
+    ∷ []) behind next _ (λ i. c.goes_to.ensures.made i ∷ c.takes.ensures.made i ∷ c.puts.ensures.made i ∷ [])
+    (c.ask_all-2.ensures c.args.moment next)))

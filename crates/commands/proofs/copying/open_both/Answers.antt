@@ -9,14 +9,19 @@ pub returns-in_err-ask_all : goal.returns-in_err-ask_all
 returns-in_err-ask_all g c =
     let p = err_from_is_err_and c.from_residual.result c.from_residual.ensures.1 in
     let events = writes c.args.moment c.args.to ++ lists 128 in
-    rw (p.1, p.2) (λ next. led_first g.S.FileService.machine _ _ c.args.moment c.finds.result (finds c.args.moment c.args.from) events (examines c.args.moment (file_words + 3) next) _ c.finds.ensures.made
+    rw (p.1, p.2) (λ next. led_first g.S.FileService.machine _ _ c.args.moment c.finds.result
+    (finds c.args.moment c.args.from) events (examines c.args.moment (file_words + 3) next) _ c.finds.ensures.made
     (c.in_err-ask_all.ensures c.args.moment (each c.args.moment events (examines c.args.moment (file_words + 3) next))))
 
 pub returns-in_err-ask_all-2 : goal.returns-in_err-ask_all-2
 returns-in_err-ask_all-2 g c =
     let p = err_from_is_err_and c.from_residual-in_err-ask_all-2.result c.from_residual-in_err-ask_all-2.ensures.1 in
-    rw (p.1, p.2) (λ next. second_led g.S.FileService.machine c.args.moment _ _ _ c.finds.result c.writes.result (finds c.args.moment c.args.from) (writes c.args.moment c.args.to) (lists 128) (examines c.args.moment (file_words + 3) next) _
-    c.finds.ensures.made c.writes.ensures.made (c.in_ok-ask_all.ensures c.args.moment) (c.in_err-ask_all-2.ensures c.args.moment (each c.args.moment (lists 128) (examines c.args.moment (file_words + 3) next))))
+    rw (p.1, p.2) (λ next. second_led g.S.FileService.machine c.args.moment _ _ _ c.finds.result c.writes.result
+    (finds c.args.moment c.args.from) (writes c.args.moment c.args.to) (lists 128)
+    (examines c.args.moment (file_words + 3) next) _
+    c.finds.ensures.made c.writes.ensures.made (c.in_ok-ask_all.ensures c.args.moment)
+    (c.in_err-ask_all-2.ensures c.args.moment
+    (each c.args.moment (lists 128) (examines c.args.moment (file_words + 3) next))))
 
 pub ask_all-requires-3 : goal.ask_all-requires-3
 ask_all-requires-3 g c = always_along _ c.lists.ensures.served
@@ -24,12 +29,20 @@ ask_all-requires-3 g c = always_along _ c.lists.ensures.served
 pub returns-in_err-ask_all-3 : goal.returns-in_err-ask_all-3
 returns-in_err-ask_all-3 g c =
     let p = err_from_is_err_and c.from_residual-in_err-ask_all-3.result c.from_residual-in_err-ask_all-3.ensures.1 in
-    rw (p.1, p.2) (λ next. third_led g.S.FileService.machine c.args.moment _ _ _ _ c.finds.result c.writes.result c.lists.result (finds c.args.moment c.args.from) (writes c.args.moment c.args.to) (lists 128) (examines c.args.moment (file_words + 3) next) _
-    c.finds.ensures.made c.writes.ensures.made c.lists.ensures.made (c.in_ok-ask_all.ensures c.args.moment) (c.in_ok-ask_all-2.ensures c.args.moment) (c.in_err-ask_all-3.ensures c.args.moment (examines c.args.moment (file_words + 3) next)))
+    rw (p.1, p.2) (λ next. third_led g.S.FileService.machine c.args.moment _ _ _ _ c.finds.result c.writes.result
+    c.lists.result (finds c.args.moment c.args.from) (writes c.args.moment c.args.to) (lists 128)
+    (examines c.args.moment (file_words + 3) next) _
+    c.finds.ensures.made c.writes.ensures.made c.lists.ensures.made (c.in_ok-ask_all.ensures c.args.moment)
+    (c.in_ok-ask_all-2.ensures c.args.moment)
+    (c.in_err-ask_all-3.ensures c.args.moment (examines c.args.moment (file_words + 3) next)))
 
 pub returns : goal.returns
 returns g c next =
     let then = examines c.args.moment (file_words + 3) next in
-    led_on g.S.FileService.machine _ _ _ (each c.args.moment (finds c.args.moment c.args.from ++ (writes c.args.moment c.args.to ++ lists 128)) then) then _
-    (third_led g.S.FileService.machine c.args.moment _ _ _ _ c.finds.result c.writes.result c.lists.result (finds c.args.moment c.args.from) (writes c.args.moment c.args.to) (lists 128) then then
-    c.finds.ensures.made c.writes.ensures.made c.lists.ensures.made (c.in_ok-ask_all.ensures c.args.moment) (c.in_ok-ask_all-2.ensures c.args.moment) (c.in_ok-ask_all-3.ensures c.args.moment then)) (c.examine.ensures c.args.moment next)
+    led_on g.S.FileService.machine _ _ _ (each c.args.moment (finds c.args.moment c.args.from
+    ++ (writes c.args.moment c.args.to ++ lists 128)) then) then _
+    (third_led g.S.FileService.machine c.args.moment _ _ _ _ c.finds.result c.writes.result c.lists.result
+    (finds c.args.moment c.args.from) (writes c.args.moment c.args.to) (lists 128) then then
+    c.finds.ensures.made c.writes.ensures.made c.lists.ensures.made (c.in_ok-ask_all.ensures c.args.moment)
+    (c.in_ok-ask_all-2.ensures c.args.moment) (c.in_ok-ask_all-3.ensures c.args.moment then))
+    (c.examine.ensures c.args.moment next)

@@ -6,23 +6,33 @@ use Rattle.commands.proofs.ReadingLaws.{fetches_none, fetches_more, fetches_brok
 use Rattle.commands.proofs.reading.fetch.Goals as goal
 
 pub loop-place-init : goal.loop-place-init
-loop-place-init g c = (refl, fetches_none g.S.FileService.machine block_address c.args.count g.met.S.FileService.stands c.args.service.now)
+loop-place-init g c = (
+  refl,
+  fetches_none g.S.FileService.machine block_address c.args.count g.met.S.FileService.stands c.args.service.now,
+)
 
 pub loop-place-preserved : goal.loop-place-preserved
 loop-place-preserved g c =
     let long : length c.loop-place.block ≡ 128 = c.loop-place.invariant.0 in (
       length-set c.loop-place.block c.loop-place.place c.in_ok-block.field-0 ∙ long,
-      fetches_more g.S.FileService.machine block_address c.args.count c.args.service.now c.loop-place.service c.examine.new.service c.loop-place.place (take c.loop-place.place c.loop-place.block) c.loop-place-test.true c.loop-place.invariant.1
-          c.examine.result c.examine.ensures c.in_ok-block.field-0 (take (c.loop-place.place + 1) (set c.loop-place.block c.loop-place.place c.in_ok-block.field-0)) c.in_ok-block.was
+      fetches_more g.S.FileService.machine block_address c.args.count c.args.service.now c.loop-place.service
+          c.examine.new.service c.loop-place.place (take c.loop-place.place c.loop-place.block) c.loop-place-test.true
+          c.loop-place.invariant.1
+          c.examine.result c.examine.ensures c.in_ok-block.field-0
+          (take (c.loop-place.place + 1) (set c.loop-place.block c.loop-place.place c.in_ok-block.field-0))
+          c.in_ok-block.was
           (take_more_set c.loop-place.block c.loop-place.place c.in_ok-block.field-0 (omega arith)),
     )
 
 pub returns : goal.returns
-returns g c = fetches_all g.S.FileService.machine block_address c.args.count c.args.service.now c.loop-place.service c.loop-place.place c.loop-place.block c.loop-place-test.false c.loop-place.auto.place-end c.loop-place.invariant.1
+returns g c = fetches_all g.S.FileService.machine block_address c.args.count c.args.service.now c.loop-place.service
+    c.loop-place.place c.loop-place.block c.loop-place-test.false c.loop-place.auto.place-end c.loop-place.invariant.1
 
 pub returns-in_err-block : goal.returns-in_err-block
 returns-in_err-block g c =
     let p = err_from_is_err_and c.from_residual.result c.from_residual.ensures.1 in
     rw (p.1, p.2)
-    (fetches_broken g.S.FileService.machine block_address c.args.count c.args.service.now c.loop-place.service c.examine.new.service c.loop-place.place (take c.loop-place.place c.loop-place.block) c.loop-place-test.true c.loop-place.invariant.1
+    (fetches_broken g.S.FileService.machine block_address c.args.count c.args.service.now c.loop-place.service
+    c.examine.new.service c.loop-place.place (take c.loop-place.place c.loop-place.block) c.loop-place-test.true
+    c.loop-place.invariant.1
     c.examine.result c.examine.ensures c.in_err-block.field-0.0 c.in_err-block.was)

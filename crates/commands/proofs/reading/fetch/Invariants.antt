@@ -4,4 +4,5 @@ use Rattle.commands.proofs.ReadingLaws.{Fetches}
 use Rattle.commands.proofs.reading.fetch.Given as goal
 
 abbrev pub invariant-loop-place : goal.invariant-loop-place
-invariant-loop-place g l = (length l.block ≡ 128) × Fetches g.S.FileService.machine block_address l.fn.count l.fn.service l.service l.place (take l.place l.block)
+invariant-loop-place g l = (length l.block ≡ 128)
+    × Fetches g.S.FileService.machine block_address l.fn.count l.fn.service l.service l.place (take l.place l.block)

@@ -6,22 +6,27 @@ use Rattle.commands.proofs.ReadingLaws.{fills_none, fills_more, fills_broken, fi
 use Rattle.commands.proofs.reading.fill.Goals as goal
 
 pub loop-place-init : goal.loop-place-init
-loop-place-init g c = fills_none g.S.FileService.machine block_address 128 c.args.word g.met.S.FileService.stands c.args.service.now
+loop-place-init g c = fills_none g.S.FileService.machine block_address 128 c.args.word g.met.S.FileService.stands
+    c.args.service.now
 
 pub loop-place-preserved : goal.loop-place-preserved
 loop-place-preserved g c =
-    fills_more g.S.FileService.machine block_address 128 c.args.word c.args.service.now c.loop-place.service c.ask_all.new.service c.loop-place.place c.loop-place-test.true c.loop-place.invariant
+    fills_more g.S.FileService.machine block_address 128 c.args.word c.args.service.now c.loop-place.service
+    c.ask_all.new.service c.loop-place.place c.loop-place-test.true c.loop-place.invariant
     c.fills.result c.fills.ensures.made c.ask_all.result c.ask_all.ensures c.in_ok-ask_all.field-0 c.in_ok-ask_all.was
 
 pub ask_all-requires : goal.ask_all-requires
 ask_all-requires g c = always_along (c.fills.result ∷ []) (c.fills.ensures.served, tt)
 
 pub returns : goal.returns
-returns g c = fills_all g.S.FileService.machine block_address 128 c.args.word c.args.service.now c.loop-place.service c.loop-place.place c.loop-place-test.false c.loop-place.invariant
+returns g c = fills_all g.S.FileService.machine block_address 128 c.args.word c.args.service.now c.loop-place.service
+    c.loop-place.place c.loop-place-test.false c.loop-place.invariant
 
 pub returns-in_err-ask_all : goal.returns-in_err-ask_all
 returns-in_err-ask_all g c =
     let p = err_from_is_err_and c.from_residual.result c.from_residual.ensures.1 in
     rw (p.1, p.2)
-    (fills_broken g.S.FileService.machine block_address 128 c.args.word c.args.service.now c.loop-place.service c.ask_all.new.service c.loop-place.place c.loop-place-test.true c.loop-place.invariant
-    c.fills.result c.fills.ensures.made c.ask_all.result c.ask_all.ensures c.in_err-ask_all.field-0.0 c.in_err-ask_all.was)
+    (fills_broken g.S.FileService.machine block_address 128 c.args.word c.args.service.now c.loop-place.service
+    c.ask_all.new.service c.loop-place.place c.loop-place-test.true c.loop-place.invariant
+    c.fills.result c.fills.ensures.made c.ask_all.result c.ask_all.ensures c.in_err-ask_all.field-0.0
+    c.in_err-ask_all.was)

@@ -3,4 +3,6 @@ use Rattle.commands.specs.Sessions.{StepsOn}
 use Rattle.commands.proofs.run.take_piece.Given as goal
 
 abbrev pub invariant-loop-byte : goal.invariant-loop-byte
-invariant-loop-byte g l = StepsOn l.fn.language g.S.FileService.machine l.fn.service l.service (g.W.Write.contents l.fn.writer) (g.W.Write.contents l.writer) l.fn.moment l.fn.talk l.talk (take l.byte-index l.piece)
+invariant-loop-byte g l = StepsOn l.fn.language g.S.FileService.machine l.fn.service l.service
+    (g.W.Write.contents l.fn.writer) (g.W.Write.contents l.writer) l.fn.moment l.fn.talk l.talk
+    (take l.byte-index l.piece)

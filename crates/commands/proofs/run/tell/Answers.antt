@@ -3,14 +3,17 @@ use Rattle.commands.proofs.StepLaws.{told_nothing, told_said, told_ordered}
 use Rattle.commands.proofs.run.tell.Goals as goal
 
 pub returns-in-Nothing-clause-told : goal.returns-in-Nothing-clause-told
-returns-in-Nothing-clause-told g c = told_nothing g.S.FileService.machine g.met.S.FileService.stands _ _ c.args.moment c.args.talk.now.who c.args.talk.now.tally c.args.heard c.in-Nothing.is
+returns-in-Nothing-clause-told g c = told_nothing g.S.FileService.machine g.met.S.FileService.stands _
+    _ c.args.moment c.args.talk.now.who c.args.talk.now.tally c.args.heard c.in-Nothing.is
 
 pub returns-in-Said-clause-told : goal.returns-in-Said-clause-told
-returns-in-Said-clause-told g c = told_said g.S.FileService.machine (λ bytes. bytes.items) c.put.result c.answer-text.result _ _ _ _ c.args.moment _ _ _ _ c.args.heard c.in-Said.meant c.in-Said.is
+returns-in-Said-clause-told g c = told_said g.S.FileService.machine (λ bytes. bytes.items) c.put.result
+    c.answer-text.result _ _ _ _ c.args.moment _ _ _ _ c.args.heard c.in-Said.meant c.in-Said.is
     c.answer-text.ensures c.put.ensures
 
 pub returns-in-Ordered-clause-told : goal.returns-in-Ordered-clause-told
-returns-in-Ordered-clause-told g c = told_ordered g.S.FileService.machine (λ bytes. bytes.items) c.put-in-Ordered.result c.obey-text.result _ _ _ _ c.args.moment _ _ _ _ c.args.heard c.in-Ordered.order c.in-Ordered.is
+returns-in-Ordered-clause-told g c = told_ordered g.S.FileService.machine (λ bytes. bytes.items) c.put-in-Ordered.result
+    c.obey-text.result _ _ _ _ c.args.moment _ _ _ _ c.args.heard c.in-Ordered.order c.in-Ordered.is
     (c.obey-text.ensures c.args.moment c.args.talk.now.who) c.put-in-Ordered.ensures
 
 pub answer-text-requires : goal.answer-text-requires

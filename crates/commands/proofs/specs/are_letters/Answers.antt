@@ -5,7 +5,11 @@ use Rattle.commands.proofs.SpecLaws.{not_letters}
 use Rattle.commands.proofs.specs.are_letters.Goals as goal
 
 pub returns-then-not-is_letter : goal.returns-then-not-is_letter
-returns-then-not-is_letter c = (λ e. cc, λ a. not_letters c.args.text.now c.loop-byte.byte-index c.loop-byte-test.true c.if-not-is_letter.ensures a)
+returns-then-not-is_letter c = (
+  λ e. cc,
+  λ a. not_letters c.args.text.now c.loop-byte.byte-index c.loop-byte-test.true c.if-not-is_letter.ensures a,
+)
 
 pub loop-byte-preserved : goal.loop-byte-preserved
-loop-byte-preserved c = are_more is_letter c.args.text.now c.loop-byte.byte-index c.loop-byte-test.true (sym c.if-not-is_letter.ensures) c.loop-byte.invariant
+loop-byte-preserved c = are_more is_letter c.args.text.now c.loop-byte.byte-index c.loop-byte-test.true
+    (sym c.if-not-is_letter.ensures) c.loop-byte.invariant

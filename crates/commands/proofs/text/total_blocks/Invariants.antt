@@ -3,4 +3,7 @@ use Rattle.meaning.specs.Texts.{blocks_in}
 use Rattle.commands.proofs.text.total_blocks.Given as goal
 
 abbrev pub invariant-loop-entry : goal.invariant-loop-entry
-invariant-loop-entry l = record { sum : l.blocks ≡ blocks_in (take l.entry-index l.entries); small : l.blocks ≤ l.entry-index * 2 ^ 32 }
+invariant-loop-entry l = record {
+  sum : l.blocks ≡ blocks_in (take l.entry-index l.entries);
+  small : l.blocks ≤ l.entry-index * 2 ^ 32;
+}

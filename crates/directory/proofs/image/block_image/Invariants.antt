@@ -2,4 +2,5 @@ use Rattle.std.proofs.Common.{◌≡◌, ◌-◌, ◌*◌, ◌∷◌, ◌++◌, 
 use Rattle.directory.proofs.image.block_image.Given as goal
 
 abbrev pub invariant-loop-i : goal.invariant-loop-i
-invariant-loop-i g l = l.block ≡ l.fn.next ∷ length l.entries ∷ (flat_map g.E.Entry.words_of (take l.i (map g.E.Entry.view l.entries)) ++ replicate (126 - 3 * l.i) 0)
+invariant-loop-i g l = l.block ≡ l.fn.next ∷ length l.entries
+    ∷ (flat_map g.E.Entry.words_of (take l.i (map g.E.Entry.view l.entries)) ++ replicate (126 - 3 * l.i) 0)

@@ -7,21 +7,24 @@ use Rattle.filser.proofs.reading.number.Goals as goal
 pub returns-in-Some : goal.returns-in-Some
 returns-in-Some c =
     number_in_range (rows_of (found_of c.args.matches.now)) c.args.id.now c.args.least c.args.most c.in-Some.n
-    (read_some (found_of c.args.matches.now) c.args.id.now c.in-Some.n c.in-Some.ensures.none (λ t is. (c.in-Some.ensures.value t is).0))
+    (read_some (found_of c.args.matches.now) c.args.id.now c.in-Some.n c.in-Some.ensures.none
+    (λ t is. (c.in-Some.ensures.value t is).0))
     (omega (arith, c.if-least-n.true)) (omega (arith, c.if-n-most.true))
 
 -- src/reading.rt:75:1
 pub returns-in_default : goal.returns-in_default
 returns-in_default c =
     out_of_range (rows_of (found_of c.args.matches.now)) c.args.id.now c.args.least c.args.most c.in-Some.n
-    (read_some (found_of c.args.matches.now) c.args.id.now c.in-Some.n c.in-Some.ensures.none (λ t is. (c.in-Some.ensures.value t is).0))
+    (read_some (found_of c.args.matches.now) c.args.id.now c.in-Some.n c.in-Some.ensures.none
+    (λ t is. (c.in-Some.ensures.value t is).0))
     (λ above below. omega arith)
 
 -- src/reading.rt:75:1
 pub returns-in_default-2 : goal.returns-in_default-2
 returns-in_default-2 c =
     out_of_range (rows_of (found_of c.args.matches.now)) c.args.id.now c.args.least c.args.most c.in-Some.n
-    (read_some (found_of c.args.matches.now) c.args.id.now c.in-Some.n c.in-Some.ensures.none (λ t is. (c.in-Some.ensures.value t is).0))
+    (read_some (found_of c.args.matches.now) c.args.id.now c.in-Some.n c.in-Some.ensures.none
+    (λ t is. (c.in-Some.ensures.value t is).0))
     (λ above below. omega arith)
 
 -- src/reading.rt:75:1

@@ -21,11 +21,13 @@ pub returns-in-Err-clause-served : goal.returns-in-Err-clause-served
 returns-in-Err-clause-served g c h files stands =
     inr (record {
       error = c.in-Err.error;
-      why = no_fault (g.D.Disk.state c.args.disk) (g.D.Disk.state c.in-Err.disk) files stands c.in-Err.error (c.in-Err.ensures.refused h) (c.in-Err.ensures.kept h);
+      why = no_fault (g.D.Disk.state c.args.disk) (g.D.Disk.state c.in-Err.disk) files stands c.in-Err.error
+          (c.in-Err.ensures.refused h) (c.in-Err.ensures.kept h);
       said = c.say.ensures.said;
       left = c.in-Err.ensures.crash_refused h;
     })
 
 pub returns-in-Ok-clause-was_honest : goal.returns-in-Ok-clause-was_honest
 returns-in-Ok-clause-was_honest g c h =
-    c.in-Ok.ensures.same.was_honest (c.script-talked.ensures.goes.was_honest (subst (λ disk. (g.D.Disk.state disk).honest) c.finish.ensures h))
+    c.in-Ok.ensures.same.was_honest
+    (c.script-talked.ensures.goes.was_honest (subst (λ disk. (g.D.Disk.state disk).honest) c.finish.ensures h))

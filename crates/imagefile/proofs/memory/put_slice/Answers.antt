@@ -9,4 +9,5 @@ unfolding put
 returns c =
     let all = c.args.all.now in
     let bytes = c.args.bytes.now in
-    put_mid-paste c.args.at _ all c.copy_from_slice.new.self bytes (length bytes) c.copy_from_slice.ensures.after (omega arith) refl ∙ paste_all all c.args.at bytes (length bytes) refl
+    put_mid-paste c.args.at _ all c.copy_from_slice.new.self bytes (length bytes) c.copy_from_slice.ensures.after
+    (omega arith) refl ∙ paste_all all c.args.at bytes (length bytes) refl

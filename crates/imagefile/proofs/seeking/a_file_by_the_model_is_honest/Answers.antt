@@ -14,8 +14,10 @@ honest u (Measure ∷ before) within = (honest u before (All-tail (IsWithin (siz
 honest u (ReadAt at count ∷ before) within =
     let b = (after_calls u (answered u before)).bytes in
     let long : length (window b at count) ≡ count = length-window b at count in
-    let inside : at + count ≤ size_of u = All-head (IsWithin (size_of u)) (ReadAt at count) before within in
-    ((honest u before (All-tail (IsWithin (size_of u)) (ReadAt at count) before within), refl), (omega (arith, long, inside), sym (ap (window b at) long)))
+    let inside : at + count ≤ size_of u = All-head (IsWithin (size_of u)) (ReadAt at count) before within in (
+      (honest u before (All-tail (IsWithin (size_of u)) (ReadAt at count) before within), refl),
+      (omega (arith, long, inside), sym (ap (window b at) long)),
+    )
 honest u (WriteAt at given ∷ before) within =
     let inside : at + length given ≤ size_of u = All-head (IsWithin (size_of u)) (WriteAt at given) before within in
     ((honest u before (All-tail (IsWithin (size_of u)) (WriteAt at given) before within), refl), (inside, omega arith))

@@ -1,7 +1,9 @@
 use Rattle.meaning.proofs.Names.{name_total, name_exact}
 use Rattle.meaning.specs.Directories.{file_words, IsFileEntry}
 use Rattle.meaning.proofs.ChainEdits.{entry_replaced, entry_added, entry_grown, chain_length}
-use Rattle.meaning.proofs.ChainRemoval.{entry_removed_in_last, entry_removed_in_last_moved, last_dropped, entry_removed_filled, entry_removed_filled_dropped_adjacent, entry_removed_filled_dropped}
+use Rattle.meaning.proofs.ChainRemoval.{entry_removed_in_last, entry_removed_in_last_moved, last_dropped}
+use Rattle.meaning.proofs.ChainRemoval.{entry_removed_filled, entry_removed_filled_dropped_adjacent}
+use Rattle.meaning.proofs.ChainRemoval.{entry_removed_filled_dropped}
 use Rattle.meaning.proofs.edits.directory_edits.Goals as goal
 
 pub returns-clause-replaced : goal.returns-clause-replaced
@@ -26,7 +28,8 @@ pub returns-clause-hole_filled : goal.returns-clause-hole_filled
 returns-clause-hole_filled c = entry_removed_filled name_total name_exact file_words IsFileEntry
 
 pub returns-clause-hole_filled_adjacent : goal.returns-clause-hole_filled_adjacent
-returns-clause-hole_filled_adjacent c = entry_removed_filled_dropped_adjacent name_total name_exact file_words IsFileEntry
+returns-clause-hole_filled_adjacent c = entry_removed_filled_dropped_adjacent name_total name_exact file_words
+    IsFileEntry
 
 pub returns-clause-hole_filled_dropped : goal.returns-clause-hole_filled_dropped
 returns-clause-hole_filled_dropped c = entry_removed_filled_dropped name_total name_exact file_words IsFileEntry

@@ -2,7 +2,9 @@ use Rattle.std.specs.Cmp.{nat_cmp_total}
 use Rattle.std.specs.FinMap.{nat_cmp-IsAntisymmetric}
 use Rattle.meaning.specs.Directories.{master_words, IsMasterEntry}
 use Rattle.meaning.proofs.ChainEdits.{entry_replaced, entry_added, entry_grown, chain_length}
-use Rattle.meaning.proofs.ChainRemoval.{entry_removed_in_last, entry_removed_in_last_moved, last_dropped, entry_removed_filled, entry_removed_filled_dropped_adjacent, entry_removed_filled_dropped}
+use Rattle.meaning.proofs.ChainRemoval.{entry_removed_in_last, entry_removed_in_last_moved, last_dropped}
+use Rattle.meaning.proofs.ChainRemoval.{entry_removed_filled, entry_removed_filled_dropped_adjacent}
+use Rattle.meaning.proofs.ChainRemoval.{entry_removed_filled_dropped}
 use Rattle.meaning.proofs.edits.master_edits.Goals as goal
 
 pub returns-clause-replaced : goal.returns-clause-replaced
@@ -18,7 +20,8 @@ pub returns-clause-removed : goal.returns-clause-removed
 returns-clause-removed c = entry_removed_in_last nat_cmp_total nat_cmp-IsAntisymmetric master_words IsMasterEntry
 
 pub returns-clause-removed_moved : goal.returns-clause-removed_moved
-returns-clause-removed_moved c = entry_removed_in_last_moved nat_cmp_total nat_cmp-IsAntisymmetric master_words IsMasterEntry
+returns-clause-removed_moved c = entry_removed_in_last_moved nat_cmp_total nat_cmp-IsAntisymmetric master_words
+    IsMasterEntry
 
 pub returns-clause-last_dropped : goal.returns-clause-last_dropped
 returns-clause-last_dropped c = last_dropped nat_cmp_total nat_cmp-IsAntisymmetric master_words IsMasterEntry
@@ -27,10 +30,12 @@ pub returns-clause-hole_filled : goal.returns-clause-hole_filled
 returns-clause-hole_filled c = entry_removed_filled nat_cmp_total nat_cmp-IsAntisymmetric master_words IsMasterEntry
 
 pub returns-clause-hole_filled_adjacent : goal.returns-clause-hole_filled_adjacent
-returns-clause-hole_filled_adjacent c = entry_removed_filled_dropped_adjacent nat_cmp_total nat_cmp-IsAntisymmetric master_words IsMasterEntry
+returns-clause-hole_filled_adjacent c = entry_removed_filled_dropped_adjacent nat_cmp_total nat_cmp-IsAntisymmetric
+    master_words IsMasterEntry
 
 pub returns-clause-hole_filled_dropped : goal.returns-clause-hole_filled_dropped
-returns-clause-hole_filled_dropped c = entry_removed_filled_dropped nat_cmp_total nat_cmp-IsAntisymmetric master_words IsMasterEntry
+returns-clause-hole_filled_dropped c = entry_removed_filled_dropped nat_cmp_total nat_cmp-IsAntisymmetric
+    master_words IsMasterEntry
 
 pub returns-clause-costs : goal.returns-clause-costs
 returns-clause-costs c = chain_length nat_cmp_total nat_cmp-IsAntisymmetric master_words IsMasterEntry

@@ -7,4 +7,6 @@ use Rattle.meaning.proofs.MapCosts.{map_costs}
 use Rattle.meaning.proofs.laws.maps_fit_their_cost.Goals as goal
 
 pub returns : goal.returns
-returns c disk_size contents m = map_costs disk_size contents m (chain_length name_total name_exact file_words IsFileEntry contents) (chain_length nat_cmp_total nat_cmp-IsAntisymmetric master_words IsMasterEntry contents)
+returns c disk_size contents m = map_costs disk_size contents m
+    (chain_length name_total name_exact file_words IsFileEntry contents)
+    (chain_length nat_cmp_total nat_cmp-IsAntisymmetric master_words IsMasterEntry contents)

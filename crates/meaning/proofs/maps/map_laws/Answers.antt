@@ -1,6 +1,7 @@
 use Rattle.meaning.specs.Files.{name_cmp}
 use Rattle.meaning.proofs.Names.{name_total, name_exact}
-use Rattle.meaning.proofs.MapLaws.{same_map, get-empty, get-insert_same, get-insert_other, get-removed, get-remove_other}
+use Rattle.meaning.proofs.MapLaws.{same_map, get-empty, get-insert_same, get-insert_other, get-removed}
+use Rattle.meaning.proofs.MapLaws.{get-remove_other}
 use Rattle.meaning.proofs.maps.map_laws.Goals as goal
 
 pub returns : goal.returns

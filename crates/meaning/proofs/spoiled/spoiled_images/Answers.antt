@@ -1,5 +1,7 @@
 use Rattle.meaning.proofs.SpoiledMaps.{untouched_copy, latest_minute, closed_gate}
-use Rattle.meaning.proofs.SpoiledRows.{not_volume, bad_home, bad_log, too_many_entries, late_minute, too_long, damaged_data, bit_past_the_end, looping_directory, extra_bit, shared_block, no_shared, no_damaged}
+use Rattle.meaning.proofs.SpoiledRows.{not_volume, bad_home, bad_log, too_many_entries, late_minute, too_long}
+use Rattle.meaning.proofs.SpoiledRows.{damaged_data, bit_past_the_end, looping_directory, extra_bit, shared_block}
+use Rattle.meaning.proofs.SpoiledRows.{no_shared, no_damaged}
 use Rattle.meaning.proofs.spoiled.spoiled_images.Goals as goal
 
 pub returns-clause-untouched_copy : goal.returns-clause-untouched_copy

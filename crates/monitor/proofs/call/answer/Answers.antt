@@ -1,6 +1,7 @@
 use Rattle.std.proofs.Common.{◌≡◌, sym, subst, refl}
 use Rattle.meaning.specs.declared.call.Call.{Call}
-use Rattle.meaning.specs.declared.call.Call.TheVariants.{Open, Inbuf, Outbuf, Lookup, Enter, Rename, In, Out, Useti, Useto, Close, Releas, Getsts, Reset, MakeDir, DeleteDir}
+use Rattle.meaning.specs.declared.call.Call.TheVariants.{Open, Inbuf, Outbuf, Lookup, Enter, Rename, In, Out, Useti}
+use Rattle.meaning.specs.declared.call.Call.TheVariants.{Useto, Close, Releas, Getsts, Reset, MakeDir, DeleteDir}
 use Rattle.monitor.specs.Promises.{ServesJob}
 use Rattle.monitor.proofs.Calling.{keeps_same, reads_same}
 use Rattle.monitor.proofs.Promised.{alone_serves}
@@ -11,9 +12,13 @@ returns-in-Open g c = record {
   serving =
       let volume = c.args.volume.now in
       let map = volume.core in
-      subst (λ (call : Call). ServesJob g.D.Disk.state volume.disk volume.disk map map volume.failed c.args.job.now c.open.new.job call c.args.moment c.open.result) (sym c.in-Open.is)
-      (alone_serves g.D.Disk.state g.met.D.Disk.only_now volume.disk map volume.failed c.args.job.now c.open.new.job (Open c.in-Open.channel c.in-Open.address) c.args.moment c.open.result c.requires.ready.alive c.requires.ready.placed c.requires.timely
-      (c.open.ensures.row) (c.open.ensures.unserved) c.open.ensures.keeps c.open.ensures.reads c.open.ensures.only c.open.ensures.refused);
+      subst (λ (call : Call). ServesJob g.D.Disk.state volume.disk volume.disk map map volume.failed c.args.job.now
+      c.open.new.job call c.args.moment c.open.result) (sym c.in-Open.is)
+      (alone_serves g.D.Disk.state g.met.D.Disk.only_now volume.disk map volume.failed c.args.job.now c.open.new.job
+      (Open c.in-Open.channel c.in-Open.address) c.args.moment c.open.result c.requires.ready.alive
+      c.requires.ready.placed c.requires.timely
+      (c.open.ensures.row) (c.open.ensures.unserved) c.open.ensures.keeps c.open.ensures.reads c.open.ensures.only
+      c.open.ensures.refused);
 }
 
 pub returns-in-Rename : goal.returns-in-Rename
@@ -21,9 +26,13 @@ returns-in-Rename g c = record {
   serving =
       let volume = c.args.volume.now in
       let map = volume.core in
-      subst (λ (call : Call). ServesJob g.D.Disk.state volume.disk volume.disk map map volume.failed c.args.job.now c.rename.new.job call c.args.moment c.rename.result) (sym c.in-Rename.is)
-      (alone_serves g.D.Disk.state g.met.D.Disk.only_now volume.disk map volume.failed c.args.job.now c.rename.new.job (Rename c.in-Rename.channel c.in-Rename.address) c.args.moment c.rename.result c.requires.ready.alive c.requires.ready.placed c.requires.timely
-      (c.rename.ensures.row) (c.rename.ensures.unserved) c.rename.ensures.keeps c.rename.ensures.reads c.rename.ensures.only c.rename.ensures.refused);
+      subst (λ (call : Call). ServesJob g.D.Disk.state volume.disk volume.disk map map volume.failed c.args.job.now
+      c.rename.new.job call c.args.moment c.rename.result) (sym c.in-Rename.is)
+      (alone_serves g.D.Disk.state g.met.D.Disk.only_now volume.disk map volume.failed c.args.job.now c.rename.new.job
+      (Rename c.in-Rename.channel c.in-Rename.address) c.args.moment c.rename.result c.requires.ready.alive
+      c.requires.ready.placed c.requires.timely
+      (c.rename.ensures.row) (c.rename.ensures.unserved) c.rename.ensures.keeps c.rename.ensures.reads
+      c.rename.ensures.only c.rename.ensures.refused);
 }
 
 pub returns-in-Useti : goal.returns-in-Useti
@@ -31,9 +40,13 @@ returns-in-Useti g c = record {
   serving =
       let volume = c.args.volume.now in
       let map = volume.core in
-      subst (λ (call : Call). ServesJob g.D.Disk.state volume.disk volume.disk map map volume.failed c.args.job.now c.useti.new.job call c.args.moment c.useti.result) (sym c.in-Useti.is)
-      (alone_serves g.D.Disk.state g.met.D.Disk.only_now volume.disk map volume.failed c.args.job.now c.useti.new.job (Useti c.in-Useti.channel c.in-Useti.block) c.args.moment c.useti.result c.requires.ready.alive c.requires.ready.placed c.requires.timely
-      (λ served. c.useti.ensures.row) (λ is. absurd is) c.useti.ensures.keeps c.useti.ensures.reads c.useti.ensures.only c.useti.ensures.refused);
+      subst (λ (call : Call). ServesJob g.D.Disk.state volume.disk volume.disk map map volume.failed c.args.job.now
+      c.useti.new.job call c.args.moment c.useti.result) (sym c.in-Useti.is)
+      (alone_serves g.D.Disk.state g.met.D.Disk.only_now volume.disk map volume.failed c.args.job.now c.useti.new.job
+      (Useti c.in-Useti.channel c.in-Useti.block) c.args.moment c.useti.result c.requires.ready.alive
+      c.requires.ready.placed c.requires.timely
+      (λ served. c.useti.ensures.row) (λ is. absurd is) c.useti.ensures.keeps c.useti.ensures.reads c.useti.ensures.only
+      c.useti.ensures.refused);
 }
 
 pub returns-in-Useto : goal.returns-in-Useto
@@ -41,9 +54,13 @@ returns-in-Useto g c = record {
   serving =
       let volume = c.args.volume.now in
       let map = volume.core in
-      subst (λ (call : Call). ServesJob g.D.Disk.state volume.disk volume.disk map map volume.failed c.args.job.now c.useto.new.job call c.args.moment c.useto.result) (sym c.in-Useto.is)
-      (alone_serves g.D.Disk.state g.met.D.Disk.only_now volume.disk map volume.failed c.args.job.now c.useto.new.job (Useto c.in-Useto.channel c.in-Useto.block) c.args.moment c.useto.result c.requires.ready.alive c.requires.ready.placed c.requires.timely
-      (λ served. c.useto.ensures.row) (λ is. absurd is) c.useto.ensures.keeps c.useto.ensures.reads c.useto.ensures.only c.useto.ensures.refused);
+      subst (λ (call : Call). ServesJob g.D.Disk.state volume.disk volume.disk map map volume.failed c.args.job.now
+      c.useto.new.job call c.args.moment c.useto.result) (sym c.in-Useto.is)
+      (alone_serves g.D.Disk.state g.met.D.Disk.only_now volume.disk map volume.failed c.args.job.now c.useto.new.job
+      (Useto c.in-Useto.channel c.in-Useto.block) c.args.moment c.useto.result c.requires.ready.alive
+      c.requires.ready.placed c.requires.timely
+      (λ served. c.useto.ensures.row) (λ is. absurd is) c.useto.ensures.keeps c.useto.ensures.reads c.useto.ensures.only
+      c.useto.ensures.refused);
 }
 
 pub returns-in-DeleteDir : goal.returns-in-DeleteDir
@@ -51,9 +68,13 @@ returns-in-DeleteDir g c = record {
   serving =
       let volume = c.args.volume.now in
       let map = volume.core in
-      subst (λ (call : Call). ServesJob g.D.Disk.state volume.disk volume.disk map map volume.failed c.args.job.now c.delete_dir.new.job call c.args.moment c.delete_dir.result) (sym c.in-DeleteDir.is)
-      (alone_serves g.D.Disk.state g.met.D.Disk.only_now volume.disk map volume.failed c.args.job.now c.delete_dir.new.job (DeleteDir c.in-DeleteDir.address) c.args.moment c.delete_dir.result c.requires.ready.alive c.requires.ready.placed c.requires.timely
-      (c.delete_dir.ensures.row) (λ is. c.delete_dir.ensures.unserved) c.delete_dir.ensures.keeps c.delete_dir.ensures.reads c.delete_dir.ensures.only c.delete_dir.ensures.refused);
+      subst (λ (call : Call). ServesJob g.D.Disk.state volume.disk volume.disk map map volume.failed c.args.job.now
+      c.delete_dir.new.job call c.args.moment c.delete_dir.result) (sym c.in-DeleteDir.is)
+      (alone_serves g.D.Disk.state g.met.D.Disk.only_now volume.disk map volume.failed c.args.job.now
+      c.delete_dir.new.job (DeleteDir c.in-DeleteDir.address) c.args.moment c.delete_dir.result c.requires.ready.alive
+      c.requires.ready.placed c.requires.timely
+      (c.delete_dir.ensures.row) (λ is. c.delete_dir.ensures.unserved) c.delete_dir.ensures.keeps
+      c.delete_dir.ensures.reads c.delete_dir.ensures.only c.delete_dir.ensures.refused);
 }
 
 pub returns-in-Inbuf : goal.returns-in-Inbuf
@@ -62,9 +83,13 @@ returns-in-Inbuf g c = record {
       let volume = c.args.volume.now in
       let map = volume.core in
       let job = c.args.job.now in
-      subst (λ (call : Call). ServesJob g.D.Disk.state volume.disk volume.disk map map volume.failed job job call c.args.moment c.inbuf.result) (sym c.in-Inbuf.is)
-      (alone_serves g.D.Disk.state g.met.D.Disk.only_now volume.disk map volume.failed job job (Inbuf c.in-Inbuf.channel c.in-Inbuf._count) c.args.moment c.inbuf.result c.requires.ready.alive c.requires.ready.placed c.requires.timely
-      (λ served. c.inbuf.ensures.row c.in-Inbuf._count) (λ is. absurd is) (λ pending. keeps_same pending job) (λ live. reads_same live job) c.inbuf.ensures.only (λ code is. refl));
+      subst (λ (call : Call). ServesJob g.D.Disk.state volume.disk volume.disk map map volume.failed job
+      job call c.args.moment c.inbuf.result) (sym c.in-Inbuf.is)
+      (alone_serves g.D.Disk.state g.met.D.Disk.only_now volume.disk map volume.failed job job
+      (Inbuf c.in-Inbuf.channel c.in-Inbuf._count) c.args.moment c.inbuf.result c.requires.ready.alive
+      c.requires.ready.placed c.requires.timely
+      (λ served. c.inbuf.ensures.row c.in-Inbuf._count) (λ is. absurd is) (λ pending. keeps_same pending job)
+      (λ live. reads_same live job) c.inbuf.ensures.only (λ code is. refl));
 }
 
 pub returns-in-Outbuf : goal.returns-in-Outbuf
@@ -73,9 +98,13 @@ returns-in-Outbuf g c = record {
       let volume = c.args.volume.now in
       let map = volume.core in
       let job = c.args.job.now in
-      subst (λ (call : Call). ServesJob g.D.Disk.state volume.disk volume.disk map map volume.failed job job call c.args.moment c.outbuf.result) (sym c.in-Outbuf.is)
-      (alone_serves g.D.Disk.state g.met.D.Disk.only_now volume.disk map volume.failed job job (Outbuf c.in-Outbuf.channel c.in-Outbuf._count) c.args.moment c.outbuf.result c.requires.ready.alive c.requires.ready.placed c.requires.timely
-      (λ served. c.outbuf.ensures.row c.in-Outbuf._count) (λ is. absurd is) (λ pending. keeps_same pending job) (λ live. reads_same live job) c.outbuf.ensures.only (λ code is. refl));
+      subst (λ (call : Call). ServesJob g.D.Disk.state volume.disk volume.disk map map volume.failed job
+      job call c.args.moment c.outbuf.result) (sym c.in-Outbuf.is)
+      (alone_serves g.D.Disk.state g.met.D.Disk.only_now volume.disk map volume.failed job job
+      (Outbuf c.in-Outbuf.channel c.in-Outbuf._count) c.args.moment c.outbuf.result c.requires.ready.alive
+      c.requires.ready.placed c.requires.timely
+      (λ served. c.outbuf.ensures.row c.in-Outbuf._count) (λ is. absurd is) (λ pending. keeps_same pending job)
+      (λ live. reads_same live job) c.outbuf.ensures.only (λ code is. refl));
 }
 
 pub returns-in-Getsts : goal.returns-in-Getsts
@@ -84,9 +113,13 @@ returns-in-Getsts g c = record {
       let volume = c.args.volume.now in
       let map = volume.core in
       let job = c.args.job.now in
-      subst (λ (call : Call). ServesJob g.D.Disk.state volume.disk volume.disk map map volume.failed job job call c.args.moment c.getsts.result) (sym c.in-Getsts.is)
-      (alone_serves g.D.Disk.state g.met.D.Disk.only_now volume.disk map volume.failed job job (Getsts c.in-Getsts.channel) c.args.moment c.getsts.result c.requires.ready.alive c.requires.ready.placed c.requires.timely
-      (λ served. c.getsts.ensures.row) (λ is. absurd is) (λ pending. keeps_same pending job) (λ live. reads_same live job) c.getsts.ensures.only (λ code is. refl));
+      subst (λ (call : Call). ServesJob g.D.Disk.state volume.disk volume.disk map map volume.failed job
+      job call c.args.moment c.getsts.result) (sym c.in-Getsts.is)
+      (alone_serves g.D.Disk.state g.met.D.Disk.only_now volume.disk map volume.failed job job
+      (Getsts c.in-Getsts.channel) c.args.moment c.getsts.result c.requires.ready.alive c.requires.ready.placed
+      c.requires.timely
+      (λ served. c.getsts.ensures.row) (λ is. absurd is) (λ pending. keeps_same pending job)
+      (λ live. reads_same live job) c.getsts.ensures.only (λ code is. refl));
 }
 
 pub returns-in-Lookup : goal.returns-in-Lookup
@@ -94,7 +127,8 @@ returns-in-Lookup g c = record {
   serving =
       let old = c.args.volume.now in
       let new = c.serve_lookup.new.volume in
-      subst (λ (call : Call). ServesJob g.D.Disk.state old.disk new.disk old.core new.core new.failed c.args.job.now c.serve_lookup.new.job call c.args.moment c.serve_lookup.result) (sym c.in-Lookup.is)
+      subst (λ (call : Call). ServesJob g.D.Disk.state old.disk new.disk old.core new.core new.failed c.args.job.now
+      c.serve_lookup.new.job call c.args.moment c.serve_lookup.result) (sym c.in-Lookup.is)
       (c.serve_lookup.ensures.serving c.args.moment c.requires.timely);
 }
 
@@ -103,7 +137,8 @@ returns-in-Enter g c = record {
   serving =
       let old = c.args.volume.now in
       let new = c.serve_enter.new.volume in
-      subst (λ (call : Call). ServesJob g.D.Disk.state old.disk new.disk old.core new.core new.failed c.args.job.now c.serve_enter.new.job call c.args.moment c.serve_enter.result) (sym c.in-Enter.is)
+      subst (λ (call : Call). ServesJob g.D.Disk.state old.disk new.disk old.core new.core new.failed c.args.job.now
+      c.serve_enter.new.job call c.args.moment c.serve_enter.result) (sym c.in-Enter.is)
       (c.serve_enter.ensures.serving);
 }
 
@@ -112,7 +147,8 @@ returns-in-In g c = record {
   serving =
       let old = c.args.volume.now in
       let new = c.serve_in.new.volume in
-      subst (λ (call : Call). ServesJob g.D.Disk.state old.disk new.disk old.core new.core new.failed c.args.job.now c.serve_in.new.job call c.args.moment c.serve_in.result) (sym c.in-In.is)
+      subst (λ (call : Call). ServesJob g.D.Disk.state old.disk new.disk old.core new.core new.failed c.args.job.now
+      c.serve_in.new.job call c.args.moment c.serve_in.result) (sym c.in-In.is)
       (c.serve_in.ensures.serving c.args.moment c.requires.timely);
 }
 
@@ -121,7 +157,8 @@ returns-in-Out g c = record {
   serving =
       let old = c.args.volume.now in
       let new = c.serve_out.new.volume in
-      subst (λ (call : Call). ServesJob g.D.Disk.state old.disk new.disk old.core new.core new.failed c.args.job.now c.serve_out.new.job call c.args.moment c.serve_out.result) (sym c.in-Out.is)
+      subst (λ (call : Call). ServesJob g.D.Disk.state old.disk new.disk old.core new.core new.failed c.args.job.now
+      c.serve_out.new.job call c.args.moment c.serve_out.result) (sym c.in-Out.is)
       (c.serve_out.ensures.serving c.args.moment c.requires.timely);
 }
 
@@ -130,7 +167,8 @@ returns-in-Close g c = record {
   serving =
       let old = c.args.volume.now in
       let new = c.serve_close.new.volume in
-      subst (λ (call : Call). ServesJob g.D.Disk.state old.disk new.disk old.core new.core new.failed c.args.job.now c.serve_close.new.job call c.args.moment c.serve_close.result) (sym c.in-Close.is)
+      subst (λ (call : Call). ServesJob g.D.Disk.state old.disk new.disk old.core new.core new.failed c.args.job.now
+      c.serve_close.new.job call c.args.moment c.serve_close.result) (sym c.in-Close.is)
       (c.serve_close.ensures.serving c.args.moment c.requires.timely);
 }
 
@@ -139,7 +177,8 @@ returns-in-Releas g c = record {
   serving =
       let old = c.args.volume.now in
       let new = c.serve_release.new.volume in
-      subst (λ (call : Call). ServesJob g.D.Disk.state old.disk new.disk old.core new.core new.failed c.args.job.now c.serve_release.new.job call c.args.moment c.serve_release.result) (sym c.in-Releas.is)
+      subst (λ (call : Call). ServesJob g.D.Disk.state old.disk new.disk old.core new.core new.failed c.args.job.now
+      c.serve_release.new.job call c.args.moment c.serve_release.result) (sym c.in-Releas.is)
       (c.serve_release.ensures.serving c.args.moment c.requires.timely);
 }
 
@@ -148,7 +187,8 @@ returns-in-Reset g c = record {
   serving =
       let old = c.args.volume.now in
       let new = c.serve_reset.new.volume in
-      subst (λ (call : Call). ServesJob g.D.Disk.state old.disk new.disk old.core new.core new.failed c.args.job.now c.serve_reset.new.job call c.args.moment c.serve_reset.result) (sym c.in-Reset.is)
+      subst (λ (call : Call). ServesJob g.D.Disk.state old.disk new.disk old.core new.core new.failed c.args.job.now
+      c.serve_reset.new.job call c.args.moment c.serve_reset.result) (sym c.in-Reset.is)
       (c.serve_reset.ensures.serving c.args.moment c.requires.timely);
 }
 
@@ -157,6 +197,7 @@ returns-in-MakeDir g c = record {
   serving =
       let old = c.args.volume.now in
       let new = c.serve_make_dir.new.volume in
-      subst (λ (call : Call). ServesJob g.D.Disk.state old.disk new.disk old.core new.core new.failed c.args.job.now c.serve_make_dir.new.job call c.args.moment c.serve_make_dir.result) (sym c.in-MakeDir.is)
+      subst (λ (call : Call). ServesJob g.D.Disk.state old.disk new.disk old.core new.core new.failed c.args.job.now
+      c.serve_make_dir.new.job call c.args.moment c.serve_make_dir.result) (sym c.in-MakeDir.is)
       (c.serve_make_dir.ensures.serving c.args.moment c.requires.timely);
 }

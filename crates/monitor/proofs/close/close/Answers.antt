@@ -1,11 +1,13 @@
 use Rattle.std.proofs.Common.{sym, ◌∙◌}
 use Rattle.monitor.proofs.Calling.{keeps_same, reads_same}
-use Rattle.monitor.proofs.Closes.{close_none, close_row, closed_back, closed_both, dropped_live, released_held, close_keeps, close_reads}
+use Rattle.monitor.proofs.Closes.{close_none, close_row, closed_back, closed_both, dropped_live, released_held}
+use Rattle.monitor.proofs.Closes.{close_keeps, close_reads}
 use Rattle.monitor.proofs.Dropped.{leaves_none, leaves_on}
 use Rattle.monitor.proofs.close.close.Goals as goal
 
 pub returns-in_default-clause-row : goal.returns-in_default-clause-row
-returns-in_default-clause-row g c = close_none c.args.job.now c.args.number c.args.bits (sym c.channel.ensures ∙ c.in_default.is)
+returns-in_default-clause-row g c = close_none c.args.job.now c.args.number c.args.bits (sym c.channel.ensures
+    ∙ c.in_default.is)
 
 pub returns-in_default-clause-keeps : goal.returns-in_default-clause-keeps
 returns-in_default-clause-keeps g c = keeps_same c.args.volume.now.core.pending c.args.job.now
@@ -18,33 +20,51 @@ returns-in_default-clause-leaves g c = leaves_none c.args.volume.now.core
 
 pub drop_output-requires : goal.drop_output-requires
 drop_output-requires g c = record {
-  live = 
-    dropped_live c.args.job.now c.args.number c.in-Some.channel (sym c.channel.ensures ∙ c.in-Some.is) c.args.bits c.args.volume.now.core.pending c.parted-output.result.1 c.parted-output.ensures.closed c.requires.live;
+  live =
+      dropped_live c.args.job.now c.args.number c.in-Some.channel (sym c.channel.ensures
+      ∙ c.in-Some.is) c.args.bits c.args.volume.now.core.pending c.parted-output.result.1 c.parted-output.ensures.closed
+      c.requires.live;
 }
 
 pub release_input-requires : goal.release_input-requires
 release_input-requires g c = record {
-  held = 
-    released_held c.args.job.now c.args.number c.in-Some.channel (sym c.channel.ensures ∙ c.in-Some.is) c.args.bits c.args.volume.now.core c.drop_output.new.volume.core _ c.drop_output.ensures.closed c.requires.held c.parted-input.result.1 c.parted-input.ensures.closed;
+  held =
+      released_held c.args.job.now c.args.number c.in-Some.channel (sym c.channel.ensures
+      ∙ c.in-Some.is) c.args.bits c.args.volume.now.core c.drop_output.new.volume.core _ c.drop_output.ensures.closed
+      c.requires.held c.parted-input.result.1 c.parted-input.ensures.closed;
 }
 
 pub returns-clause-row : goal.returns-clause-row
 returns-clause-row g c =
-    close_row c.args.job.now c.set_channel.new.self c.args.number c.args.bits c.in-Some.channel (sym c.channel.ensures ∙ c.in-Some.is) c.requires.unpublished
-    (closed_back c.args.job.now c.set_channel.new.self c.args.number c.args.bits c.in-Some.channel c.cleared.result c.parted-input.result.0 c.parted-output.result.0 c.cleared.ensures.value c.parted-input.ensures.kept c.parted-output.ensures.kept c.set_channel.ensures)
+    close_row c.args.job.now c.set_channel.new.self c.args.number c.args.bits c.in-Some.channel (sym c.channel.ensures
+    ∙ c.in-Some.is) c.requires.unpublished
+    (closed_back c.args.job.now c.set_channel.new.self c.args.number c.args.bits c.in-Some.channel c.cleared.result
+    c.parted-input.result.0 c.parted-output.result.0 c.cleared.ensures.value c.parted-input.ensures.kept
+    c.parted-output.ensures.kept c.set_channel.ensures)
 
 pub returns-clause-keeps : goal.returns-clause-keeps
 returns-clause-keeps g c =
-    close_keeps c.args.job.now c.args.number c.in-Some.channel (sym c.channel.ensures ∙ c.in-Some.is) c.args.bits c.args.volume.now.core c.release_input.new.volume.core c.set_channel.new.self c.parted-output.result.1 c.parted-input.result.1 c.parted-output.ensures.closed c.parted-input.ensures.closed
-    (closed_back c.args.job.now c.set_channel.new.self c.args.number c.args.bits c.in-Some.channel c.cleared.result c.parted-input.result.0 c.parted-output.result.0 c.cleared.ensures.value c.parted-input.ensures.kept c.parted-output.ensures.kept c.set_channel.ensures)
-    (closed_both c.args.volume.now.core c.drop_output.new.volume.core c.release_input.new.volume.core _ _ c.drop_output.ensures.closed c.release_input.ensures.closed)
+    close_keeps c.args.job.now c.args.number c.in-Some.channel (sym c.channel.ensures
+    ∙ c.in-Some.is) c.args.bits c.args.volume.now.core c.release_input.new.volume.core c.set_channel.new.self
+    c.parted-output.result.1 c.parted-input.result.1 c.parted-output.ensures.closed c.parted-input.ensures.closed
+    (closed_back c.args.job.now c.set_channel.new.self c.args.number c.args.bits c.in-Some.channel c.cleared.result
+    c.parted-input.result.0 c.parted-output.result.0 c.cleared.ensures.value c.parted-input.ensures.kept
+    c.parted-output.ensures.kept c.set_channel.ensures)
+    (closed_both c.args.volume.now.core c.drop_output.new.volume.core c.release_input.new.volume.core _
+    _ c.drop_output.ensures.closed c.release_input.ensures.closed)
 
 pub returns-clause-reads : goal.returns-clause-reads
 returns-clause-reads g c =
-    close_reads c.args.job.now c.args.number c.in-Some.channel (sym c.channel.ensures ∙ c.in-Some.is) c.args.bits c.args.volume.now.core c.release_input.new.volume.core c.set_channel.new.self c.parted-output.result.1 c.parted-input.result.1 c.parted-output.ensures.closed c.parted-input.ensures.closed
-    (closed_back c.args.job.now c.set_channel.new.self c.args.number c.args.bits c.in-Some.channel c.cleared.result c.parted-input.result.0 c.parted-output.result.0 c.cleared.ensures.value c.parted-input.ensures.kept c.parted-output.ensures.kept c.set_channel.ensures)
-    (closed_both c.args.volume.now.core c.drop_output.new.volume.core c.release_input.new.volume.core _ _ c.drop_output.ensures.closed c.release_input.ensures.closed)
+    close_reads c.args.job.now c.args.number c.in-Some.channel (sym c.channel.ensures
+    ∙ c.in-Some.is) c.args.bits c.args.volume.now.core c.release_input.new.volume.core c.set_channel.new.self
+    c.parted-output.result.1 c.parted-input.result.1 c.parted-output.ensures.closed c.parted-input.ensures.closed
+    (closed_back c.args.job.now c.set_channel.new.self c.args.number c.args.bits c.in-Some.channel c.cleared.result
+    c.parted-input.result.0 c.parted-output.result.0 c.cleared.ensures.value c.parted-input.ensures.kept
+    c.parted-output.ensures.kept c.set_channel.ensures)
+    (closed_both c.args.volume.now.core c.drop_output.new.volume.core c.release_input.new.volume.core _
+    _ c.drop_output.ensures.closed c.release_input.ensures.closed)
 
 pub returns-clause-leaves : goal.returns-clause-leaves
 returns-clause-leaves g c =
-    leaves_on c.args.volume.now.core c.drop_output.new.volume.core c.release_input.new.volume.core c.drop_output.ensures.closed.leaves c.release_input.ensures.closed.leaves
+    leaves_on c.args.volume.now.core c.drop_output.new.volume.core c.release_input.new.volume.core
+    c.drop_output.ensures.closed.leaves c.release_input.ensures.closed.leaves

@@ -14,7 +14,8 @@ pub close_output-requires-clause-live : goal.close_output-requires-clause-live
 close_output-requires-clause-live g c =
     let here = c.in-Some.ensures.some in
     let ready = c.requires.ready in
-    version_live c.args.volume.now.core.pending c.args.job.now c.args.channel c.in-Some.open here.there c.in-Some.output here.side
+    version_live c.args.volume.now.core.pending c.args.job.now c.args.channel c.in-Some.open here.there
+    c.in-Some.output here.side
     (job_live c.args.volume.now.core ready.jobs ready.number c.args.job.now ready.among.keyed ready.among.there)
 
 pub close_output-requires-clause-starts : goal.close_output-requires-clause-starts
@@ -23,7 +24,8 @@ close_output-requires-clause-starts g c =
     let ready = c.requires.ready in
     let pending = c.args.volume.now.core.pending in
     (its_side pending c.args.job.now c.args.channel c.in-Some.open here.there c.in-Some.output here.side
-    (subst (λ o. AllByRecursion (IsSide pending) (sides_in o)) ready.among.there (each-slot (IsSide pending) ready.jobs ready.number ready.among.keyed.each))).starts
+    (subst (λ o. AllByRecursion (IsSide pending) (sides_in o)) ready.among.there
+    (each-slot (IsSide pending) ready.jobs ready.number ready.among.keyed.each))).starts
 
 pub close_output-requires-clause-placed : goal.close_output-requires-clause-placed
 close_output-requires-clause-placed g c p at = c.requires.ready.placed.each c.in-Some.output.pending.key p at
@@ -45,9 +47,15 @@ returns-in-Some g c = record {
       let new = c.close_output.new.volume in
       let ready = c.requires.ready in
       let here = c.in-Some.ensures.some in
-      publishing_serves g.D.Disk.state g.met.D.Disk.only_now old.disk new.disk old.core new.core old.failed new.failed c.in-Some.output.pending.key c.args.job.now c.close_output.new.job (Close c.args.channel c.args.bits) moment c.close_output.result
-      ready.alive ready.placed timely c.close_output.ensures.whatever c.close_output.ensures.answered c.close_output.ensures.memory c.close_output.ensures.kept c.close_output.ensures.stands (c.close_output.ensures.row ready.alive c.args.bits here.closes here.keeps) (c.close_output.ensures.crash c.args.bits here.closes here.keeps)
-      (λ quiet. publishes_here c.args.job.now c.args.channel c.args.bits c.in-Some.open c.in-Some.output here quiet) (λ kept. kept) (λ asked. asked);
+      publishing_serves g.D.Disk.state g.met.D.Disk.only_now old.disk new.disk old.core new.core old.failed
+      new.failed c.in-Some.output.pending.key c.args.job.now c.close_output.new.job
+      (Close c.args.channel c.args.bits) moment c.close_output.result
+      ready.alive ready.placed timely c.close_output.ensures.whatever c.close_output.ensures.answered
+      c.close_output.ensures.memory c.close_output.ensures.kept c.close_output.ensures.stands
+      (c.close_output.ensures.row ready.alive c.args.bits here.closes here.keeps)
+      (c.close_output.ensures.crash c.args.bits here.closes here.keeps)
+      (λ quiet. publishes_here c.args.job.now c.args.channel c.args.bits c.in-Some.open c.in-Some.output here quiet)
+      (λ kept. kept) (λ asked. asked);
 }
 
 pub returns-in-None : goal.returns-in-None
@@ -56,7 +64,9 @@ returns-in-None g c = record {
       let old = c.args.volume.now in
       let new = c.close.new.volume in
       let ready = c.requires.ready in
-      dropping_serves g.D.Disk.state g.met.D.Disk.only_now old.disk new.disk old.core new.core old.failed new.failed c.args.job.now c.close.new.job (Close c.args.channel c.args.bits) moment c.close.result
-      ready.alive c.close.ensures.untouched ready.placed timely c.close.ensures.row c.close.ensures.keeps c.close.ensures.reads c.close.ensures.leaves c.close.ensures.only
+      dropping_serves g.D.Disk.state g.met.D.Disk.only_now old.disk new.disk old.core new.core old.failed
+      new.failed c.args.job.now c.close.new.job (Close c.args.channel c.args.bits) moment c.close.result
+      ready.alive c.close.ensures.untouched ready.placed timely c.close.ensures.row c.close.ensures.keeps
+      c.close.ensures.reads c.close.ensures.leaves c.close.ensures.only
       c.close.ensures.refused (λ kept. kept) (λ asked. asked);
 }

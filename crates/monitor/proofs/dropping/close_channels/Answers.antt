@@ -5,23 +5,31 @@ use Rattle.monitor.proofs.dropping.close_channels.Goals as goal
 
 pub close_sides-requires-clause-live : goal.close_sides-requires-clause-live
 close_sides-requires-clause-live g c =
-    let here = c.channel-item.is ∙ get_there c.args.channels.now c.loop-channel.channel-index c.channel-item.result None c.loop-channel-test.true in
-    next_live c.args.volume.now.core c.loop-channel.volume.core c.args.channels.now c.loop-channel.channel-index (side_of c.channel-item.result) (reader_of c.channel-item.result) c.loop-channel-test.true
+    let here = c.channel-item.is ∙ get_there c.args.channels.now c.loop-channel.channel-index c.channel-item.result
+    None c.loop-channel-test.true in
+    next_live c.args.volume.now.core c.loop-channel.volume.core c.args.channels.now c.loop-channel.channel-index
+    (side_of c.channel-item.result) (reader_of c.channel-item.result) c.loop-channel-test.true
     (ap side_of here) (ap reader_of here) c.loop-channel.invariant.closed c.requires.live
 
 pub close_sides-requires-clause-held : goal.close_sides-requires-clause-held
 close_sides-requires-clause-held g c =
-    let here = c.channel-item.is ∙ get_there c.args.channels.now c.loop-channel.channel-index c.channel-item.result None c.loop-channel-test.true in
-    next_held c.args.volume.now.core c.loop-channel.volume.core c.args.channels.now c.loop-channel.channel-index (side_of c.channel-item.result) (reader_of c.channel-item.result) c.loop-channel-test.true
+    let here = c.channel-item.is ∙ get_there c.args.channels.now c.loop-channel.channel-index c.channel-item.result
+    None c.loop-channel-test.true in
+    next_held c.args.volume.now.core c.loop-channel.volume.core c.args.channels.now c.loop-channel.channel-index
+    (side_of c.channel-item.result) (reader_of c.channel-item.result) c.loop-channel-test.true
     (ap side_of here) (ap reader_of here) c.loop-channel.invariant.closed c.requires.held
 
 pub loop-channel-preserved : goal.loop-channel-preserved
 loop-channel-preserved g c =
-    let here = c.channel-item.is ∙ get_there c.args.channels.now c.loop-channel.channel-index c.channel-item.result None c.loop-channel-test.true in
+    let here = c.channel-item.is ∙ get_there c.args.channels.now c.loop-channel.channel-index c.channel-item.result
+    None c.loop-channel-test.true in
     record {
       sound = c.close_sides.ensures.sound;
-      closed = closed_more c.args.volume.now.core c.loop-channel.volume.core c.args.channels.now c.loop-channel.channel-index (side_of c.channel-item.result) (reader_of c.channel-item.result) c.loop-channel-test.true
-          (ap side_of here) (ap reader_of here) c.loop-channel.invariant.closed c.close_sides.new.volume.core c.close_sides.ensures.closed;
+      closed = closed_more c.args.volume.now.core c.loop-channel.volume.core c.args.channels.now
+          c.loop-channel.channel-index (side_of c.channel-item.result) (reader_of c.channel-item.result)
+          c.loop-channel-test.true
+          (ap side_of here) (ap reader_of here) c.loop-channel.invariant.closed c.close_sides.new.volume.core
+          c.close_sides.ensures.closed;
       disk = c.close_sides.ensures.untouched.0 ∙ c.loop-channel.invariant.disk;
       failed = c.close_sides.ensures.untouched.1 ∙ c.loop-channel.invariant.failed;
     }

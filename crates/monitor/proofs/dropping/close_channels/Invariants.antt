@@ -7,7 +7,8 @@ use Rattle.monitor.proofs.dropping.close_channels.Given as goal
 abbrev pub invariant-loop-channel : goal.invariant-loop-channel
 invariant-loop-channel g l = record {
   sound : IsSound (g.D.Disk.state l.volume.disk) l.volume.core l.volume.failed;
-  closed : Closes l.fn.volume.core l.volume.core (keys_of (filter_map side_of (take l.channel-index l.channels))) (pins_of (filter_map reader_of (take l.channel-index l.channels)));
+  closed : Closes l.fn.volume.core l.volume.core (keys_of (filter_map side_of (take l.channel-index l.channels)))
+      (pins_of (filter_map reader_of (take l.channel-index l.channels)));
   disk : l.volume.disk ≡ l.fn.volume.disk;
   failed : l.volume.failed ≡ l.fn.volume.failed;
 }

@@ -7,6 +7,8 @@ use Rattle.monitor.proofs.dropping.close_sides.Goals as goal
 pub returns-clause-closed : goal.returns-clause-closed
 returns-clause-closed g c =
     closes_on c.args.volume.now.core c.drop_output.new.volume.core c.release_input.new.volume.core _ _ _ _ _ _
-    (subst (λ o. Closes c.args.volume.now.core c.drop_output.new.volume.core (keys_of (option_to_list o)) []) c.side_of.ensures c.drop_output.ensures.closed)
-    (subst (λ o. Closes c.drop_output.new.volume.core c.release_input.new.volume.core [] (pins_of (option_to_list o))) c.reader_of.ensures c.release_input.ensures.closed)
+    (subst (λ o. Closes c.args.volume.now.core c.drop_output.new.volume.core (keys_of (option_to_list o)) [])
+    c.side_of.ensures c.drop_output.ensures.closed)
+    (subst (λ o. Closes c.drop_output.new.volume.core c.release_input.new.volume.core [] (pins_of (option_to_list o)))
+    c.reader_of.ensures c.release_input.ensures.closed)
     (λ key. omega arith) (λ key. omega arith)

@@ -11,13 +11,18 @@ pub unpin-requires : goal.unpin-requires
 unpin-requires g c =
     let key = c.in-Some.input.pin.key in
     let live = c.args.volume.now.core.live in
-    record { live = held_there (version_at live key) key (subst (λ o. times key (pins_of (option_to_list o)) ≤ readers_of (version_at live key)) c.in-Some.is (c.requires.held key)) }
+    record {
+      live = held_there (version_at live key) key (subst (λ o. times key (pins_of (option_to_list o))
+          ≤ readers_of (version_at live key)) c.in-Some.is (c.requires.held key));
+    }
 
 pub returns-in-Some-clause-closed : goal.returns-in-Some-clause-closed
 returns-in-Some-clause-closed g c =
     let key = c.in-Some.input.pin.key in
     let live = c.args.volume.now.core.live in
-    let there = held_there (version_at live key) key (subst (λ o. times key (pins_of (option_to_list o)) ≤ readers_of (version_at live key)) c.in-Some.is (c.requires.held key)) in
+    let there = held_there (version_at live key) key (subst (λ o. times key (pins_of (option_to_list o))
+    ≤ readers_of (version_at live key)) c.in-Some.is (c.requires.held key)) in
     subst (λ o. Closes c.args.volume.now.core c.unpin.new.self.core [] (pins_of (option_to_list o))) (sym c.in-Some.is)
     (lets_one_go c.args.volume.now.core c.unpin.new.self.core key there
-    (λ v at why. (c.unpin.ensures.stays v at why).0) (λ v at past one. (c.unpin.ensures.gone v at past one).0) c.unpin.ensures.others c.unpin.ensures.pending c.unpin.ensures.known)
+    (λ v at why. (c.unpin.ensures.stays v at why).0) (λ v at past one. (c.unpin.ensures.gone v at past one).0)
+    c.unpin.ensures.others c.unpin.ensures.pending c.unpin.ensures.known)

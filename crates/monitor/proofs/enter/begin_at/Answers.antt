@@ -14,31 +14,48 @@ use Rattle.monitor.proofs.enter.begin_at.Goals as goal
 
 pub returns-in_default-clause-answered : goal.returns-in_default-clause-answered
 returns-in_default-clause-answered g c h alive s known w =
-    no_owner (g.D.Disk.state c.args.volume.now.disk) c.args.volume.now.core s known (subst (IsSound (g.D.Disk.state c.args.volume.now.disk) c.args.volume.now.core) alive c.requires.sound) h w c.args.job.now
+    no_owner (g.D.Disk.state c.args.volume.now.disk) c.args.volume.now.core s known
+    (subst (IsSound (g.D.Disk.state c.args.volume.now.disk) c.args.volume.now.core) alive c.requires.sound)
+    h w c.args.job.now
     (place_at (job_of w c.args.job.now) c.args.address) c.in_default.ensures.none
 
 pub returns-in-Err-clause-answered : goal.returns-in-Err-clause-answered
 returns-in-Err-clause-answered g c h alive s known w =
     let d = g.D.Disk.state c.args.volume.now.disk in
     let map = c.args.volume.now.core in
-    subst (λ p. begin_answer_at (pack_of d) s (job_of w c.args.job.now) p ≡ Refused (number_of c.in-Err.code)) (at_place w c.args.job.now c.args.address c.in-Some.ppn c.name_at-file.result c.in-Some.ensures.there c.name_at-file.ensures.0 c.name_at-file.ensures.1)
-    (refused d map s known (subst (IsSound d map) alive c.requires.sound) h w c.args.job.now (place_of c.in-Some.ppn c.name_at-file.result) c.in-Err.code (c.in-Err.ensures.found h alive (without_serials s.files) known.files))
+    subst (λ p. begin_answer_at (pack_of d) s (job_of w c.args.job.now) p ≡ Refused (number_of c.in-Err.code))
+    (at_place w c.args.job.now c.args.address c.in-Some.ppn c.name_at-file.result c.in-Some.ensures.there
+    c.name_at-file.ensures.0 c.name_at-file.ensures.1)
+    (refused d map s known (subst (IsSound d map) alive c.requires.sound) h w c.args.job.now
+    (place_of c.in-Some.ppn c.name_at-file.result) c.in-Err.code
+    (c.in-Err.ensures.found h alive (without_serials s.files) known.files))
 
 pub returns-in-Ok-begin-clause-answered : goal.returns-in-Ok-begin-clause-answered
 returns-in-Ok-begin-clause-answered g c h alive s known w =
     let was = subst (λ disk. (g.D.Disk.state disk).honest) c.begin.ensures.untouched.0 h in
     let d = g.D.Disk.state c.args.volume.now.disk in
     let map = c.args.volume.now.core in
-    subst (λ p. begin_answer_at (pack_of d) s (job_of w c.args.job.now) p ≡ Done) (at_place w c.args.job.now c.args.address c.in-Some.ppn c.name_at-file.result c.in-Some.ensures.there c.name_at-file.ensures.0 c.name_at-file.ensures.1)
-    (begun_at d map s known (subst (IsSound d map) alive c.requires.sound) was w c.args.job.now c.in-Some.ppn c.name_at-file.result c.in-Ok.found c.prime_for-prime.result c.begin.result c.prime_for-prime.ensures.ppn c.prime_for-prime.ensures.file
-    (c.in-Ok.ensures.found was alive (without_serials s.files) known.files) (c.begin.ensures.room alive) c.in-Ok-begin.pending c.in-Ok-begin.is)
+    subst (λ p. begin_answer_at (pack_of d) s (job_of w c.args.job.now) p
+    ≡ Done) (at_place w c.args.job.now c.args.address c.in-Some.ppn c.name_at-file.result c.in-Some.ensures.there
+    c.name_at-file.ensures.0 c.name_at-file.ensures.1)
+    (begun_at d map s known (subst (IsSound d map) alive c.requires.sound) was w c.args.job.now c.in-Some.ppn
+    c.name_at-file.result c.in-Ok.found c.prime_for-prime.result c.begin.result c.prime_for-prime.ensures.ppn
+    c.prime_for-prime.ensures.file
+    (c.in-Ok.ensures.found was alive (without_serials s.files) known.files)
+    (c.begin.ensures.room alive) c.in-Ok-begin.pending c.in-Ok-begin.is)
 
 pub returns-in-Err-begin-clause-answered : goal.returns-in-Err-begin-clause-answered
 returns-in-Err-begin-clause-answered g c h alive s known w =
     let was = subst (λ disk. (g.D.Disk.state disk).honest) c.begin.ensures.untouched.0 h in
     let d = g.D.Disk.state c.args.volume.now.disk in
     let map = c.args.volume.now.core in
-    subst (λ p. IsAnswer {X = ℕ} (Err c.in-Err-begin.error) (begin_answer_at (pack_of d) s (job_of w c.args.job.now) p)) (at_place w c.args.job.now c.args.address c.in-Some.ppn c.name_at-file.result c.in-Some.ensures.there c.name_at-file.ensures.0 c.name_at-file.ensures.1)
-    (not_begun_at d map s known (subst (IsSound d map) alive c.requires.sound) was w c.args.job.now c.in-Some.ppn c.name_at-file.result c.in-Ok.found c.prime_for-prime.result c.begin.result c.prime_for-prime.ensures.ppn c.prime_for-prime.ensures.file
-    (c.in-Ok.ensures.found was alive (without_serials s.files) known.files) (c.begin.ensures.room alive) ℕ c.in-Err-begin.error c.in-Err-begin.is (c.begin.ensures.absent alive).0 c.begin.ensures.codes c.begin.ensures.served
+    subst (λ p. IsAnswer {X = ℕ} (Err c.in-Err-begin.error) (begin_answer_at (pack_of d) s (job_of w c.args.job.now) p))
+    (at_place w c.args.job.now c.args.address c.in-Some.ppn c.name_at-file.result c.in-Some.ensures.there
+    c.name_at-file.ensures.0 c.name_at-file.ensures.1)
+    (not_begun_at d map s known (subst (IsSound d map) alive c.requires.sound) was w c.args.job.now c.in-Some.ppn
+    c.name_at-file.result c.in-Ok.found c.prime_for-prime.result c.begin.result c.prime_for-prime.ensures.ppn
+    c.prime_for-prime.ensures.file
+    (c.in-Ok.ensures.found was alive (without_serials s.files) known.files)
+    (c.begin.ensures.room alive) ℕ c.in-Err-begin.error c.in-Err-begin.is
+    (c.begin.ensures.absent alive).0 c.begin.ensures.codes c.begin.ensures.served
     (λ e. contrary alive (c.begin.ensures.failed.0 e)))

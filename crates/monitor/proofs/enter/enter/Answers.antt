@@ -24,10 +24,15 @@ returns-in-Ok-clause-begun g c is = (
     begun = c.in-Ok.ensures.begun;
     at = c.in-Ok.ensures.prime;
     kind = c.kind_of.result;
-    kind_is = c.kind_of.ensures (begun c.in-Ok.prime (is_absent c.in-Ok.prime.file c.in-Ok.ensures.begun.directory)) c.in-Ok.ensures.begun.here;
+    kind_is = c.kind_of.ensures (begun c.in-Ok.prime (is_absent c.in-Ok.prime.file c.in-Ok.ensures.begun.directory))
+        c.in-Ok.ensures.begun.here;
     job_is = c.set_channel.ensures ∙ (λ i. record c.args.job.now {
       core = c.put_attributes.ensures i;
-      channels = slice_set c.args.job.now.channels c.args.number (Some (record c.in-Some.channel { status = c.cleared.ensures.value i; output = Some (record { pending = c.in-Ok.pending; kind = c.kind_of.result; next = 1 }) }));
+      channels = slice_set c.args.job.now.channels c.args.number
+          (Some (record c.in-Some.channel {
+            status = c.cleared.ensures.value i;
+            output = Some (record { pending = c.in-Ok.pending; kind = c.kind_of.result; next = 1 });
+          }));
     });
   },
   λ h files rests. c.in-Ok.ensures.protection h c.requires.alive files rests,
@@ -35,25 +40,46 @@ returns-in-Ok-clause-begun g c is = (
 
 pub returns-in-Ok-clause-row : goal.returns-in-Ok-clause-row
 returns-in-Ok-clause-row g c h unread s known w =
-    done (pack_of (g.D.Disk.state c.args.volume.now.disk)) s w c.args.job.now c.args.number c.args.address c.in-Some.channel (sym c.channel.ensures ∙ c.in-Some.is) (sym c.lies_outside.ensures.value ∙ c.if-lies_outside.false)
-    (no_side c.in-Some.channel.output (sym c.is_some-else-is_some.ensures ∙ c.if-is_some-2.false)) (no_side c.in-Some.channel.input (sym c.is_some.ensures ∙ c.if-is_some.false)) _ (c.in-Ok.ensures.answered h c.requires.alive s known w)
+    done (pack_of (g.D.Disk.state c.args.volume.now.disk)) s w c.args.job.now c.args.number c.args.address
+    c.in-Some.channel (sym c.channel.ensures ∙ c.in-Some.is) (sym c.lies_outside.ensures.value
+    ∙ c.if-lies_outside.false)
+    (no_side c.in-Some.channel.output (sym c.is_some-else-is_some.ensures ∙ c.if-is_some-2.false))
+    (no_side c.in-Some.channel.input (sym c.is_some.ensures ∙ c.if-is_some.false)) _
+    (c.in-Ok.ensures.answered h c.requires.alive s known w)
 
 pub returns-in-Err-Refused-clause-row : goal.returns-in-Err-Refused-clause-row
 returns-in-Err-Refused-clause-row g c h unread s known w =
-    refused (pack_of (g.D.Disk.state c.args.volume.now.disk)) s w c.args.job.now c.args.number c.args.address c.in-Some.channel (sym c.channel.ensures ∙ c.in-Some.is) (sym c.lies_outside.ensures.value ∙ c.if-lies_outside.false)
-    (no_side c.in-Some.channel.output (sym c.is_some-else-is_some.ensures ∙ c.if-is_some-2.false)) (no_side c.in-Some.channel.input (sym c.is_some.ensures ∙ c.if-is_some.false)) c.refuse-in-Err-Refused.new.core c.refuse-in-Err-Refused.result c.in-Err-Refused.code (c.refuse-in-Err-Refused.ensures.answered ∙ ap (λ x. Refused (number_of x)) c.in-Err-Refused.code-is)
-    (c.refuse-in-Err-Refused.ensures.kept ∙ ap (λ x. with_right c.args.job.now.core (c.args.address + 1) (number_of x)) c.in-Err-Refused.code-is) (subst (λ x. IsAnswer {X = ℕ} (Err x) (begin_answer_at (pack_of (g.D.Disk.state c.args.volume.now.disk)) s (job_of w c.args.job.now) (place_at (job_of w c.args.job.now) c.args.address))) c.in-Err-Refused.field-0-is (c.in-Err-Refused.ensures.answered h c.requires.alive s known w))
+    refused (pack_of (g.D.Disk.state c.args.volume.now.disk)) s w c.args.job.now c.args.number c.args.address
+    c.in-Some.channel (sym c.channel.ensures ∙ c.in-Some.is) (sym c.lies_outside.ensures.value
+    ∙ c.if-lies_outside.false)
+    (no_side c.in-Some.channel.output (sym c.is_some-else-is_some.ensures ∙ c.if-is_some-2.false))
+    (no_side c.in-Some.channel.input (sym c.is_some.ensures ∙ c.if-is_some.false)) c.refuse-in-Err-Refused.new.core
+    c.refuse-in-Err-Refused.result c.in-Err-Refused.code (c.refuse-in-Err-Refused.ensures.answered
+    ∙ ap (λ x. Refused (number_of x)) c.in-Err-Refused.code-is)
+    (c.refuse-in-Err-Refused.ensures.kept
+    ∙ ap (λ x. with_right c.args.job.now.core (c.args.address + 1) (number_of x)) c.in-Err-Refused.code-is)
+    (subst (λ x. IsAnswer {X = ℕ} (Err x) (begin_answer_at (pack_of (g.D.Disk.state c.args.volume.now.disk)) s
+    (job_of w c.args.job.now) (place_at (job_of w c.args.job.now) c.args.address))) c.in-Err-Refused.field-0-is
+    (c.in-Err-Refused.ensures.answered h c.requires.alive s known w))
 
 pub returns-in-Err-NoMemory-clause-row : goal.returns-in-Err-NoMemory-clause-row
 returns-in-Err-NoMemory-clause-row g c h unread s known w =
-    wanting (pack_of (g.D.Disk.state c.args.volume.now.disk)) s w c.args.job.now c.args.number c.args.address c.in-Some.channel (sym c.channel.ensures ∙ c.in-Some.is) (sym c.lies_outside.ensures.value ∙ c.if-lies_outside.false)
-    (no_side c.in-Some.channel.output (sym c.is_some-else-is_some.ensures ∙ c.if-is_some-2.false)) (no_side c.in-Some.channel.input (sym c.is_some.ensures ∙ c.if-is_some.false)) (subst (λ x. IsAnswer {X = ℕ} (Err x) (begin_answer_at (pack_of (g.D.Disk.state c.args.volume.now.disk)) s (job_of w c.args.job.now) (place_at (job_of w c.args.job.now) c.args.address))) c.in-Err-NoMemory.field-0-is (c.in-Err-NoMemory.ensures.answered h c.requires.alive s known w))
+    wanting (pack_of (g.D.Disk.state c.args.volume.now.disk)) s w c.args.job.now c.args.number c.args.address
+    c.in-Some.channel (sym c.channel.ensures ∙ c.in-Some.is) (sym c.lies_outside.ensures.value
+    ∙ c.if-lies_outside.false)
+    (no_side c.in-Some.channel.output (sym c.is_some-else-is_some.ensures ∙ c.if-is_some-2.false))
+    (no_side c.in-Some.channel.input (sym c.is_some.ensures ∙ c.if-is_some.false))
+    (subst (λ x. IsAnswer {X = ℕ} (Err x) (begin_answer_at (pack_of (g.D.Disk.state c.args.volume.now.disk)) s
+    (job_of w c.args.job.now) (place_at (job_of w c.args.job.now) c.args.address))) c.in-Err-NoMemory.field-0-is
+    (c.in-Err-NoMemory.ensures.answered h c.requires.alive s known w))
 
 pub returns-in-Ok-clause-placed : goal.returns-in-Ok-clause-placed
 returns-in-Ok-clause-placed g c placed =
-    placed_begun c.args.volume.now.core c.begin_at.new.volume.core c.in-Ok.pending.key c.in-Ok.prime c.in-Ok.ensures.begun c.in-Ok.ensures.free.0 c.in-Ok.ensures.free.1 placed
+    placed_begun c.args.volume.now.core c.begin_at.new.volume.core c.in-Ok.pending.key c.in-Ok.prime
+    c.in-Ok.ensures.begun c.in-Ok.ensures.free.0 c.in-Ok.ensures.free.1 placed
 
 pub returns-in-Ok-clause-reads : goal.returns-in-Ok-clause-reads
 returns-in-Ok-clause-reads g c =
     let begun = returns-in-Ok-clause-begun g c refl in
-    reading_entered c.args.volume.now.core c.begin_at.new.volume.core c.args.job.now c.set_channel.new.self c.args.number c.args.address c.args.moment begun.0 begun.1 begun.2 begun.3
+    reading_entered c.args.volume.now.core c.begin_at.new.volume.core c.args.job.now c.set_channel.new.self
+    c.args.number c.args.address c.args.moment begun.0 begun.1 begun.2 begun.3

@@ -19,16 +19,23 @@ returns g c = record {
       let job' = c.enter.new.job in
       let jobs' = slice_set jobs n (Some job') in
       let sound = subst (IsSound (state old.disk) map) c.requires.ready.alive c.requires.ready.sound in
-      quiet_serves state g.met.D.Disk.only_now old.disk new.disk map map' old.failed new.failed job job' (Enter c.args.channel c.args.address) moment c.enter.result c.requires.ready.alive c.enter.ensures.untouched
-      c.enter.ensures.only (c.enter.ensures.placed c.requires.ready.placed) (λ light. absurd light) (λ kept. absurd kept)
-      (λ none. ((c.enter.ensures.kept (λ e. let wrong = sym none ∙ e in cc)).0, c.enter.ensures.memory none)) c.enter.ensures.refused
+      quiet_serves state g.met.D.Disk.only_now old.disk new.disk map map' old.failed new.failed job job'
+      (Enter c.args.channel c.args.address) moment c.enter.result c.requires.ready.alive c.enter.ensures.untouched
+      c.enter.ensures.only (c.enter.ensures.placed c.requires.ready.placed) (λ light. absurd light)
+      (λ kept. absurd kept)
+      (λ none. ((c.enter.ensures.kept (λ e. let wrong = sym none ∙ e in cc)).0, c.enter.ensures.memory none))
+      c.enter.ensures.refused
       (λ reads.
-      let is = stays map map' job job' c.args.channel c.args.address c.enter.result c.enter.ensures.kept c.enter.ensures.unserved reads in
+      let is = stays map map' job job' c.args.channel c.args.address c.enter.result c.enter.ensures.kept
+      c.enter.ensures.unserved reads in
       (is.0, (is.1, is.2))) jobs n among
-      (enters_keyed (state old.disk) (state new.disk) map map' jobs jobs' n job job' c.args.channel c.args.address moment c.enter.result among.there refl among.keyed among.reading c.enter.ensures.begun c.enter.ensures.kept)
-      (enters_reading (state old.disk) (state new.disk) map map' jobs jobs' n job job' c.args.channel c.args.address moment c.enter.result among.there refl among.keyed among.reading c.enter.ensures.begun c.enter.ensures.kept)
+      (enters_keyed (state old.disk) (state new.disk) map map' jobs jobs' n job job' c.args.channel c.args.address
+      moment c.enter.result among.there refl among.keyed among.reading c.enter.ensures.begun c.enter.ensures.kept)
+      (enters_reading (state old.disk) (state new.disk) map map' jobs jobs' n job job' c.args.channel c.args.address
+      moment c.enter.result among.there refl among.keyed among.reading c.enter.ensures.begun c.enter.ensures.kept)
       (λ h unread s serves.
       let was : (state old.disk).honest = subst (λ disk. (state disk).honest) c.enter.ensures.untouched.0 h in
-      enter_answered (state old.disk) (state new.disk) map map' jobs jobs' n job job' c.args.channel c.args.address moment c.enter.result among.there refl among.keyed among.reading c.enter.ensures.begun c.enter.ensures.kept
+      enter_answered (state old.disk) (state new.disk) map map' jobs jobs' n job job' c.args.channel c.args.address
+      moment c.enter.result among.there refl among.keyed among.reading c.enter.ensures.begun c.enter.ensures.kept
       false refl sound was h c.requires.timely (c.enter.ensures.row h unread) s serves);
 }

@@ -10,5 +10,6 @@ returns-in_default-clause-row c = status_none c.args.job.now c.args.number (sym 
 
 pub returns-clause-row : goal.returns-clause-row
 returns-clause-row c =
-    subst (λ word. IsRow c.args.job.now c.args.job.now (Getsts c.args.number) (Value word)) (sym (c.from_bits.ensures ∙ c.from.ensures))
+    subst (λ word. IsRow c.args.job.now c.args.job.now (Getsts c.args.number) (Value word))
+    (sym (c.from_bits.ensures ∙ c.from.ensures))
     (status_there c.args.job.now c.args.number c.in-Some.channel (sym c.channel.ensures ∙ c.in-Some.is))

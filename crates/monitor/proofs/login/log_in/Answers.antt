@@ -9,13 +9,16 @@ use Rattle.monitor.proofs.login.log_in.Goals as goal
 pub returns-in-Ok-clause-keyed : goal.returns-in-Ok-clause-keyed
 returns-in-Ok-clause-keyed g c =
     subst (AreKeyed c.close_job.new.volume.core.pending) (sym c.put.ensures)
-    (closed_keyed c.args.volume.now.core c.close_job.new.volume.core _ c.args.jobs.now c.args.number _ c.requires.keyed c.close_job.ensures.closed (ap (filter_map side_of) c.all_closed.ensures))
+    (closed_keyed c.args.volume.now.core c.close_job.new.volume.core _ c.args.jobs.now c.args.number _
+    c.requires.keyed c.close_job.ensures.closed (ap (filter_map side_of) c.all_closed.ensures))
 
 pub returns-in-Ok-clause-reading : goal.returns-in-Ok-clause-reading
 returns-in-Ok-clause-reading g c =
     subst (AreReading c.close_job.new.volume.core.live) (sym c.put.ensures)
-    (closed_reading c.args.volume.now.core c.close_job.new.volume.core _ c.args.jobs.now c.args.number _ c.requires.reading c.close_job.ensures.closed (ap (filter_map reader_of) c.all_closed.ensures)
+    (closed_reading c.args.volume.now.core c.close_job.new.volume.core _ c.args.jobs.now c.args.number
+    _ c.requires.reading c.close_job.ensures.closed (ap (filter_map reader_of) c.all_closed.ensures)
     (bare_readers _ c.all_closed.ensures))
 
 pub returns-in-Ok-clause-placed : goal.returns-in-Ok-clause-placed
-returns-in-Ok-clause-placed g c = placed_left c.args.volume.now.core c.close_job.new.volume.core c.close_job.ensures.closed.leaves c.requires.placed
+returns-in-Ok-clause-placed g c = placed_left c.args.volume.now.core c.close_job.new.volume.core
+    c.close_job.ensures.closed.leaves c.requires.placed

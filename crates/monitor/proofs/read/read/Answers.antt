@@ -1,4 +1,5 @@
-use Rattle.std.proofs.Common.{rules, ◌≡◌, ◌<◌, ◌+◌, ◌-◌, ◌^◌, length, min, replicate, Some, refl, sym, ap, subst, ◌∙◌, arith, slice_set}
+use Rattle.std.proofs.Common.{rules, ◌≡◌, ◌<◌, ◌+◌, ◌-◌, ◌^◌, length, min, replicate, Some, refl, sym, ap, subst, ◌∙◌}
+use Rattle.std.proofs.Common.{arith, slice_set}
 use Rattle.std.proofs.lemmas.List.{length-replicate}
 use Rattle.meaning.specs.CommandLists.{dump_list, word_count}
 use Rattle.meaning.specs.Jobs.{cleared, end_of_file}
@@ -8,72 +9,113 @@ use Rattle.meaning.specs.declared.call.Reply.TheVariants.{Done}
 use Rattle.monitor.specs.Reading.{IsIn}
 use Rattle.monitor.specs.Rows.{KeepsReading}
 use Rattle.monitor.specs.declared.read_in.ReadIn.TheVariants.{Moved, AtEnd}
-use Rattle.monitor.proofs.ReadWords.{version_held, few_words, words_left, read_fits, few_named, is_listed, has_area, in_reads}
+use Rattle.monitor.proofs.ReadWords.{version_held, few_words, words_left, read_fits, few_named, is_listed, has_area}
+use Rattle.monitor.proofs.ReadWords.{in_reads}
 use Rattle.monitor.proofs.read.read.Goals as goal
 
 pub read_in-requires-clause-live : goal.read_in-requires-clause-live
 read_in-requires-clause-live g c =
-    version_held c.args.volume.now.core.live c.args.job.now c.args.number c.in-Some.channel (sym c.channel.ensures ∙ c.in-Some.is) c.in-Some-side.input c.in-Some-side.is c.requires.held
+    version_held c.args.volume.now.core.live c.args.job.now c.args.number c.in-Some.channel (sym c.channel.ensures
+    ∙ c.in-Some.is) c.in-Some-side.input c.in-Some-side.is c.requires.held
 
 pub read_on-requires-clause-fits : goal.read_on-requires-clause-fits
 read_on-requires-clause-fits g c =
     let i = c.in-Some-side.input in
     let n = c.in-Moved.count in
-    let held = version_held c.args.volume.now.core.live c.args.job.now c.args.number c.in-Some.channel (sym c.channel.ensures ∙ c.in-Some.is) i c.in-Some-side.is c.requires.held in
-    let list = is_listed c.read_in.result (Moved n) (dump_list c.args.job.now.core c.args.address) c.in-Moved.is (λ e. cc e) c.read_in.ensures.checked in
+    let held = version_held c.args.volume.now.core.live c.args.job.now c.args.number c.in-Some.channel
+    (sym c.channel.ensures ∙ c.in-Some.is) i c.in-Some-side.is c.requires.held in
+    let list = is_listed c.read_in.result (Moved n) (dump_list c.args.job.now.core c.args.address) c.in-Moved.is
+    (λ e. cc e) c.read_in.ensures.checked in
     let words = held.0.version.words in
-    let many : n ≡ min (word_count list.0) (length (words_from (replicate words 0) i.next)) = c.read_in.ensures.number held.0 held.1 (replicate words 0) (length-replicate words 0) list.0 list.1 n c.in-Moved.is in
+    let many : n ≡ min (word_count list.0) (length (words_from (replicate words 0) i.next)) = c.read_in.ensures.number
+    held.0 held.1 (replicate words 0) (length-replicate words 0) list.0 list.1 n c.in-Moved.is in
     let left : length (words_from (replicate words 0) i.next) ≡ words - block_start i.next = words_left words i.next in
     let first : 0 < i.next = search rules in
     let small : i.next < 2 ^ 32 = search rules in
-    read_fits words i.next n first small (few_words c.args.volume.now.core.live i.pin.key held.0 c.requires.sound.whole.standing held.1) (omega (arith, many, left))
+    read_fits words i.next n first small
+    (few_words c.args.volume.now.core.live i.pin.key held.0 c.requires.sound.whole.standing held.1)
+    (omega (arith, many, left))
 
 pub read_on-requires-clause-few : goal.read_on-requires-clause-few
 read_on-requires-clause-few g c =
     let n = c.in-Moved.count in
-    let list = is_listed c.read_in.result (Moved n) (dump_list c.args.job.now.core c.args.address) c.in-Moved.is (λ e. cc e) c.read_in.ensures.checked in
-    omega (arith, c.read_in.ensures.few list.0 list.1 n c.in-Moved.is, few_named c.args.job.now.core c.args.address list.0 list.1)
+    let list = is_listed c.read_in.result (Moved n) (dump_list c.args.job.now.core c.args.address) c.in-Moved.is
+    (λ e. cc e) c.read_in.ensures.checked in
+    omega (
+      arith,
+      c.read_in.ensures.few list.0 list.1 n c.in-Moved.is,
+      few_named c.args.job.now.core c.args.address list.0 list.1,
+    )
 
 pub returns-in-Moved-clause-outcome : goal.returns-in-Moved-clause-outcome
 returns-in-Moved-clause-outcome g c =
     let n = c.in-Moved.count in
-    let list = is_listed c.read_in.result (Moved n) (dump_list c.args.job.now.core c.args.address) c.in-Moved.is (λ e. cc e) c.read_in.ensures.checked in (
+    let list = is_listed c.read_in.result (Moved n) (dump_list c.args.job.now.core c.args.address) c.in-Moved.is
+    (λ e. cc e) c.read_in.ensures.checked in (
       record {
-        at = record { channel = c.in-Some.channel; there = sym c.channel.ensures ∙ c.in-Some.is; input = c.in-Some-side.input; side = c.in-Some-side.is };
+        at = record {
+          channel = c.in-Some.channel;
+          there = sym c.channel.ensures ∙ c.in-Some.is;
+          input = c.in-Some-side.input;
+          side = c.in-Some-side.is;
+        };
         areas = list.0;
         listed = list.1;
       },
       n,
       c.read_in.new.core,
-      c.set_channel.ensures ∙ ap (λ x. record c.args.job.now { core = c.read_in.new.core; channels = slice_set c.args.job.now.channels c.args.number (Some x) }) c.read_on.ensures,
+      c.set_channel.ensures ∙ ap (λ x. record c.args.job.now {
+        core = c.read_in.new.core;
+        channels = slice_set c.args.job.now.channels c.args.number (Some x);
+      }) c.read_on.ensures,
       record {
         some = λ none. some_same (sym list.1 ∙ c.read_in.ensures.named.0 (c.in-Moved.is ∙ ap Moved none));
         many = λ v at body long. c.read_in.ensures.number v at body long list.0 list.1 n c.in-Moved.is;
-        words = λ honest v at body long has. c.read_in.ensures.moved honest v at body long has list.0 list.1 n c.in-Moved.is;
+        words = λ honest v at body long has. c.read_in.ensures.moved honest v at body long has list.0 list.1
+            n c.in-Moved.is;
       },
     )
 
 pub returns-in-Moved-clause-reads : goal.returns-in-Moved-clause-reads
 returns-in-Moved-clause-reads g c =
-    subst (λ m. KeepsReading c.args.volume.now.core.live m.live c.args.job.now c.set_channel.new.self) (sym c.read_in.ensures.core)
-    (in_reads (g.D.Disk.state c.args.volume.now.disk) (g.D.Disk.state c.read_in.new.volume.disk) c.args.volume.now.core c.args.job.now c.set_channel.new.self c.args.number c.args.address Done (returns-in-Moved-clause-outcome g c) c.args.volume.now.core.live)
+    subst (λ m. KeepsReading c.args.volume.now.core.live m.live c.args.job.now c.set_channel.new.self)
+    (sym c.read_in.ensures.core)
+    (in_reads (g.D.Disk.state c.args.volume.now.disk) (g.D.Disk.state c.read_in.new.volume.disk) c.args.volume.now.core
+    c.args.job.now c.set_channel.new.self c.args.number c.args.address Done
+    (returns-in-Moved-clause-outcome g c) c.args.volume.now.core.live)
 
 pub returns-in-AtEnd-clause-outcome : goal.returns-in-AtEnd-clause-outcome
 returns-in-AtEnd-clause-outcome g c =
-    let list = is_listed c.read_in.result AtEnd (dump_list c.args.job.now.core c.args.address) c.in-AtEnd.is (λ e. cc e) c.read_in.ensures.checked in
+    let list = is_listed c.read_in.result AtEnd (dump_list c.args.job.now.core c.args.address) c.in-AtEnd.is
+    (λ e. cc e) c.read_in.ensures.checked in
     let status = cleared c.in-Some.channel.status + end_of_file in
-    subst (IsIn (g.D.Disk.state c.args.volume.now.disk) (g.D.Disk.state c.read_in.new.volume.disk) c.args.volume.now.core c.args.job.now c.stop.new.job c.args.number c.args.address) (sym c.stop.ensures.answered) (
+    subst (IsIn (g.D.Disk.state c.args.volume.now.disk) (g.D.Disk.state c.read_in.new.volume.disk)
+    c.args.volume.now.core c.args.job.now c.stop.new.job c.args.number c.args.address) (sym c.stop.ensures.answered) (
       record {
-        at = record { channel = c.in-Some.channel; there = sym c.channel.ensures ∙ c.in-Some.is; input = c.in-Some-side.input; side = c.in-Some-side.is };
+        at = record {
+          channel = c.in-Some.channel;
+          there = sym c.channel.ensures ∙ c.in-Some.is;
+          input = c.in-Some-side.input;
+          side = c.in-Some-side.is;
+        };
         areas = list.0;
         listed = list.1;
       },
       refl,
-      c.stop.ensures.kept ∙ ap (λ ws. record c.args.job.now { core = ws; channels = slice_set c.args.job.now.channels c.args.number (Some (record c.in-Some.channel { status = status })) }) (c.read_in.ensures.kept (λ n some is. let wrong = sym c.in-AtEnd.is ∙ is in cc wrong)),
-      λ v at body long. let ends = c.read_in.ensures.at_end v at body long list.0 list.1 c.in-AtEnd.is in (has_area list.0 ends.0, ends.1),
+      c.stop.ensures.kept
+          ∙ ap (λ ws. record c.args.job.now {
+            core = ws;
+            channels = slice_set c.args.job.now.channels c.args.number
+                (Some (record c.in-Some.channel { status = status }));
+          }) (c.read_in.ensures.kept (λ n some is. let wrong = sym c.in-AtEnd.is ∙ is in cc wrong)),
+      λ v at body long. let ends = c.read_in.ensures.at_end v at body long list.0 list.1 c.in-AtEnd.is in
+          (has_area list.0 ends.0, ends.1),
     )
 
 pub returns-in-AtEnd-clause-reads : goal.returns-in-AtEnd-clause-reads
 returns-in-AtEnd-clause-reads g c =
-    subst (λ m. KeepsReading c.args.volume.now.core.live m.live c.args.job.now c.stop.new.job) (sym c.read_in.ensures.core)
-    (in_reads (g.D.Disk.state c.args.volume.now.disk) (g.D.Disk.state c.read_in.new.volume.disk) c.args.volume.now.core c.args.job.now c.stop.new.job c.args.number c.args.address c.stop.result (returns-in-AtEnd-clause-outcome g c) c.args.volume.now.core.live)
+    subst (λ m. KeepsReading c.args.volume.now.core.live m.live c.args.job.now c.stop.new.job)
+    (sym c.read_in.ensures.core)
+    (in_reads (g.D.Disk.state c.args.volume.now.disk) (g.D.Disk.state c.read_in.new.volume.disk) c.args.volume.now.core
+    c.args.job.now c.stop.new.job c.args.number c.args.address c.stop.result
+    (returns-in-AtEnd-clause-outcome g c) c.args.volume.now.core.live)

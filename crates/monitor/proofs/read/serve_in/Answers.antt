@@ -11,10 +11,12 @@ use Rattle.monitor.proofs.Untouched.{quiet_crashes}
 use Rattle.monitor.proofs.read.serve_in.Goals as goal
 
 pub read-requires-clause-held : goal.read-requires-clause-held
-read-requires-clause-held g c = job_held c.args.volume.now.core.live c.requires.ready.jobs c.requires.ready.number c.args.job.now c.requires.ready.among.reading c.requires.ready.among.there
+read-requires-clause-held g c = job_held c.args.volume.now.core.live c.requires.ready.jobs c.requires.ready.number
+    c.args.job.now c.requires.ready.among.reading c.requires.ready.among.there
 
 pub read-requires-clause-readers : goal.read-requires-clause-readers
-read-requires-clause-readers g c = c.requires.ready.among.reading.each c.requires.ready.number c.args.job.now c.requires.ready.among.there
+read-requires-clause-readers g c = c.requires.ready.among.reading.each c.requires.ready.number c.args.job.now
+    c.requires.ready.among.there
 
 pub returns : goal.returns
 returns g c = record {
@@ -29,25 +31,38 @@ returns g c = record {
       let jobs' = slice_set jobs n (Some job') in
       let core = c.read.ensures.core in
       record {
-        keyed = λ serves. subst (λ m. AreKeyed m.pending jobs') (sym core) (in_keyed (state old.disk) (state new.disk) map false jobs n c.args.channel c.args.address moment refl timely among.keyed among.reading job job' among.there jobs' refl c.read.result c.read.ensures.outcome);
+        keyed = λ serves. subst (λ m. AreKeyed m.pending jobs') (sym core)
+            (in_keyed (state old.disk) (state new.disk) map false jobs n c.args.channel c.args.address moment refl
+            timely among.keyed among.reading job job' among.there jobs' refl c.read.result c.read.ensures.outcome);
         placed = λ serves. subst ArePlaced (sym core) c.requires.ready.placed;
-        reading = λ serves. subst (λ m. AreReading m.live jobs') (sym core) (in_reading (state old.disk) (state new.disk) map false jobs n c.args.channel c.args.address moment refl timely among.keyed among.reading job job' among.there jobs' refl c.read.result c.read.ensures.outcome);
+        reading = λ serves. subst (λ m. AreReading m.live jobs') (sym core)
+            (in_reading (state old.disk) (state new.disk) map false jobs n c.args.channel c.args.address moment refl
+            timely among.keyed among.reading job job' among.there jobs' refl c.read.result c.read.ensures.outcome);
         others = λ m other. slot-set_other jobs n m (Some job') other;
         answered = λ h served.
-            in_answered (state old.disk) (state new.disk) map false jobs n c.args.channel c.args.address moment refl timely among.keyed among.reading job job' among.there jobs' refl
-            h map' new.failed core (c.read.ensures.only_reads h) (c.read.ensures.rests h) c.read.result c.read.ensures.outcome c.read.ensures.failed;
+            in_answered (state old.disk) (state new.disk) map false jobs n c.args.channel c.args.address
+            moment refl timely among.keyed among.reading job job' among.there jobs' refl
+            h map' new.failed core (c.read.ensures.only_reads h) (c.read.ensures.rests h) c.read.result
+            c.read.ensures.outcome c.read.ensures.failed;
         crash = quiet_crashes (state old.disk) (state new.disk) map jobs n (In c.args.channel c.args.address) moment
-            (λ h. quiet_read (state old.disk) (state new.disk) (c.read.ensures.only_reads h) (c.read.ensures.rests h) (λ contents left. g.met.D.Disk.only_now old.disk contents (c.read.ensures.same.was_honest h) left));
+            (λ h. quiet_read (state old.disk) (state new.disk) (c.read.ensures.only_reads h) (c.read.ensures.rests h)
+            (λ contents left. g.met.D.Disk.only_now old.disk contents (c.read.ensures.same.was_honest h) left));
         idle = c.read.ensures.idle;
         light = λ light. absurd light;
         kept = λ kept. core;
         memory = λ none.
-            let is = c.read.ensures.memory none in
-            (is.0, core, still_serves false new.failed c.read.result refl c.read.ensures.failed none, unchanged jobs jobs' n job job' among.there refl is.1);
+            let is = c.read.ensures.memory none in (
+              is.0,
+              core,
+              still_serves false new.failed c.read.result refl c.read.ensures.failed none,
+              unchanged jobs jobs' n job job' among.there refl is.1,
+            );
         refused = λ code is. record {
           job = job;
           there = among.there;
-          jobs_are = ap (λ j. slice_set jobs n (Some j)) (in_refused (state old.disk) (state new.disk) map job job' c.args.channel c.args.address code c.read.result c.read.ensures.outcome is);
+          jobs_are = ap (λ j. slice_set jobs n (Some j))
+              (in_refused (state old.disk) (state new.disk) map job job' c.args.channel c.args.address code
+              c.read.result c.read.ensures.outcome is);
         };
         unserved = λ x at is. absurd is;
         failed = c.read.ensures.failed;

@@ -18,20 +18,27 @@ returns-in_default-clause-leaves g c = leaves_none c.args.volume.now.core
 
 pub release_input-requires : goal.release_input-requires
 release_input-requires g c = record {
-  held = 
-    input_held c.args.job.now c.args.number c.in-Some.channel (sym c.channel.ensures ∙ c.in-Some.is) c.args.volume.now.core c.args.volume.now.core _ (closes_none c.args.volume.now.core) c.requires.held c.in-Some.channel.input (λ key. omega arith);
+  held =
+      input_held c.args.job.now c.args.number c.in-Some.channel (sym c.channel.ensures
+      ∙ c.in-Some.is) c.args.volume.now.core c.args.volume.now.core _ (closes_none c.args.volume.now.core)
+      c.requires.held c.in-Some.channel.input (λ key. omega arith);
 }
 
 pub returns-clause-row : goal.returns-clause-row
-returns-clause-row g c = release_row c.args.job.now c.set_channel.new.self c.args.number c.in-Some.channel (sym c.channel.ensures ∙ c.in-Some.is) c.requires.unpublished c.set_channel.ensures
+returns-clause-row g c = release_row c.args.job.now c.set_channel.new.self c.args.number c.in-Some.channel
+    (sym c.channel.ensures ∙ c.in-Some.is) c.requires.unpublished c.set_channel.ensures
 
 pub returns-clause-keeps : goal.returns-clause-keeps
 returns-clause-keeps g c =
-    release_keeps c.args.volume.now.core c.release_input.new.volume.core c.args.job.now c.set_channel.new.self c.args.number c.in-Some.channel (sym c.channel.ensures ∙ c.in-Some.is) c.requires.unpublished c.set_channel.ensures c.release_input.ensures.closed
+    release_keeps c.args.volume.now.core c.release_input.new.volume.core c.args.job.now c.set_channel.new.self
+    c.args.number c.in-Some.channel (sym c.channel.ensures
+    ∙ c.in-Some.is) c.requires.unpublished c.set_channel.ensures c.release_input.ensures.closed
 
 pub returns-clause-reads : goal.returns-clause-reads
 returns-clause-reads g c =
-    release_reads c.args.volume.now.core c.release_input.new.volume.core c.args.job.now c.set_channel.new.self c.args.number c.in-Some.channel (sym c.channel.ensures ∙ c.in-Some.is) c.requires.unpublished c.set_channel.ensures c.release_input.ensures.closed
+    release_reads c.args.volume.now.core c.release_input.new.volume.core c.args.job.now c.set_channel.new.self
+    c.args.number c.in-Some.channel (sym c.channel.ensures
+    ∙ c.in-Some.is) c.requires.unpublished c.set_channel.ensures c.release_input.ensures.closed
 
 pub returns-clause-leaves : goal.returns-clause-leaves
 returns-clause-leaves g c = c.release_input.ensures.closed.leaves

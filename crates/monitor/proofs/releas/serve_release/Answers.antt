@@ -14,7 +14,8 @@ pub release_output-requires-clause-live : goal.release_output-requires-clause-li
 release_output-requires-clause-live g c =
     let here = c.in-Some.ensures.some in
     let ready = c.requires.ready in
-    version_live c.args.volume.now.core.pending c.args.job.now c.args.channel c.in-Some._open here.there c.in-Some.output here.side
+    version_live c.args.volume.now.core.pending c.args.job.now c.args.channel c.in-Some._open here.there
+    c.in-Some.output here.side
     (job_live c.args.volume.now.core ready.jobs ready.number c.args.job.now ready.among.keyed ready.among.there)
 
 pub release_output-requires-clause-starts : goal.release_output-requires-clause-starts
@@ -23,7 +24,8 @@ release_output-requires-clause-starts g c =
     let ready = c.requires.ready in
     let pending = c.args.volume.now.core.pending in
     (its_side pending c.args.job.now c.args.channel c.in-Some._open here.there c.in-Some.output here.side
-    (subst (λ o. AllByRecursion (IsSide pending) (sides_in o)) ready.among.there (each-slot (IsSide pending) ready.jobs ready.number ready.among.keyed.each))).starts
+    (subst (λ o. AllByRecursion (IsSide pending) (sides_in o)) ready.among.there
+    (each-slot (IsSide pending) ready.jobs ready.number ready.among.keyed.each))).starts
 
 pub release_output-requires-clause-placed : goal.release_output-requires-clause-placed
 release_output-requires-clause-placed g c p at = c.requires.ready.placed.each c.in-Some.output.pending.key p at
@@ -40,9 +42,14 @@ returns-in-Some g c = record {
       let new = c.release_output.new.volume in
       let ready = c.requires.ready in
       let here = c.in-Some.ensures.some in
-      publishing_serves g.D.Disk.state g.met.D.Disk.only_now old.disk new.disk old.core new.core old.failed new.failed c.in-Some.output.pending.key c.args.job.now c.release_output.new.job (Releas c.args.channel) moment c.release_output.result
-      ready.alive ready.placed timely c.release_output.ensures.whatever c.release_output.ensures.answered c.release_output.ensures.memory c.release_output.ensures.kept c.release_output.ensures.stands (c.release_output.ensures.row ready.alive) c.release_output.ensures.crash
-      (λ quiet. publishes_here c.args.job.now c.args.channel 0 c.in-Some._open c.in-Some.output here quiet) (λ kept. kept) (λ asked. asked);
+      publishing_serves g.D.Disk.state g.met.D.Disk.only_now old.disk new.disk old.core new.core old.failed
+      new.failed c.in-Some.output.pending.key c.args.job.now c.release_output.new.job
+      (Releas c.args.channel) moment c.release_output.result
+      ready.alive ready.placed timely c.release_output.ensures.whatever c.release_output.ensures.answered
+      c.release_output.ensures.memory c.release_output.ensures.kept c.release_output.ensures.stands
+      (c.release_output.ensures.row ready.alive) c.release_output.ensures.crash
+      (λ quiet. publishes_here c.args.job.now c.args.channel 0 c.in-Some._open c.in-Some.output here quiet)
+      (λ kept. kept) (λ asked. asked);
 }
 
 pub returns-in-None : goal.returns-in-None
@@ -51,7 +58,9 @@ returns-in-None g c = record {
       let old = c.args.volume.now in
       let new = c.release.new.volume in
       let ready = c.requires.ready in
-      dropping_serves g.D.Disk.state g.met.D.Disk.only_now old.disk new.disk old.core new.core old.failed new.failed c.args.job.now c.release.new.job (Releas c.args.channel) moment c.release.result
-      ready.alive c.release.ensures.untouched ready.placed timely c.release.ensures.row c.release.ensures.keeps c.release.ensures.reads c.release.ensures.leaves c.release.ensures.only
+      dropping_serves g.D.Disk.state g.met.D.Disk.only_now old.disk new.disk old.core new.core old.failed
+      new.failed c.args.job.now c.release.new.job (Releas c.args.channel) moment c.release.result
+      ready.alive c.release.ensures.untouched ready.placed timely c.release.ensures.row c.release.ensures.keeps
+      c.release.ensures.reads c.release.ensures.leaves c.release.ensures.only
       c.release.ensures.refused (λ kept. kept) (λ asked. asked);
 }

@@ -16,10 +16,12 @@ use Rattle.meaning.specs.declared.call.Event.TheVariants.{Call as Calls}
 use Rattle.monitor.proofs.reset.serve_reset.Goals as goal
 
 pub close_channels-requires-clause-live : goal.close_channels-requires-clause-live
-close_channels-requires-clause-live g c = job_live c.args.volume.now.core c.requires.ready.jobs c.requires.ready.number c.args.job.now c.requires.ready.among.keyed c.requires.ready.among.there
+close_channels-requires-clause-live g c = job_live c.args.volume.now.core c.requires.ready.jobs c.requires.ready.number
+    c.args.job.now c.requires.ready.among.keyed c.requires.ready.among.there
 
 pub close_channels-requires-clause-held : goal.close_channels-requires-clause-held
-close_channels-requires-clause-held g c = job_held c.args.volume.now.core.live c.requires.ready.jobs c.requires.ready.number c.args.job.now c.requires.ready.among.reading c.requires.ready.among.there
+close_channels-requires-clause-held g c = job_held c.args.volume.now.core.live c.requires.ready.jobs
+    c.requires.ready.number c.args.job.now c.requires.ready.among.reading c.requires.ready.among.there
 
 pub returns : goal.returns
 returns g c = record {
@@ -34,13 +36,19 @@ returns g c = record {
       let jobs' = slice_set jobs n (Some job') in
       let is : job' ≡ reset_job job = c.reset.ensures in
       let closed : Closes map map' (keys_of (sides_in (slot jobs n))) (pins_of (readers_in (slot jobs n))) =
-      subst (λ o. Closes map map' (keys_of (sides_in o)) (pins_of (readers_in o))) (sym among.there) c.close_channels.ensures.closed in
+      subst (λ o. Closes map map' (keys_of (sides_in o)) (pins_of (readers_in o)))
+      (sym among.there) c.close_channels.ensures.closed in
       let keyed = closed_keyed map map' _ jobs n (Some job') among.keyed closed (ap (λ j. sides_in (Some j)) is) in
-      let reading = closed_reading map map' _ jobs n job' among.reading closed (ap (λ j. readers_in (Some j)) is) (bare_readers job' (ap (λ (j : Job). j.channels) is)) in
-      quiet_serves state g.met.D.Disk.only_now old.disk new.disk map map' old.failed new.failed job job' Reset moment Done c.requires.ready.alive c.close_channels.ensures.untouched
-      (λ e. cc e, λ e. cc e) (placed_left map map' c.close_channels.ensures.closed.leaves c.requires.ready.placed) (λ light e. cc e) (λ kept. absurd kept) (λ e. cc e)
+      let reading = closed_reading map map' _ jobs n job' among.reading closed (ap (λ j. readers_in (Some j)) is)
+      (bare_readers job' (ap (λ (j : Job). j.channels) is)) in
+      quiet_serves state g.met.D.Disk.only_now old.disk new.disk map map' old.failed new.failed job job'
+      Reset moment Done c.requires.ready.alive c.close_channels.ensures.untouched
+      (λ e. cc e, λ e. cc e) (placed_left map map' c.close_channels.ensures.closed.leaves c.requires.ready.placed)
+      (λ light e. cc e) (λ kept. absurd kept) (λ e. cc e)
       (λ code e. cc e) (λ is. absurd is) jobs n among keyed reading
       (λ h served s serves.
-      row (state old.disk) map map' false jobs jobs' keyed reading c.close_channels.ensures.closed.leaves (pack_of (state old.disk)) (Calls n Reset moment) Done
-      (reset_row (state old.disk) jobs jobs' n moment timely (job, among.there, ap (λ j. slice_set jobs n (Some j)) is)) refl s serves);
+      row (state old.disk) map map' false jobs jobs' keyed reading c.close_channels.ensures.closed.leaves
+      (pack_of (state old.disk)) (Calls n Reset moment) Done
+      (reset_row (state old.disk) jobs jobs' n moment timely (job, among.there, ap (λ j. slice_set jobs n (Some j)) is))
+      refl s serves);
 }

@@ -14,11 +14,13 @@ returns-clause-found g c h size t s events replies new runs starts stopped =
     let d = g.D.Disk.state c.args.stopped.now in
     let e = g.E.Disk.state c.args.left in
     let first = stopped_like g.E.Disk.state d t starts e.contents stopped in
-    let found = along (pack_of d) d (λ x is. g.met.D.Disk.only_now c.args.stopped.now x h is) first.0 t s events replies new runs first.1 in
+    let found = along (pack_of d) d (λ x is. g.met.D.Disk.only_now c.args.stopped.now x h is) first.0 t
+    s events replies new runs first.1 in
     let files = without_serials found.0.files in (
       found.0,
       found.1,
-      ok_each (IsStart files) (λ m. (g.E.Disk.state m.disk).honest) (λ u m. Serves (g.E.Disk.state m.disk) m.map m.failed m.jobs (Serving u)) c.start.result
+      ok_each (IsStart files) (λ m. (g.E.Disk.state m.disk).honest)
+          (λ u m. Serves (g.E.Disk.state m.disk) m.map m.failed m.jobs (Serving u)) c.start.result
           (c.start.ensures.started files (subst (λ n. Stands n e.contents files) (sym size) (first.2 files found.2))),
     )
 
@@ -27,23 +29,32 @@ returns-clause-refused g c h size t s events replies new runs starts stopped =
     let d = g.D.Disk.state c.args.stopped.now in
     let e = g.E.Disk.state c.args.left in
     let first = stopped_like g.E.Disk.state d t starts e.contents stopped in
-    let found = along (pack_of d) d (λ x is. g.met.D.Disk.only_now c.args.stopped.now x h is) first.0 t s events replies new runs first.1 in
+    let found = along (pack_of d) d (λ x is. g.met.D.Disk.only_now c.args.stopped.now x h is) first.0 t
+    s events replies new runs first.1 in
     let files = without_serials found.0.files in
-    err_both _ _ _ c.start.result (λ refused is kept h'. no_fault e (g.E.Disk.state refused.1) files (subst (λ n. Stands n e.contents files) (sym size) (first.2 files found.2)) refused.0 (is h') (kept h')) c.start.ensures.refused c.start.ensures.kept
+    err_both _ _ _ c.start.result (λ refused is kept h'. no_fault e (g.E.Disk.state refused.1) files
+    (subst (λ n. Stands n e.contents files) (sym size) (first.2 files found.2)) refused.0 (is h') (kept h'))
+    c.start.ensures.refused c.start.ensures.kept
 
 pub returns-clause-between : goal.returns-clause-between
 returns-clause-between g c size t u s event reply between left not_later =
     let d = g.D.Disk.state c.args.stopped.now in
     let e = g.E.Disk.state c.args.left in
     let after = (step (pack_of d) 0 s event).1 in
-    let starts = λ (x : State) (is : Stands d.size e.contents (without_serials x.files)). ok_each (IsStart (without_serials x.files)) (λ m. (g.E.Disk.state m.disk).honest) (λ v m. Serves (g.E.Disk.state m.disk) m.map m.failed m.jobs (Serving v)) c.start.result
-    (c.start.ensures.started (without_serials x.files) (subst (λ n. Stands n e.contents (without_serials x.files)) (sym size) is)) in
-    ok_either _ _ _ c.start.result (⊎_elim (λ later. absurd (not_later later)) (λ either. ⊎_elim (λ is. inl (starts s is)) (λ is. inr (starts after is.1)) either) (between e.contents left))
+    let starts = λ (x : State) (is : Stands d.size e.contents (without_serials x.files)).
+    ok_each (IsStart (without_serials x.files)) (λ m. (g.E.Disk.state m.disk).honest)
+    (λ v m. Serves (g.E.Disk.state m.disk) m.map m.failed m.jobs (Serving v)) c.start.result
+    (c.start.ensures.started (without_serials x.files)
+    (subst (λ n. Stands n e.contents (without_serials x.files)) (sym size) is)) in
+    ok_either _ _ _ c.start.result (⊎_elim (λ later. absurd (not_later later))
+    (λ either. ⊎_elim (λ is. inl (starts s is)) (λ is. inr (starts after is.1)) either) (between e.contents left))
 
 pub returns-clause-again : goal.returns-clause-again
 returns-clause-again g c files all =
-    IfOk-weaker c.start.result _ _ (λ m started h. stands_again (g.E.Disk.state c.args.left) (g.E.Disk.state m.disk) files all (started h)) c.start.ensures.crash
+    IfOk-weaker c.start.result _ _ (λ m started h. stands_again (g.E.Disk.state c.args.left)
+    (g.E.Disk.state m.disk) files all (started h)) c.start.ensures.crash
 
 pub returns-clause-again_refused : goal.returns-clause-again_refused
 returns-clause-again_refused g c files all =
-    IfErr-weaker c.start.result _ _ (λ refused started h. stands_again (g.E.Disk.state c.args.left) (g.E.Disk.state refused.1) files all (started h)) c.start.ensures.crash_refused
+    IfErr-weaker c.start.result _ _ (λ refused started h. stands_again (g.E.Disk.state c.args.left)
+    (g.E.Disk.state refused.1) files all (started h)) c.start.ensures.crash_refused

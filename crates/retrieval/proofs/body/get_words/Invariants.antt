@@ -14,7 +14,10 @@ invariant-loop-i g l = record {
   long : length l.words.items ≡ min (l.i * 128) l.wanted;
   untouched : l.wanted ≡ 0 → l.disk ≡ l.fn.disk;
   room : l.wanted ≤ vec_capacity l.words;
-  whole : (g.D.Disk.state l.disk).honest → (k : ℕ) → k < l.i → (g.D.Disk.state l.fn.disk).contents (slice_index l.version.blocks (l.block - 1 + k)) ≡ None → ⊥;
-  read : (g.D.Disk.state l.disk).honest → (body : List ℕ) → length body ≡ l.version.words → AreWhole (g.D.Disk.state l.fn.disk).contents l.version.blocks → HasBody (g.D.Disk.state l.fn.disk).contents l.version.blocks body
+  whole : (g.D.Disk.state l.disk).honest → (k : ℕ) → k < l.i
+      → (g.D.Disk.state l.fn.disk).contents (slice_index l.version.blocks (l.block - 1 + k)) ≡ None → ⊥;
+  read : (g.D.Disk.state l.disk).honest → (body : List ℕ) → length body ≡ l.version.words
+      → AreWhole (g.D.Disk.state l.fn.disk).contents l.version.blocks
+      → HasBody (g.D.Disk.state l.fn.disk).contents l.version.blocks body
       → (p : ℕ) → p < length l.words.items → slice_index l.words.items p ≡ slice_index body (block_start l.block + p);
 }

@@ -14,7 +14,9 @@ returns c =
     let v = c.args.version.now in
     let count = c.min-count.result in
     let part : List ℕ = take count c.blocks-blocks.result.now in
-    block_written (with_length c.args.prime.now v.words) v.blocks part c.put_pointers.new.words count (head_or_zero v.ribs)
+    block_written (with_length c.args.prime.now v.words) v.blocks part c.put_pointers.new.words count
+    (head_or_zero v.ribs)
     (c.min-count.ensures ∙ ap (λ (l : List ℕ). min (length l) 112) c.blocks-blocks.ensures)
     (ap (λ (l : List ℕ). take count l) c.blocks-blocks.ensures)
-    (c.put_pointers.ensures ∙ ap (λ (l : List ℕ). take 16 l ++ (map pointer (one_each part) ++ replicate (112 - length part) 0)) c.without_pointers-words.ensures)
+    (c.put_pointers.ensures ∙ ap (λ (l : List ℕ). take 16 l
+    ++ (map pointer (one_each part) ++ replicate (112 - length part) 0)) c.without_pointers-words.ensures)

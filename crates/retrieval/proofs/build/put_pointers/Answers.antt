@@ -12,4 +12,5 @@ loop-i-preserved c =
     let long = c.told-words in
     ap (λ (w : ℕ). slice_set c.loop-i.words (16 + i) w) c.pointer_to.ensures
     ∙ ap (λ (l : List ℕ). slice_set l (16 + i) (pointer (1, n))) c.loop-i.invariant
-    ∙ put_more (take 16 c.args.words.now) blocks i n (length-take-le 16 c.args.words.now (omega arith)) c.requires.few c.loop-i-test.true (get_or_default blocks i 0 n c.loop-i-test.true)
+    ∙ put_more (take 16 c.args.words.now) blocks i n (length-take-le 16 c.args.words.now (omega arith))
+    c.requires.few c.loop-i-test.true (get_or_default blocks i 0 n c.loop-i-test.true)

@@ -4,4 +4,5 @@ use Rattle.retrieval.specs.Pointers.{one_each}
 use Rattle.retrieval.proofs.build.put_pointers.Given as goal
 
 abbrev pub invariant-loop-i : goal.invariant-loop-i
-invariant-loop-i l = l.words ≡ take 16 l.fn.words ++ (map pointer (one_each (take l.i l.blocks)) ++ replicate (112 - l.i) 0)
+invariant-loop-i l = l.words ≡ take 16 l.fn.words
+    ++ (map pointer (one_each (take l.i l.blocks)) ++ replicate (112 - l.i) 0)

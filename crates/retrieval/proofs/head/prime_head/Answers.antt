@@ -8,4 +8,6 @@ pub returns-in_err-attributes-clause-none : goal.returns-in_err-attributes-claus
 returns-in_err-attributes-clause-none c =
     none_when c.from_residual.result _ c.from_residual.ensures
     (λ p count next head. c.in_err-attributes.ensures.none p.protection p.mode p.time p.date
-    (subst (λ (n : ℕ). IsAttributes n p.protection p.mode p.time p.date) (get_or_default c.args.block.now 3 0 c.index-block-3.result (let long = c.type_inv.block in omega arith)) head.attributes_are))
+    (subst (λ (n : ℕ). IsAttributes n p.protection p.mode p.time p.date)
+    (get_or_default c.args.block.now 3 0 c.index-block-3.result (let long = c.type_inv.block in
+    omega arith)) head.attributes_are))

@@ -7,16 +7,24 @@ use Rattle.changeset.proofs.Reading.{passed_on}
 use Rattle.retrieval.proofs.kept.read_kept.Goals as goal
 
 pub returns-in_default-clause-kept : goal.returns-in_default-clause-kept
-returns-in_default-clause-kept g c h body is whole has = stays_none body c.args.total c.args.at c.args.count 0 is c.in_default.ensures.put_behind c.in_default.ensures.put_inside
+returns-in_default-clause-kept g c h body is whole has = stays_none body c.args.total c.args.at c.args.count
+    0 is c.in_default.ensures.put_behind c.in_default.ensures.put_inside
 
 pub returns-in_err-block-clause-damaged : goal.returns-in_err-block-clause-damaged
 returns-in_err-block-clause-damaged g c h k is =
     let s = g.D.Disk.state c.args.disk.now in
     let p = err_from_is_err_and c.from_residual.result c.from_residual.ensures.1 in
-    let e = c.read_data.ensures.bad h k (passed_on c.from_residual.result c.read_data.result p.0 c.in_err-block.field-0.0 (BadData k) is p.1 p.2 c.in_err-block.was) in
-    damaged_at s.contents s.contents c.args.blocks.now c.args.blocks.now k c.in-Some.place refl (edge_below c.args.total c.args.at c.args.count c.in-Some.place (length c.args.blocks.now) c.in-Some.ensures.some c.requires.counted) e.0 e.1 (λ n. refl)
+    let e = c.read_data.ensures.bad h k
+    (passed_on c.from_residual.result c.read_data.result p.0 c.in_err-block.field-0.0
+    (BadData k) is p.1 p.2 c.in_err-block.was) in
+    damaged_at s.contents s.contents c.args.blocks.now c.args.blocks.now k c.in-Some.place refl
+    (edge_below c.args.total c.args.at c.args.count c.in-Some.place (length c.args.blocks.now) c.in-Some.ensures.some
+    c.requires.counted) e.0 e.1 (λ n. refl)
 
 pub returns-clause-kept : goal.returns-clause-kept
 returns-clause-kept g c h body is whole has =
-    stays_some (g.D.Disk.state c.args.disk.now).contents c.args.blocks.now body whole has c.args.total c.args.at c.args.count c.in-Some.place c.in_ok-block.block c.front_of-words.result is (edge_below c.args.total c.args.at c.args.count c.in-Some.place (length c.args.blocks.now) c.in-Some.ensures.some c.requires.counted)
+    stays_some (g.D.Disk.state c.args.disk.now).contents c.args.blocks.now body whole has c.args.total
+    c.args.at c.args.count c.in-Some.place c.in_ok-block.block c.front_of-words.result is
+    (edge_below c.args.total c.args.at c.args.count c.in-Some.place (length c.args.blocks.now) c.in-Some.ensures.some
+    c.requires.counted)
     (c.in_ok-block.ensures.words h) c.in-Some.ensures.some c.front_of-words.ensures.front c.front_of-words.ensures.zeros

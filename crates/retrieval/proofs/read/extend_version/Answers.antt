@@ -10,10 +10,12 @@ pub returns-in_default-follow-clause-bad : goal.returns-in_default-follow-clause
 returns-in_default-follow-clause-bad c k is =
     let head = c.in-Some.head in
     let tail = drop 2 c.args.block.now in
-    let counted = count_is tail head.count (words_counted 2 126 c.args.block.now head.count c.told-block head.count_fits) in
+    let counted = count_is tail head.count
+    (words_counted 2 126 c.args.block.now head.count c.told-block head.count_fits) in
     inl (
       cc,
-      extension_stuck c.args.size c.args.block.now (runs_of (take head.count tail)) head.next c.in-Some.ensures.some c.in_default-follow.ensures.named
+      extension_stuck c.args.size c.args.block.now (runs_of (take head.count tail)) head.next c.in-Some.ensures.some
+          c.in_default-follow.ensures.named
           (λ full inside. c.in_default-follow.ensures.none (eq-eqb head.count 126 (sym counted ∙ full)) inside),
     )
 
@@ -25,5 +27,6 @@ returns-in-Err-Outside-clause-bad c k is =
     inl (
       cc,
       IsBadExtension.run_outside (runs_of (take head.count tail)) head.next c.in-Some.ensures.some
-          (λ all. c.in-Err-Outside.ensures.outside (ap Err c.in-Err-Outside.field-0-is) (subst (λ (n : ℕ). RunsInSpace c.args.size (runs_of (take n tail))) (sym part) all)),
+          (λ all. c.in-Err-Outside.ensures.outside (ap Err c.in-Err-Outside.field-0-is)
+          (subst (λ (n : ℕ). RunsInSpace c.args.size (runs_of (take n tail))) (sym part) all)),
     )

@@ -18,7 +18,8 @@ invariant-loop-next g l = record {
   words : l.version.words ≤ 2097152;
   room : length l.version.blocks ≤ blocks_of l.version.words;
   filled : AreFilled (length l.version.ribs) (length l.version.blocks) l.next;
-  read : (g.D.Disk.state l.disk).honest → IsReadTo l.size (g.D.Disk.state l.fn.disk).contents l.at l.prime l.version l.next;
+  read : (g.D.Disk.state l.disk).honest
+      → IsReadTo l.size (g.D.Disk.state l.fn.disk).contents l.at l.prime l.version l.next;
 }
 
 abbrev pub decreases-loop-next : goal.decreases-loop-next

@@ -13,9 +13,11 @@ pub returns-in_default-follow-clause-bad : goal.returns-in_default-follow-clause
 returns-in_default-follow-clause-bad c k is =
     let head = c.in-Some.head in
     let tail = drop 16 c.args.block.now in
-    let counted = count_is tail head.count (words_counted 16 112 c.args.block.now head.count c.told-block head.count_fits) in (
+    let counted = count_is tail head.count
+    (words_counted 16 112 c.args.block.now head.count c.told-block head.count_fits) in (
       cc,
-      prime_stuck c.args.size c.args.block.now (with_length head.prime head.length) (runs_of (take head.count tail)) head.next c.in-Some.ensures.some c.in_default-follow.ensures.named
+      prime_stuck c.args.size c.args.block.now (with_length head.prime head.length)
+          (runs_of (take head.count tail)) head.next c.in-Some.ensures.some c.in_default-follow.ensures.named
           (λ full inside. c.in_default-follow.ensures.none (eq-eqb head.count 112 (sym counted ∙ full)) inside),
     )
 
@@ -25,8 +27,10 @@ returns-in-Err-Outside-clause-bad c k is =
     let tail = drop 16 c.args.block.now in
     let part : 16 + head.count - 16 ≡ head.count = omega arith in (
       cc,
-      IsBadPrime.run_outside (with_length head.prime head.length) (runs_of (take head.count tail)) head.next c.in-Some.ensures.some
-          (λ all. c.in-Err-Outside.ensures.outside (ap Err c.in-Err-Outside.field-0-is) (subst (λ (n : ℕ). RunsInSpace c.args.size (runs_of (take n tail))) (sym part) all)),
+      IsBadPrime.run_outside (with_length head.prime head.length) (runs_of (take head.count tail)) head.next
+          c.in-Some.ensures.some
+          (λ all. c.in-Err-Outside.ensures.outside (ap Err c.in-Err-Outside.field-0-is)
+          (subst (λ (n : ℕ). RunsInSpace c.args.size (runs_of (take n tail))) (sym part) all)),
     )
 
 pub returns-in-Err-TooMany-clause-bad : goal.returns-in-Err-TooMany-clause-bad
@@ -34,10 +38,12 @@ returns-in-Err-TooMany-clause-bad c k is =
     let head = c.in-Some.head in
     let tail = drop 16 c.args.block.now in
     let part : 16 + head.count - 16 ≡ head.count = omega arith in
-    let none : length c.set_length.new.self.blocks ≡ 0 = ap (λ (v : VersionState). length v.blocks) (c.set_length.ensures ∙ ap (λ (v : VersionState). record v { words = head.length }) c.new-version.ensures) in
+    let none : length c.set_length.new.self.blocks ≡ 0 = ap (λ (v : VersionState). length v.blocks)
+    (c.set_length.ensures ∙ ap (λ (v : VersionState). record v { words = head.length }) c.new-version.ensures) in
     let more = c.in-Err-TooMany.ensures.many (ap Err c.in-Err-TooMany.field-0-is) in
     let same = ap (λ (n : ℕ). length (flat_map run_blocks (runs_of (take n tail)))) part in
     let limit = c.blocks_of.ensures.value in (
       cc,
-      IsBadPrime.too_many (with_length head.prime head.length) (runs_of (take head.count tail)) head.next c.in-Some.ensures.some (omega arith),
+      IsBadPrime.too_many (with_length head.prime head.length) (runs_of (take head.count tail)) head.next
+          c.in-Some.ensures.some (omega arith),
     )

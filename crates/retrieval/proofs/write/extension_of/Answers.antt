@@ -12,4 +12,5 @@ loop-i-preserved c =
     let n : ℕ = get_or blocks i 0 in
     ap (λ (w : ℕ). slice_set c.loop-i.words (2 + i) w) c.pointer_to.ensures
     ∙ ap (λ (l : List ℕ). slice_set l (2 + i) (pointer (1, n))) c.loop-i.invariant
-    ∙ put_more (join extension_half (length blocks)) c.args.next blocks i n c.requires.few c.loop-i-test.true (get_or_default blocks i 0 n c.loop-i-test.true)
+    ∙ put_more (join extension_half (length blocks)) c.args.next blocks i n c.requires.few c.loop-i-test.true
+    (get_or_default blocks i 0 n c.loop-i-test.true)

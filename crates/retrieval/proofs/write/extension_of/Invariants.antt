@@ -5,4 +5,5 @@ use Rattle.retrieval.proofs.Writing.{pointers}
 use Rattle.retrieval.proofs.write.extension_of.Given as goal
 
 abbrev pub invariant-loop-i : goal.invariant-loop-i
-invariant-loop-i l = l.words ≡ join extension_half (length l.blocks) ∷ l.next ∷ (pointers (take l.i l.blocks) ++ replicate (126 - l.i) 0)
+invariant-loop-i l = l.words ≡ join extension_half (length l.blocks) ∷ l.next
+    ∷ (pointers (take l.i l.blocks) ++ replicate (126 - l.i) 0)

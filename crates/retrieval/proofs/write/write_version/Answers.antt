@@ -9,7 +9,8 @@ use Rattle.retrieval.specs.Primes.{with_length}
 use Rattle.retrieval.specs.Reading.{IsWholeVersion}
 use Rattle.retrieval.specs.Versions.{VersionState}
 use Rattle.retrieval.specs.Writing.{rib_count}
-use Rattle.retrieval.proofs.Taking.{fits_after, takes_all, takes_apart, takes_inside, takes_nonzero, may_be_written, all_of, later}
+use Rattle.retrieval.proofs.Taking.{fits_after, takes_all, takes_apart, takes_inside, takes_nonzero, may_be_written}
+use Rattle.retrieval.proofs.Taking.{all_of, later}
 use Rattle.meaning.proofs.Walking.{all_times}
 use Rattle.retrieval.proofs.Whole.{whole_version}
 use Rattle.retrieval.proofs.write.write_version.Goals as goal
@@ -21,7 +22,8 @@ write_retrieval_blocks-requires-clause-inside g c =
     let ribs = c.take_retrieval_blocks-at.new.version.ribs in
     let sound = c.booked-booked.ensures.sound in
     let all = c.take_retrieval_blocks-at.ensures.taken in
-    subst (λ (s : ℕ). AllByRecursion (λ n. n < s) (at ∷ ribs)) c.requires.size (takes_inside t (at ∷ ribs) c.take_retrieval_blocks-at.new.table all)
+    subst (λ (s : ℕ). AllByRecursion (λ n. n < s) (at ∷ ribs)) c.requires.size
+    (takes_inside t (at ∷ ribs) c.take_retrieval_blocks-at.new.table all)
 
 pub write_retrieval_blocks-requires-clause-apart : goal.write_retrieval_blocks-requires-clause-apart
 write_retrieval_blocks-requires-clause-apart g c =
@@ -50,8 +52,10 @@ returns-in-Ok-clause-modified g c h =
     let sound = c.booked-booked.ensures.sound in
     let all = c.take_retrieval_blocks-at.ensures.taken in
     let old = g.D.Disk.state c.args.disk.now in
-    modifies_wider (λ n. 0 < times n (at ∷ ribs)) (λ n. IsFree t n × InSpace old.size n) old (g.D.Disk.state c.write_retrieval_blocks.new.disk)
-    (may_be_written old.size t (at ∷ ribs) c.take_retrieval_blocks-at.new.table c.requires.size sound c.requires.fixed all) (c.write_retrieval_blocks.ensures.modified h)
+    modifies_wider (λ n. 0 < times n (at ∷ ribs)) (λ n. IsFree t n × InSpace old.size n) old
+    (g.D.Disk.state c.write_retrieval_blocks.new.disk)
+    (may_be_written old.size t (at ∷ ribs) c.take_retrieval_blocks-at.new.table c.requires.size sound c.requires.fixed
+    all) (c.write_retrieval_blocks.ensures.modified h)
 
 pub returns-in-Err-clause-modified : goal.returns-in-Err-clause-modified
 returns-in-Err-clause-modified g c h =
@@ -61,8 +65,10 @@ returns-in-Err-clause-modified g c h =
     let sound = c.booked-booked.ensures.sound in
     let all = c.take_retrieval_blocks-at.ensures.taken in
     let old = g.D.Disk.state c.args.disk.now in
-    modifies_wider (λ n. 0 < times n (at ∷ ribs)) (λ n. IsFree t n × InSpace old.size n) old (g.D.Disk.state c.write_retrieval_blocks.new.disk)
-    (may_be_written old.size t (at ∷ ribs) c.take_retrieval_blocks-at.new.table c.requires.size sound c.requires.fixed all) (c.write_retrieval_blocks.ensures.modified h)
+    modifies_wider (λ n. 0 < times n (at ∷ ribs)) (λ n. IsFree t n × InSpace old.size n) old
+    (g.D.Disk.state c.write_retrieval_blocks.new.disk)
+    (may_be_written old.size t (at ∷ ribs) c.take_retrieval_blocks-at.new.table c.requires.size sound c.requires.fixed
+    all) (c.write_retrieval_blocks.ensures.modified h)
 
 pub returns-in-Ok-clause-own : goal.returns-in-Ok-clause-own
 returns-in-Ok-clause-own g c =
@@ -72,7 +78,9 @@ returns-in-Ok-clause-own g c =
     let sound = c.booked-booked.ensures.sound in
     let all = c.take_retrieval_blocks-at.ensures.taken in
     let old = g.D.Disk.state c.args.disk.now in
-    all_times (λ n. IsFree t n × InSpace old.size n) (at ∷ ribs) (may_be_written old.size t (at ∷ ribs) c.take_retrieval_blocks-at.new.table c.requires.size sound c.requires.fixed all)
+    all_times (λ n. IsFree t n × InSpace old.size n) (at ∷ ribs)
+    (may_be_written old.size t (at ∷ ribs) c.take_retrieval_blocks-at.new.table c.requires.size sound c.requires.fixed
+    all)
 
 pub returns-in-Ok-clause-apart : goal.returns-in-Ok-clause-apart
 returns-in-Ok-clause-apart g c =
@@ -92,13 +100,17 @@ returns-in-Ok-clause-read_back g c h inside =
     let all = c.take_retrieval_blocks-at.ensures.taken in
     let old = g.D.Disk.state c.args.disk.now in
     let new = g.D.Disk.state c.write_retrieval_blocks.new.disk in
-    let own = may_be_written old.size t (at ∷ ribs) c.take_retrieval_blocks-at.new.table c.requires.size sound c.requires.fixed all in
+    let own = may_be_written old.size t (at ∷ ribs) c.take_retrieval_blocks-at.new.table c.requires.size
+    sound c.requires.fixed all in
     let v = c.take_retrieval_blocks-at.new.version in
     let p = with_length c.args.prime.now v.words in
-    let its : AllByRecursion (InSpace old.size) v.blocks = subst (λ (w : VersionState). AllByRecursion (InSpace old.size) w.blocks) (sym c.take_retrieval_blocks-at.ensures.kept) inside in
+    let its : AllByRecursion (InSpace old.size) v.blocks = subst (λ (w : VersionState).
+    AllByRecursion (InSpace old.size) w.blocks) (sym c.take_retrieval_blocks-at.ensures.kept) inside in
     subst (λ (s : ℕ). IsWholeVersion s new.contents at p ribs v.blocks) (sym c.write_retrieval_blocks.ensures.same.size)
-    (whole_version old.size new.contents p at ribs v.blocks (c.in-Ok.ensures.written h) (λ n there. (own n there).1) its (subst IsPpn c.word.ensures.value c.word.ensures.ppn)
+    (whole_version old.size new.contents p at ribs v.blocks (c.in-Ok.ensures.written h) (λ n there. (own n there).1) its
+    (subst IsPpn c.word.ensures.value c.word.ensures.ppn)
     (subst (λ (n : ℕ). n < 2 ^ 18) c.bits.ensures.value c.bits.ensures.fits))
 
 pub returns-in_err-ribs-clause-modified : goal.returns-in_err-ribs-clause-modified
-returns-in_err-ribs-clause-modified g c h = modifies_start (λ n. IsFree c.args.table.now n × InSpace (g.D.Disk.state c.args.disk.now).size n) (g.D.Disk.state c.args.disk.now)
+returns-in_err-ribs-clause-modified g c h = modifies_start (λ n. IsFree c.args.table.now n
+    × InSpace (g.D.Disk.state c.args.disk.now).size n) (g.D.Disk.state c.args.disk.now)

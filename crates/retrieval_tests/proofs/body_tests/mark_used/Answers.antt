@@ -5,13 +5,16 @@ use Rattle.alloctab.specs.TableState.{TableState, IsTable, bit, holds, space, wi
 use Rattle.alloctab.specs.TableLaws.{bit-with_bit_same, bit-with_bit_other, sum_but_one}
 use Rattle.retrieval_tests.proofs.body_tests.mark_used.Goals as goal
 
-uses-with_bit : (t : TableState) (n : ℕ) → IsTable t → space_start t.size ≤ n → n < t.size → uses (with_bit t n true) + bit t n ≡ uses t + 1
+uses-with_bit : (t : TableState) (n : ℕ) → IsTable t → space_start t.size ≤ n → n < t.size
+    → uses (with_bit t n true) + bit t n ≡ uses t + 1
 uses-with_bit t n sound from inside =
     let start = space_start t.size in
     let at : start + (n - start) ≡ n = omega arith in
     let t' = with_bit t n true in
-    let sums = sum_but_one (λ k. bit t (start + k) + holds t (start + k)) (λ k. bit t' (start + k) + holds t' (start + k)) (space t.size) (n - start) (omega arith)
-    (λ j other. let e = bit-with_bit_other t n (start + j) true (λ (e : start + j ≡ n). other (omega arith)) in ap (λ (b : ℕ). b + holds t (start + j)) e) in
+    let sums = sum_but_one (λ k. bit t (start + k) + holds t (start + k)) (λ k. bit t' (start + k)
+    + holds t' (start + k)) (space t.size) (n - start) (omega arith)
+    (λ j other. let e = bit-with_bit_other t n (start + j) true (λ (e : start + j ≡ n). other (omega arith)) in
+    ap (λ (b : ℕ). b + holds t (start + j)) e) in
     let old = ap (bit t) at in
     let new = ap (bit t') at in
     let counts = ap (holds t) at in

@@ -26,8 +26,10 @@ sum_zero f (suc k) none = let a = none k in let b = sum_zero f k none in omega a
 not_fixed : (size j : ℕ) → fixed size (space_start size + j) ≡ 0
 not_fixed size j = grind (arith, nat_tests)
 
-unused : (t : TableState) (reached : List Bool) (size : ℕ) → t.held ≡ replicate t.size 0 → reached ≡ replicate size false → ((n : ℕ) → bit t n ≡ wanted_bit t.size reached n) → used_in_space t ≡ 0
-unused t reached size held none right = sum_zero (λ j. used t (space_start t.size + j)) (space t.size) (λ j. used-free t (space_start t.size + j) (free j))
+unused : (t : TableState) (reached : List Bool) (size : ℕ) → t.held ≡ replicate t.size 0
+    → reached ≡ replicate size false → ((n : ℕ) → bit t n ≡ wanted_bit t.size reached n) → used_in_space t ≡ 0
+unused t reached size held none right = sum_zero (λ j. used t (space_start t.size + j)) (space t.size)
+    (λ j. used-free t (space_start t.size + j) (free j))
   where
     free : (j : ℕ) → IsFree t (space_start t.size + j)
     free j =
@@ -38,8 +40,10 @@ unused t reached size held none right = sum_zero (λ j. used t (space_start t.si
           unheld = ap (λ (l : List ℕ). get_or l n 0) held ∙ no_counts t.size n;
         }
 
-no_uses : (t : TableState) (reached : List Bool) (size : ℕ) → t.held ≡ replicate t.size 0 → reached ≡ replicate size false → ((n : ℕ) → bit t n ≡ wanted_bit t.size reached n) → uses t ≡ 0
-no_uses t reached size held none right = sum_zero (λ j. bit t (space_start t.size + j) + holds t (space_start t.size + j)) (space t.size) each
+no_uses : (t : TableState) (reached : List Bool) (size : ℕ) → t.held ≡ replicate t.size 0
+    → reached ≡ replicate size false → ((n : ℕ) → bit t n ≡ wanted_bit t.size reached n) → uses t ≡ 0
+no_uses t reached size held none right = sum_zero (λ j. bit t (space_start t.size + j)
+    + holds t (space_start t.size + j)) (space t.size) each
   where
     each : (j : ℕ) → bit t (space_start t.size + j) + holds t (space_start t.size + j) ≡ 0
     each j =
@@ -60,11 +64,13 @@ returns-clause-no_uses g c =
 pub returns-clause-unheld : goal.returns-clause-unheld
 returns-clause-unheld g c n =
     let t = c.in_ok-table.table in
-    ap (λ (u : TableState). holds u n) c.book.ensures ∙ ap (λ (l : List ℕ). get_or l n 0) c.in_ok-table.ensures.unheld ∙ no_counts t.size n
+    ap (λ (u : TableState). holds u n) c.book.ensures ∙ ap (λ (l : List ℕ). get_or l n 0) c.in_ok-table.ensures.unheld
+    ∙ no_counts t.size n
 
 pub returns-clause-unused : goal.returns-clause-unused
 returns-clause-unused g c =
     let t = c.in_ok-table.table in
     let reached = c.in-Ok.reached in
     let right : (n : ℕ) → bit t n ≡ wanted_bit t.size reached n = search rules in
-    ap used_in_space c.book.ensures ∙ unused t reached c.blocks-size.result c.in_ok-table.ensures.unheld c.in-Ok.ensures right
+    ap used_in_space c.book.ensures
+    ∙ unused t reached c.blocks-size.result c.in_ok-table.ensures.unheld c.in-Ok.ensures right

@@ -16,11 +16,13 @@ write_retrieval_blocks-answer-requires-clause-apart g c =
     let at = c.take_retrieval_blocks-at.result in
     let ribs = c.take_retrieval_blocks-at.new.version.ribs in
     let all = c.take_retrieval_blocks-at.ensures.taken in
-    takes_apart c.args.table.now (at ∷ ribs) c.take_retrieval_blocks-at.new.table c.booked-booked.ensures.sound c.requires.fixed all
+    takes_apart c.args.table.now (at ∷ ribs) c.take_retrieval_blocks-at.new.table c.booked-booked.ensures.sound
+    c.requires.fixed all
 
 pub write_retrieval_blocks-answer-requires-clause-nonzero : goal.write_retrieval_blocks-answer-requires-clause-nonzero
 write_retrieval_blocks-answer-requires-clause-nonzero g c =
     let at = c.take_retrieval_blocks-at.result in
     let ribs = c.take_retrieval_blocks-at.new.version.ribs in
     let all = c.take_retrieval_blocks-at.ensures.taken in
-    later 0 at ribs (takes_nonzero c.args.table.now (at ∷ ribs) c.take_retrieval_blocks-at.new.table c.booked-booked.ensures.sound c.requires.fixed all)
+    later 0 at ribs (takes_nonzero c.args.table.now (at ∷ ribs) c.take_retrieval_blocks-at.new.table
+    c.booked-booked.ensures.sound c.requires.fixed all)

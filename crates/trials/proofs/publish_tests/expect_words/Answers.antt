@@ -5,4 +5,5 @@ use Rattle.volume.specs.Live.{VolumeCore}
 use Rattle.trials.proofs.publish_tests.expect_words.Goals as goal
 
 pub returns-clause-readers : goal.returns-clause-readers
-returns-clause-readers g c pin live = subst (λ (m : VolumeCore). IsReadable m (Pinned pin)) (sym c.read.ensures.map) live
+returns-clause-readers g c pin live = subst (λ (m : VolumeCore). IsReadable m (Pinned pin))
+    (sym c.read.ensures.map) live

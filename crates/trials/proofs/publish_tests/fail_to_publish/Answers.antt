@@ -1,4 +1,5 @@
 use Rattle.trials.proofs.publish_tests.fail_to_publish.Goals as goal
 
 pub returns-clause-live : goal.returns-clause-live
-returns-clause-live g c = let pin = c.hold-pin.result in c.expect_published.ensures.readers pin (c.write-pending.ensures.readers pin c.hold-pin.ensures.live)
+returns-clause-live g c = let pin = c.hold-pin.result in
+    c.expect_published.ensures.readers pin (c.write-pending.ensures.readers pin c.hold-pin.ensures.live)

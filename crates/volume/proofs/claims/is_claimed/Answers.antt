@@ -5,5 +5,9 @@ use Rattle.volume.proofs.claims.is_claimed.Goals as goal
 
 pub loop-version-init : goal.loop-version-init
 loop-version-init c =
-    let place = place_of c.args.ppn c.args.file.now in
-    (tt, tt, ap (claimed_among place) (c.into_iter-version-iterator.ensures.into_iter_gives ∙ c.iter-version-items.ensures.rest) ∙ claimed_from place 0 c.args.pending.now.slots)
+    let place = place_of c.args.ppn c.args.file.now in (
+      tt,
+      tt,
+      ap (claimed_among place) (c.into_iter-version-iterator.ensures.into_iter_gives
+          ∙ c.iter-version-items.ensures.rest) ∙ claimed_from place 0 c.args.pending.now.slots,
+    )

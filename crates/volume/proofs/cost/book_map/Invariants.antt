@@ -6,4 +6,7 @@ use Rattle.volume.proofs.cost.book_map.Given as goal
 
 abbrev pub invariant-loop-directory : goal.invariant-loop-directory
 invariant-loop-directory l =
-    l.table ≡ record l.fn.table { booked = length l.fn.master.blocks + total cost_of_directory (map known_directory (take l.directory-index l.directories)) }
+    l.table ≡ record l.fn.table {
+      booked = length l.fn.master.blocks
+          + total cost_of_directory (map known_directory (take l.directory-index l.directories));
+    }

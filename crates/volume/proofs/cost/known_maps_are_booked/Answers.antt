@@ -7,4 +7,5 @@ pub returns-clause-cost : goal.returns-clause-cost
 returns-clause-cost c = cost_is
 
 pub returns-clause-used : goal.returns-clause-used
-returns-clause-used c size core whole = let a = core_used size core whole in let b = core_uses size core whole in omega arith
+returns-clause-used c size core whole = let a = core_used size core whole in let b = core_uses size core whole in
+    omega arith

@@ -2,7 +2,8 @@ use Rattle.std.proofs.Common.{◌<◌, ◌≤◌, ℕ, sym, subst}
 use Rattle.meaning.specs.Maps.{times}
 use Rattle.alloctab.specs.TableState.{bit}
 use Rattle.volume.specs.Publishing.{ClearsBits}
-use Rattle.volume.proofs.Retiring.{prime_inside, prime_clears, ribs_inside, ribs_set, blocks_inside, blocks_set, version_clears}
+use Rattle.volume.proofs.Retiring.{prime_inside, prime_clears, ribs_inside, ribs_set, blocks_inside, blocks_set}
+use Rattle.volume.proofs.Retiring.{version_clears}
 use Rattle.volume.proofs.current.clear_version.Goals as goal
 
 pub clear-requires : goal.clear-requires
@@ -15,7 +16,8 @@ clear_all-requires-clause-inside c =
     let v = c.args.version.now in
     let t = c.args.table.now in
     let u = c.clear.new.self in
-    let first = prime_clears t v.at v.version.ribs v.version.blocks c.requires.sound c.requires.set u c.clear.ensures.bits in
+    let first = prime_clears t v.at v.version.ribs v.version.blocks c.requires.sound c.requires.set u
+    c.clear.ensures.bits in
     subst (λ ribs. (n : ℕ) → 0 < times n ribs → n < u.size) (sym c.ribs.ensures)
     (ribs_inside t v.at v.version.ribs v.version.blocks c.requires.sound c.requires.set u first)
 
@@ -24,7 +26,8 @@ clear_all-requires-clause-set c =
     let v = c.args.version.now in
     let t = c.args.table.now in
     let u = c.clear.new.self in
-    let first = prime_clears t v.at v.version.ribs v.version.blocks c.requires.sound c.requires.set u c.clear.ensures.bits in
+    let first = prime_clears t v.at v.version.ribs v.version.blocks c.requires.sound c.requires.set u
+    c.clear.ensures.bits in
     subst (λ ribs. (n : ℕ) → times n ribs ≤ bit u n) (sym c.ribs.ensures)
     (ribs_set t v.at v.version.ribs v.version.blocks c.requires.sound c.requires.set u first)
 
@@ -34,7 +37,8 @@ clear_all-requires-2-clause-inside c =
     let t = c.args.table.now in
     let u = c.clear.new.self in
     let w = c.clear_all.new.table in
-    let first = prime_clears t v.at v.version.ribs v.version.blocks c.requires.sound c.requires.set u c.clear.ensures.bits in
+    let first = prime_clears t v.at v.version.ribs v.version.blocks c.requires.sound c.requires.set u
+    c.clear.ensures.bits in
     let second = subst (ClearsBits u w) c.ribs.ensures c.clear_all.ensures in
     subst (λ blocks. (n : ℕ) → 0 < times n blocks → n < w.size) (sym c.blocks-2.ensures)
     (blocks_inside t v.at v.version.ribs v.version.blocks c.requires.sound c.requires.set u w first second)
@@ -45,7 +49,8 @@ clear_all-requires-2-clause-set c =
     let t = c.args.table.now in
     let u = c.clear.new.self in
     let w = c.clear_all.new.table in
-    let first = prime_clears t v.at v.version.ribs v.version.blocks c.requires.sound c.requires.set u c.clear.ensures.bits in
+    let first = prime_clears t v.at v.version.ribs v.version.blocks c.requires.sound c.requires.set u
+    c.clear.ensures.bits in
     let second = subst (ClearsBits u w) c.ribs.ensures c.clear_all.ensures in
     subst (λ blocks. (n : ℕ) → times n blocks ≤ bit w n) (sym c.blocks-2.ensures)
     (blocks_set t v.at v.version.ribs v.version.blocks c.requires.sound c.requires.set u w first second)
@@ -56,7 +61,9 @@ returns c =
     let t = c.args.table.now in
     let u = c.clear.new.self in
     let w = c.clear_all.new.table in
-    let first = prime_clears t v.at v.version.ribs v.version.blocks c.requires.sound c.requires.set u c.clear.ensures.bits in
+    let first = prime_clears t v.at v.version.ribs v.version.blocks c.requires.sound c.requires.set u
+    c.clear.ensures.bits in
     let second = subst (ClearsBits u w) c.ribs.ensures c.clear_all.ensures in
     let third = subst (ClearsBits w c.clear_all-2.new.table) c.blocks-2.ensures c.clear_all-2.ensures in
-    version_clears t v.at v.version.ribs v.version.blocks c.requires.sound c.requires.set u w c.clear_all-2.new.table first second third
+    version_clears t v.at v.version.ribs v.version.blocks c.requires.sound c.requires.set u w c.clear_all-2.new.table
+    first second third

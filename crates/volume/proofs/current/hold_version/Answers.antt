@@ -1,7 +1,8 @@
 use Rattle.std.proofs.Common.{◌≡◌, ◌+◌, ◌<◌, ◌^◌, ℕ, sym, ap, subst, ◌∙◌}
 use Rattle.meaning.specs.Maps.{times}
 use Rattle.alloctab.specs.TableState.{holds}
-use Rattle.volume.proofs.Retiring.{prime_below, ribs_below, blocks_below, prime_holds, ribs_fit, blocks_fit, version_holds}
+use Rattle.volume.proofs.Retiring.{prime_below, ribs_below, blocks_below, prime_holds, ribs_fit, blocks_fit}
+use Rattle.volume.proofs.Retiring.{version_holds}
 use Rattle.volume.proofs.current.hold_version.Goals as goal
 
 pub hold-requires-clause-inside : goal.hold-requires-clause-inside
@@ -13,14 +14,16 @@ pub hold_all-requires-clause-inside : goal.hold_all-requires-clause-inside
 hold_all-requires-clause-inside c =
     let v = c.args.version.now in
     subst (λ ribs. (n : ℕ) → 0 < times n ribs → n < c.hold.new.self.size) (sym c.ribs.ensures)
-    (ribs_below c.args.table.now v.at v.version.ribs v.version.blocks c.requires.inside c.hold.new.self (ap (λ t. t.size) c.hold.ensures))
+    (ribs_below c.args.table.now v.at v.version.ribs v.version.blocks c.requires.inside c.hold.new.self
+    (ap (λ t. t.size) c.hold.ensures))
 
 pub hold_all-requires-clause-fits : goal.hold_all-requires-clause-fits
 hold_all-requires-clause-fits c =
     let v = c.args.version.now in
     let t = c.args.table.now in
     let u = c.hold.new.self in
-    let first = prime_holds t u v.at c.requires.sound (prime_below t v.at v.version.ribs v.version.blocks c.requires.inside) c.hold.ensures in
+    let first = prime_holds t u v.at c.requires.sound
+    (prime_below t v.at v.version.ribs v.version.blocks c.requires.inside) c.hold.ensures in
     subst (λ ribs. (n : ℕ) → holds u n + times n ribs < 2 ^ 32) (sym c.ribs.ensures)
     (ribs_fit v.at v.version.ribs v.version.blocks (holds t) (holds u) c.requires.fits first)
 
@@ -29,7 +32,8 @@ hold_all-requires-2-clause-inside c =
     let v = c.args.version.now in
     let w = c.hold_all.new.table in
     subst (λ blocks. (n : ℕ) → 0 < times n blocks → n < w.size) (sym c.blocks-2.ensures)
-    (blocks_below c.args.table.now v.at v.version.ribs v.version.blocks c.requires.inside w (ap (λ t. t.size) c.hold_all.ensures.rest ∙ ap (λ t. t.size) c.hold.ensures))
+    (blocks_below c.args.table.now v.at v.version.ribs v.version.blocks c.requires.inside w
+    (ap (λ t. t.size) c.hold_all.ensures.rest ∙ ap (λ t. t.size) c.hold.ensures))
 
 pub hold_all-requires-2-clause-fits : goal.hold_all-requires-2-clause-fits
 hold_all-requires-2-clause-fits c =
@@ -37,8 +41,10 @@ hold_all-requires-2-clause-fits c =
     let t = c.args.table.now in
     let u = c.hold.new.self in
     let w = c.hold_all.new.table in
-    let first = prime_holds t u v.at c.requires.sound (prime_below t v.at v.version.ribs v.version.blocks c.requires.inside) c.hold.ensures in
-    let second = subst (λ ribs. (n : ℕ) → holds w n ≡ holds u n + times n ribs) c.ribs.ensures c.hold_all.ensures.held in
+    let first = prime_holds t u v.at c.requires.sound
+    (prime_below t v.at v.version.ribs v.version.blocks c.requires.inside) c.hold.ensures in
+    let second = subst (λ ribs. (n : ℕ)
+    → holds w n ≡ holds u n + times n ribs) c.ribs.ensures c.hold_all.ensures.held in
     subst (λ blocks. (n : ℕ) → holds w n + times n blocks < 2 ^ 32) (sym c.blocks-2.ensures)
     (blocks_fit v.at v.version.ribs v.version.blocks (holds t) (holds u) (holds w) c.requires.fits first second)
 
@@ -49,7 +55,10 @@ returns-clause-held c =
     let u = c.hold.new.self in
     let w = c.hold_all.new.table in
     let new = c.hold_all-2.new.table in
-    let first = prime_holds t u v.at c.requires.sound (prime_below t v.at v.version.ribs v.version.blocks c.requires.inside) c.hold.ensures in
-    let second = subst (λ ribs. (n : ℕ) → holds w n ≡ holds u n + times n ribs) c.ribs.ensures c.hold_all.ensures.held in
-    let third = subst (λ blocks. (n : ℕ) → holds new n ≡ holds w n + times n blocks) c.blocks-2.ensures c.hold_all-2.ensures.held in
+    let first = prime_holds t u v.at c.requires.sound
+    (prime_below t v.at v.version.ribs v.version.blocks c.requires.inside) c.hold.ensures in
+    let second = subst (λ ribs. (n : ℕ)
+    → holds w n ≡ holds u n + times n ribs) c.ribs.ensures c.hold_all.ensures.held in
+    let third = subst (λ blocks. (n : ℕ)
+    → holds new n ≡ holds w n + times n blocks) c.blocks-2.ensures c.hold_all-2.ensures.held in
     version_holds v.at v.version.ribs v.version.blocks (holds t) (holds u) (holds w) (holds new) first second third

@@ -1,4 +1,5 @@
-use Rattle.std.proofs.Common.{◌≡◌, ◌++◌, ◌∷◌, [], ℕ, List, true, length, map, slice_get, slice_set, option_to_list, Some, None, IfSome, IfNone, refl, sym, ap, subst, ◌∙◌}
+use Rattle.std.proofs.Common.{◌≡◌, ◌++◌, ◌∷◌, [], ℕ, List, true, length, map, slice_get, slice_set, option_to_list}
+use Rattle.std.proofs.Common.{Some, None, IfSome, IfNone, refl, sym, ap, subst, ◌∙◌}
 use Rattle.std.specs.FinMap.Entries.{find}
 use Rattle.meaning.specs.Files.{name_cmp}
 use Rattle.directory.specs.Edits.{StandsAt, IsReserve, inserted}
@@ -8,7 +9,10 @@ use Rattle.volume.specs.Live.{slot}
 use Rattle.volume.specs.LiveCores.{core_of, live_directory}
 use Rattle.volume.specs.declared.live.LiveVersion.{LiveVersion}
 use Rattle.volume.specs.declared.pending.PendingVersion.{PendingVersion}
-use Rattle.volume.proofs.MakingCurrent.{index_is, place_within, directory_there, known_place, keys_place, is_directory, as_many_keys, version_held, version_own, within_space, blocks_booked, grown_free, retires_there, retires_set, retires_few, retires_booked, retires_fits, retired_sound, changed_many, new_stands, chain_grown}
+use Rattle.volume.proofs.MakingCurrent.{index_is, place_within, directory_there, known_place, keys_place, is_directory}
+use Rattle.volume.proofs.MakingCurrent.{as_many_keys, version_held, version_own, within_space, blocks_booked}
+use Rattle.volume.proofs.MakingCurrent.{grown_free, retires_there, retires_set, retires_few, retires_booked}
+use Rattle.volume.proofs.MakingCurrent.{retires_fits, retired_sound, changed_many, new_stands, chain_grown}
 use Rattle.volume.proofs.BecomingCurrent.{made_current_by}
 use Rattle.std.specs.Vec.{with_item}
 use Rattle.meaning.specs.Maps.{insert, from_entries}
@@ -31,7 +35,9 @@ use_version-at-requires-clause-used c =
     let place = c.place_of-place.result in
     let stands = c.place_of-place.ensures in
     let d = directory_there m c.requires.whole p.prime.ppn place stands.0 stands.1 in
-    blocks_booked m c.requires.whole c.args.key p was (c.requires.placed p was) place stands.0 stands.1 d.0 d.1 c.takes_block-grows.result (length c.args.supplies.ribs.items) (c.takes_block-grows.ensures d.0 d.1) (c.requires.ribs p was)
+    blocks_booked m c.requires.whole c.args.key p was (c.requires.placed p was) place stands.0 stands.1
+    d.0 d.1 c.takes_block-grows.result (length c.args.supplies.ribs.items) (c.takes_block-grows.ensures d.0 d.1)
+    (c.requires.ribs p was)
 
 pub use_version-at-requires-clause-room : goal.use_version-at-requires-clause-room
 use_version-at-requires-clause-room c =
@@ -76,9 +82,12 @@ put_entry-old-requires-clause-reserve c =
     let place = c.place_of-place.result in
     let stands = c.place_of-place.ensures in
     let d = c.index_mut.result.now in
-    let at = index_is m.directories.items place d _ (place_within m c.requires.whole p.prime.ppn place stands.0 stands.1) c.index_mut.ensures.value in
-    subst (λ name. IsReserve name_cmp (viewed file_view d.chain) name (viewed file_view c.args.supplies.reserve)) (sym c.file_entry-entry.ensures.name)
-    ((c.requires.supplied p was).fits (live_directory m.versions.slots d) (is_directory m c.requires.whole c.args.key p was (c.requires.placed p was) place stands.0 stands.1 d at))
+    let at = index_is m.directories.items place d _
+    (place_within m c.requires.whole p.prime.ppn place stands.0 stands.1) c.index_mut.ensures.value in
+    subst (λ name. IsReserve name_cmp (viewed file_view d.chain) name (viewed file_view c.args.supplies.reserve))
+    (sym c.file_entry-entry.ensures.name)
+    ((c.requires.supplied p was).fits (live_directory m.versions.slots d)
+    (is_directory m c.requires.whole c.args.key p was (c.requires.placed p was) place stands.0 stands.1 d at))
 
 pub put_entry-old-requires-clause-keys : goal.put_entry-old-requires-clause-keys
 put_entry-old-requires-clause-keys c absent =
@@ -88,8 +97,10 @@ put_entry-old-requires-clause-keys c absent =
     let place = c.place_of-place.result in
     let stands = c.place_of-place.ensures in
     let d = c.index_mut.result.now in
-    let at = index_is m.directories.items place d _ (place_within m c.requires.whole p.prime.ppn place stands.0 stands.1) c.index_mut.ensures.value in
-    (c.requires.supplied p was).longer place stands.0 (live_directory m.versions.slots d) d.keys.items stands.1 (known_place m c.requires.whole c.args.key p was (c.requires.placed p was) place stands.0 stands.1 d at)
+    let at = index_is m.directories.items place d _
+    (place_within m c.requires.whole p.prime.ppn place stands.0 stands.1) c.index_mut.ensures.value in
+    (c.requires.supplied p was).longer place stands.0 (live_directory m.versions.slots d) d.keys.items stands.1
+    (known_place m c.requires.whole c.args.key p was (c.requires.placed p was) place stands.0 stands.1 d at)
     (keys_place m c.requires.whole c.args.key p was (c.requires.placed p was) place stands.0 stands.1 d at)
     (subst (λ name. find name_cmp name (map file_view d.chain.entries) ≡ None) c.file_entry-entry.ensures.name absent)
 
@@ -101,7 +112,8 @@ put_entry-old-requires-clause-aligned c =
     let place = c.place_of-place.result in
     let stands = c.place_of-place.ensures in
     let d = c.index_mut.result.now in
-    let at = index_is m.directories.items place d _ (place_within m c.requires.whole p.prime.ppn place stands.0 stands.1) c.index_mut.ensures.value in
+    let at = index_is m.directories.items place d _
+    (place_within m c.requires.whole p.prime.ppn place stands.0 stands.1) c.index_mut.ensures.value in
     as_many_keys m c.requires.whole c.args.key p was (c.requires.placed p was) place stands.0 stands.1 d at
 
 pub put_entry-old-requires-clause-grown : goal.put_entry-old-requires-clause-grown
@@ -113,9 +125,13 @@ put_entry-old-requires-clause-grown c =
     let place = c.place_of-place.result in
     let stands = c.place_of-place.ensures in
     let d = c.index_mut.result.now in
-    let at = index_is m.directories.items place d _ (place_within m c.requires.whole p.prime.ppn place stands.0 stands.1) c.index_mut.ensures.value in
-    grown_free m c.requires.whole c.args.key p was placed place stands.0 stands.1 d at c.takes_block-grows.result c.use_version-at.result.grown c.file_entry-entry.result.name c.use_version-at.new.table c.use_version-at.result.at c.use_version-at.new.version
-    c.file_entry-entry.ensures.name (c.takes_block-grows.ensures d at) c.use_version-at.ensures.grown c.use_version-at.ensures.put_in_use
+    let at = index_is m.directories.items place d _
+    (place_within m c.requires.whole p.prime.ppn place stands.0 stands.1) c.index_mut.ensures.value in
+    grown_free m c.requires.whole c.args.key p was placed place stands.0 stands.1 d at c.takes_block-grows.result
+    c.use_version-at.result.grown c.file_entry-entry.result.name c.use_version-at.new.table c.use_version-at.result.at
+    c.use_version-at.new.version
+    c.file_entry-entry.ensures.name (c.takes_block-grows.ensures d at) c.use_version-at.ensures.grown
+    c.use_version-at.ensures.put_in_use
 
 pub retire_before-requires-clause-there : goal.retire_before-requires-clause-there
 retire_before-requires-clause-there c =
@@ -126,11 +142,16 @@ retire_before-requires-clause-there c =
     let place = c.place_of-place.result in
     let stands = c.place_of-place.ensures in
     let d = c.index_mut.result.now in
-    let at = index_is m.directories.items place d _ (place_within m c.requires.whole p.prime.ppn place stands.0 stands.1) c.index_mut.ensures.value in
-    retires_there m c.requires.whole c.args.key p was placed place stands.0 stands.1 d at c.put_entry-old.result c.file_entry-entry.result.name c.file_entry-entry.ensures.name
-    (λ keys i. c.put_entry-old.new.directory.keys.items ≡ slice_set keys i c.insert_reserved-current.result) c.put_entry-old.ensures.replaced c.insert_reserved-current.new.self.slots
-    (λ k v there. c.insert_reserved-current.ensures.updates.others k (λ same. some_none (sym there ∙ ap (slot m.versions.slots) same ∙ c.insert_reserved-current.ensures.was_vacant)) ∙ there)
-    c.use_version-at.new.table (option_to_list c.use_version-at.result.grown) c.use_version-at.result.at c.use_version-at.new.version c.use_version-at.ensures.put_in_use
+    let at = index_is m.directories.items place d _
+    (place_within m c.requires.whole p.prime.ppn place stands.0 stands.1) c.index_mut.ensures.value in
+    retires_there m c.requires.whole c.args.key p was placed place stands.0 stands.1 d at c.put_entry-old.result
+    c.file_entry-entry.result.name c.file_entry-entry.ensures.name
+    (λ keys i. c.put_entry-old.new.directory.keys.items ≡ slice_set keys i c.insert_reserved-current.result)
+    c.put_entry-old.ensures.replaced c.insert_reserved-current.new.self.slots
+    (λ k v there. c.insert_reserved-current.ensures.updates.others k (λ same. some_none (sym there
+    ∙ ap (slot m.versions.slots) same ∙ c.insert_reserved-current.ensures.was_vacant)) ∙ there)
+    c.use_version-at.new.table (option_to_list c.use_version-at.result.grown) c.use_version-at.result.at
+    c.use_version-at.new.version c.use_version-at.ensures.put_in_use
 
 pub retire_before-requires-clause-set : goal.retire_before-requires-clause-set
 retire_before-requires-clause-set c =
@@ -141,11 +162,16 @@ retire_before-requires-clause-set c =
     let place = c.place_of-place.result in
     let stands = c.place_of-place.ensures in
     let d = c.index_mut.result.now in
-    let at = index_is m.directories.items place d _ (place_within m c.requires.whole p.prime.ppn place stands.0 stands.1) c.index_mut.ensures.value in
-    retires_set m c.requires.whole c.args.key p was placed place stands.0 stands.1 d at c.put_entry-old.result c.file_entry-entry.result.name c.file_entry-entry.ensures.name
-    (λ keys i. c.put_entry-old.new.directory.keys.items ≡ slice_set keys i c.insert_reserved-current.result) c.put_entry-old.ensures.replaced c.insert_reserved-current.new.self.slots
-    (λ k v there. c.insert_reserved-current.ensures.updates.others k (λ same. some_none (sym there ∙ ap (slot m.versions.slots) same ∙ c.insert_reserved-current.ensures.was_vacant)) ∙ there)
-    c.use_version-at.new.table (option_to_list c.use_version-at.result.grown) c.use_version-at.result.at c.use_version-at.new.version c.use_version-at.ensures.put_in_use
+    let at = index_is m.directories.items place d _
+    (place_within m c.requires.whole p.prime.ppn place stands.0 stands.1) c.index_mut.ensures.value in
+    retires_set m c.requires.whole c.args.key p was placed place stands.0 stands.1 d at c.put_entry-old.result
+    c.file_entry-entry.result.name c.file_entry-entry.ensures.name
+    (λ keys i. c.put_entry-old.new.directory.keys.items ≡ slice_set keys i c.insert_reserved-current.result)
+    c.put_entry-old.ensures.replaced c.insert_reserved-current.new.self.slots
+    (λ k v there. c.insert_reserved-current.ensures.updates.others k (λ same. some_none (sym there
+    ∙ ap (slot m.versions.slots) same ∙ c.insert_reserved-current.ensures.was_vacant)) ∙ there)
+    c.use_version-at.new.table (option_to_list c.use_version-at.result.grown) c.use_version-at.result.at
+    c.use_version-at.new.version c.use_version-at.ensures.put_in_use
 
 pub retire_before-requires-clause-few : goal.retire_before-requires-clause-few
 retire_before-requires-clause-few c =
@@ -156,11 +182,16 @@ retire_before-requires-clause-few c =
     let place = c.place_of-place.result in
     let stands = c.place_of-place.ensures in
     let d = c.index_mut.result.now in
-    let at = index_is m.directories.items place d _ (place_within m c.requires.whole p.prime.ppn place stands.0 stands.1) c.index_mut.ensures.value in
-    retires_few m c.requires.whole c.args.key p was placed place stands.0 stands.1 d at c.put_entry-old.result c.file_entry-entry.result.name c.file_entry-entry.ensures.name
-    (λ keys i. c.put_entry-old.new.directory.keys.items ≡ slice_set keys i c.insert_reserved-current.result) c.put_entry-old.ensures.replaced c.insert_reserved-current.new.self.slots
-    (λ k v there. c.insert_reserved-current.ensures.updates.others k (λ same. some_none (sym there ∙ ap (slot m.versions.slots) same ∙ c.insert_reserved-current.ensures.was_vacant)) ∙ there)
-    c.use_version-at.new.table (option_to_list c.use_version-at.result.grown) c.use_version-at.result.at c.use_version-at.new.version c.use_version-at.ensures.put_in_use
+    let at = index_is m.directories.items place d _
+    (place_within m c.requires.whole p.prime.ppn place stands.0 stands.1) c.index_mut.ensures.value in
+    retires_few m c.requires.whole c.args.key p was placed place stands.0 stands.1 d at c.put_entry-old.result
+    c.file_entry-entry.result.name c.file_entry-entry.ensures.name
+    (λ keys i. c.put_entry-old.new.directory.keys.items ≡ slice_set keys i c.insert_reserved-current.result)
+    c.put_entry-old.ensures.replaced c.insert_reserved-current.new.self.slots
+    (λ k v there. c.insert_reserved-current.ensures.updates.others k (λ same. some_none (sym there
+    ∙ ap (slot m.versions.slots) same ∙ c.insert_reserved-current.ensures.was_vacant)) ∙ there)
+    c.use_version-at.new.table (option_to_list c.use_version-at.result.grown) c.use_version-at.result.at
+    c.use_version-at.new.version c.use_version-at.ensures.put_in_use
 
 pub retire_before-requires-clause-booked : goal.retire_before-requires-clause-booked
 retire_before-requires-clause-booked c =
@@ -171,11 +202,16 @@ retire_before-requires-clause-booked c =
     let place = c.place_of-place.result in
     let stands = c.place_of-place.ensures in
     let d = c.index_mut.result.now in
-    let at = index_is m.directories.items place d _ (place_within m c.requires.whole p.prime.ppn place stands.0 stands.1) c.index_mut.ensures.value in
-    retires_booked m c.requires.whole c.args.key p was placed place stands.0 stands.1 d at c.put_entry-old.result c.file_entry-entry.result.name c.file_entry-entry.ensures.name
-    (λ keys i. c.put_entry-old.new.directory.keys.items ≡ slice_set keys i c.insert_reserved-current.result) c.put_entry-old.ensures.replaced c.insert_reserved-current.new.self.slots
-    (λ k v there. c.insert_reserved-current.ensures.updates.others k (λ same. some_none (sym there ∙ ap (slot m.versions.slots) same ∙ c.insert_reserved-current.ensures.was_vacant)) ∙ there)
-    c.use_version-at.new.table (option_to_list c.use_version-at.result.grown) c.use_version-at.result.at c.use_version-at.new.version c.use_version-at.ensures.put_in_use
+    let at = index_is m.directories.items place d _
+    (place_within m c.requires.whole p.prime.ppn place stands.0 stands.1) c.index_mut.ensures.value in
+    retires_booked m c.requires.whole c.args.key p was placed place stands.0 stands.1 d at c.put_entry-old.result
+    c.file_entry-entry.result.name c.file_entry-entry.ensures.name
+    (λ keys i. c.put_entry-old.new.directory.keys.items ≡ slice_set keys i c.insert_reserved-current.result)
+    c.put_entry-old.ensures.replaced c.insert_reserved-current.new.self.slots
+    (λ k v there. c.insert_reserved-current.ensures.updates.others k (λ same. some_none (sym there
+    ∙ ap (slot m.versions.slots) same ∙ c.insert_reserved-current.ensures.was_vacant)) ∙ there)
+    c.use_version-at.new.table (option_to_list c.use_version-at.result.grown) c.use_version-at.result.at
+    c.use_version-at.new.version c.use_version-at.ensures.put_in_use
 
 pub retire_before-requires-clause-fits : goal.retire_before-requires-clause-fits
 retire_before-requires-clause-fits c =
@@ -186,11 +222,16 @@ retire_before-requires-clause-fits c =
     let place = c.place_of-place.result in
     let stands = c.place_of-place.ensures in
     let d = c.index_mut.result.now in
-    let at = index_is m.directories.items place d _ (place_within m c.requires.whole p.prime.ppn place stands.0 stands.1) c.index_mut.ensures.value in
-    retires_fits m c.requires.whole c.args.key p was placed place stands.0 stands.1 d at c.put_entry-old.result c.file_entry-entry.result.name c.file_entry-entry.ensures.name
-    (λ keys i. c.put_entry-old.new.directory.keys.items ≡ slice_set keys i c.insert_reserved-current.result) c.put_entry-old.ensures.replaced c.insert_reserved-current.new.self.slots
-    (λ k v there. c.insert_reserved-current.ensures.updates.others k (λ same. some_none (sym there ∙ ap (slot m.versions.slots) same ∙ c.insert_reserved-current.ensures.was_vacant)) ∙ there)
-    c.use_version-at.new.table (option_to_list c.use_version-at.result.grown) c.use_version-at.result.at c.use_version-at.new.version c.use_version-at.ensures.put_in_use
+    let at = index_is m.directories.items place d _
+    (place_within m c.requires.whole p.prime.ppn place stands.0 stands.1) c.index_mut.ensures.value in
+    retires_fits m c.requires.whole c.args.key p was placed place stands.0 stands.1 d at c.put_entry-old.result
+    c.file_entry-entry.result.name c.file_entry-entry.ensures.name
+    (λ keys i. c.put_entry-old.new.directory.keys.items ≡ slice_set keys i c.insert_reserved-current.result)
+    c.put_entry-old.ensures.replaced c.insert_reserved-current.new.self.slots
+    (λ k v there. c.insert_reserved-current.ensures.updates.others k (λ same. some_none (sym there
+    ∙ ap (slot m.versions.slots) same ∙ c.insert_reserved-current.ensures.was_vacant)) ∙ there)
+    c.use_version-at.new.table (option_to_list c.use_version-at.result.grown) c.use_version-at.result.at
+    c.use_version-at.new.version c.use_version-at.ensures.put_in_use
 
 pub changes-requires : goal.changes-requires
 changes-requires c =
@@ -201,12 +242,19 @@ changes-requires c =
     let place = c.place_of-place.result in
     let stands = c.place_of-place.ensures in
     let d = c.index_mut.result.now in
-    let at = index_is m.directories.items place d _ (place_within m c.requires.whole p.prime.ppn place stands.0 stands.1) c.index_mut.ensures.value in
-    changed_many c.retire_before.new.table _ (retired_sound m c.requires.whole c.args.key p was placed place stands.0 stands.1 d at c.put_entry-old.result c.file_entry-entry.result.name c.file_entry-entry.ensures.name
-    (λ keys i. c.put_entry-old.new.directory.keys.items ≡ slice_set keys i c.insert_reserved-current.result) c.put_entry-old.ensures.replaced c.insert_reserved-current.new.self.slots
-    (λ k v there. c.insert_reserved-current.ensures.updates.others k (λ same. some_none (sym there ∙ ap (slot m.versions.slots) same ∙ c.insert_reserved-current.ensures.was_vacant)) ∙ there)
-    c.use_version-at.new.table (option_to_list c.use_version-at.result.grown) c.use_version-at.result.at c.use_version-at.new.version c.use_version-at.ensures.put_in_use
-    c.retire_before.new.table c.retire_before.ensures.retired (λ none. (c.retire_before.ensures.none none).1)) c.put_entry-old.ensures.few
+    let at = index_is m.directories.items place d _
+    (place_within m c.requires.whole p.prime.ppn place stands.0 stands.1) c.index_mut.ensures.value in
+    changed_many c.retire_before.new.table _
+    (retired_sound m c.requires.whole c.args.key p was placed place stands.0 stands.1 d at c.put_entry-old.result
+    c.file_entry-entry.result.name c.file_entry-entry.ensures.name
+    (λ keys i. c.put_entry-old.new.directory.keys.items ≡ slice_set keys i c.insert_reserved-current.result)
+    c.put_entry-old.ensures.replaced c.insert_reserved-current.new.self.slots
+    (λ k v there. c.insert_reserved-current.ensures.updates.others k (λ same. some_none (sym there
+    ∙ ap (slot m.versions.slots) same ∙ c.insert_reserved-current.ensures.was_vacant)) ∙ there)
+    c.use_version-at.new.table (option_to_list c.use_version-at.result.grown) c.use_version-at.result.at
+    c.use_version-at.new.version c.use_version-at.ensures.put_in_use
+    c.retire_before.new.table c.retire_before.ensures.retired (λ none. (c.retire_before.ensures.none none).1))
+    c.put_entry-old.ensures.few
 
 pub returns : goal.returns
 returns c q there =
@@ -219,31 +267,67 @@ returns c q there =
     let stands = c.place_of-place.ensures in
     let d = c.index_mut.result.now in
     let d' = c.put_entry-old.new.directory in
-    let at = index_is m.directories.items place d _ (place_within m c.requires.whole p.prime.ppn place stands.0 stands.1) c.index_mut.ensures.value in
-    let m' : LiveMap = record { master = m.master; directories = with_item m.directories place d'; versions = c.retire_before.new.versions; pending = c.try_remove.new.self; table = c.changes.new.self } in
+    let at = index_is m.directories.items place d _
+    (place_within m c.requires.whole p.prime.ppn place stands.0 stands.1) c.index_mut.ensures.value in
+    let m' : LiveMap = record {
+      master = m.master;
+      directories = with_item m.directories place d';
+      versions = c.retire_before.new.versions;
+      pending = c.try_remove.new.self;
+      table = c.changes.new.self;
+    } in
     let used = c.use_version-at in
     let ribs = used.new.version.ribs in
     let set = c.put_entry-old.new.set in
     let entry = c.file_entry-entry.ensures in
     let version : used.new.version ≡ record p.version { ribs = ribs } = used.ensures.kept in
-    let new : LiveVersion = record { prime = p.prime; version = used.new.version; at = used.result.at; readers = 0; is_current = true } in
+    let new : LiveVersion = record {
+      prime = p.prime;
+      version = used.new.version;
+      at = used.result.at;
+      readers = 0;
+      is_current = true;
+    } in
     let put = c.insert_reserved-current.ensures in
-    let here = new_stands m c.requires.whole c.args.key p was placed place stands.0 stands.1 d at c.put_entry-old.result c.file_entry-entry.result.name c.file_entry-entry.ensures.name
-    (λ keys i. c.put_entry-old.new.directory.keys.items ≡ slice_set keys i c.insert_reserved-current.result) c.put_entry-old.ensures.replaced c.insert_reserved-current.new.self.slots
-    (λ k v there. c.insert_reserved-current.ensures.updates.others k (λ same. some_none (sym there ∙ ap (slot m.versions.slots) same ∙ c.insert_reserved-current.ensures.was_vacant)) ∙ there)
-    c.use_version-at.new.table (option_to_list c.use_version-at.result.grown) c.use_version-at.result.at c.use_version-at.new.version c.use_version-at.ensures.put_in_use
-    c.retire_before.new.versions.slots c.insert_reserved-current.result new put.was_vacant put.updates.changed c.retire_before.ensures.others (λ none. ap (λ s. s.slots) (c.retire_before.ensures.none none).0) in
-    let puts_in_use = subst (PutsVersionInUse m.table used.new.table (option_to_list used.result.grown) used.result.at) version used.ensures.put_in_use in
-    let makes_current = made_current_by m m' c.requires.whole c.args.key p was placed place stands.0 stands.1 d d' at refl refl c.try_remove.ensures.updates.changed c.try_remove.ensures.updates.others
-    (option_to_list used.result.grown) used.result.at ribs (used.ensures.count ∙ c.requires.ribs p was) used.new.table c.retire_before.new.table puts_in_use c.changes.ensures.done
-    set c.changes.new.set c.put_entry-old.ensures.put c.put_entry-old.ensures.few c.changes.ensures.others c.changes.ensures.spells c.changes.ensures.in_range c.changes.ensures.few
-    (chain_grown m c.requires.whole c.args.key p was placed place stands.0 stands.1 d at c.takes_block-grows.result used.result.grown c.file_entry-entry.result.name d'.chain.blocks entry.name (c.takes_block-grows.ensures d at) used.ensures.grown c.put_entry-old.ensures.same c.put_entry-old.ensures.more)
-    c.insert_reserved-current.result put.was_vacant (here ∙ (λ i. Some (record new { version = version i }))) c.put_entry-old.ensures.chain
-    (c.put_entry-old.ensures.items ∙ (λ i. inserted name_cmp (map file_view d.chain.entries) (entry.name i, entry.prime i)))
-    (c.put_entry-old.ensures.map ∙ (λ i. insert (from_entries (map file_view d.chain.entries)) (entry.name i) (entry.prime i)))
-    c.insert_reserved-current.new.self.slots put.updates.others c.put_entry-old.result c.retire_before.ensures.retired c.retire_before.ensures.left c.retire_before.ensures.others
-    (λ none. (ap (λ s. s.slots) (c.retire_before.ensures.none none).0, (c.retire_before.ensures.none none).1)) c.put_entry-old.result refl
-    (subst (λ name. IfSome c.put_entry-old.result (λ k. (i : ℕ) × (v : ℕ) × StandsAt name_cmp (map file_view d.chain.entries) name v i × (slice_get d.keys.items i ≡ Some k) × (d'.keys.items ≡ slice_set d.keys.items i c.insert_reserved-current.result))) entry.name c.put_entry-old.ensures.replaced)
-    (subst (λ name. IfNone c.put_entry-old.result ((find name_cmp name (map file_view d.chain.entries) ≡ None) × (d'.keys.items ≡ d.keys.items ++ c.insert_reserved-current.result ∷ []))) entry.name c.put_entry-old.ensures.added) in
-    subst (λ (x : PendingVersion). (n : ℕ) × (ns : List ℕ) × (makes_current : MakesCurrent m.table.size (core_of m) (core_of m') c.args.key x n ns c.changes.new.set) × (c.insert_reserved-current.result ≡ makes_current.new_key)) same
+    let here = new_stands m c.requires.whole c.args.key p was placed place stands.0 stands.1 d at c.put_entry-old.result
+    c.file_entry-entry.result.name c.file_entry-entry.ensures.name
+    (λ keys i. c.put_entry-old.new.directory.keys.items ≡ slice_set keys i c.insert_reserved-current.result)
+    c.put_entry-old.ensures.replaced c.insert_reserved-current.new.self.slots
+    (λ k v there. c.insert_reserved-current.ensures.updates.others k (λ same. some_none (sym there
+    ∙ ap (slot m.versions.slots) same ∙ c.insert_reserved-current.ensures.was_vacant)) ∙ there)
+    c.use_version-at.new.table (option_to_list c.use_version-at.result.grown) c.use_version-at.result.at
+    c.use_version-at.new.version c.use_version-at.ensures.put_in_use
+    c.retire_before.new.versions.slots c.insert_reserved-current.result new put.was_vacant put.updates.changed
+    c.retire_before.ensures.others (λ none. ap (λ s. s.slots) (c.retire_before.ensures.none none).0) in
+    let puts_in_use = subst (PutsVersionInUse m.table used.new.table (option_to_list used.result.grown) used.result.at)
+    version used.ensures.put_in_use in
+    let makes_current = made_current_by m m' c.requires.whole c.args.key p was placed place stands.0 stands.1
+    d d' at refl refl c.try_remove.ensures.updates.changed c.try_remove.ensures.updates.others
+    (option_to_list used.result.grown) used.result.at ribs (used.ensures.count
+    ∙ c.requires.ribs p was) used.new.table c.retire_before.new.table puts_in_use c.changes.ensures.done
+    set c.changes.new.set c.put_entry-old.ensures.put c.put_entry-old.ensures.few c.changes.ensures.others
+    c.changes.ensures.spells c.changes.ensures.in_range c.changes.ensures.few
+    (chain_grown m c.requires.whole c.args.key p was placed place stands.0 stands.1 d at c.takes_block-grows.result
+    used.result.grown c.file_entry-entry.result.name d'.chain.blocks entry.name
+    (c.takes_block-grows.ensures d at) used.ensures.grown c.put_entry-old.ensures.same c.put_entry-old.ensures.more)
+    c.insert_reserved-current.result put.was_vacant (here
+    ∙ (λ i. Some (record new { version = version i }))) c.put_entry-old.ensures.chain
+    (c.put_entry-old.ensures.items
+    ∙ (λ i. inserted name_cmp (map file_view d.chain.entries) (entry.name i, entry.prime i)))
+    (c.put_entry-old.ensures.map
+    ∙ (λ i. insert (from_entries (map file_view d.chain.entries)) (entry.name i) (entry.prime i)))
+    c.insert_reserved-current.new.self.slots put.updates.others c.put_entry-old.result c.retire_before.ensures.retired
+    c.retire_before.ensures.left c.retire_before.ensures.others
+    (λ none. (ap (λ s. s.slots) (c.retire_before.ensures.none none).0, (c.retire_before.ensures.none none).1))
+    c.put_entry-old.result refl
+    (subst (λ name. IfSome c.put_entry-old.result (λ k. (i : ℕ) × (v : ℕ)
+    × StandsAt name_cmp (map file_view d.chain.entries) name v i × (slice_get d.keys.items i ≡ Some k)
+    × (d'.keys.items ≡ slice_set d.keys.items i c.insert_reserved-current.result))) entry.name
+    c.put_entry-old.ensures.replaced)
+    (subst (λ name. IfNone c.put_entry-old.result ((find name_cmp name (map file_view d.chain.entries) ≡ None)
+    × (d'.keys.items ≡ d.keys.items ++ c.insert_reserved-current.result ∷ []))) entry.name
+    c.put_entry-old.ensures.added) in
+    subst (λ (x : PendingVersion). (n : ℕ) × (ns : List ℕ)
+    × (makes_current : MakesCurrent m.table.size (core_of m) (core_of m') c.args.key x n ns c.changes.new.set)
+    × (c.insert_reserved-current.result ≡ makes_current.new_key)) same
     (used.result.at, ribs, makes_current.0, makes_current.1)

@@ -3,38 +3,47 @@ use Rattle.meaning.specs.Maps.{times}
 use Rattle.alloctab.specs.TableState.{TableState, holds}
 use Rattle.volume.specs.Live.{IsWholeCore}
 use Rattle.volume.specs.LiveCores.{core_of}
-use Rattle.volume.proofs.Dropping.{taken_out, dropped_there, dropped_few, dropped_held, dropped_growths, dropped_booked, dropped_whole}
+use Rattle.volume.proofs.Dropping.{taken_out, dropped_there, dropped_few, dropped_held, dropped_growths, dropped_booked}
+use Rattle.volume.proofs.Dropping.{dropped_whole}
 use Rattle.volume.proofs.discard.discard_in_core.Goals as goal
 
 pub shrinkage-requires-clause-there : goal.shrinkage-requires-clause-there
 shrinkage-requires-clause-there c =
     let core = c.args.core.now in
     let p = c.in-Some.version in
-    let adds = taken_out core.pending c.try_remove.new.self c.args.key p c.in-Some.ensures.updates (sym c.in-Some.ensures.value) in
+    let adds = taken_out core.pending c.try_remove.new.self c.args.key p c.in-Some.ensures.updates
+    (sym c.in-Some.ensures.value) in
     dropped_there core.table.size (core_of core) c.requires.whole c.try_remove.new.self.slots c.args.key p adds
 
 pub shrinkage-requires-clause-few : goal.shrinkage-requires-clause-few
 shrinkage-requires-clause-few c place d at =
     let core = c.args.core.now in
     let p = c.in-Some.version in
-    let adds = taken_out core.pending c.try_remove.new.self c.args.key p c.in-Some.ensures.updates (sym c.in-Some.ensures.value) in
-    let few = dropped_few core.table.size (core_of core) c.requires.whole c.try_remove.new.self.slots c.args.key p adds place d at in
+    let adds = taken_out core.pending c.try_remove.new.self c.args.key p c.in-Some.ensures.updates
+    (sym c.in-Some.ensures.value) in
+    let few = dropped_few core.table.size (core_of core) c.requires.whole c.try_remove.new.self.slots c.args.key
+    p adds place d at in
     omega arith
 
 pub unhold_all-requires-clause-held : goal.unhold_all-requires-clause-held
 unhold_all-requires-clause-held c n =
     let core = c.args.core.now in
     let p = c.in-Some.version in
-    let adds = taken_out core.pending c.try_remove.new.self c.args.key p c.in-Some.ensures.updates (sym c.in-Some.ensures.value) in
-    subst (λ (blocks : List ℕ). times n blocks ≤ holds core.table n) (sym c.blocks-2.ensures) (dropped_held core.table.size (core_of core) c.requires.whole c.try_remove.new.self.slots c.args.key p adds n)
+    let adds = taken_out core.pending c.try_remove.new.self c.args.key p c.in-Some.ensures.updates
+    (sym c.in-Some.ensures.value) in
+    subst (λ (blocks : List ℕ). times n blocks ≤ holds core.table n) (sym c.blocks-2.ensures)
+    (dropped_held core.table.size (core_of core) c.requires.whole c.try_remove.new.self.slots c.args.key p adds n)
 
 pub unbook-requires : goal.unbook-requires
 unbook-requires c =
     let core = c.args.core.now in
     let p = c.in-Some.version in
-    let adds = taken_out core.pending c.try_remove.new.self c.args.key p c.in-Some.ensures.updates (sym c.in-Some.ensures.value) in
-    let shrinks = dropped_growths core.table.size (core_of core) c.requires.whole c.try_remove.new.self.slots c.args.key p adds c.shrinkage.result c.shrinkage.ensures.none c.shrinkage.ensures.value in
-    let few = dropped_booked core.table.size (core_of core) c.requires.whole c.try_remove.new.self.slots c.args.key p adds c.shrinkage.result shrinks in
+    let adds = taken_out core.pending c.try_remove.new.self c.args.key p c.in-Some.ensures.updates
+    (sym c.in-Some.ensures.value) in
+    let shrinks = dropped_growths core.table.size (core_of core) c.requires.whole c.try_remove.new.self.slots
+    c.args.key p adds c.shrinkage.result c.shrinkage.ensures.none c.shrinkage.ensures.value in
+    let few = dropped_booked core.table.size (core_of core) c.requires.whole c.try_remove.new.self.slots
+    c.args.key p adds c.shrinkage.result shrinks in
     let cost = c.version_cost.ensures in
     let same = ap (λ (t : TableState). t.booked) c.unhold_all.ensures.rest in
     omega arith
@@ -43,13 +52,28 @@ pub returns-clause-whole : goal.returns-clause-whole
 returns-clause-whole c =
     let core = c.args.core.now in
     let p = c.in-Some.version in
-    let adds = taken_out core.pending c.try_remove.new.self c.args.key p c.in-Some.ensures.updates (sym c.in-Some.ensures.value) in
-    let shrinks = dropped_growths core.table.size (core_of core) c.requires.whole c.try_remove.new.self.slots c.args.key p adds c.shrinkage.result c.shrinkage.ensures.none c.shrinkage.ensures.value in
-    let few = dropped_booked core.table.size (core_of core) c.requires.whole c.try_remove.new.self.slots c.args.key p adds c.shrinkage.result shrinks in
+    let adds = taken_out core.pending c.try_remove.new.self c.args.key p c.in-Some.ensures.updates
+    (sym c.in-Some.ensures.value) in
+    let shrinks = dropped_growths core.table.size (core_of core) c.requires.whole c.try_remove.new.self.slots
+    c.args.key p adds c.shrinkage.result c.shrinkage.ensures.none c.shrinkage.ensures.value in
+    let few = dropped_booked core.table.size (core_of core) c.requires.whole c.try_remove.new.self.slots
+    c.args.key p adds c.shrinkage.result shrinks in
     let cost = c.version_cost.ensures in
     let booked = core.table.booked - (c.version_cost.result + c.shrinkage.result) in
     let rest : c.unbook.new.self ≡ record core.table { held = c.unhold_all.new.table.held; booked = booked } =
-    c.unbook.ensures ∙ (λ i. record (c.unhold_all.ensures.rest i) { held = c.unhold_all.new.table.held; booked = (c.unhold_all.ensures.rest i).booked - (c.version_cost.result + c.shrinkage.result) }) in
-    let whole = dropped_whole core.table.size (core_of core) c.requires.whole c.try_remove.new.self.slots c.args.key p adds c.shrinkage.result shrinks c.unhold_all.new.table.held booked
-    (λ n. ap (λ (blocks : List ℕ). holds c.unhold_all.new.table n + times n blocks) (sym c.blocks-2.ensures) ∙ c.unhold_all.ensures.held n) (omega arith) in
-    subst (λ (t : TableState). IsWholeCore t.size (core_of (record { master = core.master; directories = core.directories; versions = core.versions; pending = c.try_remove.new.self; table = t }))) (sym rest) whole
+    c.unbook.ensures ∙ (λ i. record (c.unhold_all.ensures.rest i) {
+      held = c.unhold_all.new.table.held;
+      booked = (c.unhold_all.ensures.rest i).booked - (c.version_cost.result + c.shrinkage.result);
+    }) in
+    let whole = dropped_whole core.table.size (core_of core) c.requires.whole c.try_remove.new.self.slots
+    c.args.key p adds c.shrinkage.result shrinks c.unhold_all.new.table.held booked
+    (λ n. ap (λ (blocks : List ℕ). holds c.unhold_all.new.table n + times n blocks) (sym c.blocks-2.ensures)
+    ∙ c.unhold_all.ensures.held n) (omega arith) in
+    subst (λ (t : TableState). IsWholeCore t.size
+    (core_of (record {
+      master = core.master;
+      directories = core.directories;
+      versions = core.versions;
+      pending = c.try_remove.new.self;
+      table = t;
+    }))) (sym rest) whole

@@ -9,5 +9,6 @@ invariant-loop-block g l = record {
   same : SameDisk (g.D.Disk.state l.fn.disk) (g.D.Disk.state l.disk);
   served : (g.D.Disk.state l.disk).failures ≡ (g.D.Disk.state l.fn.disk).failures;
   keeps : (g.D.Disk.state l.disk).honest → Keeps (g.D.Disk.state l.fn.disk) (g.D.Disk.state l.disk);
-  whole : (g.D.Disk.state l.disk).honest → AllByRecursion (IsWholeBlock (g.D.Disk.state l.fn.disk).contents) (take l.block-index l.blocks);
+  whole : (g.D.Disk.state l.disk).honest
+      → AllByRecursion (IsWholeBlock (g.D.Disk.state l.fn.disk).contents) (take l.block-index l.blocks);
 }

@@ -12,58 +12,73 @@ use Rattle.volume.specs.FaultsFound.{NamesInSpace}
 use Rattle.volume.proofs.FoundDirectories.{all_behind_all, all_times_at}
 use Rattle.volume.proofs.Handing.{handed, version_named, data_named, named_on}
 use Rattle.volume.proofs.Marking.{all_weaker}
-use Rattle.volume.proofs.Finding.{refusal, refused_on, version_wider, data_wider, file_found, reached_twice, damaged_data}
+use Rattle.volume.proofs.Finding.{refusal, refused_on, version_wider, data_wider, file_found, reached_twice}
+use Rattle.volume.proofs.Finding.{damaged_data}
 use Rattle.changeset.proofs.Reading.{passed_on}
 use Rattle.volume.proofs.files.read_file.Goals as goal
 
 pub returns-in_err-stored-clause-twice : goal.returns-in_err-stored-clause-twice
 returns-in_err-stored-clause-twice g c h k is =
     let p = err_from_is_err_and c.from_residual.result c.from_residual.ensures.1 in
-    absurd (refusal IsVersionRefusal c.read_named.result (BlockTwice k) (passed_on c.from_residual.result c.read_named.result p.0 c.in_err-stored.field-0.0 (BlockTwice k) is p.1 p.2 c.in_err-stored.was) c.read_named.ensures.only)
+    absurd (refusal IsVersionRefusal c.read_named.result (BlockTwice k)
+    (passed_on c.from_residual.result c.read_named.result p.0 c.in_err-stored.field-0.0
+    (BlockTwice k) is p.1 p.2 c.in_err-stored.was) c.read_named.ensures.only)
 
 pub returns-in_err-stored-clause-bad_data : goal.returns-in_err-stored-clause-bad_data
 returns-in_err-stored-clause-bad_data g c h k is =
     let p = err_from_is_err_and c.from_residual.result c.from_residual.ensures.1 in
-    absurd (refusal IsVersionRefusal c.read_named.result (BadData k) (passed_on c.from_residual.result c.read_named.result p.0 c.in_err-stored.field-0.0 (BadData k) is p.1 p.2 c.in_err-stored.was) c.read_named.ensures.only)
+    absurd (refusal IsVersionRefusal c.read_named.result (BadData k)
+    (passed_on c.from_residual.result c.read_named.result p.0 c.in_err-stored.field-0.0
+    (BadData k) is p.1 p.2 c.in_err-stored.was) c.read_named.ensures.only)
 
 pub returns-in_err-stored-clause-only : goal.returns-in_err-stored-clause-only
 returns-in_err-stored-clause-only g c =
     let p = err_from_is_err_and c.from_residual.result c.from_residual.ensures.1 in
-    refused_on IsVersionRefusal IsFileRefusal c.from_residual.result c.read_named.result p.0 c.in_err-stored.field-0.0 p.1 p.2 c.in_err-stored.was version_wider c.read_named.ensures.only
+    refused_on IsVersionRefusal IsFileRefusal c.from_residual.result c.read_named.result p.0 c.in_err-stored.field-0.0
+    p.1 p.2 c.in_err-stored.was version_wider c.read_named.ensures.only
 
 pub mark_version-requires-clause-ribs : goal.mark_version-requires-clause-ribs
 mark_version-requires-clause-ribs g c =
     let size = (g.D.Disk.state c.args.disk.now).size in
     subst (λ (m : ℕ). AllByRecursion (λ n. n < m) c.in_ok-stored.stored.version.ribs) (sym c.requires.marks)
-    (all_weaker (InSpace size) (λ n. n < size) c.in_ok-stored.stored.version.ribs (λ n is. is.below) c.in_ok-stored.ensures.ribs_inside)
+    (all_weaker (InSpace size) (λ n. n < size) c.in_ok-stored.stored.version.ribs
+    (λ n is. is.below) c.in_ok-stored.ensures.ribs_inside)
 
 pub mark_version-requires-clause-blocks : goal.mark_version-requires-clause-blocks
 mark_version-requires-clause-blocks g c =
     let size = (g.D.Disk.state c.args.disk.now).size in
     subst (λ (m : ℕ). AllByRecursion (λ n. n < m) c.in_ok-stored.stored.version.blocks) (sym c.requires.marks)
-    (all_weaker (InSpace size) (λ n. n < size) c.in_ok-stored.stored.version.blocks (λ n is. is.below) c.in_ok-stored.ensures.blocks_inside)
+    (all_weaker (InSpace size) (λ n. n < size) c.in_ok-stored.stored.version.blocks
+    (λ n is. is.below) c.in_ok-stored.ensures.blocks_inside)
 
 pub returns-in-Err-clause-twice : goal.returns-in-Err-clause-twice
 returns-in-Err-clause-twice g c h k is =
     let s = g.D.Disk.state c.args.disk.now in
     let v = c.in_ok-stored.stored in
-    reached_twice s.size s.contents c.args.ppn c.args.name c.args.prime v.prime v.version (c.in_ok-stored.ensures.ok h) c.in_ok-stored.ensures.name c.in_ok-stored.ensures.ppn
+    reached_twice s.size s.contents c.args.ppn c.args.name c.args.prime v.prime v.version
+    (c.in_ok-stored.ensures.ok h) c.in_ok-stored.ensures.name c.in_ok-stored.ensures.ppn
     c.args.reached.now k (c.mark_version.ensures.twice k (cc))
 
 pub returns-in_err-read_data-clause-memory : goal.returns-in_err-read_data-clause-memory
 returns-in_err-read_data-clause-memory g c is =
     let p = err_from_is_err_and c.from_residual-in_err-read_data.result c.from_residual-in_err-read_data.ensures.1 in
-    absurd (refusal IsDataRefusal c.read_data.result NoMemory (passed_on c.from_residual-in_err-read_data.result c.read_data.result p.0 c.in_err-read_data.field-0.0 NoMemory is p.1 p.2 c.in_err-read_data.was) c.read_data.ensures.only)
+    absurd (refusal IsDataRefusal c.read_data.result NoMemory
+    (passed_on c.from_residual-in_err-read_data.result c.read_data.result p.0 c.in_err-read_data.field-0.0
+    NoMemory is p.1 p.2 c.in_err-read_data.was) c.read_data.ensures.only)
 
 pub returns-in_err-read_data-clause-bad_version : goal.returns-in_err-read_data-clause-bad_version
 returns-in_err-read_data-clause-bad_version g c h k is =
     let p = err_from_is_err_and c.from_residual-in_err-read_data.result c.from_residual-in_err-read_data.ensures.1 in
-    absurd (refusal IsDataRefusal c.read_data.result (BadRetrieval k) (passed_on c.from_residual-in_err-read_data.result c.read_data.result p.0 c.in_err-read_data.field-0.0 (BadRetrieval k) is p.1 p.2 c.in_err-read_data.was) c.read_data.ensures.only)
+    absurd (refusal IsDataRefusal c.read_data.result (BadRetrieval k)
+    (passed_on c.from_residual-in_err-read_data.result c.read_data.result p.0 c.in_err-read_data.field-0.0
+    (BadRetrieval k) is p.1 p.2 c.in_err-read_data.was) c.read_data.ensures.only)
 
 pub returns-in_err-read_data-clause-twice : goal.returns-in_err-read_data-clause-twice
 returns-in_err-read_data-clause-twice g c h k is =
     let p = err_from_is_err_and c.from_residual-in_err-read_data.result c.from_residual-in_err-read_data.ensures.1 in
-    absurd (refusal IsDataRefusal c.read_data.result (BlockTwice k) (passed_on c.from_residual-in_err-read_data.result c.read_data.result p.0 c.in_err-read_data.field-0.0 (BlockTwice k) is p.1 p.2 c.in_err-read_data.was) c.read_data.ensures.only)
+    absurd (refusal IsDataRefusal c.read_data.result (BlockTwice k)
+    (passed_on c.from_residual-in_err-read_data.result c.read_data.result p.0 c.in_err-read_data.field-0.0
+    (BlockTwice k) is p.1 p.2 c.in_err-read_data.was) c.read_data.ensures.only)
 
 pub returns-in_err-read_data-clause-bad_data : goal.returns-in_err-read_data-clause-bad_data
 returns-in_err-read_data-clause-bad_data g c h k is =
@@ -71,31 +86,46 @@ returns-in_err-read_data-clause-bad_data g c h k is =
     let read = g.D.Disk.state c.read_named.new.disk in
     let v = c.in_ok-stored.stored in
     let p = err_from_is_err_and c.from_residual-in_err-read_data.result c.from_residual-in_err-read_data.ensures.1 in
-    let bad = c.read_data.ensures.damaged h k (passed_on c.from_residual-in_err-read_data.result c.read_data.result p.0 c.in_err-read_data.field-0.0 (BadData k) is p.1 p.2 c.in_err-read_data.was) in
-    damaged_data s.size s.contents c.args.ppn c.args.name c.args.prime v.prime v.version (c.in_ok-stored.ensures.ok (c.read_data.ensures.same.was_honest h)) c.in_ok-stored.ensures.name c.in_ok-stored.ensures.ppn
-    k (subst (λ blocks. 0 < times k blocks) c.blocks-2.ensures bad.0) (sym ((c.read_named.ensures.keeps (c.read_data.ensures.same.was_honest h)).contents k) ∙ bad.1)
+    let bad = c.read_data.ensures.damaged h k
+    (passed_on c.from_residual-in_err-read_data.result c.read_data.result p.0 c.in_err-read_data.field-0.0
+    (BadData k) is p.1 p.2 c.in_err-read_data.was) in
+    damaged_data s.size s.contents c.args.ppn c.args.name c.args.prime v.prime v.version
+    (c.in_ok-stored.ensures.ok (c.read_data.ensures.same.was_honest h)) c.in_ok-stored.ensures.name
+    c.in_ok-stored.ensures.ppn
+    k (subst (λ blocks. 0 < times k blocks) c.blocks-2.ensures bad.0)
+    (sym ((c.read_named.ensures.keeps (c.read_data.ensures.same.was_honest h)).contents k) ∙ bad.1)
 
 pub returns-in_err-read_data-clause-only : goal.returns-in_err-read_data-clause-only
 returns-in_err-read_data-clause-only g c =
     let p = err_from_is_err_and c.from_residual-in_err-read_data.result c.from_residual-in_err-read_data.ensures.1 in
-    refused_on IsDataRefusal IsFileRefusal c.from_residual-in_err-read_data.result c.read_data.result p.0 c.in_err-read_data.field-0.0 p.1 p.2 c.in_err-read_data.was data_wider c.read_data.ensures.only
+    refused_on IsDataRefusal IsFileRefusal c.from_residual-in_err-read_data.result c.read_data.result p.0
+    c.in_err-read_data.field-0.0 p.1 p.2 c.in_err-read_data.was data_wider c.read_data.ensures.only
 
 pub returns-in_err-read_data-clause-keeps : goal.returns-in_err-read_data-clause-keeps
 returns-in_err-read_data-clause-keeps g c h =
-    keeps_on (g.D.Disk.state c.args.disk.now) (g.D.Disk.state c.read_named.new.disk) (g.D.Disk.state c.read_data.new.disk) (c.read_named.ensures.keeps (c.read_data.ensures.same.was_honest h)) (c.read_data.ensures.keeps h)
+    keeps_on (g.D.Disk.state c.args.disk.now) (g.D.Disk.state c.read_named.new.disk)
+    (g.D.Disk.state c.read_data.new.disk) (c.read_named.ensures.keeps (c.read_data.ensures.same.was_honest h))
+    (c.read_data.ensures.keeps h)
 
 pub returns-clause-ok : goal.returns-clause-ok
 returns-clause-ok g c h =
     let s = g.D.Disk.state c.args.disk.now in
     let read = g.D.Disk.state c.read_named.new.disk in
     let v = c.in_ok-stored.stored in
-    let whole : AllByRecursion (IsWholeBlock read.contents) v.version.blocks = subst (AllByRecursion (IsWholeBlock read.contents)) c.blocks-2.ensures (c.in_ok-read_data.ensures.ok h) in
-    file_found s.size s.contents c.args.ppn c.args.name c.args.prime v.prime v.version (c.in_ok-stored.ensures.ok (c.in_ok-read_data.ensures.same.was_honest h)) c.in_ok-stored.ensures.name c.in_ok-stored.ensures.ppn
-    (subst (λ (d : Contents). AllByRecursion (IsWholeBlock d) v.version.blocks) (same_contents s.contents read.contents (c.read_named.ensures.keeps (c.in_ok-read_data.ensures.same.was_honest h)).contents) whole)
+    let whole : AllByRecursion (IsWholeBlock read.contents) v.version.blocks = subst
+    (AllByRecursion (IsWholeBlock read.contents)) c.blocks-2.ensures (c.in_ok-read_data.ensures.ok h) in
+    file_found s.size s.contents c.args.ppn c.args.name c.args.prime v.prime v.version
+    (c.in_ok-stored.ensures.ok (c.in_ok-read_data.ensures.same.was_honest h)) c.in_ok-stored.ensures.name
+    c.in_ok-stored.ensures.ppn
+    (subst (λ (d : Contents). AllByRecursion (IsWholeBlock d) v.version.blocks)
+    (same_contents s.contents read.contents
+    (c.read_named.ensures.keeps (c.in_ok-read_data.ensures.same.was_honest h)).contents) whole)
 
 pub returns-clause-keeps : goal.returns-clause-keeps
 returns-clause-keeps g c h =
-    keeps_on (g.D.Disk.state c.args.disk.now) (g.D.Disk.state c.read_named.new.disk) (g.D.Disk.state c.read_data.new.disk) (c.read_named.ensures.keeps (c.read_data.ensures.same.was_honest h)) (c.read_data.ensures.keeps h)
+    keeps_on (g.D.Disk.state c.args.disk.now) (g.D.Disk.state c.read_named.new.disk)
+    (g.D.Disk.state c.read_data.new.disk) (c.read_named.ensures.keeps (c.read_data.ensures.same.was_honest h))
+    (c.read_data.ensures.keeps h)
 
 -- The block that is named.
 
@@ -103,14 +133,20 @@ pub returns-in_err-stored-clause-named : goal.returns-in_err-stored-clause-named
 returns-in_err-stored-clause-named g c =
     let size = (g.D.Disk.state c.args.disk.now).size in
     let p = err_from_is_err_and c.from_residual.result c.from_residual.ensures.1 in
-    handed (NamesInSpace size) c.from_residual.result c.read_named.result p.0 c.in_err-stored.field-0.0 p.1 p.2 c.in_err-stored.was
-    (version_named size c.args.prime c.read_named.result c.requires.inside c.read_named.ensures.only c.read_named.ensures.named)
+    handed (NamesInSpace size) c.from_residual.result c.read_named.result p.0 c.in_err-stored.field-0.0
+    p.1 p.2 c.in_err-stored.was
+    (version_named size c.args.prime c.read_named.result c.requires.inside c.read_named.ensures.only
+    c.read_named.ensures.named)
 
 pub returns-in-Err-clause-named : goal.returns-in-Err-clause-named
 returns-in-Err-clause-named g c =
     let size = (g.D.Disk.state c.args.disk.now).size in
     let v = c.in_ok-stored.stored.version in
-    all_times_at (InSpace size) (c.args.prime ∷ (v.ribs ++ v.blocks)) c.in-Err.block (c.requires.inside, all_behind_all (InSpace size) v.ribs v.blocks c.in_ok-stored.ensures.ribs_inside c.in_ok-stored.ensures.blocks_inside)
+    all_times_at (InSpace size) (c.args.prime ∷ (v.ribs ++ v.blocks)) c.in-Err.block (
+      c.requires.inside,
+      all_behind_all (InSpace size) v.ribs v.blocks c.in_ok-stored.ensures.ribs_inside
+          c.in_ok-stored.ensures.blocks_inside,
+    )
     (c.mark_version.ensures.among c.in-Err.block (cc))
 
 pub returns-in_err-read_data-clause-named : goal.returns-in_err-read_data-clause-named
@@ -118,5 +154,7 @@ returns-in_err-read_data-clause-named g c =
     let size = (g.D.Disk.state c.args.disk.now).size in
     let now = (g.D.Disk.state c.read_named.new.disk).size in
     let p = err_from_is_err_and c.from_residual-in_err-read_data.result c.from_residual-in_err-read_data.ensures.1 in
-    handed (NamesInSpace size) c.from_residual-in_err-read_data.result c.read_data.result p.0 c.in_err-read_data.field-0.0 p.1 p.2 c.in_err-read_data.was
-    (named_on now size c.read_data.result c.read_named.ensures.same.size (data_named now c.read_data.result c.read_data.ensures.only c.read_data.ensures.named))
+    handed (NamesInSpace size) c.from_residual-in_err-read_data.result c.read_data.result p.0
+    c.in_err-read_data.field-0.0 p.1 p.2 c.in_err-read_data.was
+    (named_on now size c.read_data.result c.read_named.ensures.same.size
+    (data_named now c.read_data.result c.read_data.ensures.only c.read_data.ensures.named))

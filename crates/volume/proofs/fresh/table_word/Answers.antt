@@ -13,8 +13,11 @@ loop-place-preserved c =
     let bits = bit_below c.args.limit in
     let set : c.from.result ≡ bits (c.args.from + c.loop-place.place) = search rules in
     let is : c.loop-place.number * 2 + c.from.result ≡ number_of bits c.args.from (c.loop-place.place + 1) =
-    ap (λ (n : ℕ). n * 2 + c.from.result) c.loop-place.invariant.number_is ∙ ap (λ (n : ℕ). number_of bits c.args.from c.loop-place.place * 2 + n) set ∙ sym (number_more bits c.args.from c.loop-place.place) in
+    ap (λ (n : ℕ). n * 2 + c.from.result) c.loop-place.invariant.number_is
+    ∙ ap (λ (n : ℕ). number_of bits c.args.from c.loop-place.place * 2 + n) set
+    ∙ sym (number_more bits c.args.from c.loop-place.place) in
     record {
       number_is = is;
-      below = subst (λ (n : ℕ). n < 2 ^ (c.loop-place.place + 1)) (sym is) (number_below bits (bit_below_few c.args.limit) c.args.from (c.loop-place.place + 1));
+      below = subst (λ (n : ℕ). n < 2 ^ (c.loop-place.place + 1)) (sym is)
+          (number_below bits (bit_below_few c.args.limit) c.args.from (c.loop-place.place + 1));
     }

@@ -14,8 +14,10 @@ loop-n-init g c = record {
 
 pub returns-in_err-write-clause-modified : goal.returns-in_err-write-clause-modified
 returns-in_err-write-clause-modified g c h =
-    modifies_write (λ n. (c.args.from ≤ n) × (n < c.args.end)) c.loop-n.n (g.D.Disk.state c.args.disk.now) (g.D.Disk.state c.loop-n.disk) (g.D.Disk.state c.write.new.self)
-    (omega arith, omega (arith, c.loop-n-test.true)) (c.loop-n.invariant.modified (c.write.ensures.same.was_honest h)) (c.write.ensures.writes h)
+    modifies_write (λ n. (c.args.from ≤ n) × (n < c.args.end)) c.loop-n.n (g.D.Disk.state c.args.disk.now)
+    (g.D.Disk.state c.loop-n.disk) (g.D.Disk.state c.write.new.self)
+    (omega arith, omega (arith, c.loop-n-test.true)) (c.loop-n.invariant.modified (c.write.ensures.same.was_honest h))
+    (c.write.ensures.writes h)
 
 pub loop-n-preserved : goal.loop-n-preserved
 loop-n-preserved g c =
@@ -26,8 +28,11 @@ loop-n-preserved g c =
       same = same_disk_on s now new c.loop-n.invariant.same c.write.ensures.same;
       served = c.in_ok-write.ensures.served ∙ c.loop-n.invariant.served;
       modified = λ h. modifies_write (λ n. (c.args.from ≤ n) × (n < c.args.end)) c.loop-n.n s now new
-          (omega arith, omega (arith, c.loop-n-test.true)) (c.loop-n.invariant.modified (c.write.ensures.same.was_honest h)) (c.write.ensures.writes h);
+          (omega arith, omega (arith, c.loop-n-test.true))
+          (c.loop-n.invariant.modified (c.write.ensures.same.was_honest h)) (c.write.ensures.writes h);
       written = λ h.
-          written_more s.size c.args.from c.loop-n.n now.contents new.contents (c.loop-n.invariant.written (c.write.ensures.same.was_honest h)) (c.write.ensures.writes h).contents
-          (c.in_ok-write.ensures.put h ∙ ap Some (c.fresh_block.ensures ∙ ap (λ (size : ℕ). fresh_words size c.loop-n.n) c.blocks-size.ensures));
+          written_more s.size c.args.from c.loop-n.n now.contents new.contents
+          (c.loop-n.invariant.written (c.write.ensures.same.was_honest h)) (c.write.ensures.writes h).contents
+          (c.in_ok-write.ensures.put h
+          ∙ ap Some (c.fresh_block.ensures ∙ ap (λ (size : ℕ). fresh_words size c.loop-n.n) c.blocks-size.ensures));
     }

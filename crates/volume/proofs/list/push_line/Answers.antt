@@ -5,7 +5,21 @@ pub returns-clause-ok : goal.returns-clause-ok
 returns-clause-ok c =
     let facts = c.in_ok-facts.facts in
     record {
-      added = record { name = c.args.entry.now.name; protection = c.from.result; date = facts.moment.date; blocks = facts.blocks };
+      added = record {
+        name = c.args.entry.now.name;
+        protection = c.from.result;
+        date = facts.moment.date;
+        blocks = facts.blocks;
+      };
       pushed = search rules;
-      is = (facts, c.in_ok-facts.ensures.found, λ i. record { name = c.args.entry.now.name; protection = c.from.ensures i; date = facts.moment.date; blocks = facts.blocks });
+      is = (
+        facts,
+        c.in_ok-facts.ensures.found,
+        λ i. record {
+          name = c.args.entry.now.name;
+          protection = c.from.ensures i;
+          date = facts.moment.date;
+          blocks = facts.blocks;
+        },
+      );
     }

@@ -14,8 +14,10 @@ keep_directory-requires-clause-aligned c =
     let stored = c.args.map.directories.items in
     let d = c.in-Some.directory in
     let gives = c.into_iter-directory-iterator.ensures.into_iter_gives in
-    let turn = YieldsList-turn (YieldsList-from_vec stored gives.0 (gives.1 ∙ c.args.map.directories.ok.0)) c.loop-directory.yielded _ c.loop-directory.yielded_by _ c.next.new.self d c.in-Some.is c.next.ensures.steps in
-    let whole = viewed_at known_directory stored (length c.loop-directory.yielded) d turn.0 turn.1 (IsWholeDirectory c.requires.whole.0) c.requires.whole.1.each in
+    let turn = YieldsList-turn (YieldsList-from_vec stored gives.0 (gives.1 ∙ c.args.map.directories.ok.0))
+    c.loop-directory.yielded _ c.loop-directory.yielded_by _ c.next.new.self d c.in-Some.is c.next.ensures.steps in
+    let whole = viewed_at known_directory stored (length c.loop-directory.yielded) d turn.0 turn.1
+    (IsWholeDirectory c.requires.whole.0) c.requires.whole.1.each in
     sym (length-map d.versions.items known_version) ∙ whole.aligned ∙ length-map d.chain.entries file_view
 
 pub keep_directory-requires-clause-whole : goal.keep_directory-requires-clause-whole
@@ -23,8 +25,10 @@ keep_directory-requires-clause-whole c =
     let stored = c.args.map.directories.items in
     let d = c.in-Some.directory in
     let gives = c.into_iter-directory-iterator.ensures.into_iter_gives in
-    let turn = YieldsList-turn (YieldsList-from_vec stored gives.0 (gives.1 ∙ c.args.map.directories.ok.0)) c.loop-directory.yielded _ c.loop-directory.yielded_by _ c.next.new.self d c.in-Some.is c.next.ensures.steps in
-    (viewed_at known_directory stored (length c.loop-directory.yielded) d turn.0 turn.1 (IsWholeDirectory c.requires.whole.0) c.requires.whole.1.each).versions
+    let turn = YieldsList-turn (YieldsList-from_vec stored gives.0 (gives.1 ∙ c.args.map.directories.ok.0))
+    c.loop-directory.yielded _ c.loop-directory.yielded_by _ c.next.new.self d c.in-Some.is c.next.ensures.steps in
+    (viewed_at known_directory stored (length c.loop-directory.yielded) d turn.0 turn.1
+    (IsWholeDirectory c.requires.whole.0) c.requires.whole.1.each).versions
 
 pub loop-directory-preserved : goal.loop-directory-preserved
 loop-directory-preserved c =
@@ -32,7 +36,8 @@ loop-directory-preserved c =
     let i = length c.loop-directory.yielded in
     let d = c.in-Some.directory in
     let gives = c.into_iter-directory-iterator.ensures.into_iter_gives in
-    let turn = YieldsList-turn (YieldsList-from_vec stored gives.0 (gives.1 ∙ c.args.map.directories.ok.0)) c.loop-directory.yielded _ c.loop-directory.yielded_by _ c.next.new.self d c.in-Some.is c.next.ensures.steps in
+    let turn = YieldsList-turn (YieldsList-from_vec stored gives.0 (gives.1 ∙ c.args.map.directories.ok.0))
+    c.loop-directory.yielded _ c.loop-directory.yielded_by _ c.next.new.self d c.in-Some.is c.next.ensures.steps in
     let more = length_push c.loop-directory.yielded d in
     let l = c.in_ok-live.live in
     let so_far = c.loop-directory.invariant in
@@ -41,8 +46,10 @@ loop-directory-preserved c =
     record {
       read = kept.read;
       keyed = next_directory_keyed stored i _ d more turn.0 turn.1 _ _ kept.stay _ _ l pushed so_far.keyed kept.keyed;
-      known = next_directory_known stored i _ d more turn.0 turn.1 _ _ kept.stay _ _ l pushed so_far.keyed kept.known so_far.known;
-      current = λ n. next_directory_current stored i _ d more turn.0 turn.1 _ _ kept.stay _ _ l pushed so_far.keyed n kept.known so_far.known (so_far.current n) (kept.current n);
+      known = next_directory_known stored i _ d more turn.0 turn.1 _ _ kept.stay _ _ l pushed so_far.keyed
+          kept.known so_far.known;
+      current = λ n. next_directory_current stored i _ d more turn.0 turn.1 _ _ kept.stay _ _ l pushed
+          so_far.keyed n kept.known so_far.known (so_far.current n) (kept.current n);
     }
 
 pub returns-clause-read : goal.returns-clause-read

@@ -9,7 +9,10 @@ use Rattle.volume.proofs.live.keep.Given as goal
 abbrev pub invariant-loop-directory : goal.invariant-loop-directory
 invariant-loop-directory l = record {
   read : (key : ℕ) → IfSome (slot l.versions.slots key) IsFirstRead;
-  keyed : AllZip (IsKeyed l.versions.slots) (map known_directory (take (length l.yielded) l.fn.map.directories.items)) (map (λ d. d.keys.items) l.directories.items);
-  known : map (live_directory l.versions.slots) l.directories.items ≡ map known_directory (take (length l.yielded) l.fn.map.directories.items);
-  current : (n : ℕ) → total (current_reaches n) l.versions.slots ≡ entry_reaches n (map (live_directory l.versions.slots) l.directories.items);
+  keyed : AllZip (IsKeyed l.versions.slots) (map known_directory (take (length l.yielded) l.fn.map.directories.items))
+      (map (λ d. d.keys.items) l.directories.items);
+  known : map (live_directory l.versions.slots) l.directories.items
+      ≡ map known_directory (take (length l.yielded) l.fn.map.directories.items);
+  current : (n : ℕ) → total (current_reaches n) l.versions.slots
+      ≡ entry_reaches n (map (live_directory l.versions.slots) l.directories.items);
 }

@@ -13,11 +13,21 @@ returns-clause-entered c =
     let none = c.new.ensures.items in
     let live = c.args.core.now.versions.slots in
     let added : LiveDirectory = record { chain = c.in_ok-chain.chain; keys = c.new.result } in
-    let bare : live_directory live added ≡ bare_known c.args.entry.first = λ i. record { chain = viewed file_view (chain_is i); versions = filter_map (known_at live) (none i) } in
+    let bare : live_directory live added ≡ bare_known c.args.entry.first = λ i.
+    record { chain = viewed file_view (chain_is i); versions = filter_map (known_at live) (none i) } in
     let k = (core_of c.args.core.now).known in
-    is_entered k (core_of (record { master = c.insert.new.self; directories = c.push_reserved.new.self; versions = c.args.core.now.versions; pending = c.args.core.now.pending; table = c.args.core.now.table })).known
-    c.args.entry.ppn c.args.entry.protection c.args.entry.first c.args.fresh c.args.set.now c.insert.new.set c.requires.absent c.requires.empty
-    (blocks_entered k.master c.args.entry.ppn c.args.fresh c.insert.new.self.blocks c.requires.absent c.requires.count c.insert.ensures.kept c.in-Ok.ensures.grown)
+    is_entered k (core_of (record {
+      master = c.insert.new.self;
+      directories = c.push_reserved.new.self;
+      versions = c.args.core.now.versions;
+      pending = c.args.core.now.pending;
+      table = c.args.core.now.table;
+    })).known
+    c.args.entry.ppn c.args.entry.protection c.args.entry.first c.args.fresh c.args.set.now c.insert.new.set
+    c.requires.absent c.requires.empty
+    (blocks_entered k.master c.args.entry.ppn c.args.fresh c.insert.new.self.blocks c.requires.absent c.requires.count
+    c.insert.ensures.kept c.in-Ok.ensures.grown)
     c.in-Ok.ensures.items c.blocks-blocks.ensures.sound
-    (directories_more (live_directory live) c.args.core.now.directories.items c.push_reserved.new.self.items added c.args.entry.first (c.push_reserved.ensures.items ∙ ap (λ xs. xs ++ added ∷ []) c.reserve.ensures.items) bare)
+    (directories_more (live_directory live) c.args.core.now.directories.items c.push_reserved.new.self.items added
+    c.args.entry.first (c.push_reserved.ensures.items ∙ ap (λ xs. xs ++ added ∷ []) c.reserve.ensures.items) bare)
     c.insert.ensures.put c.insert.ensures.few

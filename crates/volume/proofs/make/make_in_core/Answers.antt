@@ -32,18 +32,41 @@ returns-clause-made c =
     let fresh = c.take_blocks-fresh.result in
     let absent : find nat_cmp c.args.ppn k.master.entries ≡ None = search rules in
     let count : length (option_to_list fresh.master) ≡ growth k.master =
-    count_grows c.needs_block-grows.result (length (option_to_list fresh.master)) (length c.args.core.now.master.entries) (length c.args.core.now.master.blocks) k.master
-    c.needs_block-grows.ensures.0 c.needs_block-grows.ensures.1 c.take_blocks-fresh.ensures.count (length-map c.args.core.now.master.entries master_view) refl in
-    let before = core_of (record { master = c.args.core.now.master; directories = c.args.core.now.directories; versions = c.args.core.now.versions; pending = c.args.core.now.pending; table = c.take_blocks-fresh.new.table }) in
-    let after = core_of (record { master = c.enter.new.core.master; directories = c.enter.new.core.directories; versions = c.enter.new.core.versions; pending = c.enter.new.core.pending; table = c.use_blocks.new.table }) in
-    let entered : IsEntered before.known (core_of c.enter.new.core).known c.entry_of-entry.result.ppn c.entry_of-entry.result.protection c.entry_of-entry.result.first (option_to_list fresh.master) c.enter.new.set = search rules in
-    let takes : Takes c.book.new.self (fresh_list fresh) c.enter.new.core.table = subst (λ (v : TableState). Takes c.book.new.self (fresh_list fresh) v) (sym c.enter.ensures.table) c.take_blocks-fresh.ensures.taken in
-    let sound : IsTable c.book.new.self = sound_booked c.args.core.now.table c.book.new.self _ c.booked-booked.ensures.sound c.book.ensures in
-    let many : 1 + c.from-count.result ≡ length (fresh_list fresh) = many_blocks c.from-count.result (length (option_to_list fresh.master)) c.needs_block-grows.result c.take_blocks-fresh.ensures.count c.from-count.ensures in
-    let table = made_table size c.args.core.now.table c.book.new.self c.use_blocks.new.table (fresh_list fresh) (1 + c.from-count.result) c.enter.new.set c.use_blocks.new.set refl c.book.ensures many
+    count_grows c.needs_block-grows.result (length (option_to_list fresh.master))
+    (length c.args.core.now.master.entries) (length c.args.core.now.master.blocks) k.master
+    c.needs_block-grows.ensures.0 c.needs_block-grows.ensures.1 c.take_blocks-fresh.ensures.count
+    (length-map c.args.core.now.master.entries master_view) refl in
+    let before = core_of (record {
+      master = c.args.core.now.master;
+      directories = c.args.core.now.directories;
+      versions = c.args.core.now.versions;
+      pending = c.args.core.now.pending;
+      table = c.take_blocks-fresh.new.table;
+    }) in
+    let after = core_of (record {
+      master = c.enter.new.core.master;
+      directories = c.enter.new.core.directories;
+      versions = c.enter.new.core.versions;
+      pending = c.enter.new.core.pending;
+      table = c.use_blocks.new.table;
+    }) in
+    let entered : IsEntered before.known (core_of c.enter.new.core).known c.entry_of-entry.result.ppn
+    c.entry_of-entry.result.protection c.entry_of-entry.result.first (option_to_list fresh.master) c.enter.new.set =
+    search rules in
+    let takes : Takes c.book.new.self (fresh_list fresh) c.enter.new.core.table = subst
+    (λ (v : TableState). Takes c.book.new.self (fresh_list fresh) v)
+    (sym c.enter.ensures.table) c.take_blocks-fresh.ensures.taken in
+    let sound : IsTable c.book.new.self = sound_booked c.args.core.now.table c.book.new.self _
+    c.booked-booked.ensures.sound c.book.ensures in
+    let many : 1 + c.from-count.result
+    ≡ length (fresh_list fresh) = many_blocks c.from-count.result (length (option_to_list fresh.master))
+    c.needs_block-grows.result c.take_blocks-fresh.ensures.count c.from-count.ensures in
+    let table = made_table size c.args.core.now.table c.book.new.self c.use_blocks.new.table (fresh_list fresh)
+    (1 + c.from-count.result) c.enter.new.set c.use_blocks.new.set refl c.book.ensures many
     (c.use_blocks.ensures.taken c.book.new.self sound takes) (c.use_blocks.ensures.put c.book.new.self sound takes) in
     let fixed : IsFixed c.args.core.now.table = whole_fixed size k c.requires.whole.map in
-    let free = taken_free c.args.core.now.table c.book.new.self c.enter.new.core.table (1 + c.from-count.result) (fresh_list fresh) c.booked-booked.ensures.sound fixed c.book.ensures takes in
+    let free = taken_free c.args.core.now.table c.book.new.self c.enter.new.core.table (1 + c.from-count.result)
+    (fresh_list fresh) c.booked-booked.ensures.sound fixed c.book.ensures takes in
     record {
       absent = absent;
       grown = option_to_list fresh.master;
@@ -52,8 +75,10 @@ returns-clause-made c =
       free = free.0;
       chain_puts = c.enter.new.set;
       entered = entered_for before.known (core_of c.enter.new.core).known k after.known
-          c.args.ppn c.args.protection fresh.directory c.entry_of-entry.result.ppn c.entry_of-entry.result.protection c.entry_of-entry.result.first (option_to_list fresh.master) c.enter.new.set
-          refl refl refl refl c.entry_of-entry.ensures.ppn c.entry_of-entry.ensures.protection c.entry_of-entry.ensures.first entered;
+          c.args.ppn c.args.protection fresh.directory c.entry_of-entry.result.ppn c.entry_of-entry.result.protection
+          c.entry_of-entry.result.first (option_to_list fresh.master) c.enter.new.set
+          refl refl refl refl c.entry_of-entry.ensures.ppn c.entry_of-entry.ensures.protection
+          c.entry_of-entry.ensures.first entered;
       taken = table.0;
       put = table.1;
       room =

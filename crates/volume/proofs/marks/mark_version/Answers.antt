@@ -15,28 +15,37 @@ returns-in_err-mark_all-clause-twice c n is =
     let prime = c.args.prime in
     let v = c.args.version.now in
     let p = err_from_is_err_and c.from_residual.result c.from_residual.ensures.1 in
-    let twice = c.mark_all.ensures.twice n (passed_on c.from_residual.result c.mark_all.result p.0 c.in_err-mark_all.field-0.0 n is p.1 p.2 c.in_err-mark_all.was) in
+    let twice = c.mark_all.ensures.twice n
+    (passed_on c.from_residual.result c.mark_all.result p.0 c.in_err-mark_all.field-0.0 n is p.1 p.2
+    c.in_err-mark_all.was) in
     let ribs : times n c.ribs.result.now ≡ times n v.ribs = ap (times n) c.ribs.ensures in
-    let first : digit_at c.mark.new.self n ≡ digit_at old n + times n (prime ∷ []) = ap (λ flags. digit_at flags n) c.mark.ensures.marked ∙ digit-marked old prime c.requires.prime (c.if-not-mark.ensures.first.0 refl) n in
+    let first : digit_at c.mark.new.self n
+    ≡ digit_at old n + times n (prime ∷ []) = ap (λ flags. digit_at flags n) c.mark.ensures.marked
+    ∙ digit-marked old prime c.requires.prime (c.if-not-mark.ensures.first.0 refl) n in
     omega (arith, times_parts n prime v.ribs v.blocks)
 
 pub mark_all-requires-2 : goal.mark_all-requires-2
 mark_all-requires-2 c =
-    let long : length c.mark_all.new.reached ≡ length c.args.reached.now = c.mark_all.ensures.length ∙ ap length c.mark.ensures.marked ∙ length-set c.args.reached.now c.args.prime true in
-    subst (λ (m : ℕ). AllByRecursion (λ n. n < m) c.blocks-2.result.now) (sym long) (subst (AllByRecursion (λ n. n < length c.args.reached.now)) (sym c.blocks-2.ensures) c.requires.blocks)
+    let long : length c.mark_all.new.reached ≡ length c.args.reached.now = c.mark_all.ensures.length
+    ∙ ap length c.mark.ensures.marked ∙ length-set c.args.reached.now c.args.prime true in
+    subst (λ (m : ℕ). AllByRecursion (λ n. n < m) c.blocks-2.result.now) (sym long)
+    (subst (AllByRecursion (λ n. n < length c.args.reached.now)) (sym c.blocks-2.ensures) c.requires.blocks)
 
 pub returns-clause-ok : goal.returns-clause-ok
 returns-clause-ok c =
     let old = c.args.reached.now in
     let prime = c.args.prime in
     let v = c.args.version.now in
-    on_ok c.mark_all-2.result ((n : ℕ) → digit_at c.mark_all-2.new.reached n ≡ digit_at c.mark_all.new.reached n + times n c.blocks-2.result.now)
+    on_ok c.mark_all-2.result ((n : ℕ) → digit_at c.mark_all-2.new.reached n
+    ≡ digit_at c.mark_all.new.reached n + times n c.blocks-2.result.now)
     ((n : ℕ) → digit_at c.mark_all-2.new.reached n ≡ digit_at old n + times n (prime ∷ (v.ribs ++ v.blocks)))
     (λ third n.
     let ribs : times n c.ribs.result.now ≡ times n v.ribs = ap (times n) c.ribs.ensures in
     let blocks : times n c.blocks-2.result.now ≡ times n v.blocks = ap (times n) c.blocks-2.ensures in
     let second = c.in_ok-mark_all.ensures.ok n in
-    let first : digit_at c.mark.new.self n ≡ digit_at old n + times n (prime ∷ []) = ap (λ flags. digit_at flags n) c.mark.ensures.marked ∙ digit-marked old prime c.requires.prime (c.if-not-mark.ensures.first.0 refl) n in
+    let first : digit_at c.mark.new.self n
+    ≡ digit_at old n + times n (prime ∷ []) = ap (λ flags. digit_at flags n) c.mark.ensures.marked
+    ∙ digit-marked old prime c.requires.prime (c.if-not-mark.ensures.first.0 refl) n in
     omega (arith, third n, times_parts n prime v.ribs v.blocks)) c.mark_all-2.ensures.ok
 
 pub returns-clause-twice : goal.returns-clause-twice
@@ -48,19 +57,24 @@ returns-clause-twice c n is =
     let ribs : times n c.ribs.result.now ≡ times n v.ribs = ap (times n) c.ribs.ensures in
     let blocks : times n c.blocks-2.result.now ≡ times n v.blocks = ap (times n) c.blocks-2.ensures in
     let second = c.in_ok-mark_all.ensures.ok n in
-    let first : digit_at c.mark.new.self n ≡ digit_at old n + times n (prime ∷ []) = ap (λ flags. digit_at flags n) c.mark.ensures.marked ∙ digit-marked old prime c.requires.prime (c.if-not-mark.ensures.first.0 refl) n in
+    let first : digit_at c.mark.new.self n
+    ≡ digit_at old n + times n (prime ∷ []) = ap (λ flags. digit_at flags n) c.mark.ensures.marked
+    ∙ digit-marked old prime c.requires.prime (c.if-not-mark.ensures.first.0 refl) n in
     omega (arith, times_parts n prime v.ribs v.blocks)
 
 pub returns-then-not-mark-clause-among : goal.returns-then-not-mark-clause-among
 returns-then-not-mark-clause-among c n is =
     let v = c.args.version.now in
-    subst (λ (m : ℕ). 0 < times m (c.args.prime ∷ (v.ribs ++ v.blocks))) (cc) (times_here c.args.prime (v.ribs ++ v.blocks))
+    subst (λ (m : ℕ). 0 < times m (c.args.prime ∷ (v.ribs ++ v.blocks))) (cc)
+    (times_here c.args.prime (v.ribs ++ v.blocks))
 
 pub returns-in_err-mark_all-clause-among : goal.returns-in_err-mark_all-clause-among
 returns-in_err-mark_all-clause-among c n is =
     let v = c.args.version.now in
     let p = err_from_is_err_and c.from_residual.result c.from_residual.ensures.1 in
-    let among = c.mark_all.ensures.among n (passed_on c.from_residual.result c.mark_all.result p.0 c.in_err-mark_all.field-0.0 n is p.1 p.2 c.in_err-mark_all.was) in
+    let among = c.mark_all.ensures.among n
+    (passed_on c.from_residual.result c.mark_all.result p.0 c.in_err-mark_all.field-0.0 n is p.1 p.2
+    c.in_err-mark_all.was) in
     let ribs : times n c.ribs.result.now ≡ times n v.ribs = ap (times n) c.ribs.ensures in
     omega (arith, times_parts n c.args.prime v.ribs v.blocks)
 

@@ -5,12 +5,14 @@ use Rattle.volume.proofs.open.load_master.Goals as goal
 pub returns-in-Err-BadDirectory-clause-fault : goal.returns-in-Err-BadDirectory-clause-fault
 returns-in-Err-BadDirectory-clause-fault g c h home =
     let s = g.D.Disk.state c.args.disk.now in
-    master_fault s.size s.contents c.args.first c.in-Err-BadDirectory.n home (c.load.ensures.bad h c.in-Err-BadDirectory.n (cc))
+    master_fault s.size s.contents c.args.first c.in-Err-BadDirectory.n home
+    (c.load.ensures.bad h c.in-Err-BadDirectory.n (cc))
 
 pub returns-in-Err-BlockTwice-clause-fault : goal.returns-in-Err-BlockTwice-clause-fault
 returns-in-Err-BlockTwice-clause-fault g c h home =
     let s = g.D.Disk.state c.args.disk.now in
-    master_twice s.size s.contents c.args.reached.now c.args.first c.in-Err-BlockTwice.n home c.requires.fresh (c.load.ensures.named c.in-Err-BlockTwice.n (inr (cc))) (c.load.ensures.twice h c.in-Err-BlockTwice.n (cc))
+    master_twice s.size s.contents c.args.reached.now c.args.first c.in-Err-BlockTwice.n home c.requires.fresh
+    (c.load.ensures.named c.in-Err-BlockTwice.n (inr (cc))) (c.load.ensures.twice h c.in-Err-BlockTwice.n (cc))
 
 pub returns-in-Err-BadDirectory-clause-named : goal.returns-in-Err-BadDirectory-clause-named
 returns-in-Err-BadDirectory-clause-named g c = c.load.ensures.named c.in-Err-BadDirectory.n (inl (cc))

@@ -8,4 +8,5 @@ returns-in-Err-TableWrong-clause-wrong g c h n is =
     let s = g.D.Disk.state c.args.disk.now in
     let same : c.in-Err-TableWrong.n ≡ n = cc in
     subst (IsWrongFor s.size s.contents c.args.reached.now) same
-    (bad_block_wrong s.size s.contents c.args.reached.now c.in-Err-TableWrong.n c.requires.volume c.requires.marks (c.load.ensures.wrong h c.in-Err-TableWrong.n (cc)))
+    (bad_block_wrong s.size s.contents c.args.reached.now c.in-Err-TableWrong.n c.requires.volume c.requires.marks
+    (c.load.ensures.wrong h c.in-Err-TableWrong.n (cc)))

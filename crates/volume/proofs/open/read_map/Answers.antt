@@ -23,13 +23,17 @@ returns-in_err-master-clause-fault g c h =
     let s = g.D.Disk.state c.args.disk.now in
     let now = g.D.Disk.state c.read_home.new.disk in
     let p = err_from_is_err_and c.from_residual-in_err-master.result c.from_residual-in_err-master.ensures.1 in
-    let same = same_contents s.contents now.contents (c.read_home.ensures.reads (c.read_tree.ensures.same.was_honest h)).still.contents in
+    let same = same_contents s.contents now.contents
+    (c.read_home.ensures.reads (c.read_tree.ensures.same.was_honest h)).still.contents in
     let home : IsHome now.size now.contents (home_of_master c.in_ok-first.first) =
     subst (λ (n : ℕ). IsHome n now.contents (home_of_master c.in_ok-first.first)) (sym c.read_home.ensures.same.size)
-    (subst (λ (contents : Contents). IsHome s.size contents (home_of_master c.in_ok-first.first)) (sym same) (c.in_ok-first.ensures.ok (c.read_tree.ensures.same.was_honest h))) in
-    handed (SettledRefuses s.size s.contents) c.from_residual-in_err-master.result c.read_tree.result p.0 c.in_err-master.field-0.0 p.1 p.2 c.in_err-master.was
+    (subst (λ (contents : Contents). IsHome s.size contents (home_of_master c.in_ok-first.first)) (sym same)
+    (c.in_ok-first.ensures.ok (c.read_tree.ensures.same.was_honest h))) in
+    handed (SettledRefuses s.size s.contents) c.from_residual-in_err-master.result c.read_tree.result p.0
+    c.in_err-master.field-0.0 p.1 p.2 c.in_err-master.was
     (found_on (SettledRefuses now.size now.contents) (SettledRefuses s.size s.contents) c.read_tree.result
-    (λ error met. subst (λ contents. SettledRefuses s.size contents error) same (subst (λ (n : ℕ). SettledRefuses n now.contents error) c.read_home.ensures.same.size met))
+    (λ error met. subst (λ contents. SettledRefuses s.size contents error) same
+    (subst (λ (n : ℕ). SettledRefuses n now.contents error) c.read_home.ensures.same.size met))
     (c.read_tree.ensures.fault h home))
 
 pub returns-in_err-table-clause-reads : goal.returns-in_err-table-clause-reads
@@ -37,16 +41,20 @@ returns-in_err-table-clause-reads g c h =
     let s = g.D.Disk.state c.args.disk.now in
     let first = g.D.Disk.state c.read_home.new.disk in
     let second = g.D.Disk.state c.read_tree.new.disk in
-    only_reads_on s first (g.D.Disk.state c.load_table.new.disk) (c.read_home.ensures.reads (c.read_tree.ensures.same.was_honest (c.load_table.ensures.same.was_honest h)))
-    (only_reads_on first second (g.D.Disk.state c.load_table.new.disk) (c.read_tree.ensures.reads (c.load_table.ensures.same.was_honest h)) (c.load_table.ensures.reads h))
+    only_reads_on s first (g.D.Disk.state c.load_table.new.disk)
+    (c.read_home.ensures.reads (c.read_tree.ensures.same.was_honest (c.load_table.ensures.same.was_honest h)))
+    (only_reads_on first second (g.D.Disk.state c.load_table.new.disk)
+    (c.read_tree.ensures.reads (c.load_table.ensures.same.was_honest h)) (c.load_table.ensures.reads h))
 
 pub returns-clause-reads : goal.returns-clause-reads
 returns-clause-reads g c h =
     let s = g.D.Disk.state c.args.disk.now in
     let first = g.D.Disk.state c.read_home.new.disk in
     let second = g.D.Disk.state c.read_tree.new.disk in
-    only_reads_on s first (g.D.Disk.state c.load_table.new.disk) (c.read_home.ensures.reads (c.read_tree.ensures.same.was_honest (c.load_table.ensures.same.was_honest h)))
-    (only_reads_on first second (g.D.Disk.state c.load_table.new.disk) (c.read_tree.ensures.reads (c.load_table.ensures.same.was_honest h)) (c.load_table.ensures.reads h))
+    only_reads_on s first (g.D.Disk.state c.load_table.new.disk)
+    (c.read_home.ensures.reads (c.read_tree.ensures.same.was_honest (c.load_table.ensures.same.was_honest h)))
+    (only_reads_on first second (g.D.Disk.state c.load_table.new.disk)
+    (c.read_tree.ensures.reads (c.load_table.ensures.same.was_honest h)) (c.load_table.ensures.reads h))
 
 pub returns-in_err-table-clause-fault : goal.returns-in_err-table-clause-fault
 returns-in_err-table-clause-fault g c h =
@@ -54,24 +62,35 @@ returns-in_err-table-clause-fault g c h =
     let now = g.D.Disk.state c.read_home.new.disk in
     let then = g.D.Disk.state c.read_tree.new.disk in
     let size = c.read_home.ensures.same.size in
-    let same = same_contents s.contents now.contents (c.read_home.ensures.reads (c.read_tree.ensures.same.was_honest (c.load_table.ensures.same.was_honest h))).still.contents in
-    let later : then.contents ≡ s.contents = same_contents s.contents then.contents (λ n. (c.read_tree.ensures.reads (c.load_table.ensures.same.was_honest h)).still.contents n ∙ (c.read_home.ensures.reads (c.read_tree.ensures.same.was_honest (c.load_table.ensures.same.was_honest h))).still.contents n) in
+    let same = same_contents s.contents now.contents
+    (c.read_home.ensures.reads
+    (c.read_tree.ensures.same.was_honest (c.load_table.ensures.same.was_honest h))).still.contents in
+    let later : then.contents ≡ s.contents = same_contents s.contents then.contents
+    (λ n. (c.read_tree.ensures.reads (c.load_table.ensures.same.was_honest h)).still.contents n
+    ∙ (c.read_home.ensures.reads
+    (c.read_tree.ensures.same.was_honest (c.load_table.ensures.same.was_honest h))).still.contents n) in
     let sizes : then.size ≡ s.size = c.read_tree.ensures.same.size ∙ size in
     let first = c.in_ok-first.first in
     let home : IsHome now.size now.contents (home_of_master first) =
-    subst (λ (n : ℕ). IsHome n now.contents (home_of_master first)) (sym size) (subst (λ (contents : Contents). IsHome s.size contents (home_of_master first)) (sym same) (c.in_ok-first.ensures.ok (c.read_tree.ensures.same.was_honest (c.load_table.ensures.same.was_honest h)))) in
+    subst (λ (n : ℕ). IsHome n now.contents (home_of_master first)) (sym size)
+    (subst (λ (contents : Contents). IsHome s.size contents (home_of_master first)) (sym same)
+    (c.in_ok-first.ensures.ok (c.read_tree.ensures.same.was_honest (c.load_table.ensures.same.was_honest h)))) in
     let master = viewed master_view c.in_ok-master.master in
     let directories = map known_directory c.in_ok-master.directories.items in
     let reached = c.read_tree.new.reached in
     let read : IsMapRead s.size s.contents first master directories (digit_at reached) =
     subst (λ (contents : Contents). IsMapRead s.size contents first master directories (digit_at reached)) same
-    (subst (λ (n : ℕ). IsMapRead n now.contents first master directories (digit_at reached)) size (c.in_ok-master.ensures.read (c.load_table.ensures.same.was_honest h) home)) in
-    let only : IsOnlySpace s.size reached = subst (λ (n : ℕ). IsOnlySpace n reached) size c.in_ok-master.ensures.space in
+    (subst (λ (n : ℕ). IsMapRead n now.contents first master directories (digit_at reached)) size
+    (c.in_ok-master.ensures.read (c.load_table.ensures.same.was_honest h) home)) in
+    let only : IsOnlySpace s.size reached = subst (λ (n : ℕ). IsOnlySpace n reached) size
+    c.in_ok-master.ensures.space in
     let p = err_from_is_err_and c.from_residual-in_err-table.result c.from_residual-in_err-table.ensures.1 in
-    handed (SettledRefuses s.size s.contents) c.from_residual-in_err-table.result c.load_table.result p.0 c.in_err-table.field-0.0 p.1 p.2 c.in_err-table.was
+    handed (SettledRefuses s.size s.contents) c.from_residual-in_err-table.result c.load_table.result p.0
+    c.in_err-table.field-0.0 p.1 p.2 c.in_err-table.was
     (table_refused s.size s.contents then.contents reached c.load_table.result later c.load_table.ensures.only
     (λ n is. subst (λ (k : ℕ). IsWrongFor k then.contents reached n) sizes (c.load_table.ensures.wrong h n is))
-    (λ n wrong. table_fault s.size s.contents first master directories (digit_at reached) read reached n (λ k. refl) only wrong))
+    (λ n wrong. table_fault s.size s.contents first master directories (digit_at reached) read reached n
+    (λ k. refl) only wrong))
 
 pub returns-clause-held : goal.returns-clause-held
 returns-clause-held g c h =
@@ -79,24 +98,39 @@ returns-clause-held g c h =
     let now = g.D.Disk.state c.read_home.new.disk in
     let then = g.D.Disk.state c.read_tree.new.disk in
     let size = c.read_home.ensures.same.size in
-    let same = same_contents s.contents now.contents (c.read_home.ensures.reads (c.read_tree.ensures.same.was_honest (c.in_ok-table.ensures.same.was_honest h))).still.contents in
-    let later : then.contents ≡ s.contents = same_contents s.contents then.contents (λ n. (c.read_tree.ensures.reads (c.in_ok-table.ensures.same.was_honest h)).still.contents n ∙ (c.read_home.ensures.reads (c.read_tree.ensures.same.was_honest (c.in_ok-table.ensures.same.was_honest h))).still.contents n) in
+    let same = same_contents s.contents now.contents
+    (c.read_home.ensures.reads
+    (c.read_tree.ensures.same.was_honest (c.in_ok-table.ensures.same.was_honest h))).still.contents in
+    let later : then.contents ≡ s.contents = same_contents s.contents then.contents
+    (λ n. (c.read_tree.ensures.reads (c.in_ok-table.ensures.same.was_honest h)).still.contents n
+    ∙ (c.read_home.ensures.reads
+    (c.read_tree.ensures.same.was_honest (c.in_ok-table.ensures.same.was_honest h))).still.contents n) in
     let sizes : then.size ≡ s.size = c.read_tree.ensures.same.size ∙ size in
     let first = c.in_ok-first.first in
     let home : IsHome now.size now.contents (home_of_master first) =
-    subst (λ (n : ℕ). IsHome n now.contents (home_of_master first)) (sym size) (subst (λ (contents : Contents). IsHome s.size contents (home_of_master first)) (sym same) (c.in_ok-first.ensures.ok (c.read_tree.ensures.same.was_honest (c.in_ok-table.ensures.same.was_honest h)))) in
+    subst (λ (n : ℕ). IsHome n now.contents (home_of_master first)) (sym size)
+    (subst (λ (contents : Contents). IsHome s.size contents (home_of_master first)) (sym same)
+    (c.in_ok-first.ensures.ok (c.read_tree.ensures.same.was_honest (c.in_ok-table.ensures.same.was_honest h)))) in
     let master = viewed master_view c.in_ok-master.master in
     let directories = map known_directory c.in_ok-master.directories.items in
     let reached = c.read_tree.new.reached in
     let read : IsMapRead s.size s.contents first master directories (digit_at reached) =
     subst (λ (contents : Contents). IsMapRead s.size contents first master directories (digit_at reached)) same
-    (subst (λ (n : ℕ). IsMapRead n now.contents first master directories (digit_at reached)) size (c.in_ok-master.ensures.read (c.in_ok-table.ensures.same.was_honest h) home)) in
-    let only : IsOnlySpace s.size reached = subst (λ (n : ℕ). IsOnlySpace n reached) size c.in_ok-master.ensures.space in
+    (subst (λ (n : ℕ). IsMapRead n now.contents first master directories (digit_at reached)) size
+    (c.in_ok-master.ensures.read (c.in_ok-table.ensures.same.was_honest h) home)) in
+    let only : IsOnlySpace s.size reached = subst (λ (n : ℕ). IsOnlySpace n reached) size
+    c.in_ok-master.ensures.space in
     let right : IsRightFor s.size s.contents reached c.in_ok-table.table =
-    subst (λ (contents : Contents). IsRightFor s.size contents reached c.in_ok-table.table) later (subst (λ (n : ℕ). IsRightFor n then.contents reached c.in_ok-table.table) sizes (c.in_ok-table.ensures.right h)) in
-    let bits : c.book_map.new.table.bits ≡ c.in_ok-table.table.bits = ap (λ (t : TableState). t.bits) c.book_map.ensures in
-    let booked : IsRightFor s.size s.contents reached c.book_map.new.table = right_bits s.size s.contents reached c.in_ok-table.table c.book_map.new.table bits right in
-    (map_found s.size s.contents first master directories (digit_at reached) read, map_held s.size s.contents first master directories (digit_at reached) read reached c.book_map.new.table (λ k. refl) only booked)
+    subst (λ (contents : Contents). IsRightFor s.size contents reached c.in_ok-table.table) later
+    (subst (λ (n : ℕ). IsRightFor n then.contents reached c.in_ok-table.table) sizes (c.in_ok-table.ensures.right h)) in
+    let bits : c.book_map.new.table.bits
+    ≡ c.in_ok-table.table.bits = ap (λ (t : TableState). t.bits) c.book_map.ensures in
+    let booked : IsRightFor s.size s.contents reached c.book_map.new.table = right_bits s.size s.contents
+    reached c.in_ok-table.table c.book_map.new.table bits right in (
+      map_found s.size s.contents first master directories (digit_at reached) read,
+      map_held s.size s.contents first master directories (digit_at reached) read reached c.book_map.new.table
+          (λ k. refl) only booked,
+    )
 
 pub returns-clause-booked : goal.returns-clause-booked
 returns-clause-booked g c =
@@ -105,9 +139,21 @@ returns-clause-booked g c =
     let sizes : then.size ≡ s.size = c.read_tree.ensures.same.size ∙ c.read_home.ensures.same.size in
     let master = c.in_ok-master.master in
     let directories = c.in_ok-master.directories in
-    let booked : c.book_map.new.table ≡ record c.in_ok-table.table { booked = cost_of_known (viewed master_view master) (map known_directory directories.items) } =
-    c.book_map.ensures ∙ (λ i. record c.in_ok-table.table { booked = cost_of_known (viewed master_view master) (map known_directory (c.deref.ensures.value i)) }) in
-    read_booked s.size then.size (record { master = viewed master_view master; directories = map known_directory directories.items; table = c.book_map.new.table }) c.in_ok-table.table sizes booked c.in_ok-table.ensures.unheld
+    let booked : c.book_map.new.table
+    ≡ record c.in_ok-table.table {
+      booked = cost_of_known (viewed master_view master)
+          (map known_directory directories.items);
+    } =
+    c.book_map.ensures
+    ∙ (λ i. record c.in_ok-table.table {
+      booked = cost_of_known (viewed master_view master)
+          (map known_directory (c.deref.ensures.value i));
+    }) in
+    read_booked s.size then.size (record {
+      master = viewed master_view master;
+      directories = map known_directory directories.items;
+      table = c.book_map.new.table;
+    }) c.in_ok-table.table sizes booked c.in_ok-table.ensures.unheld
 
 pub returns-clause-whole : goal.returns-clause-whole
 returns-clause-whole g c =
@@ -119,12 +165,28 @@ returns-clause-whole g c =
     let master = c.in_ok-master.master in
     let directories = c.in_ok-master.directories in
     let aligned : length (map known_directory directories.items) ≡ length (map master_view master.entries) =
-    length-map directories.items known_directory ∙ c.in_ok-master.ensures.aligned ∙ sym (length-map master.entries master_view) in
-    let booked : c.book_map.new.table ≡ record c.in_ok-table.table { booked = cost_of_known (viewed master_view master) (map known_directory directories.items) } =
-    c.book_map.ensures ∙ (λ i. record c.in_ok-table.table { booked = cost_of_known (viewed master_view master) (map known_directory (c.deref.ensures.value i)) }) in
-    read_whole s.size now.size then.size (record { master = viewed master_view master; directories = map known_directory directories.items; table = c.book_map.new.table }) c.in_ok-table.table c.read_tree.new.reached size sizes
-    c.in_ok-first.ensures.volume c.in_ok-master.ensures.chain c.in_ok-master.ensures.inside aligned c.in_ok-master.ensures.whole booked
-    c.in_ok-table.ensures.size c.in_ok-table.ensures.unchanged c.in_ok-table.ensures.wanted c.in_ok-master.ensures.marked
+    length-map directories.items known_directory ∙ c.in_ok-master.ensures.aligned
+    ∙ sym (length-map master.entries master_view) in
+    let booked : c.book_map.new.table
+    ≡ record c.in_ok-table.table {
+      booked = cost_of_known (viewed master_view master)
+          (map known_directory directories.items);
+    } =
+    c.book_map.ensures
+    ∙ (λ i. record c.in_ok-table.table {
+      booked = cost_of_known (viewed master_view master)
+          (map known_directory (c.deref.ensures.value i));
+    }) in
+    read_whole s.size now.size then.size
+    (record {
+      master = viewed master_view master;
+      directories = map known_directory directories.items;
+      table = c.book_map.new.table;
+    }) c.in_ok-table.table c.read_tree.new.reached size sizes
+    c.in_ok-first.ensures.volume c.in_ok-master.ensures.chain c.in_ok-master.ensures.inside aligned
+    c.in_ok-master.ensures.whole booked
+    c.in_ok-table.ensures.size c.in_ok-table.ensures.unchanged c.in_ok-table.ensures.wanted
+    c.in_ok-master.ensures.marked
 
 -- The block that is named.
 
@@ -132,18 +194,22 @@ pub returns-in_err-first-clause-named : goal.returns-in_err-first-clause-named
 returns-in_err-first-clause-named g c =
     let size = (g.D.Disk.state c.args.disk.now).size in
     let p = err_from_is_err_and c.from_residual.result c.from_residual.ensures.1 in
-    handed (NamesInSpace size) c.from_residual.result c.read_home.result p.0 c.in_err-first.field-0.0 p.1 p.2 c.in_err-first.was (home_named size c.read_home.result c.read_home.ensures.only)
+    handed (NamesInSpace size) c.from_residual.result c.read_home.result p.0 c.in_err-first.field-0.0 p.1
+    p.2 c.in_err-first.was (home_named size c.read_home.result c.read_home.ensures.only)
 
 pub returns-in_err-master-clause-named : goal.returns-in_err-master-clause-named
 returns-in_err-master-clause-named g c =
     let size = (g.D.Disk.state c.args.disk.now).size in
     let p = err_from_is_err_and c.from_residual-in_err-master.result c.from_residual-in_err-master.ensures.1 in
-    handed (NamesInSpace size) c.from_residual-in_err-master.result c.read_tree.result p.0 c.in_err-master.field-0.0 p.1 p.2 c.in_err-master.was
-    (named_on (g.D.Disk.state c.read_home.new.disk).size size c.read_tree.result c.read_home.ensures.same.size c.read_tree.ensures.named)
+    handed (NamesInSpace size) c.from_residual-in_err-master.result c.read_tree.result p.0 c.in_err-master.field-0.0
+    p.1 p.2 c.in_err-master.was
+    (named_on (g.D.Disk.state c.read_home.new.disk).size size c.read_tree.result c.read_home.ensures.same.size
+    c.read_tree.ensures.named)
 
 pub returns-in_err-table-clause-named : goal.returns-in_err-table-clause-named
 returns-in_err-table-clause-named g c =
     let size = (g.D.Disk.state c.args.disk.now).size in
     let p = err_from_is_err_and c.from_residual-in_err-table.result c.from_residual-in_err-table.ensures.1 in
-    handed (NamesInSpace size) c.from_residual-in_err-table.result c.load_table.result p.0 c.in_err-table.field-0.0 p.1 p.2 c.in_err-table.was
+    handed (NamesInSpace size) c.from_residual-in_err-table.result c.load_table.result p.0 c.in_err-table.field-0.0
+    p.1 p.2 c.in_err-table.was
     (found_on IsTableRefusal (NamesInSpace size) c.load_table.result (table_named size) c.load_table.ensures.only)

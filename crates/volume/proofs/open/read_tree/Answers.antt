@@ -21,48 +21,67 @@ pub returns-in_err-directories-clause-fault : goal.returns-in_err-directories-cl
 returns-in_err-directories-clause-fault g c h home =
     let s = g.D.Disk.state c.args.disk.now in
     let now = g.D.Disk.state c.load_master.new.disk in
-    let p = err_from_is_err_and c.from_residual-in_err-directories.result c.from_residual-in_err-directories.ensures.1 in
-    let same = same_contents s.contents now.contents (c.load_master.ensures.reads (c.read_directories.ensures.same.was_honest h)).still.contents in
+    let p = err_from_is_err_and c.from_residual-in_err-directories.result
+    c.from_residual-in_err-directories.ensures.1 in
+    let same = same_contents s.contents now.contents
+    (c.load_master.ensures.reads (c.read_directories.ensures.same.was_honest h)).still.contents in
     let marks = digit_at c.load_master.new.reached in
     let chain = viewed master_view c.in_ok-master.master in
-    handed (SettledRefuses s.size s.contents) c.from_residual-in_err-directories.result c.read_directories.result p.0 c.in_err-directories.field-0.0 p.1 p.2 c.in_err-directories.was
-    (found_named (IsFaultOfDirectories now.size now.contents marks (map master_view c.entries.result.now)) (NamesInSpace now.size) (SettledRefuses s.size s.contents) c.read_directories.result
-    (λ error met inside. directories_fault s.size s.contents c.args.first (nodes_of chain.blocks chain.entries) chain.entries marks error home (c.in_ok-master.ensures.walk (c.read_directories.ensures.same.was_honest h))
-    (chain_items master_words (IsMasterEntryOf 1) chain c.in_ok-master.ensures.chain) (λ n. c.in_ok-master.ensures.marked n ∙ ap (times n) (sym (numbers_of chain.blocks chain.entries)))
+    handed (SettledRefuses s.size s.contents) c.from_residual-in_err-directories.result c.read_directories.result
+    p.0 c.in_err-directories.field-0.0 p.1 p.2 c.in_err-directories.was
+    (found_named (IsFaultOfDirectories now.size now.contents marks (map master_view c.entries.result.now))
+    (NamesInSpace now.size) (SettledRefuses s.size s.contents) c.read_directories.result
+    (λ error met inside. directories_fault s.size s.contents c.args.first (nodes_of chain.blocks chain.entries)
+    chain.entries marks error home (c.in_ok-master.ensures.walk (c.read_directories.ensures.same.was_honest h))
+    (chain_items master_words (IsMasterEntryOf 1) chain c.in_ok-master.ensures.chain)
+    (λ n. c.in_ok-master.ensures.marked n ∙ ap (times n) (sym (numbers_of chain.blocks chain.entries)))
     (subst (λ (n : ℕ). NamesInSpace n error) c.load_master.ensures.same.size inside)
-    (subst (λ (es : List MasterEntry). IsFaultOfDirectories s.size s.contents marks es error) (ap (map master_view) c.entries.ensures.value)
+    (subst (λ (es : List MasterEntry). IsFaultOfDirectories s.size s.contents marks es error)
+    (ap (map master_view) c.entries.ensures.value)
     (subst (λ contents. IsFaultOfDirectories s.size contents marks (map master_view c.entries.result.now) error) same
-    (subst (λ (n : ℕ). IsFaultOfDirectories n now.contents marks (map master_view c.entries.result.now) error) c.load_master.ensures.same.size met))))
+    (subst (λ (n : ℕ). IsFaultOfDirectories n now.contents marks (map master_view c.entries.result.now) error)
+    c.load_master.ensures.same.size met))))
     (c.read_directories.ensures.fault h) c.read_directories.ensures.named)
 
 pub returns-in_err-directories-clause-reads : goal.returns-in_err-directories-clause-reads
 returns-in_err-directories-clause-reads g c h =
     let now = g.D.Disk.state c.load_master.new.disk in
     let new = g.D.Disk.state c.read_directories.new.disk in
-    only_reads_on (g.D.Disk.state c.args.disk.now) now new (c.load_master.ensures.reads (c.read_directories.ensures.same.was_honest h)) (reads_of now new (c.read_directories.ensures.keeps h))
+    only_reads_on (g.D.Disk.state c.args.disk.now) now new
+    (c.load_master.ensures.reads (c.read_directories.ensures.same.was_honest h))
+    (reads_of now new (c.read_directories.ensures.keeps h))
 
 pub returns-clause-reads : goal.returns-clause-reads
 returns-clause-reads g c h =
     let now = g.D.Disk.state c.load_master.new.disk in
     let new = g.D.Disk.state c.read_directories.new.disk in
-    only_reads_on (g.D.Disk.state c.args.disk.now) now new (c.load_master.ensures.reads (c.read_directories.ensures.same.was_honest h)) (reads_of now new (c.read_directories.ensures.keeps h))
+    only_reads_on (g.D.Disk.state c.args.disk.now) now new
+    (c.load_master.ensures.reads (c.read_directories.ensures.same.was_honest h))
+    (reads_of now new (c.read_directories.ensures.keeps h))
 
 pub returns-clause-space : goal.returns-clause-space
 returns-clause-space g c =
     let s = g.D.Disk.state c.args.disk.now in
     let now = g.D.Disk.state c.load_master.new.disk in
     let size = c.load_master.ensures.same.size in
-    let before : IsOnlySpace s.size c.load_master.new.reached = λ n some. all_times_at (InSpace s.size) c.in_ok-master.master.blocks n c.in_ok-master.ensures.inside (subst (λ (k : ℕ). 0 < k) (c.in_ok-master.ensures.marked n) some) in
-    subst (λ (k : ℕ). IsOnlySpace k c.read_directories.new.reached) size (c.in_ok-directories.ensures.space (subst (λ (k : ℕ). IsOnlySpace k c.load_master.new.reached) (sym size) before))
+    let before : IsOnlySpace s.size c.load_master.new.reached = λ n some.
+    all_times_at (InSpace s.size) c.in_ok-master.master.blocks n c.in_ok-master.ensures.inside
+    (subst (λ (k : ℕ). 0 < k) (c.in_ok-master.ensures.marked n) some) in
+    subst (λ (k : ℕ). IsOnlySpace k c.read_directories.new.reached) size
+    (c.in_ok-directories.ensures.space (subst (λ (k : ℕ). IsOnlySpace k c.load_master.new.reached) (sym size) before))
 
 pub returns-in_err-master-clause-named : goal.returns-in_err-master-clause-named
 returns-in_err-master-clause-named g c =
     let p = err_from_is_err_and c.from_residual.result c.from_residual.ensures.1 in
-    handed (NamesInSpace (g.D.Disk.state c.args.disk.now).size) c.from_residual.result c.load_master.result p.0 c.in_err-master.field-0.0 p.1 p.2 c.in_err-master.was c.load_master.ensures.named
+    handed (NamesInSpace (g.D.Disk.state c.args.disk.now).size) c.from_residual.result c.load_master.result
+    p.0 c.in_err-master.field-0.0 p.1 p.2 c.in_err-master.was c.load_master.ensures.named
 
 pub returns-in_err-directories-clause-named : goal.returns-in_err-directories-clause-named
 returns-in_err-directories-clause-named g c =
     let size = (g.D.Disk.state c.args.disk.now).size in
-    let p = err_from_is_err_and c.from_residual-in_err-directories.result c.from_residual-in_err-directories.ensures.1 in
-    handed (NamesInSpace size) c.from_residual-in_err-directories.result c.read_directories.result p.0 c.in_err-directories.field-0.0 p.1 p.2 c.in_err-directories.was
-    (named_on (g.D.Disk.state c.load_master.new.disk).size size c.read_directories.result c.load_master.ensures.same.size c.read_directories.ensures.named)
+    let p = err_from_is_err_and c.from_residual-in_err-directories.result
+    c.from_residual-in_err-directories.ensures.1 in
+    handed (NamesInSpace size) c.from_residual-in_err-directories.result c.read_directories.result p.0
+    c.in_err-directories.field-0.0 p.1 p.2 c.in_err-directories.was
+    (named_on (g.D.Disk.state c.load_master.new.disk).size size c.read_directories.result
+    c.load_master.ensures.same.size c.read_directories.ensures.named)

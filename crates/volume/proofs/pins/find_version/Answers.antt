@@ -15,8 +15,11 @@ index-requires c =
     let entries = length-map m.master.entries master_view in
     let directories = length-map m.directories.items (live_directory live) in
     let aligned = c.requires.whole.map.aligned in
-    let keyed = keyed_at live (live_directory live) (λ d. d.keys.items) m.directories.items c.in_ok-place.place c.index-directory.result.now c.index-directory.result.now c.requires.whole.keyed (omega arith) c.index-directory.ensures in
-    let many = as_many live (map file_view c.index-directory.result.now.chain.entries) c.index-directory.result.now.keys.items keyed in
+    let keyed = keyed_at live (live_directory live) (λ d. d.keys.items) m.directories.items c.in_ok-place.place
+    c.index-directory.result.now c.index-directory.result.now c.requires.whole.keyed
+    (omega arith) c.index-directory.ensures in
+    let many = as_many live (map file_view c.index-directory.result.now.chain.entries)
+    c.index-directory.result.now.keys.items keyed in
     let same = length-map c.index-directory.result.now.chain.entries file_view in
     let inside = c.in-Some.ensures.found.1.within in
     omega arith
@@ -30,17 +33,21 @@ returns-in-Some-clause-found c =
     let entries = length-map m.master.entries master_view in
     let directories = length-map m.directories.items (live_directory live) in
     let aligned = c.requires.whole.map.aligned in
-    let keyed = keyed_at live (live_directory live) (λ d. d.keys.items) m.directories.items c.in_ok-place.place d d c.requires.whole.keyed (omega arith) c.index-directory.ensures in
+    let keyed = keyed_at live (live_directory live) (λ d. d.keys.items) m.directories.items c.in_ok-place.place
+    d d c.requires.whole.keyed (omega arith) c.index-directory.ensures in
     let inside = c.in-Some.ensures.found.1.within in
     let at = c.in-Some.ensures.found in
-    let kept = kept_at live (map file_view d.chain.entries) d.keys.items c.in-Some.i c.index.result.now c.index.result.now keyed inside c.index.ensures in
-    let current = current_at live (map file_view d.chain.entries) d.keys.items c.in-Some.i c.index.result.now c.index.result.now (c.args.name.now, at.0) keyed at.1.is c.index.ensures in
+    let kept = kept_at live (map file_view d.chain.entries) d.keys.items c.in-Some.i c.index.result.now
+    c.index.result.now keyed inside c.index.ensures in
+    let current = current_at live (map file_view d.chain.entries) d.keys.items c.in-Some.i c.index.result.now
+    c.index.result.now (c.args.name.now, at.0) keyed at.1.is c.index.ensures in
     record {
       place = c.in_ok-place.place;
       word = c.in_ok-place.ensures.found.0;
       there = c.in_ok-place.ensures.found.1;
       directory = live_directory live d;
-      directory_at = placed (live_directory live) m.directories.items (map master_view m.master.entries) c.in_ok-place.place d within aligned c.index-directory.ensures;
+      directory_at = placed (live_directory live) m.directories.items (map master_view m.master.entries)
+          c.in_ok-place.place d within aligned c.index-directory.ensures;
       index = c.in-Some.i;
       prime = at.0;
       at = at.1;
@@ -61,7 +68,8 @@ returns-in-None-clause-none c =
       found.0,
       found.1,
       live_directory live c.index-directory.result.now,
-      placed (live_directory live) m.directories.items (map master_view m.master.entries) c.in_ok-place.place c.index-directory.result.now found.1.within c.requires.whole.map.aligned c.index-directory.ensures,
+      placed (live_directory live) m.directories.items (map master_view m.master.entries) c.in_ok-place.place
+          c.index-directory.result.now found.1.within c.requires.whole.map.aligned c.index-directory.ensures,
       c.in-None.ensures.none,
       refl,
     )

@@ -5,8 +5,11 @@ use Rattle.volume.specs.Live.{pending_at}
 use Rattle.volume.specs.LiveCores.{core_of}
 use Rattle.volume.specs.Rest.{IsSound}
 use Rattle.volume.proofs.PuttingCore.{some_of}
-use Rattle.volume.proofs.PublishingBlocks.{made_current_of, retrieval_inside, retrieval_apart, retrieval_nonzero, version_words, version_enough, version_fits, puts_in_range}
-use Rattle.volume.proofs.PublishingTransactions.{ok_is, mid_shut, written_failed, written_crash, committed_crash, committed_done, committed_readers, committed_writers, committed_failed, committed_sound}
+use Rattle.volume.proofs.PublishingBlocks.{made_current_of, retrieval_inside, retrieval_apart, retrieval_nonzero}
+use Rattle.volume.proofs.PublishingBlocks.{version_words, version_enough, version_fits, puts_in_range}
+use Rattle.volume.proofs.PublishingTransactions.{ok_is, mid_shut, written_failed, written_crash, committed_crash}
+use Rattle.volume.proofs.PublishingTransactions.{committed_done, committed_readers, committed_writers, committed_failed}
+use Rattle.volume.proofs.PublishingTransactions.{committed_sound}
 use Rattle.volume.proofs.publish.publish_written.Goals as goal
 
 pub write_retrieval_blocks-written-requires-clause-inside :
@@ -18,7 +21,9 @@ write_retrieval_blocks-written-requires-clause-inside g c =
     let puts = c.make_current-current.new.set in
     let v = c.in-Some.version.now in
     let there = some_of (pending_at core.pending c.args.key) c.requires.there in
-    let made_current = made_current_of s.size core.known.table.size core new c.args.key there.0 v puts c.make_current-current.result c.requires.sound.whole.map.size_is (c.make_current-current.ensures there.0 there.1) c.in-Some.ensures in
+    let made_current = made_current_of s.size core.known.table.size core new c.args.key there.0 v puts
+    c.make_current-current.result c.requires.sound.whole.map.size_is (c.make_current-current.ensures there.0 there.1)
+    c.in-Some.ensures in
     retrieval_inside s.size core new c.args.key there.0 v puts c.requires.sound.whole made_current
 
 pub write_retrieval_blocks-written-requires-clause-apart :
@@ -30,7 +35,9 @@ write_retrieval_blocks-written-requires-clause-apart g c =
     let puts = c.make_current-current.new.set in
     let v = c.in-Some.version.now in
     let there = some_of (pending_at core.pending c.args.key) c.requires.there in
-    let made_current = made_current_of s.size core.known.table.size core new c.args.key there.0 v puts c.make_current-current.result c.requires.sound.whole.map.size_is (c.make_current-current.ensures there.0 there.1) c.in-Some.ensures in
+    let made_current = made_current_of s.size core.known.table.size core new c.args.key there.0 v puts
+    c.make_current-current.result c.requires.sound.whole.map.size_is (c.make_current-current.ensures there.0 there.1)
+    c.in-Some.ensures in
     retrieval_apart s.size core new c.args.key there.0 v puts c.requires.sound.whole made_current
 
 pub write_retrieval_blocks-written-requires-clause-nonzero :
@@ -42,7 +49,9 @@ write_retrieval_blocks-written-requires-clause-nonzero g c =
     let puts = c.make_current-current.new.set in
     let v = c.in-Some.version.now in
     let there = some_of (pending_at core.pending c.args.key) c.requires.there in
-    let made_current = made_current_of s.size core.known.table.size core new c.args.key there.0 v puts c.make_current-current.result c.requires.sound.whole.map.size_is (c.make_current-current.ensures there.0 there.1) c.in-Some.ensures in
+    let made_current = made_current_of s.size core.known.table.size core new c.args.key there.0 v puts
+    c.make_current-current.result c.requires.sound.whole.map.size_is (c.make_current-current.ensures there.0 there.1)
+    c.in-Some.ensures in
     retrieval_nonzero s.size core new c.args.key there.0 v puts c.requires.sound.whole made_current
 
 pub write_retrieval_blocks-written-requires-clause-words :
@@ -54,7 +63,9 @@ write_retrieval_blocks-written-requires-clause-words g c =
     let puts = c.make_current-current.new.set in
     let v = c.in-Some.version.now in
     let there = some_of (pending_at core.pending c.args.key) c.requires.there in
-    let made_current = made_current_of s.size core.known.table.size core new c.args.key there.0 v puts c.make_current-current.result c.requires.sound.whole.map.size_is (c.make_current-current.ensures there.0 there.1) c.in-Some.ensures in
+    let made_current = made_current_of s.size core.known.table.size core new c.args.key there.0 v puts
+    c.make_current-current.result c.requires.sound.whole.map.size_is (c.make_current-current.ensures there.0 there.1)
+    c.in-Some.ensures in
     version_words s.size core new c.args.key there.0 v puts c.requires.sound.whole made_current
 
 pub write_retrieval_blocks-written-requires-clause-enough :
@@ -66,7 +77,9 @@ write_retrieval_blocks-written-requires-clause-enough g c =
     let puts = c.make_current-current.new.set in
     let v = c.in-Some.version.now in
     let there = some_of (pending_at core.pending c.args.key) c.requires.there in
-    let made_current = made_current_of s.size core.known.table.size core new c.args.key there.0 v puts c.make_current-current.result c.requires.sound.whole.map.size_is (c.make_current-current.ensures there.0 there.1) c.in-Some.ensures in
+    let made_current = made_current_of s.size core.known.table.size core new c.args.key there.0 v puts
+    c.make_current-current.result c.requires.sound.whole.map.size_is (c.make_current-current.ensures there.0 there.1)
+    c.in-Some.ensures in
     version_enough s.size core new c.args.key there.0 v puts c.requires.sound.whole made_current
 
 pub write_retrieval_blocks-written-requires-clause-fit :
@@ -78,7 +91,9 @@ write_retrieval_blocks-written-requires-clause-fit g c =
     let puts = c.make_current-current.new.set in
     let v = c.in-Some.version.now in
     let there = some_of (pending_at core.pending c.args.key) c.requires.there in
-    let made_current = made_current_of s.size core.known.table.size core new c.args.key there.0 v puts c.make_current-current.result c.requires.sound.whole.map.size_is (c.make_current-current.ensures there.0 there.1) c.in-Some.ensures in
+    let made_current = made_current_of s.size core.known.table.size core new c.args.key there.0 v puts
+    c.make_current-current.result c.requires.sound.whole.map.size_is (c.make_current-current.ensures there.0 there.1)
+    c.in-Some.ensures in
     version_fits s.size core new c.args.key there.0 v puts c.requires.sound.whole made_current
 
 pub returns-then-is_err-clause-sound : goal.returns-then-is_err-clause-sound
@@ -90,8 +105,11 @@ returns-then-is_err-clause-sound g c =
     let puts = c.make_current-current.new.set in
     let v = c.in-Some.version.now in
     let there = some_of (pending_at core.pending c.args.key) c.requires.there in
-    let made_current = made_current_of s.size core.known.table.size core new c.args.key there.0 v puts c.make_current-current.result c.requires.sound.whole.map.size_is (c.make_current-current.ensures there.0 there.1) c.in-Some.ensures in
-    written_failed s mid core new c.args.key there.0 v puts c.requires.sound made_current c.write_retrieval_blocks-written.ensures.same
+    let made_current = made_current_of s.size core.known.table.size core new c.args.key there.0 v puts
+    c.make_current-current.result c.requires.sound.whole.map.size_is (c.make_current-current.ensures there.0 there.1)
+    c.in-Some.ensures in
+    written_failed s mid core new c.args.key there.0 v puts c.requires.sound made_current
+    c.write_retrieval_blocks-written.ensures.same
 
 pub returns-then-is_err-clause-crash : goal.returns-then-is_err-clause-crash
 returns-then-is_err-clause-crash g c h f rests p is body long has =
@@ -101,8 +119,13 @@ returns-then-is_err-clause-crash g c h f rests p is body long has =
     let new = core_of c.make_current-current.new.core in
     let puts = c.make_current-current.new.set in
     let v = c.in-Some.version.now in
-    let made_current = made_current_of s.size core.known.table.size core new c.args.key p v puts c.make_current-current.result c.requires.sound.whole.map.size_is (c.make_current-current.ensures p is) c.in-Some.ensures in
-    written_crash s mid core new c.args.key p v puts c.requires.sound made_current c.write_retrieval_blocks-written.ensures.same (c.write_retrieval_blocks-written.ensures.same.was_honest h) (c.write_retrieval_blocks-written.ensures.modified h) f _ rests (λ d left. g.met.D.Disk.only_now c.args.disk.now d (c.write_retrieval_blocks-written.ensures.same.was_honest h) left)
+    let made_current = made_current_of s.size core.known.table.size core new c.args.key p v puts
+    c.make_current-current.result c.requires.sound.whole.map.size_is (c.make_current-current.ensures p is)
+    c.in-Some.ensures in
+    written_crash s mid core new c.args.key p v puts c.requires.sound made_current
+    c.write_retrieval_blocks-written.ensures.same (c.write_retrieval_blocks-written.ensures.same.was_honest h)
+    (c.write_retrieval_blocks-written.ensures.modified h) f _ rests (λ d left. g.met.D.Disk.only_now c.args.disk.now d
+    (c.write_retrieval_blocks-written.ensures.same.was_honest h) left)
 
 pub returns-then-is_err-clause-readers : goal.returns-then-is_err-clause-readers
 returns-then-is_err-clause-readers g c h served = absurd (served refl)
@@ -119,8 +142,12 @@ commit_puts-requires-clause-in_range g c =
     let puts = c.make_current-current.new.set in
     let v = c.in-Some.version.now in
     let there = some_of (pending_at core.pending c.args.key) c.requires.there in
-    let made_current = made_current_of s.size core.known.table.size core new c.args.key there.0 v puts c.make_current-current.result c.requires.sound.whole.map.size_is (c.make_current-current.ensures there.0 there.1) c.in-Some.ensures in
-    subst (λ (n : ℕ). AllByRecursion (IsTarget n) (targets puts)) (sym c.write_retrieval_blocks-written.ensures.same.size) (puts_in_range s.size core new c.args.key there.0 v puts c.requires.sound.whole made_current)
+    let made_current = made_current_of s.size core.known.table.size core new c.args.key there.0 v puts
+    c.make_current-current.result c.requires.sound.whole.map.size_is (c.make_current-current.ensures there.0 there.1)
+    c.in-Some.ensures in
+    subst (λ (n : ℕ). AllByRecursion (IsTarget n) (targets puts))
+    (sym c.write_retrieval_blocks-written.ensures.same.size)
+    (puts_in_range s.size core new c.args.key there.0 v puts c.requires.sound.whole made_current)
 
 pub returns-in-Ok-clause-sound : goal.returns-in-Ok-clause-sound
 returns-in-Ok-clause-sound g c =
@@ -132,10 +159,15 @@ returns-in-Ok-clause-sound g c =
     let puts = c.make_current-current.new.set in
     let v = c.in-Some.version.now in
     let there = some_of (pending_at core.pending c.args.key) c.requires.there in
-    let made_current = made_current_of s.size core.known.table.size core new c.args.key there.0 v puts c.make_current-current.result c.requires.sound.whole.map.size_is (c.make_current-current.ensures there.0 there.1) c.in-Some.ensures in
+    let made_current = made_current_of s.size core.known.table.size core new c.args.key there.0 v puts
+    c.make_current-current.result c.requires.sound.whole.map.size_is (c.make_current-current.ensures there.0 there.1)
+    c.in-Some.ensures in
     subst (λ (b : Bool). IsSound s' new b) (sym c.requires.alive)
-    (committed_sound s mid s' core new c.args.key there.0 v puts c.requires.sound made_current c.write_retrieval_blocks-written.ensures.same c.commit_puts.ensures.same c.write_retrieval_blocks-written.ensures.modified
-    (λ h. ok_is c.write_retrieval_blocks-written.result _ (sym c.is_err.ensures.value ∙ c.if-is_err.false) (c.write_retrieval_blocks-written.ensures.written h))
+    (committed_sound s mid s' core new c.args.key there.0 v puts c.requires.sound made_current
+    c.write_retrieval_blocks-written.ensures.same c.commit_puts.ensures.same
+    c.write_retrieval_blocks-written.ensures.modified
+    (λ h. ok_is c.write_retrieval_blocks-written.result _ (sym c.is_err.ensures.value
+    ∙ c.if-is_err.false) (c.write_retrieval_blocks-written.ensures.written h))
     c.in-Ok.ensures.modified c.in-Ok.ensures.all c.in-Ok.ensures.settled c.in-Ok.ensures.shut)
 
 pub returns-in-Ok-clause-crash : goal.returns-in-Ok-clause-crash
@@ -147,10 +179,21 @@ returns-in-Ok-clause-crash g c h f rests p is body long has =
     let new = core_of c.make_current-current.new.core in
     let puts = c.make_current-current.new.set in
     let v = c.in-Some.version.now in
-    let made_current = made_current_of s.size core.known.table.size core new c.args.key p v puts c.make_current-current.result c.requires.sound.whole.map.size_is (c.make_current-current.ensures p is) c.in-Some.ensures in
-    let retrieved = ok_is c.write_retrieval_blocks-written.result _ (sym c.is_err.ensures.value ∙ c.if-is_err.false) (c.write_retrieval_blocks-written.ensures.written (c.commit_puts.ensures.same.was_honest h)) in
-    let shut = mid_shut s mid core new c.args.key p v puts c.requires.sound made_current c.write_retrieval_blocks-written.ensures.same (c.write_retrieval_blocks-written.ensures.same.was_honest (c.commit_puts.ensures.same.was_honest h)) (c.write_retrieval_blocks-written.ensures.modified (c.commit_puts.ensures.same.was_honest h)) in
-    committed_crash s mid core new c.args.key p v puts c.requires.sound made_current c.write_retrieval_blocks-written.ensures.same (c.write_retrieval_blocks-written.ensures.same.was_honest (c.commit_puts.ensures.same.was_honest h)) (c.write_retrieval_blocks-written.ensures.modified (c.commit_puts.ensures.same.was_honest h)) retrieved body long has s' (c.commit_puts.ensures.crash h shut) f rests (λ d left. g.met.D.Disk.only_now c.args.disk.now d (c.write_retrieval_blocks-written.ensures.same.was_honest (c.commit_puts.ensures.same.was_honest h)) left)
+    let made_current = made_current_of s.size core.known.table.size core new c.args.key p v puts
+    c.make_current-current.result c.requires.sound.whole.map.size_is (c.make_current-current.ensures p is)
+    c.in-Some.ensures in
+    let retrieved = ok_is c.write_retrieval_blocks-written.result _ (sym c.is_err.ensures.value ∙ c.if-is_err.false)
+    (c.write_retrieval_blocks-written.ensures.written (c.commit_puts.ensures.same.was_honest h)) in
+    let shut = mid_shut s mid core new c.args.key p v puts c.requires.sound made_current
+    c.write_retrieval_blocks-written.ensures.same
+    (c.write_retrieval_blocks-written.ensures.same.was_honest (c.commit_puts.ensures.same.was_honest h))
+    (c.write_retrieval_blocks-written.ensures.modified (c.commit_puts.ensures.same.was_honest h)) in
+    committed_crash s mid core new c.args.key p v puts c.requires.sound made_current
+    c.write_retrieval_blocks-written.ensures.same
+    (c.write_retrieval_blocks-written.ensures.same.was_honest (c.commit_puts.ensures.same.was_honest h))
+    (c.write_retrieval_blocks-written.ensures.modified (c.commit_puts.ensures.same.was_honest h)) retrieved
+    body long has s' (c.commit_puts.ensures.crash h shut) f rests (λ d left. g.met.D.Disk.only_now c.args.disk.now d
+    (c.write_retrieval_blocks-written.ensures.same.was_honest (c.commit_puts.ensures.same.was_honest h)) left)
 
 pub returns-in-Err-clause-crash : goal.returns-in-Err-clause-crash
 returns-in-Err-clause-crash g c h f rests p is body long has =
@@ -161,10 +204,21 @@ returns-in-Err-clause-crash g c h f rests p is body long has =
     let new = core_of c.make_current-current.new.core in
     let puts = c.make_current-current.new.set in
     let v = c.in-Some.version.now in
-    let made_current = made_current_of s.size core.known.table.size core new c.args.key p v puts c.make_current-current.result c.requires.sound.whole.map.size_is (c.make_current-current.ensures p is) c.in-Some.ensures in
-    let retrieved = ok_is c.write_retrieval_blocks-written.result _ (sym c.is_err.ensures.value ∙ c.if-is_err.false) (c.write_retrieval_blocks-written.ensures.written (c.commit_puts.ensures.same.was_honest h)) in
-    let shut = mid_shut s mid core new c.args.key p v puts c.requires.sound made_current c.write_retrieval_blocks-written.ensures.same (c.write_retrieval_blocks-written.ensures.same.was_honest (c.commit_puts.ensures.same.was_honest h)) (c.write_retrieval_blocks-written.ensures.modified (c.commit_puts.ensures.same.was_honest h)) in
-    committed_crash s mid core new c.args.key p v puts c.requires.sound made_current c.write_retrieval_blocks-written.ensures.same (c.write_retrieval_blocks-written.ensures.same.was_honest (c.commit_puts.ensures.same.was_honest h)) (c.write_retrieval_blocks-written.ensures.modified (c.commit_puts.ensures.same.was_honest h)) retrieved body long has s' (c.commit_puts.ensures.crash h shut) f rests (λ d left. g.met.D.Disk.only_now c.args.disk.now d (c.write_retrieval_blocks-written.ensures.same.was_honest (c.commit_puts.ensures.same.was_honest h)) left)
+    let made_current = made_current_of s.size core.known.table.size core new c.args.key p v puts
+    c.make_current-current.result c.requires.sound.whole.map.size_is (c.make_current-current.ensures p is)
+    c.in-Some.ensures in
+    let retrieved = ok_is c.write_retrieval_blocks-written.result _ (sym c.is_err.ensures.value ∙ c.if-is_err.false)
+    (c.write_retrieval_blocks-written.ensures.written (c.commit_puts.ensures.same.was_honest h)) in
+    let shut = mid_shut s mid core new c.args.key p v puts c.requires.sound made_current
+    c.write_retrieval_blocks-written.ensures.same
+    (c.write_retrieval_blocks-written.ensures.same.was_honest (c.commit_puts.ensures.same.was_honest h))
+    (c.write_retrieval_blocks-written.ensures.modified (c.commit_puts.ensures.same.was_honest h)) in
+    committed_crash s mid core new c.args.key p v puts c.requires.sound made_current
+    c.write_retrieval_blocks-written.ensures.same
+    (c.write_retrieval_blocks-written.ensures.same.was_honest (c.commit_puts.ensures.same.was_honest h))
+    (c.write_retrieval_blocks-written.ensures.modified (c.commit_puts.ensures.same.was_honest h)) retrieved
+    body long has s' (c.commit_puts.ensures.crash h shut) f rests (λ d left. g.met.D.Disk.only_now c.args.disk.now d
+    (c.write_retrieval_blocks-written.ensures.same.was_honest (c.commit_puts.ensures.same.was_honest h)) left)
 
 pub returns-in-Ok-clause-done : goal.returns-in-Ok-clause-done
 returns-in-Ok-clause-done g c h f rests p is body long has =
@@ -175,10 +229,21 @@ returns-in-Ok-clause-done g c h f rests p is body long has =
     let new = core_of c.make_current-current.new.core in
     let puts = c.make_current-current.new.set in
     let v = c.in-Some.version.now in
-    let made_current = made_current_of s.size core.known.table.size core new c.args.key p v puts c.make_current-current.result c.requires.sound.whole.map.size_is (c.make_current-current.ensures p is) c.in-Some.ensures in
-    let retrieved = ok_is c.write_retrieval_blocks-written.result _ (sym c.is_err.ensures.value ∙ c.if-is_err.false) (c.write_retrieval_blocks-written.ensures.written (c.in-Ok.ensures.same.was_honest h)) in
-    let shut = mid_shut s mid core new c.args.key p v puts c.requires.sound made_current c.write_retrieval_blocks-written.ensures.same (c.write_retrieval_blocks-written.ensures.same.was_honest (c.in-Ok.ensures.same.was_honest h)) (c.write_retrieval_blocks-written.ensures.modified (c.in-Ok.ensures.same.was_honest h)) in
-    committed_done s mid core new c.args.key p v puts c.requires.sound made_current c.write_retrieval_blocks-written.ensures.same (c.write_retrieval_blocks-written.ensures.same.was_honest (c.in-Ok.ensures.same.was_honest h)) (c.write_retrieval_blocks-written.ensures.modified (c.in-Ok.ensures.same.was_honest h)) retrieved body long has s' c.commit_puts.ensures.same (c.in-Ok.ensures.all h) (c.in-Ok.ensures.settled h) (c.in-Ok.ensures.shut h shut) f rests
+    let made_current = made_current_of s.size core.known.table.size core new c.args.key p v puts
+    c.make_current-current.result c.requires.sound.whole.map.size_is (c.make_current-current.ensures p is)
+    c.in-Some.ensures in
+    let retrieved = ok_is c.write_retrieval_blocks-written.result _ (sym c.is_err.ensures.value
+    ∙ c.if-is_err.false) (c.write_retrieval_blocks-written.ensures.written (c.in-Ok.ensures.same.was_honest h)) in
+    let shut = mid_shut s mid core new c.args.key p v puts c.requires.sound made_current
+    c.write_retrieval_blocks-written.ensures.same
+    (c.write_retrieval_blocks-written.ensures.same.was_honest (c.in-Ok.ensures.same.was_honest h))
+    (c.write_retrieval_blocks-written.ensures.modified (c.in-Ok.ensures.same.was_honest h)) in
+    committed_done s mid core new c.args.key p v puts c.requires.sound made_current
+    c.write_retrieval_blocks-written.ensures.same
+    (c.write_retrieval_blocks-written.ensures.same.was_honest (c.in-Ok.ensures.same.was_honest h))
+    (c.write_retrieval_blocks-written.ensures.modified (c.in-Ok.ensures.same.was_honest h)) retrieved body
+    long has s' c.commit_puts.ensures.same (c.in-Ok.ensures.all h) (c.in-Ok.ensures.settled h)
+    (c.in-Ok.ensures.shut h shut) f rests
 
 pub returns-in-Ok-clause-readers : goal.returns-in-Ok-clause-readers
 returns-in-Ok-clause-readers g c h served =
@@ -190,8 +255,14 @@ returns-in-Ok-clause-readers g c h served =
     let puts = c.make_current-current.new.set in
     let v = c.in-Some.version.now in
     let there = some_of (pending_at core.pending c.args.key) c.requires.there in
-    let made_current = made_current_of s.size core.known.table.size core new c.args.key there.0 v puts c.make_current-current.result c.requires.sound.whole.map.size_is (c.make_current-current.ensures there.0 there.1) c.in-Some.ensures in
-    committed_readers s mid core new c.args.key there.0 v puts c.requires.sound made_current c.write_retrieval_blocks-written.ensures.same (c.write_retrieval_blocks-written.ensures.same.was_honest (c.commit_puts.ensures.same.was_honest h)) (c.write_retrieval_blocks-written.ensures.modified (c.commit_puts.ensures.same.was_honest h)) s' (c.in-Ok.ensures.modified h)
+    let made_current = made_current_of s.size core.known.table.size core new c.args.key there.0 v puts
+    c.make_current-current.result c.requires.sound.whole.map.size_is (c.make_current-current.ensures there.0 there.1)
+    c.in-Some.ensures in
+    committed_readers s mid core new c.args.key there.0 v puts c.requires.sound made_current
+    c.write_retrieval_blocks-written.ensures.same
+    (c.write_retrieval_blocks-written.ensures.same.was_honest (c.commit_puts.ensures.same.was_honest h))
+    (c.write_retrieval_blocks-written.ensures.modified (c.commit_puts.ensures.same.was_honest h)) s'
+    (c.in-Ok.ensures.modified h)
 
 pub returns-in-Ok-clause-writers : goal.returns-in-Ok-clause-writers
 returns-in-Ok-clause-writers g c h served k q other =
@@ -203,8 +274,14 @@ returns-in-Ok-clause-writers g c h served k q other =
     let puts = c.make_current-current.new.set in
     let v = c.in-Some.version.now in
     let there = some_of (pending_at core.pending c.args.key) c.requires.there in
-    let made_current = made_current_of s.size core.known.table.size core new c.args.key there.0 v puts c.make_current-current.result c.requires.sound.whole.map.size_is (c.make_current-current.ensures there.0 there.1) c.in-Some.ensures in
-    committed_writers s mid core new c.args.key there.0 v puts c.requires.sound made_current c.write_retrieval_blocks-written.ensures.same (c.write_retrieval_blocks-written.ensures.same.was_honest (c.commit_puts.ensures.same.was_honest h)) (c.write_retrieval_blocks-written.ensures.modified (c.commit_puts.ensures.same.was_honest h)) s' (c.in-Ok.ensures.modified h) k q
+    let made_current = made_current_of s.size core.known.table.size core new c.args.key there.0 v puts
+    c.make_current-current.result c.requires.sound.whole.map.size_is (c.make_current-current.ensures there.0 there.1)
+    c.in-Some.ensures in
+    committed_writers s mid core new c.args.key there.0 v puts c.requires.sound made_current
+    c.write_retrieval_blocks-written.ensures.same
+    (c.write_retrieval_blocks-written.ensures.same.was_honest (c.commit_puts.ensures.same.was_honest h))
+    (c.write_retrieval_blocks-written.ensures.modified (c.commit_puts.ensures.same.was_honest h)) s'
+    (c.in-Ok.ensures.modified h) k q
 
 pub returns-in-Err-clause-readers : goal.returns-in-Err-clause-readers
 returns-in-Err-clause-readers g c h served = absurd (served refl)
@@ -222,5 +299,8 @@ returns-in-Err-clause-sound g c =
     let puts = c.make_current-current.new.set in
     let v = c.in-Some.version.now in
     let there = some_of (pending_at core.pending c.args.key) c.requires.there in
-    let made_current = made_current_of s.size core.known.table.size core new c.args.key there.0 v puts c.make_current-current.result c.requires.sound.whole.map.size_is (c.make_current-current.ensures there.0 there.1) c.in-Some.ensures in
-    committed_failed s mid s' core new c.args.key there.0 v puts c.requires.sound made_current c.write_retrieval_blocks-written.ensures.same c.commit_puts.ensures.same
+    let made_current = made_current_of s.size core.known.table.size core new c.args.key there.0 v puts
+    c.make_current-current.result c.requires.sound.whole.map.size_is (c.make_current-current.ensures there.0 there.1)
+    c.in-Some.ensures in
+    committed_failed s mid s' core new c.args.key there.0 v puts c.requires.sound made_current
+    c.write_retrieval_blocks-written.ensures.same c.commit_puts.ensures.same

@@ -4,11 +4,13 @@ use Rattle.volume.specs.LiveCores.{core_of}
 use Rattle.volume.specs.Rest.{IsSound}
 use Rattle.volume.specs.declared.pending.PendingVersion.{PendingVersion}
 use Rattle.volume.proofs.PuttingCore.{some_of, ready}
-use Rattle.volume.proofs.PuttingDisk.{keeps_read, keeps_written, none_damaged, put_failed, put_done, crash_finds, rest_finds}
+use Rattle.volume.proofs.PuttingDisk.{keeps_read, keeps_written, none_damaged, put_failed, put_done, crash_finds}
+use Rattle.volume.proofs.PuttingDisk.{rest_finds}
 use Rattle.volume.proofs.put.put_in_core.Goals as goal
 
 pub put_pending-requires-clause-ready : goal.put_pending-requires-clause-ready
-put_pending-requires-clause-ready g c p was = ready (g.D.Disk.state c.args.disk.now).size (core_of c.args.map.now) c.requires.sound.whole c.args.key p was
+put_pending-requires-clause-ready g c p was = ready (g.D.Disk.state c.args.disk.now).size
+    (core_of c.args.map.now) c.requires.sound.whole c.args.key p was
 
 pub returns-in-Err-Device-clause-sound : goal.returns-in-Err-Device-clause-sound
 returns-in-Err-Device-clause-sound g c =
@@ -19,7 +21,9 @@ returns-in-Err-Device-clause-sound g c =
     let there = some_of (pending_at core.pending c.args.key) c.requires.live in
     let p : PendingVersion = there.0 in
     let grown = c.put_pending.ensures.grown p there.1 in
-    put_failed s s' core sound c.put_pending.ensures.same c.args.key p there.1 c.put_pending.new.table c.put_pending.new.pending.slots grown.0 grown.1 c.put_pending.ensures.others (λ h. c.put_pending.ensures.modified h p there.1)
+    put_failed s s' core sound c.put_pending.ensures.same c.args.key p there.1 c.put_pending.new.table
+    c.put_pending.new.pending.slots grown.0 grown.1 c.put_pending.ensures.others
+    (λ h. c.put_pending.ensures.modified h p there.1)
 
 pub returns-in-Err-Device-clause-quiet : goal.returns-in-Err-Device-clause-quiet
 returns-in-Err-Device-clause-quiet g c h f rests =
@@ -30,7 +34,10 @@ returns-in-Err-Device-clause-quiet g c h f rests =
     let there = some_of (pending_at core.pending c.args.key) c.requires.live in
     let p : PendingVersion = there.0 in
     let grown = c.put_pending.ensures.grown p there.1 in
-    crash_finds s s' core sound c.put_pending.ensures.same c.args.key p there.1 c.put_pending.new.table c.put_pending.new.pending.slots grown.0 grown.1 c.put_pending.ensures.others (λ h. c.put_pending.ensures.modified h p there.1) h f rests (λ d left. g.met.D.Disk.only_now c.args.disk.now d (c.put_pending.ensures.same.was_honest h) left)
+    crash_finds s s' core sound c.put_pending.ensures.same c.args.key p there.1 c.put_pending.new.table
+    c.put_pending.new.pending.slots grown.0 grown.1 c.put_pending.ensures.others
+    (λ h. c.put_pending.ensures.modified h p there.1) h f rests
+    (λ d left. g.met.D.Disk.only_now c.args.disk.now d (c.put_pending.ensures.same.was_honest h) left)
 
 pub returns-in-Err-clause-quiet : goal.returns-in-Err-clause-quiet
 returns-in-Err-clause-quiet g c h f rests =
@@ -41,7 +48,10 @@ returns-in-Err-clause-quiet g c h f rests =
     let there = some_of (pending_at core.pending c.args.key) c.requires.live in
     let p : PendingVersion = there.0 in
     let grown = c.put_pending.ensures.grown p there.1 in
-    crash_finds s s' core sound c.put_pending.ensures.same c.args.key p there.1 c.put_pending.new.table c.put_pending.new.pending.slots grown.0 grown.1 c.put_pending.ensures.others (λ h. c.put_pending.ensures.modified h p there.1) h f rests (λ d left. g.met.D.Disk.only_now c.args.disk.now d (c.put_pending.ensures.same.was_honest h) left)
+    crash_finds s s' core sound c.put_pending.ensures.same c.args.key p there.1 c.put_pending.new.table
+    c.put_pending.new.pending.slots grown.0 grown.1 c.put_pending.ensures.others
+    (λ h. c.put_pending.ensures.modified h p there.1) h f rests
+    (λ d left. g.met.D.Disk.only_now c.args.disk.now d (c.put_pending.ensures.same.was_honest h) left)
 
 pub returns-in-Ok-clause-quiet : goal.returns-in-Ok-clause-quiet
 returns-in-Ok-clause-quiet g c h f rests =
@@ -52,7 +62,10 @@ returns-in-Ok-clause-quiet g c h f rests =
     let there = some_of (pending_at core.pending c.args.key) c.requires.live in
     let p : PendingVersion = there.0 in
     let grown = c.put_pending.ensures.grown p there.1 in
-    crash_finds s s' core sound c.put_pending.ensures.same c.args.key p there.1 c.put_pending.new.table c.put_pending.new.pending.slots grown.0 grown.1 c.put_pending.ensures.others (λ h. c.put_pending.ensures.modified h p there.1) h f rests (λ d left. g.met.D.Disk.only_now c.args.disk.now d (c.put_pending.ensures.same.was_honest h) left)
+    crash_finds s s' core sound c.put_pending.ensures.same c.args.key p there.1 c.put_pending.new.table
+    c.put_pending.new.pending.slots grown.0 grown.1 c.put_pending.ensures.others
+    (λ h. c.put_pending.ensures.modified h p there.1) h f rests
+    (λ d left. g.met.D.Disk.only_now c.args.disk.now d (c.put_pending.ensures.same.was_honest h) left)
 
 pub returns-in-Err-Device-clause-rests : goal.returns-in-Err-Device-clause-rests
 returns-in-Err-Device-clause-rests g c h f rests =
@@ -63,7 +76,9 @@ returns-in-Err-Device-clause-rests g c h f rests =
     let there = some_of (pending_at core.pending c.args.key) c.requires.live in
     let p : PendingVersion = there.0 in
     let grown = c.put_pending.ensures.grown p there.1 in
-    rest_finds s s' core sound c.put_pending.ensures.same c.args.key p there.1 c.put_pending.new.table c.put_pending.new.pending.slots grown.0 grown.1 c.put_pending.ensures.others (λ h. c.put_pending.ensures.modified h p there.1) h f rests
+    rest_finds s s' core sound c.put_pending.ensures.same c.args.key p there.1 c.put_pending.new.table
+    c.put_pending.new.pending.slots grown.0 grown.1 c.put_pending.ensures.others
+    (λ h. c.put_pending.ensures.modified h p there.1) h f rests
 
 pub returns-in-Ok-clause-rests : goal.returns-in-Ok-clause-rests
 returns-in-Ok-clause-rests g c h f rests =
@@ -74,7 +89,9 @@ returns-in-Ok-clause-rests g c h f rests =
     let there = some_of (pending_at core.pending c.args.key) c.requires.live in
     let p : PendingVersion = there.0 in
     let grown = c.put_pending.ensures.grown p there.1 in
-    rest_finds s s' core sound c.put_pending.ensures.same c.args.key p there.1 c.put_pending.new.table c.put_pending.new.pending.slots grown.0 grown.1 c.put_pending.ensures.others (λ h. c.put_pending.ensures.modified h p there.1) h f rests
+    rest_finds s s' core sound c.put_pending.ensures.same c.args.key p there.1 c.put_pending.new.table
+    c.put_pending.new.pending.slots grown.0 grown.1 c.put_pending.ensures.others
+    (λ h. c.put_pending.ensures.modified h p there.1) h f rests
 
 pub returns-in-Err-Device-clause-given_up : goal.returns-in-Err-Device-clause-given_up
 returns-in-Err-Device-clause-given_up g c gone =
@@ -87,7 +104,8 @@ returns-in-Err-Device-clause-given_up g c gone =
     let grown = c.put_pending.ensures.grown p there.1 in
     inr (λ h.
     let bad = c.in-Err-Device.ensures.damaged h p there.1 gone in
-    none_damaged s.contents p.version (sound.written (c.put_pending.ensures.same.was_honest h) refl c.args.key p there.1) bad.0 bad.1 bad.2)
+    none_damaged s.contents p.version
+    (sound.written (c.put_pending.ensures.same.was_honest h) refl c.args.key p there.1) bad.0 bad.1 bad.2)
 
 pub returns-in-Ok-clause-sound : goal.returns-in-Ok-clause-sound
 returns-in-Ok-clause-sound g c =
@@ -98,10 +116,13 @@ returns-in-Ok-clause-sound g c =
     let there = some_of (pending_at core.pending c.args.key) c.requires.live in
     let p : PendingVersion = there.0 in
     let grown = c.put_pending.ensures.grown p there.1 in
-    let new = core_of (record c.args.map.now { pending = c.put_pending.new.pending; table = c.put_pending.new.table }) in
+    let new = core_of
+    (record c.args.map.now { pending = c.put_pending.new.pending; table = c.put_pending.new.table }) in
     let put = c.in-Ok.ensures.put p there.1 in
     subst (λ (b : Bool). IsSound s' new b) (sym c.if-failed.false)
-    (put_done s s' core sound c.put_pending.ensures.same c.args.key p there.1 c.put_pending.new.table c.put_pending.new.pending.slots grown.0 grown.1 c.put_pending.ensures.others (λ h. c.put_pending.ensures.modified h p there.1) put.0 c.args.block c.args.words.now put.1 put.2 put.3)
+    (put_done s s' core sound c.put_pending.ensures.same c.args.key p there.1 c.put_pending.new.table
+    c.put_pending.new.pending.slots grown.0 grown.1 c.put_pending.ensures.others
+    (λ h. c.put_pending.ensures.modified h p there.1) put.0 c.args.block c.args.words.now put.1 put.2 put.3)
 
 pub returns-in-Err-Device-clause-readers : goal.returns-in-Err-Device-clause-readers
 returns-in-Err-Device-clause-readers g c h =
@@ -110,7 +131,8 @@ returns-in-Err-Device-clause-readers g c h =
     let core = core_of c.args.map.now in
     let there = some_of (pending_at core.pending c.args.key) c.requires.live in
     let p : PendingVersion = there.0 in
-    keeps_read s.size core c.requires.sound.whole c.args.key p there.1 s.contents s'.contents (c.put_pending.ensures.modified h p there.1).contents
+    keeps_read s.size core c.requires.sound.whole c.args.key p there.1 s.contents s'.contents
+    (c.put_pending.ensures.modified h p there.1).contents
 
 pub returns-in-Err-Device-clause-writers : goal.returns-in-Err-Device-clause-writers
 returns-in-Err-Device-clause-writers g c h =
@@ -119,7 +141,8 @@ returns-in-Err-Device-clause-writers g c h =
     let core = core_of c.args.map.now in
     let there = some_of (pending_at core.pending c.args.key) c.requires.live in
     let p : PendingVersion = there.0 in
-    keeps_written s.size core c.requires.sound.whole c.args.key p there.1 s.contents s'.contents (c.put_pending.ensures.modified h p there.1).contents
+    keeps_written s.size core c.requires.sound.whole c.args.key p there.1 s.contents s'.contents
+    (c.put_pending.ensures.modified h p there.1).contents
 
 pub returns-in-Err-clause-readers : goal.returns-in-Err-clause-readers
 returns-in-Err-clause-readers g c h =
@@ -128,7 +151,8 @@ returns-in-Err-clause-readers g c h =
     let core = core_of c.args.map.now in
     let there = some_of (pending_at core.pending c.args.key) c.requires.live in
     let p : PendingVersion = there.0 in
-    keeps_read s.size core c.requires.sound.whole c.args.key p there.1 s.contents s'.contents (c.put_pending.ensures.modified h p there.1).contents
+    keeps_read s.size core c.requires.sound.whole c.args.key p there.1 s.contents s'.contents
+    (c.put_pending.ensures.modified h p there.1).contents
 
 pub returns-in-Err-clause-writers : goal.returns-in-Err-clause-writers
 returns-in-Err-clause-writers g c h =
@@ -137,7 +161,8 @@ returns-in-Err-clause-writers g c h =
     let core = core_of c.args.map.now in
     let there = some_of (pending_at core.pending c.args.key) c.requires.live in
     let p : PendingVersion = there.0 in
-    keeps_written s.size core c.requires.sound.whole c.args.key p there.1 s.contents s'.contents (c.put_pending.ensures.modified h p there.1).contents
+    keeps_written s.size core c.requires.sound.whole c.args.key p there.1 s.contents s'.contents
+    (c.put_pending.ensures.modified h p there.1).contents
 
 pub returns-in-Ok-clause-readers : goal.returns-in-Ok-clause-readers
 returns-in-Ok-clause-readers g c h =
@@ -146,7 +171,8 @@ returns-in-Ok-clause-readers g c h =
     let core = core_of c.args.map.now in
     let there = some_of (pending_at core.pending c.args.key) c.requires.live in
     let p : PendingVersion = there.0 in
-    keeps_read s.size core c.requires.sound.whole c.args.key p there.1 s.contents s'.contents (c.put_pending.ensures.modified h p there.1).contents
+    keeps_read s.size core c.requires.sound.whole c.args.key p there.1 s.contents s'.contents
+    (c.put_pending.ensures.modified h p there.1).contents
 
 pub returns-in-Ok-clause-writers : goal.returns-in-Ok-clause-writers
 returns-in-Ok-clause-writers g c h =
@@ -155,4 +181,5 @@ returns-in-Ok-clause-writers g c h =
     let core = core_of c.args.map.now in
     let there = some_of (pending_at core.pending c.args.key) c.requires.live in
     let p : PendingVersion = there.0 in
-    keeps_written s.size core c.requires.sound.whole c.args.key p there.1 s.contents s'.contents (c.put_pending.ensures.modified h p there.1).contents
+    keeps_written s.size core c.requires.sound.whole c.args.key p there.1 s.contents s'.contents
+    (c.put_pending.ensures.modified h p there.1).contents

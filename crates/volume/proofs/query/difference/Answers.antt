@@ -15,8 +15,11 @@ pub overflow_cast-result : goal.overflow_cast-result
 overflow_cast-result c = fits_pos c.args.less c.requires
 
 pub overflow_sub-result : goal.overflow_sub-result
-overflow_sub-result c = subst (FitsSigned w64) (sym (plain c.args.blocks c.args.less c.from.result c.from.ensures c.ranges.blocks.fits c.requires)) (fits_difference c.args.blocks c.args.less c.ranges.blocks.fits c.requires)
+overflow_sub-result c = subst (FitsSigned w64)
+    (sym (plain c.args.blocks c.args.less c.from.result c.from.ensures c.ranges.blocks.fits c.requires))
+    (fits_difference c.args.blocks c.args.less c.ranges.blocks.fits c.requires)
 
 pub returns : goal.returns
 returns c =
-    to_z-of_z w64 _ (overflow_sub-result c) ∙ plain c.args.blocks c.args.less c.from.result c.from.ensures c.ranges.blocks.fits c.requires
+    to_z-of_z w64 _ (overflow_sub-result c)
+    ∙ plain c.args.blocks c.args.less c.from.result c.from.ensures c.ranges.blocks.fits c.requires

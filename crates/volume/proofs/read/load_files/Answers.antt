@@ -8,7 +8,8 @@ returns-in-Err-BadDirectory-clause-fault g c h ppn = c.load.ensures.bad h c.in-E
 pub returns-in-Err-BlockTwice-clause-fault : goal.returns-in-Err-BlockTwice-clause-fault
 returns-in-Err-BlockTwice-clause-fault g c h ppn =
     let s = g.D.Disk.state c.args.disk.now in
-    chain_twice s.size s.contents c.args.reached.now ppn c.args.first c.in-Err-BlockTwice.n (c.load.ensures.twice h c.in-Err-BlockTwice.n (cc))
+    chain_twice s.size s.contents c.args.reached.now ppn c.args.first c.in-Err-BlockTwice.n
+    (c.load.ensures.twice h c.in-Err-BlockTwice.n (cc))
 
 pub returns-in-Err-BadDirectory-clause-named : goal.returns-in-Err-BadDirectory-clause-named
 returns-in-Err-BadDirectory-clause-named g c = c.load.ensures.named c.in-Err-BadDirectory.n (inl (cc))

@@ -24,7 +24,8 @@ pub add_directory-requires-clause-inside : goal.add_directory-requires-clause-in
 add_directory-requires-clause-inside g c =
     let s = g.D.Disk.state c.args.disk.now in
     subst (λ (n : ℕ). InSpace n c.entry-item.result.first) (sym c.loop-entry.invariant.same.size)
-    (viewed_at master_view c.args.entries.now c.loop-entry.entry-index c.entry-item.result c.loop-entry-test.true c.entry-item.is (λ (e : MasterEntry). InSpace s.size e.1.1) c.requires.inside)
+    (viewed_at master_view c.args.entries.now c.loop-entry.entry-index c.entry-item.result c.loop-entry-test.true
+    c.entry-item.is (λ (e : MasterEntry). InSpace s.size e.1.1) c.requires.inside)
 
 pub returns-in_err-add_directory-clause-fault : goal.returns-in_err-add_directory-clause-fault
 returns-in_err-add_directory-clause-fault g c h =
@@ -33,23 +34,38 @@ returns-in_err-add_directory-clause-fault g c h =
     let i = c.loop-entry.entry-index in
     let e = c.entry-item.result in
     let p = err_from_is_err_and c.from_residual.result c.from_residual.ensures.1 in
-    let same = same_contents s.contents now.contents (c.loop-entry.invariant.keeps (c.add_directory.ensures.same.was_honest h)).contents in
+    let same = same_contents s.contents now.contents
+    (c.loop-entry.invariant.keeps (c.add_directory.ensures.same.was_honest h)).contents in
     let marks = digit_at c.loop-entry.reached in
-    handed (IsFaultOfDirectories s.size s.contents (digit_at c.args.reached.now) (map master_view c.args.entries.now)) c.from_residual.result c.add_directory.result p.0 c.in_err-add_directory.field-0.0 p.1 p.2 c.in_err-add_directory.was
-    (found_on (IsFaultOfDirectory now.size now.contents marks e.ppn e.first) (IsFaultOfDirectories s.size s.contents (digit_at c.args.reached.now) (map master_view c.args.entries.now)) c.add_directory.result
-    (λ error met. directory_fault s.size s.contents (map master_view c.args.entries.now) (map master_view (take i c.args.entries.now)) (map master_view (drop (i + 1) c.args.entries.now)) (map known_directory c.loop-entry.directories.items)
-    (digit_at c.args.reached.now) marks (master_view e) error (viewed_split master_view c.args.entries.now i e c.loop-entry-test.true c.entry-item.is) c.requires.once (c.loop-entry.invariant.read (c.add_directory.ensures.same.was_honest h))
-    (subst (λ contents. IsFaultOfDirectory s.size contents marks e.ppn e.first error) same (subst (λ (n : ℕ). IsFaultOfDirectory n now.contents marks e.ppn e.first error) c.loop-entry.invariant.same.size met)))
+    handed (IsFaultOfDirectories s.size s.contents (digit_at c.args.reached.now) (map master_view c.args.entries.now))
+    c.from_residual.result c.add_directory.result p.0 c.in_err-add_directory.field-0.0 p.1 p.2
+    c.in_err-add_directory.was
+    (found_on (IsFaultOfDirectory now.size now.contents marks e.ppn e.first)
+    (IsFaultOfDirectories s.size s.contents (digit_at c.args.reached.now) (map master_view c.args.entries.now))
+    c.add_directory.result
+    (λ error met. directory_fault s.size s.contents (map master_view c.args.entries.now)
+    (map master_view (take i c.args.entries.now)) (map master_view (drop (i + 1) c.args.entries.now))
+    (map known_directory c.loop-entry.directories.items)
+    (digit_at c.args.reached.now) marks (master_view e) error
+    (viewed_split master_view c.args.entries.now i e c.loop-entry-test.true c.entry-item.is) c.requires.once
+    (c.loop-entry.invariant.read (c.add_directory.ensures.same.was_honest h))
+    (subst (λ contents. IsFaultOfDirectory s.size contents marks e.ppn e.first error) same
+    (subst (λ (n : ℕ). IsFaultOfDirectory n now.contents marks e.ppn e.first error) c.loop-entry.invariant.same.size
+    met)))
     (c.add_directory.ensures.fault h))
 
 pub returns-in_err-add_directory-clause-keeps : goal.returns-in_err-add_directory-clause-keeps
 returns-in_err-add_directory-clause-keeps g c h =
-    keeps_on (g.D.Disk.state c.args.disk.now) (g.D.Disk.state c.loop-entry.disk) (g.D.Disk.state c.add_directory.new.disk) (c.loop-entry.invariant.keeps (c.add_directory.ensures.same.was_honest h)) (c.add_directory.ensures.keeps h)
+    keeps_on (g.D.Disk.state c.args.disk.now) (g.D.Disk.state c.loop-entry.disk)
+    (g.D.Disk.state c.add_directory.new.disk) (c.loop-entry.invariant.keeps (c.add_directory.ensures.same.was_honest h))
+    (c.add_directory.ensures.keeps h)
 
 pub returns-in_err-add_directory-clause-served : goal.returns-in_err-add_directory-clause-served
 returns-in_err-add_directory-clause-served g c other =
     let p = err_from_is_err_and c.from_residual.result c.from_residual.ensures.1 in
-    c.add_directory.ensures.served (λ is. other (handed_back c.from_residual.result c.add_directory.result p.0 c.in_err-add_directory.field-0.0 Device p.1 p.2 c.in_err-add_directory.was is)) ∙ c.loop-entry.invariant.served
+    c.add_directory.ensures.served (λ is.
+    other (handed_back c.from_residual.result c.add_directory.result p.0 c.in_err-add_directory.field-0.0
+    Device p.1 p.2 c.in_err-add_directory.was is)) ∙ c.loop-entry.invariant.served
 
 pub loop-entry-preserved : goal.loop-entry-preserved
 loop-entry-preserved g c =
@@ -59,24 +75,37 @@ loop-entry-preserved g c =
     record {
       same = same_disk_on s now new c.loop-entry.invariant.same c.add_directory.ensures.same;
       served = c.in_ok-add_directory.ensures.served (λ is. cc) ∙ c.loop-entry.invariant.served;
-      keeps = λ h. keeps_on s now new (c.loop-entry.invariant.keeps (c.add_directory.ensures.same.was_honest h)) (c.add_directory.ensures.keeps h);
+      keeps = λ h. keeps_on s now new (c.loop-entry.invariant.keeps (c.add_directory.ensures.same.was_honest h))
+          (c.add_directory.ensures.keeps h);
       marks = c.add_directory.ensures.length ∙ c.loop-entry.invariant.marks;
       space = λ only. subst (λ (n : ℕ). IsOnlySpace n c.add_directory.new.reached) c.loop-entry.invariant.same.size
-          (c.in_ok-add_directory.ensures.space (subst (λ (n : ℕ). IsOnlySpace n c.loop-entry.reached) (sym c.loop-entry.invariant.same.size) (c.loop-entry.invariant.space only)));
+          (c.in_ok-add_directory.ensures.space (subst (λ (n : ℕ). IsOnlySpace n c.loop-entry.reached)
+          (sym c.loop-entry.invariant.same.size) (c.loop-entry.invariant.space only)));
       aligned = c.in_ok-add_directory.ensures.aligned ∙ ap (λ (n : ℕ). n + 1) c.loop-entry.invariant.aligned;
-      whole = all_added known_directory (IsWholeDirectory s.size) c.loop-entry.directories.items c.add_directory.new.directories.items c.loop-entry.invariant.whole
-          (subst (λ (n : ℕ). IsAdded known_directory c.loop-entry.directories.items c.add_directory.new.directories.items (IsWholeDirectory n)) c.loop-entry.invariant.same.size c.in_ok-add_directory.ensures.whole);
-      marked = total_marked known_directory reaches_in_known c.loop-entry.directories.items c.add_directory.new.directories.items
-          (digit_at c.args.reached.now) (digit_at c.loop-entry.reached) (digit_at c.add_directory.new.reached) c.loop-entry.invariant.marked c.in_ok-add_directory.ensures.marked;
-      read = λ h. directories_go_on known_directory s.contents now.contents master_view c.args.entries.now c.loop-entry.entry-index c.entry-item.result c.loop-entry.directories.items c.add_directory.new.directories.items
-          (digit_at c.args.reached.now) (digit_at c.loop-entry.reached) (digit_at c.add_directory.new.reached) c.loop-entry-test.true c.entry-item.is (same_contents s.contents now.contents (c.loop-entry.invariant.keeps (c.add_directory.ensures.same.was_honest h)).contents)
-          (c.loop-entry.invariant.read (c.add_directory.ensures.same.was_honest h)) (c.in_ok-add_directory.ensures.read h);
+      whole = all_added known_directory (IsWholeDirectory s.size) c.loop-entry.directories.items
+          c.add_directory.new.directories.items c.loop-entry.invariant.whole
+          (subst (λ (n : ℕ). IsAdded known_directory c.loop-entry.directories.items
+          c.add_directory.new.directories.items (IsWholeDirectory n)) c.loop-entry.invariant.same.size
+          c.in_ok-add_directory.ensures.whole);
+      marked = total_marked known_directory reaches_in_known c.loop-entry.directories.items
+          c.add_directory.new.directories.items
+          (digit_at c.args.reached.now) (digit_at c.loop-entry.reached) (digit_at c.add_directory.new.reached)
+          c.loop-entry.invariant.marked c.in_ok-add_directory.ensures.marked;
+      read = λ h. directories_go_on known_directory s.contents now.contents master_view c.args.entries.now
+          c.loop-entry.entry-index c.entry-item.result c.loop-entry.directories.items
+          c.add_directory.new.directories.items
+          (digit_at c.args.reached.now) (digit_at c.loop-entry.reached) (digit_at c.add_directory.new.reached)
+          c.loop-entry-test.true c.entry-item.is (same_contents s.contents now.contents
+          (c.loop-entry.invariant.keeps (c.add_directory.ensures.same.was_honest h)).contents)
+          (c.loop-entry.invariant.read (c.add_directory.ensures.same.was_honest h))
+          (c.in_ok-add_directory.ensures.read h);
     }
 
 pub loop-entry-init : goal.loop-entry-init
 loop-entry-init g c =
     let s = g.D.Disk.state c.args.disk.now in
-    let none : map known_directory c.new-directories.result.items ≡ [] = ap (map known_directory) c.new-directories.ensures.items in
+    let none : map known_directory c.new-directories.result.items
+    ≡ [] = ap (map known_directory) c.new-directories.ensures.items in
     record {
       same = same_disk_start s;
       served = refl;
@@ -86,12 +115,15 @@ loop-entry-init g c =
       aligned = ap length c.new-directories.ensures.items;
       whole = subst (AllByRecursion (IsWholeDirectory s.size)) (sym none) tt;
       marked = λ n. let e = ap (total (reaches_in_known n)) none in omega arith;
-      read = λ h. subst (λ (ds : List KnownDirectory). AreDirectoriesRead s.contents [] ds (digit_at c.args.reached.now) (digit_at c.args.reached.now)) (sym none) (no_directories s.contents (digit_at c.args.reached.now));
+      read = λ h. subst (λ (ds : List KnownDirectory). AreDirectoriesRead s.contents [] ds (digit_at c.args.reached.now)
+          (digit_at c.args.reached.now)) (sym none) (no_directories s.contents (digit_at c.args.reached.now));
     }
 
 pub returns-in_err-add_directory-clause-named : goal.returns-in_err-add_directory-clause-named
 returns-in_err-add_directory-clause-named g c =
     let size = (g.D.Disk.state c.args.disk.now).size in
     let p = err_from_is_err_and c.from_residual.result c.from_residual.ensures.1 in
-    handed (NamesInSpace size) c.from_residual.result c.add_directory.result p.0 c.in_err-add_directory.field-0.0 p.1 p.2 c.in_err-add_directory.was
-    (named_on (g.D.Disk.state c.loop-entry.disk).size size c.add_directory.result c.loop-entry.invariant.same.size c.add_directory.ensures.named)
+    handed (NamesInSpace size) c.from_residual.result c.add_directory.result p.0 c.in_err-add_directory.field-0.0
+    p.1 p.2 c.in_err-add_directory.was
+    (named_on (g.D.Disk.state c.loop-entry.disk).size size c.add_directory.result c.loop-entry.invariant.same.size
+    c.add_directory.ensures.named)

@@ -14,9 +14,13 @@ invariant-loop-entry g l = record {
   served : (g.D.Disk.state l.disk).failures ≡ (g.D.Disk.state l.fn.disk).failures;
   keeps : (g.D.Disk.state l.disk).honest → Keeps (g.D.Disk.state l.fn.disk) (g.D.Disk.state l.disk);
   marks : length l.reached ≡ length l.fn.reached;
-  space : IsOnlySpace (g.D.Disk.state l.fn.disk).size l.fn.reached → IsOnlySpace (g.D.Disk.state l.fn.disk).size l.reached;
+  space : IsOnlySpace (g.D.Disk.state l.fn.disk).size l.fn.reached
+      → IsOnlySpace (g.D.Disk.state l.fn.disk).size l.reached;
   aligned : length l.directories.items ≡ l.entry-index;
   whole : AllByRecursion (IsWholeDirectory (g.D.Disk.state l.fn.disk).size) (map known_directory l.directories.items);
-  marked : (n : ℕ) → digit_at l.reached n ≡ digit_at l.fn.reached n + total (reaches_in_known n) (map known_directory l.directories.items);
-  read : (g.D.Disk.state l.disk).honest → AreDirectoriesRead (g.D.Disk.state l.fn.disk).contents (map master_view (take l.entry-index l.entries)) (map known_directory l.directories.items) (digit_at l.fn.reached) (digit_at l.reached);
+  marked : (n : ℕ) → digit_at l.reached n
+      ≡ digit_at l.fn.reached n + total (reaches_in_known n) (map known_directory l.directories.items);
+  read : (g.D.Disk.state l.disk).honest
+      → AreDirectoriesRead (g.D.Disk.state l.fn.disk).contents (map master_view (take l.entry-index l.entries))
+      (map known_directory l.directories.items) (digit_at l.fn.reached) (digit_at l.reached);
 }

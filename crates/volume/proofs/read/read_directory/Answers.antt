@@ -21,60 +21,85 @@ pub returns-in_err-chain-clause-fault : goal.returns-in_err-chain-clause-fault
 returns-in_err-chain-clause-fault g c h =
     let s = g.D.Disk.state c.args.disk.now in
     let p = err_from_is_err_and c.from_residual.result c.from_residual.ensures.1 in
-    handed (IsFaultOfDirectory s.size s.contents (digit_at c.args.reached.now) c.args.entry.now.ppn c.args.entry.now.first) c.from_residual.result c.load_files.result p.0 c.in_err-chain.field-0.0 p.1 p.2 c.in_err-chain.was
+    handed (IsFaultOfDirectory s.size s.contents (digit_at c.args.reached.now) c.args.entry.now.ppn
+    c.args.entry.now.first) c.from_residual.result c.load_files.result p.0 c.in_err-chain.field-0.0 p.1
+    p.2 c.in_err-chain.was
     (c.load_files.ensures.fault h c.args.entry.now.ppn)
 
 pub read_files-requires-clause-inside : goal.read_files-requires-clause-inside
 read_files-requires-clause-inside g c =
-    subst (λ (es : List FileEntry). AllByRecursion (λ e. InSpace (g.D.Disk.state c.load_files.new.disk).size e.1) es) (ap (map file_view) (sym c.entries.ensures.value))
-    (subst (λ (n : ℕ). AllByRecursion (λ (e : FileEntry). InSpace n e.1) (map file_view c.in_ok-chain.chain.entries)) (sym c.load_files.ensures.same.size) c.in_ok-chain.ensures.targets)
+    subst (λ (es : List FileEntry). AllByRecursion (λ e. InSpace (g.D.Disk.state c.load_files.new.disk).size e.1) es)
+    (ap (map file_view) (sym c.entries.ensures.value))
+    (subst (λ (n : ℕ). AllByRecursion (λ (e : FileEntry). InSpace n e.1) (map file_view c.in_ok-chain.chain.entries))
+    (sym c.load_files.ensures.same.size) c.in_ok-chain.ensures.targets)
 
 pub returns-in_err-versions-clause-fault : goal.returns-in_err-versions-clause-fault
 returns-in_err-versions-clause-fault g c h =
     let s = g.D.Disk.state c.args.disk.now in
     let now = g.D.Disk.state c.load_files.new.disk in
     let p = err_from_is_err_and c.from_residual-in_err-versions.result c.from_residual-in_err-versions.ensures.1 in
-    let same = same_contents s.contents now.contents (c.load_files.ensures.keeps (c.read_files.ensures.same.was_honest h)).contents in
+    let same = same_contents s.contents now.contents
+    (c.load_files.ensures.keeps (c.read_files.ensures.same.was_honest h)).contents in
     let marks = digit_at c.load_files.new.reached in
     let ppn = c.args.entry.now.ppn in
     let chain = viewed file_view c.in_ok-chain.chain in
-    handed (IsFaultOfDirectory s.size s.contents (digit_at c.args.reached.now) ppn c.args.entry.now.first) c.from_residual-in_err-versions.result c.read_files.result p.0 c.in_err-versions.field-0.0 p.1 p.2 c.in_err-versions.was
-    (found_on (IsFaultOfFiles now.size now.contents marks ppn (map file_view c.entries.result.now)) (IsFaultOfDirectory s.size s.contents (digit_at c.args.reached.now) ppn c.args.entry.now.first) c.read_files.result
-    (λ error met. files_fault s.size s.contents (digit_at c.args.reached.now) marks ppn c.args.entry.now.first chain error c.in_ok-chain.ensures.chain (c.in_ok-chain.ensures.walk (c.read_files.ensures.same.was_honest h)) c.in_ok-chain.ensures.marked
-    (subst (λ (es : List FileEntry). IsFaultOfFiles s.size s.contents marks ppn es error) (ap (map file_view) c.entries.ensures.value)
-    (subst (λ contents. IsFaultOfFiles s.size contents marks ppn (map file_view c.entries.result.now) error) same (subst (λ (n : ℕ). IsFaultOfFiles n now.contents marks ppn (map file_view c.entries.result.now) error) c.load_files.ensures.same.size met))))
+    handed (IsFaultOfDirectory s.size s.contents (digit_at c.args.reached.now) ppn c.args.entry.now.first)
+    c.from_residual-in_err-versions.result c.read_files.result p.0 c.in_err-versions.field-0.0 p.1 p.2
+    c.in_err-versions.was
+    (found_on (IsFaultOfFiles now.size now.contents marks ppn (map file_view c.entries.result.now))
+    (IsFaultOfDirectory s.size s.contents (digit_at c.args.reached.now) ppn c.args.entry.now.first) c.read_files.result
+    (λ error met. files_fault s.size s.contents (digit_at c.args.reached.now) marks ppn c.args.entry.now.first
+    chain error c.in_ok-chain.ensures.chain (c.in_ok-chain.ensures.walk (c.read_files.ensures.same.was_honest h))
+    c.in_ok-chain.ensures.marked
+    (subst (λ (es : List FileEntry). IsFaultOfFiles s.size s.contents marks ppn es error)
+    (ap (map file_view) c.entries.ensures.value)
+    (subst (λ contents. IsFaultOfFiles s.size contents marks ppn (map file_view c.entries.result.now) error) same
+    (subst (λ (n : ℕ). IsFaultOfFiles n now.contents marks ppn (map file_view c.entries.result.now) error)
+    c.load_files.ensures.same.size met))))
     (c.read_files.ensures.fault h))
 
 pub returns-in_err-versions-clause-keeps : goal.returns-in_err-versions-clause-keeps
 returns-in_err-versions-clause-keeps g c h =
-    keeps_on (g.D.Disk.state c.args.disk.now) (g.D.Disk.state c.load_files.new.disk) (g.D.Disk.state c.read_files.new.disk) (c.load_files.ensures.keeps (c.read_files.ensures.same.was_honest h)) (c.read_files.ensures.keeps h)
+    keeps_on (g.D.Disk.state c.args.disk.now) (g.D.Disk.state c.load_files.new.disk)
+    (g.D.Disk.state c.read_files.new.disk) (c.load_files.ensures.keeps (c.read_files.ensures.same.was_honest h))
+    (c.read_files.ensures.keeps h)
 
 pub returns-clause-keeps : goal.returns-clause-keeps
 returns-clause-keeps g c h =
-    keeps_on (g.D.Disk.state c.args.disk.now) (g.D.Disk.state c.load_files.new.disk) (g.D.Disk.state c.read_files.new.disk) (c.load_files.ensures.keeps (c.read_files.ensures.same.was_honest h)) (c.read_files.ensures.keeps h)
+    keeps_on (g.D.Disk.state c.args.disk.now) (g.D.Disk.state c.load_files.new.disk)
+    (g.D.Disk.state c.read_files.new.disk) (c.load_files.ensures.keeps (c.read_files.ensures.same.was_honest h))
+    (c.read_files.ensures.keeps h)
 
 pub returns-clause-whole : goal.returns-clause-whole
 returns-clause-whole g c = record {
   chain = c.in_ok-chain.ensures.chain;
   inside = c.in_ok-chain.ensures.inside;
   versions = c.in_ok-versions.ensures.whole;
-  aligned = length-map c.in_ok-versions.versions.items known_version ∙ c.in_ok-versions.ensures.aligned ∙ ap length c.entries.ensures.value ∙ sym (length-map c.in_ok-chain.chain.entries file_view);
+  aligned = length-map c.in_ok-versions.versions.items known_version ∙ c.in_ok-versions.ensures.aligned
+      ∙ ap length c.entries.ensures.value ∙ sym (length-map c.in_ok-chain.chain.entries file_view);
 }
 
 pub returns-clause-read : goal.returns-clause-read
 returns-clause-read g c h =
     let s = g.D.Disk.state c.args.disk.now in
     let now = g.D.Disk.state c.load_files.new.disk in
-    let same = same_contents s.contents now.contents (c.load_files.ensures.keeps (c.in_ok-versions.ensures.same.was_honest h)).contents in
+    let same = same_contents s.contents now.contents
+    (c.load_files.ensures.keeps (c.in_ok-versions.ensures.same.was_honest h)).contents in
     let ppn = c.args.entry.now.ppn in
     let chain = viewed file_view c.in_ok-chain.chain in
     let versions = map known_version c.in_ok-versions.versions.items in
-    let read : AreFilesRead s.contents ppn chain.entries versions (digit_at c.load_files.new.reached) (digit_at c.read_files.new.reached) =
-    subst (λ (es : List FileEntry). AreFilesRead s.contents ppn es versions (digit_at c.load_files.new.reached) (digit_at c.read_files.new.reached)) (ap (map file_view) c.entries.ensures.value)
-    (subst (λ (contents : Contents). AreFilesRead contents ppn (map file_view c.entries.result.now) versions (digit_at c.load_files.new.reached) (digit_at c.read_files.new.reached)) same
+    let read : AreFilesRead s.contents ppn chain.entries versions (digit_at c.load_files.new.reached)
+    (digit_at c.read_files.new.reached) =
+    subst (λ (es : List FileEntry). AreFilesRead s.contents ppn es versions (digit_at c.load_files.new.reached)
+    (digit_at c.read_files.new.reached)) (ap (map file_view) c.entries.ensures.value)
+    (subst (λ (contents : Contents). AreFilesRead contents ppn (map file_view c.entries.result.now) versions
+    (digit_at c.load_files.new.reached) (digit_at c.read_files.new.reached)) same
     (c.in_ok-versions.ensures.read h)) in
-    directory_found s.contents ppn c.args.entry.now.protection c.args.entry.now.first chain versions (digit_at c.args.reached.now) (digit_at c.load_files.new.reached) (digit_at c.read_files.new.reached)
-    c.args.entry.now.protection_fits c.in_ok-chain.ensures.chain (c.in_ok-chain.ensures.on (c.in_ok-versions.ensures.same.was_honest h)) c.in_ok-chain.ensures.begins (c.in_ok-chain.ensures.walk (c.in_ok-versions.ensures.same.was_honest h)) c.in_ok-chain.ensures.marked read
+    directory_found s.contents ppn c.args.entry.now.protection c.args.entry.now.first chain versions
+    (digit_at c.args.reached.now) (digit_at c.load_files.new.reached) (digit_at c.read_files.new.reached)
+    c.args.entry.now.protection_fits c.in_ok-chain.ensures.chain
+    (c.in_ok-chain.ensures.on (c.in_ok-versions.ensures.same.was_honest h)) c.in_ok-chain.ensures.begins
+    (c.in_ok-chain.ensures.walk (c.in_ok-versions.ensures.same.was_honest h)) c.in_ok-chain.ensures.marked read
 
 pub returns-clause-space : goal.returns-clause-space
 returns-clause-space g c only =
@@ -82,16 +107,20 @@ returns-clause-space g c only =
     let size = c.load_files.ensures.same.size in
     subst (λ (n : ℕ). IsOnlySpace n c.read_files.new.reached) size
     (c.in_ok-versions.ensures.space (subst (λ (n : ℕ). IsOnlySpace n c.load_files.new.reached) (sym size)
-    (space_more s.size c.args.reached.now c.load_files.new.reached c.in_ok-chain.chain.blocks only c.in_ok-chain.ensures.inside c.in_ok-chain.ensures.marked)))
+    (space_more s.size c.args.reached.now c.load_files.new.reached c.in_ok-chain.chain.blocks only
+    c.in_ok-chain.ensures.inside c.in_ok-chain.ensures.marked)))
 
 pub returns-in_err-chain-clause-named : goal.returns-in_err-chain-clause-named
 returns-in_err-chain-clause-named g c =
     let p = err_from_is_err_and c.from_residual.result c.from_residual.ensures.1 in
-    handed (NamesInSpace (g.D.Disk.state c.args.disk.now).size) c.from_residual.result c.load_files.result p.0 c.in_err-chain.field-0.0 p.1 p.2 c.in_err-chain.was c.load_files.ensures.named
+    handed (NamesInSpace (g.D.Disk.state c.args.disk.now).size) c.from_residual.result c.load_files.result
+    p.0 c.in_err-chain.field-0.0 p.1 p.2 c.in_err-chain.was c.load_files.ensures.named
 
 pub returns-in_err-versions-clause-named : goal.returns-in_err-versions-clause-named
 returns-in_err-versions-clause-named g c =
     let size = (g.D.Disk.state c.args.disk.now).size in
     let p = err_from_is_err_and c.from_residual-in_err-versions.result c.from_residual-in_err-versions.ensures.1 in
-    handed (NamesInSpace size) c.from_residual-in_err-versions.result c.read_files.result p.0 c.in_err-versions.field-0.0 p.1 p.2 c.in_err-versions.was
-    (named_on (g.D.Disk.state c.load_files.new.disk).size size c.read_files.result c.load_files.ensures.same.size c.read_files.ensures.named)
+    handed (NamesInSpace size) c.from_residual-in_err-versions.result c.read_files.result p.0
+    c.in_err-versions.field-0.0 p.1 p.2 c.in_err-versions.was
+    (named_on (g.D.Disk.state c.load_files.new.disk).size size c.read_files.result c.load_files.ensures.same.size
+    c.read_files.ensures.named)

@@ -22,7 +22,8 @@ pub add_file-requires-clause-inside : goal.add_file-requires-clause-inside
 add_file-requires-clause-inside g c =
     let s = g.D.Disk.state c.args.disk.now in
     subst (λ (n : ℕ). InSpace n c.entry-item.result.prime) (sym c.loop-entry.invariant.same.size)
-    (viewed_at file_view c.args.entries.now c.loop-entry.entry-index c.entry-item.result c.loop-entry-test.true c.entry-item.is (λ (e : FileEntry). InSpace s.size e.1) c.requires.inside)
+    (viewed_at file_view c.args.entries.now c.loop-entry.entry-index c.entry-item.result c.loop-entry-test.true
+    c.entry-item.is (λ (e : FileEntry). InSpace s.size e.1) c.requires.inside)
 
 pub returns-in_err-add_file-clause-fault : goal.returns-in_err-add_file-clause-fault
 returns-in_err-add_file-clause-fault g c h =
@@ -31,22 +32,36 @@ returns-in_err-add_file-clause-fault g c h =
     let i = c.loop-entry.entry-index in
     let e = c.entry-item.result in
     let p = err_from_is_err_and c.from_residual.result c.from_residual.ensures.1 in
-    let same = same_contents s.contents now.contents (c.loop-entry.invariant.keeps (c.add_file.ensures.same.was_honest h)).contents in
-    handed (IsFaultOfFiles s.size s.contents (digit_at c.args.reached.now) c.args.ppn (map file_view c.args.entries.now)) c.from_residual.result c.add_file.result p.0 c.in_err-add_file.field-0.0 p.1 p.2 c.in_err-add_file.was
-    (found_on (IsFaultOfFile now.size now.contents c.loop-entry.reached (place_of c.args.ppn e.name) e.prime) (IsFaultOfFiles s.size s.contents (digit_at c.args.reached.now) c.args.ppn (map file_view c.args.entries.now)) c.add_file.result
-    (λ error met. file_fault s.size s.contents c.args.ppn (map file_view c.args.entries.now) (map file_view (take i c.args.entries.now)) (map file_view (drop (i + 1) c.args.entries.now)) (map known_version c.loop-entry.versions.items)
-    (digit_at c.args.reached.now) (file_view e) error c.loop-entry.reached (viewed_split file_view c.args.entries.now i e c.loop-entry-test.true c.entry-item.is) c.requires.once (c.loop-entry.invariant.read (c.add_file.ensures.same.was_honest h))
-    (subst (λ contents. IsFaultOfFile s.size contents c.loop-entry.reached (place_of c.args.ppn e.name) e.prime error) same (subst (λ (n : ℕ). IsFaultOfFile n now.contents c.loop-entry.reached (place_of c.args.ppn e.name) e.prime error) c.loop-entry.invariant.same.size met)))
+    let same = same_contents s.contents now.contents
+    (c.loop-entry.invariant.keeps (c.add_file.ensures.same.was_honest h)).contents in
+    handed (IsFaultOfFiles s.size s.contents (digit_at c.args.reached.now) c.args.ppn
+    (map file_view c.args.entries.now)) c.from_residual.result c.add_file.result p.0 c.in_err-add_file.field-0.0
+    p.1 p.2 c.in_err-add_file.was
+    (found_on (IsFaultOfFile now.size now.contents c.loop-entry.reached (place_of c.args.ppn e.name) e.prime)
+    (IsFaultOfFiles s.size s.contents (digit_at c.args.reached.now) c.args.ppn (map file_view c.args.entries.now))
+    c.add_file.result
+    (λ error met. file_fault s.size s.contents c.args.ppn (map file_view c.args.entries.now)
+    (map file_view (take i c.args.entries.now)) (map file_view (drop (i + 1) c.args.entries.now))
+    (map known_version c.loop-entry.versions.items)
+    (digit_at c.args.reached.now) (file_view e) error c.loop-entry.reached
+    (viewed_split file_view c.args.entries.now i e c.loop-entry-test.true c.entry-item.is) c.requires.once
+    (c.loop-entry.invariant.read (c.add_file.ensures.same.was_honest h))
+    (subst (λ contents. IsFaultOfFile s.size contents c.loop-entry.reached (place_of c.args.ppn e.name) e.prime error)
+    same (subst (λ (n : ℕ). IsFaultOfFile n now.contents c.loop-entry.reached
+    (place_of c.args.ppn e.name) e.prime error) c.loop-entry.invariant.same.size met)))
     (c.add_file.ensures.fault h))
 
 pub returns-in_err-add_file-clause-keeps : goal.returns-in_err-add_file-clause-keeps
 returns-in_err-add_file-clause-keeps g c h =
-    keeps_on (g.D.Disk.state c.args.disk.now) (g.D.Disk.state c.loop-entry.disk) (g.D.Disk.state c.add_file.new.disk) (c.loop-entry.invariant.keeps (c.add_file.ensures.same.was_honest h)) (c.add_file.ensures.keeps h)
+    keeps_on (g.D.Disk.state c.args.disk.now) (g.D.Disk.state c.loop-entry.disk) (g.D.Disk.state c.add_file.new.disk)
+    (c.loop-entry.invariant.keeps (c.add_file.ensures.same.was_honest h)) (c.add_file.ensures.keeps h)
 
 pub returns-in_err-add_file-clause-served : goal.returns-in_err-add_file-clause-served
 returns-in_err-add_file-clause-served g c other =
     let p = err_from_is_err_and c.from_residual.result c.from_residual.ensures.1 in
-    c.add_file.ensures.served (λ is. other (handed_back c.from_residual.result c.add_file.result p.0 c.in_err-add_file.field-0.0 Device p.1 p.2 c.in_err-add_file.was is)) ∙ c.loop-entry.invariant.served
+    c.add_file.ensures.served (λ is. other
+    (handed_back c.from_residual.result c.add_file.result p.0 c.in_err-add_file.field-0.0 Device p.1 p.2
+    c.in_err-add_file.was is)) ∙ c.loop-entry.invariant.served
 
 pub loop-entry-preserved : goal.loop-entry-preserved
 loop-entry-preserved g c =
@@ -56,16 +71,25 @@ loop-entry-preserved g c =
     record {
       same = same_disk_on s now new c.loop-entry.invariant.same c.add_file.ensures.same;
       served = c.in_ok-add_file.ensures.served (λ is. cc) ∙ c.loop-entry.invariant.served;
-      keeps = λ h. keeps_on s now new (c.loop-entry.invariant.keeps (c.add_file.ensures.same.was_honest h)) (c.add_file.ensures.keeps h);
+      keeps = λ h. keeps_on s now new (c.loop-entry.invariant.keeps (c.add_file.ensures.same.was_honest h))
+          (c.add_file.ensures.keeps h);
       marks = c.add_file.ensures.length ∙ c.loop-entry.invariant.marks;
-      whole = all_added known_version IsWholeVersion c.loop-entry.versions.items c.add_file.new.versions.items c.loop-entry.invariant.whole c.in_ok-add_file.ensures.whole;
+      whole = all_added known_version IsWholeVersion c.loop-entry.versions.items c.add_file.new.versions.items
+          c.loop-entry.invariant.whole c.in_ok-add_file.ensures.whole;
       space = λ only. subst (λ (n : ℕ). IsOnlySpace n c.add_file.new.reached) c.loop-entry.invariant.same.size
-          (c.in_ok-add_file.ensures.space (subst (λ (n : ℕ). IsOnlySpace n c.loop-entry.reached) (sym c.loop-entry.invariant.same.size) (c.loop-entry.invariant.space only)));
+          (c.in_ok-add_file.ensures.space (subst (λ (n : ℕ). IsOnlySpace n c.loop-entry.reached)
+          (sym c.loop-entry.invariant.same.size) (c.loop-entry.invariant.space only)));
       aligned = c.in_ok-add_file.ensures.aligned ∙ ap (λ (n : ℕ). n + 1) c.loop-entry.invariant.aligned;
-      marked = entries_marked known_version file_view c.args.entries.now c.loop-entry.entry-index c.entry-item.result c.loop-entry.versions.items c.add_file.new.versions.items
-          (digit_at c.args.reached.now) (digit_at c.loop-entry.reached) (digit_at c.add_file.new.reached) c.loop-entry-test.true c.entry-item.is c.loop-entry.invariant.aligned c.loop-entry.invariant.marked c.in_ok-add_file.ensures.marked;
-      read = λ h. files_go_on known_version s.contents now.contents c.args.ppn file_view c.args.entries.now c.loop-entry.entry-index c.entry-item.result c.loop-entry.versions.items c.add_file.new.versions.items
-          (digit_at c.args.reached.now) (digit_at c.loop-entry.reached) (digit_at c.add_file.new.reached) c.loop-entry-test.true c.entry-item.is (same_contents s.contents now.contents (c.loop-entry.invariant.keeps (c.add_file.ensures.same.was_honest h)).contents)
+      marked = entries_marked known_version file_view c.args.entries.now c.loop-entry.entry-index c.entry-item.result
+          c.loop-entry.versions.items c.add_file.new.versions.items
+          (digit_at c.args.reached.now) (digit_at c.loop-entry.reached) (digit_at c.add_file.new.reached)
+          c.loop-entry-test.true c.entry-item.is c.loop-entry.invariant.aligned c.loop-entry.invariant.marked
+          c.in_ok-add_file.ensures.marked;
+      read = λ h. files_go_on known_version s.contents now.contents c.args.ppn file_view c.args.entries.now
+          c.loop-entry.entry-index c.entry-item.result c.loop-entry.versions.items c.add_file.new.versions.items
+          (digit_at c.args.reached.now) (digit_at c.loop-entry.reached) (digit_at c.add_file.new.reached)
+          c.loop-entry-test.true c.entry-item.is (same_contents s.contents now.contents
+          (c.loop-entry.invariant.keeps (c.add_file.ensures.same.was_honest h)).contents)
           (c.loop-entry.invariant.read (c.add_file.ensures.same.was_honest h)) (c.in_ok-add_file.ensures.read h);
     }
 
@@ -73,5 +97,7 @@ pub returns-in_err-add_file-clause-named : goal.returns-in_err-add_file-clause-n
 returns-in_err-add_file-clause-named g c =
     let size = (g.D.Disk.state c.args.disk.now).size in
     let p = err_from_is_err_and c.from_residual.result c.from_residual.ensures.1 in
-    handed (NamesInSpace size) c.from_residual.result c.add_file.result p.0 c.in_err-add_file.field-0.0 p.1 p.2 c.in_err-add_file.was
-    (named_on (g.D.Disk.state c.loop-entry.disk).size size c.add_file.result c.loop-entry.invariant.same.size c.add_file.ensures.named)
+    handed (NamesInSpace size) c.from_residual.result c.add_file.result p.0 c.in_err-add_file.field-0.0
+    p.1 p.2 c.in_err-add_file.was
+    (named_on (g.D.Disk.state c.loop-entry.disk).size size c.add_file.result c.loop-entry.invariant.same.size
+    c.add_file.ensures.named)

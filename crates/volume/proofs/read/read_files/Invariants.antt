@@ -14,8 +14,12 @@ invariant-loop-entry g l = record {
   keeps : (g.D.Disk.state l.disk).honest → Keeps (g.D.Disk.state l.fn.disk) (g.D.Disk.state l.disk);
   marks : length l.reached ≡ length l.fn.reached;
   whole : AllByRecursion IsWholeVersion (map known_version l.versions.items);
-  space : IsOnlySpace (g.D.Disk.state l.fn.disk).size l.fn.reached → IsOnlySpace (g.D.Disk.state l.fn.disk).size l.reached;
+  space : IsOnlySpace (g.D.Disk.state l.fn.disk).size l.fn.reached
+      → IsOnlySpace (g.D.Disk.state l.fn.disk).size l.reached;
   aligned : length l.versions.items ≡ l.entry-index;
-  marked : (n : ℕ) → digit_at l.reached n ≡ digit_at l.fn.reached n + reaches_in_entries n (map file_view (take l.entry-index l.entries)) (map known_version l.versions.items);
-  read : (g.D.Disk.state l.disk).honest → AreFilesRead (g.D.Disk.state l.fn.disk).contents l.ppn (map file_view (take l.entry-index l.entries)) (map known_version l.versions.items) (digit_at l.fn.reached) (digit_at l.reached);
+  marked : (n : ℕ) → digit_at l.reached n ≡ digit_at l.fn.reached n
+      + reaches_in_entries n (map file_view (take l.entry-index l.entries)) (map known_version l.versions.items);
+  read : (g.D.Disk.state l.disk).honest
+      → AreFilesRead (g.D.Disk.state l.fn.disk).contents l.ppn (map file_view (take l.entry-index l.entries))
+      (map known_version l.versions.items) (digit_at l.fn.reached) (digit_at l.reached);
 }

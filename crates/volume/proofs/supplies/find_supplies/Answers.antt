@@ -16,7 +16,8 @@ pub unreachable-requires-in_default-directory_place :
     goal.unreachable-requires-in_default-directory_place
 unreachable-requires-in_default-directory_place c =
     let p = c.in-Some.version.now in
-    is_there (core_of c.args.map.now) p (c.requires.placed p (sym c.in-Some.ensures)) (c.in_default-directory_place.ensures.none refl)
+    is_there (core_of c.args.map.now) p (c.requires.placed p (sym c.in-Some.ensures))
+    (c.in_default-directory_place.ensures.none refl)
 
 -- src/supplies.rt:69:9
 pub unreachable-requires-in_default-new : goal.unreachable-requires-in_default-new
@@ -32,7 +33,11 @@ returns-clause-supplied c p is =
     let core = c.args.map.now in
     let q = c.in-Some.version.now in
     let stands = c.in-Ok.ensures.found in
-    let fits = subst (λ (name : FileName). IsReserve name_cmp (viewed file_view c.index-directory.result.now.chain) name (viewed file_view c.in-Ok-reserve_for.reserve)) c.in-Some-new.ensures.name c.in-Ok-reserve_for.ensures.reserve in
+    let fits = subst (λ (name : FileName). IsReserve name_cmp (viewed file_view c.index-directory.result.now.chain) name
+    (viewed file_view c.in-Ok-reserve_for.reserve)) c.in-Some-new.ensures.name c.in-Ok-reserve_for.ensures.reserve in
     let longer = c.in_ok-keys.ensures ∙ ap (λ (ns : List ℕ). ns ++ 0 ∷ []) c.deref.ensures.value in
-    let all = supplied core.table.size core q c.in-Ok.place stands.0 c.index-directory.result.now (viewed file_view c.in-Ok-reserve_for.reserve) c.in_ok-keys.keys.items c.requires.whole stands.1 c.index-directory.ensures fits longer in
-    subst (λ (v : PendingVersion). IsSupplied (core_of core) v (viewed file_view c.in-Ok-reserve_for.reserve) c.in_ok-keys.keys.items) (some_same (c.in-Some.ensures ∙ is)) all
+    let all = supplied core.table.size core q c.in-Ok.place stands.0 c.index-directory.result.now
+    (viewed file_view c.in-Ok-reserve_for.reserve) c.in_ok-keys.keys.items c.requires.whole stands.1
+    c.index-directory.ensures fits longer in
+    subst (λ (v : PendingVersion). IsSupplied (core_of core) v (viewed file_view c.in-Ok-reserve_for.reserve)
+    c.in_ok-keys.keys.items) (some_same (c.in-Some.ensures ∙ is)) all

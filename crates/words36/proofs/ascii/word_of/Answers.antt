@@ -12,7 +12,8 @@ loop-place-preserved c =
     let place = c.loop-place.place in
     let low = front-lt group place (omega arith) c.requires.ascii in
     let read : c.unwrap_or-character.result ≡ get_or group place 0 = search rules in
-    let put = put_character c.loop-place.bits c.unwrap_or-character.result (omega arith) (omega (arith, character-lt group place c.requires.ascii)) in
+    let put = put_character c.loop-place.bits c.unwrap_or-character.result (omega arith)
+    (omega (arith, character-lt group place c.requires.ascii)) in
     omega (arith, leading-more (slice_index group) 128 place)
 
 pub from_bits-requires : goal.from_bits-requires

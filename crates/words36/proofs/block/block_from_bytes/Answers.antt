@@ -11,9 +11,11 @@ returns-in_err-block-clause-of_block c =
 
 pub returns-clause-read : goal.returns-clause-read
 returns-clause-read c =
-    block_bytes-read c.args.bytes.now c.loop-place.block c.loop-place.place c.fits-bytes (omega arith) (omega arith) c.loop-place.invariant.read
+    block_bytes-read c.args.bytes.now c.loop-place.block c.loop-place.place c.fits-bytes (omega arith)
+    (omega arith) c.loop-place.invariant.read
 
 pub returns-clause-of_block : goal.returns-clause-of_block
 returns-clause-of_block c =
     let ended : c.loop-place.place ≡ 128 = omega arith in
-    λ words block same. ap Ok (read_alone c.args.bytes.now c.loop-place.block words (omega arith) (rw ended at c.loop-place.invariant.read) block same)
+    λ words block same. ap Ok (read_alone c.args.bytes.now c.loop-place.block words (omega arith)
+    (rw ended at c.loop-place.invariant.read) block same)

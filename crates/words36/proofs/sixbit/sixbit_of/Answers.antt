@@ -18,11 +18,13 @@ loop-place-preserved c =
     let put = put_code c.loop-place.bits c.in_ok-bits.field-0 (omega arith) fits in
     record {
       bits_are = omega (arith, put, c.in_ok-bits.ensures.value, leading-more (code text) 64 c.loop-place.place);
-      passed = ArePassed-more text c.loop-place.place c.loop-place.invariant.passed (c.in_ok-bits.ensures.accepts.0 refl);
+      passed = ArePassed-more text c.loop-place.place c.loop-place.invariant.passed
+          (c.in_ok-bits.ensures.accepts.0 refl);
     }
 
 pub from_bits-requires : goal.from_bits-requires
-from_bits-requires c = omega (arith, front-lt c.args.text.now c.loop-place.place (omega arith) c.loop-place.invariant.passed)
+from_bits-requires c = omega
+    (arith, front-lt c.args.text.now c.loop-place.place (omega arith) c.loop-place.invariant.passed)
 
 pub returns-clause-value : goal.returns-clause-value
 returns-clause-value c =
@@ -33,4 +35,5 @@ returns-clause-value c =
 pub returns-clause-reads_back : goal.returns-clause-reads_back
 returns-clause-reads_back c =
     let value : c.from_bits.result ≡ sixbit c.args.text.now = returns-clause-value c in
-    rw value (characters-sixbit c.args.text.now (omega arith, λ k d inside. c.loop-place.invariant.passed k d (omega arith) inside))
+    rw value (characters-sixbit c.args.text.now
+    (omega arith, λ k d inside. c.loop-place.invariant.passed k d (omega arith) inside))

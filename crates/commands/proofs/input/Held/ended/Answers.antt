@@ -7,4 +7,5 @@ use Rattle.commands.proofs.input.PartialLine.ended.Goals as goal
 pub returns : goal.returns
 returns c = λ seen h.
     let kept : c.without_return.result.now ≡ without_return c.args.self.now.bytes.items = cc in
-    line_ended _ _ seen _ h (subst (λ (l : List ℕ). line_list c.input_line.result ≡ cond c.args.self.now.is_too_long (TooLong ∷ []) (text_line l)) kept c.input_line.ensures)
+    line_ended _ _ seen _ h (subst (λ (l : List ℕ). line_list c.input_line.result
+    ≡ cond c.args.self.now.is_too_long (TooLong ∷ []) (text_line l)) kept c.input_line.ensures)

@@ -9,7 +9,8 @@ invariant-loop-next g l = record {
   same : SameDisk (g.D.Disk.state l.fn.disk) (g.D.Disk.state l.disk);
   served : (g.D.Disk.state l.disk).failures ≡ (g.D.Disk.state l.fn.disk).failures;
   reads : (g.D.Disk.state l.disk).honest → OnlyReads (g.D.Disk.state l.fn.disk) (g.D.Disk.state l.disk);
-  loading : IsLoading g.E.Entry.order g.E.Entry.words_of g.E.Entry.IsEntry g.E.Entry.target l.size (g.D.Disk.state l.disk).honest (g.D.Disk.state l.fn.disk).contents
+  loading : IsLoading g.E.Entry.order g.E.Entry.words_of g.E.Entry.IsEntry g.E.Entry.target l.size
+      (g.D.Disk.state l.disk).honest (g.D.Disk.state l.fn.disk).contents
       l.fn.reached l.reached l.fn.first l.blocks.items (map g.E.Entry.view l.entries.items) l.next;
 }
 

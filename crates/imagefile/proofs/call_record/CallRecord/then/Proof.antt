@@ -22,21 +22,30 @@ use Rattle.imagefile.proofs.call_record.CallRecord.then.Statement.{statement}
 use Rattle.imagefile.proofs.call_record.CallRecord.then.Code as code
 
 abbrev stayed : Stays f.ended.signature.params f.ended.kept
-stayed = (stay_none_ref (0 ∷ []) tt (plain (λ _. record_type.the_row)) yes, (stay_none_ref (1 ∷ []) tt (plain (λ κs. call_type.the_row (named_lft 3 2 tt κs))) yes, tt))
+stayed = (
+  stay_none_ref (0 ∷ []) tt (plain (λ _. record_type.the_row)) yes,
+  (stay_none_ref (1 ∷ []) tt (plain (λ κs. call_type.the_row (named_lft 3 2 tt κs))) yes, tt),
+)
 
 pub then_spec : {M : Type 1} → statement M
 then_spec 𝓤 𝓛 𝓜 𝓡 wired =
     let c = f.clauses 𝓛 𝓜.mem 𝓡.returns in
     let W = walk_of 𝓛 f.ended stayed c in
-    proved 𝓛 f.ended stayed c 𝓜 𝓡
-    (Goes-none_ref 𝓛 3 (0 ∷ []) tt (plain (λ _. record_type.the_row)) yes, (Goes-none_ref 𝓛 3 (1 ∷ []) tt (plain (λ κs. call_type.the_row (named_lft 3 2 tt κs))) yes, tt))
+    proved 𝓛 f.ended stayed c 𝓜 𝓡 (
+      Goes-none_ref 𝓛 3 (0 ∷ []) tt (plain (λ _. record_type.the_row)) yes,
+      (Goes-none_ref 𝓛 3 (1 ∷ []) tt (plain (λ κs. call_type.the_row (named_lft 3 2 tt κs))) yes, tt),
+    )
     f.Key.name code.function (code.unfolded 𝓤 𝓛.H 𝓜 𝓡 wired) (λ κs. (shr_vals, (shr_vals, tt)))
-    (λ κs. (shr_Tells (named 0) κs.0 record_type.the_row, (shr_Tells (named 1) κs.1.0 (call_type.the_row (named_lft 3 2 tt κs)), tt))) (λ κs qs bounds a g are.
+    (λ κs. (
+      shr_Tells (named 0) κs.0 record_type.the_row,
+      (shr_Tells (named 1) κs.1.0 (call_type.the_row (named_lft 3 2 tt κs)), tt),
+    )) (λ κs qs bounds a g are.
     let before = vptr a.0.ref_ptr.0 a.0.ref_ptr.1 in
     let call = vptr a.1.0.ref_ptr.0 a.1.0.ref_ptr.1 in
     let y : W.Ghost = ((κs, qs, bounds, a, (before ∷ [], (call ∷ [], tt))), g) in
     let made : (record_type.the_row).Denot = record { calls = spelled_call a.1.0.now ∷ a.0.now.calls } in
-    qed 𝓛 ((raw (alive 𝓛 f.signature κs qs) ⊛ ‵ (owns (types_at f.signature.params κs) a (before ∷ [], (call ∷ [], tt)))) ∷ raw ((c κs a).requires g) ∷ []) ∵ keep ! (0 ∷ []) $ split ! $
+    qed 𝓛 ((raw (alive 𝓛 f.signature κs qs) ⊛ ‵ (owns (types_at f.signature.params κs) a
+    (before ∷ [], (call ∷ [], tt)))) ∷ raw ((c κs a).requires g) ∷ []) ∵ keep ! (0 ∷ []) $ split ! $
     enter ! _ _ _ _ _ $ alloc_all ! (λ l. pass_all ! refl ((tt, tt), ((tt, tt), tt)) $
     sets ! (agg ! (no_more !)) refl (tt, tt) $
     returns ! (look_at ! 0 refl) $ free_all ! refl $

@@ -7,8 +7,10 @@ invariant-loop-done g l = record {
   few : l.done ≤ length l.bytes;
   count : l.self.failures ≡ l.fn.self.failures;
   same : SameFile (g.C.FileCalls.state l.fn.self.calls) (g.C.FileCalls.state l.self.calls);
-  keeps : (g.C.FileCalls.state l.self.calls).honest → FileKeeps (g.C.FileCalls.state l.fn.self.calls) (g.C.FileCalls.state l.self.calls);
-  read : (g.C.FileCalls.state l.self.calls).honest → (i : ℕ) → i < l.done → get_or l.bytes i 0 ≡ (g.C.FileCalls.state l.fn.self.calls).bytes (l.at + i);
+  keeps : (g.C.FileCalls.state l.self.calls).honest
+      → FileKeeps (g.C.FileCalls.state l.fn.self.calls) (g.C.FileCalls.state l.self.calls);
+  read : (g.C.FileCalls.state l.self.calls).honest → (i : ℕ) → i < l.done
+      → get_or l.bytes i 0 ≡ (g.C.FileCalls.state l.fn.self.calls).bytes (l.at + i);
 }
 
 abbrev pub decreases-loop-done : goal.decreases-loop-done

@@ -15,10 +15,18 @@ loop-done-preserved g c =
     let e = c.in_ok-done-2.ensures in
     let place : c.in-Some.place ≡ at + done = c.in-Some.ensures.1 in
     record {
-      few = omega (arith, e.few.1, inv.few, length-take (length bytes - done) (drop done bytes), length-drop done bytes);
+      few = omega (
+        arith,
+        e.few.1,
+        inv.few,
+        length-take (length bytes - done) (drop done bytes),
+        length-drop done bytes,
+      );
       count = e.served ∙ inv.count;
       same = same_on s0 s s' inv.same e.same;
       moves = λ h. omega (arith, inv.moves (e.same.was_honest h), e.moves h);
-      writes = λ h. part_writes at done c.in-Some.place bytes place inv.few s0 s s' (inv.writes (e.same.was_honest h)) (e.writes h);
-      put = λ h. part_put at done c.in-Some.place bytes place inv.few s.bytes s'.bytes k (inv.put (e.same.was_honest h)) (e.put h) (e.writes h).bytes;
+      writes = λ h. part_writes at done c.in-Some.place bytes place inv.few s0 s s' (inv.writes (e.same.was_honest h))
+          (e.writes h);
+      put = λ h. part_put at done c.in-Some.place bytes place inv.few s.bytes s'.bytes k (inv.put (e.same.was_honest h))
+          (e.put h) (e.writes h).bytes;
     }

@@ -7,9 +7,12 @@ invariant-loop-done g l = record {
   few : l.done ≤ length l.bytes;
   count : l.self.failures ≡ l.fn.self.failures;
   same : SameFile (g.C.FileCalls.state l.fn.self.calls) (g.C.FileCalls.state l.self.calls);
-  moves : (g.C.FileCalls.state l.self.calls).honest → (g.C.FileCalls.state l.fn.self.calls).clock < (g.C.FileCalls.state l.self.calls).clock;
-  writes : (g.C.FileCalls.state l.self.calls).honest → FileWrites l.at (length l.bytes) (g.C.FileCalls.state l.fn.self.calls) (g.C.FileCalls.state l.self.calls);
-  put : (g.C.FileCalls.state l.self.calls).honest → window (g.C.FileCalls.state l.self.calls).bytes l.at l.done ≡ take l.done l.bytes;
+  moves : (g.C.FileCalls.state l.self.calls).honest → (g.C.FileCalls.state l.fn.self.calls).clock
+      < (g.C.FileCalls.state l.self.calls).clock;
+  writes : (g.C.FileCalls.state l.self.calls).honest
+      → FileWrites l.at (length l.bytes) (g.C.FileCalls.state l.fn.self.calls) (g.C.FileCalls.state l.self.calls);
+  put : (g.C.FileCalls.state l.self.calls).honest → window (g.C.FileCalls.state l.self.calls).bytes l.at l.done
+      ≡ take l.done l.bytes;
 }
 
 abbrev pub decreases-loop-done : goal.decreases-loop-done

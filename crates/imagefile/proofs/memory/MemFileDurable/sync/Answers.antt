@@ -7,30 +7,40 @@ use Rattle.imagefile.proofs.memory.MemFileDurable.sync.Goals as goal
 pub returns-then-len-self-clause-full : goal.returns-then-len-self-clause-full
 returns-then-len-self-clause-full c =
     let s = c.self.inside in
-    let m : Memory = memory_of s.bytes.items s.first.items s.calls.items s.written.items s.opened.items s.room s.byte_room s.failures in
+    let m : Memory = memory_of s.bytes.items s.first.items s.calls.items s.written.items s.opened.items
+    s.room s.byte_room s.failures in
     let view : m ≡ c.args.self.now = c.self.view_is in
     let is : IsReplayed m = c.self.invariant.3 in
-    let count : length c.args.self.now.steps ≡ length s.calls.items = ap (λ (w : Memory). length w.steps) (sym view) ∙ length-spelled s.calls.items s.written.items in
+    let count : length c.args.self.now.steps ≡ length s.calls.items = ap (λ (w : Memory). length w.steps) (sym view)
+    ∙ length-spelled s.calls.items s.written.items in
     let room : c.args.self.now.room ≡ s.room = ap (λ (w : Memory). w.room) (sym view) in
     omega (arith, count, room, s.calls.ok, is.fits, length-spelled s.calls.items s.written.items)
 
 -- what the fields are then
 made : (c : goal.In-Ok)
-    → memory_of c.self.inside.bytes.items c.self.inside.first.items c.push.new.self.items c.self.inside.written.items c.fill.new.self.items c.self.inside.room c.self.inside.byte_room c.self.inside.failures
-    ≡ bytes_synced (memory_of c.self.inside.bytes.items c.self.inside.first.items c.self.inside.calls.items c.self.inside.written.items c.self.inside.opened.items c.self.inside.room c.self.inside.byte_room c.self.inside.failures)
+    → memory_of c.self.inside.bytes.items c.self.inside.first.items c.push.new.self.items c.self.inside.written.items
+    c.fill.new.self.items c.self.inside.room c.self.inside.byte_room c.self.inside.failures
+    ≡ bytes_synced (memory_of c.self.inside.bytes.items c.self.inside.first.items c.self.inside.calls.items
+    c.self.inside.written.items c.self.inside.opened.items c.self.inside.room c.self.inside.byte_room
+    c.self.inside.failures)
 made c =
     let s = c.self.inside in
     let long : vec_len s.opened ≡ length s.opened.items = omega (arith, s.opened.ok) in
-    made_synced s.bytes.items s.first.items s.written.items s.calls.items s.opened.items s.room s.byte_room s.failures c.push.new.self.items c.fill.new.self.items c.in-Ok.ensures.items
+    made_synced s.bytes.items s.first.items s.written.items s.calls.items s.opened.items s.room s.byte_room
+    s.failures c.push.new.self.items c.fill.new.self.items c.in-Ok.ensures.items
     (c.fill.ensures.items (λ y same. same) ∙ ap (λ k. replicate k false) long)
 
-room : (c : goal.In-Ok) → length (memory_of c.self.inside.bytes.items c.self.inside.first.items c.self.inside.calls.items c.self.inside.written.items c.self.inside.opened.items c.self.inside.room c.self.inside.byte_room c.self.inside.failures).steps < c.self.inside.room
+room : (c : goal.In-Ok)
+    → length (memory_of c.self.inside.bytes.items c.self.inside.first.items c.self.inside.calls.items
+    c.self.inside.written.items c.self.inside.opened.items c.self.inside.room c.self.inside.byte_room
+    c.self.inside.failures).steps < c.self.inside.room
 room c = let s = c.self.inside in omega (arith, s.calls.ok, length-spelled s.calls.items s.written.items)
 
 pub invariant_of-self-2 : goal.invariant_of-self-2
 invariant_of-self-2 c =
     let s = c.self.inside in
-    let m : Memory = memory_of s.bytes.items s.first.items s.calls.items s.written.items s.opened.items s.room s.byte_room s.failures in
+    let m : Memory = memory_of s.bytes.items s.first.items s.calls.items s.written.items s.opened.items
+    s.room s.byte_room s.failures in
     let view : m ≡ c.args.self.now = c.self.view_is in (
       omega (arith, c.self.invariant.0, c.in-Ok.ensures.capacity),
       c.self.invariant.1,
@@ -44,7 +54,9 @@ returns-clause-synced c = made c ∙ ap bytes_synced c.self.view_is
 pub returns-clause-syncs : goal.returns-clause-syncs
 returns-clause-syncs c =
     let s = c.self.inside in
-    let m : Memory = memory_of s.bytes.items s.first.items s.calls.items s.written.items s.opened.items s.room s.byte_room s.failures in
+    let m : Memory = memory_of s.bytes.items s.first.items s.calls.items s.written.items s.opened.items
+    s.room s.byte_room s.failures in
     let view : m ≡ c.args.self.now = c.self.view_is in
     subst (λ (w : Memory). FileSyncs (memory_state c.args.self.now) (memory_state w)) (sym (made c))
-    (subst (λ (w : Memory). FileSyncs (memory_state w) (memory_state (bytes_synced m))) view (syncs_synced m c.self.invariant.3 (room c)))
+    (subst (λ (w : Memory). FileSyncs (memory_state w) (memory_state (bytes_synced m))) view
+    (syncs_synced m c.self.invariant.3 (room c)))

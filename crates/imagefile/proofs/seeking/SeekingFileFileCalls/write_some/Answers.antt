@@ -9,16 +9,22 @@ use Rattle.imagefile.proofs.seeking.SeekingFileFileCalls.write_some.Goals as goa
 pub returns-clause-put : goal.returns-clause-put
 returns-clause-put g c u h =
     let earlier = g.S.SystemCalls.history (system_of c.args.self.now) in
-    let is = c.write.ensures.noted ∙ ap (λ calls. Write c.args.bytes.now (answer c.write.result) ∷ calls) c.in_ok-seek_start.ensures.noted in
-    subst (λ (calls : List Call). IfOk c.write.result (λ count. window (after_calls u calls).bytes c.args.at count ≡ take count c.args.bytes.now)) (sym is)
-    (write_said u c.args.at c.in_ok-seek_start.field-0 earlier c.write.result c.args.bytes.now c.write.ensures.few (subst (IsHonestRecord u) is h))
+    let is = c.write.ensures.noted
+    ∙ ap (λ calls. Write c.args.bytes.now (answer c.write.result) ∷ calls) c.in_ok-seek_start.ensures.noted in
+    subst (λ (calls : List Call). IfOk c.write.result (λ count. window (after_calls u calls).bytes c.args.at count
+    ≡ take count c.args.bytes.now)) (sym is)
+    (write_said u c.args.at c.in_ok-seek_start.field-0 earlier c.write.result c.args.bytes.now c.write.ensures.few
+    (subst (IsHonestRecord u) is h))
 
 pub returns-clause-writes : goal.returns-clause-writes
 returns-clause-writes g c u h =
     let earlier = g.S.SystemCalls.history (system_of c.args.self.now) in
-    let is = c.write.ensures.noted ∙ ap (λ calls. Write c.args.bytes.now (answer c.write.result) ∷ calls) c.in_ok-seek_start.ensures.noted in
-    subst (λ (calls : List Call). FileWrites c.args.at (length c.args.bytes.now) (recorded u earlier) (recorded u calls)) (sym is)
-    (writes_said u c.args.at c.in_ok-seek_start.field-0 earlier c.write.result c.args.bytes.now c.write.ensures.few (subst (IsHonestRecord u) is h))
+    let is = c.write.ensures.noted
+    ∙ ap (λ calls. Write c.args.bytes.now (answer c.write.result) ∷ calls) c.in_ok-seek_start.ensures.noted in
+    subst (λ (calls : List Call). FileWrites c.args.at (length c.args.bytes.now) (recorded u earlier)
+    (recorded u calls)) (sym is)
+    (writes_said u c.args.at c.in_ok-seek_start.field-0 earlier c.write.result c.args.bytes.now c.write.ensures.few
+    (subst (IsHonestRecord u) is h))
 
 pub returns-clause-as_supposed : goal.returns-clause-as_supposed
 returns-clause-as_supposed g c h = returns-clause-writes g c (unseen_of c.args.self.now) h
@@ -26,6 +32,7 @@ returns-clause-as_supposed g c h = returns-clause-writes g c (unseen_of c.args.s
 pub returns-clause-asked : goal.returns-clause-asked
 returns-clause-asked g c = record {
   place = Some c.in_ok-seek_start.field-0;
-  asked = c.write.ensures.noted ∙ ap (λ calls. Write c.args.bytes.now (answer c.write.result) ∷ calls) c.in_ok-seek_start.ensures.noted;
+  asked = c.write.ensures.noted
+      ∙ ap (λ calls. Write c.args.bytes.now (answer c.write.result) ∷ calls) c.in_ok-seek_start.ensures.noted;
   reached = λ done. refl;
 }

@@ -20,81 +20,130 @@ use Rattle.monitor.proofs.monitor.Monitor.call.Goals as goal
 
 pub returns-then-moment-gt-LAST_DATE-clause-answered : goal.returns-then-moment-gt-LAST_DATE-clause-answered
 returns-then-moment-gt-LAST_DATE-clause-answered g c =
-    subst (λ m. (g.D.Disk.state m.disk).honest → IsCalled (g.D.Disk.state m.disk) m.map m.failed m.jobs (g.D.Disk.state m.disk) m.map m.failed m.jobs c.args.job c.args.moment DateRange c.args.call.now) c.self.view_is
-    (λ h. called_late (g.D.Disk.state c.self.inside.volume.disk) c.self.inside.volume.core c.self.inside.volume.failed c.self.inside.jobs c.args.job c.args.call.now c.args.moment (sym c.has_failed.ensures.value ∙ c.if-has_failed.false) c.if-moment-gt-LAST_DATE.true (c.self.invariant (sym c.has_failed.ensures.value ∙ c.if-has_failed.false)).0 (c.self.invariant (sym c.has_failed.ensures.value ∙ c.if-has_failed.false)).2)
+    subst (λ m. (g.D.Disk.state m.disk).honest
+    → IsCalled (g.D.Disk.state m.disk) m.map m.failed m.jobs (g.D.Disk.state m.disk) m.map m.failed m.jobs
+    c.args.job c.args.moment DateRange c.args.call.now) c.self.view_is
+    (λ h. called_late (g.D.Disk.state c.self.inside.volume.disk) c.self.inside.volume.core c.self.inside.volume.failed
+    c.self.inside.jobs c.args.job c.args.call.now c.args.moment (sym c.has_failed.ensures.value
+    ∙ c.if-has_failed.false) c.if-moment-gt-LAST_DATE.true (c.self.invariant (sym c.has_failed.ensures.value
+    ∙ c.if-has_failed.false)).0 (c.self.invariant (sym c.has_failed.ensures.value ∙ c.if-has_failed.false)).2)
 
 pub returns-clause-answered : goal.returns-clause-answered
 returns-clause-answered g c =
-    subst (λ m. (g.D.Disk.state c.serve.new.volume.disk).honest → IsCalled (g.D.Disk.state m.disk) m.map m.failed m.jobs (g.D.Disk.state c.serve.new.volume.disk) c.serve.new.volume.core c.serve.new.volume.failed c.serve.new.jobs
+    subst (λ m. (g.D.Disk.state c.serve.new.volume.disk).honest
+    → IsCalled (g.D.Disk.state m.disk) m.map m.failed m.jobs (g.D.Disk.state c.serve.new.volume.disk)
+    c.serve.new.volume.core c.serve.new.volume.failed c.serve.new.jobs
     c.args.job c.args.moment c.serve.result c.args.call.now) c.self.view_is
-    (λ h served old serves. c.serve.ensures.serving.answered h served old (subst (λ b. Serves (g.D.Disk.state c.self.inside.volume.disk) c.self.inside.volume.core b c.self.inside.jobs old) (sym c.has_failed.ensures.value ∙ c.if-has_failed.false) serves))
+    (λ h served old serves. c.serve.ensures.serving.answered h served old
+    (subst (λ b. Serves (g.D.Disk.state c.self.inside.volume.disk) c.self.inside.volume.core b c.self.inside.jobs old)
+    (sym c.has_failed.ensures.value ∙ c.if-has_failed.false) serves))
 
 pub returns-then-self-clause-crash : goal.returns-then-self-clause-crash
 returns-then-self-clause-crash g c h s serves =
     let m = c.args.self.now in
-    untouched_event g.D.Disk.state g.met.D.Disk.only_now m.disk m.disk refl m.map m.jobs (Calls c.args.job c.args.call.now c.args.moment) Failed h s serves.1
+    untouched_event g.D.Disk.state g.met.D.Disk.only_now m.disk m.disk refl m.map m.jobs
+    (Calls c.args.job c.args.call.now c.args.moment) Failed h s serves.1
 
 pub returns-then-moment-gt-LAST_DATE-clause-crash : goal.returns-then-moment-gt-LAST_DATE-clause-crash
 returns-then-moment-gt-LAST_DATE-clause-crash g c h s serves =
     let m = c.args.self.now in
-    untouched_event g.D.Disk.state g.met.D.Disk.only_now m.disk m.disk refl m.map m.jobs (Calls c.args.job c.args.call.now c.args.moment) DateRange h s serves.1
+    untouched_event g.D.Disk.state g.met.D.Disk.only_now m.disk m.disk refl m.map m.jobs
+    (Calls c.args.job c.args.call.now c.args.moment) DateRange h s serves.1
 
 pub returns-clause-crash : goal.returns-clause-crash
 returns-clause-crash g c =
     let end = g.D.Disk.state c.serve.new.volume.disk in
     subst (λ m. end.honest → (s : State) → Serves (g.D.Disk.state m.disk) m.map m.failed m.jobs (Serving s)
-    → LeavesOnly (g.D.Disk.state m.disk) end (StandsForEither (pack_of (g.D.Disk.state m.disk)) s (Calls c.args.job c.args.call.now c.args.moment) c.serve.result)) c.self.view_is
+    → LeavesOnly (g.D.Disk.state m.disk) end (StandsForEither (pack_of (g.D.Disk.state m.disk)) s
+    (Calls c.args.job c.args.call.now c.args.moment) c.serve.result)) c.self.view_is
     (λ h s serves.
-    call_event g.D.Disk.state g.met.D.Disk.only_now c.self.inside.volume.disk c.serve.new.volume.disk c.self.inside.volume.core c.self.inside.jobs c.args.job c.args.call.now c.args.moment
-    c.serve.ensures.serving.crash h s serves.1 c.serve.result c.serve.ensures.serving.idle (c.serve.ensures.serving.blamed h))
+    call_event g.D.Disk.state g.met.D.Disk.only_now c.self.inside.volume.disk c.serve.new.volume.disk
+    c.self.inside.volume.core c.self.inside.jobs c.args.job c.args.call.now c.args.moment
+    c.serve.ensures.serving.crash h s serves.1 c.serve.result c.serve.ensures.serving.idle
+    (c.serve.ensures.serving.blamed h))
 
 pub returns-clause-memory : goal.returns-clause-memory
 returns-clause-memory g c none =
     let same = c.serve.ensures.serving.memory none in
-    let now : record { disk = c.serve.new.volume.disk; map = c.serve.new.volume.core; failed = c.serve.new.volume.failed; jobs = c.serve.new.jobs }
-    ≡ record { disk = c.self.inside.volume.disk; map = c.self.inside.volume.core; failed = c.self.inside.volume.failed; jobs = c.self.inside.jobs }
-    = λ i. record { disk = same.0 i; map = same.1 i; failed = (same.2 ∙ sym (sym c.has_failed.ensures.value ∙ c.if-has_failed.false)) i; jobs = same.3 i } in
+    let now : record {
+      disk = c.serve.new.volume.disk;
+      map = c.serve.new.volume.core;
+      failed = c.serve.new.volume.failed;
+      jobs = c.serve.new.jobs;
+    }
+    ≡ record {
+      disk = c.self.inside.volume.disk;
+      map = c.self.inside.volume.core;
+      failed = c.self.inside.volume.failed;
+      jobs = c.self.inside.jobs;
+    }
+    = λ i. record {
+      disk = same.0 i;
+      map = same.1 i;
+      failed = (same.2 ∙ sym (sym c.has_failed.ensures.value ∙ c.if-has_failed.false)) i;
+      jobs = same.3 i;
+    } in
     now ∙ c.self.view_is
 
 pub returns-clause-still : goal.returns-clause-still
 returns-clause-still g c =
-    let after = λ (new : Service). Serves (g.D.Disk.state c.serve.new.volume.disk) c.serve.new.volume.core c.serve.new.volume.failed c.serve.new.jobs new in
-    subst (λ m. (g.D.Disk.state c.serve.new.volume.disk).honest → (channel address : ℕ) → c.args.call.now ≡ In channel address → c.args.moment.date ≤ 4095 → (s : State) → Serves (g.D.Disk.state m.disk) m.map m.failed m.jobs (Serving s)
-    → (own : machine.Job) → job_at s c.args.job ≡ Some own → (c.serve.result ≡ NoMemory → ⊥) → (c.serve.result ≡ Device → ⊥) → IsStill after (pack_of (g.D.Disk.state m.disk)) s c.args.job c.args.moment c.serve.result own channel address) c.self.view_is
+    let after = λ (new : Service). Serves (g.D.Disk.state c.serve.new.volume.disk) c.serve.new.volume.core
+    c.serve.new.volume.failed c.serve.new.jobs new in
+    subst (λ m. (g.D.Disk.state c.serve.new.volume.disk).honest → (channel address : ℕ)
+    → c.args.call.now ≡ In channel address → c.args.moment.date ≤ 4095 → (s : State)
+    → Serves (g.D.Disk.state m.disk) m.map m.failed m.jobs (Serving s)
+    → (own : machine.Job) → job_at s c.args.job ≡ Some own → (c.serve.result ≡ NoMemory → ⊥)
+    → (c.serve.result ≡ Device → ⊥) → IsStill after (pack_of (g.D.Disk.state m.disk)) s c.args.job c.args.moment
+    c.serve.result own channel address) c.self.view_is
     (λ h channel address asked timely s serves own there room works.
     let d = g.D.Disk.state c.self.inside.volume.disk in
-    let led = c.serve.ensures.serving.answered h (subst (λ call. IsServed call (slot c.self.inside.jobs c.args.job)) (sym asked) tt) (Serving s) (refl, serves.1) in
-    in_still after (pack_of d) s c.args.job c.args.moment c.serve.result own channel address c.args.call.now asked there timely room works led.0 led.1 led.2)
+    let led = c.serve.ensures.serving.answered h (subst (λ call. IsServed call (slot c.self.inside.jobs c.args.job))
+    (sym asked) tt) (Serving s) (refl, serves.1) in
+    in_still after (pack_of d) s c.args.job c.args.moment c.serve.result own channel address c.args.call.now
+    asked there timely room works led.0 led.1 led.2)
 
 pub returns-clause-apart : goal.returns-clause-apart
 returns-clause-apart g c =
-    let after = λ (new : Service). Serves (g.D.Disk.state c.serve.new.volume.disk) c.serve.new.volume.core c.serve.new.volume.failed c.serve.new.jobs new in
-    subst (λ m. (g.D.Disk.state c.serve.new.volume.disk).honest → IsServed c.args.call.now (slot m.jobs c.args.job) → (s : State) → Serves (g.D.Disk.state m.disk) m.map m.failed m.jobs (Serving s)
-    → IsApart after (pack_of (g.D.Disk.state m.disk)) s c.args.job c.args.moment c.serve.result c.args.call.now) c.self.view_is
+    let after = λ (new : Service). Serves (g.D.Disk.state c.serve.new.volume.disk) c.serve.new.volume.core
+    c.serve.new.volume.failed c.serve.new.jobs new in
+    subst (λ m. (g.D.Disk.state c.serve.new.volume.disk).honest → IsServed c.args.call.now (slot m.jobs c.args.job)
+    → (s : State) → Serves (g.D.Disk.state m.disk) m.map m.failed m.jobs (Serving s)
+    → IsApart after (pack_of (g.D.Disk.state m.disk)) s c.args.job c.args.moment c.serve.result c.args.call.now)
+    c.self.view_is
     (λ h served s serves.
     let led = c.serve.ensures.serving.answered h served (Serving s) (refl, serves.1) in
-    apart after (pack_of (g.D.Disk.state c.self.inside.volume.disk)) s c.args.job c.args.moment c.serve.result c.args.call.now led.0 led.1 led.2)
+    apart after (pack_of (g.D.Disk.state c.self.inside.volume.disk)) s c.args.job c.args.moment c.serve.result
+    c.args.call.now led.0 led.1 led.2)
 
 pub returns-then-moment-gt-LAST_DATE-clause-apart : goal.returns-then-moment-gt-LAST_DATE-clause-apart
 returns-then-moment-gt-LAST_DATE-clause-apart g c =
-    subst (λ m. (g.D.Disk.state m.disk).honest → IsServed c.args.call.now (slot m.jobs c.args.job) → (s : State) → Serves (g.D.Disk.state m.disk) m.map m.failed m.jobs (Serving s)
-    → IsApart (Serves (g.D.Disk.state m.disk) m.map m.failed m.jobs) (pack_of (g.D.Disk.state m.disk)) s c.args.job c.args.moment DateRange c.args.call.now) c.self.view_is
+    subst (λ m. (g.D.Disk.state m.disk).honest → IsServed c.args.call.now (slot m.jobs c.args.job) → (s : State)
+    → Serves (g.D.Disk.state m.disk) m.map m.failed m.jobs (Serving s)
+    → IsApart (Serves (g.D.Disk.state m.disk) m.map m.failed m.jobs) (pack_of (g.D.Disk.state m.disk))
+    s c.args.job c.args.moment DateRange c.args.call.now) c.self.view_is
     (λ h served s serves.
     let m = c.self.inside in
     let d = g.D.Disk.state m.volume.disk in
-    let led = called_late d m.volume.core m.volume.failed m.jobs c.args.job c.args.call.now c.args.moment (sym c.has_failed.ensures.value ∙ c.if-has_failed.false) c.if-moment-gt-LAST_DATE.true
-    (c.self.invariant (sym c.has_failed.ensures.value ∙ c.if-has_failed.false)).0 (c.self.invariant (sym c.has_failed.ensures.value ∙ c.if-has_failed.false)).2 served (Serving s) serves in
-    apart (Serves d m.volume.core m.volume.failed m.jobs) (pack_of d) s c.args.job c.args.moment DateRange c.args.call.now led.0 led.1 led.2)
+    let led = called_late d m.volume.core m.volume.failed m.jobs c.args.job c.args.call.now c.args.moment
+    (sym c.has_failed.ensures.value ∙ c.if-has_failed.false) c.if-moment-gt-LAST_DATE.true
+    (c.self.invariant (sym c.has_failed.ensures.value ∙ c.if-has_failed.false)).0
+    (c.self.invariant (sym c.has_failed.ensures.value ∙ c.if-has_failed.false)).2 served (Serving s) serves in
+    apart (Serves d m.volume.core m.volume.failed m.jobs) (pack_of d) s c.args.job c.args.moment DateRange
+    c.args.call.now led.0 led.1 led.2)
 
 pub returns-clause-refused : goal.returns-clause-refused
 returns-clause-refused g c =
-    subst (λ m. (code : ℕ) → c.serve.result ≡ Refused code → IsRefused c.args.call.now c.args.job code m.jobs c.serve.new.jobs) c.self.view_is c.serve.ensures.serving.refused
+    subst (λ m. (code : ℕ) → c.serve.result ≡ Refused code
+    → IsRefused c.args.call.now c.args.job code m.jobs c.serve.new.jobs) c.self.view_is c.serve.ensures.serving.refused
 
 pub returns-clause-kept : goal.returns-clause-kept
-returns-clause-kept g c = subst (λ m. KeepsCore c.args.call.now → c.serve.new.volume.core ≡ m.map) c.self.view_is c.serve.ensures.serving.kept
+returns-clause-kept g c = subst (λ m. KeepsCore c.args.call.now
+    → c.serve.new.volume.core ≡ m.map) c.self.view_is c.serve.ensures.serving.kept
 
 pub returns-clause-unserved : goal.returns-clause-unserved
 returns-clause-unserved g c =
-    subst (λ m. m.failed ≡ false → c.args.moment.date ≤ 4095 → (there : Job) → slot m.jobs c.args.job ≡ Some there → IsUnserved c.args.call.now there
-    → (c.serve.new.volume.core ≡ m.map) × (after : Job) × UnservedRow c.args.call.now there after c.serve.result × (c.serve.new.jobs ≡ slice_set m.jobs c.args.job (Some after))) c.self.view_is
+    subst (λ m. m.failed ≡ false → c.args.moment.date ≤ 4095 → (there : Job) → slot m.jobs c.args.job ≡ Some there
+    → IsUnserved c.args.call.now there
+    → (c.serve.new.volume.core ≡ m.map) × (after : Job) × UnservedRow c.args.call.now there after c.serve.result
+    × (c.serve.new.jobs ≡ slice_set m.jobs c.args.job (Some after))) c.self.view_is
     (λ serves timely. c.serve.ensures.serving.unserved)

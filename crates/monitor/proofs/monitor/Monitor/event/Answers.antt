@@ -13,30 +13,41 @@ use Rattle.monitor.proofs.monitor.Monitor.event.Goals as goal
 pub returns-in-Call-clause-answered : goal.returns-in-Call-clause-answered
 returns-in-Call-clause-answered g c h old serves served =
     let is = c.in-Call.is in
-    subst (λ event. (new : Service) × Serves (g.D.Disk.state c.call.new.self.disk) c.call.new.self.map c.call.new.self.failed c.call.new.self.jobs new × Answers (pack_of (g.D.Disk.state c.args.self.now.disk)) old event c.call.result new) (sym is)
-    (call_answered g.D.Disk.state c.args.self.now c.call.new.self c.in-Call.job c.in-Call.call c.in-Call.moment c.call.result c.call.ensures.answered c.call.ensures.broken h old (subst (IsServedIn old) is served) serves)
+    subst (λ event. (new : Service) × Serves (g.D.Disk.state c.call.new.self.disk) c.call.new.self.map
+    c.call.new.self.failed c.call.new.self.jobs new
+    × Answers (pack_of (g.D.Disk.state c.args.self.now.disk)) old event c.call.result new) (sym is)
+    (call_answered g.D.Disk.state c.args.self.now c.call.new.self c.in-Call.job c.in-Call.call c.in-Call.moment
+    c.call.result c.call.ensures.answered c.call.ensures.broken h old (subst (IsServedIn old) is served) serves)
 
 pub returns-in-Examine-clause-answered : goal.returns-in-Examine-clause-answered
 returns-in-Examine-clause-answered g c h old serves served =
     let m = c.args.self.now in
-    subst (λ event. (new : Service) × Serves (g.D.Disk.state m.disk) m.map m.failed m.jobs new × Answers (pack_of (g.D.Disk.state m.disk)) old event c.examine.result new) (sym c.in-Examine.is) (c.examine.ensures.answered old serves)
+    subst (λ event. (new : Service) × Serves (g.D.Disk.state m.disk) m.map m.failed m.jobs new
+    × Answers (pack_of (g.D.Disk.state m.disk)) old event c.examine.result new) (sym c.in-Examine.is)
+    (c.examine.ensures.answered old serves)
 
 pub returns-in-Login-clause-crash : goal.returns-in-Login-clause-crash
 returns-in-Login-clause-crash g c h s serves =
-    untouched_event g.D.Disk.state g.met.D.Disk.only_now c.args.self.now.disk c.login.new.self.disk (ap (λ m. m.disk) c.login.ensures.kept) c.args.self.now.map c.args.self.now.jobs c.args.event.now c.login.result h s serves.1
+    untouched_event g.D.Disk.state g.met.D.Disk.only_now c.args.self.now.disk c.login.new.self.disk
+    (ap (λ m. m.disk) c.login.ensures.kept) c.args.self.now.map c.args.self.now.jobs c.args.event.now c.login.result
+    h s serves.1
 
 pub returns-in-Deposit-clause-crash : goal.returns-in-Deposit-clause-crash
 returns-in-Deposit-clause-crash g c h s serves =
-    untouched_event g.D.Disk.state g.met.D.Disk.only_now c.args.self.now.disk c.deposit.new.self.disk (ap (λ m. m.disk) c.deposit.ensures.kept) c.args.self.now.map c.args.self.now.jobs c.args.event.now c.deposit.result h s serves.1
+    untouched_event g.D.Disk.state g.met.D.Disk.only_now c.args.self.now.disk c.deposit.new.self.disk
+    (ap (λ m. m.disk) c.deposit.ensures.kept) c.args.self.now.map c.args.self.now.jobs c.args.event.now
+    c.deposit.result h s serves.1
 
 pub returns-in-Examine-clause-crash : goal.returns-in-Examine-clause-crash
 returns-in-Examine-clause-crash g c h s serves =
-    untouched_event g.D.Disk.state g.met.D.Disk.only_now c.args.self.now.disk c.args.self.now.disk refl c.args.self.now.map c.args.self.now.jobs c.args.event.now c.examine.result h s serves.1
+    untouched_event g.D.Disk.state g.met.D.Disk.only_now c.args.self.now.disk c.args.self.now.disk refl
+    c.args.self.now.map c.args.self.now.jobs c.args.event.now c.examine.result h s serves.1
 
 pub returns-in-Call-clause-crash : goal.returns-in-Call-clause-crash
 returns-in-Call-clause-crash g c h s serves =
     let m = c.args.self.now in
-    subst (λ event. LeavesOnly (g.D.Disk.state m.disk) (g.D.Disk.state c.call.new.self.disk) (StandsForEither (pack_of (g.D.Disk.state m.disk)) s event c.call.result)) (sym c.in-Call.is)
+    subst (λ event. LeavesOnly (g.D.Disk.state m.disk) (g.D.Disk.state c.call.new.self.disk)
+    (StandsForEither (pack_of (g.D.Disk.state m.disk)) s event c.call.result)) (sym c.in-Call.is)
     (c.call.ensures.crash h s serves)
 
 pub returns-in-Login-clause-still : goal.returns-in-Login-clause-still
@@ -109,7 +120,8 @@ pub returns-in-Login-clause-light : goal.returns-in-Login-clause-light
 returns-in-Login-clause-light g c light = absurd (subst (λ e. IsLightEvent e c.args.self.now.jobs) c.in-Login.is light)
 
 pub returns-in-Call-clause-light : goal.returns-in-Call-clause-light
-returns-in-Call-clause-light g c light = c.call.ensures.light (subst (λ e. IsLightEvent e c.args.self.now.jobs) c.in-Call.is light)
+returns-in-Call-clause-light g c light = c.call.ensures.light
+    (subst (λ e. IsLightEvent e c.args.self.now.jobs) c.in-Call.is light)
 
 pub returns-in-Login-clause-apart_from_disk : goal.returns-in-Login-clause-apart_from_disk
 returns-in-Login-clause-apart_from_disk g c none = ap (λ m. m.disk) c.login.ensures.kept
@@ -123,33 +135,41 @@ returns-in-Call-clause-apart_from_disk g c none = absurd (subst IsNoCall c.in-Ca
 pub returns-in-Login-clause-answered : goal.returns-in-Login-clause-answered
 returns-in-Login-clause-answered g c h old serves served =
     let m = c.login.new.self in
-    subst (λ event. (new : Service) × Serves (g.D.Disk.state m.disk) m.map m.failed m.jobs new × Answers (pack_of (g.D.Disk.state c.args.self.now.disk)) old event c.login.result new) (sym c.in-Login.is) (c.login.ensures.answered old serves)
+    subst (λ event. (new : Service) × Serves (g.D.Disk.state m.disk) m.map m.failed m.jobs new
+    × Answers (pack_of (g.D.Disk.state c.args.self.now.disk)) old event c.login.result new) (sym c.in-Login.is)
+    (c.login.ensures.answered old serves)
 
 pub returns-in-Deposit-clause-answered : goal.returns-in-Deposit-clause-answered
 returns-in-Deposit-clause-answered g c h old serves served =
     let m = c.deposit.new.self in
-    subst (λ event. (new : Service) × Serves (g.D.Disk.state m.disk) m.map m.failed m.jobs new × Answers (pack_of (g.D.Disk.state c.args.self.now.disk)) old event c.deposit.result new) (sym c.in-Deposit.is) (c.deposit.ensures.answered old serves)
+    subst (λ event. (new : Service) × Serves (g.D.Disk.state m.disk) m.map m.failed m.jobs new
+    × Answers (pack_of (g.D.Disk.state c.args.self.now.disk)) old event c.deposit.result new) (sym c.in-Deposit.is)
+    (c.deposit.ensures.answered old serves)
 
 pub returns-in-Login-clause-apart : goal.returns-in-Login-clause-apart
 returns-in-Login-clause-apart g c h s serves served =
     let m = c.login.new.self in
-    leaves_others (λ (new : Service). Serves (g.D.Disk.state m.disk) m.map m.failed m.jobs new) (pack_of (g.D.Disk.state c.args.self.now.disk)) s c.args.event.now c.login.result
+    leaves_others (λ (new : Service). Serves (g.D.Disk.state m.disk) m.map m.failed m.jobs new)
+    (pack_of (g.D.Disk.state c.args.self.now.disk)) s c.args.event.now c.login.result
     (returns-in-Login-clause-answered g c h (Serving s) serves served)
 
 pub returns-in-Deposit-clause-apart : goal.returns-in-Deposit-clause-apart
 returns-in-Deposit-clause-apart g c h s serves served =
     let m = c.deposit.new.self in
-    leaves_others (λ (new : Service). Serves (g.D.Disk.state m.disk) m.map m.failed m.jobs new) (pack_of (g.D.Disk.state c.args.self.now.disk)) s c.args.event.now c.deposit.result
+    leaves_others (λ (new : Service). Serves (g.D.Disk.state m.disk) m.map m.failed m.jobs new)
+    (pack_of (g.D.Disk.state c.args.self.now.disk)) s c.args.event.now c.deposit.result
     (returns-in-Deposit-clause-answered g c h (Serving s) serves served)
 
 pub returns-in-Examine-clause-apart : goal.returns-in-Examine-clause-apart
 returns-in-Examine-clause-apart g c h s serves served =
     let m = c.args.self.now in
-    leaves_others (λ (new : Service). Serves (g.D.Disk.state m.disk) m.map m.failed m.jobs new) (pack_of (g.D.Disk.state c.args.self.now.disk)) s c.args.event.now c.examine.result
+    leaves_others (λ (new : Service). Serves (g.D.Disk.state m.disk) m.map m.failed m.jobs new)
+    (pack_of (g.D.Disk.state c.args.self.now.disk)) s c.args.event.now c.examine.result
     (returns-in-Examine-clause-answered g c h (Serving s) serves served)
 
 pub returns-in-Call-clause-apart : goal.returns-in-Call-clause-apart
 returns-in-Call-clause-apart g c h s serves served =
     let m = c.call.new.self in
-    leaves_others (λ (new : Service). Serves (g.D.Disk.state m.disk) m.map m.failed m.jobs new) (pack_of (g.D.Disk.state c.args.self.now.disk)) s c.args.event.now c.call.result
+    leaves_others (λ (new : Service). Serves (g.D.Disk.state m.disk) m.map m.failed m.jobs new)
+    (pack_of (g.D.Disk.state c.args.self.now.disk)) s c.args.event.now c.call.result
     (returns-in-Call-clause-answered g c h (Serving s) serves served)

@@ -16,10 +16,15 @@ fits z few = search (arith, ints)
 
 pub returns : goal.returns
 returns g c =
-    subst (λ m. (g.D.Disk.state m.disk).honest → (s : State) → (m.failed ≡ false) × IsState (g.D.Disk.state m.disk) m.map m.jobs s → to_z w64 (of_z w64 c.room.result) ≡ room (pack_of (g.D.Disk.state m.disk)) s) c.self.view_is
+    subst (λ m. (g.D.Disk.state m.disk).honest → (s : State) → (m.failed ≡ false)
+    × IsState (g.D.Disk.state m.disk) m.map m.jobs s → to_z w64 (of_z w64 c.room.result)
+    ≡ room (pack_of (g.D.Disk.state m.disk)) s) c.self.view_is
     (λ h s state.
     let d = g.D.Disk.state c.self.inside.volume.disk in
     let map = c.self.inside.volume.core in
     let sound = c.has_failed-failed.ensures.sound in
-    let all = booked_is d map c.self.inside.jobs s state.1 sound.whole (rest_holds d map c.self.inside.volume.failed sound h state.0 (without_serials s.files) state.1.files) in
-    to_z-of_z w64 c.room.result (fits c.room.result c.room.type_inv) ∙ c.room.ensures h state.0 (without_serials s.files) state.1.files ∙ ap (λ n. pos (d.size - space_start d.size) -ℤ pos n) (sym all))
+    let all = booked_is d map c.self.inside.jobs s state.1 sound.whole
+    (rest_holds d map c.self.inside.volume.failed sound h state.0 (without_serials s.files) state.1.files) in
+    to_z-of_z w64 c.room.result (fits c.room.result c.room.type_inv)
+    ∙ c.room.ensures h state.0 (without_serials s.files) state.1.files
+    ∙ ap (λ n. pos (d.size - space_start d.size) -ℤ pos n) (sym all))

@@ -1,11 +1,13 @@
-use Rattle.std.proofs.Common.{◌≡◌, [], ◌∷◌, ◌++◌, ◌+◌, length, take, refl, inl, sym, ap, subst, ◌∙◌, arith, length-append}
+use Rattle.std.proofs.Common.{◌≡◌, [], ◌∷◌, ◌++◌, ◌+◌, length, take, refl, inl, sym, ap, subst, ◌∙◌, arith}
+use Rattle.std.proofs.Common.{length-append}
 use Rattle.std.specs.Prelude.{is_ok, if◌then◌else◌}
 use Rattle.std.specs.List.{AllByRecursion}
 use Rattle.std.proofs.lemmas.List.{take_more, take_all, length-take-le}
 use Rattle.blockdisk.specs.Laws.{same_disk_start, same_disk_on}
 use Rattle.meaning.specs.declared.call.Reply.TheVariants.{Device, Failed}
 use Rattle.monitor.specs.Runs.{TellsFault, FailsOnce}
-use Rattle.monitor.proofs.Listed.{Ran, ran_start, ran_still, ran_more, told_more, counted_more, served_more, failed_once, broken_more}
+use Rattle.monitor.proofs.Listed.{Ran, ran_start, ran_still, ran_more, told_more, counted_more, served_more}
+use Rattle.monitor.proofs.Listed.{failed_once, broken_more}
 use Rattle.monitor.proofs.monitor.Monitor.serve.Goals as goal
 
 pub loop-event-init : goal.loop-event-init
@@ -37,24 +39,36 @@ loop-event-preserved g c =
     let is = c.loop-event.invariant in
     let does = c.event-reply.ensures in
     let stays = does.broken in
-    let grown : c.push.new.self.items ≡ replies ++ reply ∷ [] = c.push.ensures.items ∙ ap (λ r. if is_ok r then replies ++ reply ∷ [] else replies) c.unwrap.ensures in
-    let took : take (c.loop-event.event-index + 1) c.args.events.now ≡ so_far ++ event ∷ [] = take_more c.args.events.now c.loop-event.event-index event c.loop-event-test.true ∙ ap (λ e. so_far ++ e ∷ []) (sym c.event-item.is) in
-    let even : length replies ≡ length so_far = is.count ∙ sym (length-take-le c.loop-event.event-index c.args.events.now c.loop-event.auto.event-index-end) in
+    let grown : c.push.new.self.items ≡ replies ++ reply ∷ [] = c.push.ensures.items
+    ∙ ap (λ r. if is_ok r then replies ++ reply ∷ [] else replies) c.unwrap.ensures in
+    let took : take (c.loop-event.event-index + 1) c.args.events.now
+    ≡ so_far ++ event ∷ [] = take_more c.args.events.now c.loop-event.event-index event c.loop-event-test.true
+    ∙ ap (λ e. so_far ++ e ∷ []) (sym c.event-item.is) in
+    let even : length replies ≡ length so_far = is.count
+    ∙ sym (length-take-le c.loop-event.event-index c.args.events.now c.loop-event.auto.event-index-end) in
     let same = same_disk_on (state first.disk) (state old.disk) (state new.disk) is.same does.same in
     record {
-      runs = subst (λ es. Ran state first new es c.push.new.self.items) (sym took) (subst (Ran state first new (so_far ++ event ∷ [])) (sym grown)
-          (ran_more state first old new so_far replies event reply even is.same same does.same does.answered does.crash stays is.runs));
+      runs = subst (λ es. Ran state first new es c.push.new.self.items) (sym took)
+          (subst (Ran state first new (so_far ++ event ∷ [])) (sym grown)
+          (ran_more state first old new so_far replies event reply even is.same same does.same does.answered
+          does.crash stays is.runs));
       count = ap length grown ∙ length-append replies (reply ∷ []) ∙ ap (λ n. n + 1) is.count;
       room = omega (arith, is.room, c.push.ensures.capacity);
       same = same;
-      broken = λ failed. let more = broken_more state first old new so_far replies event reply stays is.broken failed in (subst (AllByRecursion (λ x. x ≡ Failed)) (sym grown) more.0, more.1);
-      served = λ all. served_more state first old new so_far replies event reply does.served is.served (subst (AllByRecursion (λ x. x ≡ Device → ⊥)) grown all);
-      counted = λ tells. counted_more state first old new so_far replies event reply stays is.told does.counted does.served is.served is.counted (subst TellsFault grown tells);
-      told = λ tells. told_more state first old new so_far replies event reply stays (λ e. does.failed.1 (inl e)) is.told (subst TellsFault grown tells);
-      once = subst FailsOnce (sym grown) (failed_once state first old new so_far replies event reply stays is.told is.once);
+      broken = λ failed. let more = broken_more state first old new so_far replies event reply stays is.broken failed in
+          (subst (AllByRecursion (λ x. x ≡ Failed)) (sym grown) more.0, more.1);
+      served = λ all. served_more state first old new so_far replies event reply does.served is.served
+          (subst (AllByRecursion (λ x. x ≡ Device → ⊥)) grown all);
+      counted = λ tells. counted_more state first old new so_far replies event reply stays is.told does.counted
+          does.served is.served is.counted (subst TellsFault grown tells);
+      told = λ tells. told_more state first old new so_far replies event reply stays
+          (λ e. does.failed.1 (inl e)) is.told (subst TellsFault grown tells);
+      once = subst FailsOnce (sym grown)
+          (failed_once state first old new so_far replies event reply stays is.told is.once);
     }
 
 pub returns-clause-runs : goal.returns-clause-runs
 returns-clause-runs g c =
     ran_still g.D.Disk.state c.args.self.now c.loop-event.self c.args.events.now c.loop-event.replies.items
-    (subst (λ es. Ran g.D.Disk.state c.args.self.now c.loop-event.self es c.loop-event.replies.items) (take_all c.loop-event.event-index c.args.events.now c.loop-event-test.false) c.loop-event.invariant.runs)
+    (subst (λ es. Ran g.D.Disk.state c.args.self.now c.loop-event.self es c.loop-event.replies.items)
+    (take_all c.loop-event.event-index c.args.events.now c.loop-event-test.false) c.loop-event.invariant.runs)

@@ -16,8 +16,10 @@ invariant-loop-event g l =
       count : length l.replies.items ≡ l.event-index;
       room : length l.events ≤ vec_capacity l.replies;
       same : SameDisk (state l.fn.self.disk) (state l.self.disk);
-      broken : l.fn.self.failed ≡ true → AllByRecursion (λ reply. reply ≡ Failed) l.replies.items × (l.self ≡ l.fn.self);
-      served : AllByRecursion (λ reply. reply ≡ Device → ⊥) l.replies.items → (state l.self.disk).failures ≡ (state l.fn.self.disk).failures;
+      broken : l.fn.self.failed ≡ true → AllByRecursion (λ reply. reply ≡ Failed) l.replies.items
+          × (l.self ≡ l.fn.self);
+      served : AllByRecursion (λ reply. reply ≡ Device → ⊥) l.replies.items
+          → (state l.self.disk).failures ≡ (state l.fn.self.disk).failures;
       counted : TellsFault l.replies.items → (state l.self.disk).failures ≡ one_more (state l.fn.self.disk).failures;
       told : TellsFault l.replies.items → l.self.failed ≡ true;
       once : FailsOnce l.replies.items;

@@ -12,7 +12,8 @@ invariant_of-result g c serves = (
 pub returns-in-Ok-clause-started : goal.returns-in-Ok-clause-started
 returns-in-Ok-clause-started g c files stands s start h = (
   c.in_ok-volume.ensures.serves,
-  started (g.D.Disk.state c.in_ok-volume.volume.disk) c.in_ok-volume.volume.core c.in-Ok.jobs s files (c.in_ok-volume.ensures.files files stands h) c.in_ok-volume.ensures.unread c.in_ok-volume.ensures.unwritten
+  started (g.D.Disk.state c.in_ok-volume.volume.disk) c.in_ok-volume.volume.core c.in-Ok.jobs s files
+      (c.in_ok-volume.ensures.files files stands h) c.in_ok-volume.ensures.unread c.in_ok-volume.ensures.unwritten
       c.in-Ok.ensures start,
 )
 

@@ -15,5 +15,7 @@ returns-clause-done c =
     let h = c.args.header in
     let size = bits_of c.args.bytes in
     let ready = c.make_ready.new.self in
-    ap (option_map (λ old. after_writes old (in_writes old h size c.args.status.0 (take data_words c.args.words.now)))) (in_is _ _ h size _ c.in_ok-ring_check.ensures.words c.make_ready.ensures.ready)
-    ∙ ap Some (sym (c.fill.ensures.filled ∙ ap (λ ws. after_writes ready (in_writes ready h size c.args.status.0 ws)) (take_fewer data_words c.min.result c.args.words.now c.min.ensures)))
+    ap (option_map (λ old. after_writes old (in_writes old h size c.args.status.0 (take data_words c.args.words.now))))
+    (in_is _ _ h size _ c.in_ok-ring_check.ensures.words c.make_ready.ensures.ready)
+    ∙ ap Some (sym (c.fill.ensures.filled ∙ ap (λ ws. after_writes ready (in_writes ready h size c.args.status.0 ws))
+    (take_fewer data_words c.min.result c.args.words.now c.min.ensures)))

@@ -13,5 +13,6 @@ pub returns-clause-done : goal.returns-clause-done
 returns-clause-done c =
     let h = c.args.header in
     let size = bits_of c.args.bytes in
-    ap (option_map (λ ready. after_writes ready (out_writes ready h size))) (out_is _ _ h size _ c.in_ok-ring_check.ensures.words c.make_ready.ensures.ready)
+    ap (option_map (λ ready. after_writes ready (out_writes ready h size)))
+    (out_is _ _ h size _ c.in_ok-ring_check.ensures.words c.make_ready.ensures.ready)
     ∙ ap Some (sym c.empty.ensures.emptied)

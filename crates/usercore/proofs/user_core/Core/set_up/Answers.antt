@@ -9,5 +9,6 @@ returns-clause-done c =
     let base = c.base-base.result in
     let n = c.args.count in
     let whole : c.loop-k.k ≡ n = omega arith in
-    let done = setup_parts c.args.self.now c.args.header (bits_of c.args.bytes) n (base + 1) (base + n * buffer_words) (omega arith) (omega arith) (omega arith) (omega arith) in
+    let done = setup_parts c.args.self.now c.args.header (bits_of c.args.bytes) n (base + 1) (base + n * buffer_words)
+    (omega arith) (omega arith) (omega arith) (omega arith) in
     cc

@@ -25,6 +25,8 @@ returns-clause-value g c = rw (← c.self.view_is) (λ honest alive files rest.
     let at = c.in_ok-i.ensures.found in
     let i = c.in_ok-i.i in
     let entry = get_or c.self.inside.map.master.entries i c.index-entries-i.result in
-    let seen : master_view entry ≡ (c.args.ppn, at.0) = viewed_get master_view c.self.inside.map.master.entries i (c.args.ppn, at.0) c.index-entries-i.result at.1.is in
+    let seen : master_view entry ≡ (c.args.ppn, at.0) = viewed_get master_view c.self.inside.map.master.entries i
+    (c.args.ppn, at.0) c.index-entries-i.result at.1.is in
     ap (λ es. Ok (get_or es i c.index-entries-i.result).protection) c.entries.ensures.value
-    ∙ sym (directory_protection s k files holds c.args.ppn entry.protection entry.first (at.1.found ∙ ap Some (sym (ap (λ e. e.1) seen)))))
+    ∙ sym (directory_protection s k files holds c.args.ppn entry.protection entry.first (at.1.found
+    ∙ ap Some (sym (ap (λ e. e.1) seen)))))

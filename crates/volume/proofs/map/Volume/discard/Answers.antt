@@ -7,5 +7,6 @@ pub invariant_of-self : goal.invariant_of-self
 invariant_of-self g c =
     let new = c.discard_in_core.new.core in
     let ensures = c.discard_in_core.ensures in
-    dropped_sound (g.D.Disk.state c.self.inside.disk) (core_of c.self.inside.map) (core_of new) c.self.inside.failed new.table.size c.args.pending.key new.table.held new.table.booked
+    dropped_sound (g.D.Disk.state c.self.inside.disk) (core_of c.self.inside.map)
+    (core_of new) c.self.inside.failed new.table.size c.args.pending.key new.table.held new.table.booked
     c.self.invariant refl ensures.whole ensures.gone ensures.others ensures.live ensures.table

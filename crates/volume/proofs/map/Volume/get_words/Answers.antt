@@ -10,24 +10,30 @@ use Rattle.volume.proofs.map.Volume.get_words.Goals as goal
 pub get_words-requires-clause-inside : goal.get_words-requires-clause-inside
 get_words-requires-clause-inside g c =
     let s = g.D.Disk.state c.self.inside.disk in
-    readable_inside s.size (core_of c.self.inside.map) c.self.invariant.whole c.booked-booked.ensures.sound c.args.handle c.version_under-version.result.now (subst (λ m. IsReadable m.core c.args.handle) (sym c.self.view_is) c.requires.live) c.version_under-version.ensures
+    readable_inside s.size (core_of c.self.inside.map) c.self.invariant.whole c.booked-booked.ensures.sound
+    c.args.handle c.version_under-version.result.now (subst (λ m. IsReadable m.core c.args.handle)
+    (sym c.self.view_is) c.requires.live) c.version_under-version.ensures
 
 pub version_under-version-requires : goal.version_under-version-requires
 version_under-version-requires g c = subst (λ m. IsReadable m.core c.args.handle) (sym c.self.view_is) c.requires.live
 
 pub returns-in-Ok-clause-reads : goal.returns-in-Ok-clause-reads
-returns-in-Ok-clause-reads g c = rw (← c.self.view_is) (λ h. reads_of (g.D.Disk.state c.self.inside.disk) (g.D.Disk.state c.get_words.new.disk) (c.get_words.ensures.keeps h))
+returns-in-Ok-clause-reads g c = rw (← c.self.view_is) (λ h. reads_of (g.D.Disk.state c.self.inside.disk)
+    (g.D.Disk.state c.get_words.new.disk) (c.get_words.ensures.keeps h))
 
 pub returns-in-Ok-clause-whole : goal.returns-in-Ok-clause-whole
 returns-in-Ok-clause-whole g c = rw (← c.self.view_is) (λ h v is i some none.
     let s = g.D.Disk.state c.self.inside.disk in
-    c.in-Ok.ensures.whole h i some (subst (λ (w : VersionState). s.contents (slice_index w.blocks (c.args.block - 1 + i)) ≡ None) (some_same (sym is ∙ c.version_under-version.ensures)) none))
+    c.in-Ok.ensures.whole h i some (subst
+    (λ (w : VersionState). s.contents (slice_index w.blocks (c.args.block - 1 + i))
+    ≡ None) (some_same (sym is ∙ c.version_under-version.ensures)) none))
 
 pub invariant_of-self : goal.invariant_of-self
 invariant_of-self g c =
     let s = g.D.Disk.state c.self.inside.disk in
     let s' = g.D.Disk.state c.get_words.new.disk in
-    sound_read s s' (core_of c.self.inside.map) c.self.inside.failed c.get_words.ensures.same.size c.get_words.ensures.same.was_honest (λ h. reads_of s s' (c.get_words.ensures.keeps h)) c.self.invariant
+    sound_read s s' (core_of c.self.inside.map) c.self.inside.failed c.get_words.ensures.same.size
+    c.get_words.ensures.same.was_honest (λ h. reads_of s s' (c.get_words.ensures.keeps h)) c.self.invariant
 
 pub returns-in-Ok-clause-rests : goal.returns-in-Ok-clause-rests
 returns-in-Ok-clause-rests g c = rw (← c.self.view_is) (λ h files rests.
@@ -52,4 +58,8 @@ returns-in-Err-BadData-clause-given_up g c = rw (← c.self.view_is) (λ is. inr
     let s = g.D.Disk.state c.self.inside.disk in
     let v = c.version_under-version.result.now in
     let bad = c.get_words.ensures.damaged h c.in-Err-BadData._block (cc) in
-    undamaged s.contents v c.in-Err-BadData._block (readable_body s (core_of c.self.inside.map) c.self.inside.failed c.self.invariant (c.get_words.ensures.same.was_honest h) c.if-self.false c.args.handle v (subst (λ m. IsReadable m.core c.args.handle) (sym c.self.view_is) c.requires.live) c.version_under-version.ensures) bad.0 bad.1))
+    undamaged s.contents v c.in-Err-BadData._block
+    (readable_body s (core_of c.self.inside.map) c.self.inside.failed c.self.invariant
+    (c.get_words.ensures.same.was_honest h) c.if-self.false c.args.handle v
+    (subst (λ m. IsReadable m.core c.args.handle) (sym c.self.view_is) c.requires.live) c.version_under-version.ensures)
+    bad.0 bad.1))

@@ -31,7 +31,9 @@ directory_lines-requires-clause-keyed g c =
     let entries = length-map m.master.entries master_view in
     let directories = length-map m.directories.items (live_directory m.versions.slots) in
     let aligned = c.self.invariant.whole.map.aligned in
-    keyed_at m.versions.slots (live_directory m.versions.slots) (λ d. d.keys.items) m.directories.items c.in_ok-i.i c.index-directory.result.now c.index-directory.result.now c.self.invariant.whole.keyed (omega arith) c.index-directory.ensures
+    keyed_at m.versions.slots (live_directory m.versions.slots) (λ d. d.keys.items) m.directories.items
+    c.in_ok-i.i c.index-directory.result.now c.index-directory.result.now c.self.invariant.whole.keyed
+    (omega arith) c.index-directory.ensures
 
 pub returns-clause-listed : goal.returns-clause-listed
 returns-clause-listed g c = rw (← c.self.view_is) (λ honest alive files rest.
@@ -42,8 +44,15 @@ returns-clause-listed g c = rw (← c.self.view_is) (λ honest alive files rest.
     let at = c.in_ok-i.ensures.found in
     let m = c.self.inside.map in
     let d = (live_directory c.self.inside.map.versions.slots) c.index-directory.result.now in
-    let there = directory_there s k files holds c.args.ppn at.0 c.in_ok-i.i at.1 d (placed (live_directory c.self.inside.map.versions.slots) m.directories.items (map master_view m.master.entries) c.in_ok-i.i c.index-directory.result.now at.1.within c.self.invariant.whole.map.aligned c.index-directory.ensures) in
-    if_ok_on c.directory_lines.result (λ lines zip. (directory_of there.stored, there.get_is, lines_are k files c.args.ppn d there lines.items zip)) c.directory_lines.ensures.listed)
+    let there = directory_there s k files holds c.args.ppn at.0 c.in_ok-i.i at.1 d
+    (placed (live_directory c.self.inside.map.versions.slots) m.directories.items
+    (map master_view m.master.entries) c.in_ok-i.i c.index-directory.result.now at.1.within
+    c.self.invariant.whole.map.aligned c.index-directory.ensures) in
+    if_ok_on c.directory_lines.result (λ lines zip. (
+      directory_of there.stored,
+      there.get_is,
+      lines_are k files c.args.ppn d there lines.items zip,
+    )) c.directory_lines.ensures.listed)
 
 pub returns-clause-refused : goal.returns-clause-refused
 returns-clause-refused g c = rw (← c.self.view_is) (λ honest alive files rest.
@@ -54,5 +63,12 @@ returns-clause-refused g c = rw (← c.self.view_is) (λ honest alive files rest
     let at = c.in_ok-i.ensures.found in
     let m = c.self.inside.map in
     let d = (live_directory c.self.inside.map.versions.slots) c.index-directory.result.now in
-    let there = directory_there s k files holds c.args.ppn at.0 c.in_ok-i.i at.1 d (placed (live_directory c.self.inside.map.versions.slots) m.directories.items (map master_view m.master.entries) c.in_ok-i.i c.index-directory.result.now at.1.within c.self.invariant.whole.map.aligned c.index-directory.ensures) in
-    (λ is. let other : Refused NoDirectory ≡ NoMemory = refusal (λ (e : CallError). e ≡ NoMemory) c.directory_lines.result (Refused NoDirectory) is c.directory_lines.ensures.only in cc, λ none. absurd (some_none (sym there.get_is ∙ none))))
+    let there = directory_there s k files holds c.args.ppn at.0 c.in_ok-i.i at.1 d
+    (placed (live_directory c.self.inside.map.versions.slots) m.directories.items
+    (map master_view m.master.entries) c.in_ok-i.i c.index-directory.result.now at.1.within
+    c.self.invariant.whole.map.aligned c.index-directory.ensures) in (
+      λ is. let other : Refused NoDirectory
+          ≡ NoMemory = refusal (λ (e : CallError). e ≡ NoMemory) c.directory_lines.result
+          (Refused NoDirectory) is c.directory_lines.ensures.only in cc,
+      λ none. absurd (some_none (sym there.get_is ∙ none)),
+    ))

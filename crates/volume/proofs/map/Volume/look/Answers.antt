@@ -16,7 +16,8 @@ returns-in_err-i-clause-value g c = rw (← c.self.view_is) (λ honest alive fil
     let holds = rest_holds s core c.self.inside.failed c.self.invariant honest alive files rest in
     let none = directory_none s k files holds c.args.ppn (c.in_err-i.ensures.none refl) in
     let p = err_from_is_err_and c.from_residual.result c.from_residual.ensures.1 in
-    subst (IsLookAnswer c.args.name.now c.from_residual.result) (sym none) (p.1 ∙ ap Err (p.2 ∙ c.in_err-i.ensures.only)))
+    subst (IsLookAnswer c.args.name.now c.from_residual.result) (sym none) (p.1
+    ∙ ap Err (p.2 ∙ c.in_err-i.ensures.only)))
 
 pub named_facts-requires-clause-keyed : goal.named_facts-requires-clause-keyed
 named_facts-requires-clause-keyed g c =
@@ -25,7 +26,9 @@ named_facts-requires-clause-keyed g c =
     let entries = length-map m.master.entries master_view in
     let directories = length-map m.directories.items (live_directory m.versions.slots) in
     let aligned = c.self.invariant.whole.map.aligned in
-    keyed_at m.versions.slots (live_directory m.versions.slots) (λ d. d.keys.items) m.directories.items c.in_ok-i.i c.index-directory.result.now c.index-directory.result.now c.self.invariant.whole.keyed (omega arith) c.index-directory.ensures
+    keyed_at m.versions.slots (live_directory m.versions.slots) (λ d. d.keys.items) m.directories.items
+    c.in_ok-i.i c.index-directory.result.now c.index-directory.result.now c.self.invariant.whole.keyed
+    (omega arith) c.index-directory.ensures
 
 pub returns-clause-value : goal.returns-clause-value
 returns-clause-value g c = rw (← c.self.view_is) (λ honest alive files rest.
@@ -36,6 +39,9 @@ returns-clause-value g c = rw (← c.self.view_is) (λ honest alive files rest.
     let at = c.in_ok-i.ensures.found in
     let m = c.self.inside.map in
     let d = (live_directory c.self.inside.map.versions.slots) c.index-directory.result.now in
-    let placed_at = placed (live_directory c.self.inside.map.versions.slots) m.directories.items (map master_view m.master.entries) c.in_ok-i.i c.index-directory.result.now at.1.within c.self.invariant.whole.map.aligned c.index-directory.ensures in
+    let placed_at = placed (live_directory c.self.inside.map.versions.slots) m.directories.items
+    (map master_view m.master.entries) c.in_ok-i.i c.index-directory.result.now at.1.within
+    c.self.invariant.whole.map.aligned c.index-directory.ensures in
     let there = directory_there s k files holds c.args.ppn at.0 c.in_ok-i.i at.1 d placed_at in
-    look_answered k files c.args.ppn d there c.args.name.now c.named_facts.result c.named_facts.ensures.found c.named_facts.ensures.none c.named_facts.ensures.only)
+    look_answered k files c.args.ppn d there c.args.name.now c.named_facts.result c.named_facts.ensures.found
+    c.named_facts.ensures.none c.named_facts.ensures.only)

@@ -4,7 +4,8 @@ use Rattle.changeset.specs.Puts.{IsPutIn}
 use Rattle.volume.specs.LiveCores.{core_of}
 use Rattle.volume.specs.Making.{IsMade}
 use Rattle.volume.proofs.LiveBodies.{bodies_stay, bodies_of, used_read, used_written}
-use Rattle.volume.proofs.MakingDirectories.{sound_for, sound_failed, made_core, puts_in_range, not_written, made_crash, made_rest, made_at, made_done}
+use Rattle.volume.proofs.MakingDirectories.{sound_for, sound_failed, made_core, puts_in_range, not_written, made_crash}
+use Rattle.volume.proofs.MakingDirectories.{made_rest, made_at, made_done}
 use Rattle.volume.proofs.MakingTransactions.{near_closed}
 use Rattle.volume.proofs.MakingPlaces.{directory_stays, primes_stay}
 use Rattle.volume.proofs.map.Volume.make_dir.Goals as goal
@@ -15,8 +16,10 @@ write_and_commit-requires-clause-in_range g c =
     let k = (core_of c.self.inside.map).known in
     let k' = (core_of c.make_in_core.new.core).known in
     let made : IsMade s.size k k' c.args.ppn c.args.protection c.in-Ok.first c.make_in_core.new.set =
-    subst (λ (b : ℕ). IsMade b k k' c.args.ppn c.args.protection c.in-Ok.first c.make_in_core.new.set) c.self.invariant.whole.map.size_is c.in-Ok.ensures.made in
-    puts_in_range s.size k k' c.args.ppn c.args.protection c.in-Ok.first c.make_in_core.new.set c.self.invariant.whole.map made
+    subst (λ (b : ℕ). IsMade b k k' c.args.ppn c.args.protection c.in-Ok.first c.make_in_core.new.set)
+    c.self.invariant.whole.map.size_is c.in-Ok.ensures.made in
+    puts_in_range s.size k k' c.args.ppn c.args.protection c.in-Ok.first c.make_in_core.new.set
+    c.self.invariant.whole.map made
 
 pub invariant_of-self-in-Ok-write_and_commit : goal.invariant_of-self-in-Ok-write_and_commit
 invariant_of-self-in-Ok-write_and_commit g c =
@@ -26,17 +29,25 @@ invariant_of-self-in-Ok-write_and_commit g c =
     let k' = (core_of c.make_in_core.new.core).known in
     let whole = c.self.invariant.whole.map in
     let made : IsMade s.size k k' c.args.ppn c.args.protection c.in-Ok.first c.make_in_core.new.set =
-    subst (λ (b : ℕ). IsMade b k k' c.args.ppn c.args.protection c.in-Ok.first c.make_in_core.new.set) c.self.invariant.whole.map.size_is c.in-Ok.ensures.made in
-    sound_for s s' (core_of c.make_in_core.new.core) c.self.inside.failed c.write_and_commit.ensures.same.size (made_core s.size k k' c.args.ppn c.args.protection c.in-Ok.first c.make_in_core.new.set whole made (core_of c.self.inside.map) (core_of c.make_in_core.new.core) c.self.invariant.whole refl refl c.make_in_core.ensures.live c.make_in_core.ensures.pending c.in-Ok.ensures.keys)
+    subst (λ (b : ℕ). IsMade b k k' c.args.ppn c.args.protection c.in-Ok.first c.make_in_core.new.set)
+    c.self.invariant.whole.map.size_is c.in-Ok.ensures.made in
+    sound_for s s' (core_of c.make_in_core.new.core) c.self.inside.failed c.write_and_commit.ensures.same.size
+    (made_core s.size k k' c.args.ppn c.args.protection c.in-Ok.first c.make_in_core.new.set whole made
+    (core_of c.self.inside.map) (core_of c.make_in_core.new.core) c.self.invariant.whole refl refl
+    c.make_in_core.ensures.live c.make_in_core.ensures.pending c.in-Ok.ensures.keys)
     (λ h' ok.
     let h : s.honest = c.write_and_commit.ensures.same.was_honest h' in
-    bodies_of s'.contents (core_of c.self.inside.map) (core_of c.make_in_core.new.core) c.make_in_core.ensures.live c.make_in_core.ensures.pending
+    bodies_of s'.contents (core_of c.self.inside.map) (core_of c.make_in_core.new.core) c.make_in_core.ensures.live
+    c.make_in_core.ensures.pending
     (bodies_stay s (core_of c.self.inside.map) c.self.inside.failed s'.contents c.self.invariant h ok
-    (λ n is. (c.in-Ok-write_and_commit.ensures.modified h').contents n (not_written s.size k k' c.args.ppn c.args.protection c.in-Ok.first c.make_in_core.new.set whole made n is.from is.apart is.used))))
+    (λ n is. (c.in-Ok-write_and_commit.ensures.modified h').contents n
+    (not_written s.size k k' c.args.ppn c.args.protection c.in-Ok.first c.make_in_core.new.set whole made
+    n is.from is.apart is.used))))
     (λ h' ok.
     let h : s.honest = c.write_and_commit.ensures.same.was_honest h' in
     let at = c.self.invariant.rest h ok in
-    made_at s s' k k' c.args.ppn c.args.protection c.in-Ok.first c.make_in_core.new.set c.requires.protection whole made at c.write_and_commit.ensures.same.size (c.in-Ok-write_and_commit.ensures.done h' k k'))
+    made_at s s' k k' c.args.ppn c.args.protection c.in-Ok.first c.make_in_core.new.set c.requires.protection
+    whole made at c.write_and_commit.ensures.same.size (c.in-Ok-write_and_commit.ensures.done h' k k'))
 
 pub returns-in-Ok-write_and_commit-clause-crash : goal.returns-in-Ok-write_and_commit-clause-crash
 returns-in-Ok-write_and_commit-clause-crash g c = rw (← c.self.view_is) (λ h f rests.
@@ -46,8 +57,11 @@ returns-in-Ok-write_and_commit-clause-crash g c = rw (← c.self.view_is) (λ h 
     let k' = (core_of c.make_in_core.new.core).known in
     let whole = c.self.invariant.whole.map in
     let made : IsMade s.size k k' c.args.ppn c.args.protection c.in-Ok.first c.make_in_core.new.set =
-    subst (λ (b : ℕ). IsMade b k k' c.args.ppn c.args.protection c.in-Ok.first c.make_in_core.new.set) c.self.invariant.whole.map.size_is c.in-Ok.ensures.made in
-    made_crash s s' k k' c.args.ppn c.args.protection c.in-Ok.first c.make_in_core.new.set c.requires.protection whole made (c.self.invariant.rest (c.write_and_commit.ensures.same.was_honest h) c.if-self.false) f rests (c.write_and_commit.ensures.crash h k k'))
+    subst (λ (b : ℕ). IsMade b k k' c.args.ppn c.args.protection c.in-Ok.first c.make_in_core.new.set)
+    c.self.invariant.whole.map.size_is c.in-Ok.ensures.made in
+    made_crash s s' k k' c.args.ppn c.args.protection c.in-Ok.first c.make_in_core.new.set c.requires.protection
+    whole made (c.self.invariant.rest (c.write_and_commit.ensures.same.was_honest h) c.if-self.false) f rests
+    (c.write_and_commit.ensures.crash h k k'))
 
 pub returns-in-Ok-write_and_commit-clause-kept : goal.returns-in-Ok-write_and_commit-clause-kept
 returns-in-Ok-write_and_commit-clause-kept g c = rw (← c.self.view_is) (λ h n from none used closed.
@@ -57,8 +71,11 @@ returns-in-Ok-write_and_commit-clause-kept g c = rw (← c.self.view_is) (λ h n
     let k' = (core_of c.make_in_core.new.core).known in
     let whole = c.self.invariant.whole.map in
     let made : IsMade s.size k k' c.args.ppn c.args.protection c.in-Ok.first c.make_in_core.new.set =
-    subst (λ (b : ℕ). IsMade b k k' c.args.ppn c.args.protection c.in-Ok.first c.make_in_core.new.set) c.self.invariant.whole.map.size_is c.in-Ok.ensures.made in
-    (c.in-Ok-write_and_commit.ensures.modified h).contents n (not_written s.size k k' c.args.ppn c.args.protection c.in-Ok.first c.make_in_core.new.set whole made n from none used))
+    subst (λ (b : ℕ). IsMade b k k' c.args.ppn c.args.protection c.in-Ok.first c.make_in_core.new.set)
+    c.self.invariant.whole.map.size_is c.in-Ok.ensures.made in
+    (c.in-Ok-write_and_commit.ensures.modified h).contents n
+    (not_written s.size k k' c.args.ppn c.args.protection c.in-Ok.first c.make_in_core.new.set whole made
+    n from none used))
 
 pub returns-in-Err-write_and_commit-clause-crash : goal.returns-in-Err-write_and_commit-clause-crash
 returns-in-Err-write_and_commit-clause-crash g c = rw (← c.self.view_is) (λ h f rests.
@@ -68,8 +85,11 @@ returns-in-Err-write_and_commit-clause-crash g c = rw (← c.self.view_is) (λ h
     let k' = (core_of c.make_in_core.new.core).known in
     let whole = c.self.invariant.whole.map in
     let made : IsMade s.size k k' c.args.ppn c.args.protection c.in-Ok.first c.make_in_core.new.set =
-    subst (λ (b : ℕ). IsMade b k k' c.args.ppn c.args.protection c.in-Ok.first c.make_in_core.new.set) c.self.invariant.whole.map.size_is c.in-Ok.ensures.made in
-    made_crash s s' k k' c.args.ppn c.args.protection c.in-Ok.first c.make_in_core.new.set c.requires.protection whole made (c.self.invariant.rest (c.write_and_commit.ensures.same.was_honest h) c.if-self.false) f rests (c.write_and_commit.ensures.crash h k k'))
+    subst (λ (b : ℕ). IsMade b k k' c.args.ppn c.args.protection c.in-Ok.first c.make_in_core.new.set)
+    c.self.invariant.whole.map.size_is c.in-Ok.ensures.made in
+    made_crash s s' k k' c.args.ppn c.args.protection c.in-Ok.first c.make_in_core.new.set c.requires.protection
+    whole made (c.self.invariant.rest (c.write_and_commit.ensures.same.was_honest h) c.if-self.false) f rests
+    (c.write_and_commit.ensures.crash h k k'))
 
 pub returns-in-Err-write_and_commit-clause-kept : goal.returns-in-Err-write_and_commit-clause-kept
 returns-in-Err-write_and_commit-clause-kept g c = rw (← c.self.view_is) (λ h n from none used closed.
@@ -79,8 +99,12 @@ returns-in-Err-write_and_commit-clause-kept g c = rw (← c.self.view_is) (λ h 
     let k' = (core_of c.make_in_core.new.core).known in
     let whole = c.self.invariant.whole.map in
     let made : IsMade s.size k k' c.args.ppn c.args.protection c.in-Ok.first c.make_in_core.new.set =
-    subst (λ (b : ℕ). IsMade b k k' c.args.ppn c.args.protection c.in-Ok.first c.make_in_core.new.set) c.self.invariant.whole.map.size_is c.in-Ok.ensures.made in
-    near_closed (λ m. (m ≡ c.in-Ok.first) ⊎ (IsGateOrLog s.size m ⊎ IsPutIn c.make_in_core.new.set m)) s s' (c.write_and_commit.ensures.near h) n (not_written s.size k k' c.args.ppn c.args.protection c.in-Ok.first c.make_in_core.new.set whole made n from none used) (closed refl))
+    subst (λ (b : ℕ). IsMade b k k' c.args.ppn c.args.protection c.in-Ok.first c.make_in_core.new.set)
+    c.self.invariant.whole.map.size_is c.in-Ok.ensures.made in
+    near_closed (λ m. (m ≡ c.in-Ok.first) ⊎ (IsGateOrLog s.size m ⊎ IsPutIn c.make_in_core.new.set m)) s s'
+    (c.write_and_commit.ensures.near h) n
+    (not_written s.size k k' c.args.ppn c.args.protection c.in-Ok.first c.make_in_core.new.set whole made
+    n from none used) (closed refl))
 
 pub returns-in-Ok-write_and_commit-clause-done : goal.returns-in-Ok-write_and_commit-clause-done
 returns-in-Ok-write_and_commit-clause-done g c = rw (← c.self.view_is) (λ h f rests.
@@ -90,10 +114,13 @@ returns-in-Ok-write_and_commit-clause-done g c = rw (← c.self.view_is) (λ h f
     let k' = (core_of c.make_in_core.new.core).known in
     let whole = c.self.invariant.whole.map in
     let made : IsMade s.size k k' c.args.ppn c.args.protection c.in-Ok.first c.make_in_core.new.set =
-    subst (λ (b : ℕ). IsMade b k k' c.args.ppn c.args.protection c.in-Ok.first c.make_in_core.new.set) c.self.invariant.whole.map.size_is c.in-Ok.ensures.made in
+    subst (λ (b : ℕ). IsMade b k k' c.args.ppn c.args.protection c.in-Ok.first c.make_in_core.new.set)
+    c.self.invariant.whole.map.size_is c.in-Ok.ensures.made in
     let at = c.self.invariant.rest (c.in-Ok-write_and_commit.ensures.same.was_honest h) c.if-self.false in
-    made_done s s' k k' c.args.ppn c.args.protection c.in-Ok.first c.make_in_core.new.set c.requires.protection whole made at f rests c.write_and_commit.ensures.same.size
-    (made_rest s s' k k' c.args.ppn c.args.protection c.in-Ok.first c.make_in_core.new.set c.requires.protection whole made at (c.in-Ok-write_and_commit.ensures.done h k k')))
+    made_done s s' k k' c.args.ppn c.args.protection c.in-Ok.first c.make_in_core.new.set c.requires.protection
+    whole made at f rests c.write_and_commit.ensures.same.size
+    (made_rest s s' k k' c.args.ppn c.args.protection c.in-Ok.first c.make_in_core.new.set c.requires.protection
+    whole made at (c.in-Ok-write_and_commit.ensures.done h k k')))
 
 pub invariant_of-self-in-Err-write_and_commit : goal.invariant_of-self-in-Err-write_and_commit
 invariant_of-self-in-Err-write_and_commit g c =
@@ -103,8 +130,12 @@ invariant_of-self-in-Err-write_and_commit g c =
     let k' = (core_of c.make_in_core.new.core).known in
     let whole = c.self.invariant.whole.map in
     let made : IsMade s.size k k' c.args.ppn c.args.protection c.in-Ok.first c.make_in_core.new.set =
-    subst (λ (b : ℕ). IsMade b k k' c.args.ppn c.args.protection c.in-Ok.first c.make_in_core.new.set) c.self.invariant.whole.map.size_is c.in-Ok.ensures.made in
-    sound_failed s s' (core_of c.make_in_core.new.core) true c.write_and_commit.ensures.same.size (made_core s.size k k' c.args.ppn c.args.protection c.in-Ok.first c.make_in_core.new.set whole made (core_of c.self.inside.map) (core_of c.make_in_core.new.core) c.self.invariant.whole refl refl c.make_in_core.ensures.live c.make_in_core.ensures.pending c.in-Ok.ensures.keys) refl
+    subst (λ (b : ℕ). IsMade b k k' c.args.ppn c.args.protection c.in-Ok.first c.make_in_core.new.set)
+    c.self.invariant.whole.map.size_is c.in-Ok.ensures.made in
+    sound_failed s s' (core_of c.make_in_core.new.core) true c.write_and_commit.ensures.same.size
+    (made_core s.size k k' c.args.ppn c.args.protection c.in-Ok.first c.make_in_core.new.set whole made
+    (core_of c.self.inside.map) (core_of c.make_in_core.new.core) c.self.invariant.whole refl refl
+    c.make_in_core.ensures.live c.make_in_core.ensures.pending c.in-Ok.ensures.keys) refl
 
 pub returns-in-Ok-write_and_commit-clause-readers : goal.returns-in-Ok-write_and_commit-clause-readers
 returns-in-Ok-write_and_commit-clause-readers g c = rw (← c.self.view_is) (λ h served.
@@ -114,9 +145,12 @@ returns-in-Ok-write_and_commit-clause-readers g c = rw (← c.self.view_is) (λ 
     let k' = (core_of c.make_in_core.new.core).known in
     let whole = c.self.invariant.whole.map in
     let made : IsMade s.size k k' c.args.ppn c.args.protection c.in-Ok.first c.make_in_core.new.set =
-    subst (λ (b : ℕ). IsMade b k k' c.args.ppn c.args.protection c.in-Ok.first c.make_in_core.new.set) c.self.invariant.whole.map.size_is c.in-Ok.ensures.made in
+    subst (λ (b : ℕ). IsMade b k k' c.args.ppn c.args.protection c.in-Ok.first c.make_in_core.new.set)
+    c.self.invariant.whole.map.size_is c.in-Ok.ensures.made in
     used_read s.size (core_of c.self.inside.map) c.self.invariant.whole s.contents s'.contents
-    (λ n is. (c.in-Ok-write_and_commit.ensures.modified h).contents n (not_written s.size k k' c.args.ppn c.args.protection c.in-Ok.first c.make_in_core.new.set whole made n is.from is.apart is.used)))
+    (λ n is. (c.in-Ok-write_and_commit.ensures.modified h).contents n
+    (not_written s.size k k' c.args.ppn c.args.protection c.in-Ok.first c.make_in_core.new.set whole made
+    n is.from is.apart is.used)))
 
 pub returns-in-Ok-write_and_commit-clause-writers : goal.returns-in-Ok-write_and_commit-clause-writers
 returns-in-Ok-write_and_commit-clause-writers g c = rw (← c.self.view_is) (λ h served.
@@ -126,9 +160,12 @@ returns-in-Ok-write_and_commit-clause-writers g c = rw (← c.self.view_is) (λ 
     let k' = (core_of c.make_in_core.new.core).known in
     let whole = c.self.invariant.whole.map in
     let made : IsMade s.size k k' c.args.ppn c.args.protection c.in-Ok.first c.make_in_core.new.set =
-    subst (λ (b : ℕ). IsMade b k k' c.args.ppn c.args.protection c.in-Ok.first c.make_in_core.new.set) c.self.invariant.whole.map.size_is c.in-Ok.ensures.made in
+    subst (λ (b : ℕ). IsMade b k k' c.args.ppn c.args.protection c.in-Ok.first c.make_in_core.new.set)
+    c.self.invariant.whole.map.size_is c.in-Ok.ensures.made in
     used_written s.size (core_of c.self.inside.map) c.self.invariant.whole s.contents s'.contents
-    (λ n is. (c.in-Ok-write_and_commit.ensures.modified h).contents n (not_written s.size k k' c.args.ppn c.args.protection c.in-Ok.first c.make_in_core.new.set whole made n is.from is.apart is.used)))
+    (λ n is. (c.in-Ok-write_and_commit.ensures.modified h).contents n
+    (not_written s.size k k' c.args.ppn c.args.protection c.in-Ok.first c.make_in_core.new.set whole made
+    n is.from is.apart is.used)))
 
 pub returns-in-Err-write_and_commit-clause-readers : goal.returns-in-Err-write_and_commit-clause-readers
 returns-in-Err-write_and_commit-clause-readers g c = rw (← c.self.view_is) (λ h served. absurd (served refl))
@@ -137,13 +174,21 @@ pub returns-in-Err-write_and_commit-clause-writers : goal.returns-in-Err-write_a
 returns-in-Err-write_and_commit-clause-writers g c = rw (← c.self.view_is) (λ h served. absurd (served refl))
 
 pub returns-in-Ok-write_and_commit-clause-directories : goal.returns-in-Ok-write_and_commit-clause-directories
-returns-in-Ok-write_and_commit-clause-directories g c = rw (← c.self.view_is) (directory_stays c.self.inside.map.table.size (core_of c.self.inside.map) (core_of c.make_in_core.new.core) c.args.ppn c.args.protection c.in-Ok.first c.make_in_core.new.set c.in-Ok.ensures.made)
+returns-in-Ok-write_and_commit-clause-directories g c = rw (← c.self.view_is)
+    (directory_stays c.self.inside.map.table.size (core_of c.self.inside.map) (core_of c.make_in_core.new.core)
+    c.args.ppn c.args.protection c.in-Ok.first c.make_in_core.new.set c.in-Ok.ensures.made)
 
 pub returns-in-Err-write_and_commit-clause-directories : goal.returns-in-Err-write_and_commit-clause-directories
-returns-in-Err-write_and_commit-clause-directories g c = rw (← c.self.view_is) (directory_stays c.self.inside.map.table.size (core_of c.self.inside.map) (core_of c.make_in_core.new.core) c.args.ppn c.args.protection c.in-Ok.first c.make_in_core.new.set c.in-Ok.ensures.made)
+returns-in-Err-write_and_commit-clause-directories g c = rw (← c.self.view_is)
+    (directory_stays c.self.inside.map.table.size (core_of c.self.inside.map) (core_of c.make_in_core.new.core)
+    c.args.ppn c.args.protection c.in-Ok.first c.make_in_core.new.set c.in-Ok.ensures.made)
 
 pub returns-in-Ok-write_and_commit-clause-primes : goal.returns-in-Ok-write_and_commit-clause-primes
-returns-in-Ok-write_and_commit-clause-primes g c = rw (← c.self.view_is) (primes_stay c.self.inside.map.table.size (core_of c.self.inside.map) (core_of c.make_in_core.new.core) c.args.ppn c.args.protection c.in-Ok.first c.make_in_core.new.set c.in-Ok.ensures.made)
+returns-in-Ok-write_and_commit-clause-primes g c = rw (← c.self.view_is)
+    (primes_stay c.self.inside.map.table.size (core_of c.self.inside.map) (core_of c.make_in_core.new.core)
+    c.args.ppn c.args.protection c.in-Ok.first c.make_in_core.new.set c.in-Ok.ensures.made)
 
 pub returns-in-Err-write_and_commit-clause-primes : goal.returns-in-Err-write_and_commit-clause-primes
-returns-in-Err-write_and_commit-clause-primes g c = rw (← c.self.view_is) (primes_stay c.self.inside.map.table.size (core_of c.self.inside.map) (core_of c.make_in_core.new.core) c.args.ppn c.args.protection c.in-Ok.first c.make_in_core.new.set c.in-Ok.ensures.made)
+returns-in-Err-write_and_commit-clause-primes g c = rw (← c.self.view_is)
+    (primes_stay c.self.inside.map.table.size (core_of c.self.inside.map) (core_of c.make_in_core.new.core)
+    c.args.ppn c.args.protection c.in-Ok.first c.make_in_core.new.set c.in-Ok.ensures.made)

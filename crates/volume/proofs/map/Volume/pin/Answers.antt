@@ -14,23 +14,29 @@ returns-in_err-key-clause-value g c = rw (← c.self.view_is) (λ honest alive f
     let core = core_of c.self.inside.map in
     let holds = rest_holds s core c.self.inside.failed c.self.invariant honest alive files rest in
     let p = err_from_is_err_and c.from_residual.result c.from_residual.ensures.1 in
-    pin_refused s core files holds c.args.ppn c.args.name.now core.live c.in_err-key.field-0.0 c.from_residual.result (p.1 ∙ ap Err p.2) c.in_err-key.ensures.none)
+    pin_refused s core files holds c.args.ppn c.args.name.now core.live c.in_err-key.field-0.0 c.from_residual.result
+    (p.1 ∙ ap Err p.2) c.in_err-key.ensures.none)
 
 pub returns-clause-pinned : goal.returns-clause-pinned
-returns-clause-pinned g c = rw (← c.self.view_is) (let is = c.in_ok-key.ensures.found in (is.version, is.here, c.pin_version.ensures.pinned is.version is.here))
+returns-clause-pinned g c = rw (← c.self.view_is) (let is = c.in_ok-key.ensures.found in
+    (is.version, is.here, c.pin_version.ensures.pinned is.version is.here))
 
 pub returns-clause-at : goal.returns-clause-at
 returns-clause-at g c = rw (← c.self.view_is) (
     let is = c.in_ok-key.ensures.found in
-    let found = prime_of_place (core_of c.self.inside.map).known.master.entries (core_of c.self.inside.map).known.directories is.place c.args.ppn c.args.name.now is.word is.directory is.there is.directory_at in
+    let found = prime_of_place (core_of c.self.inside.map).known.master.entries
+    (core_of c.self.inside.map).known.directories is.place c.args.ppn c.args.name.now is.word is.directory
+    is.there is.directory_at in
     (is.version, is.here, is.current, found ∙ is.at.found ∙ ap Some (sym is.prime_is)))
 
 pub invariant_of-self : goal.invariant_of-self
 invariant_of-self g c =
     let s = g.D.Disk.state c.self.inside.disk in
     let is = c.in_ok-key.ensures.found in
-    pinned_sound s (core_of c.self.inside.map) (core_of c.pin_version.new.map) c.self.inside.failed c.args.ppn c.args.name.now c.in_ok-key.key c.self.invariant is
-    (c.pin_version.ensures.whole s.size c.self.invariant.whole) c.pin_version.ensures.core (c.pin_version.ensures.pinned is.version is.here) c.pin_version.ensures.others
+    pinned_sound s (core_of c.self.inside.map) (core_of c.pin_version.new.map) c.self.inside.failed c.args.ppn
+    c.args.name.now c.in_ok-key.key c.self.invariant is
+    (c.pin_version.ensures.whole s.size c.self.invariant.whole) c.pin_version.ensures.core
+    (c.pin_version.ensures.pinned is.version is.here) c.pin_version.ensures.others
 
 pub returns-clause-value : goal.returns-clause-value
 returns-clause-value g c = rw (← c.self.view_is) (λ honest alive files rest.
@@ -38,11 +44,14 @@ returns-clause-value g c = rw (← c.self.view_is) (λ honest alive files rest.
     let core = core_of c.self.inside.map in
     let is = c.in_ok-key.ensures.found in
     let holds = rest_holds s core c.self.inside.failed c.self.invariant honest alive files rest in
-    pin_answered s files c.args.ppn c.args.name.now is.version (core_of c.pin_version.new.map).live (record { key = c.in_ok-key.key }) (is.version.readers + 1) (key_file s core files holds c.args.ppn c.args.name.now c.in_ok-key.key is)
+    pin_answered s files c.args.ppn c.args.name.now is.version (core_of c.pin_version.new.map).live
+    (record { key = c.in_ok-key.key }) (is.version.readers + 1)
+    (key_file s core files holds c.args.ppn c.args.name.now c.in_ok-key.key is)
     (c.pin_version.ensures.pinned is.version is.here))
 
 pub pin_version-requires-clause-few : goal.pin_version-requires-clause-few
 pin_version-requires-clause-few g c =
-    let few = subst (λ m. (key : ℕ) (v : LiveVersion) → slot m.core.live key ≡ Some v → v.readers + 1 < 2 ^ 32) (sym c.self.view_is) c.requires.few in
+    let few = subst (λ m. (key : ℕ) (v : LiveVersion) → slot m.core.live key ≡ Some v
+    → v.readers + 1 < 2 ^ 32) (sym c.self.view_is) c.requires.few in
     let is = c.in_ok-key.ensures.found in
     rw is.here (few c.in_ok-key.key is.version is.here)

@@ -1,4 +1,5 @@
-use Rattle.std.proofs.Common.{◌≡◌, ◌↔◌, ◌⊎◌, ◌+◌, ◌-◌, ◌*◌, ◌<◌, ℕ, length, Err, IsErrOf, IsSome, Some, sym, ap, subst, ◌∙◌}
+use Rattle.std.proofs.Common.{◌≡◌, ◌↔◌, ◌⊎◌, ◌+◌, ◌-◌, ◌*◌, ◌<◌, ℕ, length, Err, IsErrOf, IsSome, Some, sym, ap, subst}
+use Rattle.std.proofs.Common.{◌∙◌}
 use Rattle.meaning.specs.Costs.{version_cost}
 use Rattle.meaning.specs.Retrieval.{most_blocks}
 use Rattle.meaning.specs.Splices.{splice, length_after}
@@ -14,75 +15,108 @@ use Rattle.volume.specs.declared.error.CallError.TheVariants.{Refused}
 use Rattle.meaning.specs.declared.code.ErrorCode.TheVariants.{NoRoom}
 use Rattle.volume.specs.declared.pending.PendingVersion.{PendingVersion}
 use Rattle.volume.proofs.PuttingCore.{some_of}
-use Rattle.volume.proofs.Publications.{unchanged_leaves, quiet_leaves_either, both_leave, placed_on, supplied_on, ribs_on}
+use Rattle.volume.proofs.Publications.{unchanged_leaves, quiet_leaves_either, both_leave, placed_on, supplied_on}
+use Rattle.volume.proofs.Publications.{ribs_on}
 use Rattle.volume.proofs.map.Volume.publish.Goals as goal
 
 pub returns-in_err-blocks-clause-crash : goal.returns-in_err-blocks-clause-crash
 returns-in_err-blocks-clause-crash g c = rw (← c.self.view_is) (λ h f rests p there body long has.
-    unchanged_leaves (g.D.Disk.state c.self.inside.disk) f _ rests (λ d left. g.met.D.Disk.only_now c.self.inside.disk d h left))
+    unchanged_leaves (g.D.Disk.state c.self.inside.disk) f _ rests
+    (λ d left. g.met.D.Disk.only_now c.self.inside.disk d h left))
 
 pub returns-in_default-clause-crash : goal.returns-in_default-clause-crash
 returns-in_default-clause-crash g c = rw (← c.self.view_is) (λ h f rests p there body long has.
-    unchanged_leaves (g.D.Disk.state c.self.inside.disk) f _ rests (λ d left. g.met.D.Disk.only_now c.self.inside.disk d h left))
+    unchanged_leaves (g.D.Disk.state c.self.inside.disk) f _ rests
+    (λ d left. g.met.D.Disk.only_now c.self.inside.disk d h left))
 
 pub returns-in-Err-clause-crash : goal.returns-in-Err-clause-crash
 returns-in-Err-clause-crash g c = rw (← c.self.view_is) (λ h f rests p there body long has.
-    quiet_leaves_either (g.D.Disk.state c.self.inside.disk) (g.D.Disk.state c.put_in_core-put.new.disk) f _ (c.put_in_core-put.ensures.quiet h f rests))
+    quiet_leaves_either (g.D.Disk.state c.self.inside.disk) (g.D.Disk.state c.put_in_core-put.new.disk) f _
+    (c.put_in_core-put.ensures.quiet h f rests))
 
 pub publish_written-requires-clause-placed : goal.publish_written-requires-clause-placed
 publish_written-requires-clause-placed g c q here =
     let old = core_of c.self.inside.map in
     let core = core_of c.find_supplies.new.map in
     let same = c.find_supplies.ensures.core in
-    let p = some_of (pending_at old.pending c.args.pending.key) (subst (λ m. IsSome (pending_at m.core.pending c.args.pending.key)) (sym c.self.view_is) c.requires.live) in
-    let put = c.in-Ok-put.ensures.put p.0 (ap (λ (x : VolumeCore). pending_at x.pending c.args.pending.key) same ∙ p.1) in
+    let p = some_of (pending_at old.pending c.args.pending.key)
+    (subst (λ m. IsSome (pending_at m.core.pending c.args.pending.key)) (sym c.self.view_is) c.requires.live) in
+    let put = c.in-Ok-put.ensures.put p.0 (ap (λ (x : VolumeCore). pending_at x.pending c.args.pending.key) same
+    ∙ p.1) in
     subst (IsPlaced (core_of c.put_in_core-put.new.map)) (some_same (sym put.1 ∙ here))
-    (placed_on core (core_of c.put_in_core-put.new.map) c.put_in_core-put.ensures.known p.0 put.0 (subst (λ (x : VolumeCore). IsPlaced x p.0) (sym same) (subst (λ m. (p : PendingVersion) → pending_at m.core.pending c.args.pending.key ≡ Some p → IsPlaced m.core p) (sym c.self.view_is) c.requires.placed p.0 p.1)))
+    (placed_on core (core_of c.put_in_core-put.new.map) c.put_in_core-put.ensures.known p.0 put.0
+    (subst (λ (x : VolumeCore). IsPlaced x p.0) (sym same) (subst (λ m. (p : PendingVersion)
+    → pending_at m.core.pending c.args.pending.key ≡ Some p
+    → IsPlaced m.core p) (sym c.self.view_is) c.requires.placed p.0 p.1)))
 
 pub publish_written-requires-clause-ribs : goal.publish_written-requires-clause-ribs
 publish_written-requires-clause-ribs g c q here =
     let s' = g.D.Disk.state c.put_in_core-put.new.disk in
     let old = core_of c.self.inside.map in
     let same = c.find_supplies.ensures.core in
-    let p = some_of (pending_at old.pending c.args.pending.key) (subst (λ m. IsSome (pending_at m.core.pending c.args.pending.key)) (sym c.self.view_is) c.requires.live) in
-    let put = c.in-Ok-put.ensures.put p.0 (ap (λ (x : VolumeCore). pending_at x.pending c.args.pending.key) same ∙ p.1) in
+    let p = some_of (pending_at old.pending c.args.pending.key)
+    (subst (λ m. IsSome (pending_at m.core.pending c.args.pending.key)) (sym c.self.view_is) c.requires.live) in
+    let put = c.in-Ok-put.ensures.put p.0 (ap (λ (x : VolumeCore). pending_at x.pending c.args.pending.key) same
+    ∙ p.1) in
     let is = some_same (sym put.1 ∙ here) in
-    ribs_on s'.size (core_of c.put_in_core-put.new.map) c.args.pending.key q _ c.in_ok-blocks.blocks _ c.put_in_core-put.ensures.sound.whole here (ap (λ (x : PendingVersion). x.version.words) (sym is) ∙ put.2) (c.in_ok-blocks.ensures.blocks p.0 p.1) c.in-Ok.ensures.ribs
+    ribs_on s'.size (core_of c.put_in_core-put.new.map) c.args.pending.key q _ c.in_ok-blocks.blocks _
+    c.put_in_core-put.ensures.sound.whole here (ap (λ (x : PendingVersion). x.version.words) (sym is)
+    ∙ put.2) (c.in_ok-blocks.ensures.blocks p.0 p.1) c.in-Ok.ensures.ribs
 
 pub publish_written-requires-clause-supplied : goal.publish_written-requires-clause-supplied
 publish_written-requires-clause-supplied g c q here =
     let old = core_of c.self.inside.map in
     let core = core_of c.find_supplies.new.map in
     let same = c.find_supplies.ensures.core in
-    let p = some_of (pending_at old.pending c.args.pending.key) (subst (λ m. IsSome (pending_at m.core.pending c.args.pending.key)) (sym c.self.view_is) c.requires.live) in
-    let put = c.in-Ok-put.ensures.put p.0 (ap (λ (x : VolumeCore). pending_at x.pending c.args.pending.key) same ∙ p.1) in
+    let p = some_of (pending_at old.pending c.args.pending.key)
+    (subst (λ m. IsSome (pending_at m.core.pending c.args.pending.key)) (sym c.self.view_is) c.requires.live) in
+    let put = c.in-Ok-put.ensures.put p.0 (ap (λ (x : VolumeCore). pending_at x.pending c.args.pending.key) same
+    ∙ p.1) in
     let supplies = c.in-Ok.supplies in
-    subst (λ (x : PendingVersion). IsSupplied (core_of c.put_in_core-put.new.map) x (viewed file_view supplies.room) supplies.keys.items) (some_same (sym put.1 ∙ here))
-    (supplied_on core (core_of c.put_in_core-put.new.map) c.put_in_core-put.ensures.known c.put_in_core-put.ensures.keys p.0 put.0 (viewed file_view supplies.room) supplies.keys.items
-    (subst (λ (x : VolumeCore). IsSupplied x p.0 (viewed file_view supplies.room) supplies.keys.items) (sym same) (c.in-Ok.ensures.supplied p.0 p.1)))
+    subst (λ (x : PendingVersion). IsSupplied (core_of c.put_in_core-put.new.map) x
+    (viewed file_view supplies.room) supplies.keys.items) (some_same (sym put.1 ∙ here))
+    (supplied_on core (core_of c.put_in_core-put.new.map) c.put_in_core-put.ensures.known c.put_in_core-put.ensures.keys
+    p.0 put.0 (viewed file_view supplies.room) supplies.keys.items
+    (subst (λ (x : VolumeCore). IsSupplied x p.0 (viewed file_view supplies.room) supplies.keys.items)
+    (sym same) (c.in-Ok.ensures.supplied p.0 p.1)))
 
 pub returns-in-Ok-put-clause-crash : goal.returns-in-Ok-put-clause-crash
 returns-in-Ok-put-clause-crash g c = rw (← c.self.view_is) (λ h f rests p there body long has.
     let s = g.D.Disk.state c.self.inside.disk in
     let mid = g.D.Disk.state c.put_in_core-put.new.disk in
-    let put = c.in-Ok-put.ensures.put p (ap (λ (x : VolumeCore). pending_at x.pending c.args.pending.key) c.find_supplies.ensures.core ∙ there) in
-    both_leave s mid (g.D.Disk.state c.publish_written.new.disk) f _ c.put_in_core-put.ensures.same.size (c.put_in_core-put.ensures.quiet (c.publish_written.ensures.same.was_honest h) f rests)
-    (c.publish_written.ensures.crash h f (c.put_in_core-put.ensures.rests (c.publish_written.ensures.same.was_honest h) f rests) (record p { version = put.0 }) put.1 (splice body c.args.block c.args.words.now)
-    (length-splice body c.args.block c.args.words.now ∙ ap (λ (n : ℕ). length_after n c.args.block (length c.args.words.now)) long ∙ sym put.2) (put.3 (c.publish_written.ensures.same.was_honest h) body long has)))
+    let put = c.in-Ok-put.ensures.put p
+    (ap (λ (x : VolumeCore). pending_at x.pending c.args.pending.key) c.find_supplies.ensures.core ∙ there) in
+    both_leave s mid (g.D.Disk.state c.publish_written.new.disk) f _ c.put_in_core-put.ensures.same.size
+    (c.put_in_core-put.ensures.quiet (c.publish_written.ensures.same.was_honest h) f rests)
+    (c.publish_written.ensures.crash h f
+    (c.put_in_core-put.ensures.rests (c.publish_written.ensures.same.was_honest h) f rests)
+    (record p { version = put.0 }) put.1 (splice body c.args.block c.args.words.now)
+    (length-splice body c.args.block c.args.words.now
+    ∙ ap (λ (n : ℕ). length_after n c.args.block (length c.args.words.now)) long
+    ∙ sym put.2) (put.3 (c.publish_written.ensures.same.was_honest h) body long has)))
 
 pub returns-in-Ok-put-clause-done : goal.returns-in-Ok-put-clause-done
 returns-in-Ok-put-clause-done g c = rw (← c.self.view_is) (λ h f rests p there body long has.
-    let put = c.in-Ok-put.ensures.put p (ap (λ (x : VolumeCore). pending_at x.pending c.args.pending.key) c.find_supplies.ensures.core ∙ there) in
-    c.publish_written.ensures.done h f (c.put_in_core-put.ensures.rests (c.publish_written.ensures.same.was_honest h) f rests) (record p { version = put.0 }) put.1 (splice body c.args.block c.args.words.now)
-    (length-splice body c.args.block c.args.words.now ∙ ap (λ (n : ℕ). length_after n c.args.block (length c.args.words.now)) long ∙ sym put.2) (put.3 (c.publish_written.ensures.same.was_honest h) body long has))
+    let put = c.in-Ok-put.ensures.put p
+    (ap (λ (x : VolumeCore). pending_at x.pending c.args.pending.key) c.find_supplies.ensures.core ∙ there) in
+    c.publish_written.ensures.done h f
+    (c.put_in_core-put.ensures.rests (c.publish_written.ensures.same.was_honest h) f rests)
+    (record p { version = put.0 }) put.1 (splice body c.args.block c.args.words.now)
+    (length-splice body c.args.block c.args.words.now
+    ∙ ap (λ (n : ℕ). length_after n c.args.block (length c.args.words.now)) long
+    ∙ sym put.2) (put.3 (c.publish_written.ensures.same.was_honest h) body long has))
 
 pub returns-in-Err-clause-room : goal.returns-in-Err-clause-room
 returns-in-Err-clause-room g c = rw (← c.self.view_is) (λ alive p there.
     let same = c.find_supplies.ensures.core in
-    let room = c.in-Err.ensures.room alive p (ap (λ (x : VolumeCore). pending_at x.pending c.args.pending.key) same ∙ there) in
+    let room = c.in-Err.ensures.room alive p (ap (λ (x : VolumeCore). pending_at x.pending c.args.pending.key) same
+    ∙ there) in
     let s = g.D.Disk.state c.self.inside.disk in
     let words = length_after p.version.words c.args.block (length c.args.words.now) in
-    subst (λ (x : VolumeCore). IsErrOf {T = Unit {0}} (Err c.in-Err.error) (Refused NoRoom) ↔ ((0 < length c.args.words.now) × ((most_blocks * 128 < words) ⊎ (space s.size < x.known.table.booked + (version_cost words - version_cost p.version.words))))) same room)
+    subst (λ (x : VolumeCore). IsErrOf {T = Unit {0}} (Err c.in-Err.error) (Refused NoRoom)
+    ↔ ((0 < length c.args.words.now) × ((most_blocks * 128 < words)
+    ⊎ (space s.size < x.known.table.booked + (version_cost words - version_cost p.version.words))))) same room)
 
 pub find_supplies-requires-clause-placed : goal.find_supplies-requires-clause-placed
-find_supplies-requires-clause-placed g c = subst (λ m. (p : PendingVersion) → pending_at m.core.pending c.args.pending.key ≡ Some p → IsPlaced m.core p) (sym c.self.view_is) c.requires.placed
+find_supplies-requires-clause-placed g c = subst (λ m. (p : PendingVersion)
+    → pending_at m.core.pending c.args.pending.key ≡ Some p → IsPlaced m.core p) (sym c.self.view_is) c.requires.placed

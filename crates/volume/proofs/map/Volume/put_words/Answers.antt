@@ -3,7 +3,8 @@ use Rattle.volume.specs.Live.{pending_at}
 use Rattle.volume.proofs.map.Volume.put_words.Goals as goal
 
 pub put_in_core-requires-clause-live : goal.put_in_core-requires-clause-live
-put_in_core-requires-clause-live g c = subst (λ m. IsSome (pending_at m.core.pending c.args.pending.key)) (sym c.self.view_is) c.requires.live
+put_in_core-requires-clause-live g c = subst (λ m. IsSome (pending_at m.core.pending c.args.pending.key))
+    (sym c.self.view_is) c.requires.live
 
 pub invariant_of-self : goal.invariant_of-self
 invariant_of-self g c = c.put_in_core.ensures.sound

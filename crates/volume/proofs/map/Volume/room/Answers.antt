@@ -14,6 +14,11 @@ pub returns : goal.returns
 returns g c = rw (← c.self.view_is) (λ honest alive files rest.
     let s = g.D.Disk.state c.self.inside.disk in
     let k = core_of c.self.inside.map in
-    let booked : c.booked.result ≡ cost_of_files files + cost_beyond k = c.booked.ensures.value ∙ booked_is s k files c.self.invariant.whole (rest_holds s k c.self.inside.failed c.self.invariant honest alive files rest) in
-    let space : c.blocks-size.result - c.space_start.result ≡ s.size - space_start s.size = ap (λ n. c.blocks-size.result - n) c.space_start.ensures ∙ ap (λ n. n - space_start n) c.blocks-size.ensures in
-    to_z-of_z w64 c.difference.result (record { sfits = c.difference.type_inv }) ∙ c.difference.ensures ∙ (λ i. pos (space i) -ℤ pos (booked i)))
+    let booked : c.booked.result ≡ cost_of_files files + cost_beyond k = c.booked.ensures.value
+    ∙ booked_is s k files c.self.invariant.whole
+    (rest_holds s k c.self.inside.failed c.self.invariant honest alive files rest) in
+    let space : c.blocks-size.result - c.space_start.result
+    ≡ s.size - space_start s.size = ap (λ n. c.blocks-size.result - n) c.space_start.ensures
+    ∙ ap (λ n. n - space_start n) c.blocks-size.ensures in
+    to_z-of_z w64 c.difference.result (record { sfits = c.difference.type_inv }) ∙ c.difference.ensures
+    ∙ (λ i. pos (space i) -ℤ pos (booked i)))
