@@ -24,7 +24,6 @@ loop-channel-preserved g c =
     let here = c.channel-item.is ∙ get_there c.args.channels.now c.loop-channel.channel-index c.channel-item.result
     None c.loop-channel-test.true in
     record {
-      sound = c.close_sides.ensures.sound;
       closed = closed_more c.args.volume.now.core c.loop-channel.volume.core c.args.channels.now
           c.loop-channel.channel-index (side_of c.channel-item.result) (reader_of c.channel-item.result)
           c.loop-channel-test.true

@@ -1,12 +1,10 @@
 use Rattle.std.proofs.Common.{◌≡◌, filter_map, take}
-use Rattle.volume.specs.Rest.{IsSound}
 use Rattle.monitor.specs.Dropping.{Closes}
 use Rattle.monitor.specs.Sides.{side_of, keys_of, reader_of, pins_of}
 use Rattle.monitor.proofs.dropping.close_channels.Given as goal
 
 abbrev pub invariant-loop-channel : goal.invariant-loop-channel
 invariant-loop-channel g l = record {
-  sound : IsSound (g.D.Disk.state l.volume.disk) l.volume.core l.volume.failed;
   closed : Closes l.fn.volume.core l.volume.core (keys_of (filter_map side_of (take l.channel-index l.channels)))
       (pins_of (filter_map reader_of (take l.channel-index l.channels)));
   disk : l.volume.disk ≡ l.fn.volume.disk;

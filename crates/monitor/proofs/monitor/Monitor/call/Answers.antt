@@ -38,8 +38,8 @@ returns-clause-answered g c =
     (subst (λ b. Serves (g.D.Disk.state c.self.inside.volume.disk) c.self.inside.volume.core b c.self.inside.jobs old)
     (sym c.has_failed.ensures.value ∙ c.if-has_failed.false) serves))
 
-pub returns-then-self-clause-crash : goal.returns-then-self-clause-crash
-returns-then-self-clause-crash g c h s serves =
+pub returns-then-has_failed-clause-crash : goal.returns-then-has_failed-clause-crash
+returns-then-has_failed-clause-crash g c h s serves =
     let m = c.args.self.now in
     untouched_event g.D.Disk.state g.met.D.Disk.only_now m.disk m.disk refl m.map m.jobs
     (Calls c.args.job c.args.call.now c.args.moment) Failed h s serves.1

@@ -1,3 +1,4 @@
+use Rattle.std.proofs.lemmas.Result.{err_from_is_err_and}
 use Rattle.monitor.proofs.Started.{started, start_keyed, start_reading}
 use Rattle.monitor.proofs.Placing.{placed_none}
 use Rattle.monitor.proofs.monitor.Monitor.start.Goals as goal
@@ -21,3 +22,8 @@ pub returns-in-Ok-clause-stood : goal.returns-in-Ok-clause-stood
 returns-in-Ok-clause-stood g c h =
     let stood = c.in_ok-volume.ensures.stood h in
     (stood.0, stood.1, λ s start. returns-in-Ok-clause-started g c stood.0 stood.1 s start h)
+
+pub returns-in_err-volume-clause-kept : goal.returns-in_err-volume-clause-kept
+returns-in_err-volume-clause-kept g c =
+    let p = err_from_is_err_and c.from_residual.result c.from_residual.ensures.1 in
+    rw (p.1, p.2) c.in_err-volume.ensures.kept
