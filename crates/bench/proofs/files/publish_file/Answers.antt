@@ -18,16 +18,18 @@ splice_in_empty (w ∷ ws) = ap (λ (rest : List ℕ). (w ∷ ws) ++ rest) (drop
 empty_body : (contents : Contents) → HasBody contents [] []
 empty_body contents = record { each = []; undamaged = tt; whole = tt; body_is = refl }
 
-pub returns-clause-done : goal.returns-clause-done
-returns-clause-done g c h f rests =
-    let same = c.begin.ensures.untouched.0 in
-    let begun = g.D.Disk.state c.begin.new.self.disk.inner in
-    let h' = c.publish.ensures.same.was_honest h in
-    let rests' = subst (λ d. RestsAt (g.D.Disk.state d.inner) f) (sym same) rests in
-    let put = c.in_ok-put_words.ensures.put _ c.in_ok-pending.ensures.begun.here in
-    let body = splice [] 1 c.args.words.now in
-    subst (λ (words : List ℕ). RestsAt (g.D.Disk.state c.publish.new.self.disk.inner)
-    (files_published f c.args.prime.ppn c.args.prime.file (file_of c.args.prime words)))
-    (splice_in_empty c.args.words.now)
-    (c.in_ok-publish.ensures.done h f (c.put_words.ensures.rests h' f rests') _ put.1 body
-    (length-splice [] 1 c.args.words.now ∙ sym put.2) (put.3 h' [] refl (empty_body begun.contents)))
+pub returns : goal.returns
+returns g c = record {
+  done = λ h f rests.
+      let same = c.begin.ensures.untouched.0 in
+      let begun = g.D.Disk.state c.begin.new.self.disk.inner in
+      let h' = c.publish.ensures.same.was_honest h in
+      let rests' = subst (λ d. RestsAt (g.D.Disk.state d.inner) f) (sym same) rests in
+      let put = c.in_ok-put_words.ensures.put _ c.in_ok-pending.ensures.begun.here in
+      let body = splice [] 1 c.args.words.now in
+      subst (λ (words : List ℕ). RestsAt (g.D.Disk.state c.publish.new.self.disk.inner)
+      (files_published f c.args.prime.ppn c.args.prime.file (file_of c.args.prime words)))
+      (splice_in_empty c.args.words.now)
+      (c.in_ok-publish.ensures.done h f (c.put_words.ensures.rests h' f rests') _ put.1 body
+      (length-splice [] 1 c.args.words.now ∙ sym put.2) (put.3 h' [] refl (empty_body begun.contents)));
+}

@@ -2,6 +2,7 @@ use Rattle.std.proofs.Common.{ap, ◌∙◌}
 use Rattle.volume.specs.Live.{slot}
 use Rattle.trials.proofs.pin_tests.make_beside.Goals as goal
 
-pub returns-clause-live : goal.returns-clause-live
-returns-clause-live g c = let live = c.requires.live in
-    (live.0, ap (λ l. slot l c.args.pin.key) c.make_dir.ensures.live ∙ live.1, live.2)
+pub returns : goal.returns
+returns g c =
+    let live = c.requires.live in
+    record { live = (live.0, ap (λ l. slot l c.args.pin.key) c.make_dir.ensures.live ∙ live.1, live.2) }

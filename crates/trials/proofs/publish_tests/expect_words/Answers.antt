@@ -4,6 +4,7 @@ use Rattle.volume.specs.declared.handles.VersionHandle.TheVariants.{Pinned}
 use Rattle.volume.specs.Live.{VolumeCore}
 use Rattle.trials.proofs.publish_tests.expect_words.Goals as goal
 
-pub returns-clause-readers : goal.returns-clause-readers
-returns-clause-readers g c pin live = subst (λ (m : VolumeCore). IsReadable m (Pinned pin))
-    (sym c.read.ensures.map) live
+pub returns : goal.returns
+returns g c = record {
+  readers = λ pin live. subst (λ (m : VolumeCore). IsReadable m (Pinned pin)) (sym c.read.ensures.map) live;
+}

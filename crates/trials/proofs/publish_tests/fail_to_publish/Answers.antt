@@ -1,5 +1,8 @@
 use Rattle.trials.proofs.publish_tests.fail_to_publish.Goals as goal
 
-pub returns-clause-live : goal.returns-clause-live
-returns-clause-live g c = let pin = c.hold-pin.result in
-    c.expect_published.ensures.readers pin (c.write-pending.ensures.readers pin c.hold-pin.ensures.live)
+pub returns : goal.returns
+returns g c =
+    let pin = c.hold-pin.result in
+    record {
+      live = c.expect_published.ensures.readers pin (c.write-pending.ensures.readers pin c.hold-pin.ensures.live);
+    }

@@ -1,23 +1,32 @@
 use Rattle.trials.proofs.supersede_tests.supersede_twice.Goals as goal
 
-pub expect_words-requires-clause-live : goal.expect_words-requires-clause-live
-expect_words-requires-clause-live g c = c.store-2.ensures.readers c.hold-reader.result c.hold-reader.ensures.live
+pub expect_words-requires : goal.expect_words-requires
+expect_words-requires g c = record {
+  live = c.store-2.ensures.readers c.hold-reader.result c.hold-reader.ensures.live;
+}
 
-pub hold_beside-later-requires-clause-other : goal.hold_beside-later-requires-clause-other
-hold_beside-later-requires-clause-other g c =
+pub hold_beside-later-requires : goal.hold_beside-later-requires
+hold_beside-later-requires g c =
     let reader = c.hold-reader.result in
-    c.expect_words.ensures.readers reader (c.store-2.ensures.readers reader c.hold-reader.ensures.live)
+    record {
+      other = c.expect_words.ensures.readers reader (c.store-2.ensures.readers reader c.hold-reader.ensures.live);
+    }
 
-pub expect_words-requires-3-clause-live : goal.expect_words-requires-3-clause-live
-expect_words-requires-3-clause-live g c =
+pub expect_words-requires-3 : goal.expect_words-requires-3
+expect_words-requires-3 g c =
     let reader = c.hold-reader.result in
-    c.store-3.ensures.readers reader (c.expect_words-2.ensures.readers reader c.hold_beside-later.ensures.other)
+    record {
+      live = c.store-3.ensures.readers reader
+          (c.expect_words-2.ensures.readers reader c.hold_beside-later.ensures.other);
+    }
 
-pub expect_words-requires-4-clause-live : goal.expect_words-requires-4-clause-live
-expect_words-requires-4-clause-live g c =
+pub expect_words-requires-4 : goal.expect_words-requires-4
+expect_words-requires-4 g c =
     let later = c.hold_beside-later.result in
-    c.expect_words-3.ensures.readers later
-    (c.store-3.ensures.readers later (c.expect_words-2.ensures.readers later c.hold_beside-later.ensures.live))
+    record {
+      live = c.expect_words-3.ensures.readers later
+          (c.store-3.ensures.readers later (c.expect_words-2.ensures.readers later c.hold_beside-later.ensures.live));
+    }
 
 pub unpin_beside-requires-clause-live : goal.unpin_beside-requires-clause-live
 unpin_beside-requires-clause-live g c =
