@@ -1,6 +1,30 @@
-use Rattle.std.proofs.Common.{ap, ◌∙◌}
-use Rattle.volume.specs.Live.{slot}
+use Rattle.std.proofs.Common.{◌≡◌, Some, refl, sym, ap, subst, ◌∙◌}
+use Rattle.meaning.proofs.MapLaws.{some_same}
+use Rattle.volume.specs.Beginning.{begun, is_absent}
+use Rattle.volume.specs.Known.{Known}
+use Rattle.retrieval.specs.Versions.{VersionState}
+use Rattle.volume.specs.Live.{slot, pending_at}
+use Rattle.volume.specs.Publishing.{IsPlaced}
+use Rattle.volume.proofs.Publications.{placed_on}
 use Rattle.trials.proofs.publish_tests.write.Goals as goal
+
+pub returns-clause-placed : goal.returns-clause-placed
+returns-clause-placed g c p is =
+    let begins = c.in-Ok.ensures.begun in
+    let start = c.args.volume.now.core in
+    let new = c.put_words.new.self.core in
+    let version = begun c.prime_of.result (is_absent c.prime_of.result.file begins.directory) in
+    let put : (v : VersionState) × (pending_at new.pending c.in-Ok.pending.key ≡ Some (record version { version = v }))
+    = search rules in
+    let known = c.put_words.ensures.known
+    ∙ ap (λ (k : Known). record k { table = new.known.table }) begins.known in
+    subst (IsPlaced new) (some_same (sym put.1 ∙ is))
+    (placed_on start new known version put.0 (record {
+      named = c.prime_of.ensures;
+      directory = begins.directory;
+      there = begins.there;
+      is_new = refl;
+    }))
 
 pub returns-clause-readers : goal.returns-clause-readers
 returns-clause-readers g c pin live =

@@ -40,5 +40,7 @@ unpin_beside-requires-clause-other g c =
     c.expect_words-4.ensures.readers reader (c.expect_words-3.ensures.readers reader
     (c.store-3.ensures.readers reader (c.expect_words-2.ensures.readers reader c.hold_beside-later.ensures.other)))
 
-pub unpin-requires-clause-live : goal.unpin-requires-clause-live
-unpin-requires-clause-live g c = c.expect_words-5.ensures.readers c.hold-reader.result c.unpin_beside.ensures.other
+pub unpin-requires : goal.unpin-requires
+unpin-requires g c = record {
+  live = c.expect_words-5.ensures.readers c.hold-reader.result c.unpin_beside.ensures.other
+}

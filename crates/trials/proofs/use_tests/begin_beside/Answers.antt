@@ -4,9 +4,10 @@ use Rattle.volume.specs.Pins.{IsReadable}
 use Rattle.volume.specs.declared.handles.VersionHandle.TheVariants.{Pinned}
 use Rattle.trials.proofs.use_tests.begin_beside.Goals as goal
 
-pub expect_file-requires-clause-live : goal.expect_file-requires-clause-live
-expect_file-requires-clause-live g c = let reader = c.requires.reader in
-    (reader.0, ap (λ l. slot l c.args.pin.key) c.in-Ok.ensures.begun.live ∙ reader.1, reader.2)
+pub expect_file-requires : goal.expect_file-requires
+expect_file-requires g c =
+    let reader = c.requires.reader in
+    record { live = (reader.0, ap (λ l. slot l c.args.pin.key) c.in-Ok.ensures.begun.live ∙ reader.1, reader.2) }
 
 pub returns-clause-reader : goal.returns-clause-reader
 returns-clause-reader g c =
