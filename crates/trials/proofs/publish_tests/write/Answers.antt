@@ -1,4 +1,4 @@
-use Rattle.std.proofs.Common.{◌≡◌, Some, refl, sym, ap, subst, ◌∙◌}
+use Rattle.std.proofs.Common.{◌≡◌, Some, refl, rules, sym, ap, subst, ◌∙◌}
 use Rattle.meaning.proofs.MapLaws.{some_same}
 use Rattle.volume.specs.Beginning.{begun, is_absent}
 use Rattle.volume.specs.Known.{Known}

@@ -42,5 +42,5 @@ unpin_beside-requires-clause-other g c =
 
 pub unpin-requires : goal.unpin-requires
 unpin-requires g c = record {
-  live = c.expect_words-5.ensures.readers c.hold-reader.result c.unpin_beside.ensures.other
+  live = c.expect_words-5.ensures.readers c.hold-reader.result c.unpin_beside.ensures.other;
 }
