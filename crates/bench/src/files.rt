@@ -1,6 +1,7 @@
-ghost use Rattle.std.specs.Prelude.{◌≡◌, ◌+◌, ◌*◌, ◌<◌, IfOk, OnOk, length};
+ghost use Rattle.std.specs.Prelude.{◌≡◌, ◌+◌, ◌*◌, ◌<◌, false, IfOk, OnOk, length};
 ghost use Rattle.meaning.specs.Files.{File, Files};
 ghost use Rattle.retrieval.specs.Writing.{rib_count};
+ghost use Rattle.volume.specs.Beginning.{is_update};
 ghost use Rattle.volume.specs.Publishing.{file_of, files_published};
 ghost use Rattle.volume.specs.Rest.{RestsAt};
 
@@ -9,7 +10,7 @@ use anyhow::{Context, Result};
 use blockdisk::Disk;
 use retrieval::{Mode, Prime, rib_count};
 use std::alloc::Global;
-use volume::Volume;
+use volume::{Kind, Volume};
 use words36::{BLOCK_WORDS, FileName, Half, Moment, Ppn, Word};
 
 /// FOO in SIXBIT.
@@ -62,6 +63,16 @@ pub fn words_of_file(alloc: Global, blocks: u16) -> Result<Vec<Word>>
     Ok(vec![in alloc; Word::from_bits(FOO); usize::from(blocks) * BLOCK_WORDS]?)
 }
 
+/// How a version begins that takes the place of the file with its name, where there is one.
+fn kind_at<D: Disk>(volume: &Volume<D>, prime: &Prime) -> Kind
+    ensures bare { is_update result ≡ false }
+{
+    match volume.look(prime.ppn, &prime.file) {
+        Ok(_) => Kind::Supersede,
+        Err(_) => Kind::Create,
+    }
+}
+
 /// Writes a file with these words and publishes it, in the place of the one that has its name, or as a new one.
 /// Answers what the disk was called for.
 pub fn publish_file<D: Disk>(
@@ -75,7 +86,8 @@ pub fn publish_file<D: Disk>(
         → OnOk result (RestsAt (D.state volume.new.disk.inner)
         (files_published f prime.ppn prime.file (file_of prime words.now))) }
 {
-    let pending = volume.begin(alloc, prime)?;
+    let kind = kind_at(volume, &prime);
+    let pending = volume.begin(alloc, kind, prime)?;
     let begun = volume.disk().calls();
     volume.put_words(pending, 1, words)?;
     let written = volume.disk().calls();

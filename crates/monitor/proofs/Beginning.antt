@@ -1,15 +1,15 @@
 -- Where an ENTER begins: the directory of a volume that its place names, and what is answered by what stands there.
 use Rattle.std.proofs.Common.{◌≡◌, ◌<◌, ℕ, suc, Bool, true, false, List, [], ◌∷◌, length, take, Option, None, Some}
-use Rattle.std.proofs.Common.{Result, Ok, Err, refl, sym, ap, subst, ◌∙◌, arith}
+use Rattle.std.proofs.Common.{Result, Ok, Err, Ordering, refl, sym, ap, subst, ◌∙◌, arith}
 use Rattle.std.specs.Prelude.{◌&&◌, ◌||◌, not, if◌then◌else◌, is_none, option_map}
 use Rattle.std.specs.Ordering.{nat_cmp, eq_by_cmp}
-use Rattle.std.specs.Cmp.{nat_cmp_total}
-use Rattle.std.specs.FinMap.{nat_cmp-IsAntisymmetric}
+use Rattle.std.specs.Cmp.{IsTotalOrder, nat_cmp_total}
+use Rattle.std.specs.FinMap.{IsAntisymmetric, nat_cmp-IsAntisymmetric}
 use Rattle.std.specs.FinMap.Entries.{find}
 use Rattle.words36.specs.declared.names.FileName.{FileName}
 use Rattle.blockdisk.specs.Disk.{DiskState}
 use Rattle.meaning.specs.Codes.{number_of}
-use Rattle.meaning.specs.Files.{File, Directory, Files, map_directory}
+use Rattle.meaning.specs.Files.{File, Directory, Files, map_directory, name_cmp}
 use Rattle.meaning.specs.Looking.{digit_for_directory, digit_for_version}
 use Rattle.meaning.specs.Maps.{get, size}
 use Rattle.meaning.specs.Published.{Version, without_serials, file_in}
@@ -21,10 +21,10 @@ use Rattle.meaning.specs.declared.call.Reply.{Reply}
 use Rattle.meaning.specs.declared.call.Reply.TheVariants.{Done, Refused}
 use Rattle.meaning.proofs.MapLaws.{some_same, some_none, tied}
 use Rattle.meaning.proofs.MapLists.{get-map_values, get-from_entries}
-use Rattle.meaning.proofs.Names.{name_total}
+use Rattle.meaning.proofs.Names.{name_total, name_exact}
 use Rattle.directory.specs.Edits.{StandsAt}
 use Rattle.volume.specs.Beginning.{is_absent, IsDirectoryOf}
-use Rattle.volume.specs.Known.{KnownDirectory, IsWholeDirectory, IsWholeMap}
+use Rattle.volume.specs.Known.{KnownDirectory, Before, IsNamed, IsWholeDirectory, IsWholeMap}
 use Rattle.volume.specs.Live.{VolumeCore}
 use Rattle.volume.proofs.Answering.{Holds, directory_none, all_at_place}
 use Rattle.volume.proofs.MakingHeld.{element_at}
@@ -35,33 +35,46 @@ use Rattle.monitor.proofs.Growths.{matches, shown_at}
 
 -- Where a key stands in a list.
 
-pub first_place : {V : Type 0} (es : List (ℕ × V)) (k : ℕ) (v : V) → find nat_cmp k es ≡ Some v
-    → (i : ℕ) × StandsAt nat_cmp es k v i
-first_place [] k v is = absurd (some_none (sym is))
-first_place {V} (e ∷ es) k v is = by (eq_by_cmp nat_cmp k e.0) refl is (first_place es k v)
+module _ {K V : Type 0} {R : K → K → Ordering} (o : IsTotalOrder R) (exact : IsAntisymmetric R) where
+  pub first_place : (es : List (K × V)) (k : K) (v : V) → find R k es ≡ Some v → (i : ℕ) × StandsAt R es k v i
+  first_place [] k v is = absurd (some_none (sym is))
+  first_place (e ∷ es) k v is = by (eq_by_cmp R k e.0) refl is (first_place es k v)
+    where
+      by : (b : Bool) → eq_by_cmp R k e.0 ≡ b → (if b then Some e.1 else find R k es) ≡ Some v
+          → (find R k es ≡ Some v → (i : ℕ) × StandsAt R es k v i) → (i : ℕ) × StandsAt R (e ∷ es) k v i
+      by true t found rest = (
+        0,
+        record {
+          within = omega arith;
+          is = let same = sym (tied o exact k e.0 t) in let value = some_same found in λ i. Some (same i, value i);
+          found = ap (λ b. if b then Some e.1 else find R k es) t ∙ found;
+          before = refl;
+        },
+      )
+      by false t found rest =
+          let r = rest found in (
+            suc r.0,
+            record {
+              within = let w = r.1.within in omega arith;
+              is = r.1.is;
+              found = ap (λ b. if b then Some e.1 else find R k es) t ∙ found;
+              before = ap (λ b. if b then Some e.1 else find R k (take r.0 es)) t ∙ r.1.before;
+            },
+          )
+
+-- what a directory has under a name
+pub named_before : (size : ℕ) (d : KnownDirectory) → IsWholeDirectory size d → (name : FileName) → (old : Before)
+    × IsNamed d name old
+named_before size d whole name = by (find name_cmp name d.chain.entries) refl
   where
-    by : (b : Bool) → eq_by_cmp nat_cmp k e.0 ≡ b → (if b then Some e.1 else find nat_cmp k es) ≡ Some v
-        → (find nat_cmp k es ≡ Some v → (i : ℕ) × StandsAt nat_cmp es k v i) → (i : ℕ) × StandsAt nat_cmp (e ∷ es) k v i
-    by true t found rest = (
-      0,
-      record {
-        within = omega arith;
-        is = let same = sym (tied nat_cmp_total nat_cmp-IsAntisymmetric k e.0 t) in let value = some_same found in
-            λ i. Some (same i, value i);
-        found = ap (λ b. if b then Some e.1 else find nat_cmp k es) t ∙ found;
-        before = refl;
-      },
-    )
-    by false t found rest =
-        let r = rest found in (
-          suc r.0,
-          record {
-            within = let w = r.1.within in omega arith;
-            is = r.1.is;
-            found = ap (λ b. if b then Some e.1 else find nat_cmp k es) t ∙ found;
-            before = ap (λ b. if b then Some e.1 else find nat_cmp k (take r.0 es)) t ∙ r.1.before;
-          },
-        )
+    by : (was : Option ℕ) → find name_cmp name d.chain.entries ≡ was → (old : Before) × IsNamed d name old
+    by None none = (None, none)
+    by (Some prime) some =
+        let place = first_place name_total name_exact d.chain.entries name prime some in
+        let aligned = whole.aligned in
+        let within = place.1.within in
+        let version = element_at d.versions place.0 (omega arith) in
+        (Some (prime, version.0), (place.0, place.1, version.1))
 
 -- the directory that a volume knows under the number of one that is there
 pub record IsHome (map : VolumeCore) (files : Files Version) (ppn : ℕ) (name : FileName)
@@ -137,7 +150,7 @@ module _ (d : DiskState) (map : VolumeCore) (files : Files Version) (holds : Hol
       by : (was : Option (ℕ × ℕ)) → find nat_cmp ppn map.known.master.entries ≡ was → IsHome map files ppn name x
       by None none = absurd (listed x there none)
       by (Some v) some =
-          let place = first_place map.known.master.entries ppn v some in
+          let place = first_place nat_cmp_total nat_cmp-IsAntisymmetric map.known.master.entries ppn v some in
           let aligned = whole.aligned in
           let within = place.1.within in
           let at = element_at map.known.directories place.0 (omega arith) in

@@ -10,7 +10,7 @@ use Rattle.meaning.specs.Maps.{times}
 use Rattle.meaning.proofs.MapLaws.{some_none}
 use Rattle.meaning.proofs.MapSums.{times_head, times_other}
 use Rattle.volume.specs.Known.{Known}
-use Rattle.volume.specs.Live.{VolumeCore, pending_at}
+use Rattle.volume.specs.Live.{VolumeCore, pending_at, is_creation}
 use Rattle.volume.specs.Live.{slot as version_at}
 use Rattle.volume.specs.declared.pending.PendingVersion.{PendingVersion}
 use Rattle.monitor.specs.Dropping.{Leaves, Closes}
@@ -205,8 +205,8 @@ keeps_keyed pending pending' jobs n job job' keyed there keeps = record {
       starts = is.starts;
       kind = λ p at. ⊎_elim
           (λ none. absurd (let once = keyed.once o.pending.key in let zero = ap present none in omega arith))
-          (λ (old : (q : PendingVersion) × (pending_at pending o.pending.key ≡ Some q) × (p.is_new ≡ q.is_new)). old.2
-          ∙ is.kind old.0 old.1)
+          (λ (old : (q : PendingVersion) × (pending_at pending o.pending.key ≡ Some q)
+          × (is_creation p ≡ is_creation q)). old.2 ∙ is.kind old.0 old.1)
           (keeps.known o.pending.key p at);
     }
 

@@ -26,12 +26,13 @@ use Rattle.meaning.proofs.MapSums.{times_head, times_other}
 use Rattle.meaning.proofs.SlotLaws.{none_some}
 use Rattle.retrieval.specs.Modes.{mode_number}
 use Rattle.retrieval.specs.declared.prime.Prime.{Prime}
-use Rattle.volume.specs.Beginning.{begun, is_absent}
-use Rattle.volume.specs.Live.{VolumeCore, pending_at}
+use Rattle.volume.specs.Beginning.{begun, no_words, is_absent}
+use Rattle.volume.specs.Live.{VolumeCore, pending_at, is_creation}
 use Rattle.volume.specs.Places.{prime_at}
 use Rattle.volume.specs.Rest.{IsSound, RestsAt}
 use Rattle.volume.specs.declared.pending.PendingVersion.{PendingVersion}
 use Rattle.volume.proofs.Answering.{rest_holds}
+use Rattle.volume.proofs.Beginnings.{named_none, begun_bare}
 use Rattle.monitor.specs.Entering.{IsEntering, IsEnterAnswer}
 use Rattle.monitor.specs.Entering as entering
 use Rattle.monitor.specs.Finding.{IsKnown, found_file, found_in, protection_for, file_begun}
@@ -116,7 +117,7 @@ module _ (d : DiskState) (map map' : VolumeCore) (jobs jobs' : List (Option Job)
     each = λ all. each-channel (IsSide map'.pending) job.channels ch (Some (entering.entered c key enters.kind)) all (
       record {
         starts = omega arith;
-        kind = λ p at. ap (λ (v : PendingVersion). v.is_new) (some_same (sym at ∙ enters.begun.here)) ∙ enters.kind_is;
+        kind = λ p at. ap is_creation (some_same (sym at ∙ enters.begun.here)) ∙ enters.begun.is_new ∙ enters.kind_is;
       },
       tt,
     );
@@ -169,6 +170,9 @@ module _ (d : DiskState) (map map' : VolumeCore) (jobs jobs' : List (Option Job)
       directory = home_of d map s.files (rest_holds d map false sound honest refl (without_serials s.files) state.files)
           sound.whole.map prime.ppn prime.file enters.begun.directory enters.begun.there
 
+      named : is_none enters.begun.old ≡ is_absent prime.file enters.begun.directory
+      named = named_none enters.begun.directory prime.file enters.begun.old enters.begun.named
+
       place_is : place_of prime.ppn prime.file ≡ place_at (job_of w job) e
       place_is = at_place w job e prime.ppn prime.file enters.at.ppn enters.at.name enters.at.ext
 
@@ -191,7 +195,7 @@ module _ (d : DiskState) (map map' : VolumeCore) (jobs jobs' : List (Option Job)
           ∙ opened_is w job c e moment (place_of prime.ppn prime.file)
           (digit_at t (job_of w job) (place_of prime.ppn prime.file)) enters.kind prime directory.directory.protection
           (ap mode_number enters.at.mode) enters.at.moment_is
-          (get directory.directory.files prime.file) (sym directory.absent ∙ enters.kind_is) directory.few
+          (get directory.directory.files prime.file) (sym directory.absent ∙ sym named ∙ enters.kind_is) directory.few
           (protection (without_serials s.files) state.files
           ∙ ap (λ f. protection_for f (protection_or (slice_index job.core (e + 2)) 0o057))
           (ap (λ o. found_in o prime.file) (shown_at s.files prime.ppn
@@ -235,15 +239,18 @@ module _ (d : DiskState) (map map' : VolumeCore) (jobs jobs' : List (Option Job)
 
       -- what is written under the new key
       begins : (k : ℕ) (p : PendingVersion) → pending_at map'.pending k ≡ Some p → k ≡ key
-          → p ≡ begun prime (is_absent prime.file enters.begun.directory)
+          → p ≡ begun enters.begins prime enters.begun.old
       begins k p at same = some_same (sym at ∙ ap (pending_at map'.pending) same ∙ enters.begun.here)
+
+      abbrev bare_version : PendingVersion
+      bare_version = record { prime = prime; version = no_words; kind = enters.begins; kept_blocks = 0 }
 
       new_version : (k : ℕ) (p : PendingVersion) → pending_at map'.pending k ≡ Some p → k ≡ key
           → IsWriting d p (w.written k)
       new_version k p at same =
-          subst (λ v. IsWriting d v (w.written k)) (sym (begins k p at same))
-          (subst (IsWriting d (begun prime (is_absent prime.file enters.begun.directory)))
-          (sym (ap w.written same ∙ with_same state.under key new_writing)) (record {
+          subst (λ v. IsWriting d v (w.written k))
+          (begun_bare enters.begins prime enters.begun.old enters.bare ∙ sym (begins k p at same))
+          (subst (IsWriting d bare_version) (sym (ap w.written same ∙ with_same state.under key new_writing)) (record {
             place = refl;
             protection = refl;
             mode = refl;
@@ -253,13 +260,13 @@ module _ (d : DiskState) (map map' : VolumeCore) (jobs jobs' : List (Option Job)
             body = record { each = []; undamaged = tt; whole = tt; body_is = refl };
           }))
 
-      new_absent : (k : ℕ) (p : PendingVersion) → pending_at map'.pending k ≡ Some p → k ≡ key → p.is_new ≡ true
-          → file_at s.files (w.written k).place ≡ None
+      new_absent : (k : ℕ) (p : PendingVersion) → pending_at map'.pending k ≡ Some p → k ≡ key
+          → is_creation p ≡ true → file_at s.files (w.written k).place ≡ None
       new_absent k p at same is_new =
           ap (λ (x : Writing). file_at s.files x.place) (ap w.written same ∙ with_same state.under key new_writing)
           ∙ found_is
-          ∙ gone (get directory.directory.files prime.file) (sym directory.absent
-          ∙ ap (λ (v : PendingVersion). v.is_new) (sym (begins k p at same)) ∙ is_new)
+          ∙ gone (get directory.directory.files prime.file) (sym directory.absent ∙ sym named
+          ∙ sym enters.begun.is_new ∙ ap is_creation (sym (begins k p at same)) ∙ is_new)
         where
           gone : (o : Option Version) → is_none o ≡ true → o ≡ None
           gone None e = refl

@@ -2,8 +2,11 @@
 use Rattle.std.proofs.Common.{◌≡◌, ◌<◌, ℕ, ◌+◌, Bool, true, false, nat_lt, Option, None, Some, Result, Ok, Err, refl}
 use Rattle.std.proofs.Common.{sym, ap, subst, ◌∙◌, ◌⊎◌, inl, inr, ⊎_elim, arith, slice_index}
 use Rattle.std.proofs.lemmas.Bool.Decides.{nat_tests}
+use Rattle.std.proofs.lemmas.Bool.{both_ways}
 use Rattle.std.specs.Prelude.{◌==◌, if◌then◌else◌, is_none, option_map, ◌↔◌}
 use Rattle.std.specs.Ordering.{nat_cmp}
+use Rattle.std.specs.Cmp.{nat_cmp_total}
+use Rattle.std.specs.FinMap.{nat_cmp-IsAntisymmetric}
 use Rattle.std.specs.FinMap.Entries.{find}
 use Rattle.words36.specs.Words.{left, IsPpn}
 use Rattle.words36.specs.declared.names.FileName.{FileName}
@@ -20,28 +23,32 @@ use Rattle.meaning.specs.Room.{exceeds_room, has_no_room, entry_count, growth, n
 use Rattle.meaning.specs.Runs.{is_plain}
 use Rattle.meaning.specs.Stands.{place_of}
 use Rattle.meaning.specs.declared.code.ErrorCode.{ErrorCode}
-use Rattle.meaning.specs.declared.code.ErrorCode.TheVariants.{NoDirectory, NoRoom}
+use Rattle.meaning.specs.declared.code.ErrorCode.TheVariants.{NoDirectory, NameExists, NotFound, NoRoom}
 use Rattle.meaning.specs.declared.call.Reply.TheVariants as replies
 use Rattle.meaning.proofs.MapLists.{get-map_values}
 use Rattle.meaning.proofs.Names.{name_total}
 use Rattle.alloctab.specs.TableState.{space}
 use Rattle.retrieval.specs.declared.prime.Prime.{Prime}
-use Rattle.volume.specs.Beginning.{begin_cost, entries_with, is_absent, IsDirectoryOf}
-use Rattle.volume.specs.Known.{KnownDirectory}
-use Rattle.volume.specs.Live.{VolumeCore}
+use Rattle.volume.specs.Beginning.{begin_cost, entries_with, is_absent, IsBeginRefusal, IsDirectoryOf}
+use Rattle.volume.specs.Known.{KnownDirectory, Before, IsNamed, IsWholeDirectory}
+use Rattle.volume.specs.Live.{VolumeCore, is_create}
 use Rattle.volume.specs.Rest.{IsSound}
 use Rattle.volume.specs.declared.error.CallError.{CallError}
 use Rattle.volume.specs.declared.error.CallError.TheVariants as errors
+use Rattle.volume.specs.declared.pending.Kind.{Kind as VersionKind}
+use Rattle.volume.specs.declared.pending.Kind.TheVariants as kinds
 use Rattle.volume.proofs.Answering.{Holds, rest_holds, all_at_place}
+use Rattle.volume.proofs.Beginnings.{named_none}
 use Rattle.volume.specs.Claims.{claims}
-use Rattle.monitor.specs.Finding.{IsKnown, IsAnswer, found_file, found_in, begun_as, allowed, begin_answer_at}
+use Rattle.monitor.specs.Finding.{IsKnown, IsAnswer, found_file, found_in, begun_as, allowed, kind_for}
+use Rattle.monitor.specs.Finding.{begin_answer_at}
 use Rattle.monitor.specs.Serving.{pack_of}
 use Rattle.monitor.specs.Sides.{UnderKeys, job_of}
 use Rattle.monitor.specs.declared.found.Found.{Found}
 use Rattle.monitor.specs.declared.job.Job.{Job}
 use Rattle.monitor.specs.declared.output.Kind.{Kind}
 use Rattle.monitor.specs.declared.output.Kind.TheVariants.{Create, Supersede}
-use Rattle.monitor.proofs.Beginning.{home, listed, first_place, begin_reply, begin_is}
+use Rattle.monitor.proofs.Beginning.{home, listed, first_place, named_before, begin_reply, begin_is}
 use Rattle.monitor.proofs.Growths.{shown_at}
 
 -- the place that the words at an address name
@@ -101,6 +108,12 @@ module _ (d : DiskState) (map : VolumeCore) (s : State) (known : IsKnown d map s
   may who place = allowed (found_in (get (without_serials s.files) place.ppn) place.name) who place.ppn (place.name.name
       == 0) (claims map.pending place)
 
+  -- something was found there, by which it may
+  abbrev pub MayBegin : Found → Job → ℕ → FileName → Type 0
+  MayBegin found job ppn file = (found ≡ found_in (get (without_serials s.files) ppn) file)
+      × ((kind : Kind) × (allowed found job.ppn ppn (file.name == 0) (claims map.pending (place_of ppn file))
+      ≡ Ok kind))
+
   reply_is : (w : UnderKeys) (job : Job) (place : Place)
       → begin_answer_at (pack_of d) s (job_of w job) place
       ≡ begin_reply (may job.ppn place) (exceeds_room (pack_of d) s (1 + growth (entry_count s place.ppn)))
@@ -120,7 +133,7 @@ module _ (d : DiskState) (map : VolumeCore) (s : State) (known : IsKnown d map s
           → find nat_cmp place.ppn map.known.master.entries ≡ None
       unnamed None is = is
       unnamed (Some v) is =
-          let at = first_place map.known.master.entries place.ppn v is in
+          let at = first_place nat_cmp_total nat_cmp-IsAntisymmetric map.known.master.entries place.ppn v is in
           absurd (none (all_at_place (IsMasterEntryOf 1) map.known.master.entries at.0
           (place.ppn, v) sound.whole.map.chain.are_entries at.1.is).ppn)
 
@@ -141,141 +154,177 @@ module _ (d : DiskState) (map : VolumeCore) (s : State) (known : IsKnown d map s
       ∙ ap (λ r. begin_reply r (exceeds_room (pack_of d) s (1 + growth (entry_count s place.ppn)))
       (has_no_room (pack_of d) s)) is
 
-  -- the version doesn't fit
-  abbrev pub full : Place → KnownDirectory → Bool
-  full place x = nat_lt (space d.size) (map.known.table.booked + begin_cost (is_absent place.name x)
-      (entries_with map x place.ppn))
+  -- how a version begins there
+  abbrev pub begins_as : Place → VersionKind
+  begins_as place = kind_for (found_in (get (without_serials s.files) place.ppn) place.name)
 
-  -- there is a directory, and what is answered goes by the room
-  pub record Begins (w : UnderKeys) (job : Job) (place : Place) : Type 0 where
+  kind_found : (place : Place) (D : Directory Version) → get s.files place.ppn ≡ Some D → (was : Option Version)
+      → get D.files place.name ≡ was
+      → begins_as place ≡ kind_for (found_file D.protection (option_map (λ (v : Version). v.file) was))
+  kind_found place D at was name =
+      ap (λ o. kind_for (found_in o place.name)) (shown_at s.files place.ppn
+      ∙ ap (option_map (map_directory (λ (v : Version). v.file))) at)
+      ∙ ap (λ o. kind_for (found_file D.protection o))
+      (get-map_values name_total (λ (v : Version). v.file) D.files place.name
+      ∙ ap (option_map (λ (v : Version). v.file)) name)
+
+  -- a version that begins so doesn't fit
+  abbrev pub full : VersionKind → Place → KnownDirectory → Before → Bool
+  full kind place x old = nat_lt (space d.size) (map.known.table.booked + begin_cost kind
+      (entries_with map x place.ppn) old)
+
+  -- There is a directory, in which a version may begin so, and what is answered goes by the room.
+  pub record Begins (w : UnderKeys) (job : Job) (place : Place) (kind : VersionKind) : Type 0 where
     pub directory : KnownDirectory
     pub there : IsDirectoryOf map place.ppn directory
     pub found : find nat_cmp place.ppn map.known.master.entries ≡ None → ⊥
+    pub old : Before
+    pub named : IsNamed directory place.name old
+    pub is_new : is_create kind ≡ is_none old
     pub answer : begin_answer_at (pack_of d) s (job_of w job) place
-        ≡ (if full place directory then replies.Refused 0o14 else replies.Done)
+        ≡ (if full kind place directory old then replies.Refused 0o14 else replies.Done)
 
   pub begins : (w : UnderKeys) (job : Job) (place : Place) (kind : Kind) → may job.ppn place ≡ Ok kind
-      → Begins w job place
+      → Begins w job place (begins_as place)
   begins w job place kind is = by (get s.files place.ppn) refl
       (sym (ap (λ o. allowed (found_in o place.name) job.ppn place.ppn (place.name.name
       == 0) (claims map.pending place)) (shown_at s.files place.ppn)) ∙ is)
     where
       -- by what stands there
-      as_new : (x : KnownDirectory) (D : Directory Version) → get s.files place.ppn ≡ Some D
-          → entry_count s place.ppn ≡ entries_with map x place.ppn → is_absent place.name x ≡ true
-          → exceeds_room (pack_of d) s (1 + growth (entry_count s place.ppn)) ≡ full place x
-      as_new x D at count absent = let is_new = sym absent in
-          λ i. nat_lt (space d.size) (known.booked_is i + begin_cost (is_new i) (count i))
-
-      as_old : (x : KnownDirectory) → is_absent place.name x ≡ false → has_no_room (pack_of d) s ≡ full place x
-      as_old x present = let is_old = sym present in
-          λ i. nat_lt (space d.size) (known.booked_is i + begin_cost (is_old i) (entries_with map x place.ppn))
-
       by_room : (x : KnownDirectory) (D : Directory Version) → get s.files place.ppn ≡ Some D → entry_count s place.ppn
-          ≡ entries_with map x place.ppn → is_absent place.name x ≡ is_none (get D.files place.name)
-          → (was : Option Version) → get D.files place.name ≡ was → may job.ppn place ≡ Ok kind
+          ≡ entries_with map x place.ppn → (old : Before) → (was : Option Version) → get D.files place.name ≡ was
+          → is_none old ≡ is_none was → may job.ppn place ≡ Ok kind
           → (is_none was ≡ true → kind ≡ Create) → (is_none was ≡ false → kind ≡ Supersede)
-          → begin_answer_at (pack_of d) s (job_of w job) place
-          ≡ (if full place x then replies.Refused 0o14 else replies.Done)
-      by_room x D at count absent None name ok new old =
-          reply_is w job place
-          ∙ ap (λ r. begin_reply r (exceeds_room (pack_of d) s (1 + growth (entry_count s place.ppn)))
-          (has_no_room (pack_of d) s)) (ok ∙ ap Ok (new refl))
-          ∙ ap (λ b. if b then replies.Refused 0o14 else replies.Done) (as_new x D at count (absent ∙ ap is_none name))
-      by_room x D at count absent (Some v) name ok new old =
-          reply_is w job place
-          ∙ ap (λ r. begin_reply r (exceeds_room (pack_of d) s (1 + growth (entry_count s place.ppn)))
-          (has_no_room (pack_of d) s)) (ok ∙ ap Ok (old refl))
-          ∙ ap (λ b. if b then replies.Refused 0o14 else replies.Done) (as_old x (absent ∙ ap is_none name))
+          → (is_create (begins_as place) ≡ is_none old) × (begin_answer_at (pack_of d) s (job_of w job) place
+          ≡ (if full (begins_as place) place x old then replies.Refused 0o14 else replies.Done))
+      by_room x D at count old None name none ok new present =
+          subst (λ k. (is_create k ≡ is_none old) × (begin_answer_at (pack_of d) s (job_of w job) place
+          ≡ (if full k place x old then replies.Refused 0o14 else replies.Done)))
+          (sym (kind_found place D at None name)) (
+            sym none,
+            reply_is w job place
+                ∙ ap (λ r. begin_reply r (exceeds_room (pack_of d) s (1 + growth (entry_count s place.ppn)))
+                (has_no_room (pack_of d) s)) (ok ∙ ap Ok (new refl))
+                ∙ (λ i. if nat_lt (space d.size) (known.booked_is i + begin_cost kinds.Create (count i) old)
+                then replies.Refused 0o14 else replies.Done),
+          )
+      by_room x D at count old (Some v) name none ok new present =
+          subst (λ k. (is_create k ≡ is_none old) × (begin_answer_at (pack_of d) s (job_of w job) place
+          ≡ (if full k place x old then replies.Refused 0o14 else replies.Done)))
+          (sym (kind_found place D at (Some v) name)) (
+            sym none,
+            reply_is w job place
+                ∙ ap (λ r. begin_reply r (exceeds_room (pack_of d) s (1 + growth (entry_count s place.ppn)))
+                (has_no_room (pack_of d) s)) (ok ∙ ap Ok (present refl))
+                ∙ (λ i. if nat_lt (space d.size) (known.booked_is i + begin_cost kinds.Supersede (count i) old)
+                then replies.Refused 0o14 else replies.Done),
+          )
 
       by : (was : Option (Directory Version)) → get s.files place.ppn ≡ was
           → allowed (found_in (option_map (map_directory (λ (v : Version). v.file)) was) place.name) job.ppn place.ppn
-          (place.name.name == 0) (claims map.pending place) ≡ Ok kind → Begins w job place
+          (place.name.name == 0) (claims map.pending place) ≡ Ok kind → Begins w job place (begins_as place)
       by None at ok = cc ok
       by (Some D) at ok =
           let h = home d map s.files holds sound.whole.map place.ppn place.name D at in
           let count : entry_count s place.ppn ≡ entries_with map h.known place.ppn = λ i. (ap names_in at ∙ h.entries) i
           + known.creations place.ppn i in
+          let whole = all_at_place (IsWholeDirectory d.size) map.known.directories h.there.0 h.known
+          sound.whole.map.each h.there.3 in
+          let before = named_before d.size h.known whole place.name in
+          let which = kind_is place.name job.ppn place.ppn (place.name.name
+          == 0) (claims map.pending place) D kind ok (get D.files place.name) refl in
+          let room = by_room h.known D at count before.0 (get D.files place.name) refl
+          (named_none h.known place.name before.0 before.1 ∙ h.absent) is which.0 which.1 in
           record {
             directory = h.known;
             there = h.there;
             found = listed d map s.files holds sound.whole.map place.ppn D at;
-            answer =
-                let kinds = kind_is place.name job.ppn place.ppn (place.name.name
-                == 0) (claims map.pending place) D kind ok (get D.files place.name) refl in
-                by_room h.known D at count h.absent (get D.files place.name) refl is kinds.0 kinds.1;
+            old = before.0;
+            named = before.1;
+            is_new = room.0;
+            answer = room.1;
           }
 
   -- What is answered by what the volume answers.
+  module _ (w : UnderKeys) (job : Job) (place : Place) (kind : VersionKind) (b : Begins w job place kind) where
+    begun : (space d.size < map.known.table.booked + begin_cost kind (entries_with map b.directory place.ppn) b.old
+        → ⊥) → begin_answer_at (pack_of d) s (job_of w job) place ≡ replies.Done
+    begun fits = b.answer ∙ ap (λ t. if t then replies.Refused 0o14 else replies.Done) (not_less _ _ fits)
 
-  pub begun : (w : UnderKeys) (job : Job) (place : Place) (b : Begins w job place)
-      → (space d.size < map.known.table.booked + begin_cost (is_absent place.name b.directory)
-      (entries_with map b.directory place.ppn) → ⊥)
-      → begin_answer_at (pack_of d) s (job_of w job) place ≡ replies.Done
-  begun w job place b fits = b.answer ∙ ap (λ t. if t then replies.Refused 0o14 else replies.Done) (not_less _ _ fits)
+    -- the name is there as the kind has it
+    absent_is : is_absent place.name b.directory ≡ is_create kind
+    absent_is = sym (b.is_new ∙ named_none b.directory place.name b.old b.named)
 
-  pub not_begun : (X : Type 0) (w : UnderKeys) (job : Job) (place : Place) (b : Begins w job place) (error : CallError)
-      → (error ≡ errors.Refused NoDirectory → find nat_cmp place.ppn map.known.master.entries ≡ None)
-      → (error ≡ errors.Refused NoRoom → space d.size < map.known.table.booked
-      + begin_cost (is_absent place.name b.directory) (entries_with map b.directory place.ppn))
-      → ((code : ErrorCode) → error ≡ errors.Refused code → (code ≡ NoDirectory) ⊎ (code ≡ NoRoom))
-      → (error ≡ errors.Device → ⊥) → (error ≡ errors.Failed → ⊥)
-      → IsAnswer {X = X} (Err error) (begin_answer_at (pack_of d) s (job_of w job) place)
-  not_begun X w job place b (errors.Refused code) gone many codes device failed = ⊎_elim
-      (λ is. absurd (b.found (gone (ap errors.Refused is))))
-      (λ is. b.answer ∙ ap (λ t. if t then replies.Refused 0o14 else replies.Done)
-      (less _ _ (many (ap errors.Refused is))) ∙ ap (λ c. replies.Refused (number_of c)) (sym is))
-      (codes code refl)
-  not_begun X w job place b errors.Device gone many codes device failed = device refl
-  not_begun X w job place b errors.NoMemory gone many codes device failed = ap is_plain b.answer
-      ∙ plain (nat_lt (space d.size) (map.known.table.booked + begin_cost (is_absent place.name b.directory)
-      (entries_with map b.directory place.ppn)))
-    where
-      plain : (t : Bool) → is_plain (if t then replies.Refused 0o14 else replies.Done) ≡ false
-      plain true = refl
-      plain false = refl
-  not_begun X w job place b errors.Failed gone many codes device failed = failed refl
+    not_begun : (X : Type 0) (error : CallError)
+        → (error ≡ errors.Refused NoDirectory → find nat_cmp place.ppn map.known.master.entries ≡ None)
+        → (error ≡ errors.Refused NameExists → (is_create kind ≡ true) × (is_absent place.name b.directory ≡ false))
+        → (error ≡ errors.Refused NotFound → (is_create kind ≡ false) × (is_absent place.name b.directory ≡ true))
+        → (error ≡ errors.Refused NoRoom → space d.size < map.known.table.booked
+        + begin_cost kind (entries_with map b.directory place.ppn) b.old)
+        → ((code : ErrorCode) → error ≡ errors.Refused code → IsBeginRefusal code)
+        → (error ≡ errors.Device → ⊥) → (error ≡ errors.Failed → ⊥)
+        → IsAnswer {X = X} (Err error) (begin_answer_at (pack_of d) s (job_of w job) place)
+    not_begun X (errors.Refused code) gone exists none many codes device failed = ⊎_elim
+        (λ is. absurd (b.found (gone (ap errors.Refused is))))
+        (⊎_elim (λ is. let said = exists (ap errors.Refused is) in
+        absurd (both_ways (is_create kind) (sym absent_is ∙ said.1) said.0))
+        (⊎_elim (λ is. let said = none (ap errors.Refused is) in
+        absurd (both_ways (is_create kind) said.0 (sym absent_is ∙ said.1)))
+        (λ is. b.answer ∙ ap (λ t. if t then replies.Refused 0o14 else replies.Done)
+        (less _ _ (many (ap errors.Refused is))) ∙ ap (λ c. replies.Refused (number_of c)) (sym is))))
+        (codes code refl)
+    not_begun X errors.Device gone exists none many codes device failed = device refl
+    not_begun X errors.NoMemory gone exists none many codes device failed = ap is_plain b.answer
+        ∙ plain (full kind place b.directory b.old)
+      where
+        plain : (t : Bool) → is_plain (if t then replies.Refused 0o14 else replies.Done) ≡ false
+        plain true = refl
+        plain false = refl
+    not_begun X errors.Failed gone exists none many codes device failed = failed refl
+
+  -- what may begin at a place may at that which a prime block says
+  pub may_begin_at : (found : Found) (job : Job) (ppn : ℕ) (file : FileName) (prime : Prime) → prime.ppn ≡ ppn
+      → prime.file ≡ file → MayBegin found job ppn file → MayBegin found job prime.ppn prime.file
+  may_begin_at found job ppn file prime p f there =
+      subst (λ (n : ℕ). MayBegin found job n prime.file) (sym p)
+      (subst (λ (x : FileName). MayBegin found job ppn x) (sym f) there)
 
   -- The same, where the prime block says the place.
-  module _ {X : Type 0} (w : UnderKeys) (job : Job) (ppn : ℕ) (file : FileName) (found : Found) (prime : Prime)
-      (result : Result X CallError) (p : prime.ppn ≡ ppn) (f : prime.file ≡ file)
-      (there : (found ≡ found_in (get (without_serials s.files) ppn) file)
-      × ((kind : Kind) × (allowed found job.ppn ppn (file.name == 0) (claims map.pending (place_of ppn file))
-      ≡ Ok kind)))
-      (room : (x : KnownDirectory) → IsDirectoryOf map prime.ppn x
+  module _ {X : Type 0} (w : UnderKeys) (job : Job) (found : Found) (kind : VersionKind) (prime : Prime)
+      (result : Result X CallError) (there : MayBegin found job prime.ppn prime.file) (kind_is : kind ≡ kind_for found)
+      (room : (x : KnownDirectory) → IsDirectoryOf map prime.ppn x → (old : Before) → IsNamed x prime.file old
+      → is_create kind ≡ is_none old
       → (result ≡ Err (errors.Refused NoRoom)
-      ↔ (space d.size
-      < map.known.table.booked + begin_cost (is_absent prime.file x) (entries_with map x prime.ppn)))) where
-    begins_here : Begins w job (place_of ppn file)
-    begins_here = begins w job (place_of ppn file) there.1.0
-        (ap (λ x. allowed x job.ppn ppn (file.name == 0) (claims map.pending (place_of ppn file))) (sym there.0)
-        ∙ there.1.1)
+      ↔ (space d.size < map.known.table.booked + begin_cost kind (entries_with map x prime.ppn) old))) where
+    begins_here : Begins w job (place_of prime.ppn prime.file) kind
+    begins_here = subst (Begins w job (place_of prime.ppn prime.file)) (sym (kind_is ∙ ap kind_for there.0))
+        (begins w job (place_of prime.ppn prime.file) there.1.0
+        (ap (λ x. allowed x job.ppn prime.ppn (prime.file.name == 0) (claims map.pending
+        (place_of prime.ppn prime.file))) (sym there.0) ∙ there.1.1))
 
     room_here : result ≡ Err (errors.Refused NoRoom)
-        ↔ (space d.size < map.known.table.booked + begin_cost (is_absent file begins_here.directory)
-        (entries_with map begins_here.directory ppn))
-    room_here =
-        subst (λ (n : ℕ). IsDirectoryOf map n begins_here.directory
-        → (result ≡ Err (errors.Refused NoRoom)
-        ↔ (space d.size < map.known.table.booked + begin_cost (is_absent file begins_here.directory)
-        (entries_with map begins_here.directory n)))) p
-        (subst (λ (x : FileName). IsDirectoryOf map prime.ppn begins_here.directory
-        → (result ≡ Err (errors.Refused NoRoom)
-        ↔ (space d.size < map.known.table.booked + begin_cost (is_absent x begins_here.directory)
-        (entries_with map begins_here.directory prime.ppn)))) f
-        (room begins_here.directory)) begins_here.there
+        ↔ (space d.size < map.known.table.booked + begin_cost kind
+        (entries_with map begins_here.directory prime.ppn) begins_here.old)
+    room_here = room begins_here.directory begins_here.there begins_here.old begins_here.named begins_here.is_new
 
-    pub begun_at : (x : X) → result ≡ Ok x → begin_answer_at (pack_of d) s (job_of w job) (place_of ppn file)
-        ≡ replies.Done
-    begun_at x is = begun w job (place_of ppn file) begins_here (λ many. let no = room_here.1 many in cc (is, no))
+    pub begun_at : (x : X) → result ≡ Ok x
+        → begin_answer_at (pack_of d) s (job_of w job) (place_of prime.ppn prime.file) ≡ replies.Done
+    begun_at x is = begun w job (place_of prime.ppn prime.file) kind begins_here
+        (λ many. let no = room_here.1 many in cc (is, no))
 
     pub not_begun_at : (Y : Type 0) (error : CallError) → result ≡ Err error
         → (result ≡ Err (errors.Refused NoDirectory) → find nat_cmp prime.ppn map.known.master.entries ≡ None)
-        → ((code : ErrorCode) → result ≡ Err (errors.Refused code) → (code ≡ NoDirectory) ⊎ (code ≡ NoRoom))
+        → ((x : KnownDirectory) → IsDirectoryOf map prime.ppn x → (result ≡ Err (errors.Refused NameExists)
+        ↔ ((is_create kind ≡ true) × (is_absent prime.file x ≡ false))))
+        → ((x : KnownDirectory) → IsDirectoryOf map prime.ppn x → (result ≡ Err (errors.Refused NotFound)
+        ↔ ((is_create kind ≡ false) × (is_absent prime.file x ≡ true))))
+        → ((code : ErrorCode) → result ≡ Err (errors.Refused code) → IsBeginRefusal code)
         → (result ≡ Err errors.Device → ⊥) → (result ≡ Err errors.Failed → ⊥)
-        → IsAnswer {X = Y} (Err error) (begin_answer_at (pack_of d) s (job_of w job) (place_of ppn file))
-    not_begun_at Y error is gone codes device failed =
-        not_begun Y w job (place_of ppn file) begins_here error
-        (λ e. subst (λ (n : ℕ). find nat_cmp n map.known.master.entries ≡ None) p (gone (is ∙ ap Err e)))
+        → IsAnswer {X = Y} (Err error) (begin_answer_at (pack_of d) s (job_of w job) (place_of prime.ppn prime.file))
+    not_begun_at Y error is gone exists none codes device failed =
+        not_begun w job (place_of prime.ppn prime.file) kind begins_here Y error
+        (λ e. gone (is ∙ ap Err e))
+        (λ e. (exists begins_here.directory begins_here.there).0 (is ∙ ap Err e))
+        (λ e. (none begins_here.directory begins_here.there).0 (is ∙ ap Err e))
         (λ e. room_here.0 (is ∙ ap Err e)) (λ code e. codes code (is ∙ ap Err e))
         (λ e. device (is ∙ ap Err e)) (λ e. failed (is ∙ ap Err e))

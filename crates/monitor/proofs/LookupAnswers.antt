@@ -25,7 +25,7 @@ use Rattle.meaning.proofs.MapLaws.{some_same, some_none}
 use Rattle.meaning.proofs.MapLists.{get-map_values}
 use Rattle.meaning.proofs.Names.{name_total}
 use Rattle.volume.specs.Known.{Known}
-use Rattle.volume.specs.Live.{VolumeCore, slot}
+use Rattle.volume.specs.Live.{as_known, VolumeCore, slot}
 use Rattle.volume.specs.Pins.{IsVersionOf, IsFilePinned, IsPinAnswer}
 use Rattle.volume.specs.Queries.{protection_answer, IsShown, IsFileAnswer, IsLookAnswer}
 use Rattle.volume.specs.Rest.{IsSound}
@@ -151,7 +151,7 @@ short_facts d k files holds ppn name file is =
 held_version : (contents : Contents) (live : List (Option LiveVersion)) (name : FileName) (pin : Pin)
     (o : Option (Directory File)) (file : File) → IsPinAnswer contents live name (Ok pin) o
     → named_in o name ≡ Some file
-    → (v : LiveVersion) × (slot live pin.key ≡ Some v) × IsVersionOf contents v file
+    → (v : LiveVersion) × (slot live pin.key ≡ Some v) × IsVersionOf contents (as_known v) file
 held_version contents live name pin None file answer is = absurd (some_none (sym is))
 held_version contents live name pin (Some d) file answer is =
     let there = subst (IsFilePinned contents live (Ok pin)) is answer in
@@ -193,7 +193,7 @@ module _ (d : DiskState) (map : VolumeCore) (s : State) (known : IsKnown d map s
     pub held : (live : List (Option LiveVersion)) (pin : Pin)
         → IsPinAnswer d.contents live place.name (Ok pin) (get (without_serials s.files) place.ppn)
         → (x : Version) × (file_at s.files place ≡ Some x) × IsShown x.file facts × HasShortFacts x.file
-        × (v : LiveVersion) × (slot live pin.key ≡ Some v) × IsVersionOf d.contents v x.file
+        × (v : LiveVersion) × (slot live pin.key ≡ Some v) × IsVersionOf d.contents (as_known v) x.file
     held live pin answer =
         let file = may.1.0 in
         let x = version_in (get s.files place.ppn) place.name file
@@ -208,7 +208,7 @@ module _ (d : DiskState) (map : VolumeCore) (s : State) (known : IsKnown d map s
           subst HasShortFacts (sym x.2) short,
           v.0,
           v.1,
-          subst (IsVersionOf d.contents v.0) (sym x.2) v.2,
+          subst (IsVersionOf d.contents (as_known v.0)) (sym x.2) v.2,
         )
 
     pub not_held : (live : List (Option LiveVersion)) (error : CallError)

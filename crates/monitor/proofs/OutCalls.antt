@@ -25,7 +25,7 @@ use Rattle.meaning.specs.declared.call.Reply.TheVariants.{Done, Refused, Stopped
 use Rattle.meaning.proofs.MapLaws.{some_same}
 use Rattle.meaning.proofs.SpliceLaws.{length-splice}
 use Rattle.meaning.proofs.Versions.{body_kept}
-use Rattle.volume.specs.Live.{VolumeCore, pending_at}
+use Rattle.volume.specs.Live.{VolumeCore, pending_at, is_creation}
 use Rattle.volume.specs.Places.{prime_at}
 use Rattle.volume.specs.Rest.{IsSound, RestsAt, KeepsRead}
 use Rattle.volume.specs.declared.pending.PendingVersion.{PendingVersion}
@@ -186,11 +186,11 @@ module _ (d d' : DiskState) (map map' : VolumeCore) (jobs jobs' : List (Option J
             (writers k q apart before);
       })
 
-  absent_is : (k : ℕ) (q : PendingVersion) → pending_at map'.pending k ≡ Some q → q.is_new ≡ true
+  absent_is : (k : ℕ) (q : PendingVersion) → pending_at map'.pending k ≡ Some q → is_creation q ≡ true
       → file_at s.files (w.written k).place ≡ None
   absent_is k q is is_new = same_or_not k key
       (λ same. ap (λ (y : Writing). file_at s.files y.place) (ap w.written same ∙ with_same state.under key x)
-      ∙ state.absent key p at (sym (ap (λ (v : PendingVersion). v.is_new) (at_key k q is same)) ∙ is_new))
+      ∙ state.absent key p at (sym (ap is_creation (at_key k q is same)) ∙ is_new))
       (λ apart. ap (λ (y : Writing). file_at s.files y.place) (with_other state.under key x k apart)
       ∙ state.absent k q (sym (others k apart) ∙ is) is_new)
 

@@ -12,7 +12,7 @@ use Rattle.meaning.proofs.MapLaws.{some_same}
 use Rattle.meaning.proofs.MapSums.{times_head}
 use Rattle.meaning.proofs.SlotLaws.{none_some}
 use Rattle.retrieval.specs.Versions.{VersionState}
-use Rattle.volume.specs.Live.{pending_at}
+use Rattle.volume.specs.Live.{pending_at, is_creation}
 use Rattle.volume.specs.Live.{slot as version_at}
 use Rattle.volume.specs.declared.live.LiveVersion.{LiveVersion}
 use Rattle.volume.specs.declared.pending.PendingVersion.{PendingVersion}
@@ -81,12 +81,12 @@ module _ (pending pending' : List (Option PendingVersion)) (job job' : Job) (num
     (others : (k : ℕ) → (k ≡ o.pending.key → ⊥) → pending_at pending' k ≡ pending_at pending k) where
   -- each version was there, and was new as it is
   was_there : (k : ℕ) (q : PendingVersion) → pending_at pending' k ≡ Some q → (r : PendingVersion)
-      × (pending_at pending k ≡ Some r) × (q.is_new ≡ r.is_new)
+      × (pending_at pending k ≡ Some r) × (is_creation q ≡ is_creation r)
   was_there k q is = same_or_not k o.pending.key
       (λ same. (
         p,
         ap (pending_at pending) same ∙ at,
-        ap (λ x. x.is_new) (some_same (sym is ∙ ap (pending_at pending') same ∙ here)),
+        ap is_creation (some_same (sym is ∙ ap (pending_at pending') same ∙ here)),
       ))
       (λ apart. (q, sym (others k apart) ∙ is, refl))
 

@@ -28,11 +28,13 @@ use Rattle.meaning.proofs.MapLaws.{some_same, some_none, get-insert_other}
 use Rattle.meaning.proofs.MapLists.{get-from_entries}
 use Rattle.meaning.proofs.Names.{name_total, name_exact}
 use Rattle.directory.specs.Edits.{StandsAt}
-use Rattle.volume.specs.Beginning.{begun, is_absent, IsBegun, IsDirectoryOf}
+use Rattle.volume.specs.Beginning.{begun, begun_version, is_absent, IsBegun, IsDirectoryOf}
 use Rattle.volume.specs.Known.{KnownDirectory}
 use Rattle.volume.specs.Live.{VolumeCore, pending_at}
 use Rattle.volume.specs.Publishing.{IsPlaced, IsPublishedCore}
+use Rattle.volume.specs.declared.pending.Kind.{Kind as VersionKind}
 use Rattle.volume.specs.declared.pending.PendingVersion.{PendingVersion}
+use Rattle.volume.proofs.Beginnings.{named_none}
 use Rattle.volume.proofs.Publications.{placed_on}
 use Rattle.monitor.specs.Dropping.{Leaves}
 use Rattle.monitor.specs.Serving.{ArePlaced}
@@ -120,18 +122,18 @@ unclaimed pending k p place none at is =
     in_any f (y ∷ ys) zero x at none = ap f (sym (some_same at)) ∙ left_false (f y) (list_any f ys) none
     in_any f (y ∷ ys) (suc i) x at none = in_any f ys i x at (right_false (f y) (list_any f ys) none)
 
-pub placed_begun : (c c' : VolumeCore) (key : ℕ) (prime : Prime) → IsBegun c c' key prime → (prime.file.name == 0)
-    ≡ false → claims c.pending (place_of prime.ppn prime.file) ≡ false → ArePlaced c → ArePlaced c'
-placed_begun c c' key prime begins named free placed = record {
+pub placed_begun : (c c' : VolumeCore) (key : ℕ) (kind : VersionKind) (prime : Prime) → IsBegun c c' key kind prime
+    → (prime.file.name == 0) ≡ false → claims c.pending (place_of prime.ppn prime.file) ≡ false → ArePlaced c
+    → ArePlaced c'
+placed_begun c c' key kind prime begins named free placed = record {
   each = λ k p at. same_or_not k key
       (λ same. subst (IsPlaced c') (some_same (sym begins.here ∙ ap (pending_at c'.pending) (sym same) ∙ at))
-      (placed_on c c' known (begun prime (is_absent prime.file begins.directory))
-      (record { words = 0; blocks = []; ribs = [] })
+      (placed_on c c' known (begun kind prime begins.old) (begun_version kind begins.old)
       (record {
         named = above prime.file.name named;
         directory = begins.directory;
         there = begins.there;
-        is_new = refl;
+        is_new = begins.is_new ∙ named_none begins.directory prime.file begins.old begins.named;
       })))
       (λ other. placed_on c c' known p p.version (placed.each k p (sym (begins.others k other) ∙ at)));
   single = λ k l p q at there ppn file. same_or_not k key

@@ -20,7 +20,7 @@ use Rattle.meaning.specs.declared.call.Reply.{Reply}
 use Rattle.meaning.specs.declared.call.Reply.TheVariants.{Done, Value, Refused, Stopped, NoChannel, AddressCheck, NoJob}
 use Rattle.meaning.specs.declared.call.Reply.TheVariants.{NoMemory, Device, Failed, DateRange}
 use Rattle.meaning.proofs.SlotLaws.{set-slot}
-use Rattle.volume.specs.Live.{VolumeCore}
+use Rattle.volume.specs.Live.{as_known, VolumeCore}
 use Rattle.volume.specs.Live.{slot as version_at}
 use Rattle.volume.specs.Pins.{IsVersionOf}
 use Rattle.volume.specs.Rest.{RestsAt}
@@ -62,7 +62,7 @@ module _ (d d' : DiskState) (reads : OnlyReads d d') (rests : (f : Files File) �
     keyed = state.keyed;
     read = record {
       each = λ key v at some. let was = state.read.each key v at some in record {
-        version = subst (λ c. IsVersionOf c v (state.under.read key).file) (sym contents_are) was.version;
+        version = subst (λ c. IsVersionOf c (as_known v) (state.under.read key).file) (sym contents_are) was.version;
         current = was.current;
         past = was.past;
       };

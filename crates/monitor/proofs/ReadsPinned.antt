@@ -10,7 +10,8 @@ use Rattle.meaning.specs.Published.{Version, file_at}
 use Rattle.meaning.specs.Runs.{AreDistinct}
 use Rattle.meaning.proofs.MapLaws.{some_same, some_none}
 use Rattle.meaning.proofs.Versions.{body_kept}
-use Rattle.volume.specs.Live.{VolumeCore, slot, IsWholeCore}
+use Rattle.volume.specs.Known.{KnownVersion}
+use Rattle.volume.specs.Live.{as_known, VolumeCore, slot, IsWholeCore}
 use Rattle.volume.specs.Pins.{IsVersionOf}
 use Rattle.volume.specs.Places.{prime_at}
 use Rattle.volume.specs.declared.live.LiveVersion.{LiveVersion}
@@ -20,10 +21,8 @@ use Rattle.monitor.specs.Readers.{IsRead, AreRead}
 use Rattle.monitor.proofs.HeldSerials.{not_there, one_at}
 use Rattle.monitor.proofs.PublishedFiles.{versions_in}
 
--- A version that is of a file.
-
--- still is, on contents that agree on its blocks,
-pub words_kept : (old new : Contents) (v : LiveVersion) (file : File) → AgreeOn v.version.blocks old new
+-- A version that is of a file still is, on contents that agree on its blocks.
+pub words_kept : (old new : Contents) (v : KnownVersion) (file : File) → AgreeOn v.version.blocks old new
     → IsVersionOf old v file → IsVersionOf new v file
 words_kept old new v file agree is = record {
   protection = is.protection;
@@ -32,18 +31,6 @@ words_kept old new v file agree is = record {
   date = is.date;
   words = is.words;
   body = body_kept old new v.version.blocks file.body is.body agree;
-}
-
--- and however many read it, current or not
-pub held_otherwise : (contents : Contents) (v : LiveVersion) (file : File) (readers : ℕ) (current : Bool)
-    → IsVersionOf contents v file → IsVersionOf contents (record v { readers = readers; is_current = current }) file
-held_otherwise contents v file readers current is = record {
-  protection = is.protection;
-  mode = is.mode;
-  time = is.time;
-  date = is.date;
-  words = is.words;
-  body = is.body;
 }
 
 -- One key has this version.
@@ -62,7 +49,7 @@ moved : (d : DiskState) (c c' : VolumeCore) (files : Files Version) (v : LiveVer
     → ((place : Place) → prime_at c' place.ppn place.name ≡ prime_at c place.ppn place.name)
     → IsRead d c files v x → IsRead d c' files (record v { readers = readers }) x
 moved d c c' files v readers x primes is = record {
-  version = held_otherwise d.contents v x.file readers v.is_current is.version;
+  version = is.version;
   current = λ current. let at = is.current current in (at.0, primes at.0 ∙ at.1, at.2);
   past = is.past;
 }
@@ -87,7 +74,7 @@ module _ (d : DiskState) (c : VolumeCore) (files : Files Version) (read : ℕ �
       (core : c' ≡ record c { live = c'.live })
       (at : (v : LiveVersion) × (slot c.live key ≡ Some v) × (v.is_current ≡ true)
       × (prime_at c place.ppn place.name ≡ Some v.at))
-      (value : (v : LiveVersion) × (slot c'.live key ≡ Some v) × IsVersionOf d.contents v x.file) where
+      (value : (v : LiveVersion) × (slot c'.live key ≡ Some v) × IsVersionOf d.contents (as_known v) x.file) where
     primes : (q : Place) → prime_at c' q.ppn q.name ≡ prime_at c q.ppn q.name
     primes q = ap (λ (z : VolumeCore). prime_at z q.ppn q.name) core
 
@@ -106,7 +93,7 @@ module _ (d : DiskState) (c : VolumeCore) (files : Files Version) (read : ℕ �
 
     is_read : (u : LiveVersion) → slot c'.live key ≡ Some u → IsRead d c' files u x
     is_read u now = record {
-      version = subst (λ z. IsVersionOf d.contents z x.file) (some_same (sym value.1 ∙ now)) value.2;
+      version = subst (λ z. IsVersionOf d.contents (as_known z) x.file) (some_same (sym value.1 ∙ now)) value.2;
       current = λ current. (place, primes place ∙ at.3 ∙ ap Some (still_at u now), there);
       past = λ ended. absurd (both_ways u.is_current ended (still_current u now));
     }

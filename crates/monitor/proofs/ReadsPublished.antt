@@ -8,7 +8,7 @@ use Rattle.meaning.specs.Published.{Version, file_at, with_file}
 use Rattle.meaning.specs.Runs.{AreDistinct}
 use Rattle.meaning.specs.Stands.{place_of}
 use Rattle.meaning.proofs.MapLaws.{some_same, some_none}
-use Rattle.volume.specs.Live.{VolumeCore, slot, IsWholeCore}
+use Rattle.volume.specs.Live.{as_known, VolumeCore, slot, IsWholeCore}
 use Rattle.volume.specs.Places.{prime_at}
 use Rattle.volume.specs.Publishing.{IsPublishedCore}
 use Rattle.volume.specs.Rest.{KeepsRead}
@@ -19,7 +19,7 @@ use Rattle.volume.proofs.PublishingSlots.{left, left_cases, made_current_slot}
 use Rattle.monitor.specs.Readers.{readers_of, IsRead, AreRead}
 use Rattle.monitor.proofs.HeldSerials.{superseded, still_none}
 use Rattle.monitor.proofs.PublishedFiles.{versions_in, put_elsewhere}
-use Rattle.monitor.proofs.ReadsPinned.{words_kept, held_otherwise}
+use Rattle.monitor.proofs.ReadsPinned.{words_kept}
 
 -- Nothing is left of a version that nobody reads and that isn't current any more.
 none_left : (v : LiveVersion) → v.readers ≡ 0 → left v ≡ None
@@ -114,7 +114,7 @@ module _ (d d' : DiskState) (c c' : VolumeCore) (files : Files Version) (read : 
     -- one that was past is
     past_read : u.is_current ≡ false → IsRead d' c' files' u (read k)
     past_read ended = record {
-      version = words_kept d.contents d'.contents u (read k).file (keeps k u was held) old.version;
+      version = words_kept d.contents d'.contents (as_known u) (read k).file (keeps k u was held) old.version;
       current = λ current. absurd (both_ways u.is_current ended current);
       past = λ again. still_none files place x (read k).serial (old.past ended) (fresh k u was held);
     }
@@ -123,8 +123,7 @@ module _ (d d' : DiskState) (c c' : VolumeCore) (files : Files Version) (read : 
     superseded_read : (q : Place) → file_at files q ≡ Some (read k) → q.ppn ≡ p.prime.ppn → q.name ≡ p.prime.file
         → IsRead d' c' files' (record u { is_current = false }) (read k)
     superseded_read q at ppn name = record {
-      version = held_otherwise d'.contents u (read k).file u.readers false
-          (words_kept d.contents d'.contents u (read k).file (keeps k u was held) old.version);
+      version = words_kept d.contents d'.contents (as_known u) (read k).file (keeps k u was held) old.version;
       current = λ current. absurd (both_ways false refl current);
       past = λ ended. superseded files distinct place x (read k) (ap (file_at files) (place_is
           ∙ (λ i. record { ppn = sym ppn i; name = sym name i })) ∙ at) (fresh k u was held);
@@ -134,7 +133,7 @@ module _ (d d' : DiskState) (c c' : VolumeCore) (files : Files Version) (read : 
     current_read : u.is_current ≡ true → (q : Place) → prime_at c' q.ppn q.name ≡ Some u.at → file_at files q
         ≡ Some (read k) → ((q.ppn ≡ p.prime.ppn) × (q.name ≡ p.prime.file) → ⊥) → IsRead d' c' files' u (read k)
     current_read now q prime at apart = record {
-      version = words_kept d.contents d'.contents u (read k).file (keeps k u was held) old.version;
+      version = words_kept d.contents d'.contents (as_known u) (read k).file (keeps k u was held) old.version;
       current = λ current. (
         q,
         prime,

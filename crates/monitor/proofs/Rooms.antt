@@ -17,7 +17,8 @@ use Rattle.meaning.specs.Room as room
 use Rattle.meaning.specs.Runs.{AreDistinct}
 use Rattle.meaning.proofs.Names.{name_total}
 use Rattle.meaning.proofs.MapSums.{total-map, size-map_values, sum-map_values}
-use Rattle.volume.specs.Live.{VolumeCore, pending_at, creates, cost_beyond, held_cost, IsWholePending, IsWholeCore}
+use Rattle.volume.specs.Live.{VolumeCore, pending_at, is_creation, creates, cost_beyond, held_cost, IsWholePending}
+use Rattle.volume.specs.Live.{IsWholeCore}
 use Rattle.volume.specs.Live as live
 use Rattle.volume.specs.declared.pending.PendingVersion.{PendingVersion}
 use Rattle.volume.proofs.Answering.{Holds}
@@ -152,8 +153,8 @@ module _ (d : DiskState) (map : VolumeCore) (jobs : List (Option Job)) (s : Stat
   pub creations_are : (ppn : ℕ) → pending_creations s ppn ≡ total (creates ppn) map.pending
   creations_are ppn = sum_is (λ o. if is_create o.kind && (o.place.ppn == ppn) then 1 else 0) (creates ppn) refl
       (λ o p at side. let place = ap (λ l. l.ppn) (state.versions o.pending.key p at).place in
-      both (is_create (kind_of o.kind)) p.is_new ((state.under.written o.pending.key).place.ppn == ppn) (p.prime.ppn
-      == ppn) (sym (side.kind p at)) (ap (λ n. n == ppn) place))
+      both (is_create (kind_of o.kind)) (is_creation p) ((state.under.written o.pending.key).place.ppn == ppn)
+      (p.prime.ppn == ppn) (sym (side.kind p at)) (ap (λ n. n == ppn) place))
     where
       both : (a b x y : Bool) → a ≡ b → x ≡ y → one_if (a && x) ≡ (if b then one_if y else 0)
       both true b x y e f = λ i. if e i then one_if (f i) else 0

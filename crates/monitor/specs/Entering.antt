@@ -1,5 +1,5 @@
 -- What an ENTER does to a job and to what a volume keeps.
-use Rattle.std.specs.Prelude.{◌≡◌, ◌⊎◌, ℕ, false, Option, None, Some, slice_set}
+use Rattle.std.specs.Prelude.{◌≡◌, ◌⊎◌, ℕ, false, is_none, Option, None, Some, slice_set}
 use Rattle.words36.specs.declared.moment.Moment.{Moment}
 use Rattle.meaning.specs.Entering.{enter_answer}
 use Rattle.meaning.specs.Jobs as machine
@@ -11,8 +11,9 @@ use Rattle.meaning.specs.Runs.{is_plain}
 use Rattle.meaning.specs.declared.call.Reply.{Reply}
 use Rattle.meaning.specs.declared.call.Reply.TheVariants.{Done, NoChannel, NoMemory}
 use Rattle.retrieval.specs.declared.prime.Prime.{Prime}
-use Rattle.volume.specs.Beginning.{is_absent, IsBegun}
+use Rattle.volume.specs.Beginning.{is_update, IsBegun}
 use Rattle.volume.specs.Live.{VolumeCore}
+use Rattle.volume.specs.declared.pending.Kind.{Kind as VersionKind}
 use Rattle.monitor.specs.Finding.{file_begun, IsPrimeAt}
 use Rattle.monitor.specs.Sides.{kind_of}
 use Rattle.monitor.specs.declared.channel.Channel.{Channel}
@@ -32,10 +33,13 @@ pub record IsEntering (c c' : VolumeCore) (job job' : Job) (number address : ℕ
   pub there : slot job.channels number ≡ Some channel
   pub free : channel.output ≡ None
   pub unread : channel.input ≡ None
-  pub begun : IsBegun c c' key prime
+  pub begins : VersionKind
+  -- without words
+  pub bare : is_update begins ≡ false
+  pub begun : IsBegun c c' key begins prime
   pub at : IsPrimeAt job address moment prime
   pub kind : Kind
-  pub kind_is : is_absent prime.file begun.directory ≡ is_create (kind_of kind)
+  pub kind_is : is_none begun.old ≡ is_create (kind_of kind)
   pub job_is : job' ≡ record job {
     core = with_attributes 1 job.core address (file_begun prime);
     channels = slice_set job.channels number (Some (entered channel key kind));

@@ -30,6 +30,8 @@ use Rattle.volume.specs.Live.{VolumeCore, creates}
 use Rattle.volume.specs.Rest.{RestsAt}
 use Rattle.volume.specs.declared.error.CallError.{CallError}
 use Rattle.volume.specs.declared.error.CallError.TheVariants as errors
+use Rattle.volume.specs.declared.pending.Kind.{Kind as VersionKind}
+use Rattle.volume.specs.declared.pending.Kind.TheVariants as kinds
 use Rattle.volume.specs.declared.pending.PendingVersion.{PendingVersion}
 use Rattle.monitor.specs.Sides.{kind_of}
 use Rattle.monitor.specs.declared.found.Found.{Found}
@@ -68,6 +70,12 @@ allowed (found.Absent p) who owner is_zero is_claimed = begun_as Create
     (may_create (directory_digit p who owner)) is_zero is_claimed
 allowed (found.Present p q) who owner is_zero is_claimed = begun_as Supersede (may_look (directory_digit p who owner)
     && may_supersede (file_digit q who owner)) is_zero is_claimed
+
+-- how a version begins: in the place of the file that is there, or as a new one
+abbrev pub kind_for : Found → VersionKind
+kind_for found.NoDirectory = kinds.Create
+kind_for (found.Absent p) = kinds.Create
+kind_for (found.Present p q) = kinds.Supersede
 
 -- the protection of what is written: that which is asked for, or the old file's, which has three digits
 abbrev pub protection_for : Found → ℕ → ℕ

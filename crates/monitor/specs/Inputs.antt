@@ -15,7 +15,7 @@ use Rattle.meaning.specs.Published.{Version, file_at}
 use Rattle.meaning.specs.Rights.{directory_digit, file_digit, may_look, may_read}
 use Rattle.meaning.specs.declared.call.Reply.{Reply}
 use Rattle.meaning.specs.declared.call.Reply.TheVariants.{Done, Refused}
-use Rattle.volume.specs.Live.{slot}
+use Rattle.volume.specs.Live.{as_known, slot}
 use Rattle.volume.specs.Pins.{IsVersionOf}
 use Rattle.volume.specs.Queries.{IsShown}
 use Rattle.volume.specs.declared.file_facts.FileFacts.{FileFacts}
@@ -64,7 +64,7 @@ pub record IsInputOf (contents : Contents) (live : List (Option LiveVersion)) (s
   pub short : HasShortFacts version.file
   pub held : LiveVersion
   pub held_at : slot live input.pin.key ≡ Some held
-  pub body : IsVersionOf contents held version.file
+  pub body : IsVersionOf contents (as_known held) version.file
 
 -- what is answered, as the machine does
 abbrev pub IsLookupAnswer : Contents → List (Option LiveVersion) → State → Job → Channel → ℕ

@@ -10,7 +10,7 @@ use Rattle.meaning.specs.Published.{Version, file_at}
 use Rattle.meaning.specs.Stands.{place_of}
 use Rattle.meaning.specs.declared.call.Reply.{Reply}
 use Rattle.meaning.specs.declared.call.Reply.TheVariants.{Done, NoChannel}
-use Rattle.volume.specs.Live.{VolumeCore}
+use Rattle.volume.specs.Live.{as_known, VolumeCore}
 use Rattle.volume.specs.Live.{slot as version_at}
 use Rattle.volume.specs.Pins.{IsVersionOf}
 use Rattle.volume.specs.Places.{prime_at}
@@ -51,7 +51,8 @@ pub record IsFound (contents : Contents) (live : List (Option LiveVersion)) (s :
     (address : ℕ) (input : Input) : Type 0 where
   pub version : Version
   pub there : file_at s.files (place_of input.ppn input.file) ≡ Some version
-  pub held : (v : LiveVersion) × (version_at live input.pin.key ≡ Some v) × IsVersionOf contents v version.file
+  pub held : (v : LiveVersion) × (version_at live input.pin.key ≡ Some v)
+      × IsVersionOf contents (as_known v) version.file
   pub core : job'.core ≡ after_writes (with_attributes 1 job.core address version.file)
       ((address + 3, size_word (length version.file.body)) ∷ [])
 

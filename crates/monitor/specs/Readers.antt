@@ -8,7 +8,7 @@ use Rattle.meaning.specs.Files.{Files, Place}
 use Rattle.meaning.specs.Maps.{times, values}
 use Rattle.meaning.specs.Published.{Version, file_at}
 use Rattle.meaning.specs.Room.{has_serial}
-use Rattle.volume.specs.Live.{VolumeCore, slot}
+use Rattle.volume.specs.Live.{as_known, VolumeCore, slot}
 use Rattle.volume.specs.Pins.{IsVersionOf}
 use Rattle.volume.specs.Places.{prime_at}
 use Rattle.volume.specs.declared.live.LiveVersion.{LiveVersion}
@@ -43,7 +43,7 @@ pub record AreBooked (live : List (Option LiveVersion)) (now : List Version) (re
 pub record IsRead (d : DiskState) (c : VolumeCore) (files : Files Version) (v : LiveVersion)
     (x : Version) : Type 0 where
   -- its blocks have the words that its readers find
-  pub version : IsVersionOf d.contents v x.file
+  pub version : IsVersionOf d.contents (as_known v) x.file
   pub current : v.is_current ≡ true → (place : Place) × (prime_at c place.ppn place.name ≡ Some v.at)
       × (file_at files place ≡ Some x)
   pub past : v.is_current ≡ false → has_serial x.serial (flat_map (λ d. values d.files) (values files)) ≡ false

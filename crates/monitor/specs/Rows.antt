@@ -14,7 +14,7 @@ use Rattle.meaning.specs.Step.{call_of}
 use Rattle.meaning.specs.declared.call.Call.{Call}
 use Rattle.meaning.specs.declared.call.Reply.{Reply}
 use Rattle.meaning.specs.declared.call.Reply.TheVariants.{Done, Refused, Stopped, NoChannel, AddressCheck}
-use Rattle.volume.specs.Live.{pending_at, slot}
+use Rattle.volume.specs.Live.{pending_at, slot, is_creation}
 use Rattle.volume.specs.declared.live.LiveVersion.{LiveVersion}
 use Rattle.volume.specs.declared.pending.PendingVersion.{PendingVersion}
 use Rattle.monitor.specs.Readers.{readers_of}
@@ -33,7 +33,7 @@ IsRow job job' call reply =
 
 -- a version that was not there, or is new in its directory as it was
 abbrev pub IsOldOrNew : Option PendingVersion → PendingVersion → Type 0
-IsOldOrNew was p = (was ≡ None) ⊎ ((q : PendingVersion) × (was ≡ Some q) × (p.is_new ≡ q.is_new))
+IsOldOrNew was p = (was ≡ None) ⊎ ((q : PendingVersion) × (was ≡ Some q) × (is_creation p ≡ is_creation q))
 
 -- Versions come and go with the output sides of a job.
 pub record Keeps (pending pending' : List (Option PendingVersion)) (job job' : Job) : Type 0 where

@@ -11,7 +11,7 @@ use Rattle.meaning.specs.Runs.{Service, Serving, Broken, AreDistinct}
 use Rattle.meaning.specs.Sound.{IsSound}
 use Rattle.meaning.specs.Stands.{place_of}
 use Rattle.retrieval.specs.Modes.{mode_number}
-use Rattle.volume.specs.Live.{VolumeCore, pending_at}
+use Rattle.volume.specs.Live.{VolumeCore, pending_at, is_creation}
 use Rattle.volume.specs.Publishing.{IsPlaced}
 use Rattle.volume.specs.Rest.{RestsAt}
 use Rattle.volume.specs.declared.live.LiveVersion.{LiveVersion}
@@ -37,7 +37,8 @@ present (Some p) = 1
 -- The block that an output side writes next is one of a file, and a file that it creates is new in its directory.
 pub record IsSide (pending : List (Option PendingVersion)) (o : Output) : Type 0 where
   pub starts : 0 < o.next
-  pub kind : (p : PendingVersion) → pending_at pending o.pending.key ≡ Some p → p.is_new ≡ is_create (kind_of o.kind)
+  pub kind : (p : PendingVersion) → pending_at pending o.pending.key ≡ Some p → is_creation p
+      ≡ is_create (kind_of o.kind)
 
 -- Each version that is being written belongs to one output side, and each output side writes one.
 pub record AreKeyed (pending : List (Option PendingVersion)) (jobs : List (Option Job)) : Type 0 where
@@ -88,7 +89,7 @@ pub record IsState (d : DiskState) (map : VolumeCore) (jobs : List (Option Job))
   pub versions : (key : ℕ) (p : PendingVersion) → pending_at map.pending key ≡ Some p
       → IsWriting d p (under.written key)
   -- a name that is being created is absent
-  pub absent : (key : ℕ) (p : PendingVersion) → pending_at map.pending key ≡ Some p → p.is_new ≡ true
+  pub absent : (key : ℕ) (p : PendingVersion) → pending_at map.pending key ≡ Some p → is_creation p ≡ true
       → file_at s.files (under.written key).place ≡ None
   pub keyed : AreKeyed map.pending jobs
   pub read : AreRead d map s.files under.read

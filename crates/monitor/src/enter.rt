@@ -13,13 +13,14 @@ ghost use Rattle.meaning.specs.Stands.{place_of};
 ghost use Rattle.meaning.specs.declared.call.Reply.TheVariants.{Done, NoMemory, Failed, Device, Refused};
 ghost use Rattle.volume.specs.declared.error.CallError.TheVariants.{Failed as VolumeFailed, Device as VolumeDevice};
 ghost use Rattle.retrieval.specs.declared.mode.Mode.TheVariants.{Dump};
-ghost use Rattle.volume.specs.Beginning.{IsBegun};
-ghost use Rattle.volume.specs.Live.{pending_at};
+ghost use Rattle.volume.specs.Beginning.{is_update, IsBegun};
+ghost use Rattle.volume.specs.Live.{pending_at, is_creation};
 ghost use Rattle.volume.specs.Rest.{IsSound, RestsAt};
+ghost use Rattle.volume.specs.declared.pending.Kind.{Kind as VersionKind};
 ghost use Rattle.volume.specs.declared.pending.PendingVersion.{PendingVersion};
 ghost use Rattle.volume.specs.Claims.{claims};
-ghost use Rattle.monitor.specs.Finding.{found_in, begun_as, allowed, protection_for, file_begun, IsKnown, IsAnswer};
-ghost use Rattle.monitor.specs.Finding.{IsPrimeAt, begin_answer_at};
+ghost use Rattle.monitor.specs.Finding.{found_in, begun_as, allowed, kind_for, protection_for, file_begun, IsKnown};
+ghost use Rattle.monitor.specs.Finding.{IsAnswer, IsPrimeAt, begin_answer_at};
 ghost use Rattle.monitor.specs.Entering.{IsEntering, IsEnterAnswer};
 ghost use Rattle.monitor.specs.Rows.{KeepsReading};
 ghost use Rattle.monitor.specs.Unserved.{IsReading, refusal_at, job_refused};
@@ -42,7 +43,7 @@ use protect::{DirectoryAct, acts_are_nested, dir_right, right};
 use retrieval::{Mode, Prime};
 use std::alloc::Global;
 use usercore::Core;
-use volume::{CallError, Pending, Volume};
+use volume::{CallError, Kind as VersionKind, Pending, Volume};
 use words36::{FileName, Half, Moment, Ppn, Word};
 
 /// ENTER: opens an output side for the file that the four words at an address name, at a moment. Its row is `enter`.
@@ -125,6 +126,16 @@ fn allow(
     }
 }
 
+/// How a version begins, by what stands at its place: in the place of the file, or as a new one.
+fn kind_for(found: Found) -> VersionKind
+    ensures { result ≡ kind_for found }
+{
+    match found {
+        Found::Present(_, _) => VersionKind::Supersede,
+        Found::NoDirectory | Found::Absent(_) => VersionKind::Create,
+    }
+}
+
 /// The protection of what is written: that which is asked for, or the old file's.
 fn protection_for(found: Found, asked: u16) -> u16
     requires { asked < 512 }
@@ -174,12 +185,11 @@ pub fn name_at(core: &Core, address: u32) -> FileName
 /// How an output side began that writes a version.
 fn kind_of<D: Disk>(volume: &Volume<D>, pending: Pending) -> Kind
     ensures { (p : PendingVersion) → pending_at volume.now.core.pending pending.key ≡ Some p
-        → p.is_new ≡ is_create (kind_of result) }
+        → is_creation p ≡ is_create (kind_of result) }
 {
-    if volume.is_new(pending) {
-        Kind::Create
-    } else {
-        Kind::Supersede
+    match volume.kind(pending) {
+        Some(VersionKind::Create) => Kind::Create,
+        _ => Kind::Supersede, // no file is updated yet
     }
 }
 
@@ -269,7 +279,8 @@ fn begin_at<D: Disk>(
     requires there { address + 4 ≤ 0o400000 }
     requires timely { moment.date ≤ 4095 }
     ensures untouched { (volume.new.disk ≡ volume.old.disk) × (volume.new.failed ≡ volume.old.failed) }
-    ensures begun { IfOk result (λ begun. IsBegun volume.old.core volume.new.core begun.0.key begun.1) }
+    ensures begun { IfOk result (λ begun. (kind : VersionKind) × (is_update kind ≡ false)
+        × IsBegun volume.old.core volume.new.core begun.0.key kind begun.1) }
     ensures free { IfOk result (λ begun. ((begun.1.file.name == 0) ≡ false)
         × (claims volume.old.core.pending (place_of begun.1.ppn begun.1.file) ≡ false)) }
     ensures same { OnErr result (volume.new.core ≡ volume.old.core) }
@@ -294,7 +305,7 @@ fn begin_at<D: Disk>(
     };
     let prime = prime_for(&job.core, address, ppn, file, found, moment);
     let kept = copy_of(&prime);
-    match volume.begin(alloc, prime) {
+    match volume.begin(alloc, kind_for(found), prime) {
         Ok(pending) => Ok((pending, kept)),
         Err(error) => Err(error),
     }

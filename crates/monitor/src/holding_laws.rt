@@ -4,7 +4,7 @@ ghost use Rattle.meaning.specs.Maps.{values};
 ghost use Rattle.meaning.specs.Published.{Version, file_at, with_file};
 ghost use Rattle.meaning.specs.Runs.{AreDistinct};
 ghost use Rattle.meaning.specs.Stands.{place_of};
-ghost use Rattle.volume.specs.Live.{VolumeCore, slot, IsWholeCore};
+ghost use Rattle.volume.specs.Live.{as_known, VolumeCore, slot, IsWholeCore};
 ghost use Rattle.volume.specs.Pins.{IsVersionOf};
 ghost use Rattle.volume.specs.Places.{prime_at};
 ghost use Rattle.volume.specs.Publishing.{IsPublishedCore};
@@ -40,7 +40,8 @@ pub fn readers_come_and_go<D: Disk>(disk: &D)
         → c' ≡ record c { live = c'.live }
         → ((v : LiveVersion) × (slot c.live key ≡ Some v) × (v.is_current ≡ true)
         × (prime_at c place.ppn place.name ≡ Some v.at))
-        → ((v : LiveVersion) × (slot c'.live key ≡ Some v) × IsVersionOf (D.state disk.now).contents v x.file)
+        → ((v : LiveVersion) × (slot c'.live key ≡ Some v)
+        × IsVersionOf (D.state disk.now).contents (as_known v) x.file)
         → AreRead (D.state disk.now) c' files (λ k. if k == key then x else read k) }
 
     // Where it was read before, it was this very version.

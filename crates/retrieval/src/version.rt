@@ -172,6 +172,22 @@ impl Version {
         self.ribs = ribs;
     }
 
+    /// A version with the same words: of the same length and the same data blocks, and with no ribs yet.
+    ///
+    /// # Errors
+    ///
+    /// `NoMemory` where there is no memory.
+    pub fn copy_without_ribs(&self, alloc: Global) -> Result<Version, NoMemory>
+        ensures { IfOk result (λ version. version ≡ record self.now { ribs = [] }) }
+    {
+        let ribs = Vec::new(alloc);
+        Ok(Version {
+            length: self.length,
+            blocks: self.blocks.clone()?,
+            ribs,
+        })
+    }
+
     /// An equal version.
     ///
     /// # Errors

@@ -8,7 +8,7 @@ use retrieval::{Mode, Prime};
 use std::alloc::{AllocError, Global};
 use std::process::Abort;
 use std::test::Fail;
-use volume::{CallError, Pending, Volume};
+use volume::{CallError, Kind, Pending, Volume};
 use words36::{FileName, Half, Moment, Ppn, Word};
 
 /// The file of V1, FOO.TXT.
@@ -56,12 +56,13 @@ fn v1_opened(rt: &impl Abort, alloc: Global) -> Result<Volume<MemDisk>, NoMemory
 fn begin_version(
     alloc: Global,
     volume: &mut Volume<MemDisk>,
+    kind: Kind,
     prime: Prime,
 ) -> Result<Pending, CallError> {
-    volume.begin(alloc, prime)
+    volume.begin(alloc, kind, prime)
 }
 
-/// No version is begun, for this reason.
+/// No file is created, for this reason.
 fn expect_unbegun(
     rt: &impl Abort,
     alloc: Global,
@@ -69,7 +70,7 @@ fn expect_unbegun(
     prime: Prime,
     error: CallError,
 ) {
-    assert!(rt; begin_version(alloc, volume, prime) == Err(error));
+    assert!(rt; begin_version(alloc, volume, Kind::Create, prime) == Err(error));
 }
 
 /// Begins a version, which costs so many blocks.
@@ -77,18 +78,19 @@ fn begin(
     rt: &impl Abort,
     alloc: Global,
     volume: &mut Volume<MemDisk>,
+    kind: Kind,
     prime: Prime,
     cost: i64,
 ) -> Pending {
     let before = volume.room();
-    let Ok(pending) = begin_version(alloc, volume, prime) else {
+    let Ok(pending) = begin_version(alloc, volume, kind, prime) else {
         panic!(rt; "a version is refused");
     };
     assert!(rt; before.checked_sub(cost) == Some(volume.room()));
     pending
 }
 
-/// Begins versions of the files of these numbers in [10,20], each of which costs a block.
+/// Begins new files of these numbers in [10,20], each of which costs a block.
 fn begin_each(
     rt: &impl Abort,
     alloc: Global,
@@ -98,7 +100,8 @@ fn begin_each(
 ) -> Result<Vec<Pending>, AllocError> {
     let mut pendings = Vec::new(alloc);
     for n in first..end {
-        pendings.push(begin(rt, alloc, volume, prime_of(rt, 0o20, numbered(n)), 1))?;
+        let prime = prime_of(rt, 0o20, numbered(n));
+        pendings.push(begin(rt, alloc, volume, Kind::Create, prime, 1))?;
     }
     Ok(pendings)
 }
@@ -122,8 +125,14 @@ fn discard_each(rt: &impl Abort, volume: &mut Volume<MemDisk>, pendings: &[Pendi
 }
 
 /// Begins a version of a file, which costs a block of 45, and drops it.
-fn begin_and_drop(rt: &impl Abort, alloc: Global, volume: &mut Volume<MemDisk>, prime: Prime) {
-    let pending = begin(rt, alloc, volume, prime, 1);
+fn begin_and_drop(
+    rt: &impl Abort,
+    alloc: Global,
+    volume: &mut Volume<MemDisk>,
+    kind: Kind,
+    prime: Prime,
+) {
+    let pending = begin(rt, alloc, volume, kind, prime, 1);
     expect_room(rt, volume, 44);
     discard(rt, volume, pending, 1);
     expect_room(rt, volume, 45);
@@ -136,16 +145,23 @@ fn versions_are_begun_and_dropped(rt: HostRuntime) -> Result<(), Fail> {
     let present = prime_of(&rt, 0o20, foo());
     let mut volume = v1_opened(&rt, rt.alloc())?;
     expect_room(&rt, &volume, 45);
-    begin_and_drop(&rt, rt.alloc(), &mut volume, new);
-    begin_and_drop(&rt, rt.alloc(), &mut volume, present);
+    begin_and_drop(&rt, rt.alloc(), &mut volume, Kind::Create, new);
+    begin_and_drop(&rt, rt.alloc(), &mut volume, Kind::Supersede, present);
     Ok(())
+}
+
+/// Begins a version of FOO.TXT, which costs a block.
+fn begin_foo(rt: &impl Abort, alloc: Global, volume: &mut Volume<MemDisk>) -> Pending {
+    let present = prime_of(rt, 0o20, foo());
+    begin(rt, alloc, volume, Kind::Supersede, present, 1)
 }
 
 /// Begins a creation that asks for a block of the directory, and a version of FOO.TXT, and drops them.
 fn grow_and_shrink(rt: &impl Abort, alloc: Global, volume: &mut Volume<MemDisk>) {
     expect_room(rt, volume, 4);
-    let last = begin(rt, alloc, volume, prime_of(rt, 0o20, numbered(42)), 2);
-    let other = begin(rt, alloc, volume, prime_of(rt, 0o20, foo()), 1);
+    let last = prime_of(rt, 0o20, numbered(42));
+    let last = begin(rt, alloc, volume, Kind::Create, last, 2);
+    let other = begin_foo(rt, alloc, volume);
     expect_room(rt, volume, 1);
     discard(rt, volume, last, 2);
     discard(rt, volume, other, 1);
@@ -192,7 +208,8 @@ fn begin_all(
     volume: &mut Volume<MemDisk>,
 ) -> Result<(), AllocError> {
     begin_each(rt, alloc, volume, 1, 43)?;
-    begin(rt, alloc, volume, prime_of(rt, 0o20, numbered(43)), 2);
+    let growing = prime_of(rt, 0o20, numbered(43));
+    begin(rt, alloc, volume, Kind::Create, growing, 2);
     begin_each(rt, alloc, volume, 44, 47)?;
     expect_room(rt, volume, 0);
     let full = CallError::Refused(ErrorCode::NoRoom);
@@ -220,21 +237,20 @@ fn begin_to_the_last(
     volume: &mut Volume<MemDisk>,
 ) -> Result<(), AllocError> {
     begin_each(rt, alloc, volume, 1, 42)?;
-    let present = prime_of(rt, 0o20, foo());
     begin_three(rt, alloc, volume);
     expect_room(rt, volume, 1);
     let full = CallError::Refused(ErrorCode::NoRoom);
     expect_unbegun(rt, alloc, volume, prime_of(rt, 0o20, numbered(42)), full);
-    begin(rt, alloc, volume, present, 1);
+    begin_foo(rt, alloc, volume);
     expect_room(rt, volume, 0);
     Ok(())
 }
 
 /// Begins three versions of FOO.TXT, each of which costs a block.
 fn begin_three(rt: &impl Abort, alloc: Global, volume: &mut Volume<MemDisk>) {
-    begin(rt, alloc, volume, prime_of(rt, 0o20, foo()), 1);
-    begin(rt, alloc, volume, prime_of(rt, 0o20, foo()), 1);
-    begin(rt, alloc, volume, prime_of(rt, 0o20, foo()), 1);
+    begin_foo(rt, alloc, volume);
+    begin_foo(rt, alloc, volume);
+    begin_foo(rt, alloc, volume);
 }
 
 /// With room for one block a version of a file that is there is begun, and one that needs a block of its
@@ -259,12 +275,12 @@ fn a_failed_volume(rt: HostRuntime) -> Result<(), Fail> {
     Ok(())
 }
 
-/// Begins a version; after `NoMemory` all is as before, and the next call begins it.
+/// Begins a new file; after `NoMemory` all is as before, and the next call begins it.
 fn begin_again(rt: &impl Abort, alloc: Global, volume: &mut Volume<MemDisk>) {
-    let refused = begin_version(alloc, volume, prime_of(rt, 0o20, numbered(1)));
+    let refused = begin_version(alloc, volume, Kind::Create, prime_of(rt, 0o20, numbered(1)));
     if refused == Err(CallError::NoMemory) {
         expect_room(rt, volume, 45);
-        let again = begin_version(alloc, volume, prime_of(rt, 0o20, numbered(1)));
+        let again = begin_version(alloc, volume, Kind::Create, prime_of(rt, 0o20, numbered(1)));
         assert!(rt; again.is_ok());
         expect_room(rt, volume, 44);
     }

@@ -5,7 +5,7 @@ use meaning::{Entry, ErrorCode};
 use std::alloc::{AllocError, Global};
 use std::process::Abort;
 use std::test::Fail;
-use volume::{CallError, Volume};
+use volume::{CallError, Kind, Volume};
 use words36::{Block, FileName};
 
 /// The writes and syncs up to a volume with the directory [10,20] and 42 files of no words: of `init`, `open` and
@@ -23,7 +23,7 @@ const WHOLE: usize = SHUT + 2 + 4 + 2;
 /// Publishes a file of no words with this name in [10,20]. It leaves a block less.
 fn publish_one(rt: &impl Abort, alloc: Global, volume: &mut Volume<MemDisk>, name: u8) {
     let room = volume.room().checked_sub(1);
-    store(rt, alloc, volume, u64::from(name), &[], room);
+    store(rt, alloc, volume, Kind::Create, u64::from(name), &[], room);
 }
 
 /// Publishes files of no words with these names in [10,20]. Each leaves a block less.
@@ -89,11 +89,11 @@ fn directory_block(
 fn publish_85(rt: &impl Abort, alloc: Global, volume: &mut Volume<MemDisk>) {
     publish_each(rt, alloc, volume, 1, 43);
     expect_files(rt, alloc, volume, 42, 69);
-    store(rt, alloc, volume, 43, &[], Some(67));
+    store(rt, alloc, volume, Kind::Create, 43, &[], Some(67));
     expect_files(rt, alloc, volume, 43, 67);
     publish_each(rt, alloc, volume, 44, 85);
     expect_files(rt, alloc, volume, 84, 26);
-    store(rt, alloc, volume, 85, &[], Some(24));
+    store(rt, alloc, volume, Kind::Create, 85, &[], Some(24));
     expect_files(rt, alloc, volume, 85, 24);
 }
 
@@ -119,7 +119,7 @@ fn expect_blocks(rt: &impl Abort, alloc: Global, disk: &mut MemDisk) -> Result<(
 /// Publishes a file in the place of the 43rd of 85, which takes no block more.
 fn publish_again(rt: &impl Abort, alloc: Global, volume: &mut Volume<MemDisk>) {
     expect_files(rt, alloc, volume, 85, 24);
-    store(rt, alloc, volume, 43, &[], Some(24));
+    store(rt, alloc, volume, Kind::Supersede, 43, &[], Some(24));
     expect_files(rt, alloc, volume, 85, 24);
 }
 
@@ -157,7 +157,7 @@ fn cut_off(
     };
     let mut volume = fresh(rt, alloc, 128, BEFORE.saturating_add(calls))?;
     publish_each(rt, alloc, &mut volume, 1, 43);
-    let pending = write(rt, alloc, &mut volume, 43, &[]);
+    let pending = write(rt, alloc, &mut volume, Kind::Create, 43, &[]);
     expect_published(rt, alloc, &mut volume, pending, 1, &[], wanted);
     expect_failure(rt, &volume, !is_done);
     let mut disk = disk_of(volume);

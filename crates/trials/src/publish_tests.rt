@@ -17,7 +17,7 @@ use retrieval::{Mode, Prime};
 use std::alloc::{AllocError, Global};
 use std::process::Abort;
 use std::test::Fail;
-use volume::{CallError, FileFacts, Pending, Pin, VersionHandle, Volume};
+use volume::{CallError, FileFacts, Kind, Pending, Pin, VersionHandle, Volume};
 use words36::{BLOCK_WORDS, FileName, Half, Moment, Ppn, Word};
 
 /// FOO in SIXBIT.
@@ -108,6 +108,7 @@ pub(crate) fn write<D: Disk>(
     rt: &impl Abort,
     alloc: Global,
     volume: &mut Volume<D>,
+    kind: Kind,
     name: u64,
     words: &[Word],
 ) -> Pending
@@ -116,7 +117,7 @@ pub(crate) fn write<D: Disk>(
         → IsPlaced volume.new.core p }
     ensures readers { (pin : Pin) → IsReadable volume.old.core (Pinned pin) → IsReadable volume.new.core (Pinned pin) }
 {
-    let Ok(pending) = volume.begin(alloc, prime_of(rt, name)) else {
+    let Ok(pending) = volume.begin(alloc, kind, prime_of(rt, name)) else {
         panic!(rt; "no version is begun");
     };
     if volume.put_words(pending, 1, words) != Ok(()) {
@@ -166,13 +167,14 @@ pub(crate) fn store<D: Disk>(
     rt: &impl Abort,
     alloc: Global,
     volume: &mut Volume<D>,
+    kind: Kind,
     name: u64,
     words: &[Word],
     room: Option<i64>,
 )
     ensures readers { (pin : Pin) → IsReadable volume.old.core (Pinned pin) → IsReadable volume.new.core (Pinned pin) }
 {
-    let pending = write(rt, alloc, volume, name, words);
+    let pending = write(rt, alloc, volume, kind, name, words);
     expect_published(rt, alloc, volume, pending, 1, &[], Ok(()));
     assert_eq!(rt; Some(volume.room()), room);
 }
@@ -267,7 +269,7 @@ pub(crate) fn expect_file<D: Disk>(
 /// Writes FOO.TXT of two blocks, and of two words more by its publication.
 fn publish_new<D: Disk>(rt: &impl Abort, alloc: Global, volume: &mut Volume<D>, first: &[Word]) {
     expect_room(rt, volume, 47);
-    let pending = write(rt, alloc, volume, FOO, first);
+    let pending = write(rt, alloc, volume, Kind::Create, FOO, first);
     expect_room(rt, volume, 44);
     expect_published(
         rt,
@@ -319,7 +321,7 @@ fn expect_no_room<D: Disk>(
 
 /// A version of 40 blocks finds no room for last words, three times, and is published without them.
 fn publish_full<D: Disk>(rt: &impl Abort, alloc: Global, volume: &mut Volume<D>, words: &[Word]) {
-    let pending = write(rt, alloc, volume, FOO, words);
+    let pending = write(rt, alloc, volume, Kind::Create, FOO, words);
     expect_room(rt, volume, 6);
     expect_no_room(rt, alloc, volume, pending, 47);
     expect_no_room(rt, alloc, volume, pending, 16385);
@@ -342,7 +344,7 @@ fn last_words_find_no_room(rt: HostRuntime) -> Result<(), Fail> {
 
 /// Publishes a version of no words with a last word at block 46.
 fn publish_far<D: Disk>(rt: &impl Abort, alloc: Global, volume: &mut Volume<D>) {
-    let pending = write(rt, alloc, volume, FOO, &[]);
+    let pending = write(rt, alloc, volume, Kind::Create, FOO, &[]);
     expect_room(rt, volume, 46);
     expect_published(rt, alloc, volume, pending, 46, &[word(7)], Ok(()));
 }
@@ -394,7 +396,7 @@ fn expect_unbegun<D: Disk>(
     volume: &mut Volume<D>,
     error: CallError,
 ) {
-    assert!(rt; volume.begin(alloc, prime_of(rt, FOO)) == Err(error));
+    assert!(rt; volume.begin(alloc, Kind::Supersede, prime_of(rt, FOO)) == Err(error));
 }
 
 /// Each call is answered `Failed`.
@@ -414,9 +416,9 @@ fn expect_failed<D: Disk>(rt: &impl Abort, alloc: Global, volume: &mut Volume<D>
 fn fail_to_publish<D: Disk>(rt: &impl Abort, alloc: Global, volume: &mut Volume<D>) -> Pin
     ensures live { IsReadable volume.new.core (Pinned result) }
 {
-    store(rt, alloc, volume, FOO, &[], Some(46));
+    store(rt, alloc, volume, Kind::Create, FOO, &[], Some(46));
     let pin = hold(rt, volume);
-    let pending = write(rt, alloc, volume, FOO, &[]);
+    let pending = write(rt, alloc, volume, Kind::Supersede, FOO, &[]);
     expect_failure(rt, volume, false);
     expect_published(rt, alloc, volume, pending, 1, &[], Err(CallError::Device));
     pin
@@ -446,7 +448,7 @@ fn fail_to_read<D: Disk>(alloc: Global, volume: &mut Volume<D>, pending: Pending
 /// A version is begun, the volume fails where it is read, and the version isn't published. Tells whether the read
 /// failed.
 fn publish_given_up<D: Disk>(rt: &impl Abort, alloc: Global, volume: &mut Volume<D>) -> bool {
-    let pending = write(rt, alloc, volume, FOO, &[word(7)]);
+    let pending = write(rt, alloc, volume, Kind::Supersede, FOO, &[word(7)]);
     if !fail_to_read(alloc, volume, pending) {
         return false;
     }
@@ -464,7 +466,15 @@ fn is_given_up_after(rt: &impl Abort, alloc: Global, reads: u32) -> Result<bool,
     let is_given_up = publish_given_up(rt, alloc, &mut volume);
     let mut volume = opened(rt, alloc, unspoiled(disk_of(volume)));
     expect_room(rt, &volume, 45);
-    store(rt, alloc, &mut volume, FOO, &[word(7)], Some(45));
+    store(
+        rt,
+        alloc,
+        &mut volume,
+        Kind::Supersede,
+        FOO,
+        &[word(7)],
+        Some(45),
+    );
     Ok(is_given_up)
 }
 

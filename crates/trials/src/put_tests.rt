@@ -8,7 +8,7 @@ use retrieval::{Mode, Prime};
 use std::alloc::Global;
 use std::process::Abort;
 use std::test::Fail;
-use volume::{CallError, Pending, VersionHandle, Volume};
+use volume::{CallError, Kind, Pending, VersionHandle, Volume};
 use words36::{BLOCK_WORDS, FileName, Half, Moment, Ppn, Word};
 
 /// Two words that are put.
@@ -25,7 +25,7 @@ fn foo(rt: &impl Abort) -> Prime {
     Prime::new(file, ppn, 0o057, Mode::Dump, moment).expect(rt, "a prime block")
 }
 
-/// The volume on a disk, with a version begun, or why not.
+/// The volume on a disk that has FOO.TXT, with a version of it begun. Nothing where that is refused.
 fn open_and_begin<D: Disk + Drop>(
     rt: &impl Abort,
     alloc: Global,
@@ -37,7 +37,7 @@ fn open_and_begin<D: Disk + Drop>(
     let Some(mut volume) = open(alloc, disk) else {
         return None;
     };
-    match volume.begin(alloc, prime) {
+    match volume.begin(alloc, Kind::Supersede, prime) {
         Ok(pending) => Some((volume, pending)),
         Err(_refused) => None,
     }

@@ -11,7 +11,7 @@ use blockdisk::{Disk, Fault, MemDisk, NoMemory};
 use std::alloc::Global;
 use std::process::Abort;
 use std::test::Fail;
-use volume::{CallError, Pin, Volume};
+use volume::{CallError, Kind, Pin, Volume};
 use words36::{Block, Word};
 
 /// The writes and syncs up to a volume with the directory [10,20]: seven and one of `init`, one sync of `open`, and
@@ -57,13 +57,13 @@ fn supersede_twice(
     second: &[Word],
     third: &[Word],
 ) {
-    store(rt, alloc, volume, FOO, first, Some(44));
+    store(rt, alloc, volume, Kind::Create, FOO, first, Some(44));
     let reader = hold(rt, volume);
-    store(rt, alloc, volume, FOO, second, Some(40));
+    store(rt, alloc, volume, Kind::Supersede, FOO, second, Some(40));
     expect_words(rt, alloc, volume, reader, first);
     let later = hold_beside(rt, volume, reader);
     expect_words(rt, alloc, volume, later, second);
-    store(rt, alloc, volume, FOO, third, Some(38));
+    store(rt, alloc, volume, Kind::Supersede, FOO, third, Some(38));
     expect_words(rt, alloc, volume, reader, first);
     expect_words(rt, alloc, volume, later, second);
     unpin_beside(volume, later, reader);
@@ -145,7 +145,7 @@ fn count_publication(
     all: u32,
 ) {
     expect_counts(rt, volume.disk(), 0, 1);
-    let pending = write(rt, alloc, volume, FOO, words);
+    let pending = write(rt, alloc, volume, Kind::Supersede, FOO, words);
     expect_counts(rt, volume.disk(), before, 1);
     expect_published(rt, alloc, volume, pending, 1, &[], Ok(()));
     expect_counts(rt, volume.disk(), all, 1 + 4);
@@ -163,7 +163,7 @@ fn counting(disk: MemDisk) -> CountingDisk {
 /// A fresh volume of 512 blocks with a FOO.TXT of no words, whose disk counts from now on.
 fn with_a_file(rt: &impl Abort, alloc: Global) -> Result<CountingDisk, NoMemory> {
     let mut volume = fresh(rt, alloc, 512, 1000)?;
-    store(rt, alloc, &mut volume, FOO, &[], Some(494));
+    store(rt, alloc, &mut volume, Kind::Create, FOO, &[], Some(494));
     Ok(counting(disk_of(volume)))
 }
 
@@ -201,8 +201,8 @@ fn cut_off(
         Err(CallError::Device)
     };
     let mut volume = fresh(rt, alloc, 64, calls)?;
-    store(rt, alloc, &mut volume, FOO, old, Some(44));
-    let pending = write(rt, alloc, &mut volume, FOO, first);
+    store(rt, alloc, &mut volume, Kind::Create, FOO, old, Some(44));
+    let pending = write(rt, alloc, &mut volume, Kind::Supersede, FOO, first);
     expect_published(rt, alloc, &mut volume, pending, 3, rest, wanted);
     expect_failure(rt, &volume, !is_done);
     let mut disk = disk_of(volume);

@@ -13,7 +13,7 @@ use retrieval::{Mode, Prime};
 use std::alloc::Global;
 use std::process::Abort;
 use std::test::Fail;
-use volume::{CallError, Pending, Pin, Volume};
+use volume::{CallError, Kind, Pending, Pin, Volume};
 use words36::{BLOCK_WORDS, Moment, Word};
 
 /// The word that others put.
@@ -25,7 +25,7 @@ fn prime_of(rt: &impl Abort, name: u64) -> Prime {
     Prime::new(file_name(name), ppn_of(rt), 0o057, Mode::Dump, moment).expect(rt, "a prime block")
 }
 
-/// Begins a version, and puts so many blocks of words into it. Nothing where that is refused.
+/// Begins a new file, and puts so many blocks of words into it. Nothing where that is refused.
 fn write<D: Disk>(
     rt: &impl Abort,
     alloc: Global,
@@ -39,7 +39,7 @@ fn write<D: Disk>(
     let Ok(words) = vec![in alloc; word(OTHERS); blocks * BLOCK_WORDS] else {
         return None;
     };
-    let Ok(pending) = volume.begin(alloc, prime_of(rt, name)) else {
+    let Ok(pending) = volume.begin(alloc, Kind::Create, prime_of(rt, name)) else {
         return None;
     };
     match put(volume, pending, 1, words.as_slice()) {
@@ -157,6 +157,7 @@ fn begin_beside<D: Disk>(
     alloc: Global,
     volume: &mut Volume<D>,
     pin: Pin,
+    kind: Kind,
     name: u64,
     room: i64,
 ) -> Pending
@@ -167,7 +168,7 @@ fn begin_beside<D: Disk>(
         → IsSome (pending_at volume.new.core.pending k) }
     ensures apart { (k : ℕ) → IsSome (pending_at volume.old.core.pending k) → k ≡ result.key → ⊥ }
 {
-    let Ok(pending) = volume.begin(alloc, prime_of(rt, name)) else {
+    let Ok(pending) = volume.begin(alloc, kind, prime_of(rt, name)) else {
         panic!(rt; "no version is begun");
     };
     expect_room(rt, volume, room);
@@ -246,8 +247,8 @@ fn write_beside<D: Disk>(
 )
     requires reader { IsReadable volume.old.core (Pinned pin) }
 {
-    let new = begin_beside(rt, alloc, volume, pin, 1, 43);
-    let same = begin_beside(rt, alloc, volume, pin, FOO, 42);
+    let new = begin_beside(rt, alloc, volume, pin, Kind::Create, 1, 43);
+    let same = begin_beside(rt, alloc, volume, pin, Kind::Supersede, FOO, 42);
     put_beside(rt, alloc, volume, pin, new, same, 1, three, 39);
     put_beside(rt, alloc, volume, pin, same, new, 3, &[word(7)], 36);
     put_beside(
@@ -262,7 +263,7 @@ fn write_beside<D: Disk>(
         36,
     );
     discard_beside(rt, alloc, volume, pin, new, same, 40);
-    let again = begin_beside(rt, alloc, volume, pin, FOO, 39);
+    let again = begin_beside(rt, alloc, volume, pin, Kind::Supersede, FOO, 39);
     put_beside(rt, alloc, volume, pin, new, again, 2, three, 35);
     volume.unpin(pin);
     volume.discard(again);

@@ -14,7 +14,6 @@ use Rattle.meaning.specs.Log.{IsTarget, targets, with_puts}
 use Rattle.meaning.specs.Maps.{from_entries, insert, times}
 use Rattle.meaning.specs.Regions.{table_blocks}
 use Rattle.meaning.proofs.MapLaws.{some_none}
-use Rattle.meaning.proofs.MapSums.{times-append}
 use Rattle.meaning.proofs.Walking.{all_times}
 use Rattle.alloctab.specs.Changes.{IsChangedBlock, SpellsTable}
 use Rattle.alloctab.specs.TableLaws.{sound-unchanged}
@@ -27,20 +26,21 @@ use Rattle.volume.specs.declared.live.LiveMap.{LiveMap}
 use Rattle.volume.specs.declared.live.LiveVersion.{LiveVersion}
 use Rattle.volume.specs.declared.pending.PendingVersion.{PendingVersion}
 use Rattle.volume.specs.Cores.{file_view, master_view}
-use Rattle.volume.specs.Known.{KnownDirectory, blocks_reached}
-use Rattle.volume.specs.Live.{VolumeCore, slot, pending_at, as_known, IsCurrent, IsKeyed, held_reaches, held_cost}
-use Rattle.volume.specs.Live.{IsWholeCore}
+use Rattle.volume.specs.Known.{KnownDirectory, blocks_reached, given_up, cost_before}
+use Rattle.volume.specs.Live.{is_creation, VolumeCore, slot, pending_at, as_known, IsCurrent, IsKeyed, held_reaches}
+use Rattle.volume.specs.Live.{held_cost, IsWholeCore}
 use Rattle.volume.specs.LiveCores.{core_of, known_at, live_directory}
-use Rattle.volume.specs.Publishing.{Marks, PutsVersionInUse, Retires, Entered, before, given_up, cost_before, left_of}
-use Rattle.volume.specs.Publishing.{IsEnded, HasOtherKey, IsEntryPut, MakesCurrent, IsPlaced}
-use Rattle.volume.proofs.BlockLists.{marks_then}
+use Rattle.volume.specs.Publishing.{Marks, PutsInUse, TakesPlaces, Retires, Entered, before, left_of, IsEnded}
+use Rattle.volume.specs.Publishing.{HasOtherKey, IsEntryPut, MakesCurrent, IsPlaced}
+use Rattle.volume.proofs.BlockLists.{marks_none, marks_then}
 use Rattle.volume.proofs.FoundDirectories.{all_times_at}
 use Rattle.volume.proofs.MakingTables.{puts_marked}
 use Rattle.volume.proofs.PublishingEntries.{inserted_at, inserted_new, entry_replaced, entry_added}
 use Rattle.volume.proofs.PublishingKeys.{keys_apart, made_current_directories, made_current_keyed, replaced_known}
 use Rattle.volume.proofs.PublishingKeys.{replaced_keyed, added_known, added_keyed}
 use Rattle.volume.proofs.PuttingCore.{waits}
-use Rattle.volume.proofs.MakingCurrent.{known_place, keys_place, new_here, keyed_here, whole_here, old_version}
+use Rattle.volume.proofs.MakingCurrent.{places_split, places_behind, known_place, keys_place, new_here, keyed_here}
+use Rattle.volume.proofs.MakingCurrent.{whole_here, old_version, shared_absent, shared_named, all_once}
 use Rattle.changeset.specs.PutLaws.{some_or_none}
 
 apart_keys : (live : List (Option LiveVersion)) (a b : ℕ) (x : LiveVersion) → slot live a ≡ Some x → slot live b ≡ None
@@ -55,15 +55,16 @@ module _ (m m' : LiveMap) (whole : IsWholeCore m.table.size (core_of m)) (key : 
     (gone : pending_at m'.pending.slots key ≡ None) (other_pending : (k : ℕ) → (k ≡ key → ⊥)
     → pending_at m'.pending.slots k ≡ pending_at m.pending.slots k)
     (grown : List ℕ) (prime : ℕ) (ribs : List ℕ) (few_ribs : length ribs ≡ rib_count (length p.version.blocks))
-    (t1 t2 : TableState) (puts_in_use : PutsVersionInUse m.table t1 grown prime (record p.version { ribs = ribs }))
-    (table : m'.table ≡ record t2 { changed = replicate (table_blocks t2.size) false })
+    (t1 t2 t3 : TableState) (takes : TakesPlaces m.table t1 grown prime ribs)
+    (puts_in_use : PutsInUse t2 t3 (blocks_reached prime (record p.version { ribs = ribs }) ++ grown))
+    (table : m'.table ≡ record t3 { changed = replicate (table_blocks t3.size) false })
     (chain_puts puts : List Put) (put_chain : PutsChain file_words (viewed file_view d.chain)
     (viewed file_view d'.chain) [] chain_puts) (few_puts : length chain_puts ≤ 2)
-    (others_put : (c : Contents) (n : ℕ) → (IsChangedBlock t2 n → ⊥) → with_puts puts c n ≡ with_puts chain_puts c n)
-    (spells : (c : Contents) → SpellsTable t2 (with_puts chain_puts c) (with_puts puts c))
-    (in_range : AllByRecursion (IsTarget t2.size) (targets chain_puts)
-    → AllByRecursion (IsTarget t2.size) (targets puts)) (few_table : length puts
-    ≤ length chain_puts + changed_blocks t2)
+    (others_put : (c : Contents) (n : ℕ) → (IsChangedBlock t3 n → ⊥) → with_puts puts c n ≡ with_puts chain_puts c n)
+    (spells : (c : Contents) → SpellsTable t3 (with_puts chain_puts c) (with_puts puts c))
+    (in_range : AllByRecursion (IsTarget t3.size) (targets chain_puts)
+    → AllByRecursion (IsTarget t3.size) (targets puts)) (few_table : length puts
+    ≤ length chain_puts + changed_blocks t3)
     (blocks : d'.chain.blocks ≡ d.chain.blocks ++ grown)
     (new_key : ℕ) (vacant : slot m.versions.slots new_key ≡ None)
     (here : slot m'.versions.slots new_key
@@ -103,17 +104,43 @@ module _ (m m' : LiveMap) (whole : IsWholeCore m.table.size (core_of m)) (key : 
   module _ (old : Entered) (ended : IsEnded m.versions.slots m'.versions.slots old)
       (from : IfSome old (λ o. (i : ℕ) × (slice_get d.keys.items i ≡ Some o.0)))
       (others : (k : ℕ) → (k ≡ new_key → ⊥) → HasOtherKey old k → slot m'.versions.slots k ≡ slot m.versions.slots k)
-      (entry : IsEntryPut dk dk' p.prime.file prime (as_known new) (before old)) (is_new : p.is_new
+      (entry : IsEntryPut dk dk' p.prime.file prime (as_known new) (before old)) (is_new : is_creation p
       ≡ is_none old) (keyed : IsKeyed m'.versions.slots dk' d'.keys.items)
       (marks : Marks t1 t2) (bits : (n : ℕ) → bit t2 n + given_up n (before old) ≡ bit t1 n) (held : (n : ℕ)
       → holds t2 n ≡ holds t1 n + held_reaches n (left_of old)) (booked : t2.booked + cost_before (before old)
-      ≡ t1.booked + held_cost (left_of old)) where
+      ≡ t1.booked + held_cost (left_of old)) (shared : (n : ℕ) → 0 < times n p.version.blocks → 0 < bit m.table n
+      → 0 < given_up n (before old)) where
     stay : (k : ℕ) (v : LiveVersion) → slot m.versions.slots k ≡ Some v → HasOtherKey old k
         → slot m'.versions.slots k ≡ Some v
     stay k v there other = others k (apart_keys m.versions.slots k new_key v there vacant) other ∙ there
 
-    all_marks : Marks m.table t2
-    all_marks = marks_then m.table t1 t2 puts_in_use.marks marks
+    all_marks : Marks m.table t3
+    all_marks = marks_then m.table t2 t3 (marks_then m.table t1 t2 takes.marks marks) puts_in_use.marks
+
+    -- what the table says in the end
+    bits_after : (n : ℕ) → bit t3 n + given_up n (before old)
+        ≡ bit m.table n + times n (grown ++ blocks_reached prime (record p.version { ribs = ribs }))
+    bits_after n =
+        let split = places_split n grown prime ribs p.version.blocks in
+        let behind = places_behind n grown prime ribs p.version.blocks in
+        let taken = takes.bits n in
+        let given = bits n in
+        let set = puts_in_use.bits n in
+        omega arith
+
+    held_after : (n : ℕ) → holds t3 n + times n p.version.blocks ≡ holds m.table n + held_reaches n (left_of old)
+    held_after n =
+        let behind = places_behind n grown prime ribs p.version.blocks in
+        let taken = takes.held n in
+        let left = held n in
+        let used = puts_in_use.held n in
+        omega arith
+
+    booked_after : t3.booked + cost_before (before old) ≡ m.table.booked + held_cost (left_of old)
+    booked_after =
+        let taken = takes.booked in
+        let used = puts_in_use.booked in
+        omega arith
 
     made_current_into : (makes_current : MakesCurrent m.table.size c c' key p prime ribs puts)
         × (new_key ≡ makes_current.new_key)
@@ -138,11 +165,12 @@ module _ (m m' : LiveMap) (whole : IsWholeCore m.table.size (core_of m)) (key : 
           few = few_puts;
           inside = all_times (InSpace m.table.size) (grown ++ blocks_reached prime (record p.version { ribs = ribs }))
               inside_of;
-          fresh = puts_in_use.fresh;
+          fresh = takes.fresh;
+          once = all_once m whole key p was placed place w stands d at t1 grown prime ribs takes
+              (λ n. given_up n (before old)) shared;
           size_is = ap (λ (t : TableState). t.size) table ∙ all_marks.size;
-          bits = λ n. let same = ap (λ (t : TableState). bit t n) table in let given = bits n in
-              let one = puts_in_use.bits n in omega arith;
-          put = puts_marked m.table t2 m'.table chain_puts puts all_marks table others_put spells in_range few_table;
+          bits = λ n. let same = ap (λ (t : TableState). bit t n) table in let all = bits_after n in omega arith;
+          put = puts_marked m.table t3 m'.table chain_puts puts all_marks table others_put spells in_range few_table;
         };
         few_ribs = few_ribs;
         written = was;
@@ -161,13 +189,12 @@ module _ (m m' : LiveMap) (whole : IsWholeCore m.table.size (core_of m)) (key : 
             (map (λ x. x.keys.items) (slice_set m.directories.items place d')))
             (sym (made_current_directories m.table.size m whole m'.versions.slots place d d' at old from stay))
             (made_current_keyed m.table.size m whole m'.versions.slots place d d' at old from stay keyed));
-        unheld = λ n some. (puts_in_use.free n some).0.unheld;
-        held = λ n. let same = ap (λ (t : TableState). holds t n) table in let left = held n in
-            let one = puts_in_use.held n in omega arith;
-        booked = let same = ap (λ (t : TableState). t.booked) table in let one = puts_in_use.booked in omega arith;
+        unheld = λ n some. (takes.free n some).0.unheld;
+        held = λ n. let same = ap (λ (t : TableState). holds t n) table in let all = held_after n in omega arith;
+        booked = let same = ap (λ (t : TableState). t.booked) table in let all = booked_after in omega arith;
         unchanged = ap (λ (t : TableState). t.changed) table
             ∙ ap (λ (n : ℕ). replicate (table_blocks n) false) all_marks.size;
-        sound = subst IsTable (sym table) (sound-unchanged t2 all_marks.sound);
+        sound = subst IsTable (sym table) (sound-unchanged t3 all_marks.sound);
       },
       refl,
     )
@@ -175,13 +202,11 @@ module _ (m m' : LiveMap) (whole : IsWholeCore m.table.size (core_of m)) (key : 
         inside_of : (n : ℕ) → 0 < times n (grown ++ blocks_reached prime (record p.version { ribs = ribs }))
             → InSpace m.table.size n
         inside_of n some =
-            let split = times-append n grown (blocks_reached prime (record p.version { ribs = ribs })) in
-            let parts = times-append n (prime ∷ ribs) p.version.blocks in
-            let front = times-append n grown (prime ∷ ribs) in
+            let split = places_split n grown prime ribs p.version.blocks in
             ⊎_elim
             (λ its. all_times_at (InSpace m.table.size) p.version.blocks n
             (waits m.table.size c whole key p was).inside its)
-            (λ none. (puts_in_use.free n (omega arith)).1) (some_or_none (times n p.version.blocks))
+            (λ none. (takes.free n (omega arith)).1) (some_or_none (times n p.version.blocks))
 
   -- The name had a version.
   module _ (k i v : ℕ) (named : StandsAt name_cmp (map file_view d.chain.entries) p.prime.file v i)
@@ -243,6 +268,7 @@ module _ (m m' : LiveMap) (whole : IsWholeCore m.table.size (core_of m)) (key : 
         (replaced_keyed m.versions.slots m'.versions.slots d.keys.items dk.chain.entries i new_key
         (k, u) new zip only here stays (p.prime.file, prime) refl refl)))
         gone_version.marks gone_version.bits gone_version.held gone_version.booked
+        (shared_named m whole key p was placed place w stands d at i v k u named had.1 had.2 had.3)
 
   -- The name is new.
   module _ (absent : find name_cmp p.prime.file (map file_view d.chain.entries) ≡ None) (keys : d'.keys.items
@@ -276,11 +302,11 @@ module _ (m m' : LiveMap) (whole : IsWholeCore m.table.size (core_of m)) (key : 
         ++ (p.prime.file, prime) ∷ [])) (sym keys)
         (added_keyed m.versions.slots m'.versions.slots d.keys.items dk.chain.entries new_key new zip_new here kept
         (p.prime.file, prime) refl refl)))
-        (subst (Marks t1) (sym none)
-        (record { sound = puts_in_use.marks.sound; size = refl; stays = λ i is. is; moved = λ n still. refl }))
+        (subst (Marks t1) (sym none) (marks_none t1 takes.marks.sound))
         (λ n. let same = ap (λ (t : TableState). bit t n) none in
         omega arith) (λ n. let same = ap (λ (t : TableState). holds t n) none in
         omega arith) (let same = ap (λ (t : TableState). t.booked) none in omega arith)
+        (λ n its set. absurd (shared_absent m whole key p was placed place w stands d at absent n its set))
 
   -- By what the entry answered.
   module _ (versions : List (Option LiveVersion)) (put_others : (k : ℕ) → (k ≡ new_key → ⊥)

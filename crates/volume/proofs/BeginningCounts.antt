@@ -3,7 +3,7 @@ use Rattle.std.proofs.Common.{◌≡◌, ℕ, ◌+◌, ◌≤◌, ◌==◌, Bool
 use Rattle.std.proofs.Common.{None, refl, ap, arith}
 use Rattle.meaning.specs.Maps.{total}
 use Rattle.slab.specs.Slab.{entries_from}
-use Rattle.volume.specs.Live.{creates}
+use Rattle.volume.specs.Live.{is_creation, creates}
 use Rattle.volume.specs.declared.pending.PendingVersion.{PendingVersion}
 
 -- so many of these entries will be new ones of the directory
@@ -23,4 +23,4 @@ one_or_none false b = omega arith
 
 -- a version is one entry at most
 pub creates_few : (ppn : ℕ) (p : PendingVersion) → creates ppn (Some p) ≤ 1
-creates_few ppn p = one_or_none p.is_new (p.prime.ppn == ppn)
+creates_few ppn p = one_or_none (is_creation p) (p.prime.ppn == ppn)

@@ -1,18 +1,22 @@
 -- A version that is dropped: what is taken back, and that core stays whole.
 use Rattle.std.proofs.Common.{◌≡◌, ℕ, ◌+◌, ◌<◌, ◌≤◌, ◌^◌, Bool, true, false, List, length, slice_get, slice_index}
-use Rattle.std.proofs.Common.{Option, Some, None, IfSome, refl, sym, ap, subst, arith, if◌then◌else◌}
+use Rattle.std.proofs.Common.{Option, Some, None, IfSome, refl, sym, ap, subst, ◌∙◌, arith, if◌then◌else◌, ⊎_elim}
+use Rattle.std.proofs.lemmas.Bool.{cases_eq}
 use Rattle.std.specs.Ordering.{nat_cmp}
 use Rattle.std.specs.FinMap.Entries.{find}
 use Rattle.meaning.specs.Costs.{cost_of_blocks}
 use Rattle.meaning.specs.Maps.{total, times}
 use Rattle.meaning.specs.Retrieval.{most_blocks}
 use Rattle.meaning.specs.Room.{growth}
+use Rattle.meaning.proofs.MapLaws.{some_none}
 use Rattle.alloctab.specs.TableState.{holds}
 use Rattle.slab.specs.Slab.{Slab, get, Updates}
 use Rattle.volume.specs.declared.pending.PendingVersion.{PendingVersion}
 use Rattle.volume.specs.Known.{KnownDirectory}
-use Rattle.volume.specs.Live.{VolumeCore, pending_cost, pending_reaches, creates, growths, IsWholePending, IsWholeCore}
+use Rattle.volume.specs.Live.{VolumeCore, pending_at, pending_cost, pending_reaches, is_creation, creates, growths}
+use Rattle.volume.specs.Live.{IsWholePending, IsWholeCore}
 use Rattle.volume.specs.Beginning.{IsDirectoryOf}
+use Rattle.volume.proofs.Apart.{apart_same}
 use Rattle.volume.proofs.Costing.{few_blocks}
 use Rattle.volume.proofs.Growing.{Adds, added_total, added_growths, kept_growths, created_once, entries_few}
 use Rattle.volume.proofs.Pinning.{each_slot, all_updated}
@@ -34,7 +38,7 @@ module _ (size : ℕ) (c : VolumeCore) (whole : IsWholeCore size c) (less : List
       (each_slot (λ o. IfSome o (IsWholePending size)) tt c.pending whole.waiting key)
 
   -- its directory is there
-  pub dropped_there : p.is_new ≡ true → find nat_cmp p.prime.ppn c.known.master.entries ≡ None → ⊥
+  pub dropped_there : is_creation p ≡ true → find nat_cmp p.prime.ppn c.known.master.entries ≡ None → ⊥
   dropped_there new none =
       let one = created_once less c.pending key p adds new in
       let all = whole.housed p.prime.ppn none in
@@ -58,14 +62,14 @@ module _ (size : ℕ) (c : VolumeCore) (whole : IsWholeCore size c) (less : List
   dropped_blocks = few_blocks (record { prime = p.prime; version = p.version }) dropped_pending.whole
 
   -- what its directory costs less
-  pub dropped_growths : (share : ℕ) → (p.is_new ≡ false → share ≡ 0)
-      → (p.is_new ≡ true → (d : KnownDirectory) × IsDirectoryOf c p.prime.ppn d
+  pub dropped_growths : (share : ℕ) → (is_creation p ≡ false → share ≡ 0)
+      → (is_creation p ≡ true → (d : KnownDirectory) × IsDirectoryOf c p.prime.ppn d
       × (share ≡ growth (length d.chain.entries + total (creates p.prime.ppn) less)))
       → growths c.pending c.known.master.entries c.known.directories
       ≡ growths less c.known.master.entries c.known.directories + share
-  dropped_growths share none some = by p.is_new refl
+  dropped_growths share none some = by (is_creation p) refl
     where
-      by : (b : Bool) → p.is_new ≡ b → growths c.pending c.known.master.entries c.known.directories
+      by : (b : Bool) → is_creation p ≡ b → growths c.pending c.known.master.entries c.known.directories
           ≡ growths less c.known.master.entries c.known.directories + share
       by false old =
           let same = kept_growths less c.pending key p adds old c.known.master.entries c.known.directories in
@@ -88,6 +92,12 @@ module _ (size : ℕ) (c : VolumeCore) (whole : IsWholeCore size c) (less : List
         let all = whole.booked in
         omega arith
 
+    -- what is written still was
+    still_written : (k : ℕ) (q : PendingVersion) → pending_at less k ≡ Some q → pending_at c.pending k ≡ Some q
+    still_written k q at = ⊎_elim
+        (λ (same : k ≡ key). absurd (some_none (sym at ∙ ap (pending_at less) same ∙ adds.vacant)))
+        (λ other. adds.others k other ∙ at) (cases_eq k key)
+
     pub dropped_whole : (held : List ℕ) (booked : ℕ)
         → ((n : ℕ) → slice_index held n + times n p.version.blocks ≡ holds c.known.table n)
         → booked + (cost_of_blocks (length p.version.blocks) + share) ≡ c.known.table.booked
@@ -104,8 +114,9 @@ module _ (size : ℕ) (c : VolumeCore) (whole : IsWholeCore size c) (less : List
           let all = whole.housed ppn none in omega arith;
       held = λ n. let more = added_total less c.pending key p adds (pending_reaches n) refl in let was = whole.held n in
           omega (arith, fewer n);
-      own = λ n some. let more = added_total less c.pending key p adds (pending_reaches n) refl in
-          let few = whole.own n (omega arith) in omega (arith, fewer n);
+      own = λ k q at.
+          apart_same c (record c { known = counting c.known held booked; pending = less }) q
+          (whole.own k q (still_written k q at)) refl (λ n is. is) (λ n there set. set) still_written;
       inside = λ n there. whole.inside n (omega (arith, fewer n));
       apart = λ n there. whole.apart n (omega (arith, fewer n));
       fits = let fits = whole.fits in omega arith;

@@ -14,7 +14,7 @@ use Rattle.meaning.proofs.MapLaws.{some_same, some_none}
 use Rattle.meaning.proofs.MapLists.{find_first, find_tail_none}
 use Rattle.volume.specs.declared.pending.PendingVersion.{PendingVersion}
 use Rattle.volume.specs.Known.{KnownVersion, KnownDirectory, IsWholeDirectory, cost_of_version, cost_of_directory}
-use Rattle.volume.specs.Live.{VolumeCore, pending_at, pending_cost, creates, growths, IsWholeCore}
+use Rattle.volume.specs.Live.{is_creation, VolumeCore, pending_at, pending_cost, creates, growths, IsWholeCore}
 use Rattle.volume.proofs.BeginningCounts.{creates_few}
 use Rattle.volume.proofs.LiveTotals.{total_updated}
 
@@ -107,9 +107,9 @@ module _ (less more : List (Option PendingVersion)) (key : ℕ) (p : PendingVers
       let here = ap f adds.vacant in
       omega arith
 
-  created_here : total (creates p.prime.ppn) more ≡ total (creates p.prime.ppn) less + (if p.is_new then 1 else 0)
+  created_here : total (creates p.prime.ppn) more ≡ total (creates p.prime.ppn) less + (if is_creation p then 1 else 0)
   created_here = added_total (creates p.prime.ppn) refl
-      ∙ ap (λ (n : ℕ). total (creates p.prime.ppn) less + n) (by p.is_new p.prime.ppn)
+      ∙ ap (λ (n : ℕ). total (creates p.prime.ppn) less + n) (by (is_creation p) p.prime.ppn)
     where
       by : (b : Bool) (q : ℕ) → ◌≡◌ {A = ℕ} (if b then (if q == q then 1 else 0) else 0) (if b then 1 else 0)
       by true q = grind (arith, nat_tests)
@@ -117,18 +117,19 @@ module _ (less more : List (Option PendingVersion)) (key : ℕ) (p : PendingVers
 
   pub created_elsewhere : (q : ℕ) → (q ≡ p.prime.ppn → ⊥) → total (creates q) more ≡ total (creates q) less
   created_elsewhere q other = added_total (creates q) refl
-      ∙ ap (λ (n : ℕ). total (creates q) less + n) (by p.is_new p.prime.ppn (λ same. other (sym same))) ∙ omega arith
+      ∙ ap (λ (n : ℕ). total (creates q) less + n) (by (is_creation p) p.prime.ppn (λ same. other (sym same)))
+      ∙ omega arith
     where
       by : (b : Bool) (ppn : ℕ) → (ppn ≡ q → ⊥) → ◌≡◌ {A = ℕ} (if b then (if ppn == q then 1 else 0) else 0) 0
       by true ppn apart = grind (arith, nat_tests)
       by false ppn apart = refl
 
   -- one that is created is counted
-  pub created_once : p.is_new ≡ true → total (creates p.prime.ppn) more ≡ total (creates p.prime.ppn) less + 1
+  pub created_once : is_creation p ≡ true → total (creates p.prime.ppn) more ≡ total (creates p.prime.ppn) less + 1
   created_once new = created_here ∙ ap (λ (b : Bool). total (creates p.prime.ppn) less + (if b then 1 else 0)) new
 
   -- one that is no new entry leaves the directories alone
-  pub kept_growths : p.is_new ≡ false → (es : List MasterEntry) (ds : List KnownDirectory)
+  pub kept_growths : is_creation p ≡ false → (es : List MasterEntry) (ds : List KnownDirectory)
       → growths more es ds ≡ growths less es ds
   kept_growths old = each
     where
@@ -146,8 +147,8 @@ module _ (less more : List (Option PendingVersion)) (key : ℕ) (p : PendingVers
   pub added_growths : (es : List MasterEntry) (ds : List KnownDirectory) (i : ℕ) (v : ℕ × ℕ) (d : KnownDirectory)
       → EachOnce nat_cmp es → slice_get es i ≡ Some (p.prime.ppn, v) → slice_get ds i ≡ Some d
       → growths more es ds ≡ growths less es ds
-      + (if p.is_new then growth (length d.chain.entries + total (creates p.prime.ppn) less) else 0)
-  added_growths es ds i v d once is at = by p.is_new created_here
+      + (if is_creation p then growth (length d.chain.entries + total (creates p.prime.ppn) less) else 0)
+  added_growths es ds i v d once is at = by (is_creation p) created_here
     where
       by : (b : Bool) → total (creates p.prime.ppn) more ≡ total (creates p.prime.ppn) less + (if b then 1 else 0)
           → growths more es ds ≡ growths less es ds

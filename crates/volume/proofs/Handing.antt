@@ -9,7 +9,9 @@ use Rattle.volume.specs.declared.error.VolumeError.TheVariants.{BlockTwice, Tabl
 use Rattle.volume.specs.declared.error.VolumeError.TheVariants.{BadData}
 use Rattle.volume.specs.FileReading.{IsVersionRefusal, IsDataRefusal, IsFileRefusal, IsOtherPlace, IsReachedTwice}
 use Rattle.volume.specs.FileReading.{IsDamagedData}
-use Rattle.volume.specs.FaultsFound.{NamesInSpace, IsFaultOfFile, IsTableRefusal}
+use Rattle.volume.specs.FaultsFound.{NamesInSpace, IsFaultOfFile, IsTableRefusal, error_of_chain}
+use Rattle.directory.specs.declared.error.DirectoryError.{DirectoryError}
+use Rattle.directory.specs.declared.error.DirectoryError.TheVariants as directory
 use Rattle.std.proofs.Common.{Bool, List}
 use Rattle.volume.proofs.Finding.{refusal}
 
@@ -18,6 +20,18 @@ pub handed : {T U E : Type 0} (P : E → Type 0) (outer : Result T E) (inner : R
     → x ≡ y → inner ≡ Err y → IfErr inner P → IfErr outer P
 handed P outer inner x y is same was met = subst (λ r. IfErr r P) (sym is)
     (subst P (sym same) (subst (λ r. IfErr r P) was met))
+
+-- What holds of each error that a chain may meet holds of what it is refused with.
+pub by_chain : (P : VolumeError → Type 0) (error : DirectoryError) (refused : VolumeError)
+    → refused ≡ error_of_chain error → ((n : ℕ) → error ≡ directory.BadDirectory n → P (BadDirectory n))
+    → ((n : ℕ) → error ≡ directory.BlockTwice n → P (BlockTwice n)) → P Device → P NoMemory → P refused
+by_chain P error refused is bad twice device memory = subst P (sym is) (by error refl)
+  where
+    by : (e : DirectoryError) → error ≡ e → P (error_of_chain e)
+    by (directory.BadDirectory n) same = bad n same
+    by (directory.BlockTwice n) same = twice n same
+    by directory.Device same = device
+    by directory.NoMemory same = memory
 
 -- each error of the result has P
 pub each_error : {T E : Type 0} (P : E → Type 0) (result : Result T E) → ((e : E) → result ≡ Err e → P e)

@@ -17,6 +17,7 @@ pub mod Costing
 pub mod CostLaws
 pub mod LiveTotals
 pub mod Keeping
+pub mod Apart
 pub mod Pinning
 pub mod Releasing
 pub mod LiveLookups
@@ -31,6 +32,7 @@ pub mod MakingLists
 pub mod MakingEntries
 pub mod LiveBodies
 pub mod PinnedFiles
+pub mod BegunFiles
 pub mod ReadWords
 pub mod MakingDirectories
 pub mod MakingPlaces
@@ -60,4 +62,5 @@ pub mod CountedReaders
 pub mod PrimeBlocks
 pub mod OnePlace
 pub mod PublishedPlaces
+pub mod Sharing
 pub mod Claiming

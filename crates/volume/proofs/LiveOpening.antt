@@ -7,10 +7,11 @@ use Rattle.std.specs.List.{AllByRecursion, AllZip}
 use Rattle.meaning.specs.Maps.{total, times}
 use Rattle.meaning.specs.Costs.{cost_of_blocks}
 use Rattle.meaning.specs.Directories.{MasterEntry}
+use Rattle.meaning.proofs.MapLaws.{some_none}
 use Rattle.alloctab.specs.TableState.{holds}
 use Rattle.volume.specs.declared.live.LiveVersion.{LiveVersion}
 use Rattle.volume.specs.Known.{Known, KnownDirectory, blocks_reached, cost_of_known, IsWholeMap, IsBooked}
-use Rattle.volume.specs.Live.{VolumeCore, slot, IsKeyed, IsFirstRead, AreStanding, held_reaches, held_cost}
+use Rattle.volume.specs.Live.{VolumeCore, slot, pending_at, IsKeyed, IsFirstRead, AreStanding, held_reaches, held_cost}
 use Rattle.volume.specs.Live.{current_reaches, entry_reaches, pending_reaches, pending_cost, creates, growths}
 use Rattle.volume.specs.Live.{cost_beyond, AreWaiting, IsWholeCore}
 use Rattle.volume.proofs.Answering.{map_few}
@@ -74,7 +75,7 @@ kept_whole size k c whole booked same keyed read none current =
       housed = λ ppn absent. ap (total (creates ppn)) none;
       held = λ n. let held = none_held n c.live read in let waits = ap (total (pending_reaches n)) none in
           let free = unheld n in omega arith;
-      own = λ n some. absurd (let waits = ap (total (pending_reaches n)) none in omega arith);
+      own = λ key p at. absurd (some_none (sym at ∙ ap (λ ps. pending_at ps key) none));
       inside = λ n some. let none = unheld n in absurd (omega arith);
       apart = λ n some. let none = unheld n in absurd (omega arith);
       within = λ some. absurd (let beyond = none_beyond c read none in omega arith);

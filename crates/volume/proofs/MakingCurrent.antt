@@ -1,23 +1,23 @@
 -- A version that was being written becomes current in core: what its steps ask for.
 use Rattle.std.proofs.Common.{◌≡◌, ◌↔◌, ℕ, zero, suc, ◌+◌, ◌-◌, ◌*◌, ◌^◌, ◌<◌, ◌≤◌, ◌==◌, Bool, true, false}
 use Rattle.std.proofs.Common.{if◌then◌else◌, List, [], ◌∷◌, ◌++◌, map, length, slice_get, slice_index_or, get_or}
-use Rattle.std.proofs.Common.{option_to_list, Option, Some, None, IfSome, IsSome, IsTrue, is_none, refl, sym, ap, subst}
-use Rattle.std.proofs.Common.{◌∙◌, arith}
-use Rattle.std.proofs.Common.{append-nil}
+use Rattle.std.proofs.Common.{option_to_list, Option, Some, None, IfSome, IfNone, IsSome, IsTrue, is_none, refl, sym}
+use Rattle.std.proofs.Common.{ap, subst, ◌∙◌, arith, ⊎_elim, append-nil}
 use Rattle.std.proofs.lemmas.List.{length-map}
 use Rattle.std.proofs.lemmas.Bool.Decides.{nat_tests}
 use Rattle.std.specs.Ordering.{nat_cmp}
+use Rattle.std.specs.FinMap.Entries.{find}
 use Rattle.meaning.specs.Costs.{directory_cost, cost_of_blocks}
 use Rattle.meaning.specs.Directories.{MasterEntry, FileEntry}
 use Rattle.meaning.specs.Files.{name_cmp}
 use Rattle.meaning.specs.Maps.{total, times}
 use Rattle.meaning.specs.Retrieval.{most_blocks}
 use Rattle.meaning.proofs.MapLaws.{some_same, some_none}
+use Rattle.meaning.proofs.MapSums.{times-append}
 use Rattle.alloctab.specs.TableState.{TableState, IsTable, bit, holds, space, used_in_space, changed_blocks}
 use Rattle.alloctab.specs.TableLaws.{changed_blocks-le-most}
 use Rattle.directory.specs.Edits.{StandsAt, TakesBlock}
-use Rattle.changeset.specs.PutLaws.{times_head}
-use Rattle.retrieval.specs.Versions.{VersionState}
+use Rattle.changeset.specs.PutLaws.{times_head, some_or_none}
 use Rattle.retrieval.specs.Writing.{rib_count}
 use Rattle.words36.specs.declared.names.FileName.{FileName}
 use Rattle.volume.specs.declared.live.LiveDirectory.{LiveDirectory}
@@ -27,11 +27,11 @@ use Rattle.volume.specs.declared.pending.PendingVersion.{PendingVersion}
 use Rattle.volume.specs.Beginning.{is_absent, IsDirectoryOf}
 use Rattle.volume.specs.Cores.{file_view, master_view}
 use Rattle.volume.specs.Known.{KnownDirectory, blocks_reached, cost_of_version, cost_of_directory, IsWholeDirectory}
-use Rattle.volume.specs.Known.{IsWholeVersion}
-use Rattle.volume.specs.Live.{VolumeCore, slot, pending_at, as_known, IsCurrent, IsKeyed, pending_reaches, pending_cost}
-use Rattle.volume.specs.Live.{creates, growths, IsWholeCore}
+use Rattle.volume.specs.Known.{IsWholeVersion, prime_in}
+use Rattle.volume.specs.Live.{is_creation, VolumeCore, slot, pending_at, as_known, IsCurrent, IsKeyed, pending_reaches}
+use Rattle.volume.specs.Live.{pending_cost, creates, growths, IsWholeCore}
 use Rattle.volume.specs.LiveCores.{core_of, live_directory}
-use Rattle.volume.specs.Publishing.{PutsVersionInUse, Retires, left_of, IsPlaced}
+use Rattle.volume.specs.Publishing.{TakesPlaces, Retires, left_of, IsPlaced}
 use Rattle.volume.proofs.Beginnings.{same_directory}
 use Rattle.volume.proofs.Costing.{few_blocks}
 use Rattle.volume.proofs.FoundDirectories.{mapped_at, zip_at, all_at}
@@ -40,6 +40,9 @@ use Rattle.volume.proofs.LiveLookups.{as_many, kept_at, standing_at}
 use Rattle.volume.proofs.LiveTotals.{core_uses_more, core_used, core_holds}
 use Rattle.volume.proofs.Pinning.{total_at, current_stands}
 use Rattle.volume.proofs.MakingHeld.{element_at}
+use Rattle.volume.proofs.MakingLaw.{bit_few}
+use Rattle.volume.proofs.OnePlace.{one_key}
+use Rattle.volume.proofs.PrimeBlocks.{prime_of_place}
 use Rattle.volume.proofs.PuttingCore.{chains_within}
 
 -- A part of a sum.
@@ -100,6 +103,32 @@ full_grows : (entries blocks more : ℕ) → blocks ≡ directory_cost entries �
     → 1 ≤ directory_cost (entries + more) - directory_cost entries
 full_grows entries blocks more counted full some = grind (arith, nat_tests)
 
+-- how often a block stands among those that were taken, and among data blocks
+pub places_split : (n : ℕ) (grown : List ℕ) (prime : ℕ) (ribs blocks : List ℕ)
+    → times n (grown ++ prime ∷ (ribs ++ blocks)) ≡ times n (grown ++ prime ∷ ribs) + times n blocks
+places_split n grown prime ribs blocks =
+    let whole = times-append n grown (prime ∷ (ribs ++ blocks)) in
+    let front = times-append n grown (prime ∷ ribs) in
+    let parts = times-append n ribs blocks in
+    omega arith
+
+pub places_behind : (n : ℕ) (grown : List ℕ) (prime : ℕ) (ribs blocks : List ℕ)
+    → times n ((prime ∷ (ribs ++ blocks)) ++ grown) ≡ times n (grown ++ prime ∷ ribs) + times n blocks
+places_behind n grown prime ribs blocks =
+    let back = times-append n (prime ∷ (ribs ++ blocks)) grown in
+    let front = times-append n grown (prime ∷ (ribs ++ blocks)) in
+    let split = places_split n grown prime ribs blocks in
+    omega arith
+
+-- No block is taken and a data block, and a data block whose bit is set is given up.
+stands_once : (bits taken stands given : ℕ) → bits ≤ 1 → bits + taken ≤ 1 → (0 < stands → taken ≡ 0) → stands ≤ 1
+    → (0 < stands → 0 < bits → 0 < given) → bits + (taken + stands) ≤ 1 + given
+stands_once bits taken stands given few fresh apart once shared = ⊎_elim
+    (λ (its : 0 < stands). ⊎_elim
+    (λ (set : 0 < bits). omega (arith, apart its, shared its set))
+    (λ (clear : bits ≡ 0). omega (arith, apart its)) (some_or_none bits))
+    (λ (none : stands ≡ 0). omega arith) (some_or_none stands)
+
 module _ (m : LiveMap) (whole : IsWholeCore m.table.size (core_of m)) (key : ℕ) (p : PendingVersion)
     (was : pending_at m.pending.slots key ≡ Some p) (placed : IsPlaced (core_of m) p)
     (place : ℕ) (w : ℕ × ℕ) (stands : StandsAt nat_cmp (map master_view m.master.entries) p.prime.ppn w place)
@@ -123,7 +152,7 @@ module _ (m : LiveMap) (whole : IsWholeCore m.table.size (core_of m)) (key : ℕ
   placed_here = same_directory m.table.size c p.prime.ppn place w placed.directory dk whole placed.there
       stands.is known_place
 
-  pub new_here : p.is_new ≡ is_absent p.prime.file dk
+  pub new_here : is_creation p ≡ is_absent p.prime.file dk
   new_here = placed.is_new ∙ ap (is_absent p.prime.file) placed_here
 
   pub keyed_here : IsKeyed c.live dk d.keys.items
@@ -146,11 +175,48 @@ module _ (m : LiveMap) (whole : IsWholeCore m.table.size (core_of m)) (key : ℕ
       let all = whole.held n in
       omega arith
 
-  pub version_own : (n : ℕ) → 0 < times n p.version.blocks → bit m.table n + holds m.table n ≤ 1
-  version_own n some =
-      let part = total_at (pending_reaches n) refl c.pending key in
-      let here = ap (pending_reaches n) was in
-      whole.own n (omega arith)
+  -- A data block whose bit is set is one of the version that its name has.
+
+  prime_here : prime_in c.known.master.entries c.known.directories p.prime.ppn p.prime.file
+      ≡ find name_cmp p.prime.file (map file_view d.chain.entries)
+  prime_here = prime_of_place c.known.master.entries c.known.directories place p.prime.ppn p.prime.file w dk stands
+      known_place
+
+  pub shared_absent : find name_cmp p.prime.file (map file_view d.chain.entries) ≡ None → (n : ℕ)
+      → 0 < times n p.version.blocks → 0 < bit m.table n → ⊥
+  shared_absent none n its set =
+      let shared = (whole.own key p was).shared n its set in
+      some_none (sym shared.1.at ∙ prime_here ∙ none)
+
+  pub shared_named : (i v k : ℕ) (u : LiveVersion)
+      → StandsAt name_cmp (map file_view d.chain.entries) p.prime.file v i → slot m.versions.slots k ≡ Some u
+      → u.is_current ≡ true → u.at ≡ v → (n : ℕ) → 0 < times n p.version.blocks → 0 < bit m.table n
+      → 0 < times n (blocks_reached u.at u.version)
+  shared_named i v k u named there current at_is n its set =
+      let shared = (whole.own key p was).shared n its set in
+      let prime : shared.0.at ≡ v = some_same (sym shared.1.at ∙ prime_here ∙ named.found) in
+      let keys : shared.1.key ≡ k = one_key m.table.size c whole shared.1.key k shared.0 u shared.1.there there
+      shared.1.current current (prime ∙ sym at_is) in
+      let same : shared.0 ≡ u = some_same (sym shared.1.there ∙ ap (slot m.versions.slots) keys ∙ there) in
+      let blocks = ap (λ (x : LiveVersion). times n x.version.blocks) same in
+      let parts = times-append n u.version.ribs u.version.blocks in
+      let some = shared.2 in
+      omega arith
+
+  -- Each block is in one place once those are free that the version before gives up.
+  pub all_once : (t : TableState) (grown : List ℕ) (prime : ℕ) (ribs : List ℕ) → TakesPlaces m.table t grown prime ribs
+      → (given : ℕ → ℕ) → ((n : ℕ) → 0 < times n p.version.blocks → 0 < bit m.table n → 0 < given n)
+      → (n : ℕ) → bit m.table n + times n (grown ++ prime ∷ (ribs ++ p.version.blocks)) ≤ 1 + given n
+  all_once t grown prime ribs takes given shared n =
+      let split = places_split n grown prime ribs p.version.blocks in
+      let apart : 0 < times n p.version.blocks → times n (grown ++ prime ∷ ribs) ≡ 0 = λ its. ⊎_elim
+      (λ (some : 0 < times n (grown ++ prime ∷ ribs)). absurd (let unheld = (takes.free n some).0.unheld in
+      let held = version_held n in
+      omega arith))
+      (λ (none : times n (grown ++ prime ∷ ribs) ≡ 0). none) (some_or_none (times n (grown ++ prime ∷ ribs))) in
+      let sum = stands_once (bit m.table n) (times n (grown ++ prime ∷ ribs)) (times n p.version.blocks) (given n)
+      (bit_few m.table n) (takes.fresh n) apart ((whole.own key p was).once n) (shared n) in
+      omega arith
 
   pub within_space : m.table.booked ≤ space m.table.size
   within_space =
@@ -163,7 +229,7 @@ module _ (m : LiveMap) (whole : IsWholeCore m.table.size (core_of m)) (key : ℕ
   grown_booked false takes = omega arith
   grown_booked true takes =
       let full = takes.0 refl in
-      let new : p.is_new ≡ true = new_here ∙ ap is_none full.0 in
+      let new : is_creation p ≡ true = new_here ∙ ap is_none full.0 in
       let part = total_at (creates p.prime.ppn) refl c.pending key in
       let here = ap (creates p.prime.ppn) was in
       let one : creates p.prime.ppn (Some p)
@@ -234,34 +300,35 @@ module _ (m : LiveMap) (whole : IsWholeCore m.table.size (core_of m)) (key : ℕ
       let booked = whole.booked in
       omega arith
 
-  pub holds_few : (n : ℕ) → holds m.table n + 1 < 2 ^ 32
+  pub holds_few : (n : ℕ) → holds m.table n + 2 < 2 ^ 32
   holds_few n =
       let few = core_holds m.table.size c whole n in
       let most = within_space in
       let large = whole.map.volume.large in
       omega arith
 
-  -- What follows for the version before, once the new one has a key and its blocks are in use.
+  -- What follows for the version before, once the new one has a key and its places were taken.
   module _ (o : Option ℕ) (name : FileName) (same : name ≡ p.prime.file) (now : List ℕ → ℕ → Type 0)
       (replaced : IfSome o (λ k. (i : ℕ) × (v : ℕ) × StandsAt name_cmp (map file_view d.chain.entries) name v i
       × (slice_get d.keys.items i ≡ Some k) × now d.keys.items i))
       (versions : List (Option LiveVersion)) (stay : (k : ℕ) (v : LiveVersion) → slot m.versions.slots k ≡ Some v
       → slot versions k ≡ Some v)
-      (t : TableState) (grown : List ℕ) (prime : ℕ) (ver : VersionState)
-      (puts_in_use : PutsVersionInUse m.table t grown prime ver) where
+      (t : TableState) (grown : List ℕ) (prime : ℕ) (ribs : List ℕ)
+      (takes : TakesPlaces m.table t grown prime ribs) where
     -- the one under that key
     abbrev OldAt : ℕ → Type 0
     OldAt k = (u : LiveVersion) × (slot m.versions.slots k ≡ Some u) × (slot versions k ≡ Some u)
         × (u.is_current ≡ true) × (i : ℕ) × (slice_get dk.versions i ≡ Some (as_known u))
+        × ((n : ℕ) → 0 < times n p.version.blocks → 0 < bit m.table n → 0 < times n (blocks_reached u.at u.version))
 
     old_at : (q : Option ℕ) → IfSome q (λ k. (i : ℕ) × (v : ℕ)
         × StandsAt name_cmp (map file_view d.chain.entries) name v i × (slice_get d.keys.items i ≡ Some k)
         × now d.keys.items i) → IfSome q OldAt
     old_at None none = tt
     old_at (Some k) is =
-        let u = old_version is.0 is.1 k
-        (subst (λ n. StandsAt name_cmp (map file_view d.chain.entries) n is.1 is.0) same is.2) is.3 in
-        (u.0, u.1, stay k u.0 u.1, u.2, is.0, u.4)
+        let named = subst (λ n. StandsAt name_cmp (map file_view d.chain.entries) n is.1 is.0) same is.2 in
+        let u = old_version is.0 is.1 k named is.3 in
+        (u.0, u.1, stay k u.0 u.1, u.2, is.0, u.4, shared_named is.0 is.1 k u.0 named u.1 u.2 u.3)
 
     by_slot : (P : LiveVersion → Type 0) (q : Option LiveVersion) (u : LiveVersion) → q ≡ Some u → P u → IfSome q P
     by_slot P None u is has = cc
@@ -282,7 +349,7 @@ module _ (m : LiveMap) (whole : IsWholeCore m.table.size (core_of m)) (key : ℕ
     retires_set = each_old (λ k. IfSome (slot versions k) (λ v. (n : ℕ)
         → times n (blocks_reached v.at v.version) ≤ bit t n))
         (λ k is. by_slot (λ v. (n : ℕ) → times n (blocks_reached v.at v.version) ≤ bit t n) (slot versions k) is.0 is.2
-        (λ n. let set = old_set k is.0 is.1 is.3 n in let more = puts_in_use.bits n in omega arith))
+        (λ n. let set = old_set k is.0 is.1 is.3 n in let kept = takes.bits n in omega arith))
 
     pub retires_few : IfSome o (λ k. IfSome (slot versions k) (λ v. length v.version.blocks ≤ most_blocks))
     retires_few = each_old (λ k. IfSome (slot versions k) (λ v. length v.version.blocks ≤ most_blocks))
@@ -292,11 +359,11 @@ module _ (m : LiveMap) (whole : IsWholeCore m.table.size (core_of m)) (key : ℕ
         ≤ t.booked))
     retires_booked = each_old (λ k. IfSome (slot versions k) (λ v. cost_of_blocks (length v.version.blocks) ≤ t.booked))
         (λ k is. by_slot (λ v. cost_of_blocks (length v.version.blocks) ≤ t.booked) (slot versions k) is.0 is.2
-        (let booked = old_booked is.4 is.0 is.5 in let kept = puts_in_use.booked in omega arith))
+        (let booked = old_booked is.4 is.0 is.5 in let kept = takes.booked in omega arith))
 
     pub retires_fits : IfSome o (λ k. (n : ℕ) → holds t n + 1 < 2 ^ 32)
     retires_fits = each_old (λ k. (n : ℕ) → holds t n + 1 < 2 ^ 32) (λ k is n. let few = holds_few n in
-        let less = puts_in_use.held n in omega arith)
+        let more = takes.held n in let one = takes.fresh n in omega arith)
 
     -- the new version stands under its key, whatever becomes of the old one
     pub new_stands : (after : List (Option LiveVersion)) (new_key : ℕ) (new : LiveVersion)
@@ -310,14 +377,58 @@ module _ (m : LiveMap) (whole : IsWholeCore m.table.size (core_of m)) (key : ℕ
         by (Some k) is is_old = others k new_key is (λ same. some_none (sym is_old.1
             ∙ ap (slot m.versions.slots) (sym same) ∙ vacant)) ∙ there
 
-    -- the table is sound at the end
-    pub retired_sound : (after : TableState) → ((k : ℕ) (v : LiveVersion) → o ≡ Some k → slot versions k ≡ Some v
-        → Retires t after v (left_of (Some (k, v)))) → (o ≡ None → after ≡ t) → IsTable after
-    retired_sound after retired none = by o refl (old_at o replaced)
-      where
-        by : (q : Option ℕ) → o ≡ q → IfSome q OldAt → IsTable after
-        by None is is_old = subst IsTable (sym (none is)) puts_in_use.marks.sound
-        by (Some k) is is_old = (retired k is_old.0 is is_old.2).marks.sound
+    -- Once it is out of use, the blocks of the new one are held, and no bit of them is set.
+    module _ (after : TableState) (retired : (k : ℕ) (v : LiveVersion) → o ≡ Some k → slot versions k ≡ Some v
+        → Retires t after v (left_of (Some (k, v)))) (none : o ≡ None → after ≡ t) where
+      pub used_sound : IsTable after
+      used_sound = by o refl (old_at o replaced)
+        where
+          by : (q : Option ℕ) → o ≡ q → IfSome q OldAt → IsTable after
+          by None is is_old = subst IsTable (sym (none is)) takes.marks.sound
+          by (Some k) is is_old = (retired k is_old.0 is is_old.2).marks.sound
+
+      pub used_held : (n : ℕ) → times n ((prime ∷ (ribs ++ p.version.blocks)) ++ grown) ≤ holds after n
+      used_held n = by o refl (old_at o replaced)
+        where
+          by : (q : Option ℕ) → o ≡ q → IfSome q OldAt
+              → times n ((prime ∷ (ribs ++ p.version.blocks)) ++ grown) ≤ holds after n
+          by None is is_old =
+              let same = ap (λ (x : TableState). holds x n) (none is) in
+              let split = places_behind n grown prime ribs p.version.blocks in
+              let taken = takes.held n in
+              let held = version_held n in
+              omega arith
+          by (Some k) is is_old =
+              let more = (retired k is_old.0 is is_old.2).held n in
+              let split = places_behind n grown prime ribs p.version.blocks in
+              let taken = takes.held n in
+              let held = version_held n in
+              omega arith
+
+      pub used_clear : (B : Type 0) → IfNone o ((find name_cmp name (map file_view d.chain.entries) ≡ None) × B)
+          → (n : ℕ) → bit after n + times n ((prime ∷ (ribs ++ p.version.blocks)) ++ grown) ≤ 1
+      used_clear B added n = by o refl (old_at o replaced) added
+        where
+          by : (q : Option ℕ) → o ≡ q → IfSome q OldAt
+              → IfNone q ((find name_cmp name (map file_view d.chain.entries) ≡ None) × B)
+              → bit after n + times n ((prime ∷ (ribs ++ p.version.blocks)) ++ grown) ≤ 1
+          by None is is_old absent =
+              let none_cleared = ap (λ (x : TableState). bit x n) (none is) in
+              let split = places_split n grown prime ribs p.version.blocks in
+              let behind = places_behind n grown prime ribs p.version.blocks in
+              let kept = takes.bits n in
+              let no_name = subst (λ x. find name_cmp x (map file_view d.chain.entries) ≡ None) same absent.0 in
+              let once = all_once t grown prime ribs takes (λ x. 0)
+              (λ x its set. absurd (shared_absent no_name x its set)) n in
+              omega arith
+          by (Some k) is is_old absent =
+              let u = is_old.0 in
+              let cleared = (retired k u is is_old.2).bits n in
+              let split = places_split n grown prime ribs p.version.blocks in
+              let behind = places_behind n grown prime ribs p.version.blocks in
+              let kept = takes.bits n in
+              let once = all_once t grown prime ribs takes (λ x. times x (blocks_reached u.at u.version)) is_old.6 n in
+              omega arith
 
   -- the chain has its block more where it grows
   pub chain_grown : (grows : Bool) (o : Option ℕ) (name : FileName) (blocks : List ℕ) → name ≡ p.prime.file
@@ -335,13 +446,13 @@ module _ (m : LiveMap) (whole : IsWholeCore m.table.size (core_of m)) (key : ℕ
       ∙ sym (ap (λ (ns : List ℕ). d.chain.blocks ++ ns) (no_number o count) ∙ append-nil d.chain.blocks)
 
   -- that block stands in no chain
-  pub grown_free : (grows : Bool) (o : Option ℕ) (name : FileName) (t : TableState) (prime : ℕ) (ver : VersionState)
+  pub grown_free : (grows : Bool) (o : Option ℕ) (name : FileName) (t : TableState) (prime : ℕ) (ribs : List ℕ)
       → name ≡ p.prime.file → (IsTrue grows ↔ TakesBlock name_cmp dk.chain p.prime.file)
       → length (option_to_list o) ≡ (if grows then 1 else 0)
-      → PutsVersionInUse m.table t (option_to_list o) prime ver → TakesBlock name_cmp dk.chain name
+      → TakesPlaces m.table t (option_to_list o) prime ribs → TakesBlock name_cmp dk.chain name
       → (n : ℕ) × (o ≡ Some n) × (times n d.chain.blocks ≡ 0)
-  grown_free grows o name t prime ver same takes count puts_in_use full = by grows
-      (takes.1 (subst (TakesBlock name_cmp dk.chain) same full)) count
+  grown_free grows o name t prime ribs same full_is count takes full = by grows
+      (full_is.1 (subst (TakesBlock name_cmp dk.chain) same full)) count
     where
       by : (b : Bool) → IsTrue b → length (option_to_list o) ≡ (if b then 1 else 0) → (n : ℕ) × (o ≡ Some n)
           × (times n d.chain.blocks ≡ 0)
@@ -349,10 +460,10 @@ module _ (m : LiveMap) (whole : IsWholeCore m.table.size (core_of m)) (key : ℕ
       by true holds count =
           let one = one_number o count in
           let list : option_to_list o ≡ one.0 ∷ [] = ap option_to_list one.1 in
-          let here : times one.0 (option_to_list o ++ prime ∷ ver.ribs)
-          ≡ times one.0 (one.0 ∷ prime ∷ ver.ribs) = ap (λ (ns : List ℕ). times one.0 (ns ++ prime ∷ ver.ribs)) list in
-          let first = times_head one.0 one.0 (prime ∷ ver.ribs) refl in
-          (one.0, one.1, free_elsewhere one.0 (puts_in_use.free one.0 (omega arith)).0.clear)
+          let here : times one.0 (option_to_list o ++ prime ∷ ribs)
+          ≡ times one.0 (one.0 ∷ prime ∷ ribs) = ap (λ (ns : List ℕ). times one.0 (ns ++ prime ∷ ribs)) list in
+          let first = times_head one.0 one.0 (prime ∷ ribs) refl in
+          (one.0, one.1, free_elsewhere one.0 (takes.free one.0 (omega arith)).0.clear)
 
 -- no more blocks are put than the log has room for
 pub changed_many : (t : TableState) (count : ℕ) → IsTable t → count ≤ 2 → count + changed_blocks t ≤ 37

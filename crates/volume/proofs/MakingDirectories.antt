@@ -31,12 +31,16 @@ use Rattle.changeset.specs.Rest.{AtRest, SettlesTo}
 use Rattle.alloctab.specs.TableState.{bit, holds, space, IsFree}
 use Rattle.retrieval.specs.Writing.{IsFixed}
 use Rattle.volume.specs.Known.{KnownDirectory, Known, IsHeld, reaches_in_entries, reaches_in_known, known_reaches}
-use Rattle.volume.specs.Known.{IsWholeDirectory, IsWholeMap, cost_of_directory, cost_of_known}
-use Rattle.volume.specs.Live.{VolumeCore, IsKeyed, AreStanding, held_reaches, held_cost, current_reaches, entry_reaches}
+use Rattle.volume.specs.Known.{IsWholeDirectory, IsWholeMap, cost_of_directory, cost_of_known, prime_in}
+use Rattle.volume.specs.Live.{VolumeCore, pending_at, IsKeyed, AreStanding, held_reaches, held_cost, current_reaches}
+use Rattle.volume.specs.Live.{entry_reaches}
 use Rattle.volume.specs.Live.{pending_reaches, pending_cost, creates, growths, AreWaiting, IsWholeCore}
 use Rattle.volume.specs.declared.pending.PendingVersion.{PendingVersion}
 use Rattle.volume.specs.Making.{LeadsTo, IsAligned, bare_known, entry_made, map_made, files_made, IsMade}
 use Rattle.volume.specs.Rest.{IsAtRest, IsSound, RestsAt, StandsForEither}
+use Rattle.volume.proofs.Apart.{apart_same}
+use Rattle.volume.proofs.Pinning.{total_at}
+use Rattle.volume.proofs.PrimeBlocks.{prime_stays}
 use Rattle.volume.proofs.Lookups.{all_push, total-push, zip_behind}
 use Rattle.volume.proofs.LiveBodies.{HaveBodies}
 use Rattle.volume.proofs.MakingLaw.{making_leads, bare_chain, bit_few}
@@ -261,17 +265,25 @@ module _ (size : ℕ) (k k' : Known) (ppn protection first : ℕ) (puts : List P
             let held = ap (total (held_reaches n)) live in
             let waits = ap (total (pending_reaches n)) pending in
             omega arith;
-        own = λ n some.
-            let waits = ap (total (pending_reaches n)) pending in
-            let few = core.own n (omega arith) in
+        own = λ key p at.
+            let waited : pending_at c.pending key ≡ Some p = ap (λ ps. pending_at ps key) (sym pending) ∙ at in
+            apart_same c c' p (core.own key p waited) live
+            (λ n there. (λ i. prime_in (is i).master.entries (is i).directories p.prime.ppn p.prime.file)
+            ∙ (λ i. prime_in (made.entered.entries i) (made.entered.directories i) p.prime.ppn p.prime.file)
+            ∙ prime_stays k.master.entries (entry_made ppn protection first ∷ []) k.directories
+            (bare_known first ∷ []) p.prime.ppn p.prime.file n
+            ((λ i. prime_in (sym was i).master.entries (sym was i).directories p.prime.ppn p.prime.file) ∙ there))
+            (λ n mine set.
+            let part = total_at (pending_reaches n) refl c.pending key in
+            let here = ap (pending_reaches n) waited in
             let sum = core.held n in
             let there : 0 < holds k.table n = subst (λ x. 0 < holds x.table n) was (omega arith) in
             let new = not_free n (first ∷ made.grown) (λ free. let none = free.unheld in omega arith) made.free in
             let bits = made.taken.bits n in
-            let same = ap (λ l. slice_index l n) table in
             let bits_was = ap (λ x. bit x.table n) was in
             let bits_is = ap (λ x. bit x.table n) is in
-            omega arith;
+            omega arith)
+            (λ j q is_q. ap (λ ps. pending_at ps j) (sym pending) ∙ is_q);
         inside = λ n some. core.inside n (subst (λ l. 0 < slice_index l n) table some);
         apart = λ n some.
             let there : 0 < holds c.known.table n = subst (λ l. 0 < slice_index l n) table some in

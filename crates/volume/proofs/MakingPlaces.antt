@@ -15,7 +15,8 @@ use Rattle.volume.specs.Beginning.{IsDirectoryOf}
 use Rattle.volume.specs.Known.{KnownDirectory}
 use Rattle.volume.specs.Live.{VolumeCore}
 use Rattle.volume.specs.Making.{entry_made, bare_known, IsMade}
-use Rattle.volume.specs.Places.{prime_in, prime_at}
+use Rattle.volume.specs.Places.{prime_at}
+use Rattle.volume.specs.Known.{prime_in}
 use Rattle.volume.proofs.PrimeBlocks.{prime_stays}
 
 -- what stands in a list stands there with more behind it

@@ -17,7 +17,8 @@ use Rattle.changeset.specs.PutLaws.{times_head}
 use Rattle.volume.specs.Known.{KnownVersion, KnownDirectory, blocks_reached, reaches_in_entries, reaches_in_known}
 use Rattle.volume.specs.Known.{IsWholeDirectory}
 use Rattle.volume.specs.Live.{VolumeCore, slot, current_reaches, IsWholeCore}
-use Rattle.volume.specs.Places.{prime_in, prime_at}
+use Rattle.volume.specs.Places.{prime_at}
+use Rattle.volume.specs.Known.{prime_in}
 use Rattle.volume.specs.declared.live.LiveVersion.{LiveVersion}
 use Rattle.volume.proofs.MakingLaw.{bit_few}
 use Rattle.volume.proofs.Pinning.{entries_within, total_at}
@@ -25,7 +26,7 @@ use Rattle.volume.proofs.Pinning.{entries_within, total_at}
 -- One current version.
 
 -- two slots count in a sum
-both_at : {X : Type 0} (f : Option X → ℕ) → f None ≡ 0 → (slots : List (Option X)) (k l : ℕ) → (k ≡ l → ⊥)
+pub both_at : {X : Type 0} (f : Option X → ℕ) → f None ≡ 0 → (slots : List (Option X)) (k l : ℕ) → (k ≡ l → ⊥)
     → f (slice_index_or slots k None) + f (slice_index_or slots l None) ≤ total f slots
 both_at f none [] k l apart = omega arith
 both_at f none (o ∷ slots) zero zero apart = absurd (apart refl)

@@ -20,7 +20,8 @@ use Rattle.meaning.proofs.Names.{name_total}
 use Rattle.volume.specs.declared.error.CallError.{CallError}
 use Rattle.volume.specs.declared.handles.Pin.{Pin}
 use Rattle.volume.specs.declared.live.LiveVersion.{LiveVersion}
-use Rattle.volume.specs.Known.{Known, KnownVersion, KnownDirectory, IsKnownMap, IsHeld, blocks_reached}
+use Rattle.volume.specs.Beginning.{IsDirectoryOf}
+use Rattle.volume.specs.Known.{Known, KnownVersion, KnownDirectory, IsNamed, IsKnownMap, IsHeld, blocks_reached}
 use Rattle.volume.specs.Known.{reaches_in_entries, reaches_in_known}
 use Rattle.volume.specs.Live.{VolumeCore, slot, pending_at, as_known, IsWholeCore}
 use Rattle.volume.specs.Pins.{IsKeyOf, IsNoFile, IsVersionOf, IsFilePinned, IsPinAnswer}
@@ -57,18 +58,19 @@ key_stands c ppn name key is n =
     omega arith
 
 -- On an honest disk it is the file's.
-pub record IsFileOf (s : DiskState) (files : Files File) (ppn : ℕ) (name : FileName) (v : LiveVersion) : Type 0 where
+pub record IsFileOf (s : DiskState) (files : Files File) (ppn : ℕ) (name : FileName) (v : KnownVersion) : Type 0 where
   pub stored : StoredDirectory
   pub get_is : get files ppn ≡ Some (directory_of stored)
   pub file : File
   pub file_is : get (directory_of stored).files name ≡ Some file
   pub version_is : IsVersionOf s.contents v file
 
-pub key_file : (s : DiskState) (c : VolumeCore) (files : Files File) → Holds s c.known files
-    → (ppn : ℕ) (name : FileName) (key : ℕ) → (is : IsKeyOf c ppn name key) → IsFileOf s files ppn name is.version
-key_file s c files holds ppn name key is =
-    let found = holds.held.known.each is.place (ppn, is.word) is.directory is.there.is is.directory_at in
-    let f = found.2.each is.index (name, is.prime) (as_known is.version) is.at.is is.known in
+pub named_file : (s : DiskState) (c : VolumeCore) (files : Files File) → Holds s c.known files
+    → (ppn : ℕ) (name : FileName) (d : KnownDirectory) (v : ℕ × KnownVersion) → IsDirectoryOf c ppn d
+    → IsNamed d name (Some v) → IsFileOf s files ppn name v.1
+named_file s c files holds ppn name d v there named =
+    let found = holds.held.known.each there.0 (ppn, there.1) d there.2.is there.3 in
+    let f = found.2.each named.0 (name, v.0) v.1 named.1.is named.2 in
     let whole = holds.held.stands.mapped.directories ppn found.0 found.1 in
     let body : HasBody s.contents f.0.blocks f.0.file.body = (whole.files name f.0 f.1).body in
     record {
@@ -88,31 +90,26 @@ key_file s c files holds ppn name key is =
       };
     }
 
-pub file_body : (contents : Contents) (v : LiveVersion) (file : File) → IsVersionOf contents v file
+pub key_file : (s : DiskState) (c : VolumeCore) (files : Files File) → Holds s c.known files
+    → (ppn : ℕ) (name : FileName) (key : ℕ) → (is : IsKeyOf c ppn name key)
+    → IsFileOf s files ppn name (as_known is.version)
+key_file s c files holds ppn name key is = named_file s c files holds ppn name is.directory
+    (is.prime, as_known is.version) (is.place, is.word, is.there, is.directory_at) (is.index, is.at, is.known)
+
+pub file_body : (contents : Contents) (v : KnownVersion) (file : File) → IsVersionOf contents v file
     → HasSomeBody contents v.version
 file_body contents v file is = (file.body, sym is.words, is.body)
-
-readers_too : (contents : Contents) (v : LiveVersion) (file : File) (readers : ℕ) → IsVersionOf contents v file
-    → IsVersionOf contents (record v { readers = readers }) file
-readers_too contents v file readers is = record {
-  protection = is.protection;
-  mode = is.mode;
-  time = is.time;
-  date = is.date;
-  words = is.words;
-  body = is.body;
-}
 
 -- What is answered.
 
 pub pin_answered : (s : DiskState) (files : Files File) (ppn : ℕ) (name : FileName) (v : LiveVersion)
-    (live : List (Option LiveVersion)) (pin : Pin) (readers : ℕ) → IsFileOf s files ppn name v
+    (live : List (Option LiveVersion)) (pin : Pin) (readers : ℕ) → IsFileOf s files ppn name (as_known v)
     → slot live pin.key ≡ Some (record v { readers = readers })
     → IsPinAnswer s.contents live name (Ok pin) (get files ppn)
 pin_answered s files ppn name v live pin readers is here =
     subst (IsPinAnswer s.contents live name (Ok pin)) (sym is.get_is)
     (subst (IsFilePinned s.contents live (Ok pin)) (sym is.file_is)
-    (pin, refl, record v { readers = readers }, here, readers_too s.contents v is.file readers is.version_is))
+    (pin, refl, record v { readers = readers }, here, is.version_is))
 
 pub pin_refused : (s : DiskState) (c : VolumeCore) (files : Files File) → Holds s c.known files
     → (ppn : ℕ) (name : FileName) (live : List (Option LiveVersion)) (error : CallError) (answer : Result Pin CallError)
@@ -162,7 +159,7 @@ pinned_sound s c c' failed ppn name key sound is whole same here others = record
       ≡ v = some_same (sym here ∙ ap (slot c'.live) (sym this) ∙ at) in
       let file = key_file s c holds.0 holds.1 ppn name key is in
       subst (λ (w : LiveVersion). HasSomeBody s.contents w.version) v_is
-      (file_body s.contents is.version file.file file.version_is))
+      (file_body s.contents (as_known is.version) file.file file.version_is))
       (λ other. sound.read h ok k v (sym (others k other) ∙ at) some) (cases_eq k key);
   written = λ h ok k p at. sound.written h ok k p (ap (λ x. pending_at x.pending k) (sym same) ∙ at);
 }

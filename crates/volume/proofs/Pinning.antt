@@ -17,6 +17,7 @@ use Rattle.volume.specs.LiveCores.{core_of, known_at, live_directory}
 use Rattle.volume.specs.declared.live.LiveVersion.{LiveVersion}
 use Rattle.volume.specs.declared.live.LiveDirectory.{LiveDirectory}
 use Rattle.volume.specs.declared.live.LiveMap.{LiveMap}
+use Rattle.volume.proofs.Apart.{apart_stays, current_stays}
 use Rattle.volume.proofs.Costing.{few_blocks}
 use Rattle.volume.proofs.Keeping.{StayCurrent, directories_keyed_on, directories_known_on, all_slots}
 use Rattle.volume.proofs.LiveTotals.{total_updated}
@@ -118,7 +119,12 @@ counted_whole size c new key v readers whole was now others = record {
   housed = whole.housed;
   held = λ n. let before = whole.held n in
       let same = same_total c.live new key v readers was now others (held_reaches n) refl refl in omega arith;
-  own = whole.own;
+  own = λ k p at. apart_stays c (record c { live = new }) p (whole.own k p at) (record {
+    bits = λ n there set. set;
+    file = current_stays c (record c { live = new }) p.prime.ppn p.prime.file
+        (still_counted c.live new key v readers was now others) (λ n is. is);
+    fewer = λ j q is. is;
+  });
   inside = whole.inside;
   apart = whole.apart;
   fits = whole.fits;
@@ -210,7 +216,18 @@ gone_whole size c new key v held booked whole was ended now others less fewer = 
       let here = ap (held_reaches n) was ∙ ap (λ b. if b then 0 else times n (blocks_reached v.at v.version)) ended in
       let old = whole.held n in
       omega (arith, less n);
-  own = λ n some. let few = whole.own n some in omega (arith, less n);
+  own = λ k p at. apart_stays c (record c {
+    known = record c.known { table = record c.known.table { held = held; booked = booked } };
+    live = new;
+  }) p (whole.own k p at) (record {
+    bits = λ n there set. set;
+    file = current_stays c (record c {
+      known = record c.known { table = record c.known.table { held = held; booked = booked } };
+      live = new;
+    }) p.prime.ppn p.prime.file
+        (gone_stay c.live new key v was ended others) (λ n is. is);
+    fewer = λ j q is. is;
+  });
   inside = λ n there. whole.inside n (omega (arith, less n));
   apart = λ n there. whole.apart n (omega (arith, less n));
   fits = let fits = whole.fits in omega arith;

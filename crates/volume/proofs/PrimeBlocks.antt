@@ -13,7 +13,8 @@ use Rattle.alloctab.specs.TableState.{TableState}
 use Rattle.directory.specs.Edits.{StandsAt}
 use Rattle.volume.specs.Known.{Known, KnownDirectory}
 use Rattle.volume.specs.Live.{VolumeCore}
-use Rattle.volume.specs.Places.{prime_in, prime_at}
+use Rattle.volume.specs.Places.{prime_at}
+use Rattle.volume.specs.Known.{prime_in}
 
 -- An answer that a test decides on.
 

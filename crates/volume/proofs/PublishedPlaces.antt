@@ -13,8 +13,10 @@ use Rattle.meaning.proofs.MapLists.{get-from_entries}
 use Rattle.meaning.proofs.Names.{name_total, name_exact}
 use Rattle.volume.specs.Known.{Known, KnownVersion, KnownDirectory}
 use Rattle.volume.specs.Live.{VolumeCore, slot, IsWholeCore}
-use Rattle.volume.specs.Places.{prime_in, prime_at}
-use Rattle.volume.specs.Publishing.{Before, IsNamed, IsPublished, Entered, before, left_of, IsEnded, HasOtherKey}
+use Rattle.volume.specs.Places.{prime_at}
+use Rattle.volume.specs.Known.{prime_in}
+use Rattle.volume.specs.Publishing.{IsPublished, Entered, before, left_of, IsEnded, HasOtherKey}
+use Rattle.volume.specs.Known.{Before, IsNamed}
 use Rattle.volume.specs.Publishing.{IsPublishedCore}
 use Rattle.volume.specs.declared.live.LiveVersion.{LiveVersion}
 use Rattle.volume.specs.declared.pending.PendingVersion.{PendingVersion}
@@ -47,10 +49,10 @@ module _ (size : ℕ) (k k' : Known) (ppn : ℕ) (name : FileName) (at : ℕ) (v
       published.there published.directory_at
       ∙ sym (get-from_entries name_total published.directory'.chain.entries n) ∙ ap (λ m. get m n) published.entry.names
 
-  published_here : prime_in k'.master.entries k'.directories ppn name ≡ Some at
+  pub published_here : prime_in k'.master.entries k'.directories ppn name ≡ Some at
   published_here = in_directory name ∙ get-insert_same name_total (from_entries d.chain.entries) name at
 
-  published_before : prime_in k.master.entries k.directories ppn name ≡ option_map (λ o. o.0) old
+  pub published_before : prime_in k.master.entries k.directories ppn name ≡ option_map (λ o. o.0) old
   published_before = prime_of_place k.master.entries k.directories published.place ppn name published.word
       d published.there published.directory_at ∙ was_named d name old published.entry.was
 
@@ -62,7 +64,7 @@ module _ (size : ℕ) (k k' : Known) (ppn : ℕ) (name : FileName) (at : ℕ) (v
       ∙ sym (prime_of_place k.master.entries k.directories published.place ppn n published.word d published.there
       published.directory_at)
 
-  published_elsewhere : (q : ℕ) (n : FileName) → ((q ≡ ppn) × (n ≡ name) → ⊥)
+  pub published_elsewhere : (q : ℕ) (n : FileName) → ((q ≡ ppn) × (n ≡ name) → ⊥)
       → prime_in k'.master.entries k'.directories q n ≡ prime_in k.master.entries k.directories q n
   published_elsewhere q n differ = ⊎_elim
       (λ (same : q ≡ ppn).
@@ -99,7 +101,7 @@ primes_published size c c' key p words is = record {
 
 -- The versions that readers hold.
 
-same_place : (q ppn : ℕ) (n name : FileName) → ((q ≡ ppn) × (n ≡ name)) ⊎ ((q ≡ ppn) × (n ≡ name) → ⊥)
+pub same_place : (q ppn : ℕ) (n name : FileName) → ((q ≡ ppn) × (n ≡ name)) ⊎ ((q ≡ ppn) × (n ≡ name) → ⊥)
 same_place q ppn n name = ⊎_elim
     (λ (same : q ≡ ppn). ⊎_elim (λ (is : n ≡ name). inl (same, is)) (λ other. inr (λ both. other both.1))
     (same_or_other name_total name_exact n name))

@@ -12,7 +12,7 @@ use Rattle.meaning.proofs.MapLaws.{some_same, some_none}
 use Rattle.meaning.proofs.MapSums.{times-append}
 use Rattle.meaning.proofs.QuietLaws.{each_times}
 use Rattle.meaning.proofs.Walking.{all_front, all_back}
-use Rattle.alloctab.specs.TableState.{holds, IsFree}
+use Rattle.alloctab.specs.TableState.{bit, holds, IsFree}
 use Rattle.changeset.specs.Crashes.{IsGateOrLog}
 use Rattle.changeset.specs.Puts.{IsPutIn}
 use Rattle.changeset.specs.PutLaws.{times_head}
@@ -138,11 +138,11 @@ module _ (size : ℕ) (c c' : VolumeCore) (key : ℕ) (p : PendingVersion) (v : 
   in_space : AllByRecursion (InSpace size) (v.at ∷ v.version.ribs)
   in_space = (inside.0, all_front (InSpace size) v.version.ribs p.version.blocks inside.1)
 
-  parts : (n : ℕ) → times n (is.published.grown ++ (v.at ∷ (v.version.ribs ++ p.version.blocks)))
-      ≡ times n is.published.grown + times n (v.at ∷ v.version.ribs) + times n p.version.blocks
-  parts n =
-      let a = times-append n is.published.grown (v.at ∷ (v.version.ribs ++ p.version.blocks)) in
-      let b = times-append n (v.at ∷ v.version.ribs) p.version.blocks in
+  -- each block that is taken for it was in none
+  taken : (n : ℕ) → bit c.known.table n + times n is.published.grown + times n (v.at ∷ v.version.ribs) ≤ 1
+  taken n =
+      let few = is.published.fresh n in
+      let sum = times-append n is.published.grown (v.at ∷ v.version.ribs) in
       omega arith
 
   -- what the retrieval blocks are written with
@@ -151,8 +151,7 @@ module _ (size : ℕ) (c c' : VolumeCore) (key : ℕ) (p : PendingVersion) (v : 
   retrieval_inside = all_weaker (InSpace size) (λ n. n < size) (v.at ∷ v.version.ribs) (λ n there. there.below) in_space
 
   pub retrieval_apart : AreApart (v.at ∷ v.version.ribs)
-  retrieval_apart = apart_once (v.at ∷ v.version.ribs) (λ n. let few = is.published.fresh n in let sum = parts n in
-      omega arith)
+  retrieval_apart = apart_once (v.at ∷ v.version.ribs) (λ n. let few = taken n in omega arith)
 
   pub retrieval_nonzero : times 0 v.version.ribs ≡ 0
   retrieval_nonzero = by (times 0 v.version.ribs) refl
@@ -178,7 +177,7 @@ module _ (size : ℕ) (c c' : VolumeCore) (key : ℕ) (p : PendingVersion) (v : 
 
   pub retrieval_free : (n : ℕ) → 0 < times n (v.at ∷ v.version.ribs) → IsFree c.known.table n
   retrieval_free n there = record {
-    clear = let few = is.published.fresh n in let sum = parts n in omega arith;
+    clear = let few = taken n in omega arith;
     unheld = is.unheld n (let sum = times-append n is.published.grown (v.at ∷ v.version.ribs) in omega arith);
   }
 
@@ -192,7 +191,7 @@ module _ (size : ℕ) (c c' : VolumeCore) (key : ℕ) (p : PendingVersion) (v : 
 
   grown_free : (n : ℕ) → 0 < times n is.published.grown → IsFree c.known.table n
   grown_free n there = record {
-    clear = let few = is.published.fresh n in let sum = parts n in omega arith;
+    clear = let few = taken n in omega arith;
     unheld = is.unheld n (let sum = times-append n is.published.grown (v.at ∷ v.version.ribs) in omega arith);
   }
 

@@ -21,9 +21,11 @@ use Rattle.alloctab.specs.TableState.{bit, holds}
 use Rattle.directory.specs.Chains.{ChainState, IsChain}
 use Rattle.volume.specs.Known.{KnownDirectory, blocks_reached, reaches_in_known, reaches_in_entries, cost_of_directory}
 use Rattle.volume.specs.Known.{cost_of_known, IsWholeVersion, IsWholeDirectory, IsWholeMap}
-use Rattle.volume.specs.Live.{VolumeCore, as_known, held_reaches, held_cost, current_reaches, pending_reaches}
+use Rattle.volume.specs.Live.{is_creation, VolumeCore, as_known, held_reaches, held_cost, current_reaches}
+use Rattle.volume.specs.Live.{pending_reaches}
 use Rattle.volume.specs.Live.{pending_cost, creates, growths, cost_beyond, IsWholePending, IsWholeCore}
-use Rattle.volume.specs.Publishing.{given_up, added, before, left_of, MakesCurrent}
+use Rattle.volume.specs.Publishing.{added, before, left_of, MakesCurrent}
+use Rattle.volume.specs.Known.{given_up}
 use Rattle.volume.specs.declared.live.LiveVersion.{LiveVersion}
 use Rattle.volume.specs.declared.pending.PendingVersion.{PendingVersion}
 use Rattle.volume.proofs.FoundDirectories.{all_at}
@@ -35,6 +37,7 @@ use Rattle.volume.proofs.PublishingPuts.{was_whole, published_times, published_i
 use Rattle.volume.proofs.PublishingSlots.{set_total, set_each, all_places, set_growths, came, reaches_parts, entered}
 use Rattle.volume.proofs.PublishingSlots.{Counts, counts, made_current_total, made_current_all}
 use Rattle.volume.proofs.PuttingCore.{waits}
+use Rattle.volume.proofs.Sharing.{made_current_apart as made_current_own}
 use Rattle.changeset.specs.PutLaws.{some_or_none}
 
 module _ (size : ℕ) (c c' : VolumeCore) (key : ℕ) (p : PendingVersion) (at : ℕ) (ribs : List ℕ) (puts : List Put)
@@ -155,7 +158,7 @@ module _ (size : ℕ) (c c' : VolumeCore) (key : ℕ) (p : PendingVersion) (at :
       let bits = whole.map.bits n in
       let few = bit_few c.known.table n in
       let fresh = is.published.fresh n in
-      let split = fresh_times n in
+      let split = times-append n is.published.grown (at ∷ ribs) in
       (omega arith, omega arith, omega arith)
 
   made_current_inside : (n : ℕ) → 0 < holds c'.known.table n → InSpace size n
@@ -188,29 +191,6 @@ module _ (size : ℕ) (c c' : VolumeCore) (key : ℕ) (p : PendingVersion) (at :
       (λ given. let alone = given_alone n given in let chains = alone.1 in let grown = alone.2 in omega arith)
       (held_before n some)
 
-  -- a block of another version that is being written is in nothing else still
-  made_current_own : (n : ℕ) → 0 < total (pending_reaches n) c'.pending
-      → bit c'.known.table n + holds c'.known.table n ≤ 1
-  made_current_own n some =
-      let waiting = pending_total (pending_reaches n) refl in
-      let alone = whole.own n (omega arith) in
-      let held = whole.held n in
-      let sum = is.held n in
-      let left = (counted n).held in
-      let bits = is.published.bits n in
-      let fresh = fresh_times n in
-      let split = times-append n is.published.grown (at ∷ ribs) in
-      let its = times-append n (at ∷ ribs) p.version.blocks in
-      let none : times n (is.published.grown ++ at ∷ ribs)
-      ≡ 0 = ⊎_elim (λ taken. absurd (let unheld = is.unheld n taken in omega arith)) (λ no. no)
-      (some_or_none (times n (is.published.grown ++ at ∷ ribs))) in
-      ⊎_elim
-      (λ given. absurd (let far = given_alone n given in let within = (counted n).within in
-      let current = whole.current n in let parts = reaches_parts n c.known.directories in let all = whole.map.bits n in
-      omega arith))
-      (λ no. omega arith)
-      (some_or_none (given_up n (before is.old)))
-
   -- What is booked.
 
   no_more_booked : c'.known.table.booked ≤ c.known.table.booked
@@ -233,7 +213,7 @@ module _ (size : ℕ) (c c' : VolumeCore) (key : ℕ) (p : PendingVersion) (at :
       let now : growths c'.pending c'.known.master.entries c'.known.directories
       ≡ growths c'.pending c.known.master.entries (slice_set c.known.directories is.published.place d') =
       (λ i. growths c'.pending (is.published.master i).entries (is.published.directories i)) in
-      let here = by p.is_new is.old is.is_new (length d.chain.entries) m
+      let here = by (is_creation p) is.old is.is_new (length d.chain.entries) m
       (length d'.chain.entries) is.published.entry.count in
       let counts_d = was.chain.counted in
       let counts_d' = is.published.entry.chain.counted in
@@ -293,7 +273,7 @@ module _ (size : ℕ) (c c' : VolumeCore) (key : ℕ) (p : PendingVersion) (at :
         let waiting = pending_total (pending_reaches n) refl in
         let held = whole.held n in
         omega arith;
-    own = made_current_own;
+    own = λ k q there. made_current_own size c c' key p at ribs puts whole is k q there;
     inside = made_current_inside;
     apart = made_current_apart;
     fits = let fits = whole.fits in let few = no_more_booked in omega arith;

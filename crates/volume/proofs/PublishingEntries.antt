@@ -34,7 +34,7 @@ absent_at (e ∷ es) zero name w is none =
     some_none (sym (find_first name_total e es) ∙ ap (λ (x : FileEntry). find name_cmp x.0 (e ∷ es)) same ∙ none)
 absent_at (e ∷ es) (suc i) name w is none = absent_at es i name w is (find_tail_none name_cmp e es name none)
 
-one_place : (es : List FileEntry) (i j : ℕ) (name : FileName) (v w : ℕ) → EachOnce name_cmp es
+pub one_place : (es : List FileEntry) (i j : ℕ) (name : FileName) (v w : ℕ) → EachOnce name_cmp es
     → slice_get es i ≡ Some (name, v) → slice_get es j ≡ Some (name, w) → i ≡ j
 one_place [] i j name v w once is is' = absurd (some_none (sym is))
 one_place (e ∷ es) zero zero name v w once is is' = refl

@@ -1,6 +1,6 @@
 -- A version becomes the file of its name: what the puts make of what is held.
-use Rattle.std.proofs.Common.{◌≡◌, ℕ, ◌+◌, ◌<◌, ◌≤◌, ◌⊎◌, inl, inr, ⊎_elim, List, ◌++◌, Some, option_map, slice_get}
-use Rattle.std.proofs.Common.{refl, sym, ◌∙◌, ap, subst, arith}
+use Rattle.std.proofs.Common.{◌≡◌, ℕ, ◌+◌, ◌<◌, ◌≤◌, ◌⊎◌, inl, inr, ⊎_elim, List, ◌∷◌, ◌++◌, Some, option_map}
+use Rattle.std.proofs.Common.{slice_get, refl, sym, ◌∙◌, ap, subst, arith}
 use Rattle.std.proofs.lemmas.Option.{slice_get_within}
 use Rattle.std.specs.Option.{IsSome}
 use Rattle.std.specs.Cmp.{nat_cmp_total}
@@ -8,7 +8,7 @@ use Rattle.std.specs.FinMap.{nat_cmp-IsAntisymmetric}
 use Rattle.words36.specs.declared.names.FileName.{FileName}
 use Rattle.blockdisk.specs.Disk.{Contents}
 use Rattle.meaning.specs.declared.put.Put.{Put}
-use Rattle.meaning.specs.Maps.{times, get, insert, map_values, from_entries}
+use Rattle.meaning.specs.Maps.{times, get, insert, map_values, from_entries, sum_over}
 use Rattle.meaning.specs.Blocks.{head_or_zero}
 use Rattle.meaning.specs.Regions.{table_blocks, table_start, space_start}
 use Rattle.meaning.specs.Log.{with_puts}
@@ -22,7 +22,8 @@ use Rattle.meaning.specs.Faults.{InSpace}
 use Rattle.meaning.proofs.Names.{name_total, name_exact}
 use Rattle.meaning.proofs.MapLaws.{some_same, get-insert_same, get-insert_other, insert_same}
 use Rattle.meaning.proofs.MapLists.{get-map_values, map_values-insert}
-use Rattle.meaning.proofs.MapSums.{times-append, two-le-sum}
+use Rattle.meaning.proofs.MapSums.{times-append, at-le-sum, two-le-sum}
+use Rattle.meaning.proofs.MapParts.{found-le-sum}
 use Rattle.meaning.proofs.DiskMaps.{once}
 use Rattle.meaning.proofs.QuietLaws.{each_times}
 use Rattle.meaning.proofs.Versions.{version_kept}
@@ -34,8 +35,9 @@ use Rattle.directory.specs.ChainLaws.{chain_stands, on_kept}
 use Rattle.volume.specs.Facts.{facts_of, known_facts}
 use Rattle.volume.specs.Known.{KnownVersion, KnownDirectory, Known, IsKnownFile, IsKnownDirectory, IsKnownMap, IsHeld}
 use Rattle.volume.specs.Known.{IsWholeMap, blocks_reached}
-use Rattle.volume.specs.Publishing.{Before, given_up, files_put_in, files_published, IsPublished}
-use Rattle.volume.proofs.MakingHeld.{reached_in_space, element_at, chain_reached}
+use Rattle.volume.specs.Publishing.{files_put_in, files_published, IsPublished}
+use Rattle.volume.specs.Known.{Before, given_up}
+use Rattle.volume.proofs.MakingHeld.{reached_in_space, element_at}
 use Rattle.volume.proofs.PublishingPuts.{set_cases, other_key, file_times, given_up_is, was_whole, published_times}
 use Rattle.volume.proofs.PublishingPuts.{published_inside, published_apart, published_stays}
 use Rattle.volume.proofs.MakingLaw.{head_front, bits_same}
@@ -82,13 +84,41 @@ module _ (size : ℕ) (k k' : Known) (m : DiskMap) (ppn : ℕ) (name : FileName)
   given_times : (n : ℕ) → reaches_in_found n (get stored.files name) ≡ given_up n old
   given_times = given_up_is is.directory stored name old stored_is is.entry.was
 
-  fresh_unreached : (n : ℕ) → 0 < times n (is.grown ++ blocks_reached at v.version) → reaches n m ≡ 0
-  fresh_unreached n there = let few = is.fresh n in let e = held.bits n in let b = held.stands.marked.bits n in
+  taken_times : (n : ℕ) → times n (is.grown ++ at ∷ v.version.ribs) ≡ times n is.grown + times n (at ∷ v.version.ribs)
+  taken_times n = times-append n is.grown (at ∷ v.version.ribs)
+
+  grown_unreached : (n : ℕ) → 0 < times n is.grown → reaches n m ≡ 0
+  grown_unreached n there =
+      let few = is.fresh n in
+      let t = taken_times n in
+      let e = held.bits n in
+      let b = held.stands.marked.bits n in
       omega arith
 
-  -- the chain with that of the master directory
-  in_map : (n : ℕ) → times n m.chain + times n is.directory.chain.blocks ≤ reaches n m
-  in_map = chain_reached k m held.known whole.aligned is.place is.directory is.directory_at
+  -- the chain with that of the master directory, and the version of before
+  in_map : (n : ℕ) → times n m.chain + times n is.directory.chain.blocks + given_up n old ≤ reaches n m
+  in_map n =
+      let all = at-le-sum nat_cmp_total nat_cmp-IsAntisymmetric (reaches_in_directory n) m.directories ppn stored
+      stored_at in
+      let found : reaches_in_found n (get stored.files name) ≤ sum_over (reaches_in_file n) stored.files = found-le-sum
+      name_total name_exact (reaches_in_file n) stored.files name (get stored.files name) refl in
+      let s = stored_times n in
+      let was = given_times n in
+      omega arith
+
+  -- A block of the file is not in its directory's chain: one that the chain takes is nowhere else, and one that the map
+  -- reaches stands in the version of before.
+  new_apart : (n : ℕ) → 0 < reaches_in_file n f → times n is.directory'.chain.blocks ≡ 0
+  new_apart n there =
+      let e = new_times n in
+      let few = is.fresh n in
+      let t = taken_times n in
+      let all = is.once n in
+      let g = fresh_times n in
+      let most = in_map n in
+      let bits = held.bits n in
+      let b = held.stands.marked.bits n in
+      omega arith
 
   out_of_chain : (n : ℕ) → (n < space_start size) ⊎ (size ≤ n) → times n is.directory'.chain.blocks ≡ 0
   out_of_chain = published_apart size k k' ppn name at v old puts whole is
@@ -107,19 +137,15 @@ module _ (size : ℕ) (k k' : Known) (m : DiskMap) (ppn : ℕ) (name : FileName)
   reached_stays : (n : ℕ) → 0 < reaches n m → times n is.directory.chain.blocks ≡ 0 → with_puts puts c n ≡ c n
   reached_stays n there none =
       others n (inr (reached_in_space size c m held.stands n there).from)
-      (let e = new_times n in let g = fresh_times n in
-      ⊎_elim (λ fresh. absurd (let z = fresh_unreached n fresh in omega arith)) (λ no. omega arith)
-      (some_or_none (times n (is.grown ++ blocks_reached at v.version))))
+      (let e = new_times n in
+      ⊎_elim (λ grown. absurd (let z = grown_unreached n grown in omega arith)) (λ no. omega arith)
+      (some_or_none (times n is.grown)))
 
   new_version : IsVersion 1 (with_puts puts c) (place_of ppn name) f
   new_version = version_kept 1 c (with_puts puts c) (place_of ppn name) f version (λ n there.
-      let e = new_times n in
       let g = fresh_times n in
-      let few = is.fresh n in
-      let z = fresh_unreached n (omega arith) in
-      let most = in_map n in
       others n (inr (each_times (InSpace size) (is.grown ++ blocks_reached at v.version) n is.inside
-      (omega arith)).from) (omega arith))
+      (omega arith)).from) (new_apart n there))
 
   -- the chain of the directory
 
@@ -224,7 +250,8 @@ module _ (size : ℕ) (k k' : Known) (m : DiskMap) (ppn : ℕ) (name : FileName)
           → (s : StoredDirectory) × (get (insert m.directories ppn (with_file stored is.directory'.chain.blocks name f))
           e.0 ≡ Some s) × IsKnownDirectory x s
       by_place (inl new) =
-          let entry : e ≡ (ppn, is.word) = some_same (sym was ∙ ap (slice_get k.master.entries) new.0 ∙ is.there.is) in (
+          let entry : e ≡ (ppn, is.word) = some_same (sym was ∙ ap (slice_get k.master.entries) new.0 ∙ is.there.is)
+          in (
             with_file stored is.directory'.chain.blocks name f,
             ap (λ (z : MasterEntry). get (insert m.directories ppn (with_file stored is.directory'.chain.blocks name f))
                 z.0) entry ∙ get-insert_same nat_cmp_total m.directories ppn

@@ -23,7 +23,8 @@ use Rattle.changeset.specs.Puts.{IsPutIn}
 use Rattle.volume.specs.Facts.{Facts, facts_of, known_facts}
 use Rattle.volume.specs.Known.{KnownVersion, KnownDirectory, Known, IsKnownDirectory, IsWholeDirectory, IsWholeMap}
 use Rattle.volume.specs.Known.{blocks_reached}
-use Rattle.volume.specs.Publishing.{Before, given_up, IsNamed, IsPublished}
+use Rattle.volume.specs.Publishing.{IsPublished}
+use Rattle.volume.specs.Known.{Before, given_up, IsNamed}
 use Rattle.volume.proofs.FoundDirectories.{all_at}
 use Rattle.volume.proofs.Growing.{one_place}
 use Rattle.volume.proofs.MakingDirectories.{not_put}

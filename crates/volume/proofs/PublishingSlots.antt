@@ -16,7 +16,8 @@ use Rattle.meaning.proofs.MapLaws.{some_same, some_none}
 use Rattle.volume.specs.Known.{KnownDirectory, blocks_reached, reaches_in_known}
 use Rattle.volume.specs.Live.{VolumeCore, slot, pending_at, held_reaches, held_cost, current_reaches, entry_reaches}
 use Rattle.volume.specs.Live.{growths}
-use Rattle.volume.specs.Publishing.{given_up, cost_before, Entered, before, left_of, IsEnded, HasOtherKey, MakesCurrent}
+use Rattle.volume.specs.Publishing.{Entered, before, left_of, IsEnded, HasOtherKey, MakesCurrent}
+use Rattle.volume.specs.Known.{given_up, cost_before}
 use Rattle.volume.specs.Rest.{HasSomeBody}
 use Rattle.volume.specs.declared.live.LiveVersion.{LiveVersion}
 use Rattle.volume.specs.declared.pending.PendingVersion.{PendingVersion}

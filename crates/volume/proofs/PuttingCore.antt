@@ -1,16 +1,18 @@
 -- A version that is being written has other blocks: what is in core stays whole.
 use Rattle.std.proofs.Common.{◌≡◌, ◌⊎◌, ⊎_elim, inl, inr, ℕ, zero, suc, ◌+◌, ◌<◌, ◌≤◌, List, [], ◌∷◌, length, slice_set}
 use Rattle.std.proofs.Common.{Option, Some, None, IfSome, IsSome, slice_index_or, refl, sym, ap, subst, ◌∙◌, arith}
-use Rattle.std.proofs.lemmas.Bool.{cases_lt}
+use Rattle.std.proofs.lemmas.Bool.{cases_eq, cases_lt}
 use Rattle.meaning.specs.Costs.{directory_cost}
 use Rattle.meaning.specs.Directories.{MasterEntry}
 use Rattle.meaning.specs.Faults.{InSpace}
 use Rattle.meaning.specs.Maps.{total, times}
-use Rattle.alloctab.specs.TableState.{TableState, bit, holds}
+use Rattle.meaning.proofs.MapLaws.{some_same}
+use Rattle.alloctab.specs.TableState.{TableState, IsFree, bit, holds}
 use Rattle.retrieval.specs.Versions.{VersionState}
-use Rattle.volume.specs.Known.{KnownDirectory, reaches_in_known}
+use Rattle.retrieval.specs.declared.prime.Prime.{Prime}
+use Rattle.volume.specs.Known.{KnownDirectory, reaches_in_known, prime_in}
 use Rattle.volume.specs.Live.{VolumeCore, pending_at, pending_reaches, pending_cost, creates, growths, IsWholePending}
-use Rattle.volume.specs.Live.{IsWholeCore}
+use Rattle.volume.specs.Live.{IsApart, IsWholeCore}
 use Rattle.volume.specs.Putting.{IsReady, Regrows, Regrown}
 use Rattle.volume.specs.declared.pending.PendingVersion.{PendingVersion}
 use Rattle.volume.proofs.FoundDirectories.{all_times_at}
@@ -115,6 +117,91 @@ module _ (size : ℕ) (c : VolumeCore) (whole : IsWholeCore size c) (key : ℕ) 
         let most = chains_within n c.known.directories in
         omega arith
 
+    -- A block of it is one that it had, or one that no version had.
+
+    abbrev new_core : VolumeCore
+    new_core = record c {
+      known = record c.known { table = record c.known.table { held = t.held; booked = t.booked } };
+      pending = pending;
+    }
+
+    new_block : (n : ℕ) → 0 < times n v.blocks → (0 < times n p.version.blocks) ⊎ IsFree c.known.table n
+    new_block n there = ⊎_elim (λ fewer. inl (omega arith)) (λ free. inr free.0) (grown.adds n)
+
+    -- what is being written has its blocks held
+    has_held : (k : ℕ) (q : PendingVersion) → pending_at c.pending k ≡ Some q → (n : ℕ) → 0 < times n q.version.blocks
+        → IsFree c.known.table n → ⊥
+    has_held k q at n there free =
+        let part = total_at (pending_reaches n) refl c.pending k in
+        let here = ap (pending_reaches n) at in
+        let all = whole.held n in
+        let none = free.unheld in
+        absurd (omega arith)
+
+    -- each version that is being written now was, with blocks that it had, or free ones in the one under the key
+    was_written : (k : ℕ) (q : PendingVersion) → pending_at pending k ≡ Some q
+        → (r : PendingVersion) × (pending_at c.pending k ≡ Some r) × (q.prime ≡ r.prime)
+        × ((n : ℕ) → 0 < times n q.version.blocks → (0 < times n r.version.blocks) ⊎ (IsFree c.known.table n
+        × (k ≡ key)))
+        × ((n : ℕ) → times n q.version.blocks ≤ 1)
+    was_written k q at = ⊎_elim
+        (λ (same : k ≡ key).
+        let of : record p { version = v } ≡ q = some_same (sym is.0 ∙ sym (ap (pending_at pending) same) ∙ at) in (
+          p,
+          ap (pending_at c.pending) same ∙ was,
+          sym (ap (λ (x : PendingVersion). x.prime) of),
+          λ n there. ⊎_elim (λ had. inl had) (λ free. inr (free, same))
+              (new_block n (subst (λ (x : PendingVersion). 0 < times n x.version.blocks) (sym of) there)),
+          λ n. subst (λ (x : PendingVersion). times n x.version.blocks ≤ 1) of (new_once n),
+        ))
+        (λ other. (
+          q,
+          sym (others k other) ∙ at,
+          refl,
+          λ n there. inl there,
+          (whole.own k q (sym (others k other) ∙ at)).once,
+        )) (cases_eq k key)
+      where
+        new_once : (n : ℕ) → times n v.blocks ≤ 1
+        new_once n = ⊎_elim (λ fewer. let few = (whole.own key p was).once n in omega arith) (λ free. free.1)
+            (grown.adds n)
+
+    new_own : (k : ℕ) (q : PendingVersion) → pending_at pending k ≡ Some q → IsApart new_core q
+    new_own k q at =
+        let old = was_written k q at in
+        let apart = whole.own k old.0 old.1 in
+        record {
+          once = old.4;
+          shared = λ n there set. ⊎_elim
+              (λ had.
+              let v = apart.shared n had set in (
+                v.0,
+                record {
+                  key = v.1.key;
+                  there = v.1.there;
+                  current = v.1.current;
+                  at = (λ i. prime_in c.known.master.entries c.known.directories (old.2 i).ppn (old.2 i).file) ∙ v.1.at;
+                },
+                v.2,
+              ))
+              (λ free. absurd (let clear = free.0.clear in omega arith)) (old.3 n there);
+          places = λ j r r_at n mine its.
+              let other = was_written j r r_at in
+              ⊎_elim
+              (λ had. ⊎_elim
+              (λ has.
+              let same = apart.places j other.0 other.1 n had has in (
+                ap (λ (x : Prime). x.ppn) old.2 ∙ same.0 ∙ sym (ap (λ (x : Prime). x.ppn) other.2),
+                ap (λ (x : Prime). x.file) old.2 ∙ same.1 ∙ sym (ap (λ (x : Prime). x.file) other.2),
+              ))
+              (λ free. absurd (has_held k old.0 old.1 n had free.0)) (other.3 n its))
+              (λ free. ⊎_elim (λ has. absurd (has_held j other.0 other.1 n has free.0))
+              (λ also.
+              let one : q ≡ r = some_same (sym at ∙ ap (pending_at pending) (free.1 ∙ sym also.1) ∙ r_at) in
+              (ap (λ (x : PendingVersion). x.prime.ppn) one, ap (λ (x : PendingVersion). x.prime.file) one))
+              (other.3 n its)) (old.3 n mine);
+        }
+
     regrown_whole : IsWholeCore size
         (record c {
           known = record c.known { table = record c.known.table { held = t.held; booked = t.booked } };
@@ -133,13 +220,7 @@ module _ (size : ℕ) (c : VolumeCore) (whole : IsWholeCore size c) (key : ℕ) 
           let sum = grown.held n in
           let before = whole.held n in
           omega arith;
-      own = λ n some.
-          let all = new_total (pending_reaches n) refl in
-          let sum = grown.held n in
-          ⊎_elim
-          (λ fewer. let few = whole.own n (omega arith) in omega arith)
-          (λ free. let clear = free.0.clear in let unheld = free.0.unheld in let once = free.1 in
-          omega arith) (grown.adds n);
+      own = new_own;
       inside = λ n some. ⊎_elim (λ old. whole.inside n old)
           (λ new. all_times_at (InSpace size) v.blocks n grown.inside new.1) (held_or_new n some);
       apart = λ n some. ⊎_elim (λ old. whole.apart n old) (λ new. clear_apart n new.0) (held_or_new n some);

@@ -14,7 +14,7 @@ use Rattle.volume.proofs.MakingLaw.{bit_few}
 use Rattle.volume.proofs.BlockLists.{holds_next, clears_then, clears_one}
 
 -- what is set has a place in the table
-set_inside : (t : TableState) (n : ℕ) → IsTable t → 0 < bit t n → n < t.size
+pub set_inside : (t : TableState) (n : ℕ) → IsTable t → 0 < bit t n → n < t.size
 set_inside t n sound there = ⊎_elim (λ below. below)
     (λ past. absurd (let none : bit t n ≡ 0 = ap digit (get_or_past t.bits n false (let long = sound.bits_are in
     omega arith)) in omega arith)) (cases_lt n t.size)

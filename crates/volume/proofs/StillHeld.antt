@@ -1,15 +1,17 @@
 -- Core and disk agree while versions are begun and dropped: the map is the one that it was.
-use Rattle.std.proofs.Common.{◌≡◌, ℕ, Bool, List, [], Some, None, refl, sym, ap, subst, ◌∙◌, ⊎_elim}
+use Rattle.std.proofs.Common.{◌≡◌, ℕ, Bool, true, false, if◌then◌else◌, List, [], Some, None, refl, sym, ap, subst}
+use Rattle.std.proofs.Common.{◌∙◌, ⊎_elim}
 use Rattle.std.proofs.lemmas.Bool.{cases_eq}
 use Rattle.blockdisk.specs.Disk.{Contents, DiskState}
 use Rattle.meaning.specs.Stands.{DiskMap}
 use Rattle.meaning.proofs.MapLaws.{some_same, some_none}
 use Rattle.retrieval.specs.declared.prime.Prime.{Prime}
 use Rattle.volume.specs.declared.pending.PendingVersion.{PendingVersion}
-use Rattle.volume.specs.Known.{Known, IsHeld, IsWholeMap}
+use Rattle.volume.specs.declared.pending.Kind.{Kind}
+use Rattle.volume.specs.Known.{Known, KnownVersion, Before, IsHeld, IsWholeMap}
 use Rattle.volume.specs.Live.{VolumeCore, slot, pending_at, IsWholeCore}
 use Rattle.volume.specs.Rest.{IsAtRest, HasSomeBody, IsSound}
-use Rattle.volume.specs.Beginning.{begun, is_absent, IsBegun}
+use Rattle.volume.specs.Beginning.{is_update, no_words, shared_body, begun_version, begun, IsBegun}
 
 -- other counts in the table
 abbrev pub counting : Known → List ℕ → ℕ → Known
@@ -62,22 +64,39 @@ counts_sound s c c' failed size held booked sound same whole live known written 
 }
 
 -- a version of no words
-empty_body : (contents : Contents) (prime : Prime) (is_new : Bool) → HasSomeBody contents (begun prime is_new).version
-empty_body contents prime is_new = ([], refl, record { each = []; undamaged = tt; whole = tt; body_is = refl })
+empty_body : (contents : Contents) → HasSomeBody contents no_words
+empty_body contents = ([], refl, record { each = []; undamaged = tt; whole = tt; body_is = refl })
 
-pub begun_sound : (s : DiskState) (c c' : VolumeCore) (failed : Bool) (size key : ℕ) (prime : Prime)
-    → IsSound s c failed → size ≡ c'.known.table.size → IsWholeCore size c' → IsBegun c c' key prime
+-- A version that is begun has the words that it shares, or none.
+begun_body : (contents : Contents) (kind : Kind) (old : Before)
+    → ((v : ℕ × KnownVersion) → old ≡ Some v → HasSomeBody contents v.1.version)
+    → HasSomeBody contents (begun_version kind old)
+begun_body contents kind old has = by (is_update kind) old has
+  where
+    by : (b : Bool) (q : Before) → ((v : ℕ × KnownVersion) → q ≡ Some v → HasSomeBody contents v.1.version)
+        → HasSomeBody contents (if b then shared_body q else no_words)
+    by false q has = empty_body contents
+    by true None has = empty_body contents
+    by true (Some v) has = let body = has v refl in (body.0, body.1, body.2)
+
+pub begun_sound : (s : DiskState) (c c' : VolumeCore) (failed : Bool) (size key : ℕ) (kind : Kind) (prime : Prime)
+    → IsSound s c failed → size ≡ c'.known.table.size → IsWholeCore size c' → (begins : IsBegun c c' key kind prime)
+    → (s.honest → failed ≡ false → (v : ℕ × KnownVersion) → begins.old ≡ Some v
+    → HasSomeBody s.contents v.1.version)
     → IsSound s c' failed
-begun_sound s c c' failed size key prime sound is whole begins =
-    counts_sound s c c' failed size c.known.table.held _ sound (is ∙ ap (λ k. k.table.size) begins.known
-    ∙ sound.whole.map.size_is) whole begins.live begins.known
-    (λ k p there contents old. ⊎_elim
-    (λ (same : k ≡ key).
-    let both : Some p ≡ Some (begun prime (is_absent prime.file begins.directory)) = sym there
-    ∙ ap (pending_at c'.pending) same ∙ begins.here in
-    subst (λ (q : PendingVersion). HasSomeBody contents q.version) (sym (some_same both))
-    (empty_body contents prime (is_absent prime.file begins.directory)))
-    (λ other. old p (sym (begins.others k other) ∙ there)) (cases_eq k key))
+begun_sound s c c' failed size key kind prime sound is whole begins has = record {
+  whole = subst (λ (b : ℕ). IsWholeCore b c') (is ∙ ap (λ k. k.table.size) begins.known
+      ∙ sound.whole.map.size_is) whole;
+  rest = λ h ok. subst (IsAtRest s) (sym begins.known) (counts_rest s c.known c'.known.table.held _ (sound.rest h ok));
+  read = λ h ok k v there. sound.read h ok k v (ap (λ l. slot l k) (sym begins.live) ∙ there);
+  written = λ h ok k p there. ⊎_elim
+      (λ (same : k ≡ key).
+      let both : begun kind prime begins.old
+      ≡ p = some_same (sym begins.here ∙ sym (ap (pending_at c'.pending) same) ∙ there) in
+      subst (λ (q : PendingVersion). HasSomeBody s.contents q.version) both
+      (begun_body s.contents kind begins.old (has h ok)))
+      (λ other. sound.written h ok k p (sym (begins.others k other) ∙ there)) (cases_eq k key);
+}
 
 -- a version less
 pub dropped_sound : (s : DiskState) (c c' : VolumeCore) (failed : Bool) (size key : ℕ) (held : List ℕ) (booked : ℕ)

@@ -15,6 +15,8 @@ use Rattle.meaning.specs.Faults.{InSpace, IsBadVersion, ReadFile, ReadDirectory,
 use Rattle.meaning.specs.Faults.{IsFileRead, IsDirectoryRead, IsSettledFault, HasFault}
 use Rattle.meaning.specs.Faults as faults
 use Rattle.directory.specs.Loading.{IsBadChain}
+use Rattle.directory.specs.declared.error.DirectoryError.{DirectoryError}
+use Rattle.directory.specs.declared.error.DirectoryError.TheVariants as directory
 use Rattle.volume.specs.FileReading.{IsOtherPlace, IsReachedTwice, IsDamagedData}
 use Rattle.volume.specs.declared.error.VolumeError.{VolumeError}
 use Rattle.volume.specs.declared.error.VolumeError.TheVariants.{NotVolume, BadHome, BadLog, BadDirectory, BadRetrieval}
@@ -29,6 +31,13 @@ NamesInSpace size (BadRetrieval n) = InSpace size n
 NamesInSpace size (BlockTwice n) = InSpace size n
 NamesInSpace size (BadData n) = InSpace size n
 NamesInSpace size error = Unit {0}
+
+-- what a chain that can't be read is refused with
+abbrev pub error_of_chain : DirectoryError → VolumeError
+error_of_chain (directory.BadDirectory n) = BadDirectory n
+error_of_chain (directory.BlockTwice n) = BlockTwice n
+error_of_chain directory.Device = Device
+error_of_chain directory.NoMemory = NoMemory
 
 -- One file, given by its place and its prime block.
 

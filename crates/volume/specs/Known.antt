@@ -1,9 +1,12 @@
 -- What a volume knows of its disk: the chains of its directories with their entries in the order of the
 -- disk, for each file where its version lies, and the allocation table. A map of the disk says the same,
 -- and besides it the words of the files.
-use Rattle.std.specs.Prelude.{◌≡◌, ℕ, ◌+◌, ◌*◌, ◌≤◌, false, List, [], ◌∷◌, ◌++◌, length, replicate, slice_get, Some}
+use Rattle.std.specs.Prelude.{◌≡◌, ℕ, ◌+◌, ◌*◌, ◌≤◌, false, List, [], ◌∷◌, ◌++◌, length, replicate, slice_get, Option}
+use Rattle.std.specs.Prelude.{Some, None, cond}
 use Rattle.std.specs.List.{AllByRecursion}
-use Rattle.std.specs.Ordering.{nat_cmp}
+use Rattle.std.specs.Ordering.{nat_cmp, eq_by_cmp}
+use Rattle.std.specs.FinMap.Entries.{find}
+use Rattle.words36.specs.declared.names.FileName.{FileName}
 use Rattle.blockdisk.specs.Disk.{Contents}
 use Rattle.meaning.specs.Maps.{get, map_values, from_entries, total, times}
 use Rattle.meaning.specs.Costs.{blocks_of, cost_of_blocks}
@@ -16,6 +19,7 @@ use Rattle.meaning.specs.Stands.{StoredFile, StoredDirectory, DiskMap, entry_of,
 use Rattle.meaning.specs.Faults.{InSpace, IsMasterEntryOf}
 use Rattle.alloctab.specs.TableState.{TableState, bit}
 use Rattle.directory.specs.Chains.{ChainState, IsChain, IsOn}
+use Rattle.directory.specs.Edits.{StandsAt}
 use Rattle.retrieval.specs.Versions.{VersionState}
 use Rattle.retrieval.specs.Writing.{rib_count}
 use Rattle.retrieval.specs.declared.prime.Prime.{Prime}
@@ -127,3 +131,30 @@ pub record IsWholeMap (size : ℕ) (k : Known) : Type 0 where
 pub record IsBooked (size : ℕ) (k : Known) : Type 0 where
   pub unheld : k.table.held ≡ replicate size 0
   pub booked : k.table.booked ≡ cost_of_known k.master k.directories
+
+-- Names.
+
+-- the prime block of a name in the directory of a number, among the directories of these entries
+abbrev pub prime_in : List MasterEntry → List KnownDirectory → ℕ → FileName → Option ℕ
+prime_in [] ds ppn name = None
+prime_in (e ∷ es) [] ppn name = None
+prime_in (e ∷ es) (d ∷ ds) ppn name = cond (eq_by_cmp nat_cmp ppn e.0) (find name_cmp name d.chain.entries)
+    (prime_in es ds ppn name)
+
+-- the version that a name has in a directory, with its prime block
+abbrev pub Before : Type 0
+Before = Option (ℕ × KnownVersion)
+
+-- The name has this version in the directory, or none.
+abbrev pub IsNamed : KnownDirectory → FileName → Before → Type 0
+IsNamed d name None = find name_cmp name d.chain.entries ≡ None
+IsNamed d name (Some v) = (i : ℕ) × StandsAt name_cmp d.chain.entries name v.0 i × (slice_get d.versions i ≡ Some v.1)
+
+-- how often a block stands in it, and what it costs
+abbrev pub given_up : ℕ → Before → ℕ
+given_up n None = 0
+given_up n (Some v) = times n (blocks_reached v.0 v.1.version)
+
+abbrev pub cost_before : Before → ℕ
+cost_before None = 0
+cost_before (Some v) = cost_of_version v.1

@@ -1,20 +1,24 @@
 -- What a volume keeps in core: what it knows of its disk, the key of each file's version, and the versions
 -- under their keys. One is current where a file of the disk has it; another is there while readers hold it.
 -- Besides them there are versions that are being written, which nobody else sees.
-use Rattle.std.specs.Prelude.{◌≡◌, ℕ, ◌+◌, ◌-◌, ◌^◌, ◌<◌, ◌≤◌, ◌==◌, true, if◌then◌else◌, List, [], ◌∷◌, length, Option}
+use Rattle.std.specs.Prelude.{◌≡◌, ℕ, ◌+◌, ◌-◌, ◌^◌, ◌<◌, ◌≤◌, ◌==◌, Bool, true, false, if◌then◌else◌, List, [], ◌∷◌}
+use Rattle.std.specs.Prelude.{length, Option}
 use Rattle.std.specs.Prelude.{Some, None, IfSome, slice_index_or}
 use Rattle.std.specs.List.{AllByRecursion, AllZip}
 use Rattle.std.specs.Ordering.{nat_cmp}
 use Rattle.std.specs.FinMap.Entries.{find}
+use Rattle.words36.specs.declared.names.FileName.{FileName}
 use Rattle.meaning.specs.Maps.{total, times}
 use Rattle.meaning.specs.Costs.{cost_of_blocks, directory_cost}
 use Rattle.meaning.specs.Directories.{MasterEntry}
 use Rattle.meaning.specs.Faults.{InSpace}
 use Rattle.alloctab.specs.TableState.{bit, holds, space}
 use Rattle.volume.specs.declared.live.LiveVersion.{LiveVersion}
+use Rattle.volume.specs.declared.pending.Kind.{Kind}
+use Rattle.volume.specs.declared.pending.Kind.TheVariants.{Create, Supersede, Update, Append}
 use Rattle.volume.specs.declared.pending.PendingVersion.{PendingVersion}
 use Rattle.volume.specs.Known.{Known, KnownVersion, KnownDirectory, blocks_reached, reaches_in_entries, cost_of_known}
-use Rattle.volume.specs.Known.{IsWholeVersion, IsWholeMap}
+use Rattle.volume.specs.Known.{IsWholeVersion, IsWholeMap, prime_in}
 
 pub record VolumeCore : Type 0 where
   pub known : Known
@@ -34,6 +38,10 @@ pending_at pending key = slice_index_or pending key None
 -- as it is known of a file
 abbrev pub as_known : LiveVersion → KnownVersion
 as_known v = record { prime = v.prime; version = v.version }
+
+-- the same of one that is being written
+abbrev pub as_written : PendingVersion → KnownVersion
+as_written p = record { prime = p.prime; version = p.version }
 
 -- The version under the key is current, and has this prime block.
 pub record IsCurrent (live : List (Option LiveVersion)) (key prime : ℕ) : Type 0 where
@@ -81,10 +89,20 @@ abbrev pub pending_cost : Option PendingVersion → ℕ
 pending_cost None = 0
 pending_cost (Some p) = cost_of_blocks (length p.version.blocks)
 
+-- whether it was begun as a file of a name that there was not
+abbrev pub is_create : Kind → Bool
+is_create Create = true
+is_create Supersede = false
+is_create Update = false
+is_create Append = false
+
+abbrev pub is_creation : PendingVersion → Bool
+is_creation p = is_create p.kind
+
 -- how many of them will be new entries of a directory
 abbrev pub creates : ℕ → Option PendingVersion → ℕ
 creates ppn None = 0
-creates ppn (Some p) = if p.is_new then (if p.prime.ppn == ppn then 1 else 0) else 0
+creates ppn (Some p) = if is_creation p then (if p.prime.ppn == ppn then 1 else 0) else 0
 
 -- by how much directories cost more with the entries that they will have
 abbrev pub growths : List (Option PendingVersion) → List MasterEntry → List KnownDirectory → ℕ
@@ -104,13 +122,33 @@ abbrev pub AreStanding : List (Option LiveVersion) → Type 0
 AreStanding live = AllByRecursion (λ o. IfSome o (λ v. IsWholeVersion (as_known v))) live
 
 pub record IsWholePending (size : ℕ) (p : PendingVersion) : Type 0 where
-  pub whole : IsWholeVersion (record { prime = p.prime; version = p.version })
+  pub whole : IsWholeVersion (as_written p)
   pub inside : AllByRecursion (InSpace size) p.version.blocks
   -- retrieval blocks come with its publication
   pub bare : p.version.ribs ≡ []
 
 abbrev pub AreWaiting : ℕ → List (Option PendingVersion) → Type 0
 AreWaiting size pending = AllByRecursion (λ o. IfSome o (IsWholePending size)) pending
+
+-- The file of a place has this version: it is current, and its prime block is the one that the place's entry names.
+pub record IsCurrentAt (c : VolumeCore) (ppn : ℕ) (name : FileName) (v : LiveVersion) : Type 0 where
+  pub key : ℕ
+  pub there : slot c.live key ≡ Some v
+  pub current : v.is_current ≡ true
+  pub at : prime_in c.known.master.entries c.known.directories ppn name ≡ Some v.at
+
+-- What a version that is being written shares. Its blocks are its own, but for those that it has of the file of its
+-- place, or of a version that the file had before.
+pub record IsApart (c : VolumeCore) (p : PendingVersion) : Type 0 where
+  -- no block stands in it twice
+  pub once : (n : ℕ) → times n p.version.blocks ≤ 1
+  -- one whose bit is set is a block of the file of its place
+  pub shared : (n : ℕ) → 0 < times n p.version.blocks → 0 < bit c.known.table n
+      → (v : LiveVersion) × IsCurrentAt c p.prime.ppn p.prime.file v × (0 < times n v.version.blocks)
+  -- one that is in another, too, which is being written, is of the same place in both
+  pub places : (key : ℕ) (q : PendingVersion) → pending_at c.pending key ≡ Some q → (n : ℕ)
+      → 0 < times n p.version.blocks → 0 < times n q.version.blocks
+      → (p.prime.ppn ≡ q.prime.ppn) × (p.prime.file ≡ q.prime.file)
 
 -- What is so in core, whatever the disk does.
 pub record IsWholeCore (size : ℕ) (c : VolumeCore) : Type 0 where
@@ -125,8 +163,8 @@ pub record IsWholeCore (size : ℕ) (c : VolumeCore) : Type 0 where
   -- a block is held as often as it stands in a version that is no longer current, or not yet
   pub held : (n : ℕ) → holds c.known.table n ≡ total (held_reaches n) c.live + total (pending_reaches n) c.pending
   pub inside : (n : ℕ) → 0 < holds c.known.table n → InSpace size n
-  -- a block of a version that is being written is in nothing else
-  pub own : (n : ℕ) → 0 < total (pending_reaches n) c.pending → bit c.known.table n + holds c.known.table n ≤ 1
+  -- what a version that is being written shares is of its place
+  pub own : (key : ℕ) (p : PendingVersion) → pending_at c.pending key ≡ Some p → IsApart c p
   -- no block that is held stands in a chain
   pub apart : (n : ℕ) → 0 < holds c.known.table n
       → times n c.known.master.blocks + total (λ d. times n d.chain.blocks) c.known.directories ≡ 0

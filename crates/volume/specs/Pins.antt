@@ -19,8 +19,8 @@ use Rattle.volume.specs.declared.pending.PendingVersion.{PendingVersion}
 use Rattle.volume.specs.declared.handles.Pin.{Pin}
 use Rattle.volume.specs.declared.handles.VersionHandle.{VersionHandle}
 use Rattle.volume.specs.declared.handles.VersionHandle.TheVariants.{Pinned, Pending}
-use Rattle.volume.specs.Known.{KnownDirectory}
-use Rattle.volume.specs.Live.{VolumeCore, slot, pending_at, as_known}
+use Rattle.volume.specs.Known.{KnownVersion, KnownDirectory}
+use Rattle.volume.specs.Live.{VolumeCore, slot, pending_at, as_known, as_written}
 
 -- The key is that of the version that the file of a place has.
 pub record IsKeyOf (c : VolumeCore) (ppn : ℕ) (name : FileName) (key : ℕ) : Type 0 where
@@ -47,7 +47,7 @@ IsNoFile c ppn name error =
     × (find name_cmp name directory.chain.entries ≡ None) × (error ≡ Refused NotFound))
 
 -- The version is that of the file, and its blocks have the file's words.
-pub record IsVersionOf (contents : Contents) (v : LiveVersion) (file : File) : Type 0 where
+pub record IsVersionOf (contents : Contents) (v : KnownVersion) (file : File) : Type 0 where
   pub protection : v.prime.protection ≡ file.protection
   pub mode : mode_number v.prime.mode ≡ file.mode
   pub time : v.prime.moment.minute ≡ file.time
@@ -59,13 +59,19 @@ pub record IsVersionOf (contents : Contents) (v : LiveVersion) (file : File) : T
 abbrev pub IsFilePinned : Contents → List (Option LiveVersion) → Result Pin CallError → Option File → Type 0
 IsFilePinned contents live answer None = answer ≡ Err (Refused NotFound)
 IsFilePinned contents live answer (Some file) = (pin : Pin) × (answer ≡ Ok pin) × (v : LiveVersion)
-    × (slot live pin.key ≡ Some v) × IsVersionOf contents v file
+    × (slot live pin.key ≡ Some v) × IsVersionOf contents (as_known v) file
 
 -- The same for a name in a directory that there is, or in none.
 abbrev pub IsPinAnswer : Contents → List (Option LiveVersion) → FileName → Result Pin CallError
     → Option (Directory File) → Type 0
 IsPinAnswer contents live name answer None = answer ≡ Err (Refused NoDirectory)
 IsPinAnswer contents live name answer (Some d) = IsFilePinned contents live answer (get d.files name)
+
+-- A version that is being written is the one of the file with a name, in a directory that there is.
+abbrev pub BeginsWithFile : Contents → Option PendingVersion → FileName → Option (Directory File) → Type 0
+BeginsWithFile contents pending name d = (p : PendingVersion) × (pending ≡ Some p) × (directory : Directory File)
+    × (d ≡ Some directory) × (file : File) × (get directory.files name ≡ Some file)
+    × IsVersionOf contents (as_written p) file
 
 -- the version that is read, a pinned one or one that is being written
 abbrev pub version_under : VolumeCore → VersionHandle → Option VersionState

@@ -21,8 +21,9 @@ use Rattle.retrieval.specs.Versions.{VersionState}
 use Rattle.retrieval.specs.Writing.{rib_count}
 use Rattle.retrieval.specs.declared.prime.Prime.{Prime}
 use Rattle.volume.specs.Beginning.{is_absent, IsDirectoryOf}
-use Rattle.volume.specs.Known.{KnownVersion, KnownDirectory, Known, blocks_reached, reaches_in_entries, cost_of_version}
-use Rattle.volume.specs.Live.{VolumeCore, as_known, slot, pending_at, IsKeyed, held_reaches, held_cost}
+use Rattle.volume.specs.Known.{Before, IsNamed, KnownVersion, KnownDirectory, Known, blocks_reached, given_up}
+use Rattle.volume.specs.Known.{reaches_in_entries, cost_of_version, cost_before}
+use Rattle.volume.specs.Live.{is_creation, VolumeCore, as_known, slot, pending_at, IsKeyed, held_reaches, held_cost}
 use Rattle.volume.specs.Making.{PutsTable}
 use Rattle.volume.specs.declared.live.LiveVersion.{LiveVersion}
 use Rattle.volume.specs.declared.pending.PendingVersion.{PendingVersion}
@@ -57,15 +58,15 @@ pub record PutsInUse (t u : TableState) (blocks : List ℕ) : Type 0 where
   pub bits : (n : ℕ) → bit u n ≡ bit t n + times n blocks
   pub held : (n : ℕ) → holds u n + times n blocks ≡ holds t n
 
--- A version that was being written comes into use, with prime block `at`, its ribs, and the block by which a chain
--- grows: these were free.
-pub record PutsVersionInUse (t u : TableState) (grown : List ℕ) (at : ℕ) (v : VersionState) : Type 0 where
+-- The blocks that a version wants besides its data blocks are taken, its prime block `at` and its ribs, and the block
+-- by which a chain grows: each was free, and is held once now.
+pub record TakesPlaces (t u : TableState) (grown : List ℕ) (at : ℕ) (ribs : List ℕ) : Type 0 where
   pub marks : Marks t u
   pub booked : u.booked ≡ t.booked
-  pub bits : (n : ℕ) → bit u n ≡ bit t n + times n (grown ++ blocks_reached at v)
-  pub held : (n : ℕ) → holds u n + times n v.blocks ≡ holds t n
-  pub fresh : (n : ℕ) → bit t n + times n (grown ++ blocks_reached at v) ≤ 1
-  pub free : (n : ℕ) → 0 < times n (grown ++ at ∷ v.ribs) → IsFree t n × InSpace t.size n
+  pub bits : (n : ℕ) → bit u n ≡ bit t n
+  pub held : (n : ℕ) → holds u n ≡ holds t n + times n (grown ++ at ∷ ribs)
+  pub fresh : (n : ℕ) → bit t n + times n (grown ++ at ∷ ribs) ≤ 1
+  pub free : (n : ℕ) → 0 < times n (grown ++ at ∷ ribs) → IsFree t n × InSpace t.size n
 
 -- A version goes out of use: its bits are cleared. While readers hold it, its blocks are held and its cost stays
 -- booked.
@@ -97,28 +98,10 @@ files_published files ppn name file = files_put_in (get files ppn) files ppn nam
 
 -- One directory.
 
--- the version that an entry had, with its prime block
-abbrev pub Before : Type 0
-Before = Option (ℕ × KnownVersion)
-
--- how often a block stands in it, and what it cost
-abbrev pub given_up : ℕ → Before → ℕ
-given_up n None = 0
-given_up n (Some v) = times n (blocks_reached v.0 v.1.version)
-
-abbrev pub cost_before : Before → ℕ
-cost_before None = 0
-cost_before (Some v) = cost_of_version v.1
-
 -- how many entries the directory has more without one before
 abbrev pub added : Before → ℕ
 added None = 1
 added (Some v) = 0
-
--- The name has this version in the directory, or none.
-abbrev pub IsNamed : KnownDirectory → FileName → Before → Type 0
-IsNamed d name None = find name_cmp name d.chain.entries ≡ None
-IsNamed d name (Some v) = (i : ℕ) × StandsAt name_cmp d.chain.entries name v.0 i × (slice_get d.versions i ≡ Some v.1)
 
 -- The name has this prime block and version now: in the place of those before, or behind the others.
 pub record IsEntryPut (d d' : KnownDirectory) (name : FileName) (at : ℕ) (v : KnownVersion)
@@ -158,9 +141,10 @@ pub record IsPublished (size : ℕ) (k k' : Known) (ppn : ℕ) (name : FileName)
   pub chain_puts : List Put
   pub put_chain : PutsChain file_words directory.chain directory'.chain [] chain_puts
   pub few : length chain_puts ≤ 2
-  -- the blocks that come into use were in none
   pub inside : AllByRecursion (InSpace size) (grown ++ blocks_reached at v.version)
-  pub fresh : (n : ℕ) → bit k.table n + times n (grown ++ blocks_reached at v.version) ≤ 1
+  -- the blocks that were taken for it were in none, and each block is in one place once the version before is not
+  pub fresh : (n : ℕ) → bit k.table n + times n (grown ++ at ∷ v.version.ribs) ≤ 1
+  pub once : (n : ℕ) → bit k.table n + times n (grown ++ blocks_reached at v.version) ≤ 1 + given_up n old
   pub size_is : k'.table.size ≡ k.table.size
   pub bits : (n : ℕ) → bit k'.table n + given_up n old ≡ bit k.table n + times n (grown ++ blocks_reached at v.version)
   pub put : PutsTable size k.table k'.table chain_puts puts
@@ -201,7 +185,7 @@ pub record MakesCurrent (size : ℕ) (c c' : VolumeCore) (key : ℕ) (p : Pendin
   pub gone : pending_at c'.pending key ≡ None
   pub other_pending : (k : ℕ) → (k ≡ key → ⊥) → pending_at c'.pending k ≡ pending_at c.pending k
   -- its name was new where it was to be
-  pub is_new : p.is_new ≡ is_none old
+  pub is_new : is_creation p ≡ is_none old
   -- it is current, under a key of its own, and the one before is not
   pub new_key : ℕ
   pub vacant : slot c.live new_key ≡ None
@@ -225,7 +209,7 @@ pub record IsPlaced (c : VolumeCore) (p : PendingVersion) : Type 0 where
   pub named : 0 < p.prime.file.name
   pub directory : KnownDirectory
   pub there : IsDirectoryOf c p.prime.ppn directory
-  pub is_new : p.is_new ≡ is_absent p.prime.file directory
+  pub is_new : is_creation p ≡ is_absent p.prime.file directory
 
 -- Lists with a place for its entry and its key, where its name is new.
 pub record IsSupplied (c : VolumeCore) (p : PendingVersion) (reserve : ChainState FileEntry)

@@ -1,37 +1,46 @@
-ghost use Rattle.std.specs.Prelude.{◌≡◌, ◌↔◌, ◌⊎◌, ◌+◌, ◌<◌, ◌^◌, ℕ, true, false, if◌then◌else◌, None, Some, slice_get};
-ghost use Rattle.std.specs.Prelude.{length, IfOk, OnErr, IsErrOf, IsTrue};
+ghost use Rattle.std.specs.Prelude.{◌≡◌, ◌↔◌, ◌⊎◌, ◌+◌, ◌<◌, ◌≤◌, ◌^◌, ℕ, true, false, if◌then◌else◌, None, Some};
+ghost use Rattle.std.specs.Prelude.{slice_get};
+ghost use Rattle.std.specs.Prelude.{is_none, length, IfOk, IfErr, OnErr, IsErr, IsErrOf, IfSome, IsSome, IsTrue};
 ghost use Rattle.std.specs.Ordering.{nat_cmp};
 ghost use Rattle.std.specs.FinMap.Entries.{find};
 ghost use Rattle.meaning.specs.declared.code.ErrorCode.{ErrorCode};
-ghost use Rattle.meaning.specs.declared.code.ErrorCode.TheVariants.{NoDirectory, NoRoom};
-ghost use Rattle.meaning.specs.Maps.{total};
+ghost use Rattle.meaning.specs.declared.code.ErrorCode.TheVariants.{NoDirectory, NameExists, NotFound, NoRoom};
+ghost use Rattle.meaning.specs.Files.{File, Files};
+ghost use Rattle.meaning.specs.Maps.{get, total};
+ghost use Rattle.meaning.specs.Retrieval.{most_blocks};
 ghost use Rattle.meaning.specs.Room.{growth};
 ghost use Rattle.alloctab.specs.TableState.{space};
-ghost use Rattle.volume.specs.Beginning.{begin_cost, entries_with, is_absent, IsDirectoryOf, IsBegun};
-ghost use Rattle.volume.specs.Known.{KnownDirectory};
-ghost use Rattle.volume.specs.Live.{creates, IsWholeCore};
+ghost use Rattle.volume.specs.Beginning.{begin_cost, entries_with, is_absent, is_update, begun, version_before};
+ghost use Rattle.volume.specs.Beginning.{IsBefore, IsBegun, IsBeginRefusal, IsDirectoryOf, IsMisfit};
+ghost use Rattle.volume.specs.Known.{Before, KnownDirectory, IsNamed, cost_before};
+ghost use Rattle.volume.specs.Live.{as_known, creates, is_create, pending_at, slot, IsWholeCore};
 ghost use Rattle.volume.specs.LiveCores.{core_of};
+ghost use Rattle.volume.specs.Pins.{BeginsWithFile};
+ghost use Rattle.volume.specs.Rest.{RestsAt};
 ghost use Rattle.volume.specs.declared.error.CallError.TheVariants.{Refused, Device, Failed};
 
 use crate::CallError;
+use crate::blocks::hold_all;
+use crate::cost::version_cost;
 use crate::handles::Pending;
-use crate::live::LiveMap;
+use crate::live::{LiveMap, LiveVersion};
 use crate::map::Volume;
-use crate::pending::PendingVersion;
+use crate::pending::{Kind, PendingVersion};
+use crate::pins::find_version;
 use crate::query::directory_place;
-use blockdisk::Disk;
+use blockdisk::{Disk, NoMemory};
 use meaning::ErrorCode;
 use meaning::layout::BLOCK_ENTRIES;
 use retrieval::{Prime, Version};
 use slab::Slab;
 use std::alloc::Global;
-use words36::Ppn;
+use words36::{FileName, Ppn};
 
 /// 1 for a version that will be a new entry of this directory, else 0.
 fn creates(version: &PendingVersion, ppn: Ppn) -> u64
     ensures { result ≡ creates ppn (Some version.now) }
 {
-    u64::from(version.is_new && version.prime.ppn == ppn)
+    u64::from(version.kind.is_create() && version.prime.ppn == ppn)
 }
 
 /// How many entries are being created in a directory.
@@ -68,74 +77,220 @@ pub fn growth_at(core: &LiveMap, place: usize, ppn: Ppn) -> u32
     growth(entries + creations(&core.pending, ppn))
 }
 
-/// What a version costs that is begun in the directory at a place.
-fn begin_cost(core: &LiveMap, place: usize, ppn: Ppn, is_new: bool) -> u32
-    requires inside { place < length core.now.directories.items }
-    requires few { (d : KnownDirectory) → slice_get (core_of core.now).known.directories place ≡ Some d
-        → entries_with (core_of core.now) d ppn < 2 ^ 64 }
-    ensures value { (d : KnownDirectory) → slice_get (core_of core.now).known.directories place ≡ Some d
-        → result ≡ begin_cost is_new (entries_with (core_of core.now) d ppn) }
-    ensures few { result < 3 }
-{
-    if is_new {
-        1 + growth_at(core, place, ppn)
-    } else {
-        1
-    }
-}
-
-/// Begins a version in core: of a new file, or one that will take the place of the file with this name. No
-/// block is taken yet.
+/// What a place has before a version is begun for it: the key of its file's version, or none.
 ///
 /// # Errors
 ///
-/// `Refused` with `NoDirectory` where the directory isn't there, and with `NoRoom` where its prime block, and
-/// the block that the directory may need for its entry, exceed the room; `NoMemory` where core can't grow. All
-/// is as before then.
-pub fn begin_in_core(core: &mut LiveMap, alloc: Global, prime: Prime) -> Result<usize, CallError>
+/// `Refused(NoDirectory)` where there is no such directory.
+fn find_before(core: &LiveMap, ppn: Ppn, name: &FileName) -> Result<Option<usize>, CallError>
+    requires whole { IsWholeCore core.now.table.size (core_of core.now) }
+    ensures before { IfOk result (IsBefore (core_of core.now) ppn name.now) }
+    ensures absent { IsErr result → find nat_cmp ppn (core_of core.now).known.master.entries ≡ None }
+    ensures only { IfErr result (λ error. error ≡ Refused NoDirectory) }
+{
+    match find_version(core, ppn, name) {
+        Ok(key) => Ok(Some(key)),
+        Err(CallError::Refused(ErrorCode::NotFound)) => Ok(None),
+        Err(error) => Err(error),
+    }
+}
+
+/// Why a version can't begin so where its place has this version before, or none: `NameExists` where a file is to be
+/// created whose name there is, `NotFound` where any other kind finds no file. `None` where it can.
+fn misfit(kind: Kind, before: Option<usize>) -> Option<ErrorCode>
+    ensures { IsMisfit (is_create kind) (is_none before) result }
+{
+    match (kind.is_create(), before) {
+        (true, Some(_)) => Some(ErrorCode::NameExists),
+        (false, None) => Some(ErrorCode::NotFound),
+        _ => None,
+    }
+}
+
+/// What the version under a key costs; nothing, where there is none.
+fn cost_before(versions: &Slab<LiveVersion>, before: Option<usize>) -> u32
+    requires few { IfSome before (λ key. IfSome (slot versions.now.slots key)
+        (λ v. length v.version.blocks ≤ most_blocks)) }
+    ensures { result ≡ cost_before (version_before versions.now.slots before) }
+{
+    let Some(key) = before else {
+        return 0;
+    };
+    match versions.get(key) {
+        Some(live) => version_cost(&live.version),
+        None => 0,
+    }
+}
+
+/// What a version costs that is begun in the directory at a place, by what its name has before.
+fn begin_cost(core: &LiveMap, place: usize, ppn: Ppn, kind: Kind, before: Option<usize>) -> u32
+    requires inside { place < length core.now.directories.items }
+    requires few { (d : KnownDirectory) → slice_get (core_of core.now).known.directories place ≡ Some d
+        → entries_with (core_of core.now) d ppn < 2 ^ 64 }
+    requires blocks { IfSome before (λ key. IfSome (slot core.now.versions.slots key)
+        (λ v. length v.version.blocks ≤ most_blocks)) }
+    ensures value { (d : KnownDirectory) → slice_get (core_of core.now).known.directories place ≡ Some d
+        → result ≡ begin_cost kind (entries_with (core_of core.now) d ppn)
+        (version_before core.now.versions.slots before) }
+{
+    match kind {
+        Kind::Create => 1 + growth_at(core, place, ppn),
+        Kind::Supersede => 1,
+        Kind::Update | Kind::Append => cost_before(&core.versions, before),
+    }
+}
+
+/// What is said of one version, at the place of another.
+fn at_place(prime: &Prime, place: &Prime) -> Prime
+    ensures { result ≡ record prime.now { file = place.now.file; ppn = place.now.ppn } }
+{
+    Prime {
+        file: place.file,
+        ppn: place.ppn,
+        protection: prime.protection,
+        mode: prime.mode,
+        moment: prime.moment,
+    }
+}
+
+/// A version that begins with the words of another, at the place of `prime`.
+///
+/// # Errors
+///
+/// `NoMemory` where the list of its blocks finds no room.
+fn begin_from(
+    alloc: Global,
+    kind: Kind,
+    prime: Prime,
+    live: &LiveVersion,
+) -> Result<PendingVersion, NoMemory>
+    requires update { is_update kind ≡ true }
+    requires few { length live.now.version.blocks ≤ most_blocks }
+    ensures { IfOk result (λ p. p ≡ begun kind prime (Some (live.now.at, as_known live.now))) }
+{
+    let version = live.version.copy_without_ribs(alloc)?;
+    let kept_blocks = match kind {
+        Kind::Append => version.blocks().len() as u32,
+        _ => 0,
+    };
+    Ok(PendingVersion {
+        prime: at_place(&live.prime, &prime),
+        version,
+        kind,
+        kept_blocks,
+    })
+}
+
+/// The version that is begun, by what its name has before.
+///
+/// # Errors
+///
+/// `NoMemory` where the list of its blocks finds no room.
+fn begin_version(
+    alloc: Global,
+    versions: &Slab<LiveVersion>,
+    kind: Kind,
+    prime: Prime,
+    before: Option<usize>,
+) -> Result<PendingVersion, NoMemory>
+    requires there { is_update kind ≡ true → (key : ℕ) × (before ≡ Some key) × IsSome (slot versions.now.slots key) }
+    requires few { IfSome before (λ key. IfSome (slot versions.now.slots key)
+        (λ v. length v.version.blocks ≤ most_blocks)) }
+    ensures { IfOk result (λ p. p ≡ begun kind prime (version_before versions.now.slots before)) }
+{
+    if kind.is_update() {
+        let Some(key) = before else {
+            unreachable!() // there is a file
+        };
+        let Some(live) = versions.get(key) else {
+            unreachable!() // with a version
+        };
+        return begin_from(alloc, kind, prime, live);
+    }
+    Ok(PendingVersion {
+        prime,
+        version: Version::new(alloc),
+        kind,
+        kept_blocks: 0,
+    })
+}
+
+/// Begins a version in core: of a new file, or one that will take the place of the file with this name. No block is
+/// taken yet; an update and an append hold those of the file.
+///
+/// # Errors
+///
+/// `Refused` with `NoDirectory` where the directory isn't there, with `NameExists` or `NotFound` where the name is
+/// there or isn't against its kind, and with `NoRoom` where what it costs exceeds the room; `NoMemory` where core can't
+/// grow. All is as before then.
+pub fn begin_in_core(
+    core: &mut LiveMap,
+    alloc: Global,
+    kind: Kind,
+    prime: Prime,
+) -> Result<usize, CallError>
     requires whole { IsWholeCore core.old.table.size (core_of core.old) }
-    ensures begun { IfOk result (λ key. IsBegun (core_of core.old) (core_of core.new) key prime) }
+    ensures begun { IfOk result (λ key. IsBegun (core_of core.old) (core_of core.new) key kind prime) }
     ensures same { OnErr result (core_of core.new ≡ core_of core.old) }
     ensures whole { IsWholeCore core.new.table.size (core_of core.new) }
+    // Which refusal comes when.
     ensures absent { IsErrOf result (Refused NoDirectory)
         ↔ (find nat_cmp prime.ppn (core_of core.old).known.master.entries ≡ None) }
-    ensures room { (d : KnownDirectory) → IsDirectoryOf (core_of core.old) prime.ppn d
+    ensures exists { (d : KnownDirectory) → IsDirectoryOf (core_of core.old) prime.ppn d
+        → (IsErrOf result (Refused NameExists) ↔ ((is_create kind ≡ true) × (is_absent prime.file d ≡ false))) }
+    ensures not_found { (d : KnownDirectory) → IsDirectoryOf (core_of core.old) prime.ppn d
+        → (IsErrOf result (Refused NotFound) ↔ ((is_create kind ≡ false) × (is_absent prime.file d ≡ true))) }
+    ensures room { (d : KnownDirectory) → IsDirectoryOf (core_of core.old) prime.ppn d → (old : Before)
+        → IsNamed d prime.file old → is_create kind ≡ is_none old
         → (IsErrOf result (Refused NoRoom)
-        ↔ (space core.old.table.size < core.old.table.booked + begin_cost (is_absent prime.file d)
-        (entries_with (core_of core.old) d prime.ppn))) }
-    ensures codes { (code : ErrorCode) → IsErrOf result (Refused code) → (code ≡ NoDirectory) ⊎ (code ≡ NoRoom) }
+        ↔ (space core.old.table.size < core.old.table.booked + begin_cost kind
+        (entries_with (core_of core.old) d prime.ppn) old)) }
+    ensures codes { (code : ErrorCode) → IsErrOf result (Refused code) → IsBeginRefusal code }
     ensures plain { (IsErrOf result Device → ⊥) × (IsErrOf result Failed → ⊥) }
 {
+    let _booked = core.table.booked(); // any table is one as it should be
+    let before = find_before(core, prime.ppn, &prime.file)?;
+    if let Some(code) = misfit(kind, before) {
+        return Err(CallError::Refused(code));
+    }
     let place = directory_place(&core.master, prime.ppn)?;
-    let is_new = core.directories[place].chain.find(&prime.file).is_none();
-    let cost = begin_cost(core, place, prime.ppn, is_new);
+    let cost = begin_cost(core, place, prime.ppn, kind, before);
     if !core.table.can_book(cost) {
         return Err(CallError::Refused(ErrorCode::NoRoom));
     }
-    let version = PendingVersion {
-        prime,
-        version: Version::new(alloc),
-        is_new,
-    };
-    let Ok(key) = core.pending.insert(version) else {
+    // Memory first, so that a refused growth leaves everything alone.
+    let Ok(version) = begin_version(alloc, &core.versions, kind, prime, before) else {
         return Err(CallError::NoMemory);
     };
+    if core.pending.reserve(1).is_err() {
+        return Err(CallError::NoMemory);
+    }
+    hold_all(&mut core.table, version.version.blocks());
     core.table.book(cost);
-    Ok(key)
+    Ok(core.pending.insert_reserved(version))
 }
 
 impl<D: Disk> Volume<D> {
-    /// Begins to write a version of the file of a place (that of `prime`): a new file, or one that will take
-    /// the place of the file with this name. No block is taken yet; what the version costs without words is
-    /// booked. Answers what the caller knows it by until it is discarded.
+    /// Begins to write a version of the file of a place (that of `prime`): a new file, or one that will take the place
+    /// of the file with this name. A creation and a superseding version begin with no words, and `prime` is what will
+    /// be said of them; an update and an append begin with the file as it is now, its words, protection, mode and
+    /// moment, of which they share all blocks until words are put. What the version costs is booked, in full where
+    /// blocks are shared. Answers what the caller knows it by until it is published or discarded.
     ///
     /// # Errors
     ///
-    /// `Failed` where the volume failed before. `Refused` with `NoDirectory` where there is no such directory,
-    /// and with `NoRoom` where the prime block, and one block more where the directory has to grow, exceed the
-    /// room; `NoMemory` where core can't grow. All is as before then.
-    pub fn begin(&mut self, alloc: Global, prime: Prime) -> Result<Pending, CallError>
-        ensures begun { IfOk result (λ pending. IsBegun self.old.core self.new.core pending.key prime) }
+    /// `Failed` where the volume failed before. `Refused` with `NoDirectory` where there is no such directory, with
+    /// `NameExists` where a file is to be created whose name there is, with `NotFound` where any other kind finds no
+    /// file, and with `NoRoom` where the cost exceeds the room: one block, with one more where the directory has to
+    /// grow for a new entry, or as many as the file costs that is updated; `NoMemory` where core can't grow. All is as
+    /// before then.
+    pub fn begin(&mut self, alloc: Global, kind: Kind, prime: Prime) -> Result<Pending, CallError>
+        ensures begun { IfOk result (λ pending. IsBegun self.old.core self.new.core pending.key kind prime) }
+        // An update and an append begin with the file.
+        ensures file { (D.state self.new.disk).honest → self.old.failed ≡ false → (files : Files File)
+            → RestsAt (D.state self.old.disk) files → is_update kind ≡ true
+            → IfOk result (λ pending. BeginsWithFile (D.state self.old.disk).contents
+            (pending_at self.new.core.pending pending.key) prime.file (get files prime.ppn)) }
         ensures same { OnErr result (self.new.core ≡ self.old.core) }
         ensures untouched { (self.new.disk ≡ self.old.disk) × (self.new.failed ≡ self.old.failed) }
 
@@ -143,17 +298,22 @@ impl<D: Disk> Volume<D> {
         ensures failed { IsErrOf result Failed ↔ IsTrue self.old.failed }
         ensures absent { self.old.failed ≡ false → (IsErrOf result (Refused NoDirectory)
             ↔ (find nat_cmp prime.ppn self.old.core.known.master.entries ≡ None)) }
+        ensures exists { self.old.failed ≡ false → (d : KnownDirectory) → IsDirectoryOf self.old.core prime.ppn d
+            → (IsErrOf result (Refused NameExists) ↔ ((is_create kind ≡ true) × (is_absent prime.file d ≡ false))) }
+        ensures not_found { self.old.failed ≡ false → (d : KnownDirectory) → IsDirectoryOf self.old.core prime.ppn d
+            → (IsErrOf result (Refused NotFound) ↔ ((is_create kind ≡ false) × (is_absent prime.file d ≡ true))) }
         ensures room { self.old.failed ≡ false → (d : KnownDirectory) → IsDirectoryOf self.old.core prime.ppn d
+            → (old : Before) → IsNamed d prime.file old → is_create kind ≡ is_none old
             → (IsErrOf result (Refused NoRoom)
             ↔ (space (D.state self.old.disk).size < self.old.core.known.table.booked
-            + begin_cost (is_absent prime.file d) (entries_with self.old.core d prime.ppn))) }
-        ensures codes { (code : ErrorCode) → IsErrOf result (Refused code) → (code ≡ NoDirectory) ⊎ (code ≡ NoRoom) }
+            + begin_cost kind (entries_with self.old.core d prime.ppn) old)) }
+        ensures codes { (code : ErrorCode) → IsErrOf result (Refused code) → IsBeginRefusal code }
         ensures served { IsErrOf result Device → ⊥ }
     {
         if self.failed {
             return Err(CallError::Failed);
         }
-        let key = begin_in_core(&mut self.map, alloc, prime)?;
+        let key = begin_in_core(&mut self.map, alloc, kind, prime)?;
         Ok(Pending { key })
     }
 }

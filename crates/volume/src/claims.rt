@@ -1,4 +1,4 @@
-ghost use Rattle.std.specs.Prelude.{◌≡◌, ◌↔◌, ◌==◌, ◌&&◌, Some, IsSome, IsTrue};
+ghost use Rattle.std.specs.Prelude.{◌≡◌, ◌↔◌, ◌==◌, ◌&&◌, Some, IsSome, IsTrue, option_map};
 ghost use Rattle.meaning.specs.Stands.{place_of};
 ghost use Rattle.volume.specs.Claims.{claims_at, claims};
 ghost use Rattle.volume.specs.Live.{pending_at};
@@ -6,7 +6,7 @@ ghost use Rattle.volume.specs.declared.pending.PendingVersion.{PendingVersion};
 
 use crate::handles::Pending;
 use crate::map::Volume;
-use crate::pending::PendingVersion;
+use crate::pending::{Kind, PendingVersion};
 use blockdisk::Disk;
 use slab::Slab;
 use words36::{FileName, Ppn};
@@ -31,16 +31,6 @@ fn is_claimed(pending: &Slab<PendingVersion>, ppn: Ppn, file: &FileName) -> bool
     false
 }
 
-/// Whether the version under a key is being written as a new file.
-fn is_new(pending: &Slab<PendingVersion>, key: usize) -> bool
-    ensures { (p : PendingVersion) → pending_at pending.now.slots key ≡ Some p → result ≡ p.is_new }
-{
-    match pending.get(key) {
-        Some(version) => version.is_new,
-        None => false,
-    }
-}
-
 impl<D: Disk> Volume<D> {
     /// Whether a version is being written for a place, also where the volume has failed.
     pub fn is_claimed(&self, ppn: Ppn, file: &FileName) -> bool
@@ -56,11 +46,20 @@ impl<D: Disk> Volume<D> {
         self.map.pending.contains(pending.key)
     }
 
-    /// Whether a version that is being written had no entry of its name when it was begun; `false` where there
-    /// is no version that the caller knows by this.
-    pub fn is_new(&self, pending: Pending) -> bool
-        ensures { (p : PendingVersion) → pending_at self.now.core.pending pending.key ≡ Some p → result ≡ p.is_new }
+    /// How a version began that is being written; `None` where there is no version that the caller knows by this.
+    pub fn kind(&self, pending: Pending) -> Option<Kind>
+        ensures { result ≡ option_map (λ p. p.kind) (pending_at self.now.core.pending pending.key) }
     {
-        is_new(&self.map.pending, pending.key)
+        let version = self.map.pending.get(pending.key)?;
+        Some(version.kind)
+    }
+
+    /// How many of its first blocks a version that is being written has to keep: an append all that it began with, any
+    /// other none. `None` where there is no version that the caller knows by this.
+    pub fn kept_blocks(&self, pending: Pending) -> Option<u32>
+        ensures { result ≡ option_map (λ p. p.kept_blocks) (pending_at self.now.core.pending pending.key) }
+    {
+        let version = self.map.pending.get(pending.key)?;
+        Some(version.kept_blocks)
     }
 }

@@ -16,7 +16,7 @@ ghost use Rattle.volume.specs.Cores.{file_view, master_view};
 ghost use Rattle.volume.specs.Known.{blocks_reached};
 ghost use Rattle.volume.specs.Live.{slot, pending_at, IsWholeCore};
 ghost use Rattle.volume.specs.LiveCores.{core_of};
-ghost use Rattle.volume.specs.Publishing.{ClearsBits, PutsVersionInUse, Retires, left_of, MakesCurrent, IsPlaced};
+ghost use Rattle.volume.specs.Publishing.{ClearsBits, PutsInUse, Retires, TakesPlaces, left_of, MakesCurrent, IsPlaced};
 ghost use Rattle.volume.specs.Publishing.{IsSupplied};
 ghost use Rattle.volume.specs.declared.live.LiveDirectory.{LiveDirectory};
 ghost use Rattle.volume.specs.declared.live.LiveVersion.{LiveVersion};
@@ -59,34 +59,56 @@ fn take_for_chain(table: &mut Table, grows: bool) -> Option<u32>
     }
 }
 
-/// Takes the blocks that a version wants besides its data blocks, and brings all of them into use: their bits are
-/// set, and none is held for it any more. `ribs` is a list with a place for each rib.
-pub(crate) fn use_version(
-    table: &mut Table,
-    version: &mut Version,
-    ribs: Vec<u32>,
-    grows: bool,
-) -> Places
+/// Takes the blocks that a version wants besides its data blocks, and the one by which a chain grows. `ribs` is a list
+/// with a place for each rib.
+fn take_places(table: &mut Table, version: &mut Version, ribs: Vec<u32>, grows: bool) -> Places
     requires sound { IsTable table.old }
     requires fixed { IsFixed table.old }
     requires used { used_in_space table.old + (if grows then 1 else 0) + (1 + length ribs.items) ≤ table.old.booked }
     requires room { table.old.booked ≤ space table.old.size }
-    requires held { (n : ℕ) → times n version.old.blocks ≤ holds table.old n }
-    requires own { (n : ℕ) → 0 < times n version.old.blocks → bit table.old n + holds table.old n ≤ 1 }
     ensures kept { version.new ≡ record version.old { ribs = version.new.ribs } }
     ensures count { length version.new.ribs ≡ length ribs.items }
     ensures grown { length (option_to_list result.grown) ≡ (if grows then 1 else 0) }
-    ensures put_in_use { PutsVersionInUse table.old table.new (option_to_list result.grown) result.at version.new }
+    ensures taken { TakesPlaces table.old table.new (option_to_list result.grown) result.at version.new.ribs }
 {
     let grown = take_for_chain(table, grows);
     let at = take_retrieval_blocks(table, version, ribs);
-    use_block(table, at);
-    bring_all(table, version.ribs());
-    bring_all(table, version.blocks());
+    Places { at, grown }
+}
+
+/// Brings the blocks of a version into use, and the one by which a chain grew: their bits are set, and each is held
+/// once less. No other version has them any more but readers' and others that are being written.
+fn use_version(table: &mut Table, live: &LiveVersion, grown: Option<u32>)
+    requires sound { IsTable table.old }
+    requires held { (n : ℕ) → times n (blocks_reached live.now.at live.now.version ++ option_to_list grown)
+        ≤ holds table.old n }
+    requires clear { (n : ℕ) → bit table.old n
+        + times n (blocks_reached live.now.at live.now.version ++ option_to_list grown) ≤ 1 }
+    ensures { PutsInUse table.old table.new (blocks_reached live.now.at live.now.version ++ option_to_list grown) }
+{
+    use_block(table, live.at);
+    bring_all(table, live.version.ribs());
+    bring_all(table, live.version.blocks());
     if let Some(n) = grown {
         use_block(table, n);
     }
-    Places { at, grown }
+}
+
+/// The same of the version under a key.
+fn use_current(table: &mut Table, versions: &Slab<LiveVersion>, key: usize, grown: Option<u32>)
+    requires sound { IsTable table.old }
+    requires there { IsSome (slot versions.now.slots key) }
+    requires held { (v : LiveVersion) → slot versions.now.slots key ≡ Some v → (n : ℕ)
+        → times n (blocks_reached v.at v.version ++ option_to_list grown) ≤ holds table.old n }
+    requires clear { (v : LiveVersion) → slot versions.now.slots key ≡ Some v → (n : ℕ)
+        → bit table.old n + times n (blocks_reached v.at v.version ++ option_to_list grown) ≤ 1 }
+    ensures { (v : LiveVersion) → slot versions.now.slots key ≡ Some v
+        → PutsInUse table.old table.new (blocks_reached v.at v.version ++ option_to_list grown) }
+{
+    let Some(live) = versions.get(key) else {
+        unreachable!() // there is one
+    };
+    use_version(table, live, grown);
 }
 
 /// Gives a name its entry in a directory in core, with the key of its version. Answers the key of the version that
@@ -215,7 +237,7 @@ pub(crate) fn make_current(
     let _booked = core.table.booked(); // any table is one as it should be
     let place = place_of(&core.master, prime.ppn);
     let grows = takes_block(core, place, &prime.file);
-    let Places { at, grown } = use_version(&mut core.table, &mut version, ribs, grows);
+    let Places { at, grown } = take_places(&mut core.table, &mut version, ribs, grows);
     let entry = file_entry(prime.file, at);
     let current = core.versions.insert_reserved(LiveVersion {
         prime,
@@ -233,7 +255,9 @@ pub(crate) fn make_current(
         grown,
         set,
     );
+    // The bits of blocks that both versions have are cleared with the old one's, and set again.
     retire_before(&mut core.versions, &mut core.table, old);
+    use_current(&mut core.table, &core.versions, current, grown);
     core.table.changes(set);
     current
 }

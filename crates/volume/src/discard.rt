@@ -6,7 +6,7 @@ ghost use Rattle.meaning.specs.Room.{growth};
 ghost use Rattle.alloctab.specs.TableState.{holds};
 ghost use Rattle.volume.specs.Beginning.{entries_with, IsDirectoryOf};
 ghost use Rattle.volume.specs.Known.{KnownDirectory};
-ghost use Rattle.volume.specs.Live.{pending_at, IsWholeCore};
+ghost use Rattle.volume.specs.Live.{pending_at, is_creation, IsWholeCore};
 ghost use Rattle.volume.specs.LiveCores.{core_of};
 ghost use Rattle.volume.specs.declared.pending.PendingVersion.{PendingVersion};
 
@@ -22,17 +22,17 @@ use blockdisk::Disk;
 /// What the directory of a version costs less when it is dropped, which it has been already.
 fn shrinkage(core: &LiveMap, version: &PendingVersion) -> u32
     requires aligned { length core.now.directories.items ≡ length core.now.master.entries }
-    requires there { version.now.is_new ≡ true
+    requires there { is_creation version.now ≡ true
         → find nat_cmp version.now.prime.ppn (core_of core.now).known.master.entries ≡ None → ⊥ }
     requires few { (place : ℕ) (d : KnownDirectory) → slice_get (core_of core.now).known.directories place ≡ Some d
         → entries_with (core_of core.now) d version.now.prime.ppn < 2 ^ 64 }
-    ensures none { version.now.is_new ≡ false → result ≡ 0 }
-    ensures value { version.now.is_new ≡ true → (d : KnownDirectory)
+    ensures none { is_creation version.now ≡ false → result ≡ 0 }
+    ensures value { is_creation version.now ≡ true → (d : KnownDirectory)
         × IsDirectoryOf (core_of core.now) version.now.prime.ppn d
         × (result ≡ growth (entries_with (core_of core.now) d version.now.prime.ppn)) }
     ensures few { result < 2 }
 {
-    if !version.is_new {
+    if !version.kind.is_create() {
         return 0;
     }
     match directory_place(&core.master, version.prime.ppn) {

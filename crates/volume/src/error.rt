@@ -1,6 +1,7 @@
 ghost use Rattle.std.specs.Prelude.{◌≡◌};
 
 use blockdisk::NoMemory;
+use directory::DirectoryError;
 use meaning::ErrorCode;
 use thiserror::Error;
 
@@ -49,6 +50,21 @@ impl From<NoMemory> for VolumeError {
 
     fn from(_refused: NoMemory) -> VolumeError {
         VolumeError::NoMemory
+    }
+}
+
+impl From<DirectoryError> for VolumeError {
+    ghost use Rattle.volume.specs.FaultsFound.{error_of_chain};
+
+    ghost from_gives = { λ refused error. error ≡ error_of_chain refused };
+
+    fn from(refused: DirectoryError) -> VolumeError {
+        match refused {
+            DirectoryError::BadDirectory(n) => VolumeError::BadDirectory(n),
+            DirectoryError::BlockTwice(n) => VolumeError::BlockTwice(n),
+            DirectoryError::Device => VolumeError::Device,
+            DirectoryError::NoMemory => VolumeError::NoMemory,
+        }
     }
 }
 

@@ -21,10 +21,10 @@
 //!    and map as they were. After `Device` the volume has failed, and no other answer changes whether it has.
 //!    But for `Device` no block changes of a version that is read or being written. (`crash`, `done`, `refused`,
 //!    `device`, `still`, `kept`, `readers`, `writers`)
-//! 7. `pin` holds the version that a file has, and `unpin` lets it go; `begin` books what a version costs
-//!    without words, and `discard` gives back what is booked and held for it. None of them touches the disk.
-//!    `get_words` gives the words of a version that is pinned or being written, and writes nothing. (`value`,
-//!    `pinned`, `gone`, `begun`, `words`, `reads`, `untouched`)
+//! 7. `pin` holds the version that a file has, and `unpin` lets it go; `begin` books what a version costs as it
+//!    begins, without words or with those of its file, whose blocks it shares, and `discard` gives back what is booked
+//!    and held for it. None of them touches the disk. `get_words` gives the words of a version that is pinned or being
+//!    written, and writes nothing. (`value`, `pinned`, `gone`, `begun`, `file`, `words`, `reads`, `untouched`)
 //! 8. `put_words` writes blocks that no file and no other version has: whatever a crash leaves at any moment of
 //!    it stands for the files from before. At Ok the version has its body with the words put; after a refusal
 //!    and after `NoMemory` all is as before. (`quiet`, `rests`, `put`, `others`, `kept`, `readers`, `writers`)
@@ -78,4 +78,5 @@ pub use files::StoredVersion;
 pub use handles::{Pending, Pin, VersionHandle};
 pub use map::{DiskMap, StoredDirectory, Volume};
 pub use meaning::layout::{LARGEST_VOLUME, SMALLEST_VOLUME};
+pub use pending::Kind;
 pub use start::read_volume;

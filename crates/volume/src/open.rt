@@ -29,7 +29,7 @@ use crate::map::{DiskMap, StoredDirectory};
 use crate::read::read_directories;
 use alloctab::{Reached, Table, TableError};
 use blockdisk::Disk;
-use directory::{Chain, DirectoryError, MasterEntry};
+use directory::{Chain, MasterEntry};
 use std::alloc::Global;
 
 /// Reads the chain of the master directory that begins in block `first`.
@@ -70,10 +70,7 @@ fn load_master<D: Disk>(
 {
     match Chain::load(alloc, disk, first, reached) {
         Ok(chain) => Ok(chain),
-        Err(DirectoryError::BadDirectory(n)) => Err(VolumeError::BadDirectory(n)),
-        Err(DirectoryError::BlockTwice(n)) => Err(VolumeError::BlockTwice(n)),
-        Err(DirectoryError::Device) => Err(VolumeError::Device),
-        Err(DirectoryError::NoMemory) => Err(VolumeError::NoMemory),
+        Err(error) => Err(VolumeError::from(error)),
     }
 }
 

@@ -30,7 +30,7 @@ use words36::{FileName, Ppn};
 /// # Errors
 ///
 /// `Refused(NoDirectory)` where there is no such directory, `Refused(NotFound)` where it has no such file.
-fn find_version(map: &LiveMap, ppn: Ppn, name: &FileName) -> Result<usize, CallError>
+pub(crate) fn find_version(map: &LiveMap, ppn: Ppn, name: &FileName) -> Result<usize, CallError>
     requires whole { IsWholeCore map.now.table.size (core_of map.now) }
     ensures found { IfOk result (IsKeyOf (core_of map.now) ppn name.now) }
     ensures none { IfErr result (IsNoFile (core_of map.now) ppn name.now) }

@@ -26,7 +26,7 @@ use crate::files::{StoredVersion, read_file};
 use crate::map::StoredDirectory;
 use alloctab::Reached;
 use blockdisk::Disk;
-use directory::{Chain, DirectoryError, FileEntry, MasterEntry};
+use directory::{Chain, FileEntry, MasterEntry};
 use std::alloc::Global;
 use words36::Ppn;
 
@@ -68,10 +68,7 @@ fn load_files<D: Disk>(
 {
     match Chain::load(alloc, disk, first, reached) {
         Ok(chain) => Ok(chain),
-        Err(DirectoryError::BadDirectory(n)) => Err(VolumeError::BadDirectory(n)),
-        Err(DirectoryError::BlockTwice(n)) => Err(VolumeError::BlockTwice(n)),
-        Err(DirectoryError::Device) => Err(VolumeError::Device),
-        Err(DirectoryError::NoMemory) => Err(VolumeError::NoMemory),
+        Err(error) => Err(VolumeError::from(error)),
     }
 }
 

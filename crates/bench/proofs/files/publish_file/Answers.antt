@@ -1,4 +1,4 @@
-use Rattle.std.proofs.Common.{◌≡◌, ℕ, ◌+◌, List, [], ◌∷◌, ◌++◌, length, refl, sym, ap, subst, ◌∙◌}
+use Rattle.std.proofs.Common.{◌≡◌, ℕ, ◌+◌, List, [], ◌∷◌, ◌++◌, Some, length, refl, sym, ap, subst, ◌∙◌}
 use Rattle.std.proofs.lemmas.List.{append-nil}
 use Rattle.std.proofs.Math.Seq.{drop-nil}
 use Rattle.blockdisk.specs.Disk.{Contents}
@@ -7,6 +7,7 @@ use Rattle.meaning.specs.Splices.{splice, block_start}
 use Rattle.meaning.proofs.SpliceLaws.{length-splice}
 use Rattle.volume.specs.Publishing.{file_of, files_published}
 use Rattle.volume.specs.Rest.{RestsAt}
+use Rattle.volume.proofs.Beginnings.{begun_bare}
 use Rattle.bench.proofs.files.publish_file.Goals as goal
 
 -- Words put at the first block of an empty body are the body.
@@ -25,7 +26,10 @@ returns g c = record {
       let begun = g.D.Disk.state c.begin.new.self.disk.inner in
       let h' = c.publish.ensures.same.was_honest h in
       let rests' = subst (λ d. RestsAt (g.D.Disk.state d.inner) f) (sym same) rests in
-      let put = c.in_ok-put_words.ensures.put _ c.in_ok-pending.ensures.begun.here in
+      let begins = c.in_ok-pending.ensures.begun in
+      let here = begins.here ∙ ap Some (sym (begun_bare c.kind_at-kind.result c.args.prime begins.old
+      c.kind_at-kind.ensures.bare)) in
+      let put = c.in_ok-put_words.ensures.put _ here in
       let body = splice [] 1 c.args.words.now in
       subst (λ (words : List ℕ). RestsAt (g.D.Disk.state c.publish.new.self.disk.inner)
       (files_published f c.args.prime.ppn c.args.prime.file (file_of c.args.prime words)))

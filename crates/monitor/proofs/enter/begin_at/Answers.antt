@@ -1,4 +1,5 @@
-use Rattle.std.proofs.Common.{◌≡◌, ℕ, subst, Err}
+use Rattle.std.proofs.Common.{◌≡◌, ◌∙◌, ℕ, ap, subst, Err}
+use Rattle.words36.specs.declared.names.FileName.{FileName}
 use Rattle.meaning.specs.Codes.{number_of}
 use Rattle.meaning.specs.Looking.{place_at}
 use Rattle.meaning.specs.Published.{without_serials}
@@ -9,7 +10,7 @@ use Rattle.monitor.specs.Finding.{IsAnswer, begin_answer_at}
 use Rattle.monitor.specs.Serving.{pack_of}
 use Rattle.monitor.specs.Sides.{job_of}
 use Rattle.monitor.proofs.Answering.{contrary}
-use Rattle.monitor.proofs.Entering.{at_place, no_owner, refused, begun_at, not_begun_at}
+use Rattle.monitor.proofs.Entering.{at_place, no_owner, refused, may_begin_at, begun_at, not_begun_at}
 use Rattle.monitor.proofs.enter.begin_at.Goals as goal
 
 pub returns-in_default-clause-answered : goal.returns-in_default-clause-answered
@@ -35,27 +36,35 @@ returns-in-Ok-begin-clause-answered g c h alive s known w =
     let was = subst (λ disk. (g.D.Disk.state disk).honest) c.begin.ensures.untouched.0 h in
     let d = g.D.Disk.state c.args.volume.now.disk in
     let map = c.args.volume.now.core in
-    subst (λ p. begin_answer_at (pack_of d) s (job_of w c.args.job.now) p
-    ≡ Done) (at_place w c.args.job.now c.args.address c.in-Some.ppn c.name_at-file.result c.in-Some.ensures.there
-    c.name_at-file.ensures.0 c.name_at-file.ensures.1)
-    (begun_at d map s known (subst (IsSound d map) alive c.requires.sound) was w c.args.job.now c.in-Some.ppn
-    c.name_at-file.result c.in-Ok.found c.prime_for-prime.result c.begin.result c.prime_for-prime.ensures.ppn
-    c.prime_for-prime.ensures.file
-    (c.in-Ok.ensures.found was alive (without_serials s.files) known.files)
-    (c.begin.ensures.room alive) c.in-Ok-begin.pending c.in-Ok-begin.is)
+    let prime = c.prime_for-prime.result in
+    let sound = subst (IsSound d map) alive c.requires.sound in
+    subst (λ p. begin_answer_at (pack_of d) s (job_of w c.args.job.now) p ≡ Done)
+    (at_place w c.args.job.now c.args.address prime.ppn prime.file
+    (c.prime_for-prime.ensures.ppn ∙ c.in-Some.ensures.there)
+    (ap (λ (x : FileName). x.name) c.prime_for-prime.ensures.file ∙ c.name_at-file.ensures.0)
+    (ap (λ (x : FileName). x.ext) c.prime_for-prime.ensures.file ∙ c.name_at-file.ensures.1))
+    (begun_at d map s known sound was w c.args.job.now c.in-Ok.found c.kind_for.result prime c.begin.result
+    (may_begin_at d map s known sound was c.in-Ok.found c.args.job.now c.in-Some.ppn c.name_at-file.result prime
+    c.prime_for-prime.ensures.ppn c.prime_for-prime.ensures.file
+    (c.in-Ok.ensures.found was alive (without_serials s.files) known.files))
+    c.kind_for.ensures (c.begin.ensures.room alive) c.in-Ok-begin.pending c.in-Ok-begin.is)
 
 pub returns-in-Err-begin-clause-answered : goal.returns-in-Err-begin-clause-answered
 returns-in-Err-begin-clause-answered g c h alive s known w =
     let was = subst (λ disk. (g.D.Disk.state disk).honest) c.begin.ensures.untouched.0 h in
     let d = g.D.Disk.state c.args.volume.now.disk in
     let map = c.args.volume.now.core in
+    let prime = c.prime_for-prime.result in
+    let sound = subst (IsSound d map) alive c.requires.sound in
     subst (λ p. IsAnswer {X = ℕ} (Err c.in-Err-begin.error) (begin_answer_at (pack_of d) s (job_of w c.args.job.now) p))
-    (at_place w c.args.job.now c.args.address c.in-Some.ppn c.name_at-file.result c.in-Some.ensures.there
-    c.name_at-file.ensures.0 c.name_at-file.ensures.1)
-    (not_begun_at d map s known (subst (IsSound d map) alive c.requires.sound) was w c.args.job.now c.in-Some.ppn
-    c.name_at-file.result c.in-Ok.found c.prime_for-prime.result c.begin.result c.prime_for-prime.ensures.ppn
-    c.prime_for-prime.ensures.file
-    (c.in-Ok.ensures.found was alive (without_serials s.files) known.files)
-    (c.begin.ensures.room alive) ℕ c.in-Err-begin.error c.in-Err-begin.is
-    (c.begin.ensures.absent alive).0 c.begin.ensures.codes c.begin.ensures.served
-    (λ e. contrary alive (c.begin.ensures.failed.0 e)))
+    (at_place w c.args.job.now c.args.address prime.ppn prime.file
+    (c.prime_for-prime.ensures.ppn ∙ c.in-Some.ensures.there)
+    (ap (λ (x : FileName). x.name) c.prime_for-prime.ensures.file ∙ c.name_at-file.ensures.0)
+    (ap (λ (x : FileName). x.ext) c.prime_for-prime.ensures.file ∙ c.name_at-file.ensures.1))
+    (not_begun_at d map s known sound was w c.args.job.now c.in-Ok.found c.kind_for.result prime c.begin.result
+    (may_begin_at d map s known sound was c.in-Ok.found c.args.job.now c.in-Some.ppn c.name_at-file.result prime
+    c.prime_for-prime.ensures.ppn c.prime_for-prime.ensures.file
+    (c.in-Ok.ensures.found was alive (without_serials s.files) known.files))
+    c.kind_for.ensures (c.begin.ensures.room alive) ℕ c.in-Err-begin.error c.in-Err-begin.is
+    (c.begin.ensures.absent alive).0 (c.begin.ensures.exists alive) (c.begin.ensures.not_found alive)
+    c.begin.ensures.codes c.begin.ensures.served (λ e. contrary alive (c.begin.ensures.failed.0 e)))

@@ -2,7 +2,7 @@ use Rattle.std.proofs.Common.{◌+◌, ◌∙◌, ℕ, refl, sym, ap, subst, Som
 use Rattle.meaning.specs.Codes.{number_of}
 use Rattle.meaning.specs.Cores.{with_right}
 use Rattle.meaning.specs.declared.call.Reply.TheVariants.{Refused}
-use Rattle.volume.specs.Beginning.{begun, is_absent}
+use Rattle.volume.specs.Beginning.{begun}
 use Rattle.meaning.specs.Looking.{place_at}
 use Rattle.monitor.specs.Finding.{IsAnswer, begin_answer_at}
 use Rattle.monitor.specs.Sides.{job_of}
@@ -21,11 +21,14 @@ returns-in-Ok-clause-begun g c is = (
     there = sym c.channel.ensures ∙ c.in-Some.is;
     free = no_side c.in-Some.channel.output (sym c.is_some-else-is_some.ensures ∙ c.if-is_some-2.false);
     unread = no_side c.in-Some.channel.input (sym c.is_some.ensures ∙ c.if-is_some.false);
-    begun = c.in-Ok.ensures.begun;
+    begins = c.in-Ok.ensures.begun.0;
+    bare = c.in-Ok.ensures.begun.1;
+    begun = c.in-Ok.ensures.begun.2;
     at = c.in-Ok.ensures.prime;
     kind = c.kind_of.result;
-    kind_is = c.kind_of.ensures (begun c.in-Ok.prime (is_absent c.in-Ok.prime.file c.in-Ok.ensures.begun.directory))
-        c.in-Ok.ensures.begun.here;
+    kind_is = sym c.in-Ok.ensures.begun.2.is_new
+        ∙ c.kind_of.ensures (begun c.in-Ok.ensures.begun.0 c.in-Ok.prime c.in-Ok.ensures.begun.2.old)
+        c.in-Ok.ensures.begun.2.here;
     job_is = c.set_channel.ensures ∙ (λ i. record c.args.job.now {
       core = c.put_attributes.ensures i;
       channels = slice_set c.args.job.now.channels c.args.number
@@ -75,8 +78,8 @@ returns-in-Err-NoMemory-clause-row g c h unread s known w =
 
 pub returns-in-Ok-clause-placed : goal.returns-in-Ok-clause-placed
 returns-in-Ok-clause-placed g c placed =
-    placed_begun c.args.volume.now.core c.begin_at.new.volume.core c.in-Ok.pending.key c.in-Ok.prime
-    c.in-Ok.ensures.begun c.in-Ok.ensures.free.0 c.in-Ok.ensures.free.1 placed
+    placed_begun c.args.volume.now.core c.begin_at.new.volume.core c.in-Ok.pending.key c.in-Ok.ensures.begun.0
+    c.in-Ok.prime c.in-Ok.ensures.begun.2 c.in-Ok.ensures.free.0 c.in-Ok.ensures.free.1 placed
 
 pub returns-in-Ok-clause-reads : goal.returns-in-Ok-clause-reads
 returns-in-Ok-clause-reads g c =

@@ -1,11 +1,50 @@
-use Rattle.std.proofs.Common.{◌+◌, Bool, ℕ, Some, refl, sym, ap, subst, ◌∙◌, arith}
-use Rattle.alloctab.specs.TableState.{TableState}
-use Rattle.volume.specs.Beginning.{begin_cost, entries_with, begun}
-use Rattle.volume.specs.Live.{IsWholeCore}
+use Rattle.std.proofs.Common.{◌≡◌, ◌+◌, ◌<◌, ℕ, is_none, Some, refl, sym, ap, subst, ◌∙◌, arith}
+use Rattle.meaning.specs.Maps.{times}
+use Rattle.alloctab.specs.TableState.{TableState, holds}
+use Rattle.volume.specs.Beginning.{begin_cost, entries_with, begun, begun_version, is_absent, version_before}
+use Rattle.volume.specs.Live.{pending_at, is_create, IsWholeCore}
 use Rattle.volume.specs.LiveCores.{core_of, live_directory}
-use Rattle.volume.proofs.Beginnings.{directory_at, absent_is, cost_is, no_room, begun_whole}
+use Rattle.volume.specs.declared.live.LiveMap.{LiveMap}
+use Rattle.volume.specs.declared.pending.PendingVersion.{PendingVersion}
+use Rattle.volume.proofs.Beginnings.{absent_same, not_there, not_absent, before_same, cost_is, misfit_exists}
+use Rattle.volume.proofs.Beginnings.{misfit_absent, misfit_not, no_room, begun_inside, begun_once, begun_whole}
+use Rattle.volume.proofs.Beginnings.{known_place, named_here, before_none, has_version, fits_before, begun_hold}
 use Rattle.volume.proofs.Growing.{Adds, entries_few}
 use Rattle.volume.proofs.begin.begin_in_core.Goals as goal
+
+pub returns-in-Some-clause-exists : goal.returns-in-Some-clause-exists
+returns-in-Some-clause-exists c d there =
+    let m = c.args.core.now in
+    let size = m.table.size in
+    let core = core_of m in
+    let o = c.in_ok-before.before in
+    let is = c.in_ok-before.ensures.before in
+    let whole = c.requires.whole in
+    misfit_exists (is_create c.args.kind) (is_none o) (is_absent c.args.prime.file d) c.in-Some.code
+    (absent_same size core whole c.args.kind c.args.prime o is d there) c.in-Some.ensures
+
+pub returns-in-Some-clause-not_found : goal.returns-in-Some-clause-not_found
+returns-in-Some-clause-not_found c d there =
+    let m = c.args.core.now in
+    let size = m.table.size in
+    let core = core_of m in
+    let o = c.in_ok-before.before in
+    let is = c.in_ok-before.ensures.before in
+    let whole = c.requires.whole in
+    misfit_absent (is_create c.args.kind) (is_none o) (is_absent c.args.prime.file d) c.in-Some.code
+    (absent_same size core whole c.args.kind c.args.prime o is d there) c.in-Some.ensures
+
+pub returns-in-Some-clause-room : goal.returns-in-Some-clause-room
+returns-in-Some-clause-room c d there prior named fits =
+    let m = c.args.core.now in
+    let size = m.table.size in
+    let core = core_of m in
+    let o = c.in_ok-before.before in
+    let is = c.in_ok-before.ensures.before in
+    let whole = c.requires.whole in
+    let no = misfit_not (is_create c.args.kind) (is_none o) c.in-Some.code c.in-Some.ensures
+    (fits_before size core whole c.args.kind c.args.prime o is d there prior named fits) in
+    (λ any. absurd no, λ more. absurd no)
 
 pub begin_cost-cost-requires-clause-few : goal.begin_cost-cost-requires-clause-few
 begin_cost-cost-requires-clause-few c d at =
@@ -13,105 +52,295 @@ begin_cost-cost-requires-clause-few c d at =
     d c.requires.whole at in
     omega arith
 
-pub returns-then-not-can_book-clause-room : goal.returns-then-not-can_book-clause-room
-returns-then-not-can_book-clause-room c d there =
-    let core = c.args.core.now in
-    let e = live_directory core.versions.slots c.index.result.now in
-    let stands = c.in_ok-place.ensures.found in
-    let at = directory_at core.table.size core c.args.prime.ppn c.in_ok-place.place stands.0 c.index.result.now
-    c.requires.whole stands.1 c.index.ensures in
-    let new = absent_is c.find.result c.is_none-is_new.result c.args.prime.file e.chain.entries c.find.ensures.found
-    c.find.ensures.none c.is_none-is_new.ensures in
-    let cost = cost_is core.table.size (core_of core) c.args.prime c.in_ok-place.place stands.0 d e
-    c.is_none-is_new.result c.begin_cost-cost.result c.requires.whole there stands.1.is at new
-    (c.begin_cost-cost.ensures.value e at) in
-    let full = no_room _ _ _ c.can_book.result c.can_book.ensures c.if-not-can_book.true in
-    (λ is. omega arith, λ more. refl)
+pub returns-then-not-can_book-clause-exists : goal.returns-then-not-can_book-clause-exists
+returns-then-not-can_book-clause-exists c d there =
+    let m = c.args.core.now in
+    let size = m.table.size in
+    let core = core_of m in
+    let o = c.in_ok-before.before in
+    let is = c.in_ok-before.ensures.before in
+    let whole = c.requires.whole in (
+      λ any. cc,
+      λ both. absurd (not_there size core whole c.args.kind c.args.prime o is d there c.in_default.ensures
+          both),
+    )
 
-pub returns-in_default-clause-room : goal.returns-in_default-clause-room
-returns-in_default-clause-room c d there =
-    let core = c.args.core.now in
-    let e = live_directory core.versions.slots c.index.result.now in
+pub returns-then-not-can_book-clause-not_found : goal.returns-then-not-can_book-clause-not_found
+returns-then-not-can_book-clause-not_found c d there =
+    let m = c.args.core.now in
+    let size = m.table.size in
+    let core = core_of m in
+    let o = c.in_ok-before.before in
+    let is = c.in_ok-before.ensures.before in
+    let whole = c.requires.whole in (
+      λ any. cc,
+      λ both. absurd (not_absent size core whole c.args.kind c.args.prime o is d there c.in_default.ensures
+          both),
+    )
+
+pub returns-then-not-can_book-clause-room : goal.returns-then-not-can_book-clause-room
+returns-then-not-can_book-clause-room c d there prior named fits =
+    let m = c.args.core.now in
+    let size = m.table.size in
+    let core = core_of m in
+    let o = c.in_ok-before.before in
+    let is = c.in_ok-before.ensures.before in
+    let whole = c.requires.whole in
     let stands = c.in_ok-place.ensures.found in
-    let at = directory_at core.table.size core c.args.prime.ppn c.in_ok-place.place stands.0 c.index.result.now
-    c.requires.whole stands.1 c.index.ensures in
-    let new = absent_is c.find.result c.is_none-is_new.result c.args.prime.file e.chain.entries c.find.ensures.found
-    c.find.ensures.none c.is_none-is_new.ensures in
-    let cost = cost_is core.table.size (core_of core) c.args.prime c.in_ok-place.place stands.0 d e
-    c.is_none-is_new.result c.begin_cost-cost.result c.requires.whole there stands.1.is at new
-    (c.begin_cost-cost.ensures.value e at) in
-    let fits = c.can_book.ensures.0 c.if-not-can_book.false in
-    (λ is. cc, λ more. absurd (omega arith))
+    let e = known_place m whole c.args.prime.ppn c.in_ok-place.place stands.0 stands.1 in
+    let cost = cost_is size core whole c.args.kind c.args.prime o is d there c.in_ok-place.place stands.0 e.0
+    c.begin_cost-cost.result stands.1.is e.1
+    (c.begin_cost-cost.ensures.value e.0 e.1) prior named in
+    let full = no_room _ _ _ c.can_book.result c.can_book.ensures c.if-not-can_book.true in
+    (λ any. omega arith, λ more. refl)
+
+pub returns-in_default-begin_version-clause-exists : goal.returns-in_default-begin_version-clause-exists
+returns-in_default-begin_version-clause-exists c d there =
+    let m = c.args.core.now in
+    let size = m.table.size in
+    let core = core_of m in
+    let o = c.in_ok-before.before in
+    let is = c.in_ok-before.ensures.before in
+    let whole = c.requires.whole in (
+      λ any. cc,
+      λ both. absurd (not_there size core whole c.args.kind c.args.prime o is d there c.in_default.ensures
+          both),
+    )
+
+pub returns-in_default-begin_version-clause-not_found : goal.returns-in_default-begin_version-clause-not_found
+returns-in_default-begin_version-clause-not_found c d there =
+    let m = c.args.core.now in
+    let size = m.table.size in
+    let core = core_of m in
+    let o = c.in_ok-before.before in
+    let is = c.in_ok-before.ensures.before in
+    let whole = c.requires.whole in (
+      λ any. cc,
+      λ both. absurd (not_absent size core whole c.args.kind c.args.prime o is d there c.in_default.ensures
+          both),
+    )
+
+pub returns-in_default-begin_version-clause-room : goal.returns-in_default-begin_version-clause-room
+returns-in_default-begin_version-clause-room c d there prior named fits =
+    let m = c.args.core.now in
+    let size = m.table.size in
+    let core = core_of m in
+    let o = c.in_ok-before.before in
+    let is = c.in_ok-before.ensures.before in
+    let whole = c.requires.whole in
+    let stands = c.in_ok-place.ensures.found in
+    let e = known_place m whole c.args.prime.ppn c.in_ok-place.place stands.0 stands.1 in
+    let cost = cost_is size core whole c.args.kind c.args.prime o is d there c.in_ok-place.place stands.0 e.0
+    c.begin_cost-cost.result stands.1.is e.1
+    (c.begin_cost-cost.ensures.value e.0 e.1) prior named in
+    let room = c.can_book.ensures.0 c.if-not-can_book.false in
+    (λ any. cc, λ more. absurd (omega arith))
+
+pub returns-then-is_err-clause-exists : goal.returns-then-is_err-clause-exists
+returns-then-is_err-clause-exists c d there =
+    let m = c.args.core.now in
+    let size = m.table.size in
+    let core = core_of m in
+    let o = c.in_ok-before.before in
+    let is = c.in_ok-before.ensures.before in
+    let whole = c.requires.whole in (
+      λ any. cc,
+      λ both. absurd (not_there size core whole c.args.kind c.args.prime o is d there c.in_default.ensures
+          both),
+    )
+
+pub returns-then-is_err-clause-not_found : goal.returns-then-is_err-clause-not_found
+returns-then-is_err-clause-not_found c d there =
+    let m = c.args.core.now in
+    let size = m.table.size in
+    let core = core_of m in
+    let o = c.in_ok-before.before in
+    let is = c.in_ok-before.ensures.before in
+    let whole = c.requires.whole in (
+      λ any. cc,
+      λ both. absurd (not_absent size core whole c.args.kind c.args.prime o is d there c.in_default.ensures
+          both),
+    )
+
+pub returns-then-is_err-clause-room : goal.returns-then-is_err-clause-room
+returns-then-is_err-clause-room c d there prior named fits =
+    let m = c.args.core.now in
+    let size = m.table.size in
+    let core = core_of m in
+    let o = c.in_ok-before.before in
+    let is = c.in_ok-before.ensures.before in
+    let whole = c.requires.whole in
+    let stands = c.in_ok-place.ensures.found in
+    let e = known_place m whole c.args.prime.ppn c.in_ok-place.place stands.0 stands.1 in
+    let cost = cost_is size core whole c.args.kind c.args.prime o is d there c.in_ok-place.place stands.0 e.0
+    c.begin_cost-cost.result stands.1.is e.1
+    (c.begin_cost-cost.ensures.value e.0 e.1) prior named in
+    let room = c.can_book.ensures.0 c.if-not-can_book.false in
+    (λ any. cc, λ more. absurd (omega arith))
+
+pub returns-clause-exists : goal.returns-clause-exists
+returns-clause-exists c d there =
+    let m = c.args.core.now in
+    let size = m.table.size in
+    let core = core_of m in
+    let o = c.in_ok-before.before in
+    let is = c.in_ok-before.ensures.before in
+    let whole = c.requires.whole in (
+      λ any. cc,
+      λ both. absurd (not_there size core whole c.args.kind c.args.prime o is d there c.in_default.ensures
+          both),
+    )
+
+pub returns-clause-not_found : goal.returns-clause-not_found
+returns-clause-not_found c d there =
+    let m = c.args.core.now in
+    let size = m.table.size in
+    let core = core_of m in
+    let o = c.in_ok-before.before in
+    let is = c.in_ok-before.ensures.before in
+    let whole = c.requires.whole in (
+      λ any. cc,
+      λ both. absurd (not_absent size core whole c.args.kind c.args.prime o is d there c.in_default.ensures
+          both),
+    )
+
+pub returns-clause-room : goal.returns-clause-room
+returns-clause-room c d there prior named fits =
+    let m = c.args.core.now in
+    let size = m.table.size in
+    let core = core_of m in
+    let o = c.in_ok-before.before in
+    let is = c.in_ok-before.ensures.before in
+    let whole = c.requires.whole in
+    let stands = c.in_ok-place.ensures.found in
+    let e = known_place m whole c.args.prime.ppn c.in_ok-place.place stands.0 stands.1 in
+    let cost = cost_is size core whole c.args.kind c.args.prime o is d there c.in_ok-place.place stands.0 e.0
+    c.begin_cost-cost.result stands.1.is e.1
+    (c.begin_cost-cost.ensures.value e.0 e.1) prior named in
+    let room = c.can_book.ensures.0 c.if-not-can_book.false in
+    (λ any. cc, λ more. absurd (omega arith))
+
+pub hold_all-requires-clause-inside : goal.hold_all-requires-clause-inside
+hold_all-requires-clause-inside c n some =
+    let m = c.args.core.now in
+    let size = m.table.size in
+    let core = core_of m in
+    let o = c.in_ok-before.before in
+    let is = c.in_ok-before.ensures.before in
+    let whole = c.requires.whole in
+    let version : c.in-Ok.version ≡ begun c.args.kind c.args.prime (version_before core.live o) = c.in-Ok.ensures in
+    let inside = begun_inside size core whole c.booked-booked.ensures.sound c.args.kind c.args.prime o is n
+    (subst (λ (p : PendingVersion). 0 < times n p.version.blocks) version
+    (subst (λ l. 0 < times n l) c.blocks-2.ensures some)) in
+    inside.below
+
+pub hold_all-requires-clause-fits : goal.hold_all-requires-clause-fits
+hold_all-requires-clause-fits c n =
+    let m = c.args.core.now in
+    let size = m.table.size in
+    let core = core_of m in
+    let o = c.in_ok-before.before in
+    let is = c.in_ok-before.ensures.before in
+    let whole = c.requires.whole in
+    let version : c.in-Ok.version ≡ begun c.args.kind c.args.prime (version_before core.live o) = c.in-Ok.ensures in
+    let few = begun_hold size core whole c.args.kind c.args.prime o is n (c.begin_cost-cost.result)
+    (c.can_book.ensures.0 c.if-not-can_book.false) in
+    let once = begun_once size core whole c.booked-booked.ensures.sound c.args.kind c.args.prime o is n in
+    let same = ap (λ l. times n l) c.blocks-2.ensures ∙ ap (λ (p : PendingVersion). times n p.version.blocks) version in
+    omega arith
 
 pub returns-clause-begun : goal.returns-clause-begun
 returns-clause-begun c =
-    let core = c.args.core.now in
-    let e = live_directory core.versions.slots c.index.result.now in
+    let m = c.args.core.now in
+    let size = m.table.size in
+    let core = core_of m in
+    let o = c.in_ok-before.before in
+    let is = c.in_ok-before.ensures.before in
+    let whole = c.requires.whole in
+    let version : c.in-Ok.version ≡ begun c.args.kind c.args.prime (version_before core.live o) = c.in-Ok.ensures in
     let stands = c.in_ok-place.ensures.found in
-    let at = directory_at core.table.size core c.args.prime.ppn c.in_ok-place.place stands.0 c.index.result.now
-    c.requires.whole stands.1 c.index.ensures in
-    let new = absent_is c.find.result c.is_none-is_new.result c.args.prime.file e.chain.entries c.find.ensures.found
-    c.find.ensures.none c.is_none-is_new.ensures in
-    let cost = c.begin_cost-cost.ensures.value e at
-    ∙ ap (λ (b : Bool). begin_cost b (entries_with (core_of core) e c.args.prime.ppn)) new in
+    let e = known_place m whole c.args.prime.ppn c.in_ok-place.place stands.0 stands.1 in
+    let cost : c.begin_cost-cost.result
+    ≡ begin_cost c.args.kind (entries_with core e.0 c.args.prime.ppn) (version_before core.live o) =
+    c.begin_cost-cost.ensures.value e.0 e.1 in
+    let slots : c.reserve.new.self.slots ≡ m.pending.slots = ap (λ s. s.slots) c.reserve.ensures.rest_kept in
+    let table : c.book.new.self
+    ≡ record m.table { held = c.hold_all.new.table.held; booked = m.table.booked + c.begin_cost-cost.result } =
+    c.book.ensures ∙ (λ i. record (c.hold_all.ensures.rest i) {
+      booked = (c.hold_all.ensures.rest i).booked + c.begin_cost-cost.result;
+    }) in
+    let held : (n : ℕ) → holds c.hold_all.new.table n
+    ≡ holds m.table n + times n (begun_version c.args.kind (version_before core.live o)).blocks = λ n.
+    c.hold_all.ensures.held n
+    ∙ ap (λ l. holds m.table n + times n l) c.blocks-2.ensures
+    ∙ ap (λ (p : PendingVersion). holds m.table n + times n p.version.blocks) version in
     record {
-      directory = e;
-      there = (c.in_ok-place.place, stands.0, stands.1, at);
-      vacant = c.in-Ok.ensures.was_vacant;
-      here = c.in-Ok.ensures.updates.changed
-          ∙ (λ i. Some (record { prime = c.args.prime; version = c.new.ensures i; is_new = new i }));
-      others = c.in-Ok.ensures.updates.others;
+      directory = e.0;
+      there = (c.in_ok-place.place, stands.0, stands.1, e.1);
+      old = version_before core.live o;
+      named = named_here size core whole c.args.kind c.args.prime o is e.0 (
+        c.in_ok-place.place,
+        stands.0,
+        stands.1,
+        e.1,
+      );
+      is_new = c.in_default.ensures ∙ sym (before_none core.live o (has_version size core whole
+          c.booked-booked.ensures.sound c.args.kind c.args.prime o is));
+      vacant = sym (ap (λ ps. pending_at ps c.insert_reserved.result) slots) ∙ c.insert_reserved.ensures.was_vacant;
+      here = c.insert_reserved.ensures.updates.changed ∙ ap Some version;
+      others = λ k other. c.insert_reserved.ensures.updates.others k other ∙ ap (λ ps. pending_at ps k) slots;
       live = refl;
       keys = refl;
-      known = λ i. record (core_of core).known {
-        table = (c.book.ensures
-            ∙ ap (λ (n : ℕ). record core.table { booked = core.table.booked + n }) cost) i;
+      held = λ n. ap (λ (t : TableState). holds t n) table ∙ held n;
+      known = λ i. record core.known {
+        table = (table ∙ (λ j. record m.table {
+          held = ap (λ (t : TableState). t.held) (sym table) j;
+          booked = m.table.booked + cost j;
+        })) i;
       };
     }
 
 pub returns-clause-whole : goal.returns-clause-whole
 returns-clause-whole c =
-    let core = c.args.core.now in
-    let e = live_directory core.versions.slots c.index.result.now in
+    let m = c.args.core.now in
+    let size = m.table.size in
+    let core = core_of m in
+    let o = c.in_ok-before.before in
+    let is = c.in_ok-before.ensures.before in
+    let whole = c.requires.whole in
+    let version : c.in-Ok.version ≡ begun c.args.kind c.args.prime (version_before core.live o) = c.in-Ok.ensures in
     let stands = c.in_ok-place.ensures.found in
-    let at = directory_at core.table.size core c.args.prime.ppn c.in_ok-place.place stands.0 c.index.result.now
-    c.requires.whole stands.1 c.index.ensures in
-    let new = absent_is c.find.result c.is_none-is_new.result c.args.prime.file e.chain.entries c.find.ensures.found
-    c.find.ensures.none c.is_none-is_new.ensures in
-    let fits = c.can_book.ensures.0 c.if-not-can_book.false in
-    let prime = c.args.prime in
-    let adds : Adds core.pending.slots c.insert.new.self.slots c.in-Ok.key (begun prime c.is_none-is_new.result) =
-    record {
-      vacant = c.in-Ok.ensures.was_vacant;
-      here = c.in-Ok.ensures.updates.changed
-          ∙ (λ i. Some (record { prime = prime; version = c.new.ensures i; is_new = c.is_none-is_new.result }));
-      others = c.in-Ok.ensures.updates.others;
+    let e = known_place m whole c.args.prime.ppn c.in_ok-place.place stands.0 stands.1 in
+    let cost : c.begin_cost-cost.result
+    ≡ begin_cost c.args.kind (entries_with core e.0 c.args.prime.ppn) (version_before core.live o) =
+    c.begin_cost-cost.ensures.value e.0 e.1 in
+    let slots : c.reserve.new.self.slots ≡ m.pending.slots = ap (λ s. s.slots) c.reserve.ensures.rest_kept in
+    let table : c.book.new.self
+    ≡ record m.table { held = c.hold_all.new.table.held; booked = m.table.booked + c.begin_cost-cost.result } =
+    c.book.ensures ∙ (λ i. record (c.hold_all.ensures.rest i) {
+      booked = (c.hold_all.ensures.rest i).booked + c.begin_cost-cost.result;
+    }) in
+    let held : (n : ℕ) → holds c.hold_all.new.table n
+    ≡ holds m.table n + times n (begun_version c.args.kind (version_before core.live o)).blocks = λ n.
+    c.hold_all.ensures.held n
+    ∙ ap (λ l. holds m.table n + times n l) c.blocks-2.ensures
+    ∙ ap (λ (p : PendingVersion). holds m.table n + times n p.version.blocks) version in
+    let adds : Adds m.pending.slots c.insert_reserved.new.self.slots c.insert_reserved.result
+    (begun c.args.kind c.args.prime (version_before core.live o)) = record {
+      vacant = sym (ap (λ ps. pending_at ps c.insert_reserved.result) slots) ∙ c.insert_reserved.ensures.was_vacant;
+      here = c.insert_reserved.ensures.updates.changed ∙ ap Some version;
+      others = λ k other. c.insert_reserved.ensures.updates.others k other ∙ ap (λ ps. pending_at ps k) slots;
     } in
-    let large = c.requires.whole.map.volume.large in
-    let whole = begun_whole core.table.size (core_of core) c.insert.new.self.slots c.in-Ok.key prime
-    c.is_none-is_new.result c.in_ok-place.place stands.0 e (core.table.booked + c.begin_cost-cost.result)
-    c.requires.whole adds stands.1.is at
-    (ap (λ (n : ℕ). core.table.booked + n) (c.begin_cost-cost.ensures.value e at)) (omega arith) in
+    let room = c.can_book.ensures.0 c.if-not-can_book.false in
     subst (λ (t : TableState). IsWholeCore t.size
     (core_of (record {
-      master = core.master;
-      directories = core.directories;
-      versions = core.versions;
-      pending = c.insert.new.self;
+      master = m.master;
+      directories = m.directories;
+      versions = m.versions;
+      pending = c.insert_reserved.new.self;
       table = t;
-    }))) (sym c.book.ensures) whole
-
-pub returns-clause-room : goal.returns-clause-room
-returns-clause-room c d there =
-    let core = c.args.core.now in
-    let e = live_directory core.versions.slots c.index.result.now in
-    let stands = c.in_ok-place.ensures.found in
-    let at = directory_at core.table.size core c.args.prime.ppn c.in_ok-place.place stands.0 c.index.result.now
-    c.requires.whole stands.1 c.index.ensures in
-    let new = absent_is c.find.result c.is_none-is_new.result c.args.prime.file e.chain.entries c.find.ensures.found
-    c.find.ensures.none c.is_none-is_new.ensures in
-    let cost = cost_is core.table.size (core_of core) c.args.prime c.in_ok-place.place stands.0 d e
-    c.is_none-is_new.result c.begin_cost-cost.result c.requires.whole there stands.1.is at new
-    (c.begin_cost-cost.ensures.value e at) in
-    let fits = c.can_book.ensures.0 c.if-not-can_book.false in
-    (λ is. cc, λ more. absurd (omega arith))
+    }))) (sym table)
+    (begun_whole size core whole c.booked-booked.ensures.sound c.args.kind c.args.prime o is
+    c.insert_reserved.new.self.slots c.insert_reserved.result adds c.in_default.ensures c.hold_all.new.table.held held
+    c.in_ok-place.place stands.0 e.0 stands.1.is e.1 (m.table.booked + c.begin_cost-cost.result)
+    (ap (λ (n : ℕ). m.table.booked + n) cost) room)

@@ -1,5 +1,5 @@
-use Rattle.std.proofs.Common.{◌≡◌, ◌++◌, ◌∷◌, [], ℕ, List, true, length, map, slice_get, slice_set, option_to_list}
-use Rattle.std.proofs.Common.{Some, None, IfSome, IfNone, refl, sym, ap, subst, ◌∙◌}
+use Rattle.std.proofs.Common.{◌≡◌, ◌+◌, ◌≤◌, ◌++◌, ◌∷◌, [], ℕ, List, true, length, map, slice_get, slice_set}
+use Rattle.std.proofs.Common.{option_to_list, Some, None, IfSome, IfNone, IsSome, refl, sym, ap, subst, ◌∙◌}
 use Rattle.std.specs.FinMap.Entries.{find}
 use Rattle.meaning.specs.Files.{name_cmp}
 use Rattle.directory.specs.Edits.{StandsAt, IsReserve, inserted}
@@ -10,13 +10,16 @@ use Rattle.volume.specs.LiveCores.{core_of, live_directory}
 use Rattle.volume.specs.declared.live.LiveVersion.{LiveVersion}
 use Rattle.volume.specs.declared.pending.PendingVersion.{PendingVersion}
 use Rattle.volume.proofs.MakingCurrent.{index_is, place_within, directory_there, known_place, keys_place, is_directory}
-use Rattle.volume.proofs.MakingCurrent.{as_many_keys, version_held, version_own, within_space, blocks_booked}
-use Rattle.volume.proofs.MakingCurrent.{grown_free, retires_there, retires_set, retires_few, retires_booked}
-use Rattle.volume.proofs.MakingCurrent.{retires_fits, retired_sound, changed_many, new_stands, chain_grown}
+use Rattle.volume.proofs.MakingCurrent.{as_many_keys, within_space, blocks_booked, grown_free, retires_there}
+use Rattle.volume.proofs.MakingCurrent.{retires_set, retires_few, retires_booked, retires_fits, used_sound, used_held}
+use Rattle.volume.proofs.MakingCurrent.{used_clear, changed_many, new_stands, chain_grown}
 use Rattle.volume.proofs.BecomingCurrent.{made_current_by}
 use Rattle.std.specs.Vec.{with_item}
-use Rattle.meaning.specs.Maps.{insert, from_entries}
-use Rattle.volume.specs.Publishing.{PutsVersionInUse, MakesCurrent}
+use Rattle.meaning.specs.Maps.{insert, from_entries, times}
+use Rattle.alloctab.specs.TableState.{bit, holds}
+use Rattle.retrieval.specs.Versions.{VersionState}
+use Rattle.volume.specs.Known.{blocks_reached}
+use Rattle.volume.specs.Publishing.{PutsInUse, MakesCurrent}
 use Rattle.volume.specs.declared.live.LiveMap.{LiveMap}
 use Rattle.meaning.proofs.MapLaws.{some_none, some_same}
 use Rattle.volume.proofs.current.make_current.Goals as goal
@@ -27,8 +30,8 @@ place_of-place-requires c =
     let was = sym c.try_remove.ensures.value ∙ c.in-Some.is in
     is_there (core_of c.args.core.now) c.in-Some.field-0 (c.requires.placed c.in-Some.field-0 was)
 
-pub use_version-at-requires-clause-used : goal.use_version-at-requires-clause-used
-use_version-at-requires-clause-used c =
+pub take_places-at-requires-clause-used : goal.take_places-at-requires-clause-used
+take_places-at-requires-clause-used c =
     let m = c.args.core.now in
     let p = c.in-Some.field-0 in
     let was = sym c.try_remove.ensures.value ∙ c.in-Some.is in
@@ -39,8 +42,8 @@ use_version-at-requires-clause-used c =
     d.0 d.1 c.takes_block-grows.result (length c.args.supplies.ribs.items) (c.takes_block-grows.ensures d.0 d.1)
     (c.requires.ribs p was)
 
-pub use_version-at-requires-clause-room : goal.use_version-at-requires-clause-room
-use_version-at-requires-clause-room c =
+pub take_places-at-requires-clause-room : goal.take_places-at-requires-clause-room
+take_places-at-requires-clause-room c =
     let m = c.args.core.now in
     let p = c.in-Some.field-0 in
     let was = sym c.try_remove.ensures.value ∙ c.in-Some.is in
@@ -48,26 +51,6 @@ use_version-at-requires-clause-room c =
     let stands = c.place_of-place.ensures in
     let d = directory_there m c.requires.whole p.prime.ppn place stands.0 stands.1 in
     within_space m c.requires.whole c.args.key p was (c.requires.placed p was) place stands.0 stands.1 d.0 d.1
-
-pub use_version-at-requires-clause-held : goal.use_version-at-requires-clause-held
-use_version-at-requires-clause-held c =
-    let m = c.args.core.now in
-    let p = c.in-Some.field-0 in
-    let was = sym c.try_remove.ensures.value ∙ c.in-Some.is in
-    let place = c.place_of-place.result in
-    let stands = c.place_of-place.ensures in
-    let d = directory_there m c.requires.whole p.prime.ppn place stands.0 stands.1 in
-    version_held m c.requires.whole c.args.key p was (c.requires.placed p was) place stands.0 stands.1 d.0 d.1
-
-pub use_version-at-requires-clause-own : goal.use_version-at-requires-clause-own
-use_version-at-requires-clause-own c =
-    let m = c.args.core.now in
-    let p = c.in-Some.field-0 in
-    let was = sym c.try_remove.ensures.value ∙ c.in-Some.is in
-    let place = c.place_of-place.result in
-    let stands = c.place_of-place.ensures in
-    let d = directory_there m c.requires.whole p.prime.ppn place stands.0 stands.1 in
-    version_own m c.requires.whole c.args.key p was (c.requires.placed p was) place stands.0 stands.1 d.0 d.1
 
 pub file_entry-entry-requires : goal.file_entry-entry-requires
 file_entry-entry-requires c =
@@ -128,10 +111,10 @@ put_entry-old-requires-clause-grown c =
     let at = index_is m.directories.items place d _
     (place_within m c.requires.whole p.prime.ppn place stands.0 stands.1) c.index_mut.ensures.value in
     grown_free m c.requires.whole c.args.key p was placed place stands.0 stands.1 d at c.takes_block-grows.result
-    c.use_version-at.result.grown c.file_entry-entry.result.name c.use_version-at.new.table c.use_version-at.result.at
-    c.use_version-at.new.version
-    c.file_entry-entry.ensures.name (c.takes_block-grows.ensures d at) c.use_version-at.ensures.grown
-    c.use_version-at.ensures.put_in_use
+    c.take_places-at.result.grown c.file_entry-entry.result.name c.take_places-at.new.table c.take_places-at.result.at
+    c.take_places-at.new.version.ribs
+    c.file_entry-entry.ensures.name (c.takes_block-grows.ensures d at) c.take_places-at.ensures.grown
+    c.take_places-at.ensures.taken
 
 pub retire_before-requires-clause-there : goal.retire_before-requires-clause-there
 retire_before-requires-clause-there c =
@@ -150,8 +133,8 @@ retire_before-requires-clause-there c =
     c.put_entry-old.ensures.replaced c.insert_reserved-current.new.self.slots
     (λ k v there. c.insert_reserved-current.ensures.updates.others k (λ same. some_none (sym there
     ∙ ap (slot m.versions.slots) same ∙ c.insert_reserved-current.ensures.was_vacant)) ∙ there)
-    c.use_version-at.new.table (option_to_list c.use_version-at.result.grown) c.use_version-at.result.at
-    c.use_version-at.new.version c.use_version-at.ensures.put_in_use
+    c.take_places-at.new.table (option_to_list c.take_places-at.result.grown) c.take_places-at.result.at
+    c.take_places-at.new.version.ribs c.take_places-at.ensures.taken
 
 pub retire_before-requires-clause-set : goal.retire_before-requires-clause-set
 retire_before-requires-clause-set c =
@@ -170,8 +153,8 @@ retire_before-requires-clause-set c =
     c.put_entry-old.ensures.replaced c.insert_reserved-current.new.self.slots
     (λ k v there. c.insert_reserved-current.ensures.updates.others k (λ same. some_none (sym there
     ∙ ap (slot m.versions.slots) same ∙ c.insert_reserved-current.ensures.was_vacant)) ∙ there)
-    c.use_version-at.new.table (option_to_list c.use_version-at.result.grown) c.use_version-at.result.at
-    c.use_version-at.new.version c.use_version-at.ensures.put_in_use
+    c.take_places-at.new.table (option_to_list c.take_places-at.result.grown) c.take_places-at.result.at
+    c.take_places-at.new.version.ribs c.take_places-at.ensures.taken
 
 pub retire_before-requires-clause-few : goal.retire_before-requires-clause-few
 retire_before-requires-clause-few c =
@@ -190,8 +173,8 @@ retire_before-requires-clause-few c =
     c.put_entry-old.ensures.replaced c.insert_reserved-current.new.self.slots
     (λ k v there. c.insert_reserved-current.ensures.updates.others k (λ same. some_none (sym there
     ∙ ap (slot m.versions.slots) same ∙ c.insert_reserved-current.ensures.was_vacant)) ∙ there)
-    c.use_version-at.new.table (option_to_list c.use_version-at.result.grown) c.use_version-at.result.at
-    c.use_version-at.new.version c.use_version-at.ensures.put_in_use
+    c.take_places-at.new.table (option_to_list c.take_places-at.result.grown) c.take_places-at.result.at
+    c.take_places-at.new.version.ribs c.take_places-at.ensures.taken
 
 pub retire_before-requires-clause-booked : goal.retire_before-requires-clause-booked
 retire_before-requires-clause-booked c =
@@ -210,8 +193,8 @@ retire_before-requires-clause-booked c =
     c.put_entry-old.ensures.replaced c.insert_reserved-current.new.self.slots
     (λ k v there. c.insert_reserved-current.ensures.updates.others k (λ same. some_none (sym there
     ∙ ap (slot m.versions.slots) same ∙ c.insert_reserved-current.ensures.was_vacant)) ∙ there)
-    c.use_version-at.new.table (option_to_list c.use_version-at.result.grown) c.use_version-at.result.at
-    c.use_version-at.new.version c.use_version-at.ensures.put_in_use
+    c.take_places-at.new.table (option_to_list c.take_places-at.result.grown) c.take_places-at.result.at
+    c.take_places-at.new.version.ribs c.take_places-at.ensures.taken
 
 pub retire_before-requires-clause-fits : goal.retire_before-requires-clause-fits
 retire_before-requires-clause-fits c =
@@ -230,8 +213,157 @@ retire_before-requires-clause-fits c =
     c.put_entry-old.ensures.replaced c.insert_reserved-current.new.self.slots
     (λ k v there. c.insert_reserved-current.ensures.updates.others k (λ same. some_none (sym there
     ∙ ap (slot m.versions.slots) same ∙ c.insert_reserved-current.ensures.was_vacant)) ∙ there)
-    c.use_version-at.new.table (option_to_list c.use_version-at.result.grown) c.use_version-at.result.at
-    c.use_version-at.new.version c.use_version-at.ensures.put_in_use
+    c.take_places-at.new.table (option_to_list c.take_places-at.result.grown) c.take_places-at.result.at
+    c.take_places-at.new.version.ribs c.take_places-at.ensures.taken
+
+pub use_current-requires-clause-sound : goal.use_current-requires-clause-sound
+use_current-requires-clause-sound c =
+    let m = c.args.core.now in
+    let p = c.in-Some.field-0 in
+    let was = sym c.try_remove.ensures.value ∙ c.in-Some.is in
+    let placed = c.requires.placed p was in
+    let place = c.place_of-place.result in
+    let stands = c.place_of-place.ensures in
+    let d = c.index_mut.result.now in
+    let at = index_is m.directories.items place d _
+    (place_within m c.requires.whole p.prime.ppn place stands.0 stands.1) c.index_mut.ensures.value in
+    used_sound m c.requires.whole c.args.key p was placed place stands.0 stands.1 d at c.put_entry-old.result
+    c.file_entry-entry.result.name c.file_entry-entry.ensures.name
+    (λ keys i. c.put_entry-old.new.directory.keys.items ≡ slice_set keys i c.insert_reserved-current.result)
+    c.put_entry-old.ensures.replaced c.insert_reserved-current.new.self.slots
+    (λ k v there. c.insert_reserved-current.ensures.updates.others k (λ same. some_none (sym there
+    ∙ ap (slot m.versions.slots) same ∙ c.insert_reserved-current.ensures.was_vacant)) ∙ there)
+    c.take_places-at.new.table (option_to_list c.take_places-at.result.grown) c.take_places-at.result.at
+    c.take_places-at.new.version.ribs c.take_places-at.ensures.taken
+    c.retire_before.new.table c.retire_before.ensures.retired (λ none. (c.retire_before.ensures.none none).1)
+
+pub use_current-requires-clause-there : goal.use_current-requires-clause-there
+use_current-requires-clause-there c =
+    let m = c.args.core.now in
+    let p = c.in-Some.field-0 in
+    let was = sym c.try_remove.ensures.value ∙ c.in-Some.is in
+    let placed = c.requires.placed p was in
+    let place = c.place_of-place.result in
+    let stands = c.place_of-place.ensures in
+    let d = c.index_mut.result.now in
+    let at = index_is m.directories.items place d _
+    (place_within m c.requires.whole p.prime.ppn place stands.0 stands.1) c.index_mut.ensures.value in
+    let new : LiveVersion = record {
+      prime = p.prime;
+      version = c.take_places-at.new.version;
+      at = c.take_places-at.result.at;
+      readers = 0;
+      is_current = true;
+    } in
+    let put = c.insert_reserved-current.ensures in
+    let here = new_stands m c.requires.whole c.args.key p was placed place stands.0 stands.1 d at c.put_entry-old.result
+    c.file_entry-entry.result.name c.file_entry-entry.ensures.name
+    (λ keys i. c.put_entry-old.new.directory.keys.items ≡ slice_set keys i c.insert_reserved-current.result)
+    c.put_entry-old.ensures.replaced c.insert_reserved-current.new.self.slots
+    (λ k v there. c.insert_reserved-current.ensures.updates.others k (λ same. some_none (sym there
+    ∙ ap (slot m.versions.slots) same ∙ c.insert_reserved-current.ensures.was_vacant)) ∙ there)
+    c.take_places-at.new.table (option_to_list c.take_places-at.result.grown) c.take_places-at.result.at
+    c.take_places-at.new.version.ribs c.take_places-at.ensures.taken
+    c.retire_before.new.versions.slots c.insert_reserved-current.result new put.was_vacant put.updates.changed
+    c.retire_before.ensures.others (λ none. ap (λ s. s.slots) (c.retire_before.ensures.none none).0) in
+    subst IsSome (sym here) refl
+
+pub use_current-requires-clause-held : goal.use_current-requires-clause-held
+use_current-requires-clause-held c v there n =
+    let m = c.args.core.now in
+    let p = c.in-Some.field-0 in
+    let was = sym c.try_remove.ensures.value ∙ c.in-Some.is in
+    let placed = c.requires.placed p was in
+    let place = c.place_of-place.result in
+    let stands = c.place_of-place.ensures in
+    let d = c.index_mut.result.now in
+    let at = index_is m.directories.items place d _
+    (place_within m c.requires.whole p.prime.ppn place stands.0 stands.1) c.index_mut.ensures.value in
+    let new : LiveVersion = record {
+      prime = p.prime;
+      version = c.take_places-at.new.version;
+      at = c.take_places-at.result.at;
+      readers = 0;
+      is_current = true;
+    } in
+    let put = c.insert_reserved-current.ensures in
+    let here = new_stands m c.requires.whole c.args.key p was placed place stands.0 stands.1 d at c.put_entry-old.result
+    c.file_entry-entry.result.name c.file_entry-entry.ensures.name
+    (λ keys i. c.put_entry-old.new.directory.keys.items ≡ slice_set keys i c.insert_reserved-current.result)
+    c.put_entry-old.ensures.replaced c.insert_reserved-current.new.self.slots
+    (λ k v there. c.insert_reserved-current.ensures.updates.others k (λ same. some_none (sym there
+    ∙ ap (slot m.versions.slots) same ∙ c.insert_reserved-current.ensures.was_vacant)) ∙ there)
+    c.take_places-at.new.table (option_to_list c.take_places-at.result.grown) c.take_places-at.result.at
+    c.take_places-at.new.version.ribs c.take_places-at.ensures.taken
+    c.retire_before.new.versions.slots c.insert_reserved-current.result new put.was_vacant put.updates.changed
+    c.retire_before.ensures.others (λ none. ap (λ s. s.slots) (c.retire_before.ensures.none none).0) in
+    let version : c.take_places-at.new.version ≡ record p.version {
+      ribs = c.take_places-at.new.version.ribs;
+    } = c.take_places-at.ensures.kept in
+    let grown = option_to_list c.take_places-at.result.grown in
+    let t = c.retire_before.new.table in
+    subst (λ (x : LiveVersion). times n (blocks_reached x.at x.version ++ grown) ≤ holds t n)
+    (some_same (sym here ∙ there))
+    (subst (λ (x : VersionState). times n (blocks_reached c.take_places-at.result.at x ++ grown) ≤ holds t n)
+    (sym version)
+    (used_held m c.requires.whole c.args.key p was placed place stands.0 stands.1 d at c.put_entry-old.result
+    c.file_entry-entry.result.name c.file_entry-entry.ensures.name
+    (λ keys i. c.put_entry-old.new.directory.keys.items ≡ slice_set keys i c.insert_reserved-current.result)
+    c.put_entry-old.ensures.replaced c.insert_reserved-current.new.self.slots
+    (λ k v there. c.insert_reserved-current.ensures.updates.others k (λ same. some_none (sym there
+    ∙ ap (slot m.versions.slots) same ∙ c.insert_reserved-current.ensures.was_vacant)) ∙ there)
+    c.take_places-at.new.table (option_to_list c.take_places-at.result.grown) c.take_places-at.result.at
+    c.take_places-at.new.version.ribs c.take_places-at.ensures.taken
+    c.retire_before.new.table c.retire_before.ensures.retired (λ none. (c.retire_before.ensures.none none).1) n))
+
+pub use_current-requires-clause-clear : goal.use_current-requires-clause-clear
+use_current-requires-clause-clear c v there n =
+    let m = c.args.core.now in
+    let p = c.in-Some.field-0 in
+    let was = sym c.try_remove.ensures.value ∙ c.in-Some.is in
+    let placed = c.requires.placed p was in
+    let place = c.place_of-place.result in
+    let stands = c.place_of-place.ensures in
+    let d = c.index_mut.result.now in
+    let at = index_is m.directories.items place d _
+    (place_within m c.requires.whole p.prime.ppn place stands.0 stands.1) c.index_mut.ensures.value in
+    let new : LiveVersion = record {
+      prime = p.prime;
+      version = c.take_places-at.new.version;
+      at = c.take_places-at.result.at;
+      readers = 0;
+      is_current = true;
+    } in
+    let put = c.insert_reserved-current.ensures in
+    let here = new_stands m c.requires.whole c.args.key p was placed place stands.0 stands.1 d at c.put_entry-old.result
+    c.file_entry-entry.result.name c.file_entry-entry.ensures.name
+    (λ keys i. c.put_entry-old.new.directory.keys.items ≡ slice_set keys i c.insert_reserved-current.result)
+    c.put_entry-old.ensures.replaced c.insert_reserved-current.new.self.slots
+    (λ k v there. c.insert_reserved-current.ensures.updates.others k (λ same. some_none (sym there
+    ∙ ap (slot m.versions.slots) same ∙ c.insert_reserved-current.ensures.was_vacant)) ∙ there)
+    c.take_places-at.new.table (option_to_list c.take_places-at.result.grown) c.take_places-at.result.at
+    c.take_places-at.new.version.ribs c.take_places-at.ensures.taken
+    c.retire_before.new.versions.slots c.insert_reserved-current.result new put.was_vacant put.updates.changed
+    c.retire_before.ensures.others (λ none. ap (λ s. s.slots) (c.retire_before.ensures.none none).0) in
+    let version : c.take_places-at.new.version ≡ record p.version {
+      ribs = c.take_places-at.new.version.ribs;
+    } = c.take_places-at.ensures.kept in
+    let grown = option_to_list c.take_places-at.result.grown in
+    let t = c.retire_before.new.table in
+    subst (λ (x : LiveVersion). bit t n + times n (blocks_reached x.at x.version ++ grown) ≤ 1)
+    (some_same (sym here ∙ there))
+    (subst (λ (x : VersionState). bit t n + times n (blocks_reached c.take_places-at.result.at x ++ grown) ≤ 1)
+    (sym version)
+    (used_clear m c.requires.whole c.args.key p was placed place stands.0 stands.1 d at c.put_entry-old.result
+    c.file_entry-entry.result.name c.file_entry-entry.ensures.name
+    (λ keys i. c.put_entry-old.new.directory.keys.items ≡ slice_set keys i c.insert_reserved-current.result)
+    c.put_entry-old.ensures.replaced c.insert_reserved-current.new.self.slots
+    (λ k v there. c.insert_reserved-current.ensures.updates.others k (λ same. some_none (sym there
+    ∙ ap (slot m.versions.slots) same ∙ c.insert_reserved-current.ensures.was_vacant)) ∙ there)
+    c.take_places-at.new.table (option_to_list c.take_places-at.result.grown) c.take_places-at.result.at
+    c.take_places-at.new.version.ribs c.take_places-at.ensures.taken
+    c.retire_before.new.table c.retire_before.ensures.retired (λ none. (c.retire_before.ensures.none none).1) _
+    c.put_entry-old.ensures.added n))
 
 pub changes-requires : goal.changes-requires
 changes-requires c =
@@ -244,17 +376,25 @@ changes-requires c =
     let d = c.index_mut.result.now in
     let at = index_is m.directories.items place d _
     (place_within m c.requires.whole p.prime.ppn place stands.0 stands.1) c.index_mut.ensures.value in
-    changed_many c.retire_before.new.table _
-    (retired_sound m c.requires.whole c.args.key p was placed place stands.0 stands.1 d at c.put_entry-old.result
+    let new : LiveVersion = record {
+      prime = p.prime;
+      version = c.take_places-at.new.version;
+      at = c.take_places-at.result.at;
+      readers = 0;
+      is_current = true;
+    } in
+    let put = c.insert_reserved-current.ensures in
+    let here = new_stands m c.requires.whole c.args.key p was placed place stands.0 stands.1 d at c.put_entry-old.result
     c.file_entry-entry.result.name c.file_entry-entry.ensures.name
     (λ keys i. c.put_entry-old.new.directory.keys.items ≡ slice_set keys i c.insert_reserved-current.result)
     c.put_entry-old.ensures.replaced c.insert_reserved-current.new.self.slots
     (λ k v there. c.insert_reserved-current.ensures.updates.others k (λ same. some_none (sym there
     ∙ ap (slot m.versions.slots) same ∙ c.insert_reserved-current.ensures.was_vacant)) ∙ there)
-    c.use_version-at.new.table (option_to_list c.use_version-at.result.grown) c.use_version-at.result.at
-    c.use_version-at.new.version c.use_version-at.ensures.put_in_use
-    c.retire_before.new.table c.retire_before.ensures.retired (λ none. (c.retire_before.ensures.none none).1))
-    c.put_entry-old.ensures.few
+    c.take_places-at.new.table (option_to_list c.take_places-at.result.grown) c.take_places-at.result.at
+    c.take_places-at.new.version.ribs c.take_places-at.ensures.taken
+    c.retire_before.new.versions.slots c.insert_reserved-current.result new put.was_vacant put.updates.changed
+    c.retire_before.ensures.others (λ none. ap (λ s. s.slots) (c.retire_before.ensures.none none).0) in
+    changed_many c.use_current.new.table _ (c.use_current.ensures new here).marks.sound c.put_entry-old.ensures.few
 
 pub returns : goal.returns
 returns c q there =
@@ -276,15 +416,15 @@ returns c q there =
       pending = c.try_remove.new.self;
       table = c.changes.new.self;
     } in
-    let used = c.use_version-at in
-    let ribs = used.new.version.ribs in
+    let taken = c.take_places-at in
+    let ribs = taken.new.version.ribs in
     let set = c.put_entry-old.new.set in
     let entry = c.file_entry-entry.ensures in
-    let version : used.new.version ≡ record p.version { ribs = ribs } = used.ensures.kept in
+    let version : taken.new.version ≡ record p.version { ribs = ribs } = taken.ensures.kept in
     let new : LiveVersion = record {
       prime = p.prime;
-      version = used.new.version;
-      at = used.result.at;
+      version = taken.new.version;
+      at = taken.result.at;
       readers = 0;
       is_current = true;
     } in
@@ -295,21 +435,23 @@ returns c q there =
     c.put_entry-old.ensures.replaced c.insert_reserved-current.new.self.slots
     (λ k v there. c.insert_reserved-current.ensures.updates.others k (λ same. some_none (sym there
     ∙ ap (slot m.versions.slots) same ∙ c.insert_reserved-current.ensures.was_vacant)) ∙ there)
-    c.use_version-at.new.table (option_to_list c.use_version-at.result.grown) c.use_version-at.result.at
-    c.use_version-at.new.version c.use_version-at.ensures.put_in_use
+    c.take_places-at.new.table (option_to_list c.take_places-at.result.grown) c.take_places-at.result.at
+    c.take_places-at.new.version.ribs c.take_places-at.ensures.taken
     c.retire_before.new.versions.slots c.insert_reserved-current.result new put.was_vacant put.updates.changed
     c.retire_before.ensures.others (λ none. ap (λ s. s.slots) (c.retire_before.ensures.none none).0) in
-    let puts_in_use = subst (PutsVersionInUse m.table used.new.table (option_to_list used.result.grown) used.result.at)
-    version used.ensures.put_in_use in
+    let puts_in_use = subst (λ (x : VersionState). PutsInUse c.retire_before.new.table c.use_current.new.table
+    (blocks_reached taken.result.at x ++ option_to_list taken.result.grown)) version
+    (c.use_current.ensures new here) in
     let makes_current = made_current_by m m' c.requires.whole c.args.key p was placed place stands.0 stands.1
     d d' at refl refl c.try_remove.ensures.updates.changed c.try_remove.ensures.updates.others
-    (option_to_list used.result.grown) used.result.at ribs (used.ensures.count
-    ∙ c.requires.ribs p was) used.new.table c.retire_before.new.table puts_in_use c.changes.ensures.done
-    set c.changes.new.set c.put_entry-old.ensures.put c.put_entry-old.ensures.few c.changes.ensures.others
+    (option_to_list taken.result.grown) taken.result.at ribs (taken.ensures.count
+    ∙ c.requires.ribs p was) taken.new.table c.retire_before.new.table c.use_current.new.table taken.ensures.taken
+    puts_in_use c.changes.ensures.done set c.changes.new.set c.put_entry-old.ensures.put
+    c.put_entry-old.ensures.few c.changes.ensures.others
     c.changes.ensures.spells c.changes.ensures.in_range c.changes.ensures.few
     (chain_grown m c.requires.whole c.args.key p was placed place stands.0 stands.1 d at c.takes_block-grows.result
-    used.result.grown c.file_entry-entry.result.name d'.chain.blocks entry.name
-    (c.takes_block-grows.ensures d at) used.ensures.grown c.put_entry-old.ensures.same c.put_entry-old.ensures.more)
+    taken.result.grown c.file_entry-entry.result.name d'.chain.blocks entry.name
+    (c.takes_block-grows.ensures d at) taken.ensures.grown c.put_entry-old.ensures.same c.put_entry-old.ensures.more)
     c.insert_reserved-current.result put.was_vacant (here
     ∙ (λ i. Some (record new { version = version i }))) c.put_entry-old.ensures.chain
     (c.put_entry-old.ensures.items
@@ -330,4 +472,4 @@ returns c q there =
     subst (λ (x : PendingVersion). (n : ℕ) × (ns : List ℕ)
     × (makes_current : MakesCurrent m.table.size (core_of m) (core_of m') c.args.key x n ns c.changes.new.set)
     × (c.insert_reserved-current.result ≡ makes_current.new_key)) same
-    (used.result.at, ribs, makes_current.0, makes_current.1)
+    (taken.result.at, ribs, makes_current.0, makes_current.1)

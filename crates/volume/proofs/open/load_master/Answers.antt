@@ -1,21 +1,21 @@
-use Rattle.std.proofs.Common.{inl, inr}
+use Rattle.std.proofs.Common.{inl, inr, Err, ap, ◌∙◌}
+use Rattle.volume.specs.FaultsFound.{NamesInSpace, SettledRefuses}
 use Rattle.volume.proofs.FaultyMaps.{master_fault, master_twice}
+use Rattle.volume.proofs.Handing.{by_chain}
 use Rattle.volume.proofs.open.load_master.Goals as goal
 
-pub returns-in-Err-BadDirectory-clause-fault : goal.returns-in-Err-BadDirectory-clause-fault
-returns-in-Err-BadDirectory-clause-fault g c h home =
+pub returns-in-Err-clause-fault : goal.returns-in-Err-clause-fault
+returns-in-Err-clause-fault g c h home =
     let s = g.D.Disk.state c.args.disk.now in
-    master_fault s.size s.contents c.args.first c.in-Err-BadDirectory.n home
-    (c.load.ensures.bad h c.in-Err-BadDirectory.n (cc))
+    by_chain (SettledRefuses s.size s.contents) c.in-Err.error c.from.result c.from.ensures
+    (λ n is. master_fault s.size s.contents c.args.first n home (c.load.ensures.bad h n (c.in-Err.is ∙ ap Err is)))
+    (λ n is. master_twice s.size s.contents c.args.reached.now c.args.first n home c.requires.fresh
+    (c.load.ensures.named n (inr (c.in-Err.is ∙ ap Err is)))
+    (c.load.ensures.twice h n (c.in-Err.is ∙ ap Err is))) tt tt
 
-pub returns-in-Err-BlockTwice-clause-fault : goal.returns-in-Err-BlockTwice-clause-fault
-returns-in-Err-BlockTwice-clause-fault g c h home =
+pub returns-in-Err-clause-named : goal.returns-in-Err-clause-named
+returns-in-Err-clause-named g c =
     let s = g.D.Disk.state c.args.disk.now in
-    master_twice s.size s.contents c.args.reached.now c.args.first c.in-Err-BlockTwice.n home c.requires.fresh
-    (c.load.ensures.named c.in-Err-BlockTwice.n (inr (cc))) (c.load.ensures.twice h c.in-Err-BlockTwice.n (cc))
-
-pub returns-in-Err-BadDirectory-clause-named : goal.returns-in-Err-BadDirectory-clause-named
-returns-in-Err-BadDirectory-clause-named g c = c.load.ensures.named c.in-Err-BadDirectory.n (inl (cc))
-
-pub returns-in-Err-BlockTwice-clause-named : goal.returns-in-Err-BlockTwice-clause-named
-returns-in-Err-BlockTwice-clause-named g c = c.load.ensures.named c.in-Err-BlockTwice.n (inr (cc))
+    by_chain (NamesInSpace s.size) c.in-Err.error c.from.result c.from.ensures
+    (λ n is. c.load.ensures.named n (inl (c.in-Err.is ∙ ap Err is)))
+    (λ n is. c.load.ensures.named n (inr (c.in-Err.is ∙ ap Err is))) tt tt

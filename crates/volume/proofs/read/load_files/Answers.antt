@@ -1,18 +1,22 @@
-use Rattle.std.proofs.Common.{inl, inr}
+use Rattle.std.proofs.Common.{inl, inr, Err, ap, ◌∙◌}
+use Rattle.volume.specs.FaultsFound.{NamesInSpace, IsFaultOfDirectory}
+use Rattle.alloctab.specs.Lists.{digit_at}
 use Rattle.volume.proofs.FaultyDirectories.{chain_twice}
+use Rattle.volume.proofs.Handing.{by_chain}
 use Rattle.volume.proofs.read.load_files.Goals as goal
 
-pub returns-in-Err-BadDirectory-clause-fault : goal.returns-in-Err-BadDirectory-clause-fault
-returns-in-Err-BadDirectory-clause-fault g c h ppn = c.load.ensures.bad h c.in-Err-BadDirectory.n (cc)
-
-pub returns-in-Err-BlockTwice-clause-fault : goal.returns-in-Err-BlockTwice-clause-fault
-returns-in-Err-BlockTwice-clause-fault g c h ppn =
+pub returns-in-Err-clause-fault : goal.returns-in-Err-clause-fault
+returns-in-Err-clause-fault g c h ppn =
     let s = g.D.Disk.state c.args.disk.now in
-    chain_twice s.size s.contents c.args.reached.now ppn c.args.first c.in-Err-BlockTwice.n
-    (c.load.ensures.twice h c.in-Err-BlockTwice.n (cc))
+    by_chain (IsFaultOfDirectory s.size s.contents (digit_at c.args.reached.now) ppn c.args.first) c.in-Err.error
+    c.from.result c.from.ensures
+    (λ n is. c.load.ensures.bad h n (c.in-Err.is ∙ ap Err is))
+    (λ n is. chain_twice s.size s.contents c.args.reached.now ppn c.args.first n
+    (c.load.ensures.twice h n (c.in-Err.is ∙ ap Err is))) tt tt
 
-pub returns-in-Err-BadDirectory-clause-named : goal.returns-in-Err-BadDirectory-clause-named
-returns-in-Err-BadDirectory-clause-named g c = c.load.ensures.named c.in-Err-BadDirectory.n (inl (cc))
-
-pub returns-in-Err-BlockTwice-clause-named : goal.returns-in-Err-BlockTwice-clause-named
-returns-in-Err-BlockTwice-clause-named g c = c.load.ensures.named c.in-Err-BlockTwice.n (inr (cc))
+pub returns-in-Err-clause-named : goal.returns-in-Err-clause-named
+returns-in-Err-clause-named g c =
+    let s = g.D.Disk.state c.args.disk.now in
+    by_chain (NamesInSpace s.size) c.in-Err.error c.from.result c.from.ensures
+    (λ n is. c.load.ensures.named n (inl (c.in-Err.is ∙ ap Err is)))
+    (λ n is. c.load.ensures.named n (inr (c.in-Err.is ∙ ap Err is))) tt tt

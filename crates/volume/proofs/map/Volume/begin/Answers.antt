@@ -1,22 +1,54 @@
-use Rattle.std.proofs.Common.{◌↔◌, ◌+◌, ◌<◌, ℕ, Err, IsErrOf, refl, subst, rules}
-use Rattle.meaning.specs.declared.code.ErrorCode.TheVariants.{NoRoom}
+use Rattle.std.proofs.Common.{◌≡◌, ◌↔◌, ◌+◌, ◌<◌, ℕ, Err, IsErrOf, refl, ap, subst, ◌∙◌, rules}
+use Rattle.std.proofs.lemmas.Result.{err_from_is_err_and}
+use Rattle.meaning.specs.declared.code.ErrorCode.TheVariants.{NameExists, NotFound, NoRoom}
 use Rattle.alloctab.specs.TableState.{space}
-use Rattle.volume.specs.Beginning.{begin_cost, entries_with, is_absent}
+use Rattle.volume.specs.Beginning.{begin_cost, entries_with}
 use Rattle.volume.specs.declared.error.CallError.TheVariants.{Refused}
 use Rattle.volume.specs.LiveCores.{core_of}
+use Rattle.volume.proofs.BegunFiles.{body_before, begins_with, handed_on}
 use Rattle.volume.proofs.StillHeld.{begun_sound}
 use Rattle.volume.proofs.map.Volume.begin.Goals as goal
 
 pub invariant_of-self-2 : goal.invariant_of-self-2
 invariant_of-self-2 g c =
-    begun_sound (g.D.Disk.state c.self.inside.disk) (core_of c.self.inside.map) (core_of c.begin_in_core.new.core)
-    c.self.inside.failed c.begin_in_core.new.core.table.size c.in_ok-key.key c.args.prime
-    c.self.invariant refl c.begin_in_core.ensures.whole c.in_ok-key.ensures.begun
+    let s = g.D.Disk.state c.self.inside.disk in
+    let core = core_of c.self.inside.map in
+    let begins = c.in_ok-key.ensures.begun in
+    begun_sound s core (core_of c.begin_in_core.new.core) c.self.inside.failed c.begin_in_core.new.core.table.size
+    c.in_ok-key.key c.args.kind c.args.prime c.self.invariant refl c.begin_in_core.ensures.whole begins
+    (body_before s core (core_of c.begin_in_core.new.core) c.self.inside.failed c.in_ok-key.key c.args.kind
+    c.args.prime c.self.invariant begins)
+
+pub returns-clause-file : goal.returns-clause-file
+returns-clause-file g c = rw (← c.self.view_is) (λ honest alive files rest updates.
+    begins_with (g.D.Disk.state c.self.inside.disk) (core_of c.self.inside.map) (core_of c.begin_in_core.new.core)
+    c.self.inside.failed c.in_ok-key.key c.args.kind c.args.prime c.self.invariant c.in_ok-key.ensures.begun honest
+    alive files rest updates)
 
 pub returns-clause-room : goal.returns-clause-room
-returns-clause-room g c = rw (← c.self.view_is) (λ alive d is.
+returns-clause-room g c = rw (← c.self.view_is) (λ alive d is prior named fits.
     let core = core_of c.self.inside.map in
     let room = subst (λ (size : ℕ). IsErrOf c.begin_in_core.result (Refused NoRoom)
-    ↔ (space size < core.known.table.booked + begin_cost (is_absent c.args.prime.file d)
-    (entries_with core d c.args.prime.ppn))) c.self.invariant.whole.map.size_is (c.begin_in_core.ensures.room d is) in
+    ↔ (space size < core.known.table.booked + begin_cost c.args.kind (entries_with core d c.args.prime.ppn) prior))
+    c.self.invariant.whole.map.size_is (c.begin_in_core.ensures.room d is prior named fits) in
     search rules)
+
+pub returns-clause-exists : goal.returns-clause-exists
+returns-clause-exists g c = rw (← c.self.view_is) (λ alive d is. let given = c.in_ok-key.ensures.exists d is in
+    search rules)
+
+pub returns-clause-not_found : goal.returns-clause-not_found
+returns-clause-not_found g c = rw (← c.self.view_is) (λ alive d is. let given = c.in_ok-key.ensures.not_found d is in
+    search rules)
+
+pub returns-in_err-key-clause-exists : goal.returns-in_err-key-clause-exists
+returns-in_err-key-clause-exists g c = rw (← c.self.view_is) (λ alive d is.
+    let p = err_from_is_err_and c.from_residual.result c.from_residual.ensures.1 in
+    handed_on c.from_residual.result c.in_err-key.field-0.0 (Refused NameExists) (p.1 ∙ ap Err p.2)
+    (c.in_err-key.ensures.exists d is))
+
+pub returns-in_err-key-clause-not_found : goal.returns-in_err-key-clause-not_found
+returns-in_err-key-clause-not_found g c = rw (← c.self.view_is) (λ alive d is.
+    let p = err_from_is_err_and c.from_residual.result c.from_residual.ensures.1 in
+    handed_on c.from_residual.result c.in_err-key.field-0.0 (Refused NotFound) (p.1 ∙ ap Err p.2)
+    (c.in_err-key.ensures.not_found d is))

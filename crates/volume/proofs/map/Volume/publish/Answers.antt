@@ -8,7 +8,7 @@ use Rattle.meaning.proofs.SpliceLaws.{length-splice}
 use Rattle.alloctab.specs.TableState.{space}
 use Rattle.directory.specs.Chains.{viewed}
 use Rattle.volume.specs.Cores.{file_view}
-use Rattle.volume.specs.Live.{VolumeCore, pending_at}
+use Rattle.volume.specs.Live.{VolumeCore, slot, pending_at}
 use Rattle.volume.specs.LiveCores.{core_of}
 use Rattle.volume.specs.Publishing.{IsPlaced, IsSupplied}
 use Rattle.volume.specs.declared.error.CallError.TheVariants.{Refused}
@@ -17,6 +17,7 @@ use Rattle.volume.specs.declared.pending.PendingVersion.{PendingVersion}
 use Rattle.volume.proofs.PuttingCore.{some_of}
 use Rattle.volume.proofs.Publications.{unchanged_leaves, quiet_leaves_either, both_leave, placed_on, supplied_on}
 use Rattle.volume.proofs.Publications.{ribs_on}
+use Rattle.volume.proofs.PublishingSlots.{made_current_readers}
 use Rattle.volume.proofs.map.Volume.publish.Goals as goal
 
 pub returns-in_err-blocks-clause-crash : goal.returns-in_err-blocks-clause-crash
@@ -105,6 +106,22 @@ returns-in-Ok-put-clause-done g c = rw (← c.self.view_is) (λ h f rests p ther
     (length-splice body c.args.block c.args.words.now
     ∙ ap (λ (n : ℕ). length_after n c.args.block (length c.args.words.now)) long
     ∙ sym put.2) (put.3 (c.publish_written.ensures.same.was_honest h) body long has))
+
+pub returns-in-Ok-put-clause-held : goal.returns-in-Ok-put-clause-held
+returns-in-Ok-put-clause-held g c = rw (← c.self.view_is) (λ k v there read.
+    let old = core_of c.self.inside.map in
+    let core = core_of c.put_in_core-put.new.map in
+    let new = core_of c.publish_written.new.map in
+    let same = c.find_supplies.ensures.core in
+    let p = some_of (pending_at old.pending c.args.pending.key)
+    (subst (λ m. IsSome (pending_at m.core.pending c.args.pending.key)) (sym c.self.view_is) c.requires.live) in
+    let put = c.in-Ok-put.ensures.put p.0 (ap (λ (x : VolumeCore). pending_at x.pending c.args.pending.key) same
+    ∙ p.1) in
+    let q = record p.0 { version = put.0 } in
+    let made = c.publish_written.ensures.made_current q put.1 in
+    made_current_readers (g.D.Disk.state c.put_in_core-put.new.disk).size core new c.args.pending.key q made.0 made.1
+    made.2 made.3 k v (ap (λ l. slot l k) (c.put_in_core-put.ensures.live ∙ ap (λ (x : VolumeCore). x.live) same)
+    ∙ there) read)
 
 pub returns-in-Err-clause-room : goal.returns-in-Err-clause-room
 returns-in-Err-clause-room g c = rw (← c.self.view_is) (λ alive p there.
