@@ -41,7 +41,7 @@ fn shrinkage(core: &LiveMap, version: &PendingVersion) -> u32
     }
 }
 
-/// Drops a version that is being written: its blocks are held no longer, and what it cost is not booked any
+/// Drops a version that is being written: its blocks are held once less, and what it cost is not booked any
 /// more.
 pub fn discard_in_core(core: &mut LiveMap, key: usize)
     requires whole { IsWholeCore core.old.table.size (core_of core.old) }
@@ -73,8 +73,8 @@ pub fn discard_in_core(core: &mut LiveMap, key: usize)
 }
 
 impl<D: Disk> Volume<D> {
-    /// Drops a version that is being written. Its blocks are free again, and what it cost is not booked any
-    /// more. It takes no memory and leaves the disk alone.
+    /// Drops a version that is being written. Such of its blocks are free again as no other version has, and
+    /// what it cost is not booked any more. It takes no memory and leaves the disk alone.
     pub fn discard(&mut self, pending: Pending)
         requires live { IsSome (pending_at self.old.core.pending pending.key) }
         ensures gone { pending_at self.new.core.pending pending.key ≡ None }

@@ -105,8 +105,9 @@ impl<D: Disk> Volume<D> {
         Ok(Pin { key })
     }
 
-    /// Lets a version go for one reader. One that no file has any more goes with its last reader: its blocks are
-    /// free then, and its booking is taken back. It takes no memory and touches no disk.
+    /// Lets a version go for one reader. One that no file has any more goes with its last reader: such of its
+    /// blocks are free then as no other version has, and its booking is taken back. It takes no memory and
+    /// touches no disk.
     pub fn unpin(&mut self, pin: Pin)
         requires live { (v : LiveVersion) × (slot self.old.core.live pin.key ≡ Some v) × (0 < v.readers) }
         ensures stays { (v : LiveVersion) → slot self.old.core.live pin.key ≡ Some v → (v.is_current ≡ true)
