@@ -26,14 +26,14 @@ abbrev pub IsOutside : ℕ → ℕ → Option Job → Type 0
 IsOutside address count None = Unit {0}
 IsOutside address count (Some job) = lies_outside job.core address count ≡ true
 
--- A call that is answered as the machine does: so far no ring is opened, no file is updated or renamed, and no
--- directory is removed.
+-- A call that is answered as the machine does: so far no ring is opened, no file is renamed, and no directory is
+-- removed.
 abbrev pub IsServed : Call → Option Job → Type 0
 IsServed (Open channel address) job = IsUnbuffered address job
 IsServed (Inbuf channel count) job = Unit {0}
 IsServed (Outbuf channel count) job = Unit {0}
 IsServed (Lookup channel address) job = Unit {0}
-IsServed (Enter channel address) job = IsUnread channel job
+IsServed (Enter channel address) job = Unit {0}
 IsServed (Rename channel address) job = IsUnread channel job
 IsServed (In channel address) job = Unit {0}
 IsServed (Out channel address) job = Unit {0}

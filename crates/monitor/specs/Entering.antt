@@ -1,9 +1,9 @@
 -- What an ENTER does to a job and to what a volume keeps.
-use Rattle.std.specs.Prelude.{◌≡◌, ◌⊎◌, ℕ, false, is_none, Option, None, Some, slice_set}
+use Rattle.std.specs.Prelude.{◌≡◌, ◌⊎◌, ℕ, Bool, false, if◌then◌else◌, is_none, Option, None, Some, slice_set}
 use Rattle.words36.specs.declared.moment.Moment.{Moment}
 use Rattle.meaning.specs.Entering.{enter_answer}
 use Rattle.meaning.specs.Jobs as machine
-use Rattle.meaning.specs.Jobs.{State, slot, cleared, is_create}
+use Rattle.meaning.specs.Jobs.{State, slot, cleared}
 use Rattle.meaning.specs.Looking.{place_at, with_attributes}
 use Rattle.meaning.specs.Outcomes.{refused_at}
 use Rattle.meaning.specs.Room.{Pack}
@@ -15,10 +15,14 @@ use Rattle.volume.specs.Beginning.{is_update, IsBegun}
 use Rattle.volume.specs.Live.{VolumeCore}
 use Rattle.volume.specs.declared.pending.Kind.{Kind as VersionKind}
 use Rattle.monitor.specs.Finding.{file_begun, IsPrimeAt}
-use Rattle.monitor.specs.Sides.{kind_of}
 use Rattle.monitor.specs.declared.channel.Channel.{Channel}
 use Rattle.monitor.specs.declared.job.Job.{Job}
 use Rattle.monitor.specs.declared.output.Kind.{Kind}
+use Rattle.monitor.specs.declared.output.Kind.TheVariants.{Create, Supersede}
+
+-- how an output side began that writes a version without words
+abbrev pub entered_kind : Bool → Kind
+entered_kind is_new = if is_new then Create else Supersede
 
 -- the channel with an output side that has written nothing
 abbrev pub entered : Channel → ℕ → Kind → Channel
@@ -39,7 +43,7 @@ pub record IsEntering (c c' : VolumeCore) (job job' : Job) (number address : ℕ
   pub begun : IsBegun c c' key begins prime
   pub at : IsPrimeAt job address moment prime
   pub kind : Kind
-  pub kind_is : is_none begun.old ≡ is_create (kind_of kind)
+  pub kind_is : kind ≡ entered_kind (is_none begun.old)
   pub job_is : job' ≡ record job {
     core = with_attributes 1 job.core address (file_begun prime);
     channels = slice_set job.channels number (Some (entered channel key kind));

@@ -36,8 +36,6 @@ use Rattle.volume.specs.declared.pending.PendingVersion.{PendingVersion}
 use Rattle.monitor.specs.Sides.{kind_of}
 use Rattle.monitor.specs.declared.found.Found.{Found}
 use Rattle.monitor.specs.declared.found.Found.TheVariants as found
-use Rattle.monitor.specs.declared.output.Kind.{Kind}
-use Rattle.monitor.specs.declared.output.Kind.TheVariants.{Create, Supersede}
 use Rattle.monitor.specs.declared.job.Job.{Job}
 use Rattle.monitor.specs.declared.output.Output.{Output}
 
@@ -60,15 +58,15 @@ found_in (Some d) name = found_file d.protection (get d.files name)
 
 -- How a job may begin to write there, or why not: `who` asks, in the directory of `owner`.
 
-abbrev pub begun_as : Kind → Bool → Bool → Bool → Result Kind ErrorCode
+abbrev pub begun_as : VersionKind → Bool → Bool → Bool → Result VersionKind ErrorCode
 begun_as kind may is_zero is_claimed = if is_zero then Err NotFound else if not may then Err Protection
     else if is_claimed then Err BeingModified else Ok kind
 
-abbrev pub allowed : Found → ℕ → ℕ → Bool → Bool → Result Kind ErrorCode
+abbrev pub allowed : Found → ℕ → ℕ → Bool → Bool → Result VersionKind ErrorCode
 allowed found.NoDirectory who owner is_zero is_claimed = Err NoDirectory
-allowed (found.Absent p) who owner is_zero is_claimed = begun_as Create
+allowed (found.Absent p) who owner is_zero is_claimed = begun_as kinds.Create
     (may_create (directory_digit p who owner)) is_zero is_claimed
-allowed (found.Present p q) who owner is_zero is_claimed = begun_as Supersede (may_look (directory_digit p who owner)
+allowed (found.Present p q) who owner is_zero is_claimed = begun_as kinds.Supersede (may_look (directory_digit p who owner)
     && may_supersede (file_digit q who owner)) is_zero is_claimed
 
 -- how a version begins: in the place of the file that is there, or as a new one

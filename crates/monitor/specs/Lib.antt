@@ -21,3 +21,6 @@ pub mod Reading
 pub mod Refusals
 pub mod Unserved
 pub mod Promises
+pub mod Renewing
+pub mod Updating
+pub mod Closing

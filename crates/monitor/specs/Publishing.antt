@@ -64,6 +64,13 @@ IsPublishing d d' c c' failed failed' key Failed = ((failed ≡ true) ⊎ (d'.ho
     × (d'.failures ≡ d.failures)
 IsPublishing d d' c c' failed failed' key DateRange = ⊥
 
+-- A version is published, after which core is `between`; then, where it is done, versions are let go that were read, or
+-- held once more.
+pub record PublishesBy (d d' : DiskState) (c between : VolumeCore) (failed failed' : Bool) (key : ℕ)
+    (reply : Reply) : Type 0 where
+  pub whatever : MayPublish d d' c between key
+  pub answered : IsPublishing d d' c between failed failed' key reply
+
 -- What the caller has become, and what is answered, are of the machine's row; whichever job made the call.
 abbrev pub IsPublishRow : (d d' : DiskState) (c c' : VolumeCore) (failed' : Bool) → Job → Job → Call → Reply → Type 0
 IsPublishRow d d' c c' failed' job job' call reply =

@@ -1,5 +1,5 @@
 -- IN in dump mode: what it does to a channel, and to the core that its words are moved into.
-use Rattle.std.specs.Prelude.{◌≡◌, ℕ, ◌+◌, List, [], length, min, None, Some, slice_set}
+use Rattle.std.specs.Prelude.{◌≡◌, ℕ, ◌+◌, List, [], length, min, Option, None, Some, slice_set}
 use Rattle.blockdisk.specs.Disk.{DiskState}
 use Rattle.meaning.specs.CommandLists.{dump_list, word_count}
 use Rattle.meaning.specs.Cores.{after_writes, dealt}
@@ -11,11 +11,14 @@ use Rattle.meaning.specs.declared.area.Area.{Area}
 use Rattle.meaning.specs.declared.call.Reply.{Reply}
 use Rattle.meaning.specs.declared.call.Reply.TheVariants.{Done, Value, Refused, Stopped, NoChannel, AddressCheck, NoJob}
 use Rattle.meaning.specs.declared.call.Reply.TheVariants.{NoMemory, Device, Failed, DateRange}
+use Rattle.retrieval.specs.Versions.{VersionState}
 use Rattle.volume.specs.Live.{VolumeCore}
-use Rattle.volume.specs.Live.{slot as version_at}
-use Rattle.volume.specs.declared.live.LiveVersion.{LiveVersion}
+use Rattle.volume.specs.Pins.{version_under}
+use Rattle.volume.specs.declared.handles.VersionHandle.{VersionHandle}
+use Rattle.volume.specs.declared.handles.VersionHandle.TheVariants.{Pinned, Pending}
 use Rattle.monitor.specs.declared.channel.Channel.{Channel}
 use Rattle.monitor.specs.declared.input.Input.{Input}
+use Rattle.monitor.specs.declared.output.Output.{Output}
 use Rattle.monitor.specs.declared.job.Job.{Job}
 
 -- the channel once so many words are read
@@ -35,22 +38,27 @@ pub record Ingoing (job : Job) (number a : ℕ) : Type 0 where
   pub areas : List Area
   pub listed : dump_list job.core a ≡ Some areas
 
--- So many words are moved from the side's next block on into these areas of a core, which is then another one.
-pub record Moves (d d' : DiskState) (c : VolumeCore) (core core' : List ℕ) (i : Input) (areas : List Area)
-    (count : ℕ) : Type 0 where
+-- the version that a channel reads: while its output side is open what that writes, else the one that is held
+abbrev pub handle_read : Option Output → Input → VersionHandle
+handle_read None i = Pinned i.pin
+handle_read (Some o) i = Pending o.pending
+
+-- So many words of a version are moved from a block on into these areas of a core, which is then another one.
+pub record Moves (d d' : DiskState) (c : VolumeCore) (core core' : List ℕ) (handle : VersionHandle) (block : ℕ)
+    (areas : List Area) (count : ℕ) : Type 0 where
   -- a list that names words moves some
   pub some : count ≡ 0 → areas ≡ []
-  pub many : (v : LiveVersion) → version_at c.live i.pin.key ≡ Some v → (body : List ℕ) → length body ≡ v.version.words
-      → count ≡ min (word_count areas) (length (words_from body i.next))
-  pub words : d'.honest → (v : LiveVersion) → version_at c.live i.pin.key ≡ Some v → (body : List ℕ)
-      → length body ≡ v.version.words → HasBody d.contents v.version.blocks body
-      → core' ≡ after_writes core (dealt areas (words_from body i.next))
+  pub many : (v : VersionState) → version_under c handle ≡ Some v → (body : List ℕ) → length body ≡ v.words
+      → count ≡ min (word_count areas) (length (words_from body block))
+  pub words : d'.honest → (v : VersionState) → version_under c handle ≡ Some v → (body : List ℕ)
+      → length body ≡ v.words → HasBody d.contents v.blocks body
+      → core' ≡ after_writes core (dealt areas (words_from body block))
 
--- The body ends before the side's next block, and the areas have words.
-abbrev pub EndsBefore : VolumeCore → Input → List Area → Type 0
-EndsBefore c i areas =
-    (v : LiveVersion) → version_at c.live i.pin.key ≡ Some v → (body : List ℕ) → length body ≡ v.version.words
-    → (areas ≡ [] → ⊥) × (words_from body i.next ≡ [])
+-- The version's body ends before the block, and the areas have words.
+abbrev pub EndsBefore : VolumeCore → VersionHandle → ℕ → List Area → Type 0
+EndsBefore c handle block areas =
+    (v : VersionState) → version_under c handle ≡ Some v → (body : List ℕ) → length body ≡ v.words
+    → (areas ≡ [] → ⊥) × (words_from body block ≡ [])
 
 -- What an IN does to its job, by its answer, and by the disk before it and after it.
 abbrev pub IsIn : DiskState → DiskState → VolumeCore → Job → Job → ℕ → ℕ → Reply → Type 0
@@ -60,14 +68,14 @@ IsIn d d' c job job' number a Done =
       core = core;
       channels = slice_set job.channels number (Some (read_on read.at.channel read.at.input count));
     })
-    × Moves d d' c job.core core read.at.input read.areas count
+    × Moves d d' c job.core core (handle_read read.at.channel.output read.at.input) read.at.input.next read.areas count
 IsIn d d' c job job' number a (Stopped status) =
     (read : Ingoing job number a) × (status ≡ cleared read.at.channel.status + end_of_file)
     × (job' ≡ record job {
       channels = slice_set job.channels number
           (Some (record read.at.channel { status = status }));
     })
-    × EndsBefore c read.at.input read.areas
+    × EndsBefore c (handle_read read.at.channel.output read.at.input) read.at.input.next read.areas
 IsIn d d' c job job' number a (Refused code) = (job' ≡ job) × (code ≡ 5) × (c : Channel)
     × (slot job.channels number ≡ Some c) × (c.input ≡ None)
 IsIn d d' c job job' number a NoChannel = (job' ≡ job) × (slot job.channels number ≡ None)

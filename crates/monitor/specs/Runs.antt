@@ -24,8 +24,7 @@ use Rattle.monitor.specs.declared.job.Job.{Job}
 use Rattle.meaning.specs.declared.call.Event.{Event}
 use Rattle.meaning.specs.declared.call.Event.TheVariants.{Login, Deposit, Examine, Call as Calls}
 
--- Events that are served: no OPEN in a mode with buffers, no ENTER and no RENAME on a channel that reads, and no
--- DeleteDir.
+-- Events that are served: no OPEN in a mode with buffers, no RENAME on a channel that reads, and no DeleteDir.
 
 abbrev pub IsUnbufferedBy : ℕ → Option machine.Job → Type 0
 IsUnbufferedBy address None = Unit {0}
@@ -49,7 +48,7 @@ IsServedFor (Open channel address) job = IsUnbufferedBy address job
 IsServedFor (Inbuf channel count) job = Unit {0}
 IsServedFor (Outbuf channel count) job = Unit {0}
 IsServedFor (Lookup channel address) job = Unit {0}
-IsServedFor (Enter channel address) job = IsUnreadBy channel job
+IsServedFor (Enter channel address) job = Unit {0}
 IsServedFor (Rename channel address) job = IsUnreadBy channel job
 IsServedFor (In channel address) job = Unit {0}
 IsServedFor (Out channel address) job = Unit {0}

@@ -45,9 +45,9 @@ pub record AreKeyed (pending : List (Option PendingVersion)) (jobs : List (Optio
   pub once : (key : ℕ) → times key (keys_of (sides jobs)) ≡ present (pending_at pending key)
   pub each : AllByRecursion (IsSide pending) (sides jobs)
 
--- A channel that reads doesn't write, and the block that it reads next is one of a file.
+-- The block that a channel reads next is one of a file.
 abbrev pub IsReader : Channel → Type 0
-IsReader c = (i : Input) → c.input ≡ Some i → (c.output ≡ None) × (0 < i.next)
+IsReader c = (i : Input) → c.input ≡ Some i → 0 < i.next
 
 -- So it is with the channels of a job, of which there are sixteen.
 pub record HasReaders (job : Job) : Type 0 where

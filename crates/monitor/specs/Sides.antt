@@ -9,7 +9,7 @@ use Rattle.meaning.specs.Published.{Version}
 use Rattle.meaning.specs.Stands.{place_of}
 use Rattle.monitor.specs.declared.input.Input.{Input}
 use Rattle.monitor.specs.declared.output.Kind.{Kind}
-use Rattle.monitor.specs.declared.output.Kind.TheVariants.{Create, Supersede}
+use Rattle.monitor.specs.declared.output.Kind.TheVariants.{Create, Supersede, Update, Append}
 use Rattle.monitor.specs.declared.output.Output.{Output}
 use Rattle.monitor.specs.declared.channel.Channel.{Channel}
 use Rattle.monitor.specs.declared.job.Job.{Job}
@@ -68,6 +68,8 @@ pub record UnderKeys : Type 0 where
 abbrev pub kind_of : Kind → machine.Kind
 kind_of Create = machine.Create
 kind_of Supersede = machine.Supersede
+kind_of Update = machine.Update
+kind_of (Append blocks) = machine.Append blocks
 
 abbrev pub output_of : UnderKeys → Output → machine.Output
 output_of under o = record {

@@ -20,13 +20,13 @@ abbrev pub IsReading : Option Channel → Type 0
 IsReading None = ⊥
 IsReading (Some c) = IsSome c.input
 
--- An OPEN in a mode with buffers, an ENTER or a RENAME on a channel that reads, and a DeleteDir.
+-- An OPEN in a mode with buffers, a RENAME on a channel that reads, and a DeleteDir.
 abbrev pub IsUnserved : Call → Job → Type 0
 IsUnserved (Open channel address) job = is_buffered (mode_at job.core address) ≡ true
 IsUnserved (Inbuf channel count) job = ⊥
 IsUnserved (Outbuf channel count) job = ⊥
 IsUnserved (Lookup channel address) job = ⊥
-IsUnserved (Enter channel address) job = IsReading (slot job.channels channel)
+IsUnserved (Enter channel address) job = ⊥
 IsUnserved (Rename channel address) job = IsReading (slot job.channels channel)
 IsUnserved (In channel address) job = ⊥
 IsUnserved (Out channel address) job = ⊥
@@ -65,8 +65,7 @@ UnservedRow (Open channel address) job job' reply = (job' ≡ job)
 UnservedRow (Inbuf channel count) job job' reply = Unit {0}
 UnservedRow (Outbuf channel count) job job' reply = Unit {0}
 UnservedRow (Lookup channel address) job job' reply = Unit {0}
-UnservedRow (Enter channel address) job job' reply = (reply ≡ refusal_at job address 4)
-    × (job' ≡ job_refused job address 4)
+UnservedRow (Enter channel address) job job' reply = Unit {0}
 UnservedRow (Rename channel address) job job' reply = (reply ≡ refusal_at job address 4)
     × (job' ≡ job_refused job address 4)
 UnservedRow (In channel address) job job' reply = Unit {0}

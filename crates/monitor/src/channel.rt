@@ -1,7 +1,7 @@
 use crate::input::Input;
 use crate::output::Output;
 
-/// An open channel, in dump mode. It has no side, or one of the two.
+/// An open channel, in dump mode. It has no side, one of the two, or both where it updates what it reads.
 #[derive(Clone, Copy, Debug, PartialEq, Eq)]
 pub struct Channel {
     /// The address of the input ring's header that OPEN named, 0 for none. In dump mode there is no ring.

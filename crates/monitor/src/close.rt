@@ -1,34 +1,41 @@
-ghost use Rattle.std.specs.Prelude.{if◌then◌else◌, IfSome, ◌≡◌, ◌≤◌, ℕ, Some, None, false, ◌<◌, IsSome, slice_set};
+ghost use Rattle.std.specs.Prelude.{if◌then◌else◌, IfSome, ◌≡◌, ◌≤◌, ℕ, Some, None, true, false, ◌<◌, ◌+◌, ◌^◌, IsSome};
+ghost use Rattle.std.specs.Prelude.{slice_set};
 ghost use Rattle.meaning.specs.Jobs.{slot, cleared};
 ghost use Rattle.meaning.specs.Maps.{times};
 ghost use Rattle.meaning.specs.declared.call.Call.TheVariants.{Close};
 ghost use Rattle.meaning.specs.declared.call.Reply.TheVariants.{NoMemory, Device, Failed, Refused, Done};
-ghost use Rattle.volume.specs.Live.{pending_at, slot as version_at};
+ghost use Rattle.volume.specs.Live.{VolumeCore, pending_at, slot as version_at};
+ghost use Rattle.volume.specs.declared.live.LiveVersion.{LiveVersion};
 ghost use Rattle.monitor.specs.Dropping.{Leaves};
 ghost use Rattle.monitor.specs.Readers.{readers_of};
 ghost use Rattle.monitor.specs.Rows.{IsRow, Keeps, KeepsReading, publishes_at, ClosesSide};
 ghost use Rattle.monitor.specs.Serving.{present};
 ghost use Rattle.monitor.specs.Sides.{sides_in, keys_of, readers_in, pins_of};
-ghost use Rattle.meaning.specs.Closing.{keeps_output, discards};
+ghost use Rattle.meaning.specs.Closing.{keeps_output, keeps_input, discards};
 ghost use Rattle.volume.specs.Publishing.{IsPlaced};
 ghost use Rattle.volume.specs.declared.pending.PendingVersion.{PendingVersion};
-ghost use Rattle.monitor.specs.Publishing.{MayPublish, IsPublishing, IsPublishRow, CrashesAsRow, StillStands};
+ghost use Rattle.monitor.specs.Publishing.{PublishesBy, IsPublishRow, CrashesAsRow, StillStands};
+ghost use Rattle.monitor.specs.Closing.{both_closed, output_closed};
 ghost use Rattle.monitor.specs.Promises.{IsReady, ServesAlways};
 ghost use Rattle.volume.specs.Rest.{IsSound};
 
 use crate::channel::Channel;
 use crate::dropping::{drop_output, release_input};
+use crate::holding::renew;
+use crate::input::Input;
 use crate::job::Job;
 use crate::output::Output;
 use crate::publishing::publish_output;
 use crate::status::cleared;
+use crate::update::prime_of;
 use blockdisk::Disk;
 use meaning::Reply;
 use std::alloc::Global;
 use volume::Volume;
 
 /// CLOSE: without bit 1 the output side closes, and becomes the file of its name, or with bit 40 (octal) is dropped;
-/// without bit 2 the input side closes. Its rows are `close_output`, where it publishes, and `close`.
+/// without bit 2 the input side closes, and with it it holds the version that is published. Its rows are `close_output`
+/// and `close_and_hold`, where it publishes, and `close`.
 pub fn serve_close<D: Disk>(
     alloc: Global,
     volume: &mut Volume<D>,
@@ -40,10 +47,20 @@ pub fn serve_close<D: Disk>(
     ensures serving { ServesAlways D.state volume.old.disk volume.new.disk volume.old.core volume.new.core
         volume.new.failed job.old job.new (Close channel bits) result }
 {
-    match closed_side(job, channel, bits) {
-        Some((open, output)) => close_output(alloc, volume, job, channel, open, output),
-        None => close(volume, job, channel, bits),
+    let Some((open, output)) = closed_side(job, channel, bits) else {
+        return close(volume, job, channel, bits);
+    };
+    match input_kept(open, bits) {
+        Some(input) => close_and_hold(alloc, volume, job, channel, open, output, input),
+        None => close_output(alloc, volume, job, channel, open, output),
     }
+}
+
+/// The input side that a CLOSE of a channel with these bits keeps.
+fn input_kept(channel: Channel, bits: u32) -> Option<Input>
+    ensures { result ≡ (if keeps_input bits then channel.input else None) }
+{
+    if bits / 2 % 2 == 1 { channel.input } else { None }
 }
 
 /// The output side that a CLOSE of a channel with these bits publishes, and the channel.
@@ -102,8 +119,8 @@ fn close<D: Disk>(volume: &mut Volume<D>, job: &mut Job, number: u32, bits: u32)
     Reply::Done
 }
 
-/// CLOSE of a channel with an output side, with neither bit 1 nor bit 40 (octal): publishes what it has written,
-/// and closes it. Where that isn't done the side stays as it is.
+/// CLOSE of a channel with an output side, with neither bit 1 nor bit 40 (octal), that keeps no input side: publishes what
+/// the channel has written, and closes both sides. Where that isn't done they stay as they are.
 fn close_output<D: Disk>(
     alloc: Global,
     volume: &mut Volume<D>,
@@ -113,31 +130,28 @@ fn close_output<D: Disk>(
     output: Output,
 ) -> Reply
     requires sound { IsSound (D.state volume.old.disk) volume.old.core volume.old.failed }
-    // The channel has this side alone, of a version that may be published.
+    // The channel has this side, of a version that may be published.
     requires there { slot job.old.channels number ≡ Some channel }
     requires side { channel.output ≡ Some output }
-    requires single { channel.input ≡ None }
     requires live { IsSome (pending_at volume.old.core.pending output.pending.key) }
     requires starts { 0 < output.next }
     requires placed { (p : PendingVersion) → pending_at volume.old.core.pending output.pending.key ≡ Some p
         → IsPlaced volume.old.core p }
+    // What the job reads is held.
+    requires held { (key : ℕ) → times key (pins_of (readers_in (Some job.old)))
+        ≤ readers_of (version_at volume.old.core.live key) }
     // The volume, whatever is answered.
-    ensures whatever { MayPublish (D.state volume.old.disk) (D.state volume.new.disk) volume.old.core volume.new.core
-        output.pending.key }
-    ensures answered { IsPublishing (D.state volume.old.disk) (D.state volume.new.disk) volume.old.core
-        volume.new.core volume.old.failed volume.new.failed output.pending.key result }
+    ensures published { (between : VolumeCore) × PublishesBy (D.state volume.old.disk) (D.state volume.new.disk)
+        volume.old.core between volume.old.failed volume.new.failed output.pending.key result }
     ensures memory { result ≡ NoMemory → (volume.new.disk ≡ volume.old.disk) × (volume.new.core ≡ volume.old.core) }
-    // The job: the side closes where it is done.
+    // The job: the sides close where it is done.
     ensures closed { result ≡ Done → job.new
-        ≡ record job.old {
-          channels = slice_set job.old.channels number
-              (Some (record channel { status = cleared channel.status; output = None }));
-        } }
+        ≡ record job.old { channels = slice_set job.old.channels number (Some (both_closed channel)) } }
     ensures kept { (result ≡ Done → ⊥) → job.new ≡ job.old }
-    ensures keeps { result ≡ Done → Keeps volume.old.core.pending volume.new.core.pending job.old job.new }
     ensures stands { StillStands volume.old.core volume.new.core volume.new.failed job.old job.new }
-    // The machine's row, for whichever bits publish.
+    // The machine's row, for whichever bits publish and keep no input side.
     ensures row { volume.old.failed ≡ false → (bits : ℕ) → keeps_output bits ≡ false → discards bits ≡ false
+        → (if keeps_input bits then channel.input else None) ≡ None
         → IsPublishRow (D.state volume.old.disk) (D.state volume.new.disk) volume.old.core volume.new.core
         volume.new.failed job.old job.new (Close number bits) result }
     ensures crash { (bits : ℕ) → keeps_output bits ≡ false → discards bits ≡ false
@@ -145,8 +159,70 @@ fn close_output<D: Disk>(
 {
     let reply = publish_output(alloc, volume, output);
     if reply == Reply::Done {
+        release_input(volume, channel.input);
         let closed = Channel {
             status: cleared(channel.status),
+            input: None,
+            output: None,
+            ..channel
+        };
+        job.set_channel(number, Some(closed));
+    }
+    reply
+}
+
+/// CLOSE of a channel with both sides, with neither bit 1 nor bit 40 (octal), that keeps the input side: publishes what
+/// the channel has written, and closes the output side; the input side comes to hold the version that is published.
+/// Where that isn't done both stay as they are.
+fn close_and_hold<D: Disk>(
+    alloc: Global,
+    volume: &mut Volume<D>,
+    job: &mut Job,
+    number: u32,
+    channel: Channel,
+    output: Output,
+    input: Input,
+) -> Reply
+    requires sound { IsSound (D.state volume.old.disk) volume.old.core volume.old.failed }
+    // The channel has these sides, of a version that may be published.
+    requires there { slot job.old.channels number ≡ Some channel }
+    requires side { channel.output ≡ Some output }
+    requires reads { channel.input ≡ Some input }
+    requires live { IsSome (pending_at volume.old.core.pending output.pending.key) }
+    requires starts { 0 < output.next }
+    requires placed { (p : PendingVersion) → pending_at volume.old.core.pending output.pending.key ≡ Some p
+        → IsPlaced volume.old.core p }
+    // What the job reads is held.
+    requires held { (key : ℕ) → times key (pins_of (readers_in (Some job.old)))
+        ≤ readers_of (version_at volume.old.core.live key) }
+    requires few { (key : ℕ) (v : LiveVersion) → version_at volume.old.core.live key ≡ Some v
+        → v.readers + 1 < 2 ^ 32 }
+    // The volume, whatever is answered.
+    ensures published { (between : VolumeCore) × PublishesBy (D.state volume.old.disk) (D.state volume.new.disk)
+        volume.old.core between volume.old.failed volume.new.failed output.pending.key result }
+    ensures memory { result ≡ NoMemory → (volume.new.disk ≡ volume.old.disk) × (volume.new.core ≡ volume.old.core) }
+    // The job: the output side closes where it is done.
+    ensures closed { result ≡ Done → (renewed : Input) × (renewed ≡ record input { pin = renewed.pin })
+        × (job.new ≡ record job.old {
+          channels = slice_set job.old.channels number (Some (output_closed channel renewed));
+        }) }
+    ensures kept { (result ≡ Done → ⊥) → job.new ≡ job.old }
+    ensures stands { StillStands volume.old.core volume.new.core volume.new.failed job.old job.new }
+    // The machine's row, for whichever bits publish and keep the input side.
+    ensures row { volume.old.failed ≡ false → (bits : ℕ) → keeps_output bits ≡ false → discards bits ≡ false
+        → keeps_input bits ≡ true
+        → IsPublishRow (D.state volume.old.disk) (D.state volume.new.disk) volume.old.core volume.new.core
+        volume.new.failed job.old job.new (Close number bits) result }
+    ensures crash { (bits : ℕ) → keeps_output bits ≡ false → discards bits ≡ false
+        → CrashesAsRow (D.state volume.old.disk) (D.state volume.new.disk) volume.old.core job.old (Close number bits) }
+{
+    let prime = prime_of(volume, output.pending);
+    let reply = publish_output(alloc, volume, output);
+    if reply == Reply::Done {
+        let renewed = renew(volume, input, prime.ppn, prime.file);
+        let closed = Channel {
+            status: cleared(channel.status),
+            input: Some(renewed),
             output: None,
             ..channel
         };

@@ -4,7 +4,7 @@ ghost use Rattle.words36.specs.Words.{left, IsPpn};
 ghost use Rattle.meaning.specs.Cores.{lies_outside};
 ghost use Rattle.meaning.specs.Entering.{protection_or, enter_answer, output_opened};
 ghost use Rattle.meaning.specs.Files.{File, Files};
-ghost use Rattle.meaning.specs.Jobs.{State, slot, channel_at, is_create};
+ghost use Rattle.meaning.specs.Jobs.{State, slot, channel_at};
 ghost use Rattle.meaning.specs.Looking.{own_if_zero, place_at, with_attributes};
 ghost use Rattle.meaning.specs.Maps.{get};
 ghost use Rattle.meaning.specs.Published.{file_at, attributes};
@@ -21,12 +21,10 @@ ghost use Rattle.volume.specs.declared.pending.PendingVersion.{PendingVersion};
 ghost use Rattle.volume.specs.Claims.{claims};
 ghost use Rattle.monitor.specs.Finding.{found_in, begun_as, allowed, kind_for, protection_for, file_begun, IsKnown};
 ghost use Rattle.monitor.specs.Finding.{IsAnswer, IsPrimeAt, begin_answer_at};
-ghost use Rattle.monitor.specs.Entering.{IsEntering, IsEnterAnswer};
+ghost use Rattle.monitor.specs.Entering.{entered_kind, IsEntering, IsEnterAnswer};
 ghost use Rattle.monitor.specs.Rows.{KeepsReading};
-ghost use Rattle.monitor.specs.Unserved.{IsReading, refusal_at, job_refused};
 ghost use Rattle.monitor.specs.Serving.{pack_of, ArePlaced};
-ghost use Rattle.monitor.specs.declared.output.Kind.{Kind};
-ghost use Rattle.monitor.specs.Sides.{UnderKeys, kind_of, job_of, reader_of};
+ghost use Rattle.monitor.specs.Sides.{UnderKeys, job_of, reader_of};
 ghost use Rattle.monitor.specs.Refusals.{with_code};
 ghost use Rattle.meaning.specs.declared.call.Call.TheVariants.{Enter};
 ghost use Rattle.monitor.specs.Promises.{IsReady, ServesJob};
@@ -37,6 +35,7 @@ use crate::job::Job;
 use crate::open::{lies_outside, word_at};
 use crate::output::{Kind, Output};
 use crate::status::{cleared, refuse};
+use crate::update::{reading_side, update};
 use blockdisk::Disk;
 use meaning::{Act, ErrorCode, Reply};
 use protect::{DirectoryAct, acts_are_nested, dir_right, right};
@@ -46,7 +45,8 @@ use usercore::Core;
 use volume::{CallError, Kind as VersionKind, Pending, Volume};
 use words36::{FileName, Half, Moment, Ppn, Word};
 
-/// ENTER: opens an output side for the file that the four words at an address name, at a moment. Its row is `enter`.
+/// ENTER: opens an output side for the file that the four words at an address name, at a moment. Its rows are `update`
+/// on a channel that reads a file, and `enter`.
 pub fn serve_enter<D: Disk>(
     alloc: Global,
     volume: &mut Volume<D>,
@@ -60,11 +60,14 @@ pub fn serve_enter<D: Disk>(
     ensures serving { ServesJob D.state volume.old.disk volume.new.disk volume.old.core volume.new.core
         volume.new.failed job.old job.new (Enter channel address) moment result }
 {
-    enter(alloc, volume, job, channel, address, moment)
+    match reading_side(job, channel) {
+        Some((open, input)) => update(alloc, volume, job, channel, address, moment, open, input),
+        None => enter(alloc, volume, job, channel, address, moment),
+    }
 }
 
 /// What stands at a place of a volume.
-fn find<D: Disk>(volume: &Volume<D>, ppn: Ppn, file: &FileName) -> Found
+pub fn find<D: Disk>(volume: &Volume<D>, ppn: Ppn, file: &FileName) -> Found
     ensures { (D.state volume.now.disk).honest → volume.now.failed ≡ false → (files : Files File)
         → RestsAt (D.state volume.now.disk) files
         → result ≡ found_in (get files ppn) file.now }
@@ -88,7 +91,12 @@ fn may_supersede(protection: u16, own: u16, who: Ppn, owner: Ppn) -> bool
 }
 
 /// How a job begins to write that may do so, or why not.
-fn begin_as(kind: Kind, may: bool, is_zero: bool, is_claimed: bool) -> Result<Kind, ErrorCode>
+fn begin_as(
+    kind: VersionKind,
+    may: bool,
+    is_zero: bool,
+    is_claimed: bool,
+) -> Result<VersionKind, ErrorCode>
     ensures { result ≡ begun_as kind may is_zero is_claimed }
 {
     if is_zero {
@@ -110,18 +118,18 @@ fn allow(
     owner: Ppn,
     is_zero: bool,
     is_claimed: bool,
-) -> Result<Kind, ErrorCode>
+) -> Result<VersionKind, ErrorCode>
     ensures { result ≡ allowed found who owner is_zero is_claimed }
 {
     match found {
         Found::NoDirectory => Err(ErrorCode::NoDirectory),
         Found::Absent(protection) => {
             let may = dir_right(protection, who, owner, DirectoryAct::Create);
-            begin_as(Kind::Create, may, is_zero, is_claimed)
+            begin_as(VersionKind::Create, may, is_zero, is_claimed)
         }
         Found::Present(protection, own) => {
             let may = may_supersede(protection, own, who, owner);
-            begin_as(Kind::Supersede, may, is_zero, is_claimed)
+            begin_as(VersionKind::Supersede, may, is_zero, is_claimed)
         }
     }
 }
@@ -182,14 +190,14 @@ pub fn name_at(core: &Core, address: u32) -> FileName
     }
 }
 
-/// How an output side began that writes a version.
+/// How an output side began that writes a version without words.
 fn kind_of<D: Disk>(volume: &Volume<D>, pending: Pending) -> Kind
     ensures { (p : PendingVersion) → pending_at volume.now.core.pending pending.key ≡ Some p
-        → is_creation p ≡ is_create (kind_of result) }
+        → result ≡ entered_kind (is_creation p) }
 {
     match volume.kind(pending) {
         Some(VersionKind::Create) => Kind::Create,
-        _ => Kind::Supersede, // no file is updated yet
+        _ => Kind::Supersede,
     }
 }
 
@@ -249,7 +257,7 @@ fn may_begin<D: Disk>(
         → RestsAt (D.state volume.now.disk) files
         → MatchResult result
         (λ found. (found ≡ found_in (get files owner) file.now)
-        × ((kind : Kind) × (allowed found who owner (file.now.name
+        × ((kind : VersionKind) × (allowed found who owner (file.now.name
         == 0) (claims volume.now.core.pending (place_of owner file.now)) ≡ Ok kind)))
         (λ code. allowed (found_in (get files owner) file.now) who owner (file.now.name
         == 0) (claims volume.now.core.pending (place_of owner file.now)) ≡ Err code) }
@@ -312,7 +320,7 @@ fn begin_at<D: Disk>(
 }
 
 /// Puts the attributes of a version that is begun into the second and third of the words at an address.
-fn put_attributes(core: &mut Core, address: u32, prime: &Prime)
+pub fn put_attributes(core: &mut Core, address: u32, prime: &Prime)
     requires { address + 4 ≤ 0o400000 }
     ensures { core.new ≡ with_attributes 1 core.old address (file_begun prime.now) }
 {
@@ -322,8 +330,7 @@ fn put_attributes(core: &mut Core, address: u32, prime: &Prime)
 }
 
 /// ENTER: opens an output side for the file that the four words at an address name: a new one, or one that will
-/// take the place of the file of that name. Its attributes are put into the words. A file isn't updated: on a channel
-/// that reads one it is refused.
+/// take the place of the file of that name. Its attributes are put into the words. The channel reads nothing.
 fn enter<D: Disk>(
     alloc: Global,
     volume: &mut Volume<D>,
@@ -336,6 +343,7 @@ fn enter<D: Disk>(
     // The volume serves.
     requires timely { moment.date ≤ 4095 }
     requires alive { volume.old.failed ≡ false }
+    requires unread { reader_of (slot job.old.channels number) ≡ None }
     // The disk is left alone.
     ensures untouched { (volume.new.disk ≡ volume.old.disk) × (volume.new.failed ≡ volume.old.failed) }
     ensures only { (result ≡ Failed → ⊥) × (result ≡ Device → ⊥) }
@@ -350,10 +358,7 @@ fn enter<D: Disk>(
         × (job.new ≡ record job.old { core = job.new.core }) }
     ensures memory { result ≡ NoMemory → job.new ≡ job.old }
     ensures reads { KeepsReading volume.old.core.live volume.new.core.live job.old job.new }
-    // On a channel that reads no file is updated yet.
-    ensures unserved { IsReading (slot job.old.channels number) → (result ≡ refusal_at job.old address 4)
-        × (job.new ≡ job_refused job.old address 4) }
-    ensures row { (D.state volume.new.disk).honest → reader_of (slot job.old.channels number) ≡ None → (s : State)
+    ensures row { (D.state volume.new.disk).honest → (s : State)
         → IsKnown (D.state volume.old.disk) volume.old.core s
         → (under : UnderKeys) → IsEnterAnswer (pack_of (D.state volume.old.disk)) s (job_of under job.old)
         (job_of under job.new) (channel_at (job_of under job.old) number) address result }
@@ -365,7 +370,7 @@ fn enter<D: Disk>(
     if lies_outside(&job.core, address, 4) {
         return Reply::AddressCheck;
     }
-    if channel.input.is_some() || channel.output.is_some() {
+    if channel.output.is_some() {
         return refuse(&mut job.core, address, ErrorCode::Sequence);
     }
     match begin_at(alloc, volume, job, address, moment) {

@@ -1,7 +1,8 @@
 use volume::Pin;
 use words36::{FileName, Ppn};
 
-/// The input side of a channel: the version that LOOKUP found, which the volume holds for it.
+/// The input side of a channel: the version that LOOKUP found, or the one that the channel updates or has published
+/// since, which the volume holds for it.
 #[derive(Clone, Copy, Debug, PartialEq, Eq)]
 pub struct Input {
     /// The version.

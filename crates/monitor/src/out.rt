@@ -1,5 +1,5 @@
 ghost use Rattle.std.specs.Prelude.{◌≡◌, ◌⊎◌, ◌↔◌, ◌<◌, ◌≤◌, ◌+◌, ◌^◌, ℕ, false, IsTrue, All, IfOk, IfErr, IsErrOf};
-ghost use Rattle.std.specs.Prelude.{length, None, Some};
+ghost use Rattle.std.specs.Prelude.{length, None, Some, not, ◌&&◌, ◌==◌};
 ghost use Rattle.std.specs.List.{AllByRecursion};
 ghost use Rattle.blockdisk.specs.Disk.{LeavesOnly, SameDisk, one_more};
 ghost use Rattle.meaning.specs.CommandLists.{dump_list, word_count};
@@ -8,6 +8,7 @@ ghost use Rattle.meaning.specs.Costs.{blocks_of};
 ghost use Rattle.meaning.specs.Files.{File, Files};
 ghost use Rattle.meaning.specs.Jobs.{slot};
 ghost use Rattle.meaning.specs.Maps.{times};
+ghost use Rattle.meaning.specs.Outputs.{is_before_end};
 ghost use Rattle.meaning.specs.Stands.{Stands};
 ghost use Rattle.usercore.specs.declared.error.CoreError.TheVariants.{AddressCheck, NoMemory};
 ghost use Rattle.meaning.specs.declared.call.Reply.TheVariants.{Device, Failed};
@@ -17,13 +18,13 @@ ghost use Rattle.volume.specs.declared.pending.PendingVersion.{PendingVersion};
 ghost use Rattle.monitor.specs.Putting.{words_at, moved, IsOther, IsOut};
 ghost use Rattle.monitor.specs.Rows.{Keeps, KeepsReading};
 ghost use Rattle.monitor.specs.Serving.{present, IsSide};
-ghost use Rattle.monitor.specs.Sides.{sides_in, keys_of};
+ghost use Rattle.monitor.specs.Sides.{kind_of, sides_in, keys_of};
 ghost use Rattle.meaning.specs.declared.call.Call.TheVariants.{Out};
 ghost use Rattle.monitor.specs.Promises.{IsReady, ServesAlways};
 
 use crate::channel::Channel;
 use crate::job::Job;
-use crate::output::Output;
+use crate::output::{Kind, Output};
 use crate::status::{BLOCK_TOO_LARGE, cleared, stop};
 use blockdisk::Disk;
 use meaning::{ErrorCode, Reply};
@@ -98,8 +99,18 @@ fn moved(channel: Channel, output: Output, count: usize) -> Channel
     }
 }
 
+/// Whether so many words would be put over blocks that an append began with.
+fn is_kept(output: Output, count: usize) -> bool
+    ensures { result ≡ (not (count == 0) && is_before_end (kind_of output.kind) output.next) }
+{
+    match output.kind {
+        Kind::Append(blocks) => count != 0 && output.next <= blocks,
+        Kind::Create | Kind::Supersede | Kind::Update => false,
+    }
+}
+
 /// OUT: puts the words that the command list at an address names at the block that a channel writes next, and
-/// moves on behind them.
+/// moves on behind them. Where they find no room, or would be put over what an append began with, it is stopped.
 fn out<D: Disk>(
     alloc: Global,
     volume: &mut Volume<D>,
@@ -154,6 +165,9 @@ fn out<D: Disk>(
         Err(CoreError::AddressCheck) => return Reply::AddressCheck,
         Err(CoreError::NoMemory) => return Reply::NoMemory,
     };
+    if is_kept(output, words.len()) {
+        return stop(job, number, channel, BLOCK_TOO_LARGE);
+    }
     match volume.put_words(output.pending, output.next, words.as_slice()) {
         Ok(()) => {
             let moved = moved(channel, output, words.len());

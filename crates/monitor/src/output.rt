@@ -7,6 +7,10 @@ pub enum Kind {
     Create,
     /// It will take the place of a file.
     Supersede,
+    /// It began with the words of a file, and writes over any of them.
+    Update,
+    /// It began with the words of a file of so many blocks, and writes behind these alone.
+    Append(u32),
 }
 
 /// The output side of a channel. Place, protection, mode and moment of what is written, and its words, are those of

@@ -5,26 +5,27 @@ ghost use Rattle.meaning.specs.Costs.{blocks_of};
 ghost use Rattle.meaning.specs.Files.{File, Files};
 ghost use Rattle.meaning.specs.Maps.{times};
 ghost use Rattle.meaning.specs.declared.call.Reply.TheVariants.{Device, Failed, NoMemory};
-ghost use Rattle.volume.specs.Live.{slot as version_at};
+ghost use Rattle.volume.specs.Live.{pending_at, slot as version_at};
 ghost use Rattle.volume.specs.Rest.{IsSound, RestsAt};
 ghost use Rattle.monitor.specs.Events.{IsIdle};
 ghost use Rattle.monitor.specs.Readers.{readers_of};
-ghost use Rattle.monitor.specs.Reading.{read_on, IsIn};
+ghost use Rattle.monitor.specs.Reading.{handle_read, read_on, IsIn};
 ghost use Rattle.monitor.specs.Rows.{KeepsReading};
-ghost use Rattle.monitor.specs.Serving.{HasReaders};
-ghost use Rattle.monitor.specs.Sides.{readers_in, pins_of};
+ghost use Rattle.monitor.specs.Serving.{present, HasReaders};
+ghost use Rattle.monitor.specs.Sides.{sides_in, keys_of, readers_in, pins_of};
 ghost use Rattle.meaning.specs.declared.call.Call.TheVariants.{In};
 ghost use Rattle.monitor.specs.Promises.{IsReady, ServesAlways};
 
 use crate::channel::Channel;
 use crate::input::Input;
 use crate::job::Job;
+use crate::output::Output;
 use crate::read_in::{ReadIn, read_in};
 use crate::status::{cleared, stop};
 use blockdisk::Disk;
 use meaning::{ErrorCode, Reply};
 use std::alloc::Global;
-use volume::Volume;
+use volume::{VersionHandle, Volume};
 use words36::BLOCK_WORDS;
 
 /// What a channel reports of a body that has no more words.
@@ -64,6 +65,17 @@ fn read_on(channel: Channel, input: Input, count: usize) -> Channel
     }
 }
 
+/// The version that a channel reads: while its output side is open what that writes, else the one that is held for its
+/// input side.
+fn handle_read(output: Option<Output>, input: Input) -> VersionHandle
+    ensures { result ≡ handle_read output input }
+{
+    match output {
+        Some(output) => VersionHandle::Pending(output.pending),
+        None => VersionHandle::Pinned(input.pin),
+    }
+}
+
 /// IN: moves the words of the version that a channel reads, from its next block on, into the areas of core that the
 /// command list at an address names, and moves on behind them. Where the body has no more words it is stopped.
 fn read<D: Disk>(
@@ -79,6 +91,9 @@ fn read<D: Disk>(
     requires held { (key : ℕ) → times key (pins_of (readers_in (Some job.old)))
         ≤ readers_of (version_at volume.old.core.live key) }
     requires readers { HasReaders job.old }
+    // and what it writes.
+    requires live { (key : ℕ) → times key (keys_of (sides_in (Some job.old)))
+        ≤ present (pending_at volume.old.core.pending key) }
 
     // The volume, and what the job reads.
     ensures core { volume.new.core ≡ volume.old.core }
@@ -107,7 +122,8 @@ fn read<D: Disk>(
     let Some(input) = side else {
         return Reply::Refused(ErrorCode::Sequence.number());
     };
-    match read_in(alloc, volume, &mut job.core, input.pin, input.next, address) {
+    let handle = handle_read(channel.output, input);
+    match read_in(alloc, volume, &mut job.core, handle, input.next, address) {
         ReadIn::Moved(count) => {
             job.set_channel(number, Some(read_on(channel, input, count)));
             Reply::Done

@@ -8,18 +8,16 @@ ghost use Rattle.meaning.specs.Files.{File, Files};
 ghost use Rattle.meaning.specs.Retrieval.{HasBody};
 ghost use Rattle.meaning.specs.Splices.{words_from};
 ghost use Rattle.meaning.specs.declared.area.Area.{Area as Words};
-ghost use Rattle.volume.specs.Live.{slot};
-ghost use Rattle.volume.specs.Pins.{IsReadable};
+ghost use Rattle.retrieval.specs.Versions.{VersionState};
+ghost use Rattle.volume.specs.Pins.{IsReadable, version_under};
 ghost use Rattle.volume.specs.Rest.{RestsAt};
-ghost use Rattle.volume.specs.declared.handles.VersionHandle.TheVariants.{Pinned};
-ghost use Rattle.volume.specs.declared.live.LiveVersion.{LiveVersion};
 ghost use Rattle.monitor.specs.declared.read_in.ReadIn.TheVariants.{Moved, AddressCheck, AtEnd, NoMemory, Device};
 ghost use Rattle.monitor.specs.declared.read_in.ReadIn.TheVariants.{Failed};
 
 use blockdisk::Disk;
 use std::alloc::Global;
 use usercore::{Area, Core, word_count};
-use volume::{CallError, Pin, VersionHandle, Volume};
+use volume::{CallError, VersionHandle, Volume};
 use words36::Word;
 
 /// How an IN ends.
@@ -63,30 +61,30 @@ pub fn read_in<D: Disk>(
     alloc: Global,
     volume: &mut Volume<D>,
     core: &mut Core,
-    pin: Pin,
+    handle: VersionHandle,
     block: u32,
     address: u32,
 ) -> ReadIn
     requires alive { volume.old.failed ≡ false }
-    requires live { IsReadable volume.old.core (Pinned pin) }
+    requires live { IsReadable volume.old.core handle }
     requires first { 0 < block }
     // The list decides on every disk.
     ensures checked { result ≡ AddressCheck ↔ (dump_list core.old address ≡ None) }
     ensures named { result ≡ Moved 0 ↔ (dump_list core.old address ≡ Some []) }
-    // The words are those of the body that was pinned,
-    ensures moved { (D.state volume.new.disk).honest → (v : LiveVersion) → slot volume.old.core.live pin.key ≡ Some v
-        → (body : List ℕ) → length body ≡ v.version.words
-        → HasBody (D.state volume.old.disk).contents v.version.blocks body → (areas : List Words)
+    // The words are those of the version's body,
+    ensures moved { (D.state volume.new.disk).honest → (v : VersionState)
+        → version_under volume.old.core handle ≡ Some v → (body : List ℕ) → length body ≡ v.words
+        → HasBody (D.state volume.old.disk).contents v.blocks body → (areas : List Words)
         → dump_list core.old address ≡ Some areas
         → (n : ℕ) → result ≡ Moved n → core.new ≡ after_writes core.old (dealt areas (words_from body block)) }
     // and, on every disk, as many as the list names and the body has.
-    ensures number { (v : LiveVersion) → slot volume.old.core.live pin.key ≡ Some v → (body : List ℕ)
-        → length body ≡ v.version.words → (areas : List Words) → dump_list core.old address ≡ Some areas
+    ensures number { (v : VersionState) → version_under volume.old.core handle ≡ Some v → (body : List ℕ)
+        → length body ≡ v.words → (areas : List Words) → dump_list core.old address ≡ Some areas
         → (n : ℕ) → result ≡ Moved n → n ≡ min (word_count areas) (length (words_from body block)) }
     ensures few { (areas : List Words) → dump_list core.old address ≡ Some areas → (n : ℕ) → result ≡ Moved n
         → n ≤ word_count areas }
-    ensures at_end { (v : LiveVersion) → slot volume.old.core.live pin.key ≡ Some v → (body : List ℕ)
-        → length body ≡ v.version.words → (areas : List Words) → dump_list core.old address ≡ Some areas
+    ensures at_end { (v : VersionState) → version_under volume.old.core handle ≡ Some v → (body : List ℕ)
+        → length body ≡ v.words → (areas : List Words) → dump_list core.old address ≡ Some areas
         → result ≡ AtEnd → (0 < word_count areas) × (words_from body block ≡ []) }
     ensures kept { ((n : ℕ) → 0 < n → result ≡ Moved n → ⊥) → core.new ≡ core.old }
     ensures length { length core.new ≡ length core.old }
@@ -113,7 +111,7 @@ pub fn read_in<D: Disk>(
     if count == 0 {
         return ReadIn::Moved(0);
     }
-    match volume.get_words(alloc, VersionHandle::Pinned(pin), block, count as u32) {
+    match volume.get_words(alloc, handle, block, count as u32) {
         Ok(words) => fill(core, areas.as_slice(), words.as_slice()),
         Err(CallError::NoMemory) => ReadIn::NoMemory,
         Err(CallError::Device) => ReadIn::Device,

@@ -3,17 +3,18 @@ ghost use Rattle.meaning.specs.Jobs.{slot};
 ghost use Rattle.meaning.specs.Maps.{times};
 ghost use Rattle.meaning.specs.declared.call.Call.TheVariants.{Releas};
 ghost use Rattle.meaning.specs.declared.call.Reply.TheVariants.{NoMemory, Device, Failed, Refused, Done};
-ghost use Rattle.volume.specs.Live.{pending_at, slot as version_at};
+ghost use Rattle.volume.specs.Live.{VolumeCore, pending_at, slot as version_at};
 ghost use Rattle.monitor.specs.Dropping.{Leaves};
 ghost use Rattle.monitor.specs.Readers.{readers_of};
 ghost use Rattle.monitor.specs.Rows.{IsRow, Keeps, KeepsReading, publishes_at};
-ghost use Rattle.monitor.specs.Sides.{readers_in, pins_of, side_of, reader_of};
+ghost use Rattle.monitor.specs.Sides.{readers_in, pins_of};
 ghost use Rattle.volume.specs.Publishing.{IsPlaced};
 ghost use Rattle.volume.specs.declared.pending.PendingVersion.{PendingVersion};
-ghost use Rattle.monitor.specs.Publishing.{MayPublish, IsPublishing, IsPublishRow, CrashesAsRow, StillStands};
+ghost use Rattle.monitor.specs.Publishing.{PublishesBy, IsPublishRow, CrashesAsRow, StillStands};
 ghost use Rattle.monitor.specs.Promises.{IsReady, ServesAlways};
 ghost use Rattle.volume.specs.Rest.{IsSound};
 
+use crate::channel::Channel;
 use crate::close::closed_side;
 use crate::dropping::release_input;
 use crate::job::Job;
@@ -37,7 +38,7 @@ pub fn serve_release<D: Disk>(
         volume.new.failed job.old job.new (Releas channel) result }
 {
     match closed_side(job, channel, 0) {
-        Some((_open, output)) => release_output(alloc, volume, job, channel, output),
+        Some((open, output)) => release_output(alloc, volume, job, channel, open, output),
         None => release(volume, job, channel),
     }
 }
@@ -63,33 +64,34 @@ fn release<D: Disk>(volume: &mut Volume<D>, job: &mut Job, number: u32) -> Reply
     Reply::Done
 }
 
-/// RELEAS of a channel with an output side: publishes what it has written, and closes the channel. Where that
-/// isn't done the channel stays as it is.
+/// RELEAS of a channel with an output side: publishes what it has written, lets go what it reads, and closes the channel.
+/// Where that isn't done the channel stays as it is.
 fn release_output<D: Disk>(
     alloc: Global,
     volume: &mut Volume<D>,
     job: &mut Job,
     number: u32,
+    channel: Channel,
     output: Output,
 ) -> Reply
     requires sound { IsSound (D.state volume.old.disk) volume.old.core volume.old.failed }
-    // The channel has this side alone, of a version that may be published.
-    requires there { side_of (slot job.old.channels number) ≡ Some output }
-    requires single { reader_of (slot job.old.channels number) ≡ None }
+    // The channel has this side, of a version that may be published.
+    requires there { slot job.old.channels number ≡ Some channel }
+    requires side { channel.output ≡ Some output }
     requires live { IsSome (pending_at volume.old.core.pending output.pending.key) }
     requires starts { 0 < output.next }
     requires placed { (p : PendingVersion) → pending_at volume.old.core.pending output.pending.key ≡ Some p
         → IsPlaced volume.old.core p }
+    // What the job reads is held.
+    requires held { (key : ℕ) → times key (pins_of (readers_in (Some job.old)))
+        ≤ readers_of (version_at volume.old.core.live key) }
     // The volume, whatever is answered.
-    ensures whatever { MayPublish (D.state volume.old.disk) (D.state volume.new.disk) volume.old.core volume.new.core
-        output.pending.key }
-    ensures answered { IsPublishing (D.state volume.old.disk) (D.state volume.new.disk) volume.old.core
-        volume.new.core volume.old.failed volume.new.failed output.pending.key result }
+    ensures published { (between : VolumeCore) × PublishesBy (D.state volume.old.disk) (D.state volume.new.disk)
+        volume.old.core between volume.old.failed volume.new.failed output.pending.key result }
     ensures memory { result ≡ NoMemory → (volume.new.disk ≡ volume.old.disk) × (volume.new.core ≡ volume.old.core) }
     // The job: the channel closes where it is done.
     ensures closed { result ≡ Done → job.new ≡ record job.old { channels = slice_set job.old.channels number None } }
     ensures kept { (result ≡ Done → ⊥) → job.new ≡ job.old }
-    ensures keeps { result ≡ Done → Keeps volume.old.core.pending volume.new.core.pending job.old job.new }
     ensures stands { StillStands volume.old.core volume.new.core volume.new.failed job.old job.new }
     // The machine's row.
     ensures row { volume.old.failed ≡ false
@@ -100,6 +102,7 @@ fn release_output<D: Disk>(
 {
     let reply = publish_output(alloc, volume, output);
     if reply == Reply::Done {
+        release_input(volume, channel.input);
         job.set_channel(number, None);
     }
     reply

@@ -1,13 +1,17 @@
 -- What holds of the entries of a list, each key once.
-use Rattle.std.proofs.Common.{◌≡◌, ℕ, ◌+◌, ◌<◌, List, [], ◌∷◌, ◌++◌, map, length, get_or, take, drop, Some, refl, sym}
-use Rattle.std.proofs.Common.{ap, subst, ◌∙◌, Ordering, arith, append_assoc}
+use Rattle.std.proofs.Common.{◌≡◌, ℕ, suc, ◌+◌, ◌<◌, List, [], ◌∷◌, ◌++◌, map, length, get_or, take, drop, Some, refl}
+use Rattle.std.proofs.Common.{Bool, true, false, cond, sym, ap, subst, ◌∙◌, Ordering, arith, append_assoc}
 use Rattle.std.proofs.lemmas.List.{take_more, take-append-drop, map-append}
 use Rattle.std.specs.Cmp.{IsTotalOrder}
+use Rattle.std.specs.Ordering.{eq_by_cmp}
+use Rattle.std.specs.FinMap.{IsAntisymmetric}
 use Rattle.std.specs.FinMap.Entries.{find}
 use Rattle.std.specs.List.{AllByRecursion, AllZip}
 use Rattle.meaning.specs.Maps.{EachOnce, total}
+use Rattle.meaning.proofs.MapLaws.{some_same, some_none, tied}
 use Rattle.meaning.proofs.MapLists.{each_entry}
 use Rattle.meaning.proofs.Walking.{all_front, all_back}
+use Rattle.directory.specs.Edits.{StandsAt}
 
 module _ {A B : Type 0} where
   pub all_of_map : (P : B → Type 0) (f : A → B) (xs : List A) → AllByRecursion P (map f xs)
@@ -58,6 +62,34 @@ pub found_in_front : {K V : Type 0} {R : K → K → Ordering} (o : IsTotalOrder
 found_in_front {R = R} o all front rest is once =
     all_front (λ e. find R e.0 all ≡ Some e.1) front rest (subst (AllByRecursion (λ e. find R e.0 all ≡ Some e.1)) is
     (each_entry o (λ k y. find R k all ≡ Some y) all once (λ k y e. e)))
+
+-- a key that is found stands somewhere
+pub first_place : {K V : Type 0} {R : K → K → Ordering} (o : IsTotalOrder R) (exact : IsAntisymmetric R)
+    (es : List (K × V)) (k : K) (v : V) → find R k es ≡ Some v → (i : ℕ) × StandsAt R es k v i
+first_place o exact [] k v is = absurd (some_none (sym is))
+first_place {R = R} o exact (e ∷ es) k v is = by (eq_by_cmp R k e.0) refl is (first_place o exact es k v)
+  where
+    by : (b : Bool) → eq_by_cmp R k e.0 ≡ b → cond b (Some e.1) (find R k es) ≡ Some v
+        → (find R k es ≡ Some v → (i : ℕ) × StandsAt R es k v i) → (i : ℕ) × StandsAt R (e ∷ es) k v i
+    by true t found rest = (
+      0,
+      record {
+        within = omega arith;
+        is = let same = sym (tied o exact k e.0 t) in let value = some_same found in λ i. Some (same i, value i);
+        found = ap (λ b. cond b (Some e.1) (find R k es)) t ∙ found;
+        before = refl;
+      },
+    )
+    by false t found rest =
+        let r = rest found in (
+          suc r.0,
+          record {
+            within = let w = r.1.within in omega arith;
+            is = r.1.is;
+            found = ap (λ b. cond b (Some e.1) (find R k es)) t ∙ found;
+            before = ap (λ b. cond b (Some e.1) (find R k (take r.0 es))) t ∙ r.1.before;
+          },
+        )
 
 -- the elements that a loop has gone over, and the one that it is at
 module _ {A B : Type 0} (view : A → B) (xs : List A) (i : ℕ) (x : A) (below : i < length xs) (is : x

@@ -1,6 +1,6 @@
 -- Where the prime block of a place stands among the directories, and how it goes on where they change.
 use Rattle.std.proofs.Common.{◌≡◌, ℕ, zero, suc, cond, Bool, true, false, List, [], ◌∷◌, ◌++◌, take, slice_get}
-use Rattle.std.proofs.Common.{slice_set, Option, Some, None, refl, sym, ap, ◌∙◌}
+use Rattle.std.proofs.Common.{slice_set, Option, Some, None, is_none, refl, sym, ap, ◌∙◌, inl, inr}
 use Rattle.std.specs.Cmp.{nat_cmp_total}
 use Rattle.std.specs.Ordering.{nat_cmp, eq_by_cmp}
 use Rattle.std.specs.FinMap.{nat_cmp-IsAntisymmetric}
@@ -11,8 +11,13 @@ use Rattle.meaning.specs.Files.{name_cmp}
 use Rattle.meaning.proofs.MapLaws.{some_same, some_none, at_itself, not_tied}
 use Rattle.alloctab.specs.TableState.{TableState}
 use Rattle.directory.specs.Edits.{StandsAt}
-use Rattle.volume.specs.Known.{Known, KnownDirectory}
-use Rattle.volume.specs.Live.{VolumeCore}
+use Rattle.retrieval.specs.declared.prime.Prime.{Prime}
+use Rattle.volume.specs.declared.error.CallError.{CallError}
+use Rattle.volume.specs.declared.pending.Kind.{Kind}
+use Rattle.volume.specs.Beginning.{IsBegun}
+use Rattle.volume.specs.Known.{Known, KnownDirectory, Before, IsNamed}
+use Rattle.volume.specs.Live.{VolumeCore, is_create}
+use Rattle.volume.specs.Pins.{IsNoFile}
 use Rattle.volume.specs.Places.{prime_at}
 use Rattle.volume.specs.Known.{prime_in}
 
@@ -53,10 +58,42 @@ pub prime_of_place : (es : List MasterEntry) (ds : List KnownDirectory) (place p
     → prime_in es ds ppn name ≡ find name_cmp name d.chain.entries
 prime_of_place es ds place ppn name w d there at = found_at es ds place ppn name w d there.is there.before at
 
+-- A place has none whose directory isn't there,
+prime_nowhere : (es : List MasterEntry) (ds : List KnownDirectory) (ppn : ℕ) (name : FileName)
+    → find nat_cmp ppn es ≡ None → prime_in es ds ppn name ≡ None
+prime_nowhere [] ds ppn name none = refl
+prime_nowhere (e ∷ es) [] ppn name none = refl
+prime_nowhere (e ∷ es) (d ∷ ds) ppn name none =
+    let first = unfound (eq_by_cmp nat_cmp ppn e.0) e.1 (find nat_cmp ppn es) none in
+    passed (eq_by_cmp nat_cmp ppn e.0) (find name_cmp name d.chain.entries) (prime_in es ds ppn name) first.0
+    ∙ prime_nowhere es ds ppn name first.1
+
+-- and none whose directory has no such name.
+pub prime_of_no_file : (c : VolumeCore) (ppn : ℕ) (name : FileName) (error : CallError) → IsNoFile c ppn name error
+    → prime_at c ppn name ≡ None
+prime_of_no_file c ppn name error (inl absent) =
+    prime_nowhere c.known.master.entries c.known.directories ppn name absent.0
+prime_of_no_file c ppn name error (inr there) =
+    prime_of_place c.known.master.entries c.known.directories there.0 ppn name there.1 there.3 there.2 there.4
+    ∙ there.5
+
 -- The table says nothing of places.
 pub primes_table : (c c' : VolumeCore) (t : TableState) → c'.known ≡ record c.known { table = t }
     → (ppn : ℕ) (name : FileName) → prime_at c' ppn name ≡ prime_at c ppn name
 primes_table c c' t same ppn name = ap (λ (k : Known). prime_in k.master.entries k.directories ppn name) same
+
+-- Where a version is begun that is no creation, its place has a file, before and after.
+pub begun_named : (c c' : VolumeCore) (key : ℕ) (kind : Kind) (prime : Prime) → IsBegun c c' key kind prime
+    → is_create kind ≡ false → prime_at c' prime.ppn prime.file ≡ None → ⊥
+begun_named c c' key kind prime begins old none = by begins.old begins.named (sym begins.is_new ∙ old)
+  where
+    by : (prior : Before) → IsNamed begins.directory prime.file prior → is_none prior ≡ false → ⊥
+    by None named is = cc
+    by (Some v) named is =
+        some_none (sym named.1.found
+        ∙ sym (prime_of_place c.known.master.entries c.known.directories begins.there.0 prime.ppn prime.file
+        begins.there.1 begins.directory begins.there.2 begins.there.3)
+        ∙ sym (primes_table c c' _ begins.known prime.ppn prime.file) ∙ none)
 
 -- With directories behind the others each place has what it had.
 pub prime_stays : (es fs : List MasterEntry) (ds gs : List KnownDirectory) (ppn : ℕ) (name : FileName) (n : ℕ)

@@ -99,6 +99,12 @@ primes_published size c c' key p words is = record {
       (before is.makes_current.old) is.puts is.makes_current.published ∙ entered_before is.makes_current.old;
 }
 
+-- The place has a file then.
+pub published_named : (size : ℕ) (c c' : VolumeCore) (key : ℕ) (p : PendingVersion) (words : ℕ)
+    → IsPublishedCore size c c' key p words → prime_at c' p.prime.ppn p.prime.file ≡ None → ⊥
+published_named size c c' key p words is none =
+    some_none (sym (primes_published size c c' key p words is).here ∙ none)
+
 -- The versions that readers hold.
 
 pub same_place : (q ppn : ℕ) (n name : FileName) → ((q ≡ ppn) × (n ≡ name)) ⊎ ((q ≡ ppn) × (n ≡ name) → ⊥)

@@ -5,7 +5,8 @@ ghost use Rattle.std.specs.Ordering.{nat_cmp};
 ghost use Rattle.std.specs.FinMap.Entries.{find};
 ghost use Rattle.meaning.specs.declared.code.ErrorCode.{ErrorCode};
 ghost use Rattle.meaning.specs.declared.code.ErrorCode.TheVariants.{NoDirectory, NameExists, NotFound, NoRoom};
-ghost use Rattle.meaning.specs.Files.{File, Files};
+ghost use Rattle.meaning.specs.Costs.{version_cost};
+ghost use Rattle.meaning.specs.Files.{File, Directory, Files};
 ghost use Rattle.meaning.specs.Maps.{get, total};
 ghost use Rattle.meaning.specs.Retrieval.{most_blocks};
 ghost use Rattle.meaning.specs.Room.{growth};
@@ -307,6 +308,13 @@ impl<D: Disk> Volume<D> {
             → (IsErrOf result (Refused NoRoom)
             ↔ (space (D.state self.old.disk).size < self.old.core.known.table.booked
             + begin_cost kind (entries_with self.old.core d prime.ppn) old)) }
+        // The same of an update and an append, by the file.
+        ensures full { (D.state self.new.disk).honest → self.old.failed ≡ false → (files : Files File)
+            → RestsAt (D.state self.old.disk) files → is_update kind ≡ true → (directory : Directory File)
+            → get files prime.ppn ≡ Some directory → (file : File) → get directory.files prime.file ≡ Some file
+            → (IsErrOf result (Refused NoRoom)
+            ↔ (space (D.state self.old.disk).size < self.old.core.known.table.booked
+            + version_cost (length file.body))) }
         ensures codes { (code : ErrorCode) → IsErrOf result (Refused code) → IsBeginRefusal code }
         ensures served { IsErrOf result Device → ⊥ }
     {

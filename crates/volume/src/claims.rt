@@ -8,6 +8,7 @@ use crate::handles::Pending;
 use crate::map::Volume;
 use crate::pending::{Kind, PendingVersion};
 use blockdisk::Disk;
+use retrieval::Prime;
 use slab::Slab;
 use words36::{FileName, Ppn};
 
@@ -52,6 +53,15 @@ impl<D: Disk> Volume<D> {
     {
         let version = self.map.pending.get(pending.key)?;
         Some(version.kind)
+    }
+
+    /// What the prime block will say of a version that is being written: its place, protection, mode and moment. `None`
+    /// where there is no version that the caller knows by this.
+    pub fn prime(&self, pending: Pending) -> Option<Prime>
+        ensures { result ≡ option_map (λ p. p.prime) (pending_at self.now.core.pending pending.key) }
+    {
+        let version = self.map.pending.get(pending.key)?;
+        Some(version.prime)
     }
 
     /// How many of its first blocks a version that is being written has to keep: an append all that it began with, any

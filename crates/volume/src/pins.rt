@@ -94,6 +94,8 @@ impl<D: Disk> Volume<D> {
         ensures core { self.new.core ≡ record self.old.core { live = self.new.core.live } }
         ensures same { IsErr result → self.new.core ≡ self.old.core }
         ensures untouched { (self.new.disk ≡ self.old.disk) × (self.new.failed ≡ self.old.failed) }
+        // Where it is refused, core has no file of the place.
+        ensures absent { IsErr result → self.old.failed ≡ false → prime_at self.old.core ppn name.now ≡ None }
         ensures failed { IsErrOf result Failed ↔ IsTrue self.old.failed }
         ensures only { IfErr result IsPlainRefusal }
     {

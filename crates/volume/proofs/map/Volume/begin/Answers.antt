@@ -1,11 +1,11 @@
-use Rattle.std.proofs.Common.{◌≡◌, ◌↔◌, ◌+◌, ◌<◌, ℕ, Err, IsErrOf, refl, ap, subst, ◌∙◌, rules}
+use Rattle.std.proofs.Common.{◌≡◌, ◌↔◌, ◌+◌, ◌<◌, ℕ, Ok, Err, IsErrOf, refl, ap, subst, ◌∙◌, rules}
 use Rattle.std.proofs.lemmas.Result.{err_from_is_err_and}
 use Rattle.meaning.specs.declared.code.ErrorCode.TheVariants.{NameExists, NotFound, NoRoom}
 use Rattle.alloctab.specs.TableState.{space}
 use Rattle.volume.specs.Beginning.{begin_cost, entries_with}
 use Rattle.volume.specs.declared.error.CallError.TheVariants.{Refused}
 use Rattle.volume.specs.LiveCores.{core_of}
-use Rattle.volume.proofs.BegunFiles.{body_before, begins_with, handed_on}
+use Rattle.volume.proofs.BegunFiles.{body_before, begins_with, handed_on, not_refused, file_known, full_by_file}
 use Rattle.volume.proofs.StillHeld.{begun_sound}
 use Rattle.volume.proofs.map.Volume.begin.Goals as goal
 
@@ -52,3 +52,24 @@ returns-in_err-key-clause-not_found g c = rw (← c.self.view_is) (λ alive d is
     let p = err_from_is_err_and c.from_residual.result c.from_residual.ensures.1 in
     handed_on c.from_residual.result c.in_err-key.field-0.0 (Refused NotFound) (p.1 ∙ ap Err p.2)
     (c.in_err-key.ensures.not_found d is))
+
+pub returns-clause-full : goal.returns-clause-full
+returns-clause-full g c = rw (← c.self.view_is) (λ honest alive files rest updates directory there file has.
+    let s = g.D.Disk.state c.self.inside.disk in
+    let core = core_of c.self.inside.map in
+    let known = file_known s core c.self.inside.failed c.self.invariant honest alive files rest c.args.prime.ppn
+    c.args.prime.file directory there file has in
+    not_refused c.in_ok-key.key (record { key = c.in_ok-key.key }) (Refused NoRoom)
+    (full_by_file s.size core c.args.kind c.args.prime file (Ok c.in_ok-key.key) c.self.invariant.whole known updates
+    c.in_ok-key.ensures.room))
+
+pub returns-in_err-key-clause-full : goal.returns-in_err-key-clause-full
+returns-in_err-key-clause-full g c = rw (← c.self.view_is) (λ honest alive files rest updates directory there file has.
+    let s = g.D.Disk.state c.self.inside.disk in
+    let core = core_of c.self.inside.map in
+    let known = file_known s core c.self.inside.failed c.self.invariant honest alive files rest c.args.prime.ppn
+    c.args.prime.file directory there file has in
+    let p = err_from_is_err_and c.from_residual.result c.from_residual.ensures.1 in
+    handed_on c.from_residual.result c.in_err-key.field-0.0 (Refused NoRoom) (p.1 ∙ ap Err p.2)
+    (full_by_file s.size core c.args.kind c.args.prime file (Err c.in_err-key.field-0.0) c.self.invariant.whole known
+    updates c.in_err-key.ensures.room))

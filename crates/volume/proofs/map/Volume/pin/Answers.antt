@@ -5,7 +5,7 @@ use Rattle.volume.specs.LiveCores.{core_of}
 use Rattle.volume.specs.declared.live.LiveVersion.{LiveVersion}
 use Rattle.volume.proofs.Answering.{rest_holds}
 use Rattle.volume.proofs.PinnedFiles.{key_file, pin_answered, pin_refused, pinned_sound}
-use Rattle.volume.proofs.PrimeBlocks.{prime_of_place}
+use Rattle.volume.proofs.PrimeBlocks.{prime_of_place, prime_of_no_file}
 use Rattle.volume.proofs.map.Volume.pin.Goals as goal
 
 pub returns-in_err-key-clause-value : goal.returns-in_err-key-clause-value
@@ -55,3 +55,8 @@ pin_version-requires-clause-few g c =
     → v.readers + 1 < 2 ^ 32) (sym c.self.view_is) c.requires.few in
     let is = c.in_ok-key.ensures.found in
     rw is.here (few c.in_ok-key.key is.version is.here)
+
+pub returns-in_err-key-clause-absent : goal.returns-in_err-key-clause-absent
+returns-in_err-key-clause-absent g c = rw (← c.self.view_is) (λ err alive.
+    prime_of_no_file (core_of c.self.inside.map) c.args.ppn c.args.name.now c.in_err-key.field-0.0
+    c.in_err-key.ensures.none)

@@ -1,0 +1,61 @@
+ghost use Rattle.std.specs.Prelude.{◌≡◌, ◌+◌, ◌<◌, ◌≤◌, ◌^◌, ℕ, false, None, Some, Ok, option_to_list};
+ghost use Rattle.meaning.specs.Files.{File, Files};
+ghost use Rattle.meaning.specs.Maps.{get, times};
+ghost use Rattle.volume.specs.Live.{slot};
+ghost use Rattle.volume.specs.Pins.{IsPinAnswer};
+ghost use Rattle.volume.specs.Places.{prime_at};
+ghost use Rattle.volume.specs.Rest.{RestsAt};
+ghost use Rattle.volume.specs.declared.live.LiveVersion.{LiveVersion};
+ghost use Rattle.monitor.specs.LookingUp.{IsHolding};
+ghost use Rattle.monitor.specs.Readers.{readers_of};
+ghost use Rattle.monitor.specs.Renewing.{Renews};
+ghost use Rattle.monitor.specs.Sides.{pins_of};
+
+use crate::dropping::release_input;
+use crate::input::Input;
+use blockdisk::Disk;
+use volume::Volume;
+use words36::{FileName, Ppn};
+
+/// An input side that holds the version which the file of a place has now. There is such a file.
+fn hold<D: Disk>(volume: &mut Volume<D>, ppn: Ppn, file: FileName, next: u32) -> Input
+    requires alive { volume.old.failed ≡ false }
+    requires there { prime_at volume.old.core ppn file ≡ None → ⊥ }
+    requires few { (key : ℕ) (v : LiveVersion) → slot volume.old.core.live key ≡ Some v → v.readers + 1 < 2 ^ 32 }
+    ensures side { (result.ppn ≡ ppn) × (result.file ≡ file) × (result.next ≡ next) }
+    ensures holds { IsHolding volume.old.core volume.new.core result }
+    ensures value { (D.state volume.new.disk).honest → (files : Files File) → RestsAt (D.state volume.old.disk) files
+        → IsPinAnswer (D.state volume.old.disk).contents volume.new.core.live file (Ok result.pin) (get files ppn) }
+    ensures untouched { (volume.new.disk ≡ volume.old.disk) × (volume.new.failed ≡ volume.old.failed) }
+{
+    match volume.pin(ppn, &file) {
+        Ok(pin) => Input {
+            pin,
+            ppn,
+            file,
+            next,
+        },
+        Err(_) => unreachable!(), // the place has a file
+    }
+}
+
+/// An input side that holds the version which the file of a place has now, in the place of the version that it held;
+/// its next block stays. There is such a file.
+pub fn renew<D: Disk>(volume: &mut Volume<D>, input: Input, ppn: Ppn, file: FileName) -> Input
+    requires alive { volume.old.failed ≡ false }
+    requires there { prime_at volume.old.core ppn file ≡ None → ⊥ }
+    requires few { (key : ℕ) (v : LiveVersion) → slot volume.old.core.live key ≡ Some v → v.readers + 1 < 2 ^ 32 }
+    requires held { (key : ℕ) → times key (pins_of (option_to_list (Some input)))
+        ≤ readers_of (slot volume.old.core.live key) }
+    ensures renews { (is : Renews volume.old.core volume.new.core input result ppn file)
+        × ((D.state volume.new.disk).honest → (files : Files File) → RestsAt (D.state volume.old.disk) files
+        → IsPinAnswer (D.state volume.old.disk).contents is.between.live file (Ok is.held.pin) (get files ppn)) }
+    ensures untouched { (volume.new.disk ≡ volume.old.disk) × (volume.new.failed ≡ volume.old.failed) }
+{
+    let held = hold(volume, ppn, file, input.next);
+    release_input(volume, Some(input));
+    Input {
+        pin: held.pin,
+        ..input
+    }
+}

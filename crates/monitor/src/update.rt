@@ -1,0 +1,293 @@
+ghost use Rattle.std.specs.Prelude.{◌≡◌, ◌==◌, ◌&&◌, ◌+◌, ◌<◌, ◌≤◌, ◌^◌, ℕ, true, false, IfOk, IfSome, OnErr, IsErrOf};
+ghost use Rattle.std.specs.Prelude.{IsTrue, IsSome, Some, None};
+ghost use Rattle.meaning.specs.Cores.{lies_outside};
+ghost use Rattle.meaning.specs.Files.{File, Files};
+ghost use Rattle.meaning.specs.Jobs.{State, slot, channel_at};
+ghost use Rattle.meaning.specs.Looking.{place_at};
+ghost use Rattle.meaning.specs.Maps.{get, times};
+ghost use Rattle.meaning.specs.Published.{same_place};
+ghost use Rattle.meaning.specs.Rights.{directory_digit, file_digit, may_look, may_append};
+ghost use Rattle.meaning.specs.Stands.{place_of};
+ghost use Rattle.meaning.specs.declared.call.Reply.TheVariants.{Done, NoMemory, Failed, Device, Refused};
+ghost use Rattle.retrieval.specs.declared.prime.Prime.{Prime as PrimeRecord};
+ghost use Rattle.volume.specs.Beginning.{is_update, IsBegun};
+ghost use Rattle.volume.specs.Claims.{claims};
+ghost use Rattle.volume.specs.Live.{pending_at, slot as version_at};
+ghost use Rattle.volume.specs.Pins.{BeginsWithFile};
+ghost use Rattle.volume.specs.Rest.{IsSound, RestsAt};
+ghost use Rattle.volume.specs.declared.error.CallError.TheVariants.{Failed as VolumeFailed, Device as VolumeDevice};
+ghost use Rattle.volume.specs.declared.live.LiveVersion.{LiveVersion};
+ghost use Rattle.volume.specs.declared.pending.PendingVersion.{PendingVersion};
+ghost use Rattle.monitor.specs.Entering.{IsEnterAnswer};
+ghost use Rattle.monitor.specs.Finding.{begun_as, IsAnswer, IsKnown};
+ghost use Rattle.monitor.specs.Inputs.{named_in, digit_for};
+ghost use Rattle.monitor.specs.Readers.{readers_of};
+ghost use Rattle.monitor.specs.Refusals.{with_code};
+ghost use Rattle.monitor.specs.Rows.{KeepsReading};
+ghost use Rattle.monitor.specs.Serving.{pack_of, ArePlaced};
+ghost use Rattle.monitor.specs.Sides.{UnderKeys, job_of, reader_of, readers_in, pins_of};
+ghost use Rattle.monitor.specs.Updating.{allowed_update, update_kind, update_answer_at, updating_side, IsUpdating};
+ghost use Rattle.monitor.specs.Updating.{IsUpdateOf};
+
+use crate::channel::Channel;
+use crate::enter::{find, name_at, owner_at, put_attributes};
+use crate::found::Found;
+use crate::holding::renew;
+use crate::input::Input;
+use crate::job::Job;
+use crate::open::lies_outside;
+use crate::output::{Kind, Output};
+use crate::status::{cleared, refuse};
+use blockdisk::Disk;
+use meaning::{Act, ErrorCode, Reply};
+use protect::{DirectoryAct, acts_are_nested, dir_right, right};
+use retrieval::{Mode, Prime};
+use std::alloc::Global;
+use volume::{CallError, Kind as VersionKind, Pending, Volume};
+use words36::{FileName, Moment, Ppn};
+
+/// The channel of a number and its input side, where it has one.
+pub fn reading_side(job: &Job, number: u32) -> Option<(Channel, Input)>
+    ensures none { result ≡ None → reader_of (slot job.now.channels number) ≡ None }
+    ensures some { IfSome result (λ reading. (slot job.now.channels number ≡ Some reading.0)
+        × (reading.0.input ≡ Some reading.1)) }
+{
+    let open = job.channel(number)?;
+    let input = open.input?;
+    Some((open, input))
+}
+
+/// Whether the words at an address name the place of what an input side reads.
+fn names_input(job: &Job, address: u32, input: &Input) -> bool
+    requires { address + 4 ≤ 0o400000 }
+    ensures { (under : UnderKeys) → result ≡ same_place (place_of input.now.ppn input.now.file)
+        (place_at (job_of under job.now) address) }
+{
+    let _place = input.ppn.word(); // whose halves aren't zero
+    let Some(owner) = owner_at(job, address) else {
+        return false;
+    };
+    let file = name_at(&job.core, address);
+    input.ppn == owner && input.file.name == file.name && input.file.ext == file.ext
+}
+
+/// How a job may write over a file by its protection and its directory's, or why not.
+fn may_write(
+    protection: u16,
+    own: u16,
+    who: Ppn,
+    owner: Ppn,
+    is_claimed: bool,
+) -> Result<VersionKind, ErrorCode>
+    ensures { result ≡ begun_as (update_kind (file_digit own who owner))
+        (may_look (directory_digit protection who owner) && may_append (file_digit own who owner)) false is_claimed }
+{
+    acts_are_nested();
+    if !dir_right(protection, who, owner, DirectoryAct::Look) || !right(own, who, owner, Act::APPEND) {
+        return Err(ErrorCode::Protection);
+    }
+    if is_claimed {
+        return Err(ErrorCode::BeingModified);
+    }
+    if right(own, who, owner, Act::UPDATE) {
+        return Ok(VersionKind::Update);
+    }
+    Ok(VersionKind::Append)
+}
+
+/// How a job may write over the file of a place, or why not.
+fn allow_update(
+    found: Found,
+    who: Ppn,
+    owner: Ppn,
+    is_zero: bool,
+    is_claimed: bool,
+) -> Result<VersionKind, ErrorCode>
+    ensures { result ≡ allowed_update found who owner is_zero is_claimed }
+{
+    match found {
+        Found::NoDirectory => Err(ErrorCode::NoDirectory),
+        Found::Absent(_) => Err(ErrorCode::NotFound),
+        Found::Present(protection, own) => {
+            if is_zero {
+                return Err(ErrorCode::NotFound);
+            }
+            may_write(protection, own, who, owner, is_claimed)
+        }
+    }
+}
+
+/// The place of an input side, as a version is begun there.
+fn place_of(input: &Input, moment: Moment) -> Prime
+    requires timely { moment.date ≤ 4095 }
+    ensures { (result.ppn ≡ input.now.ppn) × (result.file ≡ input.now.file) }
+{
+    match Prime::new(input.file, input.ppn, 0, Mode::Dump, moment) {
+        Some(prime) => prime,
+        None => unreachable!(), // no digits, and the date has twelve bits
+    }
+}
+
+/// Begins the version by which a job writes over the file that it reads, and tells whether it updates or appends.
+///
+/// # Errors
+///
+/// `Refused` as the machine refuses; `NoMemory` where core can't grow. All is as before then.
+fn begin_update<D: Disk>(
+    alloc: Global,
+    volume: &mut Volume<D>,
+    job: &Job,
+    input: &Input,
+    moment: Moment,
+) -> Result<(Pending, VersionKind), CallError>
+    requires sound { IsSound (D.state volume.old.disk) volume.old.core volume.old.failed }
+    requires timely { moment.date ≤ 4095 }
+    ensures untouched { (volume.new.disk ≡ volume.old.disk) × (volume.new.failed ≡ volume.old.failed) }
+    ensures begun { IfOk result (λ begun. (is_update begun.1 ≡ true) × (prime : PrimeRecord)
+        × (prime.ppn ≡ input.now.ppn) × (prime.file ≡ input.now.file)
+        × IsBegun volume.old.core volume.new.core begun.0.key begun.1 prime) }
+    ensures free { IfOk result (λ begun. ((input.now.file.name == 0) ≡ false)
+        × (claims volume.old.core.pending (place_of input.now.ppn input.now.file) ≡ false)) }
+    ensures same { OnErr result (volume.new.core ≡ volume.old.core) }
+    ensures only { (IsErrOf result VolumeFailed → IsTrue volume.old.failed) × (IsErrOf result VolumeDevice → ⊥) }
+    // It begins with the file, in the way that the job's digit allows.
+    ensures file { (D.state volume.new.disk).honest → volume.old.failed ≡ false → (files : Files File)
+        → RestsAt (D.state volume.old.disk) files
+        → IfOk result (λ begun. BeginsWithFile (D.state volume.old.disk).contents
+        (pending_at volume.new.core.pending begun.0.key) input.now.file (get files input.now.ppn)) }
+    ensures kind { (D.state volume.new.disk).honest → volume.old.failed ≡ false → (files : Files File)
+        → RestsAt (D.state volume.old.disk) files
+        → IfOk result (λ begun. begun.1 ≡ update_kind (digit_for job.now.ppn input.now.ppn
+        (named_in (get files input.now.ppn) input.now.file))) }
+    ensures answered { (D.state volume.new.disk).honest → volume.old.failed ≡ false → (s : State)
+        → IsKnown (D.state volume.old.disk) volume.old.core s
+        → (under : UnderKeys) → IsAnswer result (update_answer_at (pack_of (D.state volume.old.disk)) s
+        (job_of under job.now) (place_of input.now.ppn input.now.file)) }
+{
+    let found = find(volume, input.ppn, &input.file);
+    let claimed = volume.is_claimed(input.ppn, &input.file);
+    let is_zero = input.file.name.bits() == 0;
+    let kind = match allow_update(found, job.ppn, input.ppn, is_zero, claimed) {
+        Ok(kind) => kind,
+        Err(code) => return Err(CallError::Refused(code)),
+    };
+    match volume.begin(alloc, kind, place_of(input, moment)) {
+        Ok(pending) => Ok((pending, kind)),
+        Err(error) => Err(error),
+    }
+}
+
+/// The output side by which a version is written that was begun so: an append keeps its blocks, and writes behind them.
+fn updating_side(pending: Pending, kind: VersionKind, kept_blocks: u32) -> Output
+    requires few { kept_blocks + 1 < 2 ^ 32 }
+    ensures { result ≡ updating_side pending.key kind kept_blocks }
+{
+    match kind {
+        VersionKind::Append => Output {
+            pending,
+            kind: Kind::Append(kept_blocks),
+            next: kept_blocks + 1,
+        },
+        _ => Output {
+            pending,
+            kind: Kind::Update,
+            next: 1,
+        },
+    }
+}
+
+/// The same of a version that the volume writes.
+fn side_of<D: Disk>(volume: &Volume<D>, pending: Pending, kind: VersionKind) -> Output
+    requires there { IsSome (pending_at volume.now.core.pending pending.key) }
+    requires few { (p : PendingVersion) → pending_at volume.now.core.pending pending.key ≡ Some p
+        → p.kept_blocks + 1 < 2 ^ 32 }
+    ensures { (p : PendingVersion) → pending_at volume.now.core.pending pending.key ≡ Some p
+        → result ≡ updating_side pending.key kind p.kept_blocks }
+{
+    match volume.kept_blocks(pending) {
+        Some(blocks) => updating_side(pending, kind, blocks),
+        None => unreachable!(), // it is written
+    }
+}
+
+/// What the prime block will say of a version that the volume writes.
+pub fn prime_of<D: Disk>(volume: &Volume<D>, pending: Pending) -> Prime
+    requires there { IsSome (pending_at volume.now.core.pending pending.key) }
+    ensures { (p : PendingVersion) → pending_at volume.now.core.pending pending.key ≡ Some p → result ≡ p.prime }
+{
+    match volume.prime(pending) {
+        Some(prime) => prime,
+        None => unreachable!(), // it is written
+    }
+}
+
+/// ENTER on a channel that reads a file, which the four words at an address have to name: opens an output side that
+/// writes over that file as it is now, or where the job's digit is 4 behind its last block. The input side comes to hold
+/// that version, and the file's attributes are put into the words.
+pub fn update<D: Disk>(
+    alloc: Global,
+    volume: &mut Volume<D>,
+    job: &mut Job,
+    number: u32,
+    address: u32,
+    moment: Moment,
+    channel: Channel,
+    input: Input,
+) -> Reply
+    requires sound { IsSound (D.state volume.old.disk) volume.old.core volume.old.failed }
+    // The volume serves, and knows what the job reads.
+    requires timely { moment.date ≤ 4095 }
+    requires alive { volume.old.failed ≡ false }
+    requires there { slot job.old.channels number ≡ Some channel }
+    requires side { channel.input ≡ Some input }
+    requires held { (key : ℕ) → times key (pins_of (readers_in (Some job.old)))
+        ≤ readers_of (version_at volume.old.core.live key) }
+    requires few { (key : ℕ) (v : LiveVersion) → version_at volume.old.core.live key ≡ Some v
+        → v.readers + 1 < 2 ^ 32 }
+    // The disk is left alone.
+    ensures untouched { (volume.new.disk ≡ volume.old.disk) × (volume.new.failed ≡ volume.old.failed) }
+    ensures only { (result ≡ Failed → ⊥) × (result ≡ Device → ⊥) }
+    // What it leaves, by its answer.
+    ensures begun { result ≡ Done → (key : ℕ)
+        × (is : IsUpdating volume.old.core volume.new.core job.old job.new number address channel input key)
+        × ((D.state volume.new.disk).honest → (files : Files File) → RestsAt (D.state volume.old.disk) files
+        → IsUpdateOf (D.state volume.old.disk).contents job.old input is.kind is.version is.renews.between
+        is.renewed files) }
+    ensures placed { ArePlaced volume.old.core → ArePlaced volume.new.core }
+    ensures kept { (result ≡ Done → ⊥) → (volume.new.core ≡ volume.old.core)
+        × (job.new ≡ record job.old { core = job.new.core }) }
+    ensures memory { result ≡ NoMemory → job.new ≡ job.old }
+    ensures reads { KeepsReading volume.old.core.live volume.new.core.live job.old job.new }
+    ensures row { (D.state volume.new.disk).honest → (s : State)
+        → IsKnown (D.state volume.old.disk) volume.old.core s
+        → (under : UnderKeys) → IsEnterAnswer (pack_of (D.state volume.old.disk)) s (job_of under job.old)
+        (job_of under job.new) (channel_at (job_of under job.old) number) address result }
+    ensures refused { (code : ℕ) → result ≡ Refused code → job.new ≡ with_code job.old address code }
+{
+    if lies_outside(&job.core, address, 4) {
+        return Reply::AddressCheck;
+    }
+    if channel.output.is_some() || !names_input(job, address, &input) {
+        return refuse(&mut job.core, address, ErrorCode::Sequence);
+    }
+    match begin_update(alloc, volume, job, &input, moment) {
+        Ok((pending, kind)) => {
+            let output = side_of(volume, pending, kind);
+            let prime = prime_of(volume, pending);
+            let renewed = renew(volume, input, input.ppn, input.file);
+            put_attributes(&mut job.core, address, &prime);
+            let updating = Channel {
+                status: cleared(channel.status),
+                input: Some(renewed),
+                output: Some(output),
+                ..channel
+            };
+            job.set_channel(number, Some(updating));
+            Reply::Done
+        }
+        Err(CallError::Refused(code)) => refuse(&mut job.core, address, code),
+        Err(CallError::NoMemory) => Reply::NoMemory,
+        Err(CallError::Device) => Reply::Device,
+        Err(CallError::Failed) => Reply::Failed,
+    }
+}
