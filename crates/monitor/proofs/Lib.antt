@@ -74,3 +74,6 @@ pub mod LookupCalls
 pub mod Refusals
 pub mod Promised
 pub mod OutOfOrder
+pub mod Renewals
+pub mod UpdateCalls
+pub mod UpdateAnswers

@@ -109,7 +109,7 @@ asked_is job owner name (Some d) = by (get d.files name)
     by (Some v) = refl
 
 -- The version whose file it is.
-version_in : (o : Option (Directory Version)) (name : FileName) (file : File)
+pub version_in : (o : Option (Directory Version)) (name : FileName) (file : File)
     → named_in (option_map (map_directory (λ (v : Version). v.file)) o) name ≡ Some file
     → (x : Version) × (file_in o name ≡ Some x) × (x.file ≡ file)
 version_in None name file is = absurd (some_none (sym is))

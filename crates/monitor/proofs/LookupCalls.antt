@@ -44,7 +44,7 @@ use Rattle.monitor.proofs.ReadsPinned.{with_read, with_read_same, with_read_othe
 
 -- Another version is read under one key.
 
-abbrev with_version : UnderKeys → ℕ → Version → UnderKeys
+abbrev pub with_version : UnderKeys → ℕ → Version → UnderKeys
 with_version w key x = record w { read = with_read w.read key x }
 
 module _ (w : UnderKeys) (key : ℕ) (x : Version) where

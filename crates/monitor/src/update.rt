@@ -12,7 +12,7 @@ ghost use Rattle.meaning.specs.declared.call.Reply.TheVariants.{Done, NoMemory, 
 ghost use Rattle.retrieval.specs.declared.prime.Prime.{Prime as PrimeRecord};
 ghost use Rattle.volume.specs.Beginning.{is_update, IsBegun};
 ghost use Rattle.volume.specs.Claims.{claims};
-ghost use Rattle.volume.specs.Live.{pending_at, slot as version_at};
+ghost use Rattle.volume.specs.Live.{pending_at, slot as version_at, IsWholeCore};
 ghost use Rattle.volume.specs.Pins.{BeginsWithFile};
 ghost use Rattle.volume.specs.Rest.{IsSound, RestsAt};
 ghost use Rattle.volume.specs.declared.error.CallError.TheVariants.{Failed as VolumeFailed, Device as VolumeDevice};
@@ -250,6 +250,7 @@ pub fn update<D: Disk>(
     // What it leaves, by its answer.
     ensures begun { result ≡ Done → (key : ℕ)
         × (is : IsUpdating volume.old.core volume.new.core job.old job.new number address channel input key)
+        × IsWholeCore (D.state volume.old.disk).size is.between
         × ((D.state volume.new.disk).honest → (files : Files File) → RestsAt (D.state volume.old.disk) files
         → IsUpdateOf (D.state volume.old.disk).contents job.old input is.kind is.version is.renews.between
         is.renewed files) }
