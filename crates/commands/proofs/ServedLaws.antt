@@ -21,7 +21,7 @@ use Rattle.meaning.specs.declared.call.Reply.TheVariants.{Done, AddressCheck, No
 use Rattle.meaning.proofs.OutcomeLaws.{settled_by}
 use Rattle.meaning.proofs.SlotLaws.{OfItem, slot-set_same}
 use Rattle.meaning.proofs.SpellingLaws.{differs}
-use Rattle.monitor.specs.Runs.{IsServedIn, IsUnbufferedBy, IsUnreadOn, IsUnreadBy}
+use Rattle.monitor.specs.Runs.{IsServedIn, IsUnbufferedBy}
 use Rattle.meaning.specs.declared.call.Call.TheVariants.{Open, Lookup, Enter}
 use Rattle.meaning.specs.declared.call.Event.{Event}
 use Rattle.meaning.specs.declared.call.Event.TheVariants.{Deposit, Call as Calls}
@@ -159,35 +159,6 @@ opens_served Q pack service moment channel mode device is goes rest =
     along_open HasMode Q channel 0o30 goes pack three moment (open_served channel moment three has_three)
     has_three rest)))
 
--- The channel that is to write.
-
--- a slot that is set holds what it was set to, or there is no such slot
-slot_taken : {X : Type 0} (P : Option X → Type 0) (xs : List (Option X)) (n : ℕ) (x : X) → P None → P (Some x)
-    → P (slot (slice_set xs n (Some x)) n)
-slot_taken P [] n x none some = none
-slot_taken P (y ∷ xs) zero x none some = some
-slot_taken P (y ∷ xs) (suc n) x none some = slot_taken P xs n x none some
-
--- it reads nothing
-abbrev IsUnread : Job → Type 0
-IsUnread job = IsUnreadBy 2 (Some job)
-
-opened_unread : (job : Job) → HasMode job → IsUnread (open_done job 2 open_words)
-opened_unread job has = slot_taken IsUnreadOn job.channels 2 _ tt refl
-
-unread_kept : (address word : ℕ) (job : Job) → address < length job.core → IsUnread job
-    → IsUnread (deposit_done job address word)
-unread_kept address word job inside is = is
-
-unread : (o : Option Job) → OfItem IsUnread o → IsUnreadBy 2 o
-unread None is = tt
-unread (Some job) is = is
-
-enter_served : (moment : Moment) (service : Service) → OfOne IsUnread service
-    → IsServedIn service (Calls 1 (Enter 2 new_words) moment)
-enter_served moment Broken is = tt
-enter_served moment (Serving s) is = unread (job_at s 1) is
-
 -- Both plans.
 
 -- the four words of a file, which leave what holds of job 1 as it is, and then the last call
@@ -220,6 +191,7 @@ pub written_served : (moment : Moment) (mode device name ext owner : ℕ) → mo
     ∷ Deposit 1 0o44 name ∷ Deposit 1 0o45 ext ∷ Deposit 1 0o46 0 ∷ Deposit 1 0o47 owner ∷ Calls 1 (Enter 2 0o44) moment
     ∷ [])
 written_served moment mode device name ext owner is pack service =
-    opens_served IsUnread pack service moment 2 mode device is opened_unread (λ mid unread_mid.
-    names_served IsUnread pack mid new_words name ext owner (Calls 1 (Enter 2 new_words) moment) unread_kept unread_mid
-    (enter_served moment))
+    let enter = Calls 1 (Enter 2 new_words) moment in
+    opens_served Anyhow pack service moment 2 mode device is (λ job has. tt) (λ mid any.
+    names_served Anyhow pack mid new_words name ext owner enter (λ at word job inside always. tt) any
+    (λ last any_last. served_always enter (λ s. tt) last))

@@ -38,9 +38,7 @@ served_for w (Open channel address) (Some job) served = served
 served_for w (Inbuf channel count) o served = tt
 served_for w (Outbuf channel count) o served = tt
 served_for w (Lookup channel address) o served = tt
-served_for w (Enter channel address) None served = tt
-served_for w (Enter channel address) (Some job) served = unread_on w (slot job.channels channel)
-    (subst IsUnreadOn (channel_is w job channel (slot job.channels channel) refl) served)
+served_for w (Enter channel address) o served = tt
 served_for w (Rename channel address) None served = tt
 served_for w (Rename channel address) (Some job) served = unread_on w (slot job.channels channel)
     (subst IsUnreadOn (channel_is w job channel (slot job.channels channel) refl) served)

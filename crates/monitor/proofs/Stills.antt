@@ -1,16 +1,26 @@
 -- Reading holds still along a list of events.
-use Rattle.std.proofs.Common.{◌≡◌, ℕ, List, [], ◌∷◌, ◌++◌, length, refl, subst, arith}
+use Rattle.std.proofs.Common.{◌≡◌, ℕ, Bool, true, false, if◌then◌else◌, List, [], ◌∷◌, ◌++◌, length, Option, None, Some}
+use Rattle.std.proofs.Common.{refl, ap, subst, ⊎_elim, arith}
+use Rattle.std.specs.Prelude.{◌||◌, is_none, nat_lt}
 use Rattle.words36.specs.declared.moment.Moment.{Moment}
 use Rattle.meaning.specs.Holding.{SpareAll}
+use Rattle.meaning.specs.Inputs.{in_answer, in_done, core_filled, words_ahead, body_read, lacks_header, reads}
+use Rattle.meaning.specs.Jobs.{Channel, Job, Input, State, channel_at, job_at, with_job}
+use Rattle.meaning.specs.Outcomes.{stopped_in}
 use Rattle.meaning.specs.Room.{Pack}
 use Rattle.meaning.specs.Runs.{Service, Serving, Broken, Answers, Run}
+use Rattle.meaning.specs.Splices.{words_from}
+use Rattle.meaning.specs.Step.{step, last_date, on_job, on_channel, of_job}
 use Rattle.meaning.specs.declared.call.Call.TheVariants.{Lookup, In}
 use Rattle.meaning.specs.declared.call.Event.{Event}
 use Rattle.meaning.specs.declared.call.Event.TheVariants.{Call as Calls}
 use Rattle.meaning.specs.declared.call.Reply.{Reply}
-use Rattle.meaning.specs.declared.call.Reply.TheVariants.{Done, Device, Failed}
-use Rattle.meaning.proofs.LookupLaws.{reading_holds}
-use Rattle.monitor.specs.Moments.{RunsThrough, ReadsWhatWasFound, HoldsStill, last_of}
+use Rattle.meaning.specs.declared.call.Reply.TheVariants.{Done, Refused, Device, Failed, DateRange}
+use Rattle.meaning.proofs.LookupLaws.{reading_holds, passed, is_there}
+use Rattle.meaning.proofs.OutcomeLaws.{settled_by}
+use Rattle.meaning.proofs.SlotLaws.{slot-set_same}
+use Rattle.monitor.specs.Moments.{RunsThrough, ReadsWhatWasFound, ReadsItsBody, FoundIsRead, BodyIsRead, HoldsStill}
+use Rattle.monitor.specs.Moments.{last_of}
 use Rattle.monitor.proofs.MomentRuns.{through_run}
 
 -- A run of two lists is a run of the first one and a run of the second.
@@ -61,9 +71,9 @@ module _ (pack : Pack) (between : List Event) (second : List Reply) (n ch e a : 
         moves = holds.2;
       }
 
-pub holds_still : (pack : Pack) (old : Service) (events : List Event) (replies : List Reply) (services : List Service)
-    → RunsThrough pack old events replies services → HoldsStill old events replies services
-holds_still pack old events replies services run before between behind first second third one two three
+found_is_read : (pack : Pack) (old : Service) (events : List Event) (replies : List Reply) (services : List Service)
+    → RunsThrough pack old events replies services → FoundIsRead old events replies services
+found_is_read pack old events replies services run before between behind first second third one two three
     looked left n ch e a early late is =
     let ran =
     subst (λ ss. RunsThrough pack old (before ++ Calls n (Lookup ch e) early
@@ -78,3 +88,89 @@ holds_still pack old events replies services run before between behind first sec
     (left ∷ three) is.in_step.0 is.in_step.1 to.1.1 in
     by_services pack between second n ch e a early late is.spared (last_of old one) looked (last_of looked two) left
     to.1.0 (through_run pack looked between second two on.0) on.1.0
+
+-- An IN that is done moves words of the body that its channel reads.
+
+or_left : (a b : Bool) → (a || b) ≡ false → a ≡ false
+or_left true b e = let wrong = e in cc
+or_left false b e = refl
+
+abbrev Fills : Job → Channel → ℕ → Reply × Job → Type 0
+Fills job c a r = r.0 ≡ Done → (side : Input) × (c.input ≡ Some side)
+    × (r.1.core ≡ core_filled job c a (words_from (body_read side c.output) side.next))
+
+row_fills : (job : Job) (ch : ℕ) (c : Channel) (a : ℕ) → Fills job c a (reads job ch c a)
+row_fills job ch c a = settled_by (Fills job c a) (in_answer job c a) (in_done job ch c a) (stopped_in job ch c)
+    (λ is done.
+    let on = passed (is_none c.input || lacks_header c.mode c.input_header) (Refused 5) _ (λ x. cc) is in
+    let side = is_there c.input (or_left (is_none c.input) (lacks_header c.mode c.input_header) on.0) in
+    (side.0, side.1, ap (λ i. core_filled job c a (words_ahead i c.output)) side.1))
+    (λ differs done. absurd (differs done))
+
+abbrev Moves : State → ℕ → ℕ → ℕ → Reply × State → Type 0
+Moves s n ch a r = r.0 ≡ Done → ReadsItsBody (Serving s) (Serving r.1) n ch a
+
+moves_on_channel : (s : State) (n : ℕ) (job : Job) (ch a : ℕ) → job_at s n ≡ Some job → (o : Option Channel)
+    → channel_at job ch ≡ o → Moves s n ch a (on_channel s o (λ c. of_job s n (reads job ch c a)))
+moves_on_channel s n job ch a there None f done = let wrong = done in cc
+moves_on_channel s n job ch a there (Some c) f done =
+    let filled = row_fills job ch c a done in
+    record {
+      read_in = s;
+      left_in = with_job s n (reads job ch c a).1;
+      read_is = refl;
+      left_is = refl;
+      job = job;
+      channel = c;
+      side = filled.0;
+      after = (reads job ch c a).1;
+      job_is = there;
+      channel_is = f;
+      side_is = filled.1;
+      after_is = slot-set_same s.jobs n (reads job ch c a).1 job there;
+      core_is = filled.2;
+    }
+
+moves_on_job : (s : State) (n ch a : ℕ) (o : Option Job) → job_at s n ≡ o
+    → Moves s n ch a (on_job s o (λ job. on_channel s (channel_at job ch) (λ c. of_job s n (reads job ch c a))))
+moves_on_job s n ch a None f done = let wrong = done in cc
+moves_on_job s n ch a (Some job) f done = moves_on_channel s n job ch a f (channel_at job ch) refl done
+
+moves_if : (s : State) (n ch a : ℕ) (late : Bool) (r : Reply × State) → Moves s n ch a r
+    → Moves s n ch a (if late then (DateRange, s) else r)
+moves_if s n ch a true r h done = let wrong = done in cc
+moves_if s n ch a false r h done = h done
+
+in_moves : (pack : Pack) (serial : ℕ) (s : State) (n ch a : ℕ) (moment : Moment)
+    → Moves s n ch a (step pack serial s (Calls n (In ch a) moment))
+in_moves pack serial s n ch a moment =
+    moves_if s n ch a (nat_lt (last_date pack.layout) moment.date) _ (moves_on_job s n ch a (job_at s n) refl)
+
+-- where the service had failed, no answer is Done
+in_service : (pack : Pack) (read left : Service) (n ch a : ℕ) (moment : Moment)
+    → Answers pack read (Calls n (In ch a) moment) Done left → ReadsItsBody read left n ch a
+in_service pack Broken Broken n ch a moment answer = absurd (not_failed answer)
+in_service pack Broken (Serving u) n ch a moment answer = absurd answer
+in_service pack (Serving s) Broken n ch a moment answer = absurd (not_device answer.0)
+in_service pack (Serving s) (Serving u) n ch a moment answer = ⊎_elim
+    (λ steps. subst (Moves s n ch a) steps.2 (in_moves pack steps.0 s n ch a moment) refl)
+    (λ none. let wrong = none.0 in cc) answer
+
+body_is_read : (pack : Pack) (old : Service) (events : List Event) (replies : List Reply) (services : List Service)
+    → RunsThrough pack old events replies services → BodyIsRead old events replies services
+body_is_read pack old events replies services run before behind first second one two left n ch a moment is =
+    let ran =
+    subst (λ ss. RunsThrough pack old (before ++ Calls n (In ch a) moment ∷ behind) (first ++ Done ∷ second) ss)
+    is.services_are
+    (subst (λ es. RunsThrough pack old es (first ++ Done ∷ second) services) is.events_are
+    (subst (λ rs. RunsThrough pack old events rs services) is.replies_are run)) in
+    let to = through_parts pack old before (Calls n (In ch a) moment ∷ behind) first (Done ∷ second) one (left ∷ two)
+    is.in_order.0 is.in_order.1 ran in
+    in_service pack (last_of old one) left n ch a moment to.1.0
+
+pub holds_still : (pack : Pack) (old : Service) (events : List Event) (replies : List Reply) (services : List Service)
+    → RunsThrough pack old events replies services → HoldsStill old events replies services
+holds_still pack old events replies services run = (
+  found_is_read pack old events replies services run,
+  body_is_read pack old events replies services run,
+)

@@ -4,12 +4,13 @@ use Rattle.words36.specs.declared.moment.Moment.{Moment}
 use Rattle.blockdisk.specs.Disk.{Contents, DiskState, MayLeave, LeavesOnly}
 use Rattle.meaning.specs.Crashes.{StandsForState, StandsForEither}
 use Rattle.meaning.specs.Holding.{SpareAll, FoundBy, MovesWordsOf}
-use Rattle.meaning.specs.Inputs.{reads}
+use Rattle.meaning.specs.Inputs.{reads, body_read, core_filled}
 use Rattle.meaning.specs.Jobs as machine
-use Rattle.meaning.specs.Jobs.{State, channel_at}
+use Rattle.meaning.specs.Jobs.{State, channel_at, job_at}
 use Rattle.meaning.specs.Published.{Version}
 use Rattle.meaning.specs.Room.{Pack}
 use Rattle.meaning.specs.Runs.{Service, Serving, Broken, Answers}
+use Rattle.meaning.specs.Splices.{words_from}
 use Rattle.meaning.specs.declared.call.Call.TheVariants.{Lookup, In}
 use Rattle.meaning.specs.declared.call.Event.{Event}
 use Rattle.meaning.specs.declared.call.Event.TheVariants.{Call as Calls}
@@ -92,10 +93,49 @@ pub record ReadsWhatWasFound (found read left : Service) (n ch e a : ℕ) : Type
   pub moves : MovesWordsOf read_in left_in n ch a version
 
 -- So it is with each LOOKUP and IN of a run by way of these services, whatever other jobs did.
-abbrev pub HoldsStill : Service → List Event → List Reply → List Service → Type 0
-HoldsStill old events replies services =
+abbrev pub FoundIsRead : Service → List Event → List Reply → List Service → Type 0
+FoundIsRead old events replies services =
     (before between behind : List Event) (first second third : List Reply) (one two three : List Service)
     (looked left : Service) (n ch e a : ℕ) (early late : Moment)
     → LooksUpAndReads events before between behind replies first second third services one two three looked
     left n ch e a early late
     → ReadsWhatWasFound (last_of old one) (last_of looked two) left n ch e a
+
+-- An IN of a job on a channel among the events was done, by way of the service `left`.
+pub record Reads (events before behind : List Event) (replies first second : List Reply) (services one two : List Service)
+    (left : Service) (n ch a : ℕ) (moment : Moment) : Type 0 where
+  pub events_are : events ≡ before ++ Calls n (In ch a) moment ∷ behind
+  pub replies_are : replies ≡ first ++ Done ∷ second
+  pub services_are : services ≡ one ++ left ∷ two
+  pub in_order : (length first ≡ length before) × (length one ≡ length before)
+
+-- The words that it moved, from the service `read` to `left`, are those of the body that its channel reads: while its
+-- output side is open what that has written, else the version that its input side holds.
+pub record ReadsItsBody (read left : Service) (n ch a : ℕ) : Type 0 where
+  pub read_in : State
+  pub left_in : State
+  pub read_is : read ≡ Serving read_in
+  pub left_is : left ≡ Serving left_in
+  pub job : machine.Job
+  pub channel : machine.Channel
+  pub side : machine.Input
+  pub after : machine.Job
+  pub job_is : job_at read_in n ≡ Some job
+  pub channel_is : channel_at job ch ≡ Some channel
+  pub side_is : channel.input ≡ Some side
+  pub after_is : job_at left_in n ≡ Some after
+  pub core_is : after.core ≡ core_filled job channel a (words_from (body_read side channel.output) side.next)
+
+-- So it is with each IN of a run by way of these services.
+abbrev pub BodyIsRead : Service → List Event → List Reply → List Service → Type 0
+BodyIsRead old events replies services =
+    (before behind : List Event) (first second : List Reply) (one two : List Service) (left : Service) (n ch a : ℕ)
+    (moment : Moment)
+    → Reads events before behind replies first second services one two left n ch a moment
+    → ReadsItsBody (last_of old one) left n ch a
+
+-- Reading holds still: who looks a file up reads its words, whatever others do; and who writes reads what he has
+-- written.
+abbrev pub HoldsStill : Service → List Event → List Reply → List Service → Type 0
+HoldsStill old events replies services = FoundIsRead old events replies services
+    × BodyIsRead old events replies services
