@@ -248,8 +248,8 @@ module _ (d : DiskState) (map map' : VolumeCore) (jobs jobs' : List (Option Job)
       t_is : s ≡ t
       t_is = state_is s w jobs (state.jobs_are
           ∙ sym (jobs_same state.under key new_writing jobs (keyed.once key ∙ ap present is.begun.vacant))
-          ∙ sym (renewed_jobs is.between map' input is.renewed input.ppn input.file is.renews d whole s.files
-          state.under.read reads_begun state.serials version found.1 of_file.pinned w0 jobs refl
+          ∙ sym (renewed_jobs is.between map' input is.renewed input.ppn input.file is.renews d s.files
+          state.under.read reads_begun whole version found.1 w0 jobs refl
           (subst (λ vs. ArePinned vs (pins_of (readers jobs))) (sym is.begun.live) reading.pinned)))
 
       t_known : IsKnown d map t
@@ -399,8 +399,8 @@ module _ (d : DiskState) (map map' : VolumeCore) (jobs jobs' : List (Option Job)
                 (λ apart. ap (λ (x : Writing). file_at s.files x.place) (with_other state.under key new_writing k apart)
                 ∙ state.absent k p (sym (others k apart) ∙ at) is_new);
             keyed = update_keyed;
-            read = renewed_reads is.between map' input is.renewed input.ppn input.file is.renews d whole s.files
-                state.under.read reads_begun state.serials version found.1 of_file.pinned;
+            read = renewed_reads is.between map' input is.renewed input.ppn input.file is.renews d s.files
+                state.under.read reads_begun whole version found.1 state.serials of_file.pinned;
             reading = update_reading;
             jobs_are = refl;
             sound = still;
