@@ -12,3 +12,7 @@ mod list_rows;
 mod monitor_rows;
 #[cfg(test)]
 mod reading_rows;
+#[cfg(test)]
+mod rights_rows;
+#[cfg(test)]
+mod update_rows;

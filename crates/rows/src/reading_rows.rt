@@ -15,13 +15,13 @@ use words36::{Ppn, Word};
 const BAZ: u64 = 0o424172000000;
 
 /// The first of the words that are read into.
-const INTO: u32 = 0o3000;
+pub(crate) const INTO: u32 = 0o3000;
 
 /// Protection 057 and dump mode, at date 0 and minute 0.
-const ATTRIBUTES: u64 = 0o057740000000;
+pub(crate) const ATTRIBUTES: u64 = 0o057740000000;
 
 /// What a channel reports that has no more words to read.
-const AT_END: Reply = Reply::Stopped(0o020017);
+pub(crate) const AT_END: Reply = Reply::Stopped(0o020017);
 
 /// How an input side ends.
 #[derive(Clone, Copy)]
@@ -58,7 +58,7 @@ fn end_with_room(
 }
 
 /// A LOOKUP of a name on channel 3 is answered so, whose four words are written anew before.
-fn expect_lookup(
+pub(crate) fn expect_lookup(
     rt: &impl Abort,
     monitor: &mut Monitor<MemDisk>,
     alloc: Global,
@@ -76,7 +76,7 @@ fn expect_lookup(
 }
 
 /// The LOOKUP of a name is done, and puts the attributes and this size into its words.
-fn expect_size(
+pub(crate) fn expect_size(
     rt: &impl Abort,
     monitor: &mut Monitor<MemDisk>,
     alloc: Global,
@@ -90,12 +90,12 @@ fn expect_size(
 }
 
 /// Makes the list of a job name so many words from `INTO` on, fewer than 2^18.
-fn name_area(rt: &impl Abort, monitor: &mut Monitor<MemDisk>, job: u32, count: u32) {
+pub(crate) fn name_area(rt: &impl Abort, monitor: &mut Monitor<MemDisk>, job: u32, count: u32) {
     monitor_rows::name_area(rt, monitor, job, (INTO, count));
 }
 
 /// An IN of channel 3 into the areas of the list is answered so.
-fn expect_read(
+pub(crate) fn expect_read(
     rt: &impl Abort,
     monitor: &mut Monitor<MemDisk>,
     alloc: Global,
@@ -106,7 +106,7 @@ fn expect_read(
 }
 
 /// The words of a job from an address on are so many that count up from a number.
-fn expect_words(
+pub(crate) fn expect_words(
     rt: &impl Abort,
     monitor: &Monitor<MemDisk>,
     job: u32,
@@ -120,7 +120,7 @@ fn expect_words(
 }
 
 /// An IN is done, and puts so many words that count up from a number at `INTO`.
-fn read_words(
+pub(crate) fn read_words(
     rt: &impl Abort,
     monitor: &mut Monitor<MemDisk>,
     alloc: Global,
@@ -255,7 +255,7 @@ fn read_first_block(rt: &impl Abort, monitor: &mut Monitor<MemDisk>, alloc: Glob
 }
 
 /// Logs a job in, with channel 3 open.
-fn log_in_to_read(rt: &impl Abort, monitor: &mut Monitor<MemDisk>, alloc: Global, job: u32) {
+pub(crate) fn log_in_to_read(rt: &impl Abort, monitor: &mut Monitor<MemDisk>, alloc: Global, job: u32) {
     login(rt, monitor, alloc, job);
     open(rt, monitor, alloc, job, 3);
 }
@@ -423,7 +423,7 @@ fn write_behind_a_gap(rt: &impl Abort, monitor: &mut Monitor<MemDisk>, alloc: Gl
 }
 
 /// Puts the word 7 into so many places from `INTO` on.
-fn put_sevens(rt: &impl Abort, monitor: &mut Monitor<MemDisk>, count: u32) {
+pub(crate) fn put_sevens(rt: &impl Abort, monitor: &mut Monitor<MemDisk>, count: u32) {
     for place in 0..count {
         assert!(rt; place < 0o20000);
         assert!(rt; put_word(monitor, 1, INTO + place, 7));
@@ -431,7 +431,7 @@ fn put_sevens(rt: &impl Abort, monitor: &mut Monitor<MemDisk>, count: u32) {
 }
 
 /// So many words from `INTO` on are zeros.
-fn expect_zeros(rt: &impl Abort, monitor: &Monitor<MemDisk>, count: u32) {
+pub(crate) fn expect_zeros(rt: &impl Abort, monitor: &Monitor<MemDisk>, count: u32) {
     for place in 0..count {
         assert!(rt; place < 0o20000);
         expect_word(rt, monitor, (1, INTO + place), 0);
@@ -473,7 +473,7 @@ fn expect_refused(
 }
 
 /// Logs a job in as another project's or programmer's, with channel 3 open.
-fn login_as(
+pub(crate) fn login_as(
     rt: &impl Abort,
     monitor: &mut Monitor<MemDisk>,
     alloc: Global,
@@ -488,7 +488,7 @@ fn login_as(
 }
 
 /// The directory [10,20].
-const OWN: u64 = 0o000010000020;
+pub(crate) const OWN: u64 = 0o000010000020;
 
 /// Job 1 looks up what there isn't, and [11,5] what it may not read.
 fn look_up_in_vain(rt: &impl Abort, monitor: &mut Monitor<MemDisk>, alloc: Global) {
