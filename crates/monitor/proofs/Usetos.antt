@@ -12,7 +12,6 @@ use Rattle.meaning.specs.Step.{on_channel, of_job}
 use Rattle.meaning.specs.declared.call.Call.TheVariants.{Useto}
 use Rattle.meaning.specs.declared.call.Reply.{Reply}
 use Rattle.meaning.specs.declared.call.Reply.TheVariants.{Done, Refused, Stopped, NoChannel}
-use Rattle.meaning.proofs.MapLaws.{some_none}
 use Rattle.volume.specs.declared.live.LiveVersion.{LiveVersion}
 use Rattle.volume.specs.declared.pending.PendingVersion.{PendingVersion}
 use Rattle.monitor.specs.Rows.{IsRow, Keeps, KeepsReading}

@@ -1,4 +1,4 @@
-use Rattle.std.proofs.Common.{◌≡◌, false, Some, refl, sym, subst, ap, slice_set}
+use Rattle.std.proofs.Common.{false, Some, refl, sym, subst, ap, slice_set}
 use Rattle.meaning.specs.declared.call.Call.TheVariants.{In}
 use Rattle.meaning.proofs.SlotLaws.{slot-set_other}
 use Rattle.monitor.specs.Serving.{AreKeyed, ArePlaced, AreReading}
