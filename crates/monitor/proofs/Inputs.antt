@@ -2,6 +2,7 @@
 use Rattle.std.proofs.Common.{◌≡◌, ℕ, zero, suc, ◌+◌, ◌-◌, ◌<◌, ◌≤◌, List, [], ◌∷◌, ◌++◌, length, take, drop, min}
 use Rattle.std.proofs.Common.{Option, Some, refl, sym, ap, subst, ◌∙◌, arith}
 use Rattle.std.specs.List.{All}
+use Rattle.std.specs.Prelude.{option_map}
 use Rattle.std.proofs.lemmas.List.{drop-take, length-drop, drop_all}
 use Rattle.std.proofs.lemmas.List.Elements.{All-head}
 use Rattle.meaning.specs.declared.area.Area.{Area}
@@ -9,6 +10,17 @@ use Rattle.meaning.specs.Cores.{placed, dealt, after_writes}
 use Rattle.meaning.specs.CommandLists.{word_count}
 use Rattle.meaning.specs.Splices.{block_start, words_from}
 use Rattle.meaning.proofs.MapLaws.{some_same}
+use Rattle.retrieval.specs.Versions.{VersionState}
+use Rattle.volume.specs.Live.{VolumeCore}
+use Rattle.volume.specs.Pins.{version_under, IsReadable}
+use Rattle.volume.specs.declared.handles.VersionHandle.{VersionHandle}
+use Rattle.volume.specs.declared.handles.VersionHandle.TheVariants.{Pinned, Pending}
+
+-- what may be read is there
+pub version_there : (c : VolumeCore) (handle : VersionHandle) → IsReadable c handle
+    → (v : VersionState) × (version_under c handle ≡ Some v)
+version_there c (Pinned pin) (v, there, some) = (v.version, ap (option_map (λ x. x.version)) there)
+version_there c (Pending pending) (p, there) = (p.version, ap (option_map (λ x. x.version)) there)
 
 take_front : (c m : ℕ) (xs : List ℕ) → c ≤ m → take c (take m xs) ≡ take c xs
 take_front zero m xs less = refl

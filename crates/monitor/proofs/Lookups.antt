@@ -63,10 +63,9 @@ module _ (c c' : VolumeCore) (input : Input) (holds : IsHolding c c' input) wher
 
 -- The channel reads another version, or its first.
 
-reads_first : (channel : Channel) (input : Input) → channel.output ≡ None → input.next ≡ 1
-    → IsReader (looking channel input)
-reads_first channel input free first i is =
-    (free, subst (λ (n : ℕ). 0 < n) (sym first ∙ ap (λ (x : Input). x.next) (some_same is)) (omega arith))
+reads_first : (channel : Channel) (input : Input) → input.next ≡ 1 → IsReader (looking channel input)
+reads_first channel input first i is =
+    subst (λ (n : ℕ). 0 < n) (sym first ∙ ap (λ (x : Input). x.next) (some_same is)) (omega arith)
 
 module _ (c between c' : VolumeCore) (job job' : Job) (number address : ℕ) (channel : Channel) (input : Input)
     (looks : IsLookingUp c between c' job job' number address channel input) where
@@ -82,7 +81,7 @@ module _ (c between c' : VolumeCore) (job job' : Job) (number address : ℕ) (ch
     each = λ readers. record {
       each = λ n x at. same_or_not n number
           (λ same. subst IsReader ((slot_set job.channels number n (looking channel input) x at).0 same)
-          (reads_first channel input looks.free looks.next))
+          (reads_first channel input looks.next))
           (λ apart. readers.each n x ((slot_set job.channels number n (looking channel input) x at).1 apart));
       sixteen = length-slice_set job.channels number (Some (looking channel input)) ∙ readers.sixteen;
     };

@@ -244,7 +244,7 @@ module _ (d : DiskState) (map : VolumeCore) (failed : Bool) (jobs jobs' : List (
     (keyed' : AreKeyed map.pending jobs') (reading' : AreReading map.live jobs') (sound : IsSound d map false)
     (honest : d.honest)
     (p : PendingVersion) (at : pending_at map.pending out.output.pending.key ≡ Some p)
-    (none : FindsNone d.size map p out.output.next (length out.words)) (s : State) (state : IsState d map jobs s) where
+    (none : FindsNone d.size map p out.output (length out.words)) (s : State) (state : IsState d map jobs s) where
   before_is : s ≡ state_of s.files state.under jobs
   before_is = state_is s state.under jobs state.jobs_are
 

@@ -25,8 +25,6 @@ use Rattle.monitor.specs.Serving.{pack_of, present, AreKeyed, IsWriting}
 use Rattle.monitor.specs.Sides.{Writing, UnderKeys, side_of, sides_in, sides, kind_of, output_of, channel_of, job_of}
 use Rattle.monitor.specs.Sides.{jobs_of, state_of}
 use Rattle.monitor.specs.declared.channel.Channel.{Channel}
-use Rattle.monitor.specs.declared.output.Kind.{Kind}
-use Rattle.monitor.specs.declared.output.Kind.TheVariants.{Create, Supersede}
 use Rattle.monitor.specs.declared.output.Output.{Output}
 use Rattle.monitor.specs.declared.job.Job.{Job}
 use Rattle.monitor.proofs.EnterServing.{with_writing, with_same, jobs_same}
@@ -62,48 +60,54 @@ some_of n is = grind (arith, nat_tests)
 not_none : (n : ℕ) → 0 < n → (n == 0) ≡ false
 not_none n some = grind (arith, nat_tests)
 
-crowded : (n long size blocks : ℕ) → (0 < n) × ((longest < long) ⊎ (size < blocks))
-    → crowds n long size blocks false ≡ true
-crowded n long size blocks (some, why) = ap (λ z. chain z (nat_lt longest long) (nat_lt size blocks) false)
-    (not_none n some) ∙ by (nat_lt longest long) (nat_lt size blocks) (either why)
+crowded : (n long size blocks : ℕ) (before : Bool)
+    → (0 < n) × ((longest < long) ⊎ (size < blocks) ⊎ (before ≡ true)) → crowds n long size blocks before ≡ true
+crowded n long size blocks before (some, why) = ap (λ z. chain z (nat_lt longest long) (nat_lt size blocks) before)
+    (not_none n some) ∙ by (nat_lt longest long) (nat_lt size blocks) before (each why)
   where
-    either : (longest < long) ⊎ (size < blocks) → (nat_lt longest long ≡ true) ⊎ (nat_lt size blocks ≡ true)
-    either (inl past) = inl (after longest long past)
-    either (inr past) = inr (after size blocks past)
+    each : (longest < long) ⊎ (size < blocks) ⊎ (before ≡ true)
+        → (nat_lt longest long ≡ true) ⊎ (nat_lt size blocks ≡ true) ⊎ (before ≡ true)
+    each (inl past) = inl (after longest long past)
+    each (inr (inl past)) = inr (inl (after size blocks past))
+    each (inr (inr is)) = inr (inr is)
 
-    by : (a b : Bool) → (a ≡ true) ⊎ (b ≡ true) → chain false a b false ≡ true
-    by true b is = refl
-    by false true is = refl
-    by false false (inl is) = is
-    by false false (inr is) = is
+    by : (a b e : Bool) → (a ≡ true) ⊎ (b ≡ true) ⊎ (e ≡ true) → chain false a b e ≡ true
+    by true b e is = refl
+    by false true e is = refl
+    by false false true is = refl
+    by false false false (inl is) = is
+    by false false false (inr (inl is)) = is
+    by false false false (inr (inr is)) = is
 
-free : (n long size blocks : ℕ) → ((0 < n) × ((longest < long) ⊎ (size < blocks)) → ⊥)
-    → crowds n long size blocks false ≡ false
-free n long size blocks not_so = by (n == 0) (nat_lt longest long) (nat_lt size blocks) refl refl refl
+free : (n long size blocks : ℕ) (before : Bool)
+    → ((0 < n) × ((longest < long) ⊎ (size < blocks) ⊎ (before ≡ true)) → ⊥)
+    → crowds n long size blocks before ≡ false
+free n long size blocks before not_so =
+    by (n == 0) (nat_lt longest long) (nat_lt size blocks) before refl refl refl refl
   where
-    by : (z a b : Bool) → (n == 0) ≡ z → nat_lt longest long ≡ a → nat_lt size blocks ≡ b → chain z a b false ≡ false
-    by true a b is p q = refl
-    by false true b is p q = absurd (not_so (some_of n is, inl (less_of longest long p)))
-    by false false true is p q = absurd (not_so (some_of n is, inr (less_of size blocks q)))
-    by false false false is p q = refl
-
-no_end : (kind : Kind) (next : ℕ) → is_before_end (kind_of kind) next ≡ false
-no_end Create next = refl
-no_end Supersede next = refl
+    by : (z a b e : Bool) → (n == 0) ≡ z → nat_lt longest long ≡ a → nat_lt size blocks ≡ b → before ≡ e
+        → chain z a b e ≡ false
+    by true a b e is p q r = refl
+    by false true b e is p q r = absurd (not_so (some_of n is, inl (less_of longest long p)))
+    by false false true e is p q r = absurd (not_so (some_of n is, inr (inl (less_of size blocks q))))
+    by false false false true is p q r = absurd (not_so (some_of n is, inr (inr r)))
+    by false false false false is p q r = refl
 
 module _ (d : DiskState) (map : VolumeCore) (s : State) (w : UnderKeys) (o : Output) (p : PendingVersion)
     (is : IsWriting d p (w.written o.pending.key)) (books : booked s ≡ map.known.table.booked) (n : ℕ) where
   test_is : finds_no_place (pack_of d) s (output_of w o) n
       ≡ crowds n (length_after p.version.words o.next n) (space d.size) (map.known.table.booked
-      + (version_cost (length_after p.version.words o.next n) - version_cost p.version.words)) false
+      + (version_cost (length_after p.version.words o.next n) - version_cost p.version.words))
+      (is_before_end (kind_of o.kind) o.next)
   test_is i = crowds n (length_after (is.words i) o.next n) (space d.size) (books i
-      + (version_cost (length_after (is.words i) o.next n) - version_cost (is.words i))) (no_end o.kind o.next i)
+      + (version_cost (length_after (is.words i) o.next n) - version_cost (is.words i)))
+      (is_before_end (kind_of o.kind) o.next)
 
-  pub none_found : FindsNone d.size map p o.next n → finds_no_place (pack_of d) s (output_of w o) n ≡ true
-  none_found why = test_is ∙ crowded n _ (space d.size) _ why
+  pub none_found : FindsNone d.size map p o n → finds_no_place (pack_of d) s (output_of w o) n ≡ true
+  none_found why = test_is ∙ crowded n _ (space d.size) _ (is_before_end (kind_of o.kind) o.next) why
 
-  pub place_found : (FindsNone d.size map p o.next n → ⊥) → finds_no_place (pack_of d) s (output_of w o) n ≡ false
-  place_found why_not = test_is ∙ free n _ (space d.size) _ why_not
+  pub place_found : (FindsNone d.size map p o n → ⊥) → finds_no_place (pack_of d) s (output_of w o) n ≡ false
+  place_found why_not = test_is ∙ free n _ (space d.size) _ (is_before_end (kind_of o.kind) o.next) why_not
 
 -- The state in which the words are put.
 

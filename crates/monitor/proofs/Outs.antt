@@ -1,8 +1,9 @@
 -- OUT: the output side of a channel, and what a call does to its version.
-use Rattle.std.proofs.Common.{◌≡◌, ◌<◌, ◌≤◌, ◌+◌, ◌*◌, ◌^◌, ℕ, zero, suc, true, List, Option, None, Some, Result, Ok}
-use Rattle.std.proofs.Common.{Err, refl, sym, ap, subst, ◌∙◌, inr, arith, slice_set}
+use Rattle.std.proofs.Common.{◌≡◌, ◌<◌, ◌≤◌, ◌+◌, ◌*◌, ◌^◌, ℕ, zero, suc, Bool, true, false, List, Option, None, Some}
+use Rattle.std.proofs.Common.{Result, Ok, Err, refl, sym, ap, subst, ◌∙◌, ◌⊎◌, inl, inr, arith, slice_set}
+use Rattle.std.proofs.lemmas.Bool.Decides.{nat_tests}
 use Rattle.std.specs.List.{AllByRecursion}
-use Rattle.std.specs.Prelude.{◌↔◌, option_to_list, is_some}
+use Rattle.std.specs.Prelude.{◌↔◌, ◌==◌, ◌&&◌, not, option_to_list, is_some}
 use Rattle.meaning.specs.Costs.{blocks_of}
 use Rattle.meaning.specs.Jobs.{slot}
 use Rattle.meaning.specs.Maps.{times}
@@ -71,6 +72,34 @@ not_refused result x e is exact holds = let err : Ok x ≡ Err e = sym is ∙ ex
 
 pub ok_is_none : {X E : Type 0} (result : Result X E) (x : X) (e : E) → result ≡ Ok x → result ≡ Err e → ⊥
 ok_is_none result x e is err = let wrong : Ok x ≡ Err e = sym is ∙ err in cc wrong
+
+-- Whether so many words would be put over what an append began with, as it was tested.
+module _ (n count : ℕ) (before kept : Bool) (tested : kept ≡ (not (count == 0) && before)) (counted : count ≡ n) where
+  pub put_over : kept ≡ true → (0 < n) × (before ≡ true)
+  put_over is = by (count == 0) before refl (sym tested ∙ is)
+    where
+      by : (z b : Bool) → (count == 0) ≡ z → (not z && b) ≡ true → (0 < n) × (b ≡ true)
+      by true b counts none = cc none
+      by false b some is = (grind (arith, nat_tests), is)
+
+  not_over : kept ≡ false → 0 < n → before ≡ true → ⊥
+  not_over is some = by (count == 0) before refl (sym tested ∙ is)
+    where
+      by : (z b : Bool) → (count == 0) ≡ z → (not z && b) ≡ false → b ≡ true → ⊥
+      by true b counts none over = grind (arith, nat_tests)
+      by false b counts not_so over = let wrong : true ≡ false = sym over ∙ not_so in cc wrong
+
+  -- words that neither lack room nor would be put there
+  pub finds_place : {A B : Type 0} → ((0 < n) × (A ⊎ B) → ⊥) → kept ≡ false
+      → (0 < n) × (A ⊎ B ⊎ (before ≡ true)) → ⊥
+  finds_place room is (some, inl long) = room (some, inl long)
+  finds_place room is (some, inr (inl many)) = room (some, inr many)
+  finds_place room is (some, inr (inr over)) = not_over is some over
+
+-- what lacks room finds no place
+pub lacks_room : {N A B C : Type 0} → N × (A ⊎ B) → N × (A ⊎ B ⊎ C)
+lacks_room (some, inl long) = (some, inl long)
+lacks_room (some, inr many) = (some, inr (inl many))
 
 -- The words are put into the version of an output side, and it moves on.
 module _ (pending pending' : List (Option PendingVersion)) (job job' : Job) (number : ℕ) (c : Channel)
@@ -150,9 +179,8 @@ module _ (live live' : List (Option LiveVersion)) (job : Job) (stays : live' ≡
         → KeepsReading live live' job job'
     reads_status status job' set = reads_channel (record c { status = status }) refl (λ is. is) job' set
 
-    -- one that writes doesn't read
-    pub reads_moved : (o : Output) → c.output ≡ Some o → (n : ℕ) (job' : Job)
+    -- an output side that moves on leaves the input side alone
+    pub reads_moved : (o : Output) (n : ℕ) (job' : Job)
         → job' ≡ record job { channels = slice_set job.channels number (Some (moved c o n)) }
         → KeepsReading live live' job job'
-    reads_moved o side n job' set = reads_channel (moved c o n) refl
-        (λ is i at. absurd (none_some (sym (is i at).0 ∙ side))) job' set
+    reads_moved o n job' set = reads_channel (moved c o n) refl (λ is. is) job' set

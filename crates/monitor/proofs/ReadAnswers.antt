@@ -1,13 +1,14 @@
 -- IN by the job of a number, whatever it is answered with.
-use Rattle.std.proofs.Common.{◌≡◌, ◌<◌, ◌≤◌, ℕ, Bool, true, false, List, Option, None, Some, refl, sym, ap, subst, ◌∙◌}
+use Rattle.std.proofs.Common.{◌≡◌, ◌≤◌, ℕ, Bool, true, false, List, Option, None, Some, refl, sym, ap, subst, ◌∙◌}
 use Rattle.std.proofs.Common.{◌⊎◌, inl, inr, slice_set}
-use Rattle.std.specs.Prelude.{◌↔◌, IsTrue}
+use Rattle.std.specs.Prelude.{◌↔◌, IsTrue, length, option_map}
 use Rattle.words36.specs.declared.moment.Moment.{Moment}
 use Rattle.blockdisk.specs.Disk.{Contents, DiskState, MayLeave, LeavesOnly}
 use Rattle.blockdisk.specs.Laws.{same_contents, leaves_still}
 use Rattle.changeset.specs.Reads.{OnlyReads}
 use Rattle.changeset.specs.Rest.{rest_settles}
 use Rattle.meaning.specs.Files.{File, Files}
+use Rattle.meaning.specs.Inputs.{body_read}
 use Rattle.meaning.specs.Jobs.{State, slot}
 use Rattle.meaning.specs.Published.{without_serials}
 use Rattle.meaning.specs.Retrieval.{HasBody}
@@ -21,22 +22,22 @@ use Rattle.meaning.specs.declared.call.Reply.TheVariants.{Done, Value, Refused, 
 use Rattle.meaning.specs.declared.call.Reply.TheVariants.{NoMemory, Device, Failed, DateRange}
 use Rattle.meaning.proofs.SlotLaws.{set-slot}
 use Rattle.volume.specs.Live.{as_known, VolumeCore}
-use Rattle.volume.specs.Live.{slot as version_at}
-use Rattle.volume.specs.Pins.{IsVersionOf}
+use Rattle.retrieval.specs.Versions.{VersionState}
+use Rattle.volume.specs.Pins.{IsVersionOf, version_under}
 use Rattle.volume.specs.Rest.{RestsAt}
-use Rattle.volume.specs.declared.live.LiveVersion.{LiveVersion}
-use Rattle.monitor.specs.Reading.{IsIn, IsAtInput, Ingoing}
-use Rattle.monitor.specs.Readers.{IsRead}
+use Rattle.monitor.specs.Reading.{handle_read, IsIn, IsAtInput, Ingoing}
 use Rattle.monitor.specs.Rows.{IsRow}
 use Rattle.monitor.specs.Serving.{pack_of, IsState, Serves, AreKeyed, AreReading}
-use Rattle.monitor.specs.Sides.{job_of, state_of}
+use Rattle.monitor.specs.Sides.{input_of, output_of, job_of, state_of}
 use Rattle.monitor.specs.declared.job.Job.{Job}
+use Rattle.monitor.specs.declared.output.Output.{Output}
 use Rattle.monitor.proofs.Answering.{in_state, state_is, row, goes_on, same_files, contrary}
-use Rattle.monitor.proofs.Dropped.{leaves_none, keeps_keyed}
+use Rattle.monitor.proofs.Dropped.{leaves_none, job_live, keeps_keyed}
+use Rattle.monitor.proofs.Outs.{version_there}
 use Rattle.monitor.proofs.ReadCalls.{in_none, in_refused, in_unlisted, row_read, row_ended, row_goes, undecided}
 use Rattle.monitor.proofs.ReadingJobs.{job_held, keeps_reading}
 use Rattle.monitor.proofs.Serving.{row_is}
-use Rattle.monitor.proofs.ReadWords.{version_held, writes_none, in_reads, in_keeps}
+use Rattle.monitor.proofs.ReadWords.{version_held, in_reads, in_keeps}
 
 -- A disk that was only read stands for what it stood for.
 module _ (d d' : DiskState) (reads : OnlyReads d d') (rests : (f : Files File) → RestsAt d f → RestsAt d' f) where
@@ -119,17 +120,29 @@ module _ (d d' : DiskState) (map : VolumeCore) (failed : Bool) (jobs : List (Opt
         ∙ ap (λ j. slice_set jobs n (Some j)) same) here) serves
 
     module _ (honest : d'.honest) where
-      module _ (at : IsAtInput job ch) where
-        held : (v : LiveVersion) × (version_at map.live at.input.pin.key ≡ Some v) × (0 < v.readers)
-        held = version_held map.live job ch at.channel at.there at.input at.side
-            (job_held map.live jobs n job reading there)
+      -- What a channel reads stands on the disk, as the version that it writes or as the one that is held for it.
+      module _ (at : IsAtInput job ch) (s : State) (state : IsState d map jobs s) where
+        abbrev body_of : Option Output → List ℕ
+        body_of o = body_read (input_of state.under at.input) (option_map (output_of state.under) o)
 
-        alone : at.channel.output ≡ None
-        alone = writes_none map.live job ch at.channel at.there at.input at.side (reading.each n job there)
+        abbrev HasWords : Option Output → Type 0
+        HasWords o = (v : VersionState) × (version_under map (handle_read o at.input) ≡ Some v)
+            × (length (body_of o) ≡ v.words) × HasBody d.contents v.blocks (body_of o)
 
-        is_read : (s : State) (state : IsState d map jobs s)
-            → IsRead d map s.files held.0 (state.under.read at.input.pin.key)
-        is_read s state = state.read.each at.input.pin.key held.0 held.1 held.2
+        has_words : HasWords at.channel.output
+        has_words = by at.channel.output refl
+          where
+            by : (o : Option Output) → at.channel.output ≡ o → HasWords o
+            by None none =
+                let held = version_held map.live job ch at.channel at.there at.input at.side
+                (job_held map.live jobs n job reading there) in
+                let read = state.read.each at.input.pin.key held.0 held.1 held.2 in
+                (held.0.version, ap (option_map (λ x. x.version)) held.1, sym read.version.words, read.version.body)
+            by (Some o) writes =
+                let found = version_there map.pending job ch at.channel at.there o writes
+                (job_live map jobs n job keyed there) in
+                let written = state.versions o.pending.key found.0 found.1 in
+                (found.0.version, ap (option_map (λ x. x.version)) found.1, written.words, written.body)
 
       -- a call that the machine goes on from, in the same files
       goes : (reply : Reply) (is : IsIn d d' map job job' ch a reply) (s : State) (state : IsState d map jobs s)
@@ -151,7 +164,7 @@ module _ (d d' : DiskState) (map : VolumeCore) (failed : Bool) (jobs : List (Opt
           ap (λ y. is_plain ((step (pack_of d) 0 y (Calls n (In ch a) moment)).0))
           (state_is s state.under jobs state.jobs_are)
           ∙ undecided job ch a read.at.channel read.at.there read.at.input read.at.side
-          (alone read.at) read.areas read.listed state.under d jobs n there moment timely 0 s.files
+          read.areas read.listed state.under d jobs n there moment timely 0 s.files
 
       -- what leaves the service serving
       in_leads : (reply : Reply) → IsIn d d' map job job' ch a reply → (reply ≡ Device → ⊥) → (reply ≡ Failed → ⊥)
@@ -161,26 +174,26 @@ module _ (d d' : DiskState) (map : VolumeCore) (failed : Bool) (jobs : List (Opt
           let read = is.0 in
           let moves = is.4 in
           let at = read.at in
-          let body = (state.under.read at.input.pin.key).file.body in
-          let version = (is_read at s state).version in
+          let body = body_of at s state at.channel.output in
+          let has = has_words at s state in
           goes Done is s state (λ serial.
-          row_goes job ch a at.channel at.there at.input at.side (alone at) read.areas read.listed state.under
+          row_goes job ch a at.channel at.there at.input at.side read.areas read.listed state.under
           d jobs n there moment timely serial s.files job' Done jobs' set
-          (row_read job ch a at.channel at.there at.input at.side (alone at) read.areas read.listed state.under
-          is.1 is.2 moves.some (moves.many (held at).0 (held at).1 body (sym version.words))
-          (moves.words honest (held at).0 (held at).1 body (sym version.words) version.body)
+          (row_read job ch a at.channel at.there at.input at.side read.areas read.listed state.under
+          is.1 is.2 moves.some (moves.many has.0 has.1 body has.2) (moves.words honest has.0 has.1 body has.2 has.3)
           ∙ ap (λ j. (Done, job_of state.under j)) (sym is.3))))
       in_leads (Stopped status) is device lies = in_state d map failed jobs (λ old. (new : Service)
           × Serves d map failed jobs' new × Answers (pack_of d) old (Calls n (In ch a) moment) (Stopped status) new)
           serves (λ s state.
           let read = is.0 in
           let at = read.at in
-          let body = (state.under.read at.input.pin.key).file.body in
-          let ends = is.3 (held at).0 (held at).1 body (sym (is_read at s state).version.words) in
+          let body = body_of at s state at.channel.output in
+          let has = has_words at s state in
+          let ends = is.3 has.0 has.1 body has.2 in
           goes (Stopped status) is s state (λ serial.
-          row_goes job ch a at.channel at.there at.input at.side (alone at) read.areas read.listed state.under
+          row_goes job ch a at.channel at.there at.input at.side read.areas read.listed state.under
           d jobs n there moment timely serial s.files job' (Stopped status) jobs' set
-          (row_ended job ch a at.channel at.there at.input at.side (alone at) read.areas read.listed state.under
+          (row_ended job ch a at.channel at.there at.input at.side read.areas read.listed state.under
           ends.0 ends.1 status is.1
           ∙ ap (λ j. (Stopped status, job_of state.under j)) (sym is.2))))
       in_leads (Refused code) is device lies =

@@ -14,7 +14,6 @@ use Rattle.meaning.specs.Jobs.{State, slot, with_channel, cleared, end_of_file}
 use Rattle.meaning.specs.Outcomes.{settled, clean, stopped_in}
 use Rattle.meaning.specs.Published.{Version}
 use Rattle.meaning.specs.Runs.{is_plain}
-use Rattle.meaning.specs.Splices.{words_from}
 use Rattle.meaning.specs.Step.{step, on_channel, of_job}
 use Rattle.meaning.specs.declared.area.Area.{Area}
 use Rattle.meaning.specs.declared.call.Call.TheVariants.{In}
@@ -100,21 +99,21 @@ module _ (job : Job) (ch a : ℕ) where
           side
           ∙ ap (by_side w (Some (input_of w i)) (option_map (output_of w) c.output)) none)
 
-      -- The channel writes nothing, and the list names these areas.
-      module _ (alone : c.output ≡ None) (areas : List Area) (listed : dump_list job.core a ≡ Some areas)
-          (w : UnderKeys) where
-        abbrev ahead : List ℕ
-        ahead = words_from (w.read i.pin.key).file.body i.next
-
+      -- The list names these areas; what the channel reads may be what its output side writes.
+      module _ (areas : List Area) (listed : dump_list job.core a ≡ Some areas) (w : UnderKeys) where
         abbrev side_in : Option machine.Input
         side_in = Some (input_of w i)
 
-        found : reads (job_of w job) ch (channel_of w c) a ≡ by_side w side_in None (Some areas)
+        abbrev side_out : Option machine.Output
+        side_out = option_map (output_of w) c.output
+
+        abbrev ahead : List ℕ
+        ahead = words_ahead side_in side_out
+
+        found : reads (job_of w job) ch (channel_of w c) a ≡ by_side w side_in side_out (Some areas)
         found =
-            ap (λ x. by_side w (option_map (input_of w) x) (option_map (output_of w) c.output) (dump_list job.core a))
-            side
-            ∙ ap (λ x. by_side w side_in (option_map (output_of w) x) (dump_list job.core a)) alone
-            ∙ ap (by_side w side_in None) listed
+            ap (λ x. by_side w (option_map (input_of w) x) side_out (dump_list job.core a)) side
+            ∙ ap (by_side w side_in side_out) listed
 
         pub row_read : (count : ℕ) (core : List ℕ) → (count ≡ 0 → areas ≡ [])
             → count ≡ min (word_count areas) (length ahead) → core ≡ after_writes job.core (dealt areas ahead)
@@ -125,8 +124,8 @@ module _ (job : Job) (ch a : ℕ) where
             )
         row_read count core some many moved =
             found
-            ∙ ap (by_answer w side_in None (Some areas))
-            (answer_done (with_sides w side_in None) areas (λ named. words_there ahead (by count refl named)))
+            ∙ ap (by_answer w side_in side_out (Some areas))
+            (answer_done (with_sides w side_in side_out) areas (λ named. words_there ahead (by count refl named)))
             ∙ ap (λ ws. (
               Done,
               with_channel (record (job_of w job) { core = ws }) ch
@@ -154,7 +153,7 @@ module _ (job : Job) (ch a : ℕ) where
             )
         row_ended named none status is =
             found
-            ∙ ap (by_answer w side_in None (Some areas)) (answer_ended (with_sides w side_in None) areas named none)
+            ∙ ap (by_answer w side_in side_out (Some areas)) (answer_ended (with_sides w side_in side_out) areas named none)
             ∙ ap (λ m. (Stopped m, with_channel (job_of w job) ch (Some (record (channel_of w c) { status = m }))))
             (sym is)
             ∙ ap (λ j. (Stopped status, j)) (channel_set w job ch (Some (record c { status = status })))
@@ -162,12 +161,12 @@ module _ (job : Job) (ch a : ℕ) where
         row_undecided : is_plain ((reads (job_of w job) ch (channel_of w c) a).0) ≡ false
         row_undecided =
             ap (λ r. is_plain r.0) found
-            ∙ ap is_plain (settled_reply (dump_in_answer (with_sides w side_in None) (Some areas))
+            ∙ ap is_plain (settled_reply (dump_in_answer (with_sides w side_in side_out) (Some areas))
             (with_channel (record (job_of w job) { core = after_writes job.core (dealt areas ahead) }) ch
             (Some (record (clean
             (channel_of w c)) { input = moved_on side_in (blocks_of (min (word_count areas) (length ahead))) })))
             (stopped_in (job_of w job) ch (channel_of w c)))
-            ∙ answer_undecided (with_sides w side_in None) areas
+            ∙ answer_undecided (with_sides w side_in side_out) areas
 
         module _ (d : DiskState) (jobs : List (Option Job)) (n : ℕ) (here : slot jobs n ≡ Some job) (moment : Moment)
             (timely : moment.date ≤ 4095) (serial : ℕ) (files : Files Version) where

@@ -4,7 +4,7 @@ use Rattle.std.proofs.Common.{List, [], length, replicate, Option, None, Some, r
 use Rattle.std.proofs.Common.{slice_set}
 use Rattle.std.proofs.lemmas.Bool.Decides.{nat_tests}
 use Rattle.std.specs.List.{AllByRecursion}
-use Rattle.std.specs.Prelude.{◌↔◌, option_to_list}
+use Rattle.std.specs.Prelude.{◌↔◌, option_to_list, option_map}
 use Rattle.std.proofs.lemmas.List.{length-drop, length-replicate}
 use Rattle.blockdisk.specs.Disk.{DiskState}
 use Rattle.meaning.specs.CommandLists.{word_count, dump_list, areas_from, limited}
@@ -19,27 +19,33 @@ use Rattle.meaning.specs.declared.call.Reply.TheVariants.{Done, Value, Refused, 
 use Rattle.meaning.specs.declared.call.Reply.TheVariants.{NoMemory, Device, Failed, DateRange}
 use Rattle.meaning.proofs.MapLaws.{some_same, some_none}
 use Rattle.meaning.proofs.MapSums.{times_head}
+use Rattle.retrieval.specs.Versions.{VersionState}
 use Rattle.volume.specs.Known.{IsWholeVersion}
-use Rattle.volume.specs.Live.{VolumeCore, as_known, AreStanding}
+use Rattle.volume.specs.Live.{VolumeCore, as_known, pending_at, IsWholePending, IsWholeCore}
 use Rattle.volume.specs.Live.{slot as version_at}
+use Rattle.volume.specs.Pins.{version_under, IsReadable}
+use Rattle.volume.specs.declared.handles.VersionHandle.{VersionHandle}
+use Rattle.volume.specs.declared.handles.VersionHandle.TheVariants.{Pinned, Pending}
 use Rattle.volume.specs.declared.live.LiveVersion.{LiveVersion}
 use Rattle.volume.specs.declared.pending.PendingVersion.{PendingVersion}
-use Rattle.volume.proofs.LiveLookups.{standing_at}
-use Rattle.monitor.specs.Reading.{read_on, IsIn}
+use Rattle.monitor.specs.Reading.{handle_read, read_on, IsIn}
 use Rattle.monitor.specs.Readers.{readers_of}
 use Rattle.monitor.specs.Rows.{Keeps, KeepsReading}
-use Rattle.monitor.specs.Serving.{HasReaders, IsReader, IsSide}
-use Rattle.monitor.specs.Sides.{side_of, reader_of, readers_in, pins_of}
+use Rattle.monitor.specs.Serving.{present, HasReaders, IsReader, IsSide}
+use Rattle.monitor.specs.Sides.{side_of, sides_in, keys_of, reader_of, readers_in, pins_of}
 use Rattle.monitor.specs.declared.channel.Channel.{Channel}
 use Rattle.monitor.specs.declared.input.Input.{Input}
+use Rattle.monitor.specs.declared.output.Output.{Output}
 use Rattle.monitor.specs.declared.job.Job.{Job}
 use Rattle.monitor.specs.declared.read_in.ReadIn.{ReadIn}
 use Rattle.monitor.specs.declared.read_in.ReadIn.TheVariants as read_in
 use Rattle.monitor.proofs.Calling.{keeps_same, keeps_channel}
 use Rattle.monitor.proofs.Dropped.{same_or_not}
+use Rattle.monitor.proofs.Outs.{version_there}
 use Rattle.monitor.proofs.ReaderLists.{held, held-channel}
 use Rattle.monitor.proofs.ReadingJobs.{slot_set, length-slice_set}
 use Rattle.monitor.proofs.SideLists.{count, each-side}
+use Rattle.monitor.proofs.SideSums.{all_at}
 
 -- A channel with an input side.
 module _ (live : List (Option LiveVersion)) (job : Job) (number : ℕ) (c : Channel) (there : slot job.channels number
@@ -64,15 +70,37 @@ module _ (live : List (Option LiveVersion)) (job : Job) (number : ℕ) (c : Chan
       by (Some v) is one = (v, is, one)
 
   pub next_first : HasReaders job → 0 < i.next
-  next_first has = (has.each number c there i side).1
+  next_first has = has.each number c there i side
 
-  pub writes_none : HasReaders job → c.output ≡ None
-  writes_none has = (has.each number c there i side).0
+-- The version that it reads: what its output side writes while that is open, else the one that is held.
+module _ (core : VolumeCore) (job : Job) (number : ℕ) (c : Channel) (there : slot job.channels number ≡ Some c)
+    (i : Input) (side : c.input ≡ Some i)
+    (held : (key : ℕ) → times key (pins_of (readers_in (Some job))) ≤ readers_of (version_at core.live key))
+    (live : (key : ℕ) → times key (keys_of (sides_in (Some job))) ≤ present (pending_at core.pending key)) where
+  pub is_readable : IsReadable core (handle_read c.output i)
+  is_readable = by c.output refl
+    where
+      by : (o : Option Output) → c.output ≡ o → IsReadable core (handle_read o i)
+      by None none = version_held core.live job number c there i side held
+      by (Some o) writes = version_there core.pending job number c there o writes live
 
 -- a version has no more words than a file
-pub few_words : (live : List (Option LiveVersion)) (key : ℕ) (v : LiveVersion) → AreStanding live
-    → version_at live key ≡ Some v → v.version.words ≤ most_blocks * 128
-few_words live key v standing there = (standing_at (λ x. IsWholeVersion (as_known x)) live key v standing there).few
+pub few_words : (size : ℕ) (core : VolumeCore) (handle : VersionHandle) → IsWholeCore size core → (v : VersionState)
+    → version_under core handle ≡ Some v → v.words ≤ most_blocks * 128
+few_words size core (Pinned pin) whole v there = by (version_at core.live pin.key) refl there
+  where
+    by : (was : Option LiveVersion) → version_at core.live pin.key ≡ was → option_map (λ x. x.version) was ≡ Some v
+        → v.words ≤ most_blocks * 128
+    by None at is = absurd (some_none (sym is))
+    by (Some x) at is = subst (λ (y : VersionState). y.words ≤ most_blocks * 128) (some_same is)
+        (all_at (λ y. IsWholeVersion (as_known y)) core.live pin.key x whole.standing at).few
+few_words size core (Pending pending) whole v there = by (pending_at core.pending pending.key) refl there
+  where
+    by : (was : Option PendingVersion) → pending_at core.pending pending.key ≡ was
+        → option_map (λ x. x.version) was ≡ Some v → v.words ≤ most_blocks * 128
+    by None at is = absurd (some_none (sym is))
+    by (Some x) at is = subst (λ (y : VersionState). y.words ≤ most_blocks * 128) (some_same is)
+        (all_at (IsWholePending size) core.pending pending.key x whole.waiting at).whole.few
 
 -- what is read of a body ends at a block with a number
 pub read_fits : (words next n : ℕ) → 0 < next → next < 2 ^ 32 → words ≤ most_blocks * 128 → n ≤ words - block_start next
@@ -151,9 +179,7 @@ module _ (job : Job) (number : ℕ) (c : Channel) (there : slot job.channels num
     ≡ Some i) (count : ℕ) where
   still_reads : IsReader c → IsReader (read_on c i count)
   still_reads was j is =
-      let before = was i side in
-      let later = ap (λ (y : Input). y.next) (some_same is) in
-      (before.0, further i.next j.next count before.1 later)
+      further i.next j.next count (was i side) (ap (λ (y : Input). y.next) (some_same is))
     where
       further : (next to n : ℕ) → 0 < next → next + blocks_of n ≡ to → 0 < to
       further next to n first is = omega arith

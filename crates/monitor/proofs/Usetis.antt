@@ -107,4 +107,4 @@ module _ (job : Job) (number block : ℕ) where
         (reads_channel live job number (record c { status = status; input = Some (record i { next = block }) })
         (λ key. ap (λ p. held key (option_to_list p)) (sym some)
         ∙ ap (λ p. held key (option_to_list (reader_of p))) (sym there))
-        (λ has j is. ((has.each number c there i some).0, subst (λ (x : Input). 0 < x.next) (some_same is) more)))
+        (λ has j is. subst (λ (x : Input). 0 < x.next) (some_same is) more))

@@ -12,7 +12,6 @@ use Rattle.meaning.specs.Step.{on_channel, of_job}
 use Rattle.meaning.specs.declared.call.Call.TheVariants.{Useto}
 use Rattle.meaning.specs.declared.call.Reply.{Reply}
 use Rattle.meaning.specs.declared.call.Reply.TheVariants.{Done, Refused, Stopped, NoChannel}
-use Rattle.meaning.proofs.MapLaws.{some_none}
 use Rattle.volume.specs.declared.live.LiveVersion.{LiveVersion}
 use Rattle.volume.specs.declared.pending.PendingVersion.{PendingVersion}
 use Rattle.monitor.specs.Rows.{IsRow, Keeps, KeepsReading}
@@ -148,12 +147,12 @@ module _ (job : Job) (number block : ℕ) where
         (reads_channel live job number (record c { status = status }) same_held
         (λ has i is. has.each number c there i is))
 
-    pub reads_moved : (live : List (Option LiveVersion)) (job' : Job) (status : ℕ) (o : Output) → c.output ≡ Some o
+    pub reads_moved : (live : List (Option LiveVersion)) (job' : Job) (status : ℕ) (o : Output)
         → job' ≡ record job {
           channels = slice_set job.channels number
               (Some (record c { status = status; output = Some (record o { next = block }) }));
         } → KeepsReading live live job job'
-    reads_moved live job' status o some set =
+    reads_moved live job' status o set =
         subst (KeepsReading live live job) (sym set)
         (reads_channel live job number (record c { status = status; output = Some (record o { next = block }) })
-        same_held (λ has i is. absurd (some_none (sym some ∙ (has.each number c there i is).0))))
+        same_held (λ has i is. has.each number c there i is))

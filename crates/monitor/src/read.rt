@@ -67,8 +67,8 @@ fn read_on(channel: Channel, input: Input, count: usize) -> Channel
 
 /// The version that a channel reads: while its output side is open what that writes, else the one that is held for its
 /// input side.
-fn handle_read(output: Option<Output>, input: Input) -> VersionHandle
-    ensures { result ≡ handle_read output input }
+fn handle_read(output: Option<Output>, input: &Input) -> VersionHandle
+    ensures { result ≡ handle_read output input.now }
 {
     match output {
         Some(output) => VersionHandle::Pending(output.pending),
@@ -122,7 +122,7 @@ fn read<D: Disk>(
     let Some(input) = side else {
         return Reply::Refused(ErrorCode::Sequence.number());
     };
-    let handle = handle_read(channel.output, input);
+    let handle = handle_read(channel.output, &input);
     match read_in(alloc, volume, &mut job.core, handle, input.next, address) {
         ReadIn::Moved(count) => {
             job.set_channel(number, Some(read_on(channel, input, count)));

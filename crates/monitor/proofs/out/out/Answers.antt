@@ -1,4 +1,5 @@
-use Rattle.std.proofs.Common.{rules, ◌≡◌, ◌*◌, ◌<◌, ◌≤◌, ◌^◌, length, Some, Err, refl, sym, ap, subst, ◌∙◌, inl, arith, slice_set}
+use Rattle.std.proofs.Common.{rules, ◌≡◌, ◌*◌, ◌<◌, ◌≤◌, ◌^◌, length, Some, Err, refl, sym, ap, subst, ◌∙◌, inl, inr, arith, slice_set}
+use Rattle.meaning.specs.Outputs.{is_before_end}
 use Rattle.meaning.specs.Retrieval.{most_blocks}
 use Rattle.meaning.specs.Splices.{length_after}
 use Rattle.meaning.specs.declared.code.ErrorCode.TheVariants.{NoRoom}
@@ -6,8 +7,10 @@ use Rattle.volume.specs.declared.error.CallError.TheVariants.{Refused}
 use Rattle.volume.specs.Live.{VolumeCore}
 use Rattle.monitor.specs.Putting.{moved, IsOut}
 use Rattle.monitor.specs.Rows.{Keeps}
+use Rattle.monitor.specs.Sides.{kind_of}
 use Rattle.monitor.proofs.Calling.{keeps_same}
-use Rattle.monitor.proofs.Outs.{version_there, version_live, its_side, next_fits, not_refused, keeps_put, reads_status, reads_moved}
+use Rattle.monitor.proofs.Outs.{version_there, version_live, its_side, next_fits, not_refused, keeps_put}
+use Rattle.monitor.proofs.Outs.{put_over, finds_place, lacks_room, reads_status, reads_moved}
 use Rattle.monitor.proofs.Usetos.{keeps_status}
 use Rattle.monitor.proofs.out.out.Goals as goal
 
@@ -31,19 +34,47 @@ pub put_words-requires-clause-first : goal.put_words-requires-clause-first
 put_words-requires-clause-first g c =
     (its_side c.args.volume.now.core.pending c.args.job.now c.args.number c.in-Some.channel (sym c.channel.ensures ∙ c.in-Some.is) c.in-Some-output.output c.in-Some-output.is c.requires.sides).starts
 
+pub returns-then-is_kept-clause-outcome : goal.returns-then-is_kept-clause-outcome
+returns-then-is_kept-clause-outcome g c =
+    subst (IsOut (g.D.Disk.state c.args.volume.now.disk) (g.D.Disk.state c.args.volume.now.disk) c.args.volume.now.core c.args.volume.now.core
+    ((c.args.volume.now.disk ≡ c.args.volume.now.disk) × (c.args.volume.now.core ≡ c.args.volume.now.core)) c.args.job.now c.stop.new.job c.args.number c.args.address) (sym c.stop.ensures.answered) (
+      record {
+        channel = c.in-Some.channel;
+        there = sym c.channel.ensures ∙ c.in-Some.is;
+        output = c.in-Some-output.output;
+        side = c.in-Some-output.is;
+        words = c.in-Ok.words.items;
+        found = c.in-Ok.ensures.words;
+      },
+      refl,
+      c.stop.ensures.kept,
+      λ p at. let over = put_over (length c.in-Ok.words.items) c.len.result (is_before_end (kind_of c.in-Some-output.output.kind) c.in-Some-output.output.next) c.is_kept.result c.is_kept.ensures
+          (omega (arith, c.in-Ok.words.ok, c.len.ensures)) c.if-is_kept.true in
+          (over.0, inr (inr over.1)),
+      (refl, refl),
+    )
+
+pub returns-then-is_kept-clause-keeps : goal.returns-then-is_kept-clause-keeps
+returns-then-is_kept-clause-keeps g c alive =
+    keeps_status c.args.job.now c.args.number 0 c.in-Some.channel (sym c.channel.ensures ∙ c.in-Some.is) c.args.volume.now.core.pending c.stop.new.job _ c.stop.ensures.kept
+
+pub returns-then-is_kept-clause-reads : goal.returns-then-is_kept-clause-reads
+returns-then-is_kept-clause-reads g c alive =
+    reads_status c.args.volume.now.core.live c.args.volume.now.core.live c.args.job.now refl c.args.number c.in-Some.channel (sym c.channel.ensures ∙ c.in-Some.is) _ c.stop.new.job c.stop.ensures.kept
+
 pub moved-moved-requires-clause-fits : goal.moved-moved-requires-clause-fits
 moved-moved-requires-clause-fits g c =
     let p = version_there c.args.volume.now.core.pending c.args.job.now c.args.number c.in-Some.channel (sym c.channel.ensures ∙ c.in-Some.is) c.in-Some-output.output c.in-Some-output.is c.requires.live in
     let first = (its_side c.args.volume.now.core.pending c.args.job.now c.args.number c.in-Some.channel (sym c.channel.ensures ∙ c.in-Some.is) c.in-Some-output.output c.in-Some-output.is c.requires.sides).starts in
-    let counted : c.len.result ≡ length c.as_slice.result.now = omega (arith, c.in-Ok.words.ok, c.len.ensures, ap length c.as_slice.ensures.value) in
-    let few : c.len.result ≤ 0o400000 = omega (arith, c.in-Ok.words.ok, c.len.ensures, c.in-Ok.ensures.few) in
+    let counted : c.len-in-Ok-put_words.result ≡ length c.as_slice.result.now = omega (arith, c.in-Ok.words.ok, c.len-in-Ok-put_words.ensures, ap length c.as_slice.ensures.value) in
+    let few : c.len-in-Ok-put_words.result ≤ 0o400000 = omega (arith, c.in-Ok.words.ok, c.len-in-Ok-put_words.ensures, c.in-Ok.ensures.few) in
     let small : c.in-Some-output.output.next < 2 ^ 32 = search rules in
-    next_fits p.0.version.words c.in-Some-output.output.next c.len.result first small few
+    next_fits p.0.version.words c.in-Some-output.output.next c.len-in-Ok-put_words.result first small few
     (λ some long. not_refused c.put_words.result c.in-Ok-put_words.field-0 (Refused NoRoom) c.in-Ok-put_words.is (c.put_words.ensures.room c.requires.serves p.0 p.1) (omega (arith, some, counted), inl (subst (λ n. most_blocks * 128 < length_after p.0.version.words c.in-Some-output.output.next n) counted long)))
 
 pub returns-in-Ok-put_words-clause-outcome : goal.returns-in-Ok-put_words-clause-outcome
 returns-in-Ok-put_words-clause-outcome g c =
-    let counted : c.len.result ≡ length c.as_slice.result.now = omega (arith, c.in-Ok.words.ok, c.len.ensures, ap length c.as_slice.ensures.value) in (
+    let counted : c.len-in-Ok-put_words.result ≡ length c.as_slice.result.now = omega (arith, c.in-Ok.words.ok, c.len-in-Ok-put_words.ensures, ap length c.as_slice.ensures.value) in (
       record {
         channel = c.in-Some.channel;
         there = sym c.channel.ensures ∙ c.in-Some.is;
@@ -55,7 +86,9 @@ returns-in-Ok-put_words-clause-outcome g c =
       c.set_channel.ensures ∙ ap (λ x. record c.args.job.now { channels = slice_set c.args.job.now.channels c.args.number (Some x) }) c.moved-moved.ensures
           ∙ ap (λ n. record c.args.job.now { channels = slice_set c.args.job.now.channels c.args.number (Some (moved c.in-Some.channel c.in-Some-output.output n)) }) counted,
       λ p at. let put = c.in-Ok-put_words.ensures.put p at in record {
-        fits = not_refused c.put_words.result c.in-Ok-put_words.field-0 (Refused NoRoom) c.in-Ok-put_words.is (c.put_words.ensures.room c.requires.serves p at);
+        fits = finds_place (length c.as_slice.result.now) c.len.result (is_before_end (kind_of c.in-Some-output.output.kind) c.in-Some-output.output.next) c.is_kept.result c.is_kept.ensures
+            (omega (arith, c.in-Ok.words.ok, c.len.ensures, ap length c.as_slice.ensures.value))
+            (not_refused c.put_words.result c.in-Ok-put_words.field-0 (Refused NoRoom) c.in-Ok-put_words.is (c.put_words.ensures.room c.requires.serves p at)) c.if-is_kept.false;
         version = put.0;
         here = put.1;
         length_is = put.2;
@@ -67,18 +100,18 @@ pub returns-in-Ok-put_words-clause-keeps : goal.returns-in-Ok-put_words-clause-k
 returns-in-Ok-put_words-clause-keeps g c alive =
     let p = version_there c.args.volume.now.core.pending c.args.job.now c.args.number c.in-Some.channel (sym c.channel.ensures ∙ c.in-Some.is) c.in-Some-output.output c.in-Some-output.is c.requires.live in
     let put = c.in-Ok-put_words.ensures.put p.0 p.1 in
-    keeps_put c.args.volume.now.core.pending c.put_words.new.self.core.pending c.args.job.now c.set_channel.new.self c.args.number c.in-Some.channel (sym c.channel.ensures ∙ c.in-Some.is) c.in-Some-output.output c.in-Some-output.is c.len.result
+    keeps_put c.args.volume.now.core.pending c.put_words.new.self.core.pending c.args.job.now c.set_channel.new.self c.args.number c.in-Some.channel (sym c.channel.ensures ∙ c.in-Some.is) c.in-Some-output.output c.in-Some-output.is c.len-in-Ok-put_words.result
     (c.set_channel.ensures ∙ ap (λ x. record c.args.job.now { channels = slice_set c.args.job.now.channels c.args.number (Some x) }) c.moved-moved.ensures) p.0 p.1 put.0 put.1 c.put_words.ensures.others
 
 pub returns-in-Ok-put_words-clause-reads : goal.returns-in-Ok-put_words-clause-reads
 returns-in-Ok-put_words-clause-reads g c alive =
-    reads_moved c.args.volume.now.core.live c.put_words.new.self.core.live c.args.job.now c.put_words.ensures.live c.args.number c.in-Some.channel (sym c.channel.ensures ∙ c.in-Some.is) c.in-Some-output.output c.in-Some-output.is c.len.result c.set_channel.new.self
+    reads_moved c.args.volume.now.core.live c.put_words.new.self.core.live c.args.job.now c.put_words.ensures.live c.args.number c.in-Some.channel (sym c.channel.ensures ∙ c.in-Some.is) c.in-Some-output.output c.len-in-Ok-put_words.result c.set_channel.new.self
     (c.set_channel.ensures ∙ ap (λ x. record c.args.job.now { channels = slice_set c.args.job.now.channels c.args.number (Some x) }) c.moved-moved.ensures)
 
 pub returns-in-Err-Refused-clause-outcome : goal.returns-in-Err-Refused-clause-outcome
 returns-in-Err-Refused-clause-outcome g c =
     subst (IsOut (g.D.Disk.state c.args.volume.now.disk) (g.D.Disk.state c.put_words.new.self.disk) c.args.volume.now.core c.put_words.new.self.core
-    ((c.put_words.new.self.disk ≡ c.args.volume.now.disk) × (c.put_words.new.self.core ≡ c.args.volume.now.core)) c.args.job.now c.stop.new.job c.args.number c.args.address) (sym c.stop.ensures.answered) (
+    ((c.put_words.new.self.disk ≡ c.args.volume.now.disk) × (c.put_words.new.self.core ≡ c.args.volume.now.core)) c.args.job.now c.stop-in-Err-Refused.new.job c.args.number c.args.address) (sym c.stop-in-Err-Refused.ensures.answered) (
       record {
         channel = c.in-Some.channel;
         there = sym c.channel.ensures ∙ c.in-Some.is;
@@ -88,20 +121,20 @@ returns-in-Err-Refused-clause-outcome g c =
         found = c.in-Ok.ensures.words ∙ ap Some (sym c.as_slice.ensures.value);
       },
       refl,
-      c.stop.ensures.kept,
-      (λ p at. (c.put_words.ensures.room c.requires.serves p at).0 (c.in-Err-Refused.is ∙ ap Err c.in-Err-Refused.field-0-is ∙ ap (λ code. Err (Refused code)) (c.put_words.ensures.codes c.in-Err-Refused.field-0-0 (c.in-Err-Refused.is ∙ ap Err c.in-Err-Refused.field-0-is)))),
+      c.stop-in-Err-Refused.ensures.kept,
+      (λ p at. lacks_room ((c.put_words.ensures.room c.requires.serves p at).0 (c.in-Err-Refused.is ∙ ap Err c.in-Err-Refused.field-0-is ∙ ap (λ code. Err (Refused code)) (c.put_words.ensures.codes c.in-Err-Refused.field-0-0 (c.in-Err-Refused.is ∙ ap Err c.in-Err-Refused.field-0-is))))),
       c.put_words.ensures.refused c.in-Err-Refused.field-0-0 (c.in-Err-Refused.is ∙ ap Err c.in-Err-Refused.field-0-is),
     )
 
 pub returns-in-Err-Refused-clause-keeps : goal.returns-in-Err-Refused-clause-keeps
 returns-in-Err-Refused-clause-keeps g c alive =
     let same = c.put_words.ensures.refused c.in-Err-Refused.field-0-0 (c.in-Err-Refused.is ∙ ap Err c.in-Err-Refused.field-0-is) in
-    subst (λ (core : VolumeCore). Keeps c.args.volume.now.core.pending core.pending c.args.job.now c.stop.new.job) (sym same.1)
-    (keeps_status c.args.job.now c.args.number 0 c.in-Some.channel (sym c.channel.ensures ∙ c.in-Some.is) c.args.volume.now.core.pending c.stop.new.job _ c.stop.ensures.kept)
+    subst (λ (core : VolumeCore). Keeps c.args.volume.now.core.pending core.pending c.args.job.now c.stop-in-Err-Refused.new.job) (sym same.1)
+    (keeps_status c.args.job.now c.args.number 0 c.in-Some.channel (sym c.channel.ensures ∙ c.in-Some.is) c.args.volume.now.core.pending c.stop-in-Err-Refused.new.job _ c.stop-in-Err-Refused.ensures.kept)
 
 pub returns-in-Err-Refused-clause-reads : goal.returns-in-Err-Refused-clause-reads
 returns-in-Err-Refused-clause-reads g c alive =
-    reads_status c.args.volume.now.core.live c.put_words.new.self.core.live c.args.job.now c.put_words.ensures.live c.args.number c.in-Some.channel (sym c.channel.ensures ∙ c.in-Some.is) _ c.stop.new.job c.stop.ensures.kept
+    reads_status c.args.volume.now.core.live c.put_words.new.self.core.live c.args.job.now c.put_words.ensures.live c.args.number c.in-Some.channel (sym c.channel.ensures ∙ c.in-Some.is) _ c.stop-in-Err-Refused.new.job c.stop-in-Err-Refused.ensures.kept
 
 pub returns-in-Err-NoMemory-put_words-clause-keeps : goal.returns-in-Err-NoMemory-put_words-clause-keeps
 returns-in-Err-NoMemory-put_words-clause-keeps g c alive =

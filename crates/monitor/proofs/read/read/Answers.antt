@@ -6,34 +6,40 @@ use Rattle.meaning.specs.Jobs.{cleared, end_of_file}
 use Rattle.meaning.specs.Splices.{block_start, words_from}
 use Rattle.meaning.proofs.MapLaws.{some_same}
 use Rattle.meaning.specs.declared.call.Reply.TheVariants.{Done}
-use Rattle.monitor.specs.Reading.{IsIn}
+use Rattle.volume.specs.Pins.{version_under, IsReadable}
+use Rattle.monitor.specs.Reading.{handle_read, IsIn}
 use Rattle.monitor.specs.Rows.{KeepsReading}
 use Rattle.monitor.specs.declared.read_in.ReadIn.TheVariants.{Moved, AtEnd}
-use Rattle.monitor.proofs.ReadWords.{version_held, few_words, words_left, read_fits, few_named, is_listed, has_area}
+use Rattle.monitor.proofs.Inputs.{version_there}
+use Rattle.monitor.proofs.ReadWords.{is_readable, few_words, words_left, read_fits, few_named, is_listed, has_area}
 use Rattle.monitor.proofs.ReadWords.{in_reads}
 use Rattle.monitor.proofs.read.read.Goals as goal
 
 pub read_in-requires-clause-live : goal.read_in-requires-clause-live
 read_in-requires-clause-live g c =
-    version_held c.args.volume.now.core.live c.args.job.now c.args.number c.in-Some.channel (sym c.channel.ensures
-    ∙ c.in-Some.is) c.in-Some-side.input c.in-Some-side.is c.requires.held
+    subst (IsReadable c.args.volume.now.core) (sym c.handle_read-handle.ensures)
+    (is_readable c.args.volume.now.core c.args.job.now c.args.number c.in-Some.channel (sym c.channel.ensures
+    ∙ c.in-Some.is) c.in-Some-side.input c.in-Some-side.is c.requires.held c.requires.live)
 
 pub read_on-requires-clause-fits : goal.read_on-requires-clause-fits
 read_on-requires-clause-fits g c =
     let i = c.in-Some-side.input in
     let n = c.in-Moved.count in
-    let held = version_held c.args.volume.now.core.live c.args.job.now c.args.number c.in-Some.channel
-    (sym c.channel.ensures ∙ c.in-Some.is) i c.in-Some-side.is c.requires.held in
+    let found = version_there c.args.volume.now.core (handle_read c.in-Some.channel.output i)
+    (is_readable c.args.volume.now.core c.args.job.now c.args.number c.in-Some.channel (sym c.channel.ensures
+    ∙ c.in-Some.is) i c.in-Some-side.is c.requires.held c.requires.live) in
+    let at = ap (version_under c.args.volume.now.core) c.handle_read-handle.ensures ∙ found.1 in
     let list = is_listed c.read_in.result (Moved n) (dump_list c.args.job.now.core c.args.address) c.in-Moved.is
     (λ e. cc e) c.read_in.ensures.checked in
-    let words = held.0.version.words in
+    let words = found.0.words in
     let many : n ≡ min (word_count list.0) (length (words_from (replicate words 0) i.next)) = c.read_in.ensures.number
-    held.0 held.1 (replicate words 0) (length-replicate words 0) list.0 list.1 n c.in-Moved.is in
+    found.0 at (replicate words 0) (length-replicate words 0) list.0 list.1 n c.in-Moved.is in
     let left : length (words_from (replicate words 0) i.next) ≡ words - block_start i.next = words_left words i.next in
     let first : 0 < i.next = search rules in
     let small : i.next < 2 ^ 32 = search rules in
     read_fits words i.next n first small
-    (few_words c.args.volume.now.core.live i.pin.key held.0 c.requires.sound.whole.standing held.1)
+    (few_words (g.D.Disk.state c.args.volume.now.disk).size c.args.volume.now.core
+    (handle_read c.in-Some.channel.output i) c.requires.sound.whole found.0 found.1)
     (omega (arith, many, left))
 
 pub read_on-requires-clause-few : goal.read_on-requires-clause-few
@@ -70,9 +76,10 @@ returns-in-Moved-clause-outcome g c =
       }) c.read_on.ensures,
       record {
         some = λ none. some_same (sym list.1 ∙ c.read_in.ensures.named.0 (c.in-Moved.is ∙ ap Moved none));
-        many = λ v at body long. c.read_in.ensures.number v at body long list.0 list.1 n c.in-Moved.is;
-        words = λ honest v at body long has. c.read_in.ensures.moved honest v at body long has list.0 list.1
-            n c.in-Moved.is;
+        many = λ v at body long. c.read_in.ensures.number v (ap (version_under c.args.volume.now.core)
+            c.handle_read-handle.ensures ∙ at) body long list.0 list.1 n c.in-Moved.is;
+        words = λ honest v at body long has. c.read_in.ensures.moved honest v (ap (version_under c.args.volume.now.core)
+            c.handle_read-handle.ensures ∙ at) body long has list.0 list.1 n c.in-Moved.is;
       },
     )
 
@@ -108,7 +115,8 @@ returns-in-AtEnd-clause-outcome g c =
             channels = slice_set c.args.job.now.channels c.args.number
                 (Some (record c.in-Some.channel { status = status }));
           }) (c.read_in.ensures.kept (λ n some is. let wrong = sym c.in-AtEnd.is ∙ is in cc wrong)),
-      λ v at body long. let ends = c.read_in.ensures.at_end v at body long list.0 list.1 c.in-AtEnd.is in
+      λ v at body long. let ends = c.read_in.ensures.at_end v (ap (version_under c.args.volume.now.core)
+          c.handle_read-handle.ensures ∙ at) body long list.0 list.1 c.in-AtEnd.is in
           (has_area list.0 ends.0, ends.1),
     )
 

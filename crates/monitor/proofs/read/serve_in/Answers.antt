@@ -1,8 +1,9 @@
-use Rattle.std.proofs.Common.{◌≡◌, false, Some, refl, sym, subst, ap, slice_set}
+use Rattle.std.proofs.Common.{false, Some, refl, sym, subst, ap, slice_set}
 use Rattle.meaning.specs.declared.call.Call.TheVariants.{In}
 use Rattle.meaning.proofs.SlotLaws.{slot-set_other}
 use Rattle.monitor.specs.Serving.{AreKeyed, ArePlaced, AreReading}
 use Rattle.monitor.proofs.Called.{still_serves}
+use Rattle.monitor.proofs.Dropped.{job_live}
 use Rattle.monitor.proofs.ReadAnswers.{in_keyed, in_reading, in_answered, quiet_read}
 use Rattle.monitor.proofs.ReadingJobs.{job_held}
 use Rattle.monitor.proofs.Refusals.{in_refused}
@@ -17,6 +18,10 @@ read-requires-clause-held g c = job_held c.args.volume.now.core.live c.requires.
 pub read-requires-clause-readers : goal.read-requires-clause-readers
 read-requires-clause-readers g c = c.requires.ready.among.reading.each c.requires.ready.number c.args.job.now
     c.requires.ready.among.there
+
+pub read-requires-clause-live : goal.read-requires-clause-live
+read-requires-clause-live g c = job_live c.args.volume.now.core c.requires.ready.jobs c.requires.ready.number
+    c.args.job.now c.requires.ready.among.keyed c.requires.ready.among.there
 
 pub returns : goal.returns
 returns g c = record {

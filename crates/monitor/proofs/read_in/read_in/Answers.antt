@@ -1,9 +1,8 @@
 use Rattle.std.proofs.Common.{rules, ◌≡◌, ◌<◌, ◌-◌, min, take, refl, ap, ◌∙◌}
-use Rattle.std.specs.Prelude.{option_map}
 use Rattle.meaning.specs.Splices.{block_start, words_from}
 use Rattle.meaning.specs.Cores.{after_writes, dealt}
 use Rattle.meaning.specs.CommandLists.{dump_list, word_count}
-use Rattle.monitor.proofs.Inputs.{names_none, none_dealt, all_dealt, as_many, no_more, ends_before}
+use Rattle.monitor.proofs.Inputs.{names_none, none_dealt, all_dealt, as_many, no_more, ends_before, version_there}
 use Rattle.monitor.proofs.read_in.read_in.Goals as goal
 
 pub returns-then-count-eq0-clause-named : goal.returns-then-count-eq0-clause-named
@@ -23,8 +22,7 @@ returns-then-count-eq0-clause-moved g c honest v there body long has areas liste
 pub returns-in-Ok-get_words-clause-moved : goal.returns-in-Ok-get_words-clause-moved
 returns-in-Ok-get_words-clause-moved g c honest v there body long has areas listed n is =
     let words = words_from body c.args.block in
-    let read = c.in-Ok-get_words.ensures.words honest v.version (ap (option_map (λ x. x.version)) there)
-    body long has in
+    let read = c.in-Ok-get_words.ensures.words honest v there body long has in
     let found = c.as_slice-in-Ok-get_words-2.result.now in
     all_dealt (dump_list c.args.core.now c.args.address) c.in-Ok.areas.items c.in-Ok.ensures.areas areas
     listed c.args.core.now c.fill.new.core words found
@@ -35,20 +33,20 @@ returns-in-Ok-get_words-clause-moved g c honest v there body long has areas list
 
 pub returns-in-Ok-get_words-clause-number : goal.returns-in-Ok-get_words-clause-number
 returns-in-Ok-get_words-clause-number g c v there body long areas listed n is =
-    let many : n ≡ min (word_count c.in-Ok.areas.items) (v.version.words - block_start c.args.block) = search rules in
+    let many : n ≡ min (word_count c.in-Ok.areas.items) (v.words - block_start c.args.block) = search rules in
     as_many (dump_list c.args.core.now c.args.address) c.in-Ok.areas.items c.in-Ok.ensures.areas areas
-    listed body v.version.words c.args.block n long many
+    listed body v.words c.args.block n long many
 
 pub returns-in-Ok-get_words-clause-few : goal.returns-in-Ok-get_words-clause-few
 returns-in-Ok-get_words-clause-few g c areas listed n is =
-    let v = c.requires.live.0 in
-    let many : n ≡ min (word_count c.in-Ok.areas.items) (v.version.words - block_start c.args.block) = search rules in
+    let v = (version_there c.args.volume.now.core c.args.handle c.requires.live).0 in
+    let many : n ≡ min (word_count c.in-Ok.areas.items) (v.words - block_start c.args.block) = search rules in
     no_more (dump_list c.args.core.now c.args.address) c.in-Ok.areas.items c.in-Ok.ensures.areas areas
-    listed v.version.words c.args.block n many
+    listed v.words c.args.block n many
 
 pub returns-in-Ok-get_words-clause-at_end : goal.returns-in-Ok-get_words-clause-at_end
 returns-in-Ok-get_words-clause-at_end g c v there body long areas listed is =
     let some : 0 < word_count c.in-Ok.areas.items = search rules in
-    let none : min (word_count c.in-Ok.areas.items) (v.version.words - block_start c.args.block) ≡ 0 = search rules in
+    let none : min (word_count c.in-Ok.areas.items) (v.words - block_start c.args.block) ≡ 0 = search rules in
     ends_before (dump_list c.args.core.now c.args.address) c.in-Ok.areas.items c.in-Ok.ensures.areas areas
-    listed body v.version.words c.args.block long some none
+    listed body v.words c.args.block long some none

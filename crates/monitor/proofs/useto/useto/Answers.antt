@@ -62,4 +62,4 @@ returns-then-block-eq0-clause-reads c live =
 pub returns-clause-reads : goal.returns-clause-reads
 returns-clause-reads c live =
     reads_moved c.args.job.now c.args.number c.args.block c.in-Some.channel (sym c.channel.ensures
-    ∙ c.in-Some.is) live c.set_channel.new.self _ c.in-Some-output.output c.in-Some-output.is c.set_channel.ensures
+    ∙ c.in-Some.is) live c.set_channel.new.self _ c.in-Some-output.output c.set_channel.ensures
