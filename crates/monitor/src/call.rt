@@ -110,8 +110,8 @@ impl<D: Disk> Monitor<D> {
     /// `NoJob` where no job of that number is logged in; `NoChannel` where the channel isn't open, or where OPEN
     /// names one above 15; `NoMemory` where core can't grow, with everything as before; `Device` where the device
     /// failed, and then `Failed` to every call. A later start finds the files from before the call or those after
-    /// it. Not served yet are an OPEN in a mode with buffers, `Stopped` as one in a mode that there isn't, and
-    /// ENTER and RENAME on a channel that reads and DeleteDir, which are `Refused(5)`.
+    /// it. Not served yet are an OPEN in a mode with buffers, `Stopped` as one in a mode that there isn't, and RENAME
+    /// on a channel that reads and DeleteDir, which are `Refused(5)`.
     pub fn call(&mut self, alloc: Global, job: u32, call: &Call, moment: Moment) -> Reply
         ensures answered { (D.state self.new.disk).honest → IsServed call.now (slot self.old.jobs job) → (old : Service)
             → Serves (D.state self.old.disk) self.old.map self.old.failed self.old.jobs old
