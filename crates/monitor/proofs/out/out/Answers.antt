@@ -48,7 +48,7 @@ returns-then-is_kept-clause-outcome g c =
       },
       refl,
       c.stop.ensures.kept,
-      λ p at. let over = put_over (length c.in-Ok.words.items) c.len.result (is_before_end (kind_of c.in-Some-output.output.kind) c.in-Some-output.output.next) c.is_kept.result c.is_kept.ensures
+      λ p at. let over = put_over (length c.in-Ok.words.items) _ (is_before_end (kind_of c.in-Some-output.output.kind) c.in-Some-output.output.next) c.is_kept.result c.is_kept.ensures
           (omega (arith, c.in-Ok.words.ok, c.len.ensures)) c.if-is_kept.true in
           (over.0, inr (inr over.1)),
       (refl, refl),
@@ -86,7 +86,7 @@ returns-in-Ok-put_words-clause-outcome g c =
       c.set_channel.ensures ∙ ap (λ x. record c.args.job.now { channels = slice_set c.args.job.now.channels c.args.number (Some x) }) c.moved-moved.ensures
           ∙ ap (λ n. record c.args.job.now { channels = slice_set c.args.job.now.channels c.args.number (Some (moved c.in-Some.channel c.in-Some-output.output n)) }) counted,
       λ p at. let put = c.in-Ok-put_words.ensures.put p at in record {
-        fits = finds_place (length c.as_slice.result.now) c.len.result (is_before_end (kind_of c.in-Some-output.output.kind) c.in-Some-output.output.next) c.is_kept.result c.is_kept.ensures
+        fits = finds_place (length c.as_slice.result.now) _ (is_before_end (kind_of c.in-Some-output.output.kind) c.in-Some-output.output.next) c.is_kept.result c.is_kept.ensures
             (omega (arith, c.in-Ok.words.ok, c.len.ensures, ap length c.as_slice.ensures.value))
             (not_refused c.put_words.result c.in-Ok-put_words.field-0 (Refused NoRoom) c.in-Ok-put_words.is (c.put_words.ensures.room c.requires.serves p at)) c.if-is_kept.false;
         version = put.0;
