@@ -41,6 +41,8 @@ pub mod EnterReads
 pub mod EnterRefusals
 pub mod EnterAnswers
 pub mod Updates
+pub mod UpdateRows
+pub mod Renewals
 pub mod Called
 pub mod Publications
 pub mod PublishedFiles

@@ -78,7 +78,7 @@ kind_is (Some d) name who owner is_zero claimed kind is = by (get d.files name) 
     by None e = cc e
     by (Some file) e = begun_kind (update_kind (file_digit file.protection who owner)) kind _ is_zero claimed e
 
-no_creation : (kind : Kind) → is_update kind ≡ true → is_create kind ≡ false
+pub no_creation : (kind : Kind) → is_update kind ≡ true → is_create kind ≡ false
 no_creation Create e = cc
 no_creation Supersede e = cc
 no_creation Update e = refl
