@@ -8,7 +8,6 @@ use Rattle.blockdisk.specs.Disk.{DiskState}
 use Rattle.meaning.specs.Entering.{protection_or, new_file, enter, enter_answer, enter_done, entered, output_opened}
 use Rattle.meaning.specs.Updating.{input_updating}
 use Rattle.meaning.specs.Files.{File, Files, Place, map_directory}
-use Rattle.meaning.specs.Jobs as machine
 use Rattle.meaning.specs.Jobs.{State, slot, channel_at, with_channel, is_create}
 use Rattle.meaning.specs.Looking.{place_at, digit_at, with_attributes}
 use Rattle.meaning.specs.Maps.{get, times}

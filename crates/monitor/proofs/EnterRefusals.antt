@@ -15,7 +15,6 @@ use Rattle.meaning.specs.declared.call.Call.TheVariants.{Enter}
 use Rattle.meaning.specs.declared.call.Event.TheVariants.{Call as Calls}
 use Rattle.meaning.specs.declared.call.Reply.{Reply}
 use Rattle.meaning.specs.declared.call.Reply.TheVariants.{Done}
-use Rattle.meaning.proofs.MapLaws.{some_same}
 use Rattle.volume.specs.Live.{VolumeCore}
 use Rattle.volume.specs.Rest.{IsSound}
 use Rattle.monitor.specs.Entering.{IsEnterAnswer}

@@ -1,13 +1,12 @@
 -- An ENTER on a channel that reads answers as the machine does, and writes over the file of the place that it reads.
-use Rattle.std.proofs.Common.{◌≡◌, ◌<◌, ◌≤◌, ◌^◌, ℕ, ◌+◌, Bool, true, false, List, [], ◌∷◌, Option, None, Some, Ok, refl, sym}
+use Rattle.std.proofs.Common.{◌≡◌, ◌<◌, ◌≤◌, ◌^◌, ℕ, ◌+◌, Bool, true, false, List, Option, None, Some, Ok, refl, sym}
 use Rattle.std.proofs.Common.{ap, subst, ◌∙◌, inl, inr, arith}
-use Rattle.std.specs.Prelude.{◌==◌, ◌||◌, not, if◌then◌else◌, is_some, is_none, option_map, option_to_list}
-use Rattle.words36.specs.declared.names.FileName.{FileName}
+use Rattle.std.specs.Prelude.{◌==◌, ◌||◌, not, if◌then◌else◌, is_some, option_map, option_to_list}
 use Rattle.blockdisk.specs.Disk.{Contents}
 use Rattle.meaning.specs.Codes.{number_of}
 use Rattle.meaning.specs.Cores.{lies_outside, with_right}
 use Rattle.meaning.specs.Entering.{begin_answer, enter_answer}
-use Rattle.meaning.specs.Files.{File, Directory, Files, Place}
+use Rattle.meaning.specs.Files.{File, Directory, Files}
 use Rattle.meaning.specs.Jobs as machine
 use Rattle.meaning.specs.Jobs.{State, slot, channel_at}
 use Rattle.meaning.specs.Looking.{place_at, has_no_directory}
@@ -22,7 +21,7 @@ use Rattle.meaning.specs.declared.call.Reply.{Reply}
 use Rattle.meaning.specs.declared.call.Reply.TheVariants.{Done, Refused, AddressCheck, NoMemory}
 use Rattle.meaning.proofs.MapLaws.{some_same}
 use Rattle.retrieval.specs.declared.prime.Prime.{Prime}
-use Rattle.volume.specs.Beginning.{begun, kept_blocks, IsBegun}
+use Rattle.volume.specs.Beginning.{kept_blocks, IsBegun}
 use Rattle.volume.specs.Known.{Before, IsNamed, IsWholeVersion, IsWholeDirectory, IsWholeMap}
 use Rattle.volume.specs.Live.{VolumeCore, pending_at, as_written}
 use Rattle.volume.specs.Live.{slot as version_at}

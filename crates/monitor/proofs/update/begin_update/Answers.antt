@@ -1,4 +1,4 @@
-use Rattle.std.proofs.Common.{◌≡◌, ◌∙◌, ℕ, sym, ap, subst, Ok, Err}
+use Rattle.std.proofs.Common.{◌≡◌, ◌∙◌, ℕ, sym, subst, Ok, Err}
 use Rattle.std.specs.Prelude.{◌==◌}
 use Rattle.words36.specs.declared.names.FileName.{FileName}
 use Rattle.meaning.specs.Files.{Place}
