@@ -1,10 +1,10 @@
 -- Where an ENTER begins: the directory of a volume that its place names, and what is answered by what stands there.
-use Rattle.std.proofs.Common.{◌≡◌, ◌<◌, ℕ, suc, Bool, true, false, List, [], ◌∷◌, length, take, Option, None, Some}
-use Rattle.std.proofs.Common.{Result, Ok, Err, Ordering, refl, sym, ap, subst, ◌∙◌, arith}
+use Rattle.std.proofs.Common.{◌≡◌, ◌<◌, ℕ, Bool, true, false, length, Option, None, Some, Result, Ok, Err, refl, sym, ap}
+use Rattle.std.proofs.Common.{subst, ◌∙◌, arith}
 use Rattle.std.specs.Prelude.{◌&&◌, ◌||◌, not, if◌then◌else◌, is_none, option_map}
-use Rattle.std.specs.Ordering.{nat_cmp, eq_by_cmp}
-use Rattle.std.specs.Cmp.{IsTotalOrder, nat_cmp_total}
-use Rattle.std.specs.FinMap.{IsAntisymmetric, nat_cmp-IsAntisymmetric}
+use Rattle.std.specs.Ordering.{nat_cmp}
+use Rattle.std.specs.Cmp.{nat_cmp_total}
+use Rattle.std.specs.FinMap.{nat_cmp-IsAntisymmetric}
 use Rattle.std.specs.FinMap.Entries.{find}
 use Rattle.words36.specs.declared.names.FileName.{FileName}
 use Rattle.blockdisk.specs.Disk.{DiskState}
@@ -19,48 +19,19 @@ use Rattle.meaning.specs.Stands.{StoredFile, StoredDirectory, directory_of, IsWh
 use Rattle.meaning.specs.declared.code.ErrorCode.{ErrorCode}
 use Rattle.meaning.specs.declared.call.Reply.{Reply}
 use Rattle.meaning.specs.declared.call.Reply.TheVariants.{Done, Refused}
-use Rattle.meaning.proofs.MapLaws.{some_same, some_none, tied}
+use Rattle.meaning.proofs.MapLaws.{some_same, some_none}
 use Rattle.meaning.proofs.MapLists.{get-map_values, get-from_entries}
 use Rattle.meaning.proofs.Names.{name_total, name_exact}
-use Rattle.directory.specs.Edits.{StandsAt}
 use Rattle.volume.specs.Beginning.{is_absent, IsDirectoryOf}
 use Rattle.volume.specs.Known.{KnownDirectory, Before, IsNamed, IsWholeDirectory, IsWholeMap}
 use Rattle.volume.specs.Live.{VolumeCore}
+use Rattle.volume.specs.declared.pending.Kind.{Kind}
+use Rattle.volume.specs.declared.pending.Kind.TheVariants.{Create, Supersede, Update, Append}
 use Rattle.volume.proofs.Answering.{Holds, directory_none, all_at_place}
+use Rattle.volume.proofs.Lookups.{first_place}
 use Rattle.volume.proofs.MakingHeld.{element_at}
 use Rattle.monitor.specs.Finding.{found_file, found_in, begun_as, allowed}
-use Rattle.monitor.specs.declared.output.Kind.{Kind}
-use Rattle.monitor.specs.declared.output.Kind.TheVariants.{Create, Supersede}
 use Rattle.monitor.proofs.Growths.{matches, shown_at}
-
--- Where a key stands in a list.
-
-module _ {K V : Type 0} {R : K → K → Ordering} (o : IsTotalOrder R) (exact : IsAntisymmetric R) where
-  pub first_place : (es : List (K × V)) (k : K) (v : V) → find R k es ≡ Some v → (i : ℕ) × StandsAt R es k v i
-  first_place [] k v is = absurd (some_none (sym is))
-  first_place (e ∷ es) k v is = by (eq_by_cmp R k e.0) refl is (first_place es k v)
-    where
-      by : (b : Bool) → eq_by_cmp R k e.0 ≡ b → (if b then Some e.1 else find R k es) ≡ Some v
-          → (find R k es ≡ Some v → (i : ℕ) × StandsAt R es k v i) → (i : ℕ) × StandsAt R (e ∷ es) k v i
-      by true t found rest = (
-        0,
-        record {
-          within = omega arith;
-          is = let same = sym (tied o exact k e.0 t) in let value = some_same found in λ i. Some (same i, value i);
-          found = ap (λ b. if b then Some e.1 else find R k es) t ∙ found;
-          before = refl;
-        },
-      )
-      by false t found rest =
-          let r = rest found in (
-            suc r.0,
-            record {
-              within = let w = r.1.within in omega arith;
-              is = r.1.is;
-              found = ap (λ b. if b then Some e.1 else find R k es) t ∙ found;
-              before = ap (λ b. if b then Some e.1 else find R k (take r.0 es)) t ∙ r.1.before;
-            },
-          )
 
 -- what a directory has under a name
 pub named_before : (size : ℕ) (d : KnownDirectory) → IsWholeDirectory size d → (name : FileName) → (old : Before)
@@ -170,6 +141,8 @@ abbrev pub begin_reply : Result Kind ErrorCode → Bool → Bool → Reply
 begin_reply (Err code) new_full old_full = Refused (number_of code)
 begin_reply (Ok Create) new_full old_full = if new_full then Refused 0o14 else Done
 begin_reply (Ok Supersede) new_full old_full = if old_full then Refused 0o14 else Done
+begin_reply (Ok Update) new_full old_full = if old_full then Refused 0o14 else Done
+begin_reply (Ok Append) new_full old_full = if old_full then Refused 0o14 else Done
 
 -- the same as the machine has it
 abbrev pub begin_at : ℕ → ℕ → FileName → Option (Directory Version) → machine.Job → Bool → Bool → Bool → Bool → Reply

@@ -8,7 +8,6 @@ use Rattle.blockdisk.specs.Disk.{DiskState}
 use Rattle.meaning.specs.Entering.{protection_or, new_file, enter, enter_answer, enter_done, entered, output_opened}
 use Rattle.meaning.specs.Updating.{input_updating}
 use Rattle.meaning.specs.Files.{File, Files, Place, map_directory}
-use Rattle.meaning.specs.Jobs as machine
 use Rattle.meaning.specs.Jobs.{State, slot, channel_at, with_channel, is_create}
 use Rattle.meaning.specs.Looking.{place_at, digit_at, with_attributes}
 use Rattle.meaning.specs.Maps.{get, times}
@@ -41,7 +40,6 @@ use Rattle.monitor.specs.Serving.{pack_of, present, IsSide, AreKeyed, IsWriting,
 use Rattle.monitor.specs.Sides.{Writing, UnderKeys, side_of, kind_of, input_of, output_of, channel_of, job_of, state_of}
 use Rattle.monitor.specs.declared.channel.Channel.{Channel}
 use Rattle.monitor.specs.declared.output.Kind.{Kind}
-use Rattle.monitor.specs.declared.output.Kind.TheVariants.{Create, Supersede}
 use Rattle.monitor.specs.declared.output.Output.{Output}
 use Rattle.monitor.specs.declared.job.Job.{Job}
 use Rattle.monitor.proofs.Answering.{state_is, job_set, called, goes_on}
@@ -61,13 +59,10 @@ use Rattle.meaning.proofs.Names.{name_total}
 
 -- The output side that is opened.
 
-same_kind : (kind : Kind) → is_create (kind_of kind) ≡ true → kind_of kind ≡ machine.Create
-same_kind Create e = refl
-same_kind Supersede e = cc e
-
-other_kind : (kind : Kind) → is_create (kind_of kind) ≡ false → kind_of kind ≡ machine.Supersede
-other_kind Create e = cc e
-other_kind Supersede e = refl
+-- one of a new name is a creation
+creates_new : (is_new : Bool) → is_new ≡ is_create (kind_of (entering.entered_kind is_new))
+creates_new true = refl
+creates_new false = refl
 
 module _ (w : UnderKeys) (job : Job) (c : Channel) (e : ℕ) (moment : Moment) (q : Place) (digit : ℕ) (kind : Kind)
     (prime : Prime) (directory : ℕ) (mode : mode_number prime.mode ≡ dump_mode) (at : prime.moment ≡ moment) where
@@ -78,17 +73,17 @@ module _ (w : UnderKeys) (job : Job) (c : Channel) (e : ℕ) (moment : Moment) (
       let d = ap (λ (x : Moment). x.date) (sym at) in
       λ i. record { protection = p i; mode = m i; time = t i; date = d i; body = [] }
 
-  opened_is : (was : Option Version) → is_none was ≡ is_create (kind_of kind)
+  opened_is : (was : Option Version) → kind ≡ entering.entered_kind (is_none was)
       → ((v : Version) → was ≡ Some v → v.file.protection < 512)
       → prime.protection ≡ protection_for (found_file directory (option_map (λ (v : Version). v.file) was))
       (protection_or (slice_index job.core (e + 2)) 0o057)
       → output_opened (job_of w job) (channel_of w c) e moment q digit None was
       ≡ record { place = q; kind = kind_of kind; pending = file_begun prime; next = 1 }
   opened_is None is few protection =
-      let k = sym (same_kind kind (sym is)) in let f = file_is _ protection in
+      let k = ap kind_of (sym is) in let f = file_is _ protection in
       λ i. record { place = q; kind = k i; pending = f i; next = 1 }
   opened_is (Some v) is few protection =
-      let k = sym (other_kind kind (sym is)) in
+      let k = ap kind_of (sym is) in
       let less = few v refl in
       let small : v.file.protection % 512 ≡ v.file.protection = omega arith in
       let f = file_is v.file.protection (protection ∙ small) in
@@ -117,7 +112,8 @@ module _ (d : DiskState) (map map' : VolumeCore) (jobs jobs' : List (Option Job)
     each = λ all. each-channel (IsSide map'.pending) job.channels ch (Some (entering.entered c key enters.kind)) all (
       record {
         starts = omega arith;
-        kind = λ p at. ap is_creation (some_same (sym at ∙ enters.begun.here)) ∙ enters.begun.is_new ∙ enters.kind_is;
+        kind = λ p at. ap is_creation (some_same (sym at ∙ enters.begun.here)) ∙ enters.begun.is_new
+            ∙ creates_new (is_none enters.begun.old) ∙ ap (λ k. is_create (kind_of k)) (sym enters.kind_is);
       },
       tt,
     );
@@ -195,7 +191,8 @@ module _ (d : DiskState) (map map' : VolumeCore) (jobs jobs' : List (Option Job)
           ∙ opened_is w job c e moment (place_of prime.ppn prime.file)
           (digit_at t (job_of w job) (place_of prime.ppn prime.file)) enters.kind prime directory.directory.protection
           (ap mode_number enters.at.mode) enters.at.moment_is
-          (get directory.directory.files prime.file) (sym directory.absent ∙ sym named ∙ enters.kind_is) directory.few
+          (get directory.directory.files prime.file) (enters.kind_is ∙ ap entering.entered_kind (named ∙ directory.absent))
+          directory.few
           (protection (without_serials s.files) state.files
           ∙ ap (λ f. protection_for f (protection_or (slice_index job.core (e + 2)) 0o057))
           (ap (λ o. found_in o prime.file) (shown_at s.files prime.ppn

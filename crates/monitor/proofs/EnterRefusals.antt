@@ -1,10 +1,8 @@
 -- What an ENTER leaves that begins nothing.
-use Rattle.std.proofs.Common.{◌≡◌, ◌≤◌, ℕ, Bool, true, false, List, Option, None, Some, refl, sym, ap, subst, ◌∙◌, inl}
-use Rattle.std.proofs.Common.{inr, slice_set}
-use Rattle.std.specs.Prelude.{if◌then◌else◌}
+use Rattle.std.proofs.Common.{◌≡◌, ◌≤◌, ℕ, Bool, false, List, Option, None, Some, sym, ap, subst, ◌∙◌, inl, inr, refl}
+use Rattle.std.proofs.Common.{slice_set}
 use Rattle.words36.specs.declared.moment.Moment.{Moment}
 use Rattle.blockdisk.specs.Disk.{DiskState}
-use Rattle.meaning.specs.Cores.{lies_outside}
 use Rattle.meaning.specs.Entering.{enter, enter_answer, enter_done}
 use Rattle.meaning.specs.Jobs as machine
 use Rattle.meaning.specs.Jobs.{State, slot, channel_at, with_job}
@@ -16,13 +14,11 @@ use Rattle.meaning.specs.Step.{step, call_of, on_channel, of_job}
 use Rattle.meaning.specs.declared.call.Call.TheVariants.{Enter}
 use Rattle.meaning.specs.declared.call.Event.TheVariants.{Call as Calls}
 use Rattle.meaning.specs.declared.call.Reply.{Reply}
-use Rattle.meaning.specs.declared.call.Reply.TheVariants.{Done, Refused, AddressCheck}
-use Rattle.meaning.proofs.MapLaws.{some_same}
+use Rattle.meaning.specs.declared.call.Reply.TheVariants.{Done}
 use Rattle.volume.specs.Live.{VolumeCore}
 use Rattle.volume.specs.Rest.{IsSound}
 use Rattle.monitor.specs.Entering.{IsEnterAnswer}
 use Rattle.monitor.specs.Finding.{IsKnown}
-use Rattle.monitor.specs.Unserved.{IsReading, refusal_at, job_refused}
 use Rattle.monitor.specs.Serving.{pack_of, AreKeyed, AreReading, IsState, Serves}
 use Rattle.monitor.specs.Sides.{UnderKeys, sides_in, job_of, state_of}
 use Rattle.monitor.specs.declared.job.Job.{Job}
@@ -33,22 +29,6 @@ use Rattle.monitor.proofs.Dropped.{job_keyed, leaves_none}
 use Rattle.monitor.proofs.EnterReads.{reading_same}
 use Rattle.monitor.proofs.Knowing.{known}
 use Rattle.monitor.proofs.ReadingJobs.{keeps_reading}
-
--- On a channel that reads.
-
-never_done : (b : Bool) → (if b then AddressCheck else Refused 5) ≡ Done → ⊥
-never_done true e = cc e
-never_done false e = cc e
-
-pub stays : (map map' : VolumeCore) (job job' : Job) (ch e : ℕ) (reply : Reply)
-    → ((reply ≡ Done → ⊥) → (map' ≡ map) × (job' ≡ record job { core = job'.core }))
-    → (IsReading (slot job.channels ch) → (reply ≡ refusal_at job e 4) × (job' ≡ job_refused job e 4))
-    → IsReading (slot job.channels ch)
-    → (map' ≡ map) × (reply ≡ refusal_at job e 4) × (job' ≡ job_refused job e 4)
-stays map map' job job' ch e reply kept unserved reads =
-    let is = unserved reads in
-    let not = λ (done : reply ≡ Done). never_done (lies_outside job.core e 4) (sym is.0 ∙ done) in
-    ((kept not).0, is.0, is.1)
 
 -- What every other answer leaves.
 module _ (d : DiskState) (map : VolumeCore) (failed : Bool) (jobs jobs' : List (Option Job)) (n : ℕ) (job job' : Job)

@@ -39,6 +39,7 @@ use Rattle.volume.specs.declared.pending.Kind.{Kind as VersionKind}
 use Rattle.volume.specs.declared.pending.Kind.TheVariants as kinds
 use Rattle.volume.proofs.Answering.{Holds, rest_holds, all_at_place}
 use Rattle.volume.proofs.Beginnings.{named_none}
+use Rattle.volume.proofs.Lookups.{first_place}
 use Rattle.volume.specs.Claims.{claims}
 use Rattle.monitor.specs.Finding.{IsKnown, IsAnswer, found_file, found_in, begun_as, allowed, kind_for}
 use Rattle.monitor.specs.Finding.{begin_answer_at}
@@ -46,9 +47,7 @@ use Rattle.monitor.specs.Serving.{pack_of}
 use Rattle.monitor.specs.Sides.{UnderKeys, job_of}
 use Rattle.monitor.specs.declared.found.Found.{Found}
 use Rattle.monitor.specs.declared.job.Job.{Job}
-use Rattle.monitor.specs.declared.output.Kind.{Kind}
-use Rattle.monitor.specs.declared.output.Kind.TheVariants.{Create, Supersede}
-use Rattle.monitor.proofs.Beginning.{home, listed, first_place, named_before, begin_reply, begin_is}
+use Rattle.monitor.proofs.Beginning.{home, listed, named_before, begin_reply, begin_is}
 use Rattle.monitor.proofs.Growths.{shown_at}
 
 -- the place that the words at an address name
@@ -58,10 +57,10 @@ pub at_place : (w : UnderKeys) (job : Job) (address ppn : ℕ) (file : FileName)
     → place_of ppn file ≡ place_at (job_of w job) address
 at_place w job address ppn file p n x = λ i. record { ppn = p i; name = record { name = n i; ext = x i } }
 
-less : (a b : ℕ) → a < b → nat_lt a b ≡ true
+pub less : (a b : ℕ) → a < b → nat_lt a b ≡ true
 less a b h = grind (arith, nat_tests)
 
-not_less : (a b : ℕ) → (a < b → ⊥) → nat_lt a b ≡ false
+pub not_less : (a b : ℕ) → (a < b → ⊥) → nat_lt a b ≡ false
 not_less a b h = grind (arith, nat_tests)
 
 is_less : (a b : ℕ) → (a < b) ⊎ (nat_lt a b ≡ false)
@@ -73,20 +72,20 @@ is_less a b = by (nat_lt a b) refl
 
 -- A job that begins, begins a new file where there is none.
 
-begun_kind : (k kind : Kind) (may is_zero claimed : Bool) → begun_as k may is_zero claimed ≡ Ok kind → kind ≡ k
+pub begun_kind : (k kind : VersionKind) (may is_zero claimed : Bool) → begun_as k may is_zero claimed ≡ Ok kind → kind ≡ k
 begun_kind k kind may true claimed is = cc is
 begun_kind k kind false false claimed is = cc is
 begun_kind k kind true false true is = cc is
 begun_kind k kind true false false is = sym (cc is)
 
-kind_is : (name : FileName) (who owner : ℕ) (is_zero claimed : Bool) (D : Directory Version) (kind : Kind)
+kind_is : (name : FileName) (who owner : ℕ) (is_zero claimed : Bool) (D : Directory Version) (kind : VersionKind)
     → allowed (found_in (Some (map_directory (λ (v : Version). v.file) D)) name) who owner is_zero claimed ≡ Ok kind
-    → (was : Option Version) → get D.files name ≡ was → (is_none was ≡ true → kind ≡ Create)
-    × (is_none was ≡ false → kind ≡ Supersede)
+    → (was : Option Version) → get D.files name ≡ was → (is_none was ≡ true → kind ≡ kinds.Create)
+    × (is_none was ≡ false → kind ≡ kinds.Supersede)
 kind_is name who owner is_zero claimed D kind ok None at =
     let shown = get-map_values name_total (λ (v : Version). v.file) D.files name
     ∙ ap (option_map (λ (v : Version). v.file)) at in (
-      (λ e. begun_kind Create kind _ is_zero claimed
+      (λ e. begun_kind kinds.Create kind _ is_zero claimed
           (sym (ap (λ f. allowed (found_file D.protection f) who owner is_zero claimed) shown) ∙ ok)),
       λ e. cc e,
     )
@@ -94,7 +93,7 @@ kind_is name who owner is_zero claimed D kind ok (Some v) at =
     let shown = get-map_values name_total (λ (v : Version). v.file) D.files name
     ∙ ap (option_map (λ (v : Version). v.file)) at in (
       (λ e. cc e),
-      λ e. begun_kind Supersede kind _ is_zero claimed
+      λ e. begun_kind kinds.Supersede kind _ is_zero claimed
           (sym (ap (λ f. allowed (found_file D.protection f) who owner is_zero claimed) shown) ∙ ok),
     )
 
@@ -104,14 +103,14 @@ module _ (d : DiskState) (map : VolumeCore) (s : State) (known : IsKnown d map s
   holds = rest_holds d map false sound honest refl (without_serials s.files) known.files
 
   -- how a job may begin at a place
-  abbrev pub may : ℕ → Place → Result Kind ErrorCode
+  abbrev pub may : ℕ → Place → Result VersionKind ErrorCode
   may who place = allowed (found_in (get (without_serials s.files) place.ppn) place.name) who place.ppn (place.name.name
       == 0) (claims map.pending place)
 
   -- something was found there, by which it may
   abbrev pub MayBegin : Found → Job → ℕ → FileName → Type 0
   MayBegin found job ppn file = (found ≡ found_in (get (without_serials s.files) ppn) file)
-      × ((kind : Kind) × (allowed found job.ppn ppn (file.name == 0) (claims map.pending (place_of ppn file))
+      × ((kind : VersionKind) × (allowed found job.ppn ppn (file.name == 0) (claims map.pending (place_of ppn file))
       ≡ Ok kind))
 
   reply_is : (w : UnderKeys) (job : Job) (place : Place)
@@ -184,7 +183,7 @@ module _ (d : DiskState) (map : VolumeCore) (s : State) (known : IsKnown d map s
     pub answer : begin_answer_at (pack_of d) s (job_of w job) place
         ≡ (if full kind place directory old then replies.Refused 0o14 else replies.Done)
 
-  pub begins : (w : UnderKeys) (job : Job) (place : Place) (kind : Kind) → may job.ppn place ≡ Ok kind
+  pub begins : (w : UnderKeys) (job : Job) (place : Place) (kind : VersionKind) → may job.ppn place ≡ Ok kind
       → Begins w job place (begins_as place)
   begins w job place kind is = by (get s.files place.ppn) refl
       (sym (ap (λ o. allowed (found_in o place.name) job.ppn place.ppn (place.name.name
@@ -194,7 +193,7 @@ module _ (d : DiskState) (map : VolumeCore) (s : State) (known : IsKnown d map s
       by_room : (x : KnownDirectory) (D : Directory Version) → get s.files place.ppn ≡ Some D → entry_count s place.ppn
           ≡ entries_with map x place.ppn → (old : Before) → (was : Option Version) → get D.files place.name ≡ was
           → is_none old ≡ is_none was → may job.ppn place ≡ Ok kind
-          → (is_none was ≡ true → kind ≡ Create) → (is_none was ≡ false → kind ≡ Supersede)
+          → (is_none was ≡ true → kind ≡ kinds.Create) → (is_none was ≡ false → kind ≡ kinds.Supersede)
           → (is_create (begins_as place) ≡ is_none old) × (begin_answer_at (pack_of d) s (job_of w job) place
           ≡ (if full (begins_as place) place x old then replies.Refused 0o14 else replies.Done))
       by_room x D at count old None name none ok new present =

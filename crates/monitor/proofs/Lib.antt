@@ -40,6 +40,9 @@ pub mod EnterCalls
 pub mod EnterReads
 pub mod EnterRefusals
 pub mod EnterAnswers
+pub mod Updates
+pub mod UpdateRows
+pub mod Renewals
 pub mod Called
 pub mod Publications
 pub mod PublishedFiles

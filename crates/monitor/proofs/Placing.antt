@@ -16,8 +16,6 @@ use Rattle.volume.specs.Claims.{claims_at, claims}
 use Rattle.monitor.specs.Finding.{begun_as, allowed}
 use Rattle.monitor.specs.declared.found.Found.{Found}
 use Rattle.monitor.specs.declared.found.Found.TheVariants as found
-use Rattle.monitor.specs.declared.output.Kind.{Kind}
-use Rattle.monitor.specs.declared.output.Kind.TheVariants.{Create, Supersede}
 use Rattle.monitor.proofs.Dropped.{same_or_not}
 use Rattle.words36.specs.declared.names.FileName.{FileName}
 use Rattle.std.specs.Ordering.{nat_cmp}
@@ -32,7 +30,8 @@ use Rattle.volume.specs.Beginning.{begun, begun_version, is_absent, IsBegun, IsD
 use Rattle.volume.specs.Known.{KnownDirectory}
 use Rattle.volume.specs.Live.{VolumeCore, pending_at}
 use Rattle.volume.specs.Publishing.{IsPlaced, IsPublishedCore}
-use Rattle.volume.specs.declared.pending.Kind.{Kind as VersionKind}
+use Rattle.volume.specs.declared.pending.Kind.{Kind}
+use Rattle.volume.specs.declared.pending.Kind.TheVariants.{Create, Supersede}
 use Rattle.volume.specs.declared.pending.PendingVersion.{PendingVersion}
 use Rattle.volume.proofs.Beginnings.{named_none}
 use Rattle.volume.proofs.Publications.{placed_on}
@@ -122,7 +121,7 @@ unclaimed pending k p place none at is =
     in_any f (y ∷ ys) zero x at none = ap f (sym (some_same at)) ∙ left_false (f y) (list_any f ys) none
     in_any f (y ∷ ys) (suc i) x at none = in_any f ys i x at (right_false (f y) (list_any f ys) none)
 
-pub placed_begun : (c c' : VolumeCore) (key : ℕ) (kind : VersionKind) (prime : Prime) → IsBegun c c' key kind prime
+pub placed_begun : (c c' : VolumeCore) (key : ℕ) (kind : Kind) (prime : Prime) → IsBegun c c' key kind prime
     → (prime.file.name == 0) ≡ false → claims c.pending (place_of prime.ppn prime.file) ≡ false → ArePlaced c
     → ArePlaced c'
 placed_begun c c' key kind prime begins named free placed = record {

@@ -4,8 +4,9 @@ use Rattle.meaning.specs.Cores.{with_right}
 use Rattle.meaning.specs.declared.call.Reply.TheVariants.{Refused}
 use Rattle.volume.specs.Beginning.{begun}
 use Rattle.meaning.specs.Looking.{place_at}
+use Rattle.monitor.specs.Entering.{entered_kind}
 use Rattle.monitor.specs.Finding.{IsAnswer, begin_answer_at}
-use Rattle.monitor.specs.Sides.{job_of}
+use Rattle.monitor.specs.Sides.{job_of, reader_of}
 use Rattle.monitor.specs.Serving.{pack_of}
 use Rattle.monitor.proofs.EnterReads.{reading_entered}
 use Rattle.monitor.proofs.Enters.{no_side, done, refused, wanting}
@@ -19,16 +20,15 @@ returns-in-Ok-clause-begun g c is = (
   c.in-Ok.prime,
   record {
     there = sym c.channel.ensures ∙ c.in-Some.is;
-    free = no_side c.in-Some.channel.output (sym c.is_some-else-is_some.ensures ∙ c.if-is_some-2.false);
-    unread = no_side c.in-Some.channel.input (sym c.is_some.ensures ∙ c.if-is_some.false);
+    free = no_side c.in-Some.channel.output (sym c.is_some.ensures ∙ c.if-is_some.false);
+    unread = ap reader_of (sym (sym c.channel.ensures ∙ c.in-Some.is)) ∙ c.requires.unread;
     begins = c.in-Ok.ensures.begun.0;
     bare = c.in-Ok.ensures.begun.1;
     begun = c.in-Ok.ensures.begun.2;
     at = c.in-Ok.ensures.prime;
     kind = c.kind_of.result;
-    kind_is = sym c.in-Ok.ensures.begun.2.is_new
-        ∙ c.kind_of.ensures (begun c.in-Ok.ensures.begun.0 c.in-Ok.prime c.in-Ok.ensures.begun.2.old)
-        c.in-Ok.ensures.begun.2.here;
+    kind_is = c.kind_of.ensures (begun c.in-Ok.ensures.begun.0 c.in-Ok.prime c.in-Ok.ensures.begun.2.old)
+        c.in-Ok.ensures.begun.2.here ∙ ap entered_kind c.in-Ok.ensures.begun.2.is_new;
     job_is = c.set_channel.ensures ∙ (λ i. record c.args.job.now {
       core = c.put_attributes.ensures i;
       channels = slice_set c.args.job.now.channels c.args.number
@@ -42,21 +42,21 @@ returns-in-Ok-clause-begun g c is = (
 )
 
 pub returns-in-Ok-clause-row : goal.returns-in-Ok-clause-row
-returns-in-Ok-clause-row g c h unread s known w =
+returns-in-Ok-clause-row g c h s known w =
     done (pack_of (g.D.Disk.state c.args.volume.now.disk)) s w c.args.job.now c.args.number c.args.address
     c.in-Some.channel (sym c.channel.ensures ∙ c.in-Some.is) (sym c.lies_outside.ensures.value
     ∙ c.if-lies_outside.false)
-    (no_side c.in-Some.channel.output (sym c.is_some-else-is_some.ensures ∙ c.if-is_some-2.false))
-    (no_side c.in-Some.channel.input (sym c.is_some.ensures ∙ c.if-is_some.false)) _
+    (no_side c.in-Some.channel.output (sym c.is_some.ensures ∙ c.if-is_some.false))
+    (ap reader_of (sym (sym c.channel.ensures ∙ c.in-Some.is)) ∙ c.requires.unread) _
     (c.in-Ok.ensures.answered h c.requires.alive s known w)
 
 pub returns-in-Err-Refused-clause-row : goal.returns-in-Err-Refused-clause-row
-returns-in-Err-Refused-clause-row g c h unread s known w =
+returns-in-Err-Refused-clause-row g c h s known w =
     refused (pack_of (g.D.Disk.state c.args.volume.now.disk)) s w c.args.job.now c.args.number c.args.address
     c.in-Some.channel (sym c.channel.ensures ∙ c.in-Some.is) (sym c.lies_outside.ensures.value
     ∙ c.if-lies_outside.false)
-    (no_side c.in-Some.channel.output (sym c.is_some-else-is_some.ensures ∙ c.if-is_some-2.false))
-    (no_side c.in-Some.channel.input (sym c.is_some.ensures ∙ c.if-is_some.false)) c.refuse-in-Err-Refused.new.core
+    (no_side c.in-Some.channel.output (sym c.is_some.ensures ∙ c.if-is_some.false))
+    (ap reader_of (sym (sym c.channel.ensures ∙ c.in-Some.is)) ∙ c.requires.unread) c.refuse-in-Err-Refused.new.core
     c.refuse-in-Err-Refused.result c.in-Err-Refused.code (c.refuse-in-Err-Refused.ensures.answered
     ∙ ap (λ x. Refused (number_of x)) c.in-Err-Refused.code-is)
     (c.refuse-in-Err-Refused.ensures.kept
@@ -66,12 +66,12 @@ returns-in-Err-Refused-clause-row g c h unread s known w =
     (c.in-Err-Refused.ensures.answered h c.requires.alive s known w))
 
 pub returns-in-Err-NoMemory-clause-row : goal.returns-in-Err-NoMemory-clause-row
-returns-in-Err-NoMemory-clause-row g c h unread s known w =
+returns-in-Err-NoMemory-clause-row g c h s known w =
     wanting (pack_of (g.D.Disk.state c.args.volume.now.disk)) s w c.args.job.now c.args.number c.args.address
     c.in-Some.channel (sym c.channel.ensures ∙ c.in-Some.is) (sym c.lies_outside.ensures.value
     ∙ c.if-lies_outside.false)
-    (no_side c.in-Some.channel.output (sym c.is_some-else-is_some.ensures ∙ c.if-is_some-2.false))
-    (no_side c.in-Some.channel.input (sym c.is_some.ensures ∙ c.if-is_some.false))
+    (no_side c.in-Some.channel.output (sym c.is_some.ensures ∙ c.if-is_some.false))
+    (ap reader_of (sym (sym c.channel.ensures ∙ c.in-Some.is)) ∙ c.requires.unread)
     (subst (λ x. IsAnswer {X = ℕ} (Err x) (begin_answer_at (pack_of (g.D.Disk.state c.args.volume.now.disk)) s
     (job_of w c.args.job.now) (place_at (job_of w c.args.job.now) c.args.address))) c.in-Err-NoMemory.field-0-is
     (c.in-Err-NoMemory.ensures.answered h c.requires.alive s known w))
