@@ -273,6 +273,7 @@ pub fn update<D: Disk>(
     }
     match begin_update(alloc, volume, job, &input, moment) {
         Ok((pending, kind)) => {
+            let _failed = volume.has_failed(); // which says what holds of a volume between two calls
             let output = side_of(volume, pending, kind);
             let prime = prime_of(volume, pending);
             let renewed = renew(volume, input, input.ppn, input.file);

@@ -11,7 +11,7 @@ use Rattle.meaning.specs.declared.call.Reply.TheVariants.{Refused}
 use Rattle.meaning.proofs.SoundLaws.{same_place-equal}
 use Rattle.volume.specs.Beginning.{begun}
 use Rattle.volume.specs.Claims.{claims}
-use Rattle.volume.specs.Live.{slot as version_at}
+use Rattle.volume.specs.Live.{IsWholeCore, slot as version_at}
 use Rattle.volume.specs.declared.live.LiveVersion.{LiveVersion}
 use Rattle.volume.specs.Pins.{IsPinAnswer}
 use Rattle.volume.specs.Places.{prime_at}
@@ -94,6 +94,8 @@ returns-in-Ok-clause-begun g c is =
               }));
         });
       },
+      subst (λ disk. IsWholeCore (state disk).size c.begin_update.new.volume.core) c.in-Ok.ensures.untouched.0
+          c.has_failed-failed.ensures.sound.whole,
       λ h files rests.
           let between = subst (λ disk. (state disk).honest) c.renew-renewed.ensures.untouched.0 h in
           let same = c.in-Ok.ensures.untouched.0 in
