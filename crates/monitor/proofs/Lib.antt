@@ -71,6 +71,7 @@ pub mod MomentRuns
 pub mod Stills
 pub mod Lookups
 pub mod LookupCalls
+pub mod Renewals
 pub mod Refusals
 pub mod Promised
 pub mod OutOfOrder

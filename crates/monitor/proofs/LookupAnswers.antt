@@ -148,7 +148,7 @@ short_facts d k files holds ppn name file is =
         (sym (get-map_values name_total (λ (f : StoredFile). f.file) stored.files name) ∙ named)
 
 -- The version that is held is that of the file; and it can be held.
-held_version : (contents : Contents) (live : List (Option LiveVersion)) (name : FileName) (pin : Pin)
+pub held_version : (contents : Contents) (live : List (Option LiveVersion)) (name : FileName) (pin : Pin)
     (o : Option (Directory File)) (file : File) → IsPinAnswer contents live name (Ok pin) o
     → named_in o name ≡ Some file
     → (v : LiveVersion) × (slot live pin.key ≡ Some v) × IsVersionOf contents (as_known v) file

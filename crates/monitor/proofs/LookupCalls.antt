@@ -44,7 +44,7 @@ use Rattle.monitor.proofs.ReadsPinned.{with_read, with_read_same, with_read_othe
 
 -- Another version is read under one key.
 
-abbrev with_version : UnderKeys → ℕ → Version → UnderKeys
+abbrev pub with_version : UnderKeys → ℕ → Version → UnderKeys
 with_version w key x = record w { read = with_read w.read key x }
 
 module _ (w : UnderKeys) (key : ℕ) (x : Version) where
@@ -78,7 +78,7 @@ module _ (w : UnderKeys) (key : ℕ) (x : Version) where
   job_unread (Some job) none = let cs = channels_same job.channels none in
       λ i. Some (record (job_of w job) { channels = cs i })
 
-  unread_same : (jobs : List (Option Job)) → held key (readers jobs) ≡ 0
+  pub unread_same : (jobs : List (Option Job)) → held key (readers jobs) ≡ 0
       → jobs_of (with_version w key x) jobs ≡ jobs_of w jobs
   unread_same [] none = refl
   unread_same (j ∷ jobs) none =
@@ -88,7 +88,7 @@ module _ (w : UnderKeys) (key : ℕ) (x : Version) where
       λ i. here i ∷ rest i
 
   -- and all are where it was this very version
-  again_same : (jobs : List (Option Job)) → w.read key ≡ x → jobs_of (with_version w key x) jobs ≡ jobs_of w jobs
+  pub again_same : (jobs : List (Option Job)) → w.read key ≡ x → jobs_of (with_version w key x) jobs ≡ jobs_of w jobs
   again_same jobs was = ap (λ u. jobs_of u jobs) (λ i. record w { read = λ k. at_key k i })
     where
       at_key : (k : ℕ) → with_read w.read key x k ≡ w.read k

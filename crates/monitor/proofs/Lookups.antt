@@ -66,7 +66,7 @@ module _ (c c' : VolumeCore) (input : Input) (holds : IsHolding c c' input) wher
 reads_first : (channel : Channel) (input : Input) → channel.output ≡ None → input.next ≡ 1
     → IsReader (looking channel input)
 reads_first channel input free first i is =
-    (free, subst (λ (n : ℕ). 0 < n) (sym first ∙ ap (λ (x : Input). x.next) (some_same is)) (omega arith))
+    subst (λ (n : ℕ). 0 < n) (sym first ∙ ap (λ (x : Input). x.next) (some_same is)) (omega arith)
 
 module _ (c between c' : VolumeCore) (job job' : Job) (number address : ℕ) (channel : Channel) (input : Input)
     (looks : IsLookingUp c between c' job job' number address channel input) where
