@@ -46,6 +46,7 @@ pub mod PublishedFiles
 pub mod PublishedRows
 pub mod PublishedStates
 pub mod PublishedAnswers
+pub mod ClosedSides
 pub mod Placing
 pub mod Closings
 pub mod Untouched
