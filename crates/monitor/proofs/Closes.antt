@@ -299,15 +299,14 @@ module _ (job : Job) (number : ℕ) (c : Channel) (there : slot job.channels num
           parts key true p = omega arith
           parts key false p = omega arith
 
-          -- an input side that stays is the one that was there, and has no output side beside it
+          -- an input side that stays is the one that was there
           closed_reader : IsReader c → (k l : Bool)
               → IsReader (record c {
                 status = cleared c.status;
                 input = if k then c.input else None;
                 output = if l then c.output else None;
               })
-          closed_reader reader true true i at = reader i at
-          closed_reader reader true false i at = (refl, (reader i at).1)
+          closed_reader reader true l i at = reader i at
           closed_reader reader false l i at = absurd (some_none (sym at))
 
 -- a channel without an output side goes, and what it reads is let go

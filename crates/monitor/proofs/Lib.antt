@@ -49,6 +49,7 @@ pub mod PublishedFiles
 pub mod PublishedRows
 pub mod PublishedStates
 pub mod PublishedAnswers
+pub mod ClosedSides
 pub mod Placing
 pub mod Closings
 pub mod Untouched
@@ -74,6 +75,7 @@ pub mod MomentRuns
 pub mod Stills
 pub mod Lookups
 pub mod LookupCalls
+pub mod Renewals
 pub mod Refusals
 pub mod Promised
 pub mod OutOfOrder

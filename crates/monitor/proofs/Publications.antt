@@ -1,32 +1,42 @@
 -- What is answered where an output side is published, and which output sides there are then.
-use Rattle.std.proofs.Common.{◌≡◌, ℕ, zero, suc, Bool, true, false, List, [], ◌∷◌, Option, Some, None, Result, Ok, Err}
-use Rattle.std.proofs.Common.{refl, sym, ap, subst, ◌∙◌, ◌⊎◌, inl, inr, ⊎_elim, arith, slice_set}
+use Rattle.std.proofs.Common.{◌≡◌, ℕ, ◌+◌, ◌<◌, ◌≤◌, ◌^◌, Bool, true, false, [], Option, Some, None, Result, Ok, Err}
+use Rattle.std.proofs.Common.{refl, sym, ap, subst, ◌∙◌, ◌⊎◌, inr, arith, slice_set}
 use Rattle.std.specs.Prelude.{IsErrOf, IsSome, option_to_list}
 use Rattle.std.specs.List.{AllByRecursion}
+use Rattle.words36.specs.declared.names.FileName.{FileName}
 use Rattle.blockdisk.specs.Disk.{DiskState, one_more}
-use Rattle.meaning.specs.Jobs.{slot}
+use Rattle.meaning.specs.Jobs as machine
+use Rattle.meaning.specs.Maps.{times}
 use Rattle.meaning.specs.declared.call.Reply.{Reply}
 use Rattle.meaning.specs.declared.call.Reply.TheVariants.{Done}
 use Rattle.meaning.specs.declared.code.ErrorCode.{ErrorCode}
 use Rattle.meaning.specs.declared.code.ErrorCode.TheVariants.{NoRoom}
 use Rattle.meaning.proofs.MapLaws.{some_none}
 use Rattle.meaning.proofs.PlaceLaws.{some_is}
-use Rattle.volume.specs.Live.{VolumeCore, pending_at}
+use Rattle.volume.specs.Live.{VolumeCore, slot, pending_at}
+use Rattle.volume.specs.Places.{prime_at}
 use Rattle.volume.specs.declared.error.CallError.{CallError}
 use Rattle.volume.specs.declared.error.CallError.TheVariants.{Refused, Device, Failed, NoMemory}
+use Rattle.volume.specs.declared.live.LiveVersion.{LiveVersion}
+use Rattle.volume.specs.declared.pending.PendingVersion.{PendingVersion}
+use Rattle.volume.proofs.PublishedPlaces.{published_named}
+use Rattle.monitor.specs.Dropping.{Closes}
 use Rattle.monitor.specs.Lists.{reply_of}
-use Rattle.monitor.specs.Publishing.{HasPublished, IsPublishing}
+use Rattle.monitor.specs.Publishing.{MayPublish, HasPublished, IsPublishing}
+use Rattle.monitor.specs.Readers.{readers_of}
+use Rattle.monitor.specs.Renewing.{Renews}
 use Rattle.monitor.specs.Rows.{Keeps, KeepsReading}
-use Rattle.monitor.specs.Serving.{present, IsSide, IsReader}
-use Rattle.monitor.specs.Sides.{side_of, reader_of}
+use Rattle.monitor.specs.Serving.{present, IsSide}
+use Rattle.monitor.specs.Sides.{side_of, reader_of, readers_in, pins_of}
 use Rattle.monitor.specs.declared.channel.Channel.{Channel}
 use Rattle.monitor.specs.declared.input.Input.{Input}
 use Rattle.monitor.specs.declared.output.Output.{Output}
 use Rattle.monitor.specs.declared.job.Job.{Job}
-use Rattle.monitor.proofs.Dropped.{drops_one}
-use Rattle.monitor.proofs.ReaderLists.{held, held-channel}
-use Rattle.monitor.proofs.ReadingJobs.{length-slice_set}
+use Rattle.monitor.proofs.Closes.{reads_closed, input_held}
+use Rattle.monitor.proofs.Dropped.{drops_one, closes_none}
+use Rattle.monitor.proofs.ReaderLists.{held}
 use Rattle.monitor.proofs.ReadsPublished.{readers_stay}
+use Rattle.monitor.proofs.Renewals.{renewed_known, renewed_reading}
 use Rattle.monitor.proofs.SideLists.{count, count-channel, each-channel}
 
 -- Answers.
@@ -72,7 +82,7 @@ there_is (Some x) f one is = one x
 
 -- A channel's output side is gone, with its version.
 pub published_keeps : (c c' : VolumeCore) (job job' : Job) (number : ℕ) (o : Output) (x : Option Channel)
-    → side_of (slot job.channels number) ≡ Some o → side_of x ≡ None
+    → side_of (machine.slot job.channels number) ≡ Some o → side_of x ≡ None
     → job' ≡ record job { channels = slice_set job.channels number x }
     → IsSome (pending_at c.pending o.pending.key) → pending_at c'.pending o.pending.key ≡ None
     → ((k : ℕ) → (k ≡ o.pending.key → ⊥) → pending_at c'.pending k ≡ pending_at c.pending k)
@@ -92,45 +102,90 @@ published_keeps c c' job job' number o x side none set live gone others =
           (subst (λ z. AllByRecursion (IsSide c'.pending) (option_to_list z)) (sym none) tt);
     })
 
--- a channel that writes doesn't read
-pub writes_alone : (c : Channel) (o : Output) → IsReader c → c.output ≡ Some o → c.input ≡ None
-writes_alone c o reader side = by c.input refl
-  where
-    by : (x : Option Input) → c.input ≡ x → x ≡ None
-    by None is = refl
-    by (Some i) is = absurd (some_none (sym side ∙ (reader i is).0))
+-- What becomes of core and of the caller behind a publication: versions are let go, or held once more, and no version
+-- comes that is written.
 
--- Nobody reads by that channel, and each version has as many readers as before.
+pub record IsBehind (c between c' : VolumeCore) (job job' : Job) : Type 0 where
+  pub pending : c'.pending ≡ between.pending
+  pub known : c'.known ≡ record between.known { table = c'.known.table }
+  pub keeps : Keeps c.pending c'.pending job job'
+  pub reads : KeepsReading c.live c'.live job job'
 
--- what a slot holds that may have been set
-set_or_was : {X : Type 0} (xs : List (Option X)) (n k : ℕ) (x : Option X) (y : X) → slot (slice_set xs n x) k ≡ Some y
-    → (x ≡ Some y) ⊎ (slot xs k ≡ Some y)
-set_or_was [] n k x y at = inr at
-set_or_was (o ∷ xs) zero zero x y at = inl at
-set_or_was (o ∷ xs) zero (suc k) x y at = inr at
-set_or_was (o ∷ xs) (suc n) zero x y at = inr at
-set_or_was (o ∷ xs) (suc n) (suc k) x y at = set_or_was xs n k x y at
+module _ (d d' : DiskState) (c b : VolumeCore) (o : Output) (whatever : MayPublish d d' c b o.pending.key)
+    (has : HasPublished d d' c b o.pending.key) (live : IsSome (pending_at c.pending o.pending.key)) where
+  pub stay : (k : ℕ) → readers_of (slot b.live k) ≡ readers_of (slot c.live k)
+  stay = let p = some_is (pending_at c.pending o.pending.key) live in
+      readers_stay d.size c b o.pending.key p.0 p.0.version.words (has.core p.0 p.1)
 
-pub published_reads : (d d' : DiskState) (c c' : VolumeCore) (failed failed' : Bool) (key : ℕ)
-    → IsSome (pending_at c.pending key) → (reply : Reply) → IsPublishing d d' c c' failed failed' key reply
-    → (job job' : Job) (number : ℕ) (x : Option Channel) → reader_of (slot job.channels number) ≡ None
-    → reader_of x ≡ None → (reply ≡ Done → job' ≡ record job { channels = slice_set job.channels number x })
-    → reply ≡ Done → KeepsReading c.live c'.live job job'
-published_reads d d' c c' failed failed' key live reply answer job job' number x single none set done =
-    let p = some_is (pending_at c.pending key) live in
-    let core = (subst (IsPublishing d d' c c' failed failed' key) done answer).0.core p.0 p.1 in
-    subst (KeepsReading c.live c'.live job) (sym (set done)) (record {
-      once = λ k.
-          let stay = readers_stay d.size c c' key p.0 p.0.version.words core k in
-          let moved = held-channel k job.channels number x (λ e. ap (λ z. held k (option_to_list z)) none) in
-          let was = ap (λ z. held k (option_to_list z)) single in
-          let now = ap (λ z. held k (option_to_list z)) none in
-          omega arith;
-      each = λ has. record {
-        each = λ m d at i reads. ⊎_elim
-            (λ (here : x ≡ Some d). absurd (some_none (sym reads ∙ ap reader_of (sym here) ∙ none)))
-            (λ was. has.each m d was i reads)
-            (set_or_was job.channels number m x d at);
-        sixteen = length-slice_set job.channels number x ∙ has.sixteen;
-      };
-    })
+  -- What is asked of core where versions are let go, or a side comes to hold what is published.
+
+  pub few_behind : ((key : ℕ) (v : LiveVersion) → slot c.live key ≡ Some v → v.readers + 1 < 2 ^ 32)
+      → (key : ℕ) (v : LiveVersion) → slot b.live key ≡ Some v → v.readers + 1 < 2 ^ 32
+  few_behind few key v at = by (slot c.live key) (few key) (sym (stay key) ∙ ap readers_of at)
+    where
+      by : (was : Option LiveVersion) → ((u : LiveVersion) → was ≡ Some u → u.readers + 1 < 2 ^ 32)
+          → readers_of was ≡ v.readers → v.readers + 1 < 2 ^ 32
+      by None few same = omega (arith, same)
+      by (Some u) few same = omega (arith, same, few u refl)
+
+  pub held_behind : (job : Job) (number : ℕ) (channel : Channel) → machine.slot job.channels number ≡ Some channel
+      → ((key : ℕ) → times key (pins_of (readers_in (Some job))) ≤ readers_of (slot c.live key)) → (i : Option Input)
+      → i ≡ channel.input → (key : ℕ) → times key (pins_of (option_to_list i)) ≤ readers_of (slot b.live key)
+  held_behind job number channel there all i is key =
+      let was = input_held job number channel there c c [] (closes_none c) all i
+      (λ k. subst (λ j. held k (option_to_list i) ≤ held k (option_to_list j)) is (omega arith)) key in
+      let same = stay key in
+      omega arith
+
+  pub named_behind : (ppn : ℕ) (file : FileName) → ((p : PendingVersion) → pending_at c.pending o.pending.key ≡ Some p
+      → (ppn ≡ p.prime.ppn) × (file ≡ p.prime.file)) → prime_at b ppn file ≡ None → ⊥
+  named_behind ppn file is none =
+      let p = some_is (pending_at c.pending o.pending.key) live in
+      let owner = sym (is p.0 p.1).0 in
+      let name = sym (is p.0 p.1).1 in
+      published_named d.size c b o.pending.key p.0 p.0.version.words (has.core p.0 p.1)
+      ((λ i. prime_at b (owner i) (name i)) ∙ none)
+
+  -- What becomes of the caller's channel.
+
+  module _ (c' : VolumeCore) (job job' : Job) (number : ℕ) (channel : Channel)
+      (there : machine.slot job.channels number ≡ Some channel) (side : channel.output ≡ Some o)
+      (pending : c'.pending ≡ b.pending) where
+    keeps_behind : (x : Option Channel) → side_of x ≡ None
+        → job' ≡ record job { channels = slice_set job.channels number x } → Keeps c.pending c'.pending job job'
+    keeps_behind x none set = subst (λ ps. Keeps c.pending ps job job') (sym pending)
+        (published_keeps c b job job' number o x (ap side_of there ∙ side) none set live has.gone whatever.others)
+
+    -- as many readers stay as there were
+    reads_behind : KeepsReading b.live c'.live job job' → KeepsReading c.live c'.live job job'
+    reads_behind behind = record {
+      once = λ k. let same = stay k in let moved = behind.once k in omega arith;
+      each = behind.each;
+    }
+
+    -- what the channel reads is let go
+    pub released_behind : (x : Option Channel) → side_of x ≡ None → reader_of x ≡ None
+        → job' ≡ record job { channels = slice_set job.channels number x }
+        → Closes b c' [] (pins_of (option_to_list channel.input)) → IsBehind c b c' job job'
+    released_behind x none bare set closed = record {
+      pending = pending;
+      known = closed.leaves.known;
+      keeps = keeps_behind x none set;
+      reads = reads_behind (reads_closed b c' job job' number channel there x set []
+          (pins_of (option_to_list channel.input)) closed
+          (λ key. let none = ap (λ i. held key (option_to_list i)) bare in omega arith)
+          (λ reader y is i reads. absurd (some_none (sym reads ∙ ap reader_of (sym is) ∙ bare))));
+    }
+
+    -- or it comes to hold another version
+    pub renewed_behind : (input renewed : Input) (ppn : ℕ) (file : FileName) (x : Channel) → channel.input ≡ Some input
+        → x.input ≡ Some renewed → x.output ≡ None
+        → job' ≡ record job { channels = slice_set job.channels number (Some x) }
+        → Renews b c' input renewed ppn file → IsBehind c b c' job job'
+    renewed_behind input renewed ppn file x reads now none set is = record {
+      pending = pending;
+      known = renewed_known b c' input renewed ppn file is;
+      keeps = keeps_behind (Some x) none set;
+      reads = reads_behind (subst (KeepsReading b.live c'.live job) (sym set)
+          (renewed_reading b c' input renewed ppn file is job number x channel job.core there reads now));
+    }

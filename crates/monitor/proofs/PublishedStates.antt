@@ -8,7 +8,7 @@ use Rattle.meaning.specs.Files.{Files}
 use Rattle.meaning.specs.Jobs.{State, slot}
 use Rattle.meaning.specs.Published.{Version, without_serials, with_file}
 use Rattle.meaning.specs.Room.{current, held, has_serial}
-use Rattle.meaning.specs.Runs.{IsFresh}
+use Rattle.meaning.specs.Runs.{IsFresh, AreDistinct}
 use Rattle.meaning.specs.Sound.{IsSound}
 use Rattle.meaning.proofs.MapLaws.{some_none}
 use Rattle.meaning.proofs.PlaceLaws.{some_is}
@@ -20,14 +20,15 @@ use Rattle.volume.specs.Rest.{RestsAt}
 use Rattle.volume.specs.declared.live.LiveVersion.{LiveVersion}
 use Rattle.volume.specs.declared.pending.PendingVersion.{PendingVersion}
 use Rattle.monitor.specs.Publishing.{MayPublish, HasPublished}
-use Rattle.monitor.specs.Readers.{readers_of}
-use Rattle.monitor.specs.Rows.{Keeps, KeepsReading}
+use Rattle.monitor.specs.Readers.{readers_of, AreRead}
+use Rattle.monitor.specs.Rows.{Keeps}
 use Rattle.monitor.specs.Serving.{ArePlaced, AreKeyed, IsSide, IsWriting, IsState}
 use Rattle.monitor.specs.Sides.{Writing, UnderKeys, state_of, sides_in}
 use Rattle.monitor.specs.declared.job.Job.{Job}
 use Rattle.monitor.proofs.Dropped.{side_stays}
 use Rattle.monitor.proofs.HeldReaders.{fresh_read}
-use Rattle.monitor.proofs.PublishedFiles.{files_with, put_elsewhere, distinct_put}
+use Rattle.monitor.proofs.Publications.{IsBehind}
+use Rattle.monitor.proofs.PublishedFiles.{versions_in, files_with, put_elsewhere, distinct_put}
 use Rattle.monitor.proofs.PublishedRows.{version_with}
 use Rattle.monitor.proofs.ReadingJobs.{keeps_reading}
 use Rattle.monitor.proofs.ReadsPublished.{reads_published}
@@ -83,23 +84,22 @@ published_are d c jobs s state key serial p is =
     ∙ (λ i. files_published (without_serials s.files) (is.place i).ppn (is.place i).name
     (file_is d p (state.under.written key) is i)))
 
-module _ (d d' : DiskState) (c c' : VolumeCore) (jobs : List (Option Job)) (n : ℕ) (job job' : Job) (key : ℕ)
-    (there : slot jobs n ≡ Some job) (whatever : MayPublish d d' c c' key) (has : HasPublished d d' c c' key)
-    (keeps : Keeps c.pending c'.pending job job')
-    (live : IsSome (pending_at c.pending key)) where
+module _ (d d' : DiskState) (c b c' : VolumeCore) (jobs : List (Option Job)) (n : ℕ) (job job' : Job) (key : ℕ)
+    (there : slot jobs n ≡ Some job) (whatever : MayPublish d d' c b key) (has : HasPublished d d' c b key)
+    (behind : IsBehind c b c' job job') (live : IsSome (pending_at c.pending key)) where
   -- a version that is still being written
   still_there : (k : ℕ) (q : PendingVersion) → pending_at c'.pending k ≡ Some q
       → (k ≡ key → ⊥) × (pending_at c.pending k ≡ Some q)
   still_there k q at =
-      let other : k ≡ key → ⊥ = λ same. some_none (sym at ∙ ap (pending_at c'.pending) same ∙ has.gone) in
-      (other, sym (whatever.others k other) ∙ at)
+      let here : pending_at b.pending k ≡ Some q = sym (ap (λ ps. pending_at ps k) behind.pending) ∙ at in
+      let other : k ≡ key → ⊥ = λ same. some_none (sym here ∙ ap (pending_at b.pending) same ∙ has.gone) in
+      (other, sym (whatever.others k other) ∙ here)
 
   pub keyed_published : AreKeyed c.pending jobs → AreKeyed c'.pending (slice_set jobs n (Some job'))
-  keyed_published keyed = kept_keyed c.pending c'.pending jobs n job job' there keeps
+  keyed_published keyed = kept_keyed c.pending c'.pending jobs n job job' there behind.keeps
       (λ k q at. (still_there k q at).1) keyed
 
-  module _ (honest : d'.honest) (s : State) (state : IsState d c jobs s) (placed : ArePlaced c)
-      (whole : IsWholeCore d.size c) (reads : KeepsReading c.live c'.live job job') (serial : ℕ)
+  module _ (honest : d'.honest) (s : State) (state : IsState d c jobs s) (placed : ArePlaced c) (serial : ℕ)
       (fresh : IsFresh s serial) where
     abbrev w : UnderKeys
     w = state.under
@@ -107,10 +107,16 @@ module _ (d d' : DiskState) (c c' : VolumeCore) (jobs : List (Option Job)) (n : 
     abbrev files' : Files Version
     files' = with_file s.files (w.written key).place (version_with (w.written key) serial)
 
-    rests : (p : PendingVersion) → pending_at c.pending key ≡ Some p → RestsAt d' (without_serials files')
-    rests p at = let is = state.versions key p at in
-        subst (RestsAt d') (published_are d c jobs s state key serial p is)
-        (has.files honest (without_serials s.files) state.files p at (w.written key).file.body is.words is.body)
+    pub rests : RestsAt d' (without_serials files')
+    rests =
+        let p = some_is (pending_at c.pending key) live in
+        let is = state.versions key p.0 p.1 in
+        subst (RestsAt d') (published_are d c jobs s state key serial p.0 is)
+        (has.files honest (without_serials s.files) state.files p.0 p.1 (w.written key).file.body is.words is.body)
+
+    pub distinct : AreDistinct (versions_in files')
+    distinct = distinct_put s.files (w.written key).place (version_with (w.written key) serial) state.serials
+        (none_first serial (current s) (held s) fresh)
 
     -- another version has another place
     elsewhere : (p : PendingVersion) → pending_at c.pending key ≡ Some p → (k : ℕ) (q : PendingVersion)
@@ -124,15 +130,25 @@ module _ (d d' : DiskState) (c c' : VolumeCore) (jobs : List (Option Job)) (n : 
     unlike k v at some = let pinned = state.reading.pinned k in let here = ap readers_of at in
         fresh_read s w jobs state.jobs_are serial fresh k (omega arith)
 
-    pub published_state : IsSound (state_of files' w (slice_set jobs n (Some job')))
-        → IsState d' c' (slice_set jobs n (Some job')) (state_of files' w (slice_set jobs n (Some job')))
-    published_state sound =
+    -- what is read just behind the publication
+    pub reads_between : IsWholeCore d.size c → AreRead d' b files' w.read
+    reads_between whole =
+        let p = some_is (pending_at c.pending key) live in
+        reads_published d d' c b s.files w.read key p.0 p.0.version.words (w.written key).place
+        (version_with (w.written key) serial) state.read whole (has.core p.0 p.1) state.serials
+        (state.versions key p.0 p.1).place unlike (has.readers honest)
+
+    -- where the versions that are read are these
+    pub published_state : (read : ℕ → Version) → AreRead d' c' files' read
+        → IsSound (state_of files' (record w { read = read }) (slice_set jobs n (Some job')))
+        → IsState d' c' (slice_set jobs n (Some job'))
+        (state_of files' (record w { read = read }) (slice_set jobs n (Some job')))
+    published_state read reads sound =
         let p = some_is (pending_at c.pending key) live in
         record {
-          files = rests p.0 p.1;
-          serials = distinct_put s.files (w.written key).place (version_with (w.written key) serial) state.serials
-              (none_first serial (current s) (held s) fresh);
-          under = w;
+          files = rests;
+          serials = distinct;
+          under = record w { read = read };
           versions = λ k q at.
               let was = still_there k q at in
               let is = state.versions k q was.1 in
@@ -151,10 +167,8 @@ module _ (d d' : DiskState) (c c' : VolumeCore) (jobs : List (Option Job)) (n : 
               put_elsewhere s.files (w.written key).place (version_with (w.written key) serial) (w.written k).place
               (elsewhere p.0 p.1 k q was.0 was.1) ∙ state.absent k q was.1 new;
           keyed = keyed_published state.keyed;
-          read = reads_published d d' c c' s.files w.read key p.0 p.0.version.words (w.written key).place
-              (version_with (w.written key) serial) state.read whole (has.core p.0 p.1) state.serials
-              (state.versions key p.0 p.1).place unlike (has.readers honest);
-          reading = keeps_reading c.live c'.live jobs n job job' state.reading there reads;
+          read = reads;
+          reading = keeps_reading c.live c'.live jobs n job job' state.reading there behind.reads;
           jobs_are = refl;
           sound = sound;
         }

@@ -50,15 +50,15 @@ pub fn serve_close<D: Disk>(
     let Some((open, output)) = closed_side(job, channel, bits) else {
         return close(volume, job, channel, bits);
     };
-    match input_kept(open, bits) {
+    match input_kept(&open, bits) {
         Some(input) => close_and_hold(alloc, volume, job, channel, open, output, input),
         None => close_output(alloc, volume, job, channel, open, output),
     }
 }
 
 /// The input side that a CLOSE of a channel with these bits keeps.
-fn input_kept(channel: Channel, bits: u32) -> Option<Input>
-    ensures { result ≡ (if keeps_input bits then channel.input else None) }
+fn input_kept(channel: &Channel, bits: u32) -> Option<Input>
+    ensures { result ≡ (if keeps_input bits then channel.now.input else None) }
 {
     if bits / 2 % 2 == 1 { channel.input } else { None }
 }
@@ -219,6 +219,7 @@ fn close_and_hold<D: Disk>(
     let prime = prime_of(volume, output.pending);
     let reply = publish_output(alloc, volume, output);
     if reply == Reply::Done {
+        let _failed = volume.has_failed(); // which says what holds of a volume between two calls
         let renewed = renew(volume, input, prime.ppn, prime.file);
         let closed = Channel {
             status: cleared(channel.status),

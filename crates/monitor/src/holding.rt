@@ -53,9 +53,10 @@ pub fn renew<D: Disk>(volume: &mut Volume<D>, input: Input, ppn: Ppn, file: File
     ensures untouched { (volume.new.disk ≡ volume.old.disk) × (volume.new.failed ≡ volume.old.failed) }
 {
     let held = hold(volume, ppn, file, input.next);
-    release_input(volume, Some(input));
-    Input {
+    let renewed = Input {
         pin: held.pin,
         ..input
-    }
+    };
+    release_input(volume, Some(input));
+    renewed
 }

@@ -1,25 +1,35 @@
-use Rattle.std.proofs.Common.{rules, refl, subst, None, slice_set}
-use Rattle.meaning.specs.Jobs.{slot}
-use Rattle.meaning.specs.declared.call.Call.TheVariants.{Releas}
-use Rattle.monitor.specs.Publishing.{IsPublishing}
-use Rattle.monitor.specs.declared.job.Job.{Job}
-use Rattle.monitor.proofs.Publications.{published_keeps, published_reads}
-use Rattle.monitor.proofs.PublishedAnswers.{still_stand, same_state, crashes_as, published_answered, channel_with}
-use Rattle.monitor.proofs.PublishedRows.{release_step, release_weighs}
+use Rattle.std.proofs.Common.{◌≡◌, rules, refl, Some, None}
+use Rattle.meaning.specs.declared.call.Reply.TheVariants.{Done}
+use Rattle.monitor.proofs.ClosedSides.{has_published, release_crashes, sides_stand, released_row}
+use Rattle.monitor.proofs.Publications.{held_behind, released_behind}
+use Rattle.monitor.proofs.PublishedAnswers.{publishes_by, same_state}
 use Rattle.monitor.proofs.releas.release_output.Goals as goal
 
-pub returns-then-eq-clause-keeps : goal.returns-then-eq-clause-keeps
-returns-then-eq-clause-keeps g c done =
-    let has = subst (IsPublishing (g.D.Disk.state c.args.volume.now.disk)
-    (g.D.Disk.state c.publish_output-reply.new.volume.disk) c.args.volume.now.core
-    c.publish_output-reply.new.volume.core c.args.volume.now.failed c.publish_output-reply.new.volume.failed
-    c.args.output.pending.key) done c.publish_output-reply.ensures.answered in
-    published_keeps c.args.volume.now.core c.publish_output-reply.new.volume.core c.args.job.now c.set_channel.new.self
-    c.args.number c.args.output None c.requires.there refl c.set_channel.ensures
-    c.requires.live has.0.gone c.publish_output-reply.ensures.whatever.others
+pub release_input-requires : goal.release_input-requires
+release_input-requires g c =
+    let state = g.D.Disk.state in
+    let old = c.args.volume.now in
+    let mid = c.publish_output-reply.new.volume in
+    let by = publishes_by state old.disk mid.disk mid.disk old.core mid.core old.failed mid.failed mid.failed
+    c.args.output.pending.key c.publish_output-reply.result (refl, refl) c.publish_output-reply.ensures.whatever
+    c.publish_output-reply.ensures.answered in
+    let done : c.publish_output-reply.result ≡ Done = search rules in
+    record {
+      held = held_behind (state old.disk) (state mid.disk) old.core mid.core c.args.output by.whatever
+          (has_published (state old.disk) (state mid.disk) old.core mid.core old.failed mid.failed c.args.output.pending.key
+    c.publish_output-reply.result by done)
+          c.requires.live c.args.job.now c.args.number
+          c.args.channel c.requires.there c.requires.held c.args.channel.input refl;
+    }
 
 pub returns-then-eq-clause-closed : goal.returns-then-eq-clause-closed
 returns-then-eq-clause-closed g c = search rules
+
+pub returns-else-eq-clause-memory : goal.returns-else-eq-clause-memory
+returns-else-eq-clause-memory g c = search rules
+
+pub returns-then-eq-clause-memory : goal.returns-then-eq-clause-memory
+returns-then-eq-clause-memory g c = search rules
 
 pub returns-then-eq-clause-kept : goal.returns-then-eq-clause-kept
 returns-then-eq-clause-kept g c = search rules
@@ -30,113 +40,97 @@ returns-else-eq-clause-closed g c = search rules
 pub returns-else-eq-clause-kept : goal.returns-else-eq-clause-kept
 returns-else-eq-clause-kept g c = search rules
 
-pub returns-else-eq-clause-keeps : goal.returns-else-eq-clause-keeps
-returns-else-eq-clause-keeps g c = search rules
+pub returns-then-eq-clause-stands : goal.returns-then-eq-clause-stands
+returns-then-eq-clause-stands g c =
+    let state = g.D.Disk.state in
+    let old = c.args.volume.now in
+    let mid = c.publish_output-reply.new.volume in
+    let new = c.release_input.new.volume in
+    let by = publishes_by state old.disk mid.disk new.disk old.core mid.core old.failed mid.failed new.failed
+    c.args.output.pending.key c.publish_output-reply.result c.release_input.ensures.untouched c.publish_output-reply.ensures.whatever
+    c.publish_output-reply.ensures.answered in
+    let behind = λ (is : c.publish_output-reply.result ≡ Done). released_behind (state old.disk) (state new.disk) old.core mid.core c.args.output by.whatever
+    (has_published (state old.disk) (state new.disk) old.core mid.core old.failed new.failed c.args.output.pending.key
+    c.publish_output-reply.result by is) c.requires.live new.core c.args.job.now c.set_channel.new.self c.args.number
+    c.args.channel c.requires.there c.requires.side c.release_input.ensures.pending None refl refl
+    (returns-then-eq-clause-closed g c is) c.release_input.ensures.closed in
+    sides_stand (state old.disk) (state new.disk) old.core mid.core new.core old.failed new.failed c.args.output
+    c.publish_output-reply.result by c.requires.live c.args.job.now c.set_channel.new.self c.args.number c.args.channel
+    c.requires.there c.requires.side
+    (returns-then-eq-clause-kept g c) behind (λ short. (returns-then-eq-clause-memory g c short).1)
 
 pub returns-then-eq-clause-row : goal.returns-then-eq-clause-row
-returns-then-eq-clause-row g c alive h placed jobs n moment there timely s state =
-    let d = g.D.Disk.state c.args.volume.now.disk in
-    let d' = g.D.Disk.state c.publish_output-reply.new.volume.disk in
-    let map = c.args.volume.now.core in
-    let map' = c.publish_output-reply.new.volume.core in
-    let channel = channel_with (slot c.args.job.now.channels c.args.number) c.args.output c.requires.there
-    c.requires.single in
-    let closed : Job = record c.args.job.now { channels = slice_set c.args.job.now.channels c.args.number None } in
-    published_answered d map c.args.output.pending.key closed (Releas c.args.number) jobs n moment
-    (λ serial files w. release_step d jobs n moment timely files w c.args.job.now closed there c.args.number
-    channel.0 channel.1 c.args.output channel.2 channel.3 refl serial) s state
-    d' map' c.publish_output-reply.ensures.whatever c.requires.live h c.args.volume.now.failed
-    c.publish_output-reply.new.volume.failed c.args.job.now c.set_channel.new.self there alive placed
-    c.requires.sound.whole (λ files w. release_weighs d jobs n moment timely files w c.args.job.now closed
-    there c.args.number channel.0 channel.1 c.args.output channel.2 channel.3)
-    c.publish_output-reply.result (returns-then-eq-clause-closed g c) (returns-then-eq-clause-kept g c)
-    (returns-then-eq-clause-keeps g c)
-    (published_reads (g.D.Disk.state c.args.volume.now.disk) (g.D.Disk.state c.publish_output-reply.new.volume.disk)
-    c.args.volume.now.core c.publish_output-reply.new.volume.core c.args.volume.now.failed
-    c.publish_output-reply.new.volume.failed c.args.output.pending.key c.requires.live c.publish_output-reply.result
-    c.publish_output-reply.ensures.answered c.args.job.now c.set_channel.new.self c.args.number _ c.requires.single refl
-    (returns-then-eq-clause-closed g c))
-    (λ none. same_state g.D.Disk.state c.args.volume.now.disk c.publish_output-reply.new.volume.disk map map' jobs s
-    (c.publish_output-reply.ensures.memory none)) c.publish_output-reply.ensures.answered
+returns-then-eq-clause-row g c alive =
+    let state = g.D.Disk.state in
+    let old = c.args.volume.now in
+    let mid = c.publish_output-reply.new.volume in
+    let new = c.release_input.new.volume in
+    let by = publishes_by state old.disk mid.disk new.disk old.core mid.core old.failed mid.failed new.failed
+    c.args.output.pending.key c.publish_output-reply.result c.release_input.ensures.untouched c.publish_output-reply.ensures.whatever
+    c.publish_output-reply.ensures.answered in
+    let behind = λ (is : c.publish_output-reply.result ≡ Done). released_behind (state old.disk) (state new.disk) old.core mid.core c.args.output by.whatever
+    (has_published (state old.disk) (state new.disk) old.core mid.core old.failed new.failed c.args.output.pending.key
+    c.publish_output-reply.result by is) c.requires.live new.core c.args.job.now c.set_channel.new.self c.args.number
+    c.args.channel c.requires.there c.requires.side c.release_input.ensures.pending None refl refl
+    (returns-then-eq-clause-closed g c is) c.release_input.ensures.closed in
+    released_row (state old.disk) (state new.disk) old.core mid.core new.core old.failed new.failed c.args.output
+    c.publish_output-reply.result by c.requires.live c.args.job.now c.set_channel.new.self c.args.number c.args.channel
+    c.requires.there c.requires.side
+    (returns-then-eq-clause-kept g c) behind
+    (λ short jobs s. same_state state old.disk new.disk old.core new.core jobs s (returns-then-eq-clause-memory g c short))
+    alive c.requires.sound.whole (λ is. c.release_input.ensures.closed.leaves) (returns-then-eq-clause-closed g c)
 
 pub returns-then-eq-clause-crash : goal.returns-then-eq-clause-crash
-returns-then-eq-clause-crash g c h jobs n moment there timely s state =
-    let d = g.D.Disk.state c.args.volume.now.disk in
-    let d' = g.D.Disk.state c.publish_output-reply.new.volume.disk in
-    let map = c.args.volume.now.core in
-    let map' = c.publish_output-reply.new.volume.core in
-    let channel = channel_with (slot c.args.job.now.channels c.args.number) c.args.output c.requires.there
-    c.requires.single in
-    let closed : Job = record c.args.job.now { channels = slice_set c.args.job.now.channels c.args.number None } in
-    crashes_as d map c.args.output.pending.key closed (Releas c.args.number) jobs n moment
-    (λ serial files w. release_step d jobs n moment timely files w c.args.job.now closed there c.args.number
-    channel.0 channel.1 c.args.output channel.2 channel.3 refl serial) s state d' map'
-    c.publish_output-reply.ensures.whatever c.requires.live h
-
-pub returns-else-eq-clause-row : goal.returns-else-eq-clause-row
-returns-else-eq-clause-row g c alive h placed jobs n moment there timely s state =
-    let d = g.D.Disk.state c.args.volume.now.disk in
-    let d' = g.D.Disk.state c.publish_output-reply.new.volume.disk in
-    let map = c.args.volume.now.core in
-    let map' = c.publish_output-reply.new.volume.core in
-    let channel = channel_with (slot c.args.job.now.channels c.args.number) c.args.output c.requires.there
-    c.requires.single in
-    let closed : Job = record c.args.job.now { channels = slice_set c.args.job.now.channels c.args.number None } in
-    published_answered d map c.args.output.pending.key closed (Releas c.args.number) jobs n moment
-    (λ serial files w. release_step d jobs n moment timely files w c.args.job.now closed there c.args.number
-    channel.0 channel.1 c.args.output channel.2 channel.3 refl serial) s state
-    d' map' c.publish_output-reply.ensures.whatever c.requires.live h c.args.volume.now.failed
-    c.publish_output-reply.new.volume.failed c.args.job.now c.args.job.now there alive placed c.requires.sound.whole
-    (λ files w. release_weighs d jobs n moment timely files w c.args.job.now closed there c.args.number
-    channel.0 channel.1 c.args.output channel.2 channel.3)
-    c.publish_output-reply.result (returns-else-eq-clause-closed g c) (returns-else-eq-clause-kept g c)
-    (returns-else-eq-clause-keeps g c)
-    (published_reads (g.D.Disk.state c.args.volume.now.disk) (g.D.Disk.state c.publish_output-reply.new.volume.disk)
-    c.args.volume.now.core c.publish_output-reply.new.volume.core c.args.volume.now.failed
-    c.publish_output-reply.new.volume.failed c.args.output.pending.key c.requires.live c.publish_output-reply.result
-    c.publish_output-reply.ensures.answered c.args.job.now c.args.job.now c.args.number _ c.requires.single refl
-    (returns-else-eq-clause-closed g c))
-    (λ none. same_state g.D.Disk.state c.args.volume.now.disk c.publish_output-reply.new.volume.disk map map' jobs s
-    (c.publish_output-reply.ensures.memory none)) c.publish_output-reply.ensures.answered
-
-pub returns-else-eq-clause-crash : goal.returns-else-eq-clause-crash
-returns-else-eq-clause-crash g c h jobs n moment there timely s state =
-    let d = g.D.Disk.state c.args.volume.now.disk in
-    let d' = g.D.Disk.state c.publish_output-reply.new.volume.disk in
-    let map = c.args.volume.now.core in
-    let map' = c.publish_output-reply.new.volume.core in
-    let channel = channel_with (slot c.args.job.now.channels c.args.number) c.args.output c.requires.there
-    c.requires.single in
-    let closed : Job = record c.args.job.now { channels = slice_set c.args.job.now.channels c.args.number None } in
-    crashes_as d map c.args.output.pending.key closed (Releas c.args.number) jobs n moment
-    (λ serial files w. release_step d jobs n moment timely files w c.args.job.now closed there c.args.number
-    channel.0 channel.1 c.args.output channel.2 channel.3 refl serial) s state d' map'
-    c.publish_output-reply.ensures.whatever c.requires.live h
-
-pub returns-then-eq-clause-stands : goal.returns-then-eq-clause-stands
-returns-then-eq-clause-stands g c jobs n there keyed placed reading serves =
-    still_stand (g.D.Disk.state c.args.volume.now.disk) (g.D.Disk.state c.publish_output-reply.new.volume.disk)
-    c.args.volume.now.core c.publish_output-reply.new.volume.core c.args.volume.now.failed
-    c.publish_output-reply.new.volume.failed c.args.output.pending.key
-    jobs n c.args.job.now c.set_channel.new.self there c.publish_output-reply.ensures.whatever c.requires.live
-    c.publish_output-reply.result (returns-then-eq-clause-kept g c) (returns-then-eq-clause-keeps g c)
-    (published_reads (g.D.Disk.state c.args.volume.now.disk) (g.D.Disk.state c.publish_output-reply.new.volume.disk)
-    c.args.volume.now.core c.publish_output-reply.new.volume.core c.args.volume.now.failed
-    c.publish_output-reply.new.volume.failed c.args.output.pending.key c.requires.live c.publish_output-reply.result
-    c.publish_output-reply.ensures.answered c.args.job.now c.set_channel.new.self c.args.number _ c.requires.single refl
-    (returns-then-eq-clause-closed g c)) (λ none. (c.publish_output-reply.ensures.memory none).1) keyed
-    placed reading serves c.publish_output-reply.ensures.answered
+returns-then-eq-clause-crash g c =
+    let state = g.D.Disk.state in
+    let old = c.args.volume.now in
+    let mid = c.publish_output-reply.new.volume in
+    let new = c.release_input.new.volume in
+    let by = publishes_by state old.disk mid.disk new.disk old.core mid.core old.failed mid.failed new.failed
+    c.args.output.pending.key c.publish_output-reply.result c.release_input.ensures.untouched c.publish_output-reply.ensures.whatever
+    c.publish_output-reply.ensures.answered in
+    release_crashes (state old.disk) (state new.disk) old.core mid.core new.core old.failed new.failed c.args.output
+    c.publish_output-reply.result by c.requires.live c.args.job.now c.set_channel.new.self c.args.number c.args.channel
+    c.requires.there c.requires.side
 
 pub returns-else-eq-clause-stands : goal.returns-else-eq-clause-stands
-returns-else-eq-clause-stands g c jobs n there keyed placed reading serves =
-    still_stand (g.D.Disk.state c.args.volume.now.disk) (g.D.Disk.state c.publish_output-reply.new.volume.disk)
-    c.args.volume.now.core c.publish_output-reply.new.volume.core c.args.volume.now.failed
-    c.publish_output-reply.new.volume.failed c.args.output.pending.key
-    jobs n c.args.job.now c.args.job.now there c.publish_output-reply.ensures.whatever c.requires.live
-    c.publish_output-reply.result (returns-else-eq-clause-kept g c) (returns-else-eq-clause-keeps g c)
-    (published_reads (g.D.Disk.state c.args.volume.now.disk) (g.D.Disk.state c.publish_output-reply.new.volume.disk)
-    c.args.volume.now.core c.publish_output-reply.new.volume.core c.args.volume.now.failed
-    c.publish_output-reply.new.volume.failed c.args.output.pending.key c.requires.live c.publish_output-reply.result
-    c.publish_output-reply.ensures.answered c.args.job.now c.args.job.now c.args.number _ c.requires.single refl
-    (returns-else-eq-clause-closed g c)) (λ none. (c.publish_output-reply.ensures.memory none).1) keyed
-    placed reading serves c.publish_output-reply.ensures.answered
+returns-else-eq-clause-stands g c =
+    let state = g.D.Disk.state in
+    let old = c.args.volume.now in
+    let mid = c.publish_output-reply.new.volume in
+    let by = publishes_by state old.disk mid.disk mid.disk old.core mid.core old.failed mid.failed mid.failed
+    c.args.output.pending.key c.publish_output-reply.result (refl, refl) c.publish_output-reply.ensures.whatever
+    c.publish_output-reply.ensures.answered in
+    let not : c.publish_output-reply.result ≡ Done → ⊥ = search rules in
+    sides_stand (state old.disk) (state mid.disk) old.core mid.core mid.core old.failed mid.failed c.args.output
+    c.publish_output-reply.result by c.requires.live c.args.job.now c.args.job.now c.args.number c.args.channel
+    c.requires.there c.requires.side
+    (returns-else-eq-clause-kept g c) (λ is. absurd (not is)) (λ short. (returns-else-eq-clause-memory g c short).1)
+
+pub returns-else-eq-clause-row : goal.returns-else-eq-clause-row
+returns-else-eq-clause-row g c alive =
+    let state = g.D.Disk.state in
+    let old = c.args.volume.now in
+    let mid = c.publish_output-reply.new.volume in
+    let by = publishes_by state old.disk mid.disk mid.disk old.core mid.core old.failed mid.failed mid.failed
+    c.args.output.pending.key c.publish_output-reply.result (refl, refl) c.publish_output-reply.ensures.whatever
+    c.publish_output-reply.ensures.answered in
+    let not : c.publish_output-reply.result ≡ Done → ⊥ = search rules in
+    released_row (state old.disk) (state mid.disk) old.core mid.core mid.core old.failed mid.failed c.args.output
+    c.publish_output-reply.result by c.requires.live c.args.job.now c.args.job.now c.args.number c.args.channel
+    c.requires.there c.requires.side
+    (returns-else-eq-clause-kept g c) (λ is. absurd (not is))
+    (λ short jobs s. same_state state old.disk mid.disk old.core mid.core jobs s (returns-else-eq-clause-memory g c short))
+    alive c.requires.sound.whole (λ is. absurd (not is)) (returns-else-eq-clause-closed g c)
+
+pub returns-else-eq-clause-crash : goal.returns-else-eq-clause-crash
+returns-else-eq-clause-crash g c =
+    let state = g.D.Disk.state in
+    let old = c.args.volume.now in
+    let mid = c.publish_output-reply.new.volume in
+    let by = publishes_by state old.disk mid.disk mid.disk old.core mid.core old.failed mid.failed mid.failed
+    c.args.output.pending.key c.publish_output-reply.result (refl, refl) c.publish_output-reply.ensures.whatever
+    c.publish_output-reply.ensures.answered in
+    release_crashes (state old.disk) (state mid.disk) old.core mid.core mid.core old.failed mid.failed c.args.output
+    c.publish_output-reply.result by c.requires.live c.args.job.now c.args.job.now c.args.number c.args.channel
+    c.requires.there c.requires.side
