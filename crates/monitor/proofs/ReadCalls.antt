@@ -153,7 +153,8 @@ module _ (job : Job) (ch a : ℕ) where
             )
         row_ended named none status is =
             found
-            ∙ ap (by_answer w side_in side_out (Some areas)) (answer_ended (with_sides w side_in side_out) areas named none)
+            ∙ ap (by_answer w side_in side_out (Some areas))
+            (answer_ended (with_sides w side_in side_out) areas named none)
             ∙ ap (λ m. (Stopped m, with_channel (job_of w job) ch (Some (record (channel_of w c) { status = m }))))
             (sym is)
             ∙ ap (λ j. (Stopped status, j)) (channel_set w job ch (Some (record c { status = status })))

@@ -1,4 +1,5 @@
-use Rattle.std.proofs.Common.{rules, ◌≡◌, ◌*◌, ◌<◌, ◌≤◌, ◌^◌, length, Some, Err, refl, sym, ap, subst, ◌∙◌, inl, inr, arith, slice_set}
+use Rattle.std.proofs.Common.{rules, ◌≡◌, ◌*◌, ◌<◌, ◌≤◌, ◌^◌, length, Some, Err, refl, sym, ap, subst, ◌∙◌, inl}
+use Rattle.std.proofs.Common.{inr, arith, slice_set}
 use Rattle.meaning.specs.Outputs.{is_before_end}
 use Rattle.meaning.specs.Retrieval.{most_blocks}
 use Rattle.meaning.specs.Splices.{length_after}
@@ -28,16 +29,20 @@ returns-in-Err-NoMemory-clause-keeps g c alive = keeps_same c.args.volume.now.co
 
 pub put_words-requires-clause-live : goal.put_words-requires-clause-live
 put_words-requires-clause-live g c =
-    version_live c.args.volume.now.core.pending c.args.job.now c.args.number c.in-Some.channel (sym c.channel.ensures ∙ c.in-Some.is) c.in-Some-output.output c.in-Some-output.is c.requires.live
+    version_live c.args.volume.now.core.pending c.args.job.now c.args.number c.in-Some.channel
+    (sym c.channel.ensures ∙ c.in-Some.is) c.in-Some-output.output c.in-Some-output.is c.requires.live
 
 pub put_words-requires-clause-first : goal.put_words-requires-clause-first
 put_words-requires-clause-first g c =
-    (its_side c.args.volume.now.core.pending c.args.job.now c.args.number c.in-Some.channel (sym c.channel.ensures ∙ c.in-Some.is) c.in-Some-output.output c.in-Some-output.is c.requires.sides).starts
+    (its_side c.args.volume.now.core.pending c.args.job.now c.args.number c.in-Some.channel
+    (sym c.channel.ensures ∙ c.in-Some.is) c.in-Some-output.output c.in-Some-output.is c.requires.sides).starts
 
 pub returns-then-is_kept-clause-outcome : goal.returns-then-is_kept-clause-outcome
 returns-then-is_kept-clause-outcome g c =
-    subst (IsOut (g.D.Disk.state c.args.volume.now.disk) (g.D.Disk.state c.args.volume.now.disk) c.args.volume.now.core c.args.volume.now.core
-    ((c.args.volume.now.disk ≡ c.args.volume.now.disk) × (c.args.volume.now.core ≡ c.args.volume.now.core)) c.args.job.now c.stop.new.job c.args.number c.args.address) (sym c.stop.ensures.answered) (
+    subst (IsOut (g.D.Disk.state c.args.volume.now.disk) (g.D.Disk.state c.args.volume.now.disk)
+    c.args.volume.now.core c.args.volume.now.core
+    ((c.args.volume.now.disk ≡ c.args.volume.now.disk) × (c.args.volume.now.core ≡ c.args.volume.now.core))
+    c.args.job.now c.stop.new.job c.args.number c.args.address) (sym c.stop.ensures.answered) (
       record {
         channel = c.in-Some.channel;
         there = sym c.channel.ensures ∙ c.in-Some.is;
@@ -48,7 +53,9 @@ returns-then-is_kept-clause-outcome g c =
       },
       refl,
       c.stop.ensures.kept,
-      λ p at. let over = put_over (length c.in-Ok.words.items) _ (is_before_end (kind_of c.in-Some-output.output.kind) c.in-Some-output.output.next) c.is_kept.result c.is_kept.ensures
+      λ p at. let over = put_over (length c.in-Ok.words.items) _
+          (is_before_end (kind_of c.in-Some-output.output.kind) c.in-Some-output.output.next) c.is_kept.result
+          c.is_kept.ensures
           (omega (arith, c.in-Ok.words.ok, c.len.ensures)) c.if-is_kept.true in
           (over.0, inr (inr over.1)),
       (refl, refl),
@@ -56,25 +63,37 @@ returns-then-is_kept-clause-outcome g c =
 
 pub returns-then-is_kept-clause-keeps : goal.returns-then-is_kept-clause-keeps
 returns-then-is_kept-clause-keeps g c alive =
-    keeps_status c.args.job.now c.args.number 0 c.in-Some.channel (sym c.channel.ensures ∙ c.in-Some.is) c.args.volume.now.core.pending c.stop.new.job _ c.stop.ensures.kept
+    keeps_status c.args.job.now c.args.number 0 c.in-Some.channel (sym c.channel.ensures ∙ c.in-Some.is)
+    c.args.volume.now.core.pending c.stop.new.job _ c.stop.ensures.kept
 
 pub returns-then-is_kept-clause-reads : goal.returns-then-is_kept-clause-reads
 returns-then-is_kept-clause-reads g c alive =
-    reads_status c.args.volume.now.core.live c.args.volume.now.core.live c.args.job.now refl c.args.number c.in-Some.channel (sym c.channel.ensures ∙ c.in-Some.is) _ c.stop.new.job c.stop.ensures.kept
+    reads_status c.args.volume.now.core.live c.args.volume.now.core.live c.args.job.now refl c.args.number
+    c.in-Some.channel (sym c.channel.ensures ∙ c.in-Some.is) _ c.stop.new.job c.stop.ensures.kept
 
 pub moved-moved-requires-clause-fits : goal.moved-moved-requires-clause-fits
 moved-moved-requires-clause-fits g c =
-    let p = version_there c.args.volume.now.core.pending c.args.job.now c.args.number c.in-Some.channel (sym c.channel.ensures ∙ c.in-Some.is) c.in-Some-output.output c.in-Some-output.is c.requires.live in
-    let first = (its_side c.args.volume.now.core.pending c.args.job.now c.args.number c.in-Some.channel (sym c.channel.ensures ∙ c.in-Some.is) c.in-Some-output.output c.in-Some-output.is c.requires.sides).starts in
-    let counted : c.len-in-Ok-put_words.result ≡ length c.as_slice.result.now = omega (arith, c.in-Ok.words.ok, c.len-in-Ok-put_words.ensures, ap length c.as_slice.ensures.value) in
-    let few : c.len-in-Ok-put_words.result ≤ 0o400000 = omega (arith, c.in-Ok.words.ok, c.len-in-Ok-put_words.ensures, c.in-Ok.ensures.few) in
+    let p = version_there c.args.volume.now.core.pending c.args.job.now c.args.number c.in-Some.channel
+    (sym c.channel.ensures ∙ c.in-Some.is) c.in-Some-output.output c.in-Some-output.is c.requires.live in
+    let first = (its_side c.args.volume.now.core.pending c.args.job.now c.args.number c.in-Some.channel
+    (sym c.channel.ensures ∙ c.in-Some.is) c.in-Some-output.output c.in-Some-output.is c.requires.sides).starts in
+    let counted : c.len-in-Ok-put_words.result ≡ length c.as_slice.result.now = omega
+    (arith, c.in-Ok.words.ok, c.len-in-Ok-put_words.ensures, ap length c.as_slice.ensures.value) in
+    let few : c.len-in-Ok-put_words.result ≤ 0o400000 = omega
+    (arith, c.in-Ok.words.ok, c.len-in-Ok-put_words.ensures, c.in-Ok.ensures.few) in
     let small : c.in-Some-output.output.next < 2 ^ 32 = search rules in
     next_fits p.0.version.words c.in-Some-output.output.next c.len-in-Ok-put_words.result first small few
-    (λ some long. not_refused c.put_words.result c.in-Ok-put_words.field-0 (Refused NoRoom) c.in-Ok-put_words.is (c.put_words.ensures.room c.requires.serves p.0 p.1) (omega (arith, some, counted), inl (subst (λ n. most_blocks * 128 < length_after p.0.version.words c.in-Some-output.output.next n) counted long)))
+    (λ some long. not_refused c.put_words.result c.in-Ok-put_words.field-0 (Refused NoRoom) c.in-Ok-put_words.is
+    (c.put_words.ensures.room c.requires.serves p.0 p.1) (
+      omega (arith, some, counted),
+      inl
+          (subst (λ n. most_blocks * 128 < length_after p.0.version.words c.in-Some-output.output.next n) counted long),
+    ))
 
 pub returns-in-Ok-put_words-clause-outcome : goal.returns-in-Ok-put_words-clause-outcome
 returns-in-Ok-put_words-clause-outcome g c =
-    let counted : c.len-in-Ok-put_words.result ≡ length c.as_slice.result.now = omega (arith, c.in-Ok.words.ok, c.len-in-Ok-put_words.ensures, ap length c.as_slice.ensures.value) in (
+    let counted : c.len-in-Ok-put_words.result ≡ length c.as_slice.result.now = omega
+    (arith, c.in-Ok.words.ok, c.len-in-Ok-put_words.ensures, ap length c.as_slice.ensures.value) in (
       record {
         channel = c.in-Some.channel;
         there = sym c.channel.ensures ∙ c.in-Some.is;
@@ -83,12 +102,20 @@ returns-in-Ok-put_words-clause-outcome g c =
         words = c.as_slice.result.now;
         found = c.in-Ok.ensures.words ∙ ap Some (sym c.as_slice.ensures.value);
       },
-      c.set_channel.ensures ∙ ap (λ x. record c.args.job.now { channels = slice_set c.args.job.now.channels c.args.number (Some x) }) c.moved-moved.ensures
-          ∙ ap (λ n. record c.args.job.now { channels = slice_set c.args.job.now.channels c.args.number (Some (moved c.in-Some.channel c.in-Some-output.output n)) }) counted,
+      c.set_channel.ensures ∙ ap (λ x.
+          record c.args.job.now { channels = slice_set c.args.job.now.channels c.args.number (Some x) })
+          c.moved-moved.ensures
+          ∙ ap (λ n. record c.args.job.now {
+            channels = slice_set c.args.job.now.channels c.args.number
+                (Some (moved c.in-Some.channel c.in-Some-output.output n));
+          }) counted,
       λ p at. let put = c.in-Ok-put_words.ensures.put p at in record {
-        fits = finds_place (length c.as_slice.result.now) _ (is_before_end (kind_of c.in-Some-output.output.kind) c.in-Some-output.output.next) c.is_kept.result c.is_kept.ensures
+        fits = finds_place (length c.as_slice.result.now) _
+            (is_before_end (kind_of c.in-Some-output.output.kind) c.in-Some-output.output.next) c.is_kept.result
+            c.is_kept.ensures
             (omega (arith, c.in-Ok.words.ok, c.len.ensures, ap length c.as_slice.ensures.value))
-            (not_refused c.put_words.result c.in-Ok-put_words.field-0 (Refused NoRoom) c.in-Ok-put_words.is (c.put_words.ensures.room c.requires.serves p at)) c.if-is_kept.false;
+            (not_refused c.put_words.result c.in-Ok-put_words.field-0 (Refused NoRoom) c.in-Ok-put_words.is
+            (c.put_words.ensures.room c.requires.serves p at)) c.if-is_kept.false;
         version = put.0;
         here = put.1;
         length_is = put.2;
@@ -98,20 +125,32 @@ returns-in-Ok-put_words-clause-outcome g c =
 
 pub returns-in-Ok-put_words-clause-keeps : goal.returns-in-Ok-put_words-clause-keeps
 returns-in-Ok-put_words-clause-keeps g c alive =
-    let p = version_there c.args.volume.now.core.pending c.args.job.now c.args.number c.in-Some.channel (sym c.channel.ensures ∙ c.in-Some.is) c.in-Some-output.output c.in-Some-output.is c.requires.live in
+    let p = version_there c.args.volume.now.core.pending c.args.job.now c.args.number c.in-Some.channel
+    (sym c.channel.ensures ∙ c.in-Some.is) c.in-Some-output.output c.in-Some-output.is c.requires.live in
     let put = c.in-Ok-put_words.ensures.put p.0 p.1 in
-    keeps_put c.args.volume.now.core.pending c.put_words.new.self.core.pending c.args.job.now c.set_channel.new.self c.args.number c.in-Some.channel (sym c.channel.ensures ∙ c.in-Some.is) c.in-Some-output.output c.in-Some-output.is c.len-in-Ok-put_words.result
-    (c.set_channel.ensures ∙ ap (λ x. record c.args.job.now { channels = slice_set c.args.job.now.channels c.args.number (Some x) }) c.moved-moved.ensures) p.0 p.1 put.0 put.1 c.put_words.ensures.others
+    keeps_put c.args.volume.now.core.pending c.put_words.new.self.core.pending c.args.job.now c.set_channel.new.self
+    c.args.number c.in-Some.channel (sym c.channel.ensures ∙ c.in-Some.is) c.in-Some-output.output
+    c.in-Some-output.is c.len-in-Ok-put_words.result
+    (c.set_channel.ensures ∙ ap (λ x.
+    record c.args.job.now { channels = slice_set c.args.job.now.channels c.args.number (Some x) })
+    c.moved-moved.ensures) p.0 p.1 put.0 put.1 c.put_words.ensures.others
 
 pub returns-in-Ok-put_words-clause-reads : goal.returns-in-Ok-put_words-clause-reads
 returns-in-Ok-put_words-clause-reads g c alive =
-    reads_moved c.args.volume.now.core.live c.put_words.new.self.core.live c.args.job.now c.put_words.ensures.live c.args.number c.in-Some.channel (sym c.channel.ensures ∙ c.in-Some.is) c.in-Some-output.output c.len-in-Ok-put_words.result c.set_channel.new.self
-    (c.set_channel.ensures ∙ ap (λ x. record c.args.job.now { channels = slice_set c.args.job.now.channels c.args.number (Some x) }) c.moved-moved.ensures)
+    reads_moved c.args.volume.now.core.live c.put_words.new.self.core.live c.args.job.now c.put_words.ensures.live
+    c.args.number c.in-Some.channel (sym c.channel.ensures ∙ c.in-Some.is) c.in-Some-output.output
+    c.len-in-Ok-put_words.result c.set_channel.new.self
+    (c.set_channel.ensures ∙ ap (λ x.
+    record c.args.job.now { channels = slice_set c.args.job.now.channels c.args.number (Some x) })
+    c.moved-moved.ensures)
 
 pub returns-in-Err-Refused-clause-outcome : goal.returns-in-Err-Refused-clause-outcome
 returns-in-Err-Refused-clause-outcome g c =
-    subst (IsOut (g.D.Disk.state c.args.volume.now.disk) (g.D.Disk.state c.put_words.new.self.disk) c.args.volume.now.core c.put_words.new.self.core
-    ((c.put_words.new.self.disk ≡ c.args.volume.now.disk) × (c.put_words.new.self.core ≡ c.args.volume.now.core)) c.args.job.now c.stop-in-Err-Refused.new.job c.args.number c.args.address) (sym c.stop-in-Err-Refused.ensures.answered) (
+    subst (IsOut (g.D.Disk.state c.args.volume.now.disk) (g.D.Disk.state c.put_words.new.self.disk)
+    c.args.volume.now.core c.put_words.new.self.core
+    ((c.put_words.new.self.disk ≡ c.args.volume.now.disk) × (c.put_words.new.self.core ≡ c.args.volume.now.core))
+    c.args.job.now c.stop-in-Err-Refused.new.job c.args.number c.args.address)
+    (sym c.stop-in-Err-Refused.ensures.answered) (
       record {
         channel = c.in-Some.channel;
         there = sym c.channel.ensures ∙ c.in-Some.is;
@@ -122,22 +161,32 @@ returns-in-Err-Refused-clause-outcome g c =
       },
       refl,
       c.stop-in-Err-Refused.ensures.kept,
-      (λ p at. lacks_room ((c.put_words.ensures.room c.requires.serves p at).0 (c.in-Err-Refused.is ∙ ap Err c.in-Err-Refused.field-0-is ∙ ap (λ code. Err (Refused code)) (c.put_words.ensures.codes c.in-Err-Refused.field-0-0 (c.in-Err-Refused.is ∙ ap Err c.in-Err-Refused.field-0-is))))),
+      (λ p at. lacks_room ((c.put_words.ensures.room c.requires.serves p at).0
+          (c.in-Err-Refused.is ∙ ap Err c.in-Err-Refused.field-0-is ∙ ap (λ code. Err (Refused code))
+          (c.put_words.ensures.codes c.in-Err-Refused.field-0-0
+          (c.in-Err-Refused.is ∙ ap Err c.in-Err-Refused.field-0-is))))),
       c.put_words.ensures.refused c.in-Err-Refused.field-0-0 (c.in-Err-Refused.is ∙ ap Err c.in-Err-Refused.field-0-is),
     )
 
 pub returns-in-Err-Refused-clause-keeps : goal.returns-in-Err-Refused-clause-keeps
 returns-in-Err-Refused-clause-keeps g c alive =
-    let same = c.put_words.ensures.refused c.in-Err-Refused.field-0-0 (c.in-Err-Refused.is ∙ ap Err c.in-Err-Refused.field-0-is) in
-    subst (λ (core : VolumeCore). Keeps c.args.volume.now.core.pending core.pending c.args.job.now c.stop-in-Err-Refused.new.job) (sym same.1)
-    (keeps_status c.args.job.now c.args.number 0 c.in-Some.channel (sym c.channel.ensures ∙ c.in-Some.is) c.args.volume.now.core.pending c.stop-in-Err-Refused.new.job _ c.stop-in-Err-Refused.ensures.kept)
+    let same = c.put_words.ensures.refused c.in-Err-Refused.field-0-0
+    (c.in-Err-Refused.is ∙ ap Err c.in-Err-Refused.field-0-is) in
+    subst (λ (core : VolumeCore). Keeps c.args.volume.now.core.pending core.pending c.args.job.now
+    c.stop-in-Err-Refused.new.job) (sym same.1)
+    (keeps_status c.args.job.now c.args.number 0 c.in-Some.channel (sym c.channel.ensures ∙ c.in-Some.is)
+    c.args.volume.now.core.pending c.stop-in-Err-Refused.new.job _ c.stop-in-Err-Refused.ensures.kept)
 
 pub returns-in-Err-Refused-clause-reads : goal.returns-in-Err-Refused-clause-reads
 returns-in-Err-Refused-clause-reads g c alive =
-    reads_status c.args.volume.now.core.live c.put_words.new.self.core.live c.args.job.now c.put_words.ensures.live c.args.number c.in-Some.channel (sym c.channel.ensures ∙ c.in-Some.is) _ c.stop-in-Err-Refused.new.job c.stop-in-Err-Refused.ensures.kept
+    reads_status c.args.volume.now.core.live c.put_words.new.self.core.live c.args.job.now c.put_words.ensures.live
+    c.args.number c.in-Some.channel (sym c.channel.ensures ∙ c.in-Some.is) _ c.stop-in-Err-Refused.new.job
+    c.stop-in-Err-Refused.ensures.kept
 
 pub returns-in-Err-NoMemory-put_words-clause-keeps : goal.returns-in-Err-NoMemory-put_words-clause-keeps
 returns-in-Err-NoMemory-put_words-clause-keeps g c alive =
-    let same = c.put_words.ensures.memory (c.in-Err-NoMemory-put_words.is ∙ ap Err c.in-Err-NoMemory-put_words.field-0-is) in
-    subst (λ (core : VolumeCore). Keeps c.args.volume.now.core.pending core.pending c.args.job.now c.args.job.now) (sym same.1)
+    let same = c.put_words.ensures.memory
+    (c.in-Err-NoMemory-put_words.is ∙ ap Err c.in-Err-NoMemory-put_words.field-0-is) in
+    subst (λ (core : VolumeCore). Keeps c.args.volume.now.core.pending core.pending c.args.job.now c.args.job.now)
+    (sym same.1)
     (keeps_same c.args.volume.now.core.pending c.args.job.now)
