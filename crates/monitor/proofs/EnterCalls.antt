@@ -191,8 +191,8 @@ module _ (d : DiskState) (map map' : VolumeCore) (jobs jobs' : List (Option Job)
           ∙ opened_is w job c e moment (place_of prime.ppn prime.file)
           (digit_at t (job_of w job) (place_of prime.ppn prime.file)) enters.kind prime directory.directory.protection
           (ap mode_number enters.at.mode) enters.at.moment_is
-          (get directory.directory.files prime.file) (enters.kind_is ∙ ap entering.entered_kind (named ∙ directory.absent))
-          directory.few
+          (get directory.directory.files prime.file)
+          (enters.kind_is ∙ ap entering.entered_kind (named ∙ directory.absent)) directory.few
           (protection (without_serials s.files) state.files
           ∙ ap (λ f. protection_for f (protection_or (slice_index job.core (e + 2)) 0o057))
           (ap (λ o. found_in o prime.file) (shown_at s.files prime.ppn

@@ -72,7 +72,8 @@ is_less a b = by (nat_lt a b) refl
 
 -- A job that begins, begins a new file where there is none.
 
-pub begun_kind : (k kind : VersionKind) (may is_zero claimed : Bool) → begun_as k may is_zero claimed ≡ Ok kind → kind ≡ k
+pub begun_kind : (k kind : VersionKind) (may is_zero claimed : Bool) → begun_as k may is_zero claimed ≡ Ok kind
+    → kind ≡ k
 begun_kind k kind may true claimed is = cc is
 begun_kind k kind false false claimed is = cc is
 begun_kind k kind true false true is = cc is

@@ -1,6 +1,6 @@
 -- An ENTER that updates a file or appends to it begins, or is refused, as the machine says.
-use Rattle.std.proofs.Common.{◌≡◌, ◌↔◌, ◌<◌, ℕ, ◌+◌, Bool, true, false, nat_lt, length, Option, None, Some, Result, Ok, Err}
-use Rattle.std.proofs.Common.{refl, sym, ap, ◌∙◌, ⊎_elim}
+use Rattle.std.proofs.Common.{◌≡◌, ◌↔◌, ◌<◌, ℕ, ◌+◌, Bool, true, false, nat_lt, length, Option, None, Some, Result, Ok}
+use Rattle.std.proofs.Common.{Err, refl, sym, ap, ◌∙◌, ⊎_elim}
 use Rattle.std.proofs.lemmas.Bool.{both_ways}
 use Rattle.std.specs.Prelude.{◌==◌, ◌&&◌, ◌||◌, not, if◌then◌else◌, is_none, option_map}
 use Rattle.std.specs.Ordering.{nat_cmp}
@@ -139,8 +139,8 @@ update_is name owner job (Some d) is_zero claimed full =
         owner is_zero claimed) full
     by None = none_reply is_zero
     by (Some v) = file_reply (update_kind (file_digit v.file.protection job.ppn owner)) is_zero
-        (may_look (directory_digit d.protection job.ppn owner)) (may_append (file_digit v.file.protection job.ppn owner))
-        claimed full
+        (may_look (directory_digit d.protection job.ppn owner))
+        (may_append (file_digit v.file.protection job.ppn owner)) claimed full
 
 -- a directory without its serials
 abbrev shown : Directory Version → Directory File
@@ -222,7 +222,8 @@ module _ (d : DiskState) (map : VolumeCore) (s : State) (known : IsKnown d map s
             present = h.absent ∙ ap is_none name;
             answer = reply_is w job place
                 ∙ ap (λ r. update_reply r (exceeds_room (pack_of d) s (present_cost (file_at s.files place)))) is
-                ∙ (λ i. if nat_lt (space d.size) (known.booked_is i + present_cost (here i)) then Refused 0o14 else Done);
+                ∙ (λ i. if nat_lt (space d.size) (known.booked_is i + present_cost (here i)) then Refused 0o14
+                else Done);
           }
 
       by : (was : Option (Directory Version)) → get s.files place.ppn ≡ was
@@ -232,8 +233,8 @@ module _ (d : DiskState) (map : VolumeCore) (s : State) (known : IsKnown d map s
       by (Some D) at ok =
           with_file D at (get D.files place.name) refl
           (ap (λ f. allowed_update (found_file D.protection f) job.ppn place.ppn (place.name.name
-          == 0) (claims map.pending place)) (sym (get-map_values name_total (λ (v : Version). v.file) D.files place.name))
-          ∙ ok)
+          == 0) (claims map.pending place))
+          (sym (get-map_values name_total (λ (v : Version). v.file) D.files place.name)) ∙ ok)
 
   -- What is answered by what the volume answers.
   module _ {X : Type 0} (w : UnderKeys) (job : Job) (place : Place) (kind : Kind) (result : Result X CallError)

@@ -83,7 +83,9 @@ fn may_write(
         (may_look (directory_digit protection who owner) && may_append (file_digit own who owner)) false is_claimed }
 {
     acts_are_nested();
-    if !dir_right(protection, who, owner, DirectoryAct::Look) || !right(own, who, owner, Act::APPEND) {
+    if !dir_right(protection, who, owner, DirectoryAct::Look)
+        || !right(own, who, owner, Act::APPEND)
+    {
         return Err(ErrorCode::Protection);
     }
     if is_claimed {
@@ -222,8 +224,8 @@ pub fn prime_of<D: Disk>(volume: &Volume<D>, pending: Pending) -> Prime
 }
 
 /// ENTER on a channel that reads a file, which the four words at an address have to name: opens an output side that
-/// writes over that file as it is now, or where the job's digit is 4 behind its last block. The input side comes to hold
-/// that version, and the file's attributes are put into the words.
+/// writes over that file as it is now, or where the job's digit is 4 behind its last block. The input side comes to
+/// hold that version, and the file's attributes are put into the words.
 pub fn update<D: Disk>(
     alloc: Global,
     volume: &mut Volume<D>,

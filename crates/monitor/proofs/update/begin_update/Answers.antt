@@ -66,7 +66,8 @@ returns-in-Ok-begin-clause-answered g c h alive s known w =
     subst (λ (p : Place). update_answer_at (pack_of d) s (job_of w job) p ≡ Done) at
     (begun d map s known sound was w job (place_of prime.ppn prime.file) c.in-Ok.kind c.begin.result
     (subst (λ (p : Place). may d map s known sound was job.ppn p ≡ Ok c.in-Ok.kind) (sym at) ok)
-    (λ D here file there. c.begin.ensures.full h alive (without_serials s.files) known.files with_file D here file there)
+    (λ D here file there. c.begin.ensures.full h alive (without_serials s.files) known.files with_file D here file
+    there)
     c.in-Ok-begin.pending c.in-Ok-begin.is)
 
 pub returns-in-Err-begin-clause-answered : goal.returns-in-Err-begin-clause-answered
@@ -88,7 +89,8 @@ returns-in-Err-begin-clause-answered g c h alive s known w =
     at
     (not_begun d map s known sound was w job (place_of prime.ppn prime.file) c.in-Ok.kind c.begin.result
     (subst (λ (p : Place). may d map s known sound was job.ppn p ≡ Ok c.in-Ok.kind) (sym at) ok)
-    (λ D here file there. c.begin.ensures.full h alive (without_serials s.files) known.files with_file D here file there)
+    (λ D here file there. c.begin.ensures.full h alive (without_serials s.files) known.files with_file D here file
+    there)
     ℕ c.in-Err-begin.error c.in-Err-begin.is with_file
     (c.begin.ensures.absent alive).0 (c.begin.ensures.exists alive) (c.begin.ensures.not_found alive)
     c.begin.ensures.codes c.begin.ensures.served (λ e. contrary alive (c.begin.ensures.failed.0 e)))
