@@ -19,13 +19,14 @@ use Rattle.meaning.specs.declared.call.Call.TheVariants.{Close, Releas}
 use Rattle.meaning.specs.declared.call.Event.TheVariants.{Call as Calls}
 use Rattle.meaning.specs.declared.call.Reply.{Reply}
 use Rattle.meaning.specs.declared.call.Reply.TheVariants.{Done, NoMemory}
-use Rattle.meaning.proofs.MapLaws.{get-insert_same}
+use Rattle.meaning.proofs.MapLaws.{some_none, get-insert_same}
 use Rattle.meaning.proofs.Names.{name_total}
 use Rattle.meaning.proofs.PlaceLaws.{some_is}
+use Rattle.retrieval.specs.declared.prime.Prime.{Prime}
 use Rattle.volume.specs.Live.{VolumeCore, pending_at, IsWholeCore}
 use Rattle.volume.specs.Live.{slot as version_at}
 use Rattle.volume.specs.Pins.{IsPinAnswer}
-use Rattle.volume.specs.Rest.{RestsAt}
+use Rattle.volume.specs.Rest.{RestsAt, IsSound}
 use Rattle.volume.specs.declared.handles.Pin.{Pin}
 use Rattle.volume.specs.declared.live.LiveVersion.{LiveVersion}
 use Rattle.volume.specs.declared.pending.PendingVersion.{PendingVersion}
@@ -80,6 +81,11 @@ put_here files place v some = by (get files place.ppn) refl some
         ap (λ o. file_in o place.name) (get-insert_same nat_cmp_total files place.ppn new)
         ∙ get-insert_same name_total d.files place.name v
 
+-- an input side is kept by this bit alone
+pub kept_by : (k : Bool) (x : Option Input) (input : Input) → (if k then x else None) ≡ Some input → k ≡ true
+kept_by true x input is = refl
+kept_by false x input is = absurd (some_none (sym is))
+
 -- What an input side becomes that stays: it holds the version that is published, whose place this is.
 pub record HoldsPublished (d' : DiskState) (c b c' : VolumeCore) (key : ℕ) (job job' : Job) (number : ℕ)
     (channel : Channel) (input : Input) : Type 0 where
@@ -93,6 +99,32 @@ pub record HoldsPublished (d' : DiskState) (c b c' : VolumeCore) (key : ℕ) (jo
       → IsPinAnswer d'.contents renews.between.live file (Ok renewed.pin) (get files ppn)
   pub job_is : job'
       ≡ record job { channels = slice_set job.channels number (Some (output_closed channel renewed)) }
+
+-- so it is where a side was renewed, and the disk left alone
+pub holds_published : {D : Type 0} (state : D → DiskState) (mid new : D) (c b c' : VolumeCore) (failed : Bool) (key : ℕ)
+    (job job' : Job) (number : ℕ) (channel : Channel) (input renewed : Input) (prime : Prime) → new ≡ mid
+    → IsSound (state mid) b failed → ((is : Renews b c' input renewed prime.ppn prime.file)
+    × ((state new).honest → (files : Files File) → RestsAt (state mid) files
+    → IsPinAnswer (state mid).contents is.between.live prime.file (Ok is.held.pin) (get files prime.ppn)))
+    → ((p : PendingVersion) → pending_at c.pending key ≡ Some p → prime ≡ p.prime)
+    → job' ≡ record job { channels = slice_set job.channels number (Some (output_closed channel renewed)) }
+    → HoldsPublished (state new) c b c' key job job' number channel input
+holds_published state mid new c b c' failed key job job' number channel input renewed prime same sound renews of set =
+    record {
+      renewed = renewed;
+      ppn = prime.ppn;
+      file = prime.file;
+      renews = renews.0;
+      place = λ p at. let is = of p at in (ap (λ (q : Prime). q.ppn) is, ap (λ (q : Prime). q.file) is);
+      whole = subst (λ disk. IsWholeCore (state disk).size b) (sym same) sound.whole;
+      pinned = λ honest files rests.
+          subst (λ (pin : Pin). IsPinAnswer (state new).contents renews.0.between.live prime.file (Ok pin)
+          (get files prime.ppn)) (sym (ap (λ (i : Input). i.pin) renews.0.renewed_is))
+          (subst (λ disk. IsPinAnswer (state disk).contents renews.0.between.live prime.file (Ok renews.0.held.pin)
+          (get files prime.ppn)) (sym same)
+          (renews.1 honest files (subst (λ disk. RestsAt (state disk) files) same rests)));
+      job_is = set;
+    }
 
 module _ (d d' : DiskState) (c b c' : VolumeCore) (failed failed' : Bool) (o : Output) (reply : Reply)
     (by : PublishesBy d d' c b failed failed' o.pending.key reply) (live : IsSome (pending_at c.pending o.pending.key))

@@ -59,7 +59,7 @@ fn release<D: Disk>(volume: &mut Volume<D>, job: &mut Job, number: u32) -> Reply
     let Some(channel) = job.channel(number) else {
         return Reply::NoChannel;
     };
-    release_input(volume, channel.input);
+    release_input(volume, channel.input); // if it reads
     job.set_channel(number, None);
     Reply::Done
 }

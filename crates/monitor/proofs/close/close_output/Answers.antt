@@ -1,4 +1,4 @@
-use Rattle.std.proofs.Common.{◌≡◌, rules, refl, Some, None}
+use Rattle.std.proofs.Common.{◌≡◌, rules, refl, Some}
 use Rattle.meaning.specs.declared.call.Reply.TheVariants.{Done}
 use Rattle.monitor.specs.Closing.{both_closed}
 use Rattle.monitor.proofs.ClosedSides.{has_published, close_crashes, sides_stand, closed_row}

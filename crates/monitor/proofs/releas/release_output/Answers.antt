@@ -1,4 +1,4 @@
-use Rattle.std.proofs.Common.{◌≡◌, rules, refl, Some, None}
+use Rattle.std.proofs.Common.{◌≡◌, rules, refl, None}
 use Rattle.meaning.specs.declared.call.Reply.TheVariants.{Done}
 use Rattle.monitor.proofs.ClosedSides.{has_published, release_crashes, sides_stand, released_row}
 use Rattle.monitor.proofs.Publications.{held_behind, released_behind}

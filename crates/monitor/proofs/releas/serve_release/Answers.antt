@@ -1,4 +1,4 @@
-use Rattle.std.proofs.Common.{◌≡◌, Some, ap, sym, subst, ◌∙◌}
+use Rattle.std.proofs.Common.{subst}
 use Rattle.std.specs.List.{AllByRecursion}
 use Rattle.meaning.specs.declared.call.Call.TheVariants.{Releas}
 use Rattle.monitor.specs.Serving.{IsSide}
@@ -14,7 +14,7 @@ pub release_output-requires-clause-live : goal.release_output-requires-clause-li
 release_output-requires-clause-live g c =
     let here = c.in-Some.ensures.some in
     let ready = c.requires.ready in
-    version_live c.args.volume.now.core.pending c.args.job.now c.args.channel c.in-Some._open here.there
+    version_live c.args.volume.now.core.pending c.args.job.now c.args.channel c.in-Some.open here.there
     c.in-Some.output here.side
     (job_live c.args.volume.now.core ready.jobs ready.number c.args.job.now ready.among.keyed ready.among.there)
 
@@ -23,12 +23,17 @@ release_output-requires-clause-starts g c =
     let here = c.in-Some.ensures.some in
     let ready = c.requires.ready in
     let pending = c.args.volume.now.core.pending in
-    (its_side pending c.args.job.now c.args.channel c.in-Some._open here.there c.in-Some.output here.side
+    (its_side pending c.args.job.now c.args.channel c.in-Some.open here.there c.in-Some.output here.side
     (subst (λ o. AllByRecursion (IsSide pending) (sides_in o)) ready.among.there
     (each-slot (IsSide pending) ready.jobs ready.number ready.among.keyed.each))).starts
 
 pub release_output-requires-clause-placed : goal.release_output-requires-clause-placed
 release_output-requires-clause-placed g c p at = c.requires.ready.placed.each c.in-Some.output.pending.key p at
+
+pub release_output-requires-clause-held : goal.release_output-requires-clause-held
+release_output-requires-clause-held g c =
+    let ready = c.requires.ready in
+    job_held c.args.volume.now.core.live ready.jobs ready.number c.args.job.now ready.among.reading ready.among.there
 
 pub release-requires-clause-held : goal.release-requires-clause-held
 release-requires-clause-held g c =
@@ -42,13 +47,14 @@ returns-in-Some g c = record {
       let new = c.release_output.new.volume in
       let ready = c.requires.ready in
       let here = c.in-Some.ensures.some in
-      publishing_serves g.D.Disk.state g.met.D.Disk.only_now old.disk new.disk old.core new.core old.failed
+      let published = c.release_output.ensures.published in
+      publishing_serves g.D.Disk.state g.met.D.Disk.only_now old.disk new.disk old.core published.0 new.core old.failed
       new.failed c.in-Some.output.pending.key c.args.job.now c.release_output.new.job
       (Releas c.args.channel) moment c.release_output.result
-      ready.alive ready.placed timely c.release_output.ensures.whatever c.release_output.ensures.answered
+      ready.alive ready.placed timely published.1
       c.release_output.ensures.memory c.release_output.ensures.kept c.release_output.ensures.stands
       (c.release_output.ensures.row ready.alive) c.release_output.ensures.crash
-      (λ quiet. publishes_here c.args.job.now c.args.channel 0 c.in-Some._open c.in-Some.output here quiet)
+      (λ quiet. publishes_here c.args.job.now c.args.channel 0 c.in-Some.open c.in-Some.output here quiet)
       (λ kept. kept) (λ asked. asked);
 }
 
