@@ -75,10 +75,8 @@ pub mod MomentRuns
 pub mod Stills
 pub mod Lookups
 pub mod LookupCalls
-pub mod Renewals
 pub mod Refusals
 pub mod Promised
 pub mod OutOfOrder
-pub mod Renewals
 pub mod UpdateCalls
 pub mod UpdateAnswers
