@@ -60,7 +60,11 @@ pub fn serve_close<D: Disk>(
 fn input_kept(channel: &Channel, bits: u32) -> Option<Input>
     ensures { result ≡ (if keeps_input bits then channel.now.input else None) }
 {
-    if bits / 2 % 2 == 1 { channel.input } else { None }
+    if bits / 2 % 2 == 1 {
+        channel.input
+    } else {
+        None
+    }
 }
 
 /// The output side that a CLOSE of a channel with these bits publishes, and the channel.

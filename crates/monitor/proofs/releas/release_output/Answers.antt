@@ -17,7 +17,7 @@ release_input-requires g c =
     record {
       held = held_behind (state old.disk) (state mid.disk) old.core mid.core c.args.output by.whatever
           (has_published (state old.disk) (state mid.disk) old.core mid.core old.failed mid.failed c.args.output.pending.key
-    c.publish_output-reply.result by done)
+          c.publish_output-reply.result by done)
           c.requires.live c.args.job.now c.args.number
           c.args.channel c.requires.there c.requires.held c.args.channel.input refl;
     }
