@@ -44,7 +44,7 @@ use Rattle.monitor.specs.declared.job.Job.{Job}
 use Rattle.monitor.proofs.Answering.{state_is}
 use Rattle.monitor.proofs.Growths.{shown_at}
 use Rattle.monitor.proofs.LookupCalls.{with_version}
-use Rattle.monitor.proofs.Publications.{IsBehind, stay, renewed_behind}
+use Rattle.monitor.proofs.Publications.{IsBehind, readers_behind, renewed_behind}
 use Rattle.monitor.proofs.PublishedAnswers.{GoesOn, still_stand, crashes_as, published_answered}
 use Rattle.monitor.proofs.PublishedFiles.{versions_in}
 use Rattle.monitor.proofs.PublishedRows.{version_with, channel_both, channel_renewed, close_weighs, close_reply}
@@ -54,10 +54,10 @@ use Rattle.monitor.proofs.ReadsPinned.{with_read, with_read_same}
 use Rattle.monitor.proofs.Renewals.{renewed_pending, renewed_jobs, renewed_reads}
 
 -- what is said of an answer that is Done
-pub has_published : (d d' : DiskState) (c b : VolumeCore) (failed failed' : Bool) (key : ℕ) (reply : Reply)
+pub has_published : {d d' : DiskState} {c b : VolumeCore} {failed failed' : Bool} {key : ℕ} {reply : Reply}
     → PublishesBy d d' c b failed failed' key reply → reply ≡ Done → HasPublished d d' c b key
-has_published d d' c b failed failed' key reply by done = (subst (IsPublishing d d' c b failed failed' key) done
-    by.answered).0
+has_published {d} {d'} {c} {b} {failed} {failed'} {key} {reply} by done =
+    (subst (IsPublishing d d' c b failed failed' key) done by.answered).0
 
 -- A version is held of a directory that there is, and a version that is put there is the file of its place.
 
@@ -126,7 +126,7 @@ holds_published state mid new c b c' failed key job job' number channel input re
       job_is = set;
     }
 
-module _ (d d' : DiskState) (c b c' : VolumeCore) (failed failed' : Bool) (o : Output) (reply : Reply)
+module _ {d d' : DiskState} {c b : VolumeCore} {failed failed' : Bool} {reply : Reply} (c' : VolumeCore) (o : Output)
     (by : PublishesBy d d' c b failed failed' o.pending.key reply) (live : IsSome (pending_at c.pending o.pending.key))
     (job job' : Job) (number : ℕ) (channel : Channel) (there : slot job.channels number ≡ Some channel)
     (side : channel.output ≡ Some o) where
@@ -214,8 +214,8 @@ module _ (d d' : DiskState) (c b c' : VolumeCore) (failed failed' : Bool) (o : O
       -- where what is published is held
       module _ (input : Input) (reads_it : channel.input ≡ Some input)
           (holds : reply ≡ Done → HoldsPublished d' c b c' key job job' number channel input) (bits : ℕ)
-          (drops : keeps_output bits ≡ false) (publishes_it : discards bits ≡ false) (keeps : keeps_input bits ≡ true)
-          where
+          (drops : keeps_output bits ≡ false) (publishes_it : discards bits ≡ false)
+          (keeps : keeps_input bits ≡ true) where
         module _ (jobs : List (Option Job)) (n : ℕ) (moment : Moment) (at : slot jobs n ≡ Some job)
             (timely : moment.date ≤ 4095) (s : State) (state : IsState d c jobs s) (honest : d'.honest) (serial : ℕ)
             (has : HasPublished d d' c b key)
@@ -253,7 +253,7 @@ module _ (d d' : DiskState) (c b c' : VolumeCore) (failed failed' : Bool) (o : O
                 (get (without_serials files') h.ppn) answer))
 
             pinned : ArePinned b.live (pins_of (readers jobs))
-            pinned k = state.reading.pinned k ∙ sym (stay d d' c b o by.whatever has live k)
+            pinned k = state.reading.pinned k ∙ sym (readers_behind o by.whatever has live k)
 
             jobs_same : jobs_of u jobs ≡ jobs_of w jobs
             jobs_same = renewed_jobs b c' input h.renewed h.ppn h.file h.renews d' files' w.read reads h.whole x it_is
@@ -296,6 +296,6 @@ module _ (d d' : DiskState) (c b c' : VolumeCore) (failed failed' : Bool) (o : O
       → HoldsPublished d' c b c' key job job' number channel input → HasPublished d d' c b key
       → IsBehind c b c' job job'
   holds_behind input reads h has =
-      renewed_behind d d' c b o by.whatever has live c' job job' number channel there side
+      renewed_behind o by.whatever has live c' job job' number channel there side
       (renewed_pending b c' input h.renewed h.ppn h.file h.renews) input h.renewed h.ppn h.file
       (output_closed channel h.renewed) reads refl refl h.job_is h.renews

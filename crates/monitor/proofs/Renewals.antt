@@ -100,11 +100,11 @@ module _ (c c' : VolumeCore) (input renewed : Input) (ppn : ℕ) (file : FileNam
         × (prime_at c ppn file ≡ Some v.at)
     at = let was = is.holds.at in let owner = sym is.at.0 in let name = sym is.at.1 in
         let place : prime_at c ppn file ≡ prime_at c is.held.ppn is.held.file = λ i. prime_at c (owner i) (name i) in (
-      was.0,
-      was.1,
-      was.2,
-      place ∙ was.3,
-    )
+          was.0,
+          was.1,
+          was.2,
+          place ∙ was.3,
+        )
 
     pub renewed_jobs : (w : UnderKeys) (jobs : List (Option Job)) → w.read ≡ read
         → ArePinned c.live (pins_of (readers jobs)) → jobs_of (with_version w renewed.pin.key x) jobs ≡ jobs_of w jobs

@@ -60,7 +60,11 @@ pub fn serve_close<D: Disk>(
 fn input_kept(channel: &Channel, bits: u32) -> Option<Input>
     ensures { result ≡ (if keeps_input bits then channel.now.input else None) }
 {
-    if bits / 2 % 2 == 1 { channel.input } else { None }
+    if bits / 2 % 2 == 1 {
+        channel.input
+    } else {
+        None
+    }
 }
 
 /// The output side that a CLOSE of a channel with these bits publishes, and the channel.
@@ -119,8 +123,8 @@ fn close<D: Disk>(volume: &mut Volume<D>, job: &mut Job, number: u32, bits: u32)
     Reply::Done
 }
 
-/// CLOSE of a channel with an output side, with neither bit 1 nor bit 40 (octal), that keeps no input side: publishes what
-/// the channel has written, and closes both sides. Where that isn't done they stay as they are.
+/// CLOSE of a channel with an output side, with neither bit 1 nor bit 40 (octal), that keeps no input side: publishes
+/// what the channel has written, and closes both sides. Where that isn't done they stay as they are.
 fn close_output<D: Disk>(
     alloc: Global,
     volume: &mut Volume<D>,
