@@ -44,7 +44,7 @@ use Rattle.monitor.specs.declared.job.Job.{Job}
 use Rattle.monitor.proofs.Answering.{state_is}
 use Rattle.monitor.proofs.Growths.{shown_at}
 use Rattle.monitor.proofs.LookupCalls.{with_version}
-use Rattle.monitor.proofs.Publications.{IsBehind, stay, renewed_behind}
+use Rattle.monitor.proofs.Publications.{IsBehind, readers_behind, renewed_behind}
 use Rattle.monitor.proofs.PublishedAnswers.{GoesOn, still_stand, crashes_as, published_answered}
 use Rattle.monitor.proofs.PublishedFiles.{versions_in}
 use Rattle.monitor.proofs.PublishedRows.{version_with, channel_both, channel_renewed, close_weighs, close_reply}
@@ -54,10 +54,10 @@ use Rattle.monitor.proofs.ReadsPinned.{with_read, with_read_same}
 use Rattle.monitor.proofs.Renewals.{renewed_pending, renewed_jobs, renewed_reads}
 
 -- what is said of an answer that is Done
-pub has_published : (d d' : DiskState) (c b : VolumeCore) (failed failed' : Bool) (key : ℕ) (reply : Reply)
+pub has_published : {d d' : DiskState} {c b : VolumeCore} {failed failed' : Bool} {key : ℕ} {reply : Reply}
     → PublishesBy d d' c b failed failed' key reply → reply ≡ Done → HasPublished d d' c b key
-has_published d d' c b failed failed' key reply by done = (subst (IsPublishing d d' c b failed failed' key) done
-    by.answered).0
+has_published {d} {d'} {c} {b} {failed} {failed'} {key} {reply} by done =
+    (subst (IsPublishing d d' c b failed failed' key) done by.answered).0
 
 -- A version is held of a directory that there is, and a version that is put there is the file of its place.
 
@@ -126,7 +126,7 @@ holds_published state mid new c b c' failed key job job' number channel input re
       job_is = set;
     }
 
-module _ (d d' : DiskState) (c b c' : VolumeCore) (failed failed' : Bool) (o : Output) (reply : Reply)
+module _ {d d' : DiskState} {c b : VolumeCore} {failed failed' : Bool} {reply : Reply} (c' : VolumeCore) (o : Output)
     (by : PublishesBy d d' c b failed failed' o.pending.key reply) (live : IsSome (pending_at c.pending o.pending.key))
     (job job' : Job) (number : ℕ) (channel : Channel) (there : slot job.channels number ≡ Some channel)
     (side : channel.output ≡ Some o) where
@@ -214,88 +214,88 @@ module _ (d d' : DiskState) (c b c' : VolumeCore) (failed failed' : Bool) (o : O
       -- where what is published is held
       module _ (input : Input) (reads_it : channel.input ≡ Some input)
           (holds : reply ≡ Done → HoldsPublished d' c b c' key job job' number channel input) (bits : ℕ)
-          (drops : keeps_output bits ≡ false) (publishes_it : discards bits ≡ false) (keeps : keeps_input bits ≡ true)
-        where
-          module _ (jobs : List (Option Job)) (n : ℕ) (moment : Moment) (at : slot jobs n ≡ Some job)
-              (timely : moment.date ≤ 4095) (s : State) (state : IsState d c jobs s) (honest : d'.honest) (serial : ℕ)
-              (has : HasPublished d d' c b key)
-              (h : HoldsPublished d' c b c' key job job' number channel input) where
-            abbrev w : UnderKeys
-            w = state.under
+          (drops : keeps_output bits ≡ false) (publishes_it : discards bits ≡ false)
+          (keeps : keeps_input bits ≡ true) where
+        module _ (jobs : List (Option Job)) (n : ℕ) (moment : Moment) (at : slot jobs n ≡ Some job)
+            (timely : moment.date ≤ 4095) (s : State) (state : IsState d c jobs s) (honest : d'.honest) (serial : ℕ)
+            (has : HasPublished d d' c b key)
+            (h : HoldsPublished d' c b c' key job job' number channel input) where
+          abbrev w : UnderKeys
+          w = state.under
 
-            abbrev x : Version
-            x = version_with (w.written key) serial
+          abbrev x : Version
+          x = version_with (w.written key) serial
 
-            abbrev files' : Files Version
-            files' = with_file s.files (w.written key).place x
+          abbrev files' : Files Version
+          files' = with_file s.files (w.written key).place x
 
-            abbrev u : UnderKeys
-            u = with_version w h.renewed.pin.key x
+          abbrev u : UnderKeys
+          u = with_version w h.renewed.pin.key x
 
-            place_same : (w.written key).place ≡ place_of h.ppn h.file
-            place_same =
-                let p = some_is (pending_at c.pending key) live in
-                let owner = sym (h.place p.0 p.1).0 in
-                let name = sym (h.place p.0 p.1).1 in
-                (state.versions key p.0 p.1).place ∙ (λ i. place_of (owner i) (name i))
+          place_same : (w.written key).place ≡ place_of h.ppn h.file
+          place_same =
+              let p = some_is (pending_at c.pending key) live in
+              let owner = sym (h.place p.0 p.1).0 in
+              let name = sym (h.place p.0 p.1).1 in
+              (state.versions key p.0 p.1).place ∙ (λ i. place_of (owner i) (name i))
 
-            module _ (rests : RestsAt d' (without_serials files')) (distinct : AreDistinct (versions_in files'))
-                (reads : AreRead d' b files' w.read) where
-              answer : IsPinAnswer d'.contents h.renews.between.live h.file (Ok h.renewed.pin)
-                  (get (without_serials files') h.ppn)
-              answer = h.pinned honest (without_serials files') rests
+          module _ (rests : RestsAt d' (without_serials files')) (distinct : AreDistinct (versions_in files'))
+              (reads : AreRead d' b files' w.read) where
+            answer : IsPinAnswer d'.contents h.renews.between.live h.file (Ok h.renewed.pin)
+                (get (without_serials files') h.ppn)
+            answer = h.pinned honest (without_serials files') rests
 
-              it_is : file_at files' (place_of h.ppn h.file) ≡ Some x
-              it_is = ap (file_at files') (sym place_same)
-                  ∙ put_here s.files (w.written key).place x
-                  (subst (λ (q : Place). get (without_serials files') q.ppn ≡ None → ⊥) (sym place_same)
-                  (some_directory d'.contents h.renews.between.live h.file h.renewed.pin
-                  (get (without_serials files') h.ppn) answer))
+            it_is : file_at files' (place_of h.ppn h.file) ≡ Some x
+            it_is = ap (file_at files') (sym place_same)
+                ∙ put_here s.files (w.written key).place x
+                (subst (λ (q : Place). get (without_serials files') q.ppn ≡ None → ⊥) (sym place_same)
+                (some_directory d'.contents h.renews.between.live h.file h.renewed.pin
+                (get (without_serials files') h.ppn) answer))
 
-              pinned : ArePinned b.live (pins_of (readers jobs))
-              pinned k = state.reading.pinned k ∙ sym (stay d d' c b o by.whatever has live k)
+            pinned : ArePinned b.live (pins_of (readers jobs))
+            pinned k = state.reading.pinned k ∙ sym (readers_behind o by.whatever has live k)
 
-              jobs_same : jobs_of u jobs ≡ jobs_of w jobs
-              jobs_same = renewed_jobs b c' input h.renewed h.ppn h.file h.renews d' files' w.read reads h.whole x it_is
-                  w jobs refl pinned
+            jobs_same : jobs_of u jobs ≡ jobs_of w jobs
+            jobs_same = renewed_jobs b c' input h.renewed h.ppn h.file h.renews d' files' w.read reads h.whole x it_is
+                w jobs refl pinned
 
-              pin_only : h.renewed ≡ record input { pin = h.renewed.pin }
-              pin_only = h.renews.renewed_is
-                  ∙ ap (λ (p : Pin). record input { pin = p }) (sym (ap (λ (i : Input). i.pin) h.renews.renewed_is))
+            pin_only : h.renewed ≡ record input { pin = h.renewed.pin }
+            pin_only = h.renews.renewed_is
+                ∙ ap (λ (p : Pin). record input { pin = p }) (sym (ap (λ (i : Input). i.pin) h.renews.renewed_is))
 
-              renewed_goes : GoesOn d c key (Close number bits) jobs n moment s state d' b by.whatever live honest c' job'
-                  serial
-              renewed_goes = (
-                with_read w.read h.renewed.pin.key x,
-                renewed_reads b c' input h.renewed h.ppn h.file h.renews d' files' w.read reads h.whole x it_is distinct
-                    answer,
-                subst (λ t. step (pack_of d) serial t (Calls n (Close number bits) moment)
-                    ≡ (Done, state_of files' u (slice_set jobs n (Some job'))))
-                    (sym (state_is s u jobs (state.jobs_are ∙ sym jobs_same)))
-                    (close_step d jobs n moment timely s.files u job at number channel there o side bits drops
-                    publishes_it serial (output_closed channel h.renewed)
-                    (channel_renewed u channel o bits side drops publishes_it serial job input h.renewed reads_it keeps
-                    pin_only (with_read_same w.read h.renewed.pin.key x h.renewed.pin.key refl)) job' h.job_is),
-              )
+            renewed_goes : GoesOn d c key (Close number bits) jobs n moment s state d' b by.whatever live honest c' job'
+                serial
+            renewed_goes = (
+              with_read w.read h.renewed.pin.key x,
+              renewed_reads b c' input h.renewed h.ppn h.file h.renews d' files' w.read reads h.whole x it_is distinct
+                  answer,
+              subst (λ t. step (pack_of d) serial t (Calls n (Close number bits) moment)
+                  ≡ (Done, state_of files' u (slice_set jobs n (Some job'))))
+                  (sym (state_is s u jobs (state.jobs_are ∙ sym jobs_same)))
+                  (close_step d jobs n moment timely s.files u job at number channel there o side bits drops
+                  publishes_it serial (output_closed channel h.renewed)
+                  (channel_renewed u channel o bits side drops publishes_it serial job input h.renewed reads_it keeps
+                  pin_only (with_read_same w.read h.renewed.pin.key x h.renewed.pin.key refl)) job' h.job_is),
+            )
 
-          pub renewed_row : IsPublishRow d d' c c' failed' job job' (Close number bits) reply
-          renewed_row honest placed jobs n moment at timely s state =
-              published_answered d c key (Close number bits) jobs n moment s state d' b by.whatever live honest c' failed
-              failed' job job' at alive placed whole
-              (λ files u. close_weighs d jobs n moment timely files u job at number channel there o side bits drops
-              publishes_it)
-              (λ files u. close_reply d jobs n moment timely files u job at number channel there o side bits drops
-              publishes_it 0)
-              reply kept behind
-              (λ done has serial fresh rests distinct reads. renewed_goes jobs n moment at timely s state honest serial
-              has (holds done) rests distinct reads)
-              (λ short. unchanged short jobs s) by.answered
+        pub renewed_row : IsPublishRow d d' c c' failed' job job' (Close number bits) reply
+        renewed_row honest placed jobs n moment at timely s state =
+            published_answered d c key (Close number bits) jobs n moment s state d' b by.whatever live honest c' failed
+            failed' job job' at alive placed whole
+            (λ files u. close_weighs d jobs n moment timely files u job at number channel there o side bits drops
+            publishes_it)
+            (λ files u. close_reply d jobs n moment timely files u job at number channel there o side bits drops
+            publishes_it 0)
+            reply kept behind
+            (λ done has serial fresh rests distinct reads. renewed_goes jobs n moment at timely s state honest serial
+            has (holds done) rests distinct reads)
+            (λ short. unchanged short jobs s) by.answered
 
   -- what is held is all that is behind it
   pub holds_behind : (input : Input) → channel.input ≡ Some input
       → HoldsPublished d' c b c' key job job' number channel input → HasPublished d d' c b key
       → IsBehind c b c' job job'
   holds_behind input reads h has =
-      renewed_behind d d' c b o by.whatever has live c' job job' number channel there side
+      renewed_behind o by.whatever has live c' job job' number channel there side
       (renewed_pending b c' input h.renewed h.ppn h.file h.renews) input h.renewed h.ppn h.file
       (output_closed channel h.renewed) reads refl refl h.job_is h.renews

@@ -213,7 +213,8 @@ module _ {D : Type 0} (state : D → DiskState) (only_now : (disk : D) (contents
               still_serves false failed' reply refl fails none,
               unchanged jobs set n job job' among.there refl (kept (λ e. let wrong = sym none ∙ e in cc)),
             );
-        refused = λ code refused. absurd (publishing_refused d d' core between failed failed' key code reply is refused);
+        refused = λ code refused.
+            absurd (publishing_refused d d' core between failed failed' key code reply is refused);
         unserved = λ x at asked.
             absurd (served (subst (IsUnserved call) (sym (some_same (sym among.there ∙ at))) asked));
         failed = fails;

@@ -111,17 +111,18 @@ pub record IsBehind (c between c' : VolumeCore) (job job' : Job) : Type 0 where
   pub keeps : Keeps c.pending c'.pending job job'
   pub reads : KeepsReading c.live c'.live job job'
 
-module _ (d d' : DiskState) (c b : VolumeCore) (o : Output) (whatever : MayPublish d d' c b o.pending.key)
+module _ {d d' : DiskState} {c b : VolumeCore} (o : Output) (whatever : MayPublish d d' c b o.pending.key)
     (has : HasPublished d d' c b o.pending.key) (live : IsSome (pending_at c.pending o.pending.key)) where
-  pub stay : (k : ℕ) → readers_of (slot b.live k) ≡ readers_of (slot c.live k)
-  stay = let p = some_is (pending_at c.pending o.pending.key) live in
+  -- each version has as many readers as before
+  pub readers_behind : (k : ℕ) → readers_of (slot b.live k) ≡ readers_of (slot c.live k)
+  readers_behind = let p = some_is (pending_at c.pending o.pending.key) live in
       readers_stay d.size c b o.pending.key p.0 p.0.version.words (has.core p.0 p.1)
 
   -- What is asked of core where versions are let go, or a side comes to hold what is published.
 
   pub few_behind : ((key : ℕ) (v : LiveVersion) → slot c.live key ≡ Some v → v.readers + 1 < 2 ^ 32)
       → (key : ℕ) (v : LiveVersion) → slot b.live key ≡ Some v → v.readers + 1 < 2 ^ 32
-  few_behind few key v at = by (slot c.live key) (few key) (sym (stay key) ∙ ap readers_of at)
+  few_behind few key v at = by (slot c.live key) (few key) (sym (readers_behind key) ∙ ap readers_of at)
     where
       by : (was : Option LiveVersion) → ((u : LiveVersion) → was ≡ Some u → u.readers + 1 < 2 ^ 32)
           → readers_of was ≡ v.readers → v.readers + 1 < 2 ^ 32
@@ -134,7 +135,7 @@ module _ (d d' : DiskState) (c b : VolumeCore) (o : Output) (whatever : MayPubli
   held_behind job number channel there all i is key =
       let was = input_held job number channel there c c [] (closes_none c) all i
       (λ k. subst (λ j. held k (option_to_list i) ≤ held k (option_to_list j)) is (omega arith)) key in
-      let same = stay key in
+      let same = readers_behind key in
       omega arith
 
   pub named_behind : (ppn : ℕ) (file : FileName) → ((p : PendingVersion) → pending_at c.pending o.pending.key ≡ Some p
@@ -159,7 +160,7 @@ module _ (d d' : DiskState) (c b : VolumeCore) (o : Output) (whatever : MayPubli
     -- as many readers stay as there were
     reads_behind : KeepsReading b.live c'.live job job' → KeepsReading c.live c'.live job job'
     reads_behind behind = record {
-      once = λ k. let same = stay k in let moved = behind.once k in omega arith;
+      once = λ k. let same = readers_behind k in let moved = behind.once k in omega arith;
       each = behind.each;
     }
 

@@ -123,8 +123,8 @@ fn close<D: Disk>(volume: &mut Volume<D>, job: &mut Job, number: u32, bits: u32)
     Reply::Done
 }
 
-/// CLOSE of a channel with an output side, with neither bit 1 nor bit 40 (octal), that keeps no input side: publishes what
-/// the channel has written, and closes both sides. Where that isn't done they stay as they are.
+/// CLOSE of a channel with an output side, with neither bit 1 nor bit 40 (octal), that keeps no input side: publishes
+/// what the channel has written, and closes both sides. Where that isn't done they stay as they are.
 fn close_output<D: Disk>(
     alloc: Global,
     volume: &mut Volume<D>,

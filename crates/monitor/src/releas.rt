@@ -64,8 +64,8 @@ fn release<D: Disk>(volume: &mut Volume<D>, job: &mut Job, number: u32) -> Reply
     Reply::Done
 }
 
-/// RELEAS of a channel with an output side: publishes what it has written, lets go what it reads, and closes the channel.
-/// Where that isn't done the channel stays as it is.
+/// RELEAS of a channel with an output side: publishes what it has written, lets go what it reads, and closes the
+/// channel. Where that isn't done the channel stays as it is.
 fn release_output<D: Disk>(
     alloc: Global,
     volume: &mut Volume<D>,

@@ -16,10 +16,8 @@ renew-renewed-requires-clause-there g c =
     c.args.output.pending.key c.publish_output-reply.result (refl, refl) c.publish_output-reply.ensures.whatever
     c.publish_output-reply.ensures.answered in
     let done : c.publish_output-reply.result ≡ Done = search rules in
-    named_behind (state old.disk) (state mid.disk) old.core mid.core c.args.output by.whatever
-    (has_published (state old.disk) (state mid.disk) old.core mid.core old.failed mid.failed c.args.output.pending.key
-    c.publish_output-reply.result by done) c.requires.live c.prime_of-prime.result.ppn c.prime_of-prime.result.file
-    (λ p at. let is = c.prime_of-prime.ensures p at in
+    named_behind c.args.output by.whatever (has_published by done) c.requires.live c.prime_of-prime.result.ppn
+    c.prime_of-prime.result.file (λ p at. let is = c.prime_of-prime.ensures p at in
     (ap (λ (q : Prime). q.ppn) is, ap (λ (q : Prime). q.file) is))
 
 pub renew-renewed-requires-clause-few : goal.renew-renewed-requires-clause-few
@@ -31,9 +29,7 @@ renew-renewed-requires-clause-few g c =
     c.args.output.pending.key c.publish_output-reply.result (refl, refl) c.publish_output-reply.ensures.whatever
     c.publish_output-reply.ensures.answered in
     let done : c.publish_output-reply.result ≡ Done = search rules in
-    few_behind (state old.disk) (state mid.disk) old.core mid.core c.args.output by.whatever
-    (has_published (state old.disk) (state mid.disk) old.core mid.core old.failed mid.failed c.args.output.pending.key
-    c.publish_output-reply.result by done) c.requires.live c.requires.few
+    few_behind c.args.output by.whatever (has_published by done) c.requires.live c.requires.few
 
 pub renew-renewed-requires-clause-held : goal.renew-renewed-requires-clause-held
 renew-renewed-requires-clause-held g c =
@@ -44,9 +40,7 @@ renew-renewed-requires-clause-held g c =
     c.args.output.pending.key c.publish_output-reply.result (refl, refl) c.publish_output-reply.ensures.whatever
     c.publish_output-reply.ensures.answered in
     let done : c.publish_output-reply.result ≡ Done = search rules in
-    held_behind (state old.disk) (state mid.disk) old.core mid.core c.args.output by.whatever
-    (has_published (state old.disk) (state mid.disk) old.core mid.core old.failed mid.failed c.args.output.pending.key
-    c.publish_output-reply.result by done) c.requires.live c.args.job.now c.args.number
+    held_behind c.args.output by.whatever (has_published by done) c.requires.live c.args.job.now c.args.number
     c.args.channel c.requires.there c.requires.held (Some c.args.input) (sym c.requires.reads)
 
 pub returns-then-eq-clause-kept : goal.returns-then-eq-clause-kept
@@ -68,10 +62,12 @@ returns-then-eq-clause-stands g c =
     let mid = c.publish_output-reply.new.volume in
     let new = c.renew-renewed.new.volume in
     let by = publishes_by state old.disk mid.disk new.disk old.core mid.core old.failed mid.failed new.failed
-    c.args.output.pending.key c.publish_output-reply.result c.renew-renewed.ensures.untouched c.publish_output-reply.ensures.whatever
+    c.args.output.pending.key c.publish_output-reply.result c.renew-renewed.ensures.untouched
+    c.publish_output-reply.ensures.whatever
     c.publish_output-reply.ensures.answered in
     let status = c.cleared.ensures.value in
-    let holds = holds_published state mid.disk new.disk old.core mid.core new.core mid.failed c.args.output.pending.key
+    let holds = holds_published state mid.disk new.disk old.core mid.core new.core mid.failed
+    c.args.output.pending.key
     c.args.job.now c.set_channel.new.self c.args.number c.args.channel c.args.input c.renew-renewed.result
     c.prime_of-prime.result c.renew-renewed.ensures.untouched.0 c.has_failed-failed.ensures.sound
     c.renew-renewed.ensures.renews c.prime_of-prime.ensures
@@ -79,14 +75,12 @@ returns-then-eq-clause-stands g c =
       channels = slice_set c.args.job.now.channels c.args.number
           (Some (record c.args.channel { status = status i; input = Some c.renew-renewed.result; output = None }));
     })) in
-    sides_stand (state old.disk) (state new.disk) old.core mid.core new.core old.failed new.failed c.args.output
-    c.publish_output-reply.result by c.requires.live c.args.job.now c.set_channel.new.self c.args.number c.args.channel
-    c.requires.there c.requires.side
-    (returns-then-eq-clause-kept g c) (λ is. holds_behind (state old.disk) (state new.disk) old.core mid.core new.core old.failed new.failed c.args.output
-    c.publish_output-reply.result by c.requires.live c.args.job.now c.set_channel.new.self c.args.number c.args.channel
-    c.requires.there c.requires.side
-    c.args.input c.requires.reads holds (has_published (state old.disk) (state new.disk) old.core mid.core old.failed new.failed c.args.output.pending.key
-    c.publish_output-reply.result by is)) (λ short. (returns-then-eq-clause-memory g c short).1)
+    let behind = λ (is : c.publish_output-reply.result ≡ Done). holds_behind new.core c.args.output by c.requires.live
+    c.args.job.now c.set_channel.new.self c.args.number c.args.channel c.requires.there c.requires.side c.args.input
+    c.requires.reads holds (has_published by is) in
+    sides_stand new.core c.args.output by c.requires.live c.args.job.now c.set_channel.new.self c.args.number
+    c.args.channel c.requires.there c.requires.side
+    (returns-then-eq-clause-kept g c) behind (λ short. (returns-then-eq-clause-memory g c short).1)
 
 pub returns-then-eq-clause-row : goal.returns-then-eq-clause-row
 returns-then-eq-clause-row g c alive bits drops publishes_it keeps =
@@ -95,10 +89,12 @@ returns-then-eq-clause-row g c alive bits drops publishes_it keeps =
     let mid = c.publish_output-reply.new.volume in
     let new = c.renew-renewed.new.volume in
     let by = publishes_by state old.disk mid.disk new.disk old.core mid.core old.failed mid.failed new.failed
-    c.args.output.pending.key c.publish_output-reply.result c.renew-renewed.ensures.untouched c.publish_output-reply.ensures.whatever
+    c.args.output.pending.key c.publish_output-reply.result c.renew-renewed.ensures.untouched
+    c.publish_output-reply.ensures.whatever
     c.publish_output-reply.ensures.answered in
     let status = c.cleared.ensures.value in
-    let holds = holds_published state mid.disk new.disk old.core mid.core new.core mid.failed c.args.output.pending.key
+    let holds = holds_published state mid.disk new.disk old.core mid.core new.core mid.failed
+    c.args.output.pending.key
     c.args.job.now c.set_channel.new.self c.args.number c.args.channel c.args.input c.renew-renewed.result
     c.prime_of-prime.result c.renew-renewed.ensures.untouched.0 c.has_failed-failed.ensures.sound
     c.renew-renewed.ensures.renews c.prime_of-prime.ensures
@@ -106,16 +102,16 @@ returns-then-eq-clause-row g c alive bits drops publishes_it keeps =
       channels = slice_set c.args.job.now.channels c.args.number
           (Some (record c.args.channel { status = status i; input = Some c.renew-renewed.result; output = None }));
     })) in
-    renewed_row (state old.disk) (state new.disk) old.core mid.core new.core old.failed new.failed c.args.output
-    c.publish_output-reply.result by c.requires.live c.args.job.now c.set_channel.new.self c.args.number c.args.channel
-    c.requires.there c.requires.side
-    (returns-then-eq-clause-kept g c) (λ is. holds_behind (state old.disk) (state new.disk) old.core mid.core new.core old.failed new.failed c.args.output
-    c.publish_output-reply.result by c.requires.live c.args.job.now c.set_channel.new.self c.args.number c.args.channel
-    c.requires.there c.requires.side
-    c.args.input c.requires.reads holds (has_published (state old.disk) (state new.disk) old.core mid.core old.failed new.failed c.args.output.pending.key
-    c.publish_output-reply.result by is))
-    (λ short jobs s. same_state state old.disk new.disk old.core new.core jobs s (returns-then-eq-clause-memory g c short))
-    alive c.requires.sound.whole c.args.input c.requires.reads (λ is. holds) bits drops publishes_it keeps
+    let behind = λ (is : c.publish_output-reply.result ≡ Done). holds_behind new.core c.args.output by c.requires.live
+    c.args.job.now c.set_channel.new.self c.args.number c.args.channel c.requires.there c.requires.side c.args.input
+    c.requires.reads holds (has_published by is) in
+    renewed_row new.core c.args.output by c.requires.live c.args.job.now c.set_channel.new.self c.args.number
+    c.args.channel c.requires.there c.requires.side
+    (returns-then-eq-clause-kept g c) behind
+    (λ short jobs s. same_state state old.disk new.disk old.core new.core jobs s
+    (returns-then-eq-clause-memory g c short)) alive c.requires.sound.whole c.args.input c.requires.reads (λ is.
+    holds)
+    bits drops publishes_it keeps
 
 pub returns-then-eq-clause-crash : goal.returns-then-eq-clause-crash
 returns-then-eq-clause-crash g c =
@@ -124,11 +120,11 @@ returns-then-eq-clause-crash g c =
     let mid = c.publish_output-reply.new.volume in
     let new = c.renew-renewed.new.volume in
     let by = publishes_by state old.disk mid.disk new.disk old.core mid.core old.failed mid.failed new.failed
-    c.args.output.pending.key c.publish_output-reply.result c.renew-renewed.ensures.untouched c.publish_output-reply.ensures.whatever
+    c.args.output.pending.key c.publish_output-reply.result c.renew-renewed.ensures.untouched
+    c.publish_output-reply.ensures.whatever
     c.publish_output-reply.ensures.answered in
-    close_crashes (state old.disk) (state new.disk) old.core mid.core new.core old.failed new.failed c.args.output
-    c.publish_output-reply.result by c.requires.live c.args.job.now c.set_channel.new.self c.args.number c.args.channel
-    c.requires.there c.requires.side
+    close_crashes new.core c.args.output by c.requires.live c.args.job.now c.set_channel.new.self c.args.number
+    c.args.channel c.requires.there c.requires.side
 
 pub returns-else-eq-clause-stands : goal.returns-else-eq-clause-stands
 returns-else-eq-clause-stands g c =
@@ -139,9 +135,8 @@ returns-else-eq-clause-stands g c =
     c.args.output.pending.key c.publish_output-reply.result (refl, refl) c.publish_output-reply.ensures.whatever
     c.publish_output-reply.ensures.answered in
     let not : c.publish_output-reply.result ≡ Done → ⊥ = search rules in
-    sides_stand (state old.disk) (state mid.disk) old.core mid.core mid.core old.failed mid.failed c.args.output
-    c.publish_output-reply.result by c.requires.live c.args.job.now c.args.job.now c.args.number c.args.channel
-    c.requires.there c.requires.side
+    sides_stand mid.core c.args.output by c.requires.live c.args.job.now c.args.job.now c.args.number
+    c.args.channel c.requires.there c.requires.side
     (returns-else-eq-clause-kept g c) (λ is. absurd (not is)) (λ short. (returns-else-eq-clause-memory g c short).1)
 
 pub returns-else-eq-clause-row : goal.returns-else-eq-clause-row
@@ -153,12 +148,13 @@ returns-else-eq-clause-row g c alive bits drops publishes_it keeps =
     c.args.output.pending.key c.publish_output-reply.result (refl, refl) c.publish_output-reply.ensures.whatever
     c.publish_output-reply.ensures.answered in
     let not : c.publish_output-reply.result ≡ Done → ⊥ = search rules in
-    renewed_row (state old.disk) (state mid.disk) old.core mid.core mid.core old.failed mid.failed c.args.output
-    c.publish_output-reply.result by c.requires.live c.args.job.now c.args.job.now c.args.number c.args.channel
-    c.requires.there c.requires.side
+    renewed_row mid.core c.args.output by c.requires.live c.args.job.now c.args.job.now c.args.number
+    c.args.channel c.requires.there c.requires.side
     (returns-else-eq-clause-kept g c) (λ is. absurd (not is))
-    (λ short jobs s. same_state state old.disk mid.disk old.core mid.core jobs s (returns-else-eq-clause-memory g c short))
-    alive c.requires.sound.whole c.args.input c.requires.reads (λ is. absurd (not is)) bits drops publishes_it keeps
+    (λ short jobs s. same_state state old.disk mid.disk old.core mid.core jobs s
+    (returns-else-eq-clause-memory g c short)) alive c.requires.sound.whole c.args.input c.requires.reads (λ is.
+    absurd (not is))
+    bits drops publishes_it keeps
 
 pub returns-else-eq-clause-crash : goal.returns-else-eq-clause-crash
 returns-else-eq-clause-crash g c =
@@ -168,6 +164,5 @@ returns-else-eq-clause-crash g c =
     let by = publishes_by state old.disk mid.disk mid.disk old.core mid.core old.failed mid.failed mid.failed
     c.args.output.pending.key c.publish_output-reply.result (refl, refl) c.publish_output-reply.ensures.whatever
     c.publish_output-reply.ensures.answered in
-    close_crashes (state old.disk) (state mid.disk) old.core mid.core mid.core old.failed mid.failed c.args.output
-    c.publish_output-reply.result by c.requires.live c.args.job.now c.args.job.now c.args.number c.args.channel
-    c.requires.there c.requires.side
+    close_crashes mid.core c.args.output by c.requires.live c.args.job.now c.args.job.now c.args.number
+    c.args.channel c.requires.there c.requires.side

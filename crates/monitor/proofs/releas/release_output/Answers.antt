@@ -15,30 +15,28 @@ release_input-requires g c =
     c.publish_output-reply.ensures.answered in
     let done : c.publish_output-reply.result ≡ Done = search rules in
     record {
-      held = held_behind (state old.disk) (state mid.disk) old.core mid.core c.args.output by.whatever
-          (has_published (state old.disk) (state mid.disk) old.core mid.core old.failed mid.failed c.args.output.pending.key
-          c.publish_output-reply.result by done)
-          c.requires.live c.args.job.now c.args.number
+      held =
+          held_behind c.args.output by.whatever (has_published by done) c.requires.live c.args.job.now c.args.number
           c.args.channel c.requires.there c.requires.held c.args.channel.input refl;
     }
 
 pub returns-then-eq-clause-closed : goal.returns-then-eq-clause-closed
 returns-then-eq-clause-closed g c = search rules
 
-pub returns-else-eq-clause-memory : goal.returns-else-eq-clause-memory
-returns-else-eq-clause-memory g c = search rules
+pub returns-then-eq-clause-kept : goal.returns-then-eq-clause-kept
+returns-then-eq-clause-kept g c = search rules
 
 pub returns-then-eq-clause-memory : goal.returns-then-eq-clause-memory
 returns-then-eq-clause-memory g c = search rules
-
-pub returns-then-eq-clause-kept : goal.returns-then-eq-clause-kept
-returns-then-eq-clause-kept g c = search rules
 
 pub returns-else-eq-clause-closed : goal.returns-else-eq-clause-closed
 returns-else-eq-clause-closed g c = search rules
 
 pub returns-else-eq-clause-kept : goal.returns-else-eq-clause-kept
 returns-else-eq-clause-kept g c = search rules
+
+pub returns-else-eq-clause-memory : goal.returns-else-eq-clause-memory
+returns-else-eq-clause-memory g c = search rules
 
 pub returns-then-eq-clause-stands : goal.returns-then-eq-clause-stands
 returns-then-eq-clause-stands g c =
@@ -47,16 +45,15 @@ returns-then-eq-clause-stands g c =
     let mid = c.publish_output-reply.new.volume in
     let new = c.release_input.new.volume in
     let by = publishes_by state old.disk mid.disk new.disk old.core mid.core old.failed mid.failed new.failed
-    c.args.output.pending.key c.publish_output-reply.result c.release_input.ensures.untouched c.publish_output-reply.ensures.whatever
+    c.args.output.pending.key c.publish_output-reply.result c.release_input.ensures.untouched
+    c.publish_output-reply.ensures.whatever
     c.publish_output-reply.ensures.answered in
-    let behind = λ (is : c.publish_output-reply.result ≡ Done). released_behind (state old.disk) (state new.disk) old.core mid.core c.args.output by.whatever
-    (has_published (state old.disk) (state new.disk) old.core mid.core old.failed new.failed c.args.output.pending.key
-    c.publish_output-reply.result by is) c.requires.live new.core c.args.job.now c.set_channel.new.self c.args.number
+    let behind = λ (is : c.publish_output-reply.result ≡ Done). released_behind c.args.output by.whatever
+    (has_published by is) c.requires.live new.core c.args.job.now c.set_channel.new.self c.args.number
     c.args.channel c.requires.there c.requires.side c.release_input.ensures.pending None refl refl
     (returns-then-eq-clause-closed g c is) c.release_input.ensures.closed in
-    sides_stand (state old.disk) (state new.disk) old.core mid.core new.core old.failed new.failed c.args.output
-    c.publish_output-reply.result by c.requires.live c.args.job.now c.set_channel.new.self c.args.number c.args.channel
-    c.requires.there c.requires.side
+    sides_stand new.core c.args.output by c.requires.live c.args.job.now c.set_channel.new.self c.args.number
+    c.args.channel c.requires.there c.requires.side
     (returns-then-eq-clause-kept g c) behind (λ short. (returns-then-eq-clause-memory g c short).1)
 
 pub returns-then-eq-clause-row : goal.returns-then-eq-clause-row
@@ -66,19 +63,20 @@ returns-then-eq-clause-row g c alive =
     let mid = c.publish_output-reply.new.volume in
     let new = c.release_input.new.volume in
     let by = publishes_by state old.disk mid.disk new.disk old.core mid.core old.failed mid.failed new.failed
-    c.args.output.pending.key c.publish_output-reply.result c.release_input.ensures.untouched c.publish_output-reply.ensures.whatever
+    c.args.output.pending.key c.publish_output-reply.result c.release_input.ensures.untouched
+    c.publish_output-reply.ensures.whatever
     c.publish_output-reply.ensures.answered in
-    let behind = λ (is : c.publish_output-reply.result ≡ Done). released_behind (state old.disk) (state new.disk) old.core mid.core c.args.output by.whatever
-    (has_published (state old.disk) (state new.disk) old.core mid.core old.failed new.failed c.args.output.pending.key
-    c.publish_output-reply.result by is) c.requires.live new.core c.args.job.now c.set_channel.new.self c.args.number
+    let behind = λ (is : c.publish_output-reply.result ≡ Done). released_behind c.args.output by.whatever
+    (has_published by is) c.requires.live new.core c.args.job.now c.set_channel.new.self c.args.number
     c.args.channel c.requires.there c.requires.side c.release_input.ensures.pending None refl refl
     (returns-then-eq-clause-closed g c is) c.release_input.ensures.closed in
-    released_row (state old.disk) (state new.disk) old.core mid.core new.core old.failed new.failed c.args.output
-    c.publish_output-reply.result by c.requires.live c.args.job.now c.set_channel.new.self c.args.number c.args.channel
-    c.requires.there c.requires.side
+    released_row new.core c.args.output by c.requires.live c.args.job.now c.set_channel.new.self c.args.number
+    c.args.channel c.requires.there c.requires.side
     (returns-then-eq-clause-kept g c) behind
-    (λ short jobs s. same_state state old.disk new.disk old.core new.core jobs s (returns-then-eq-clause-memory g c short))
-    alive c.requires.sound.whole (λ is. c.release_input.ensures.closed.leaves) (returns-then-eq-clause-closed g c)
+    (λ short jobs s. same_state state old.disk new.disk old.core new.core jobs s
+    (returns-then-eq-clause-memory g c short)) alive c.requires.sound.whole (λ is.
+    c.release_input.ensures.closed.leaves)
+    (returns-then-eq-clause-closed g c)
 
 pub returns-then-eq-clause-crash : goal.returns-then-eq-clause-crash
 returns-then-eq-clause-crash g c =
@@ -87,11 +85,11 @@ returns-then-eq-clause-crash g c =
     let mid = c.publish_output-reply.new.volume in
     let new = c.release_input.new.volume in
     let by = publishes_by state old.disk mid.disk new.disk old.core mid.core old.failed mid.failed new.failed
-    c.args.output.pending.key c.publish_output-reply.result c.release_input.ensures.untouched c.publish_output-reply.ensures.whatever
+    c.args.output.pending.key c.publish_output-reply.result c.release_input.ensures.untouched
+    c.publish_output-reply.ensures.whatever
     c.publish_output-reply.ensures.answered in
-    release_crashes (state old.disk) (state new.disk) old.core mid.core new.core old.failed new.failed c.args.output
-    c.publish_output-reply.result by c.requires.live c.args.job.now c.set_channel.new.self c.args.number c.args.channel
-    c.requires.there c.requires.side
+    release_crashes new.core c.args.output by c.requires.live c.args.job.now c.set_channel.new.self c.args.number
+    c.args.channel c.requires.there c.requires.side
 
 pub returns-else-eq-clause-stands : goal.returns-else-eq-clause-stands
 returns-else-eq-clause-stands g c =
@@ -102,9 +100,8 @@ returns-else-eq-clause-stands g c =
     c.args.output.pending.key c.publish_output-reply.result (refl, refl) c.publish_output-reply.ensures.whatever
     c.publish_output-reply.ensures.answered in
     let not : c.publish_output-reply.result ≡ Done → ⊥ = search rules in
-    sides_stand (state old.disk) (state mid.disk) old.core mid.core mid.core old.failed mid.failed c.args.output
-    c.publish_output-reply.result by c.requires.live c.args.job.now c.args.job.now c.args.number c.args.channel
-    c.requires.there c.requires.side
+    sides_stand mid.core c.args.output by c.requires.live c.args.job.now c.args.job.now c.args.number
+    c.args.channel c.requires.there c.requires.side
     (returns-else-eq-clause-kept g c) (λ is. absurd (not is)) (λ short. (returns-else-eq-clause-memory g c short).1)
 
 pub returns-else-eq-clause-row : goal.returns-else-eq-clause-row
@@ -116,12 +113,12 @@ returns-else-eq-clause-row g c alive =
     c.args.output.pending.key c.publish_output-reply.result (refl, refl) c.publish_output-reply.ensures.whatever
     c.publish_output-reply.ensures.answered in
     let not : c.publish_output-reply.result ≡ Done → ⊥ = search rules in
-    released_row (state old.disk) (state mid.disk) old.core mid.core mid.core old.failed mid.failed c.args.output
-    c.publish_output-reply.result by c.requires.live c.args.job.now c.args.job.now c.args.number c.args.channel
-    c.requires.there c.requires.side
+    released_row mid.core c.args.output by c.requires.live c.args.job.now c.args.job.now c.args.number
+    c.args.channel c.requires.there c.requires.side
     (returns-else-eq-clause-kept g c) (λ is. absurd (not is))
-    (λ short jobs s. same_state state old.disk mid.disk old.core mid.core jobs s (returns-else-eq-clause-memory g c short))
-    alive c.requires.sound.whole (λ is. absurd (not is)) (returns-else-eq-clause-closed g c)
+    (λ short jobs s. same_state state old.disk mid.disk old.core mid.core jobs s
+    (returns-else-eq-clause-memory g c short)) alive c.requires.sound.whole (λ is. absurd (not is))
+    (returns-else-eq-clause-closed g c)
 
 pub returns-else-eq-clause-crash : goal.returns-else-eq-clause-crash
 returns-else-eq-clause-crash g c =
@@ -131,6 +128,5 @@ returns-else-eq-clause-crash g c =
     let by = publishes_by state old.disk mid.disk mid.disk old.core mid.core old.failed mid.failed mid.failed
     c.args.output.pending.key c.publish_output-reply.result (refl, refl) c.publish_output-reply.ensures.whatever
     c.publish_output-reply.ensures.answered in
-    release_crashes (state old.disk) (state mid.disk) old.core mid.core mid.core old.failed mid.failed c.args.output
-    c.publish_output-reply.result by c.requires.live c.args.job.now c.args.job.now c.args.number c.args.channel
-    c.requires.there c.requires.side
+    release_crashes mid.core c.args.output by c.requires.live c.args.job.now c.args.job.now c.args.number
+    c.args.channel c.requires.there c.requires.side
