@@ -11,10 +11,9 @@ use Rattle.meaning.specs.Files.{File, Files, Directory, Place, map_directory}
 use Rattle.meaning.specs.Jobs.{State, slot}
 use Rattle.meaning.specs.Maps.{get, insert}
 use Rattle.meaning.specs.Published.{Version, without_serials, file_in, file_at, with_file, with_file_in}
-use Rattle.meaning.specs.Runs.{IsFresh, AreDistinct}
+use Rattle.meaning.specs.Runs.{AreDistinct}
 use Rattle.meaning.specs.Stands.{place_of}
 use Rattle.meaning.specs.Step.{step}
-use Rattle.meaning.specs.declared.call.Call.{Call}
 use Rattle.meaning.specs.declared.call.Call.TheVariants.{Close, Releas}
 use Rattle.meaning.specs.declared.call.Event.TheVariants.{Call as Calls}
 use Rattle.meaning.specs.declared.call.Reply.{Reply}
@@ -24,7 +23,6 @@ use Rattle.meaning.proofs.Names.{name_total}
 use Rattle.meaning.proofs.PlaceLaws.{some_is}
 use Rattle.retrieval.specs.declared.prime.Prime.{Prime}
 use Rattle.volume.specs.Live.{VolumeCore, pending_at, IsWholeCore}
-use Rattle.volume.specs.Live.{slot as version_at}
 use Rattle.volume.specs.Pins.{IsPinAnswer}
 use Rattle.volume.specs.Rest.{RestsAt, IsSound}
 use Rattle.volume.specs.declared.handles.Pin.{Pin}

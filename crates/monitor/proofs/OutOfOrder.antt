@@ -1,5 +1,5 @@
 -- Calls that are out of order wherever they are served: INBUF, OUTBUF, RENAME and DeleteDir answer as the machine does.
-use Rattle.std.proofs.Common.{◌≡◌, ℕ, Bool, true, false, List, Option, None, Some, refl, ap, ◌∙◌}
+use Rattle.std.proofs.Common.{◌≡◌, ℕ, Bool, true, false, Option, None, Some, refl, ap, ◌∙◌}
 use Rattle.std.specs.Prelude.{◌==◌, not, if◌then◌else◌, is_none, option_map}
 use Rattle.meaning.specs.Cores.{lies_outside}
 use Rattle.meaning.specs.Files.{Files}
@@ -18,7 +18,7 @@ use Rattle.meaning.specs.declared.call.Reply.{Reply}
 use Rattle.meaning.specs.declared.call.Reply.TheVariants.{Done, Refused, NoChannel, AddressCheck}
 use Rattle.monitor.specs.Refusals.{with_code}
 use Rattle.monitor.specs.Rows.{IsRow}
-use Rattle.monitor.specs.Sides.{UnderKeys, input_of, channel_of, job_of, reader_of}
+use Rattle.monitor.specs.Sides.{UnderKeys, input_of, channel_of, job_of}
 use Rattle.monitor.specs.declared.channel.Channel.{Channel}
 use Rattle.monitor.specs.declared.job.Job.{Job}
 use Rattle.monitor.proofs.Calling.{channel_is}

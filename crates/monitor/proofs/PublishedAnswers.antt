@@ -1,5 +1,5 @@
 -- What a CLOSE or RELEAS that publishes answers, over services.
-use Rattle.std.proofs.Common.{◌≡◌, ℕ, Bool, true, false, List, Option, Some, None, refl, sym, ap, subst, ◌∙◌, ◌⊎◌, inl}
+use Rattle.std.proofs.Common.{◌≡◌, ℕ, Bool, true, false, List, Option, Some, refl, sym, ap, subst, ◌∙◌, ◌⊎◌, inl}
 use Rattle.std.proofs.Common.{inr, ⊎_elim, slice_set}
 use Rattle.std.specs.Prelude.{not, IsSome}
 use Rattle.words36.specs.declared.moment.Moment.{Moment}

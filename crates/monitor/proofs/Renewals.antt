@@ -1,11 +1,11 @@
 -- An input side comes to hold another version of its file.
-use Rattle.std.proofs.Common.{◌≡◌, ◌<◌, ℕ, ◌+◌, true, List, [], ◌∷◌, Option, None, Some, Ok, refl, sym, ap, subst, ◌∙◌}
+use Rattle.std.proofs.Common.{◌≡◌, ◌<◌, ℕ, ◌+◌, true, List, [], ◌∷◌, Option, None, Some, Ok, sym, ap, subst, ◌∙◌}
 use Rattle.std.proofs.Common.{⊎_elim, slice_set, arith}
 use Rattle.std.specs.Prelude.{option_map, option_to_list}
 use Rattle.std.proofs.lemmas.Bool.{cases_lt}
 use Rattle.words36.specs.declared.names.FileName.{FileName}
 use Rattle.blockdisk.specs.Disk.{DiskState}
-use Rattle.meaning.specs.Files.{File, Files, Directory, Place, map_directory}
+use Rattle.meaning.specs.Files.{Files, Directory, map_directory}
 use Rattle.meaning.specs.Jobs.{slot}
 use Rattle.meaning.specs.Maps.{get, times}
 use Rattle.meaning.specs.Published.{Version, without_serials, file_in, file_at}
@@ -14,12 +14,10 @@ use Rattle.meaning.specs.Stands.{place_of}
 use Rattle.meaning.proofs.MapLaws.{some_same, some_none}
 use Rattle.meaning.proofs.MapLists.{get-map_values}
 use Rattle.meaning.proofs.Names.{name_total}
-use Rattle.volume.specs.Known.{Known}
 use Rattle.volume.specs.Live.{as_known, VolumeCore, IsWholeCore}
 use Rattle.volume.specs.Live.{slot as version_at}
 use Rattle.volume.specs.Pins.{IsVersionOf, IsPinAnswer}
 use Rattle.volume.specs.Places.{prime_at}
-use Rattle.volume.specs.declared.handles.Pin.{Pin}
 use Rattle.volume.specs.declared.live.LiveVersion.{LiveVersion}
 use Rattle.monitor.specs.Inputs.{named_in}
 use Rattle.monitor.specs.Readers.{readers_of, ArePinned, AreRead}

@@ -26,9 +26,8 @@ use Rattle.meaning.specs.declared.call.Reply.TheVariants.{Done}
 use Rattle.meaning.proofs.MapLaws.{some_same}
 use Rattle.meaning.proofs.MapSums.{times_head, times_other}
 use Rattle.meaning.proofs.SlotLaws.{none_some}
-use Rattle.retrieval.specs.Modes.{mode_number}
 use Rattle.retrieval.specs.declared.prime.Prime.{Prime}
-use Rattle.volume.specs.Beginning.{begun, is_update, kept_blocks}
+use Rattle.volume.specs.Beginning.{begun, is_update}
 use Rattle.volume.specs.Known.{Before}
 use Rattle.volume.specs.Live.{VolumeCore, pending_at, is_creation, IsWholeCore, IsWholePending, AreWaiting}
 use Rattle.volume.specs.Live.{is_create as creates_name}

@@ -1,7 +1,6 @@
 -- What a volume has of a place, and what an ENTER may do there.
-use Rattle.std.specs.Prelude.{◌≡◌, ℕ, ◌+◌, ◌%◌, ◌==◌, ◌&&◌, not, Bool, false, if◌then◌else◌, List, [], Option, None}
+use Rattle.std.specs.Prelude.{◌≡◌, ℕ, ◌+◌, ◌%◌, ◌==◌, ◌&&◌, not, Bool, false, if◌then◌else◌, [], Option, None}
 use Rattle.std.specs.Prelude.{Some, Result, Ok, Err, slice_index}
-use Rattle.std.specs.List.{list_any}
 use Rattle.words36.specs.declared.names.FileName.{FileName}
 use Rattle.words36.specs.declared.moment.Moment.{Moment}
 use Rattle.words36.specs.Words.{left}
@@ -15,7 +14,7 @@ use Rattle.meaning.specs.Jobs as machine
 use Rattle.meaning.specs.Jobs.{State}
 use Rattle.meaning.specs.Looking.{own_if_zero, has_no_directory}
 use Rattle.meaning.specs.Maps.{get, total}
-use Rattle.meaning.specs.Published.{without_serials, same_place}
+use Rattle.meaning.specs.Published.{without_serials}
 use Rattle.meaning.specs.Rights.{file_digit, directory_digit, may_look, may_create, may_supersede}
 use Rattle.meaning.specs.Room.{Pack, is_claimed, pending_creations, booked}
 use Rattle.meaning.specs.Runs.{is_plain}
@@ -32,7 +31,6 @@ use Rattle.volume.specs.declared.error.CallError.{CallError}
 use Rattle.volume.specs.declared.error.CallError.TheVariants as errors
 use Rattle.volume.specs.declared.pending.Kind.{Kind as VersionKind}
 use Rattle.volume.specs.declared.pending.Kind.TheVariants as kinds
-use Rattle.volume.specs.declared.pending.PendingVersion.{PendingVersion}
 use Rattle.monitor.specs.Sides.{kind_of}
 use Rattle.monitor.specs.declared.found.Found.{Found}
 use Rattle.monitor.specs.declared.found.Found.TheVariants as found

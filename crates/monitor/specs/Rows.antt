@@ -1,19 +1,17 @@
 -- What a call does to the job that makes it, as the machine's row has it.
-use Rattle.std.specs.Prelude.{◌≡◌, ◌⊎◌, ℕ, ◌+◌, ◌==◌, ◌||◌, ◌&&◌, not, is_some, IsSome, false, nat_le, Bool}
-use Rattle.std.specs.Prelude.{if◌then◌else◌, List, Option, None, Some}
+use Rattle.std.specs.Prelude.{◌≡◌, ◌⊎◌, ℕ, ◌+◌, ◌==◌, ◌||◌, ◌&&◌, not, is_some, false, Bool}
+use Rattle.std.specs.Prelude.{List, Option, None, Some}
 use Rattle.std.specs.List.{AllByRecursion}
 use Rattle.words36.specs.declared.moment.Moment.{Moment}
-use Rattle.meaning.specs.Cores.{lies_outside, with_right}
 use Rattle.meaning.specs.Closing.{keeps_output, discards}
 use Rattle.meaning.specs.Jobs as machine
 use Rattle.meaning.specs.Jobs.{State, job_at, with_job, improper_mode}
 use Rattle.meaning.specs.Maps.{times}
-use Rattle.meaning.specs.Opening.{disk, mode_at, device_at, output_header_at, input_header_at, is_mode, open_answer}
+use Rattle.meaning.specs.Opening.{disk, mode_at, device_at, output_header_at, input_header_at, is_mode}
 use Rattle.meaning.specs.Room.{Pack}
 use Rattle.meaning.specs.Step.{call_of}
 use Rattle.meaning.specs.declared.call.Call.{Call}
 use Rattle.meaning.specs.declared.call.Reply.{Reply}
-use Rattle.meaning.specs.declared.call.Reply.TheVariants.{Done, Refused, Stopped, NoChannel, AddressCheck}
 use Rattle.volume.specs.Live.{pending_at, slot, is_creation}
 use Rattle.volume.specs.declared.live.LiveVersion.{LiveVersion}
 use Rattle.volume.specs.declared.pending.PendingVersion.{PendingVersion}

@@ -1,7 +1,6 @@
 -- What an ENTER does on a channel that reads a file: it updates that file as it is now, or appends to it.
-use Rattle.std.specs.Prelude.{◌≡◌, ℕ, ◌+◌, ◌&&◌, ◌==◌, not, if◌then◌else◌, true, Bool, Option, None, Some, Result, Ok, Err}
+use Rattle.std.specs.Prelude.{◌≡◌, ℕ, ◌+◌, ◌&&◌, ◌==◌, if◌then◌else◌, true, Bool, None, Some, Result, Ok, Err}
 use Rattle.std.specs.Prelude.{slice_set}
-use Rattle.words36.specs.declared.names.FileName.{FileName}
 use Rattle.blockdisk.specs.Disk.{Contents}
 use Rattle.meaning.specs.Files.{File, Files, Place}
 use Rattle.meaning.specs.Jobs as machine

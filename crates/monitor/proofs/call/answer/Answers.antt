@@ -1,7 +1,7 @@
-use Rattle.std.proofs.Common.{◌≡◌, sym, subst, refl}
+use Rattle.std.proofs.Common.{sym, subst, refl}
 use Rattle.meaning.specs.declared.call.Call.{Call}
-use Rattle.meaning.specs.declared.call.Call.TheVariants.{Open, Inbuf, Outbuf, Lookup, Enter, Rename, In, Out, Useti}
-use Rattle.meaning.specs.declared.call.Call.TheVariants.{Useto, Close, Releas, Getsts, Reset, MakeDir, DeleteDir}
+use Rattle.meaning.specs.declared.call.Call.TheVariants.{Open, Inbuf, Outbuf, Rename, Useti}
+use Rattle.meaning.specs.declared.call.Call.TheVariants.{Useto, Getsts, DeleteDir}
 use Rattle.monitor.specs.Promises.{ServesJob}
 use Rattle.monitor.proofs.Calling.{keeps_same, reads_same}
 use Rattle.monitor.proofs.Promised.{alone_serves}

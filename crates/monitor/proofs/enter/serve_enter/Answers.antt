@@ -1,4 +1,4 @@
-use Rattle.std.proofs.Common.{◌≡◌, false, Some, refl, sym, subst, ◌∙◌, slice_set}
+use Rattle.std.proofs.Common.{false, Some, refl, sym, subst, ◌∙◌, slice_set}
 use Rattle.meaning.specs.declared.call.Call.TheVariants.{Enter}
 use Rattle.volume.specs.Rest.{IsSound}
 use Rattle.monitor.proofs.EnterAnswers.{enters_keyed, enters_reading, enter_answered}

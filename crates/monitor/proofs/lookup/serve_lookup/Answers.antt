@@ -1,4 +1,4 @@
-use Rattle.std.proofs.Common.{◌≡◌, false, Some, refl, subst, slice_set}
+use Rattle.std.proofs.Common.{false, Some, refl, subst, slice_set}
 use Rattle.meaning.specs.declared.call.Call.TheVariants.{Lookup}
 use Rattle.volume.specs.Rest.{IsSound}
 use Rattle.monitor.proofs.Knowing.{known}

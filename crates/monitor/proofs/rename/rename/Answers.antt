@@ -2,12 +2,10 @@ use Rattle.std.proofs.Common.{refl, sym, ap, subst, ◌∙◌}
 use Rattle.meaning.specs.declared.call.Call.TheVariants.{Rename}
 use Rattle.meaning.specs.declared.call.Reply.TheVariants.{Refused}
 use Rattle.monitor.specs.Rows.{IsRow}
-use Rattle.monitor.specs.Refusals.{with_code}
 use Rattle.monitor.specs.Sides.{reader_of}
-use Rattle.monitor.proofs.Calling.{keeps_same, reads_same}
+use Rattle.monitor.proofs.Calling.{keeps_same}
 use Rattle.monitor.proofs.MakeDirs.{keeps_core}
 use Rattle.monitor.proofs.OutOfOrder.{rename_none, rename_outside, rename_refused}
-use Rattle.monitor.proofs.Outs.{reads_core}
 use Rattle.monitor.proofs.rename.rename.Goals as goal
 
 pub returns-in_default-clause-row : goal.returns-in_default-clause-row
