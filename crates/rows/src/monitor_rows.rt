@@ -76,7 +76,11 @@ fn init(rt: &impl Abort, disk: &mut MemDisk) {
 }
 
 /// A monitor over a fresh volume of so many blocks, in which there is no directory.
-pub(crate) fn fresh(rt: &impl Abort, alloc: Global, blocks: u32) -> Result<Monitor<MemDisk>, NoMemory> {
+pub(crate) fn fresh(
+    rt: &impl Abort,
+    alloc: Global,
+    blocks: u32,
+) -> Result<Monitor<MemDisk>, NoMemory> {
     let mut disk = MemDisk::new(alloc, blocks, 4000)?;
     init(rt, &mut disk);
     Ok(start(rt, alloc, disk))

@@ -255,7 +255,12 @@ fn read_first_block(rt: &impl Abort, monitor: &mut Monitor<MemDisk>, alloc: Glob
 }
 
 /// Logs a job in, with channel 3 open.
-pub(crate) fn log_in_to_read(rt: &impl Abort, monitor: &mut Monitor<MemDisk>, alloc: Global, job: u32) {
+pub(crate) fn log_in_to_read(
+    rt: &impl Abort,
+    monitor: &mut Monitor<MemDisk>,
+    alloc: Global,
+    job: u32,
+) {
     login(rt, monitor, alloc, job);
     open(rt, monitor, alloc, job, 3);
 }

@@ -34,14 +34,15 @@ fn expect_entered(
 }
 
 /// Job 1, which is [1,2], makes the directory [10,20] with a protection.
-fn make_directory(
-    rt: &impl Abort,
-    monitor: &mut Monitor<MemDisk>,
-    alloc: Global,
-    protection: u64,
-) {
+fn make_directory(rt: &impl Abort, monitor: &mut Monitor<MemDisk>, alloc: Global, protection: u64) {
     login_as(rt, monitor, alloc, 1, (1, 2));
-    fill(rt, monitor, 1, BLOCK, [OWN, protection % 0o1000 << 27, 0, 0]);
+    fill(
+        rt,
+        monitor,
+        1,
+        BLOCK,
+        [OWN, protection % 0o1000 << 27, 0, 0],
+    );
     expect_call(rt, monitor, alloc, (1, Call::MakeDir(BLOCK)), Reply::Done);
 }
 
@@ -153,6 +154,11 @@ fn digits_of_a_file(rt: HostRuntime) -> Result<(), Fail> {
     Ok(())
 }
 
+/// What a job is answered that looks a name up in a directory: its digit needs 4.
+fn if_looks(digit: u64) -> Reply {
+    if_allowed(digit / 4 % 2 == 1)
+}
+
 /// A job may look names up with 4 in a directory's digit, and make new ones with 2.
 fn ask_directory(
     rt: &impl Abort,
@@ -161,10 +167,10 @@ fn ask_directory(
     job: u32,
     digit: u64,
 ) {
-    let (looks, creates) = (if_allowed(digit / 4 % 2 == 1), if_allowed(digit / 2 % 2 == 1));
-    expect_lookup(rt, monitor, alloc, (job, FOO, OWN), looks);
+    let creates = if_allowed(digit / 2 % 2 == 1);
+    expect_lookup(rt, monitor, alloc, (job, FOO, OWN), if_looks(digit));
     expect_call(rt, monitor, alloc, (job, Call::Close(3, 0)), Reply::Done);
-    expect_entered(rt, monitor, alloc, job, (FOO, 0), looks);
+    expect_entered(rt, monitor, alloc, job, (FOO, 0), if_looks(digit));
     expect_call(rt, monitor, alloc, (job, Call::Close(3, 0o40)), Reply::Done);
     expect_entered(rt, monitor, alloc, job, (BAR, 0), creates);
     expect_call(rt, monitor, alloc, (job, Call::Close(3, 0o40)), Reply::Done);
@@ -257,7 +263,13 @@ fn append_alone(rt: &impl Abort, monitor: &mut Monitor<MemDisk>, alloc: Global) 
     expect_lookup(rt, monitor, alloc, (2, FOO, OWN), Reply::Done);
     expect_entered(rt, monitor, alloc, 2, (FOO, 0), Reply::Done);
     expect_call(rt, monitor, alloc, (2, Call::Close(3, 1)), Reply::Done);
-    expect_call(rt, monitor, alloc, (2, Call::In(3, LIST)), Reply::Refused(5));
+    expect_call(
+        rt,
+        monitor,
+        alloc,
+        (2, Call::In(3, LIST)),
+        Reply::Refused(5),
+    );
     expect_call(rt, monitor, alloc, (2, Call::Useto(3, 2)), Reply::Done);
     expect_call(rt, monitor, alloc, (2, Call::Out(3, LIST)), NO_PLACE);
     expect_call(rt, monitor, alloc, (2, Call::Close(3, 0o40)), Reply::Done);

@@ -3,8 +3,8 @@ use crate::monitor_rows::{
     expect_outs, expect_room, expect_word, fill, name_words, put_numbers, put_word, ready, write,
 };
 use crate::reading_rows::{
-    AT_END, ATTRIBUTES, INTO, expect_lookup, expect_read, expect_size, expect_words, log_in_to_read,
-    name_area, put_sevens, read_words,
+    AT_END, ATTRIBUTES, INTO, expect_lookup, expect_read, expect_size, expect_words,
+    log_in_to_read, name_area, put_sevens, read_words,
 };
 use blockdisk::{MemDisk, NoMemory};
 use meaning::{Call, Reply};
@@ -76,15 +76,19 @@ fn read_updated(rt: &impl Abort, monitor: &mut Monitor<MemDisk>, alloc: Global) 
     expect_close(rt, monitor, alloc, (3, 0), Reply::Done);
 }
 
+/// Job 2 reads the old words once more, and lets them go.
+fn read_on_and_close(rt: &impl Abort, monitor: &mut Monitor<MemDisk>, alloc: Global) {
+    expect_call(rt, monitor, alloc, (2, Call::Useti(3, 1)), Reply::Done);
+    read_old_blocks(rt, monitor, alloc, 2);
+    expect_call(rt, monitor, alloc, (2, Call::Close(3, 0)), Reply::Done);
+}
+
 /// An update changes what is put and nothing else, for others once it is closed.
 #[test]
 fn a_file_is_updated(rt: HostRuntime) -> Result<(), Fail> {
     let mut monitor = with_foo(&rt, rt.alloc(), 300)?;
     update_second_block(&rt, &mut monitor, rt.alloc());
-    let (again, done) = (Call::Useti(3, 1), Reply::Done);
-    expect_call(&rt, &mut monitor, rt.alloc(), (2, again), done);
-    read_old_blocks(&rt, &mut monitor, rt.alloc(), 2);
-    expect_call(&rt, &mut monitor, rt.alloc(), (2, Call::Close(3, 0)), done);
+    read_on_and_close(&rt, &mut monitor, rt.alloc());
     expect_room(&rt, &monitor, 43);
     read_updated(&rt, &mut monitor, rt.alloc());
     expect_room(&rt, &monitor, 43);
@@ -104,11 +108,7 @@ fn update_behind_the_end(rt: &impl Abort, monitor: &mut Monitor<MemDisk>, alloc:
 }
 
 /// The words of a job from an address on are so many zeros.
-fn expect_zeros_at(
-    rt: &impl Abort,
-    monitor: &Monitor<MemDisk>,
-    (address, count): (u32, u32),
-) {
+fn expect_zeros_at(rt: &impl Abort, monitor: &Monitor<MemDisk>, (address, count): (u32, u32)) {
     assert!(rt; address < 0o20000 && count < 0o20000);
     for place in 0..count {
         expect_word(rt, monitor, (1, address + place), 0);
