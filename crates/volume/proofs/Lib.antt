@@ -64,3 +64,5 @@ pub mod OnePlace
 pub mod PublishedPlaces
 pub mod Sharing
 pub mod Claiming
+pub mod RemovingLists
+pub mod RemovingEntries

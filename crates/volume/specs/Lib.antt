@@ -18,3 +18,4 @@ pub mod Publishing
 pub mod Places
 pub mod States
 pub mod Claims
+pub mod Removing

@@ -48,6 +48,7 @@ mod blocks;
 mod claims;
 mod cost;
 mod current;
+mod delete;
 mod discard;
 mod error;
 mod file_facts;
