@@ -66,3 +66,4 @@ pub mod Sharing
 pub mod Claiming
 pub mod RemovingLists
 pub mod RemovingEntries
+pub mod Removals

@@ -103,6 +103,7 @@ fn remove_in_core(core: &mut LiveMap, ppn: Ppn, name: &FileName, set: &mut Chang
         (core_of core.new) ppn name.now key v set.new }
 {
     let place = place_of(&core.master, ppn);
+    let _booked = core.table.booked(); // any table is one as it should be
     let GivenUp { key, block } = remove_entry(&mut core.directories[place], name, set);
     let less = growth_at(core, place, ppn);
     retire(&mut core.versions, &mut core.table, key);
