@@ -83,7 +83,7 @@ fn remove_entry(
 }
 
 /// Clears the bit of a block that a chain gives back.
-fn clear_left(table: &mut Table, block: Option<u32>)
+pub(crate) fn clear_left(table: &mut Table, block: Option<u32>)
     requires sound { IsTable table.old }
     requires set { (n : ℕ) → times n (option_to_list block) ≤ bit table.old n }
     ensures { ClearsBits table.old table.new (option_to_list block) }

@@ -49,6 +49,7 @@ mod claims;
 mod cost;
 mod current;
 mod delete;
+mod delete_dir;
 mod discard;
 mod error;
 mod file_facts;
