@@ -67,3 +67,7 @@ pub mod Claiming
 pub mod RemovingLists
 pub mod RemovingEntries
 pub mod Removals
+pub mod Holes
+pub mod RemovedPlaces
+pub mod RemovedTables
+pub mod RemovedCore

@@ -123,7 +123,7 @@ grown_at m place d d' at ppn less is = is (live_directory m.versions.slots d')
     (set_there m.directories.items place d d' at))
 
 -- other bookings mark nothing
-marks_booked : (t u : TableState) (n : ℕ) → Marks t u → Marks t (record u { booked = n })
+pub marks_booked : (t u : TableState) (n : ℕ) → Marks t u → Marks t (record u { booked = n })
 marks_booked t u n marks = record {
   sound = sound-booked u n marks.sound;
   size = marks.size;

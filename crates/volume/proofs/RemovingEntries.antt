@@ -41,7 +41,7 @@ all_found h (x ∷ xs) (y ∷ ys) same =
     let rest = all_found h xs ys (ap (λ zs. drop 1 zs) same) in
     λ j. cons_option (first j) (rest j)
 
-zip_places : {A B : Type 0} (P : A → B → Type 0) (xs : List A) (ys : List B) → length xs ≡ length ys
+pub zip_places : {A B : Type 0} (P : A → B → Type 0) (xs : List A) (ys : List B) → length xs ≡ length ys
     → ((j : ℕ) (x : A) (y : B) → slice_get xs j ≡ Some x → slice_get ys j ≡ Some y → P x y) → AllZip P xs ys
 zip_places P [] [] same each = tt
 zip_places P [] (y ∷ ys) same each = absurd (omega arith)
@@ -51,7 +51,7 @@ zip_places P (x ∷ xs) (y ∷ ys) same each = (
   zip_places P xs ys (omega arith) (λ j z w at there. each (suc j) z w at there),
 )
 
-zip_length : {A B : Type 0} (P : A → B → Type 0) (xs : List A) (ys : List B) → AllZip P xs ys → length xs ≡ length ys
+pub zip_length : {A B : Type 0} (P : A → B → Type 0) (xs : List A) (ys : List B) → AllZip P xs ys → length xs ≡ length ys
 zip_length P [] [] zip = refl
 zip_length P [] (y ∷ ys) zip = absurd zip
 zip_length P (x ∷ xs) [] zip = absurd zip

@@ -37,7 +37,7 @@ moved_end xs x =
     let front : take (length xs) (xs ++ x ∷ []) ≡ xs = take_front xs (x ∷ []) in
     (λ j. drop (less j) (xs ++ x ∷ []) ++ take (less j) (xs ++ x ∷ [])) ∙ (λ j. back j ++ front j)
 
-moved_is : {X : Type 0} (x : X) (xs : List X) → last_first (x ∷ xs) ≡ (has_last x xs).last ∷ (has_last x xs).front
+pub moved_is : {X : Type 0} (x : X) (xs : List X) → last_first (x ∷ xs) ≡ (has_last x xs).last ∷ (has_last x xs).front
 moved_is x xs = let e = has_last x xs in ap (λ zs. last_first zs) e.is ∙ moved_end e.front e.last
 
 map_append : {A B : Type 0} (f : A → B) (xs ys : List A) → map f (xs ++ ys) ≡ map f xs ++ map f ys
