@@ -71,3 +71,5 @@ pub mod Holes
 pub mod RemovedPlaces
 pub mod RemovedTables
 pub mod RemovedCore
+pub mod RemovedLaw
+pub mod RemovedTransactions
