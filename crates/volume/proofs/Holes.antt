@@ -1,5 +1,5 @@
 -- More of lists without the element at one place: where the others stand now, and what holds of them.
-use Rattle.std.proofs.Common.{◌≡◌, ℕ, zero, suc, ◌+◌, ◌-◌, ◌<◌, ◌⊎◌, inl, inr, cond, Bool, true, false, List, [], ◌∷◌}
+use Rattle.std.proofs.Common.{◌≡◌, ℕ, zero, suc, ◌+◌, ◌<◌, ◌⊎◌, inl, inr, cond, Bool, true, false, List, [], ◌∷◌}
 use Rattle.std.proofs.Common.{◌++◌, length, take, slice_get, Option, Some, None, refl, sym, ap, subst, ◌∙◌, arith}
 use Rattle.std.proofs.Common.{length-append, Ordering}
 use Rattle.std.proofs.lemmas.Option.{slice_get_within}
@@ -7,16 +7,14 @@ use Rattle.std.specs.Cmp.{IsTotalOrder}
 use Rattle.std.specs.List.{AllByRecursion, AllZip}
 use Rattle.std.specs.Ordering.{eq_by_cmp}
 use Rattle.std.specs.FinMap.Entries.{find}
-use Rattle.meaning.specs.Costs.{directory_cost}
 use Rattle.meaning.specs.Directories.{MasterEntry}
-use Rattle.meaning.specs.Maps.{total}
 use Rattle.meaning.proofs.ChainEdits.{HasLast, has_last}
 use Rattle.meaning.proofs.MapLaws.{some_same, some_none, at_itself}
 use Rattle.meaning.proofs.Walking.{all_front, all_back}
 use Rattle.directory.specs.Edits.{StandsAt, removed, last_first}
 use Rattle.volume.specs.declared.pending.PendingVersion.{PendingVersion}
 use Rattle.volume.specs.Known.{KnownDirectory}
-use Rattle.volume.specs.Live.{creates, growths}
+use Rattle.volume.specs.Live.{growths}
 use Rattle.volume.proofs.FoundDirectories.{zip_at}
 use Rattle.volume.proofs.Growing.{share}
 use Rattle.volume.proofs.MakingDirectories.{growths_push}

@@ -36,6 +36,12 @@ pub mod BegunFiles
 pub mod ReadWords
 pub mod MakingDirectories
 pub mod MakingPlaces
+pub mod Holes
+pub mod UnmakingPlaces
+pub mod UnmakingTables
+pub mod UnmakingCore
+pub mod UnmakingLaw
+pub mod UnmakingTransactions
 pub mod PuttingCore
 pub mod PuttingDisk
 pub mod BeginningCounts
@@ -67,9 +73,3 @@ pub mod Claiming
 pub mod RemovingLists
 pub mod RemovingEntries
 pub mod Removals
-pub mod Holes
-pub mod RemovedPlaces
-pub mod RemovedTables
-pub mod RemovedCore
-pub mod RemovedLaw
-pub mod RemovedTransactions

@@ -9,6 +9,7 @@ pub mod Cores
 pub mod Rest
 pub mod Queries
 pub mod Making
+pub mod RemovingDirectories
 pub mod Live
 pub mod LiveCores
 pub mod Putting
@@ -19,4 +20,3 @@ pub mod Places
 pub mod States
 pub mod Claims
 pub mod Removing
-pub mod RemovingDirectories

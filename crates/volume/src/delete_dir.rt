@@ -49,10 +49,9 @@ fn empty_place(core: &LiveMap, ppn: Ppn) -> Result<usize, CallError>
         Ok(place) => place,
         Err(error) => return Err(error),
     };
-    if core.directories[place].chain.len() > 0 {
-        return Err(CallError::Refused(ErrorCode::NotEmpty));
-    }
-    if creations(&core.pending, ppn) > 0 {
+    let entries = core.directories[place].chain.len();
+    let created = creations(&core.pending, ppn);
+    if entries > 0 || created > 0 {
         return Err(CallError::Refused(ErrorCode::NotEmpty));
     }
     Ok(place)

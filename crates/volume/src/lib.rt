@@ -20,7 +20,9 @@
 //!    new directory, and where it answers Ok for the latter alone; each other answer but `Device` leaves disk
 //!    and map as they were. After `Device` the volume has failed, and no other answer changes whether it has.
 //!    But for `Device` no block changes of a version that is read or being written. (`crash`, `done`, `refused`,
-//!    `device`, `still`, `kept`, `readers`, `writers`)
+//!    `device`, `still`, `kept`, `readers`, `writers`) The same holds of `delete_dir`, with the files without the
+//!    directory: it takes away one that has no file and in which none is being created, and the others keep what they
+//!    have. (`no_directory`, `not_empty`, `directories`, `gone`, `primes`)
 //! 7. `pin` holds the version that a file has, and `unpin` lets it go; `begin` books what a version costs as it
 //!    begins, without words or with those of its file, whose blocks it shares, and `discard` gives back what is booked
 //!    and held for it. None of them touches the disk. `get_words` gives the words of a version that is pinned or being

@@ -1,4 +1,4 @@
-use Rattle.std.proofs.Common.{◌≡◌, ◌+◌, ◌≤◌, [], length, option_to_list, List, refl, ap, subst, ◌∙◌, arith}
+use Rattle.std.proofs.Common.{length, List, refl, ap, subst, ◌∙◌, arith}
 use mir.Val.{bool_byte}
 use Rattle.meaning.specs.declared.put.Put.{Put}
 use Rattle.meaning.specs.Directories.{master_words}
@@ -6,7 +6,7 @@ use Rattle.directory.specs.Chains.{viewed}
 use Rattle.directory.specs.Edits.{PutsChain}
 use Rattle.volume.specs.Cores.{master_view}
 use Rattle.volume.specs.declared.live.LiveMap.{LiveMap}
-use Rattle.volume.proofs.RemovedTables.{count_left, left_set, own_set, own_inside, changes_many, removes_directory}
+use Rattle.volume.proofs.UnmakingTables.{count_left, left_set, own_set, own_inside, changes_many, removes_directory}
 use Rattle.volume.proofs.delete_dir.remove_directory.Goals as goal
 
 pub clear_left-requires-clause-set : goal.clear_left-requires-clause-set

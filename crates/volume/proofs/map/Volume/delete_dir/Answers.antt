@@ -1,13 +1,13 @@
-use Rattle.std.proofs.Common.{◌≡◌, ◌⊎◌, ℕ, refl, subst, true}
+use Rattle.std.proofs.Common.{◌⊎◌, ℕ, refl, subst}
 use Rattle.changeset.specs.Crashes.{IsGateOrLog}
 use Rattle.changeset.specs.Puts.{IsPutIn}
 use Rattle.volume.specs.LiveCores.{core_of}
 use Rattle.volume.specs.RemovingDirectories.{RemovesDirectory}
 use Rattle.volume.proofs.MakingTransactions.{near_closed}
-use Rattle.volume.proofs.RemovedCore.{puts_in_range, not_written}
-use Rattle.volume.proofs.RemovedPlaces.{gone, directory_stays, primes_stay}
-use Rattle.volume.proofs.RemovedTransactions.{never_err, no_refusal, removed_crash, removed_done, volume_failed}
-use Rattle.volume.proofs.RemovedTransactions.{keeps_read, keeps_written, volume_sound}
+use Rattle.volume.proofs.UnmakingCore.{puts_in_range, not_written}
+use Rattle.volume.proofs.UnmakingPlaces.{gone, directory_stays, primes_stay}
+use Rattle.volume.proofs.UnmakingTransactions.{never_err, no_refusal, removed_crash, removed_done, volume_failed}
+use Rattle.volume.proofs.UnmakingTransactions.{keeps_read, keeps_written, volume_sound}
 use Rattle.volume.proofs.map.Volume.delete_dir.Goals as goal
 
 pub commit_puts-requires-clause-in_range : goal.commit_puts-requires-clause-in_range

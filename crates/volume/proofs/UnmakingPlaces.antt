@@ -1,5 +1,5 @@
 -- Where the other directories stand, and their files, when one with no entry is deleted.
-use Rattle.std.proofs.Common.{◌≡◌, ◌⊎◌, inl, inr, ⊎_elim, ℕ, ◌<◌, List, [], length, take, drop, suc, slice_get, Option}
+use Rattle.std.proofs.Common.{◌≡◌, ⊎_elim, ℕ, ◌<◌, List, length, slice_get, Option}
 use Rattle.std.proofs.Common.{Some, None, refl, sym, ap, subst, ◌∙◌, arith}
 use Rattle.std.proofs.lemmas.Bool.{cases_eq}
 use Rattle.std.proofs.lemmas.Option.{slice_get_within}
@@ -64,8 +64,7 @@ module _ (size : ℕ) (k k' : Known) (ppn : ℕ) (puts : List Put) (whole : IsWh
       let first = first_place nat_cmp_total nat_cmp-IsAntisymmetric k'.master.entries q v
       (found_other q other ∙ there.found) in
       let here : slice_get k'.master.entries p.0 ≡ Some (q, v) = ap (λ l. slice_get l p.0) entries_out ∙ p.2 in
-      let place : first.0 ≡ p.0 = one_place k'.master.entries first.0 p.0 q v v removed.chain.each_once first.1.is here in
-      (
+      let place : first.0 ≡ p.0 = one_place k'.master.entries first.0 p.0 q v v removed.chain.each_once first.1.is here in (
         first.0,
         first.1,
         ap (slice_get k'.directories) (place ∙ sym same) ∙ ap (λ l. slice_get l r.0) directories_out ∙ r.2,
@@ -82,8 +81,7 @@ module _ (size : ℕ) (k k' : Known) (ppn : ℕ) (puts : List Put) (whole : IsWh
       let q = hole_at k.directories removed.place j d (ap (λ l. slice_get l j) (sym directories_out) ∙ at) in
       let from : IsFrom (length k.master.entries) removed.place j q.0 = subst
       (λ (n : ℕ). IsFrom n removed.place j q.0) whole.aligned q.1 in
-      let same : q.0 ≡ p.0 = one_from (length k.master.entries) removed.place j q.0 p.0 from p.1 in
-      (
+      let same : q.0 ≡ p.0 = one_from (length k.master.entries) removed.place j q.0 p.0 from p.1 in (
         p.0,
         p.2,
         ap (slice_get k.directories) (sym same) ∙ q.2,

@@ -1,8 +1,8 @@
 -- An empty directory is deleted in core: what each step asks for, and the whole of it from what each step did.
-use Rattle.std.proofs.Common.{◌≡◌, ℕ, suc, ◌+◌, ◌-◌, ◌<◌, ◌≤◌, Bool, true, false, List, [], ◌∷◌, ◌++◌, map, length}
-use Rattle.std.proofs.Common.{replicate, take, drop, slice_get, get_or, swap_remove, option_to_list, is_some, Option, Some, None, refl, sym, ap}
+use Rattle.std.proofs.Common.{◌≡◌, ℕ, suc, ◌+◌, ◌-◌, ◌<◌, ◌≤◌, false, List, [], ◌∷◌, ◌++◌, map, length}
+use Rattle.std.proofs.Common.{replicate, take, drop, get_or, swap_remove, option_to_list, is_some, Option, Some, None, refl, sym, ap}
 use Rattle.std.proofs.Common.{subst, ◌∙◌, arith, length-append}
-use Rattle.std.proofs.lemmas.List.{length-map, map-append}
+use Rattle.std.proofs.lemmas.List.{length-map}
 use Rattle.std.proofs.lemmas.Option.{slice_get_within}
 use Rattle.std.specs.List.{AllByRecursion}
 use Rattle.std.specs.Cmp.{nat_cmp_total}
@@ -12,9 +12,10 @@ use Rattle.blockdisk.specs.Disk.{Contents}
 use Rattle.meaning.specs.declared.put.Put.{Put}
 use Rattle.meaning.specs.Costs.{directory_cost}
 use Rattle.meaning.specs.Directories.{master_words}
+use Rattle.meaning.specs.Directories as words
 use Rattle.meaning.specs.Faults.{IsMasterEntryOf}
 use Rattle.meaning.specs.Log.{IsTarget, targets, with_puts}
-use Rattle.meaning.specs.Maps.{total, times, remove, from_entries}
+use Rattle.meaning.specs.Maps.{times, remove, from_entries}
 use Rattle.meaning.specs.Regions.{table_blocks}
 use Rattle.meaning.proofs.MapLaws.{some_same}
 use Rattle.meaning.proofs.MapSums.{times-append}
@@ -26,10 +27,9 @@ use Rattle.directory.specs.Chains.{ChainState, IsChain, viewed}
 use Rattle.directory.specs.Edits.{PutsChain, removed, last_first}
 use Rattle.volume.specs.declared.live.LiveDirectory.{LiveDirectory}
 use Rattle.volume.specs.declared.live.LiveMap.{LiveMap}
-use Rattle.volume.specs.Beginning.{entries_with}
-use Rattle.volume.specs.Cores.{file_view, master_view}
-use Rattle.volume.specs.Known.{KnownDirectory, IsWholeDirectory, reaches_in_known, cost_of_directory}
-use Rattle.volume.specs.Live.{VolumeCore, creates, IsWholeCore}
+use Rattle.volume.specs.Cores.{master_view}
+use Rattle.volume.specs.Known.{KnownDirectory, IsWholeDirectory, reaches_in_known}
+use Rattle.volume.specs.Live.{VolumeCore, IsWholeCore}
 use Rattle.volume.specs.LiveCores.{core_of, live_directory}
 use Rattle.volume.specs.Publishing.{Marks, ClearsBits}
 use Rattle.volume.specs.RemovingDirectories.{IsEmptyAt, less_master, RemovesDirectory}
@@ -40,7 +40,7 @@ use Rattle.volume.proofs.MakingCurrent.{part_of, changed_many, index_is}
 use Rattle.volume.proofs.MakingTables.{puts_marked}
 use Rattle.volume.proofs.Removals.{marks_booked}
 use Rattle.volume.proofs.Retiring.{set_inside}
-use Rattle.volume.proofs.RemovingLists.{hole, hole_is, hole_length, hole_map, swap_removed}
+use Rattle.volume.proofs.RemovingLists.{hole_is, hole_length, hole_map, swap_removed}
 
 -- a list of no elements
 none_of : {X : Type 0} (xs : List X) → length xs ≡ 0 → xs ≡ []
@@ -51,6 +51,19 @@ none_of (x ∷ xs) none = absurd (omega arith)
 pub count_left : (o : Option ℕ) (n : ℕ) → n ≡ bool_byte (is_some o) → n ≡ length (option_to_list o)
 count_left None n is = is
 count_left (Some x) n is = is
+
+-- a chain gives back what it costs less with an entry less
+pub chain_less : (chain chain' : ChainState words.MasterEntry) (left : List ℕ) → IsChain nat_cmp (IsMasterEntryOf 1) chain
+    → IsChain nat_cmp (IsMasterEntryOf 1) chain' → chain.blocks ≡ chain'.blocks ++ left
+    → length chain'.entries + 1 ≡ length chain.entries
+    → length left ≡ directory_cost (length chain.entries) - directory_cost (length chain.entries - 1)
+chain_less chain chain' left is is' blocks fewer =
+    let now = is'.counted in
+    let was = is.counted in
+    let parts = ap (λ ns. length ns) blocks ∙ length-append chain'.blocks left in
+    let back : length chain'.entries ≡ length chain.entries - 1 = omega arith in
+    let cost = ap directory_cost back in
+    omega arith
 
 -- the list without the element that was taken out, as it is seen
 pub seen_out : {A B : Type 0} (f : A → B) (xs ys : List A) (i : ℕ) (x : A) → i < length xs
@@ -140,15 +153,8 @@ module _ (m : LiveMap) (whole : IsWholeCore m.table.size (core_of m)) (ppn place
               omega arith
 
           less : count ≡ less_master c.known
-          less =
-              let now = chain.counted in
-              let was = whole.map.chain.counted in
-              let parts = ap (λ ns. length ns) blocks ∙ length-append master.blocks (option_to_list left) in
-              let one = fewer in
-              let back : length (map master_view master.entries) ≡ length (map master_view m.master.entries)
-              - 1 = omega arith in
-              let cost = ap directory_cost back in
-              omega arith
+          less = count_is ∙ chain_less c.known.master (viewed master_view master) (option_to_list left) whole.map.chain
+              chain blocks fewer
 
           costs : 1 + count ≤ m.table.booked
           costs =

@@ -1,37 +1,34 @@
 -- An empty directory is deleted: what is in core stays whole.
-use Rattle.std.proofs.Common.{◌≡◌, ◌⊎◌, inl, inr, ⊎_elim, ℕ, ◌+◌, ◌-◌, ◌<◌, ◌≤◌, List, [], ◌∷◌, ◌++◌, length, slice_index}
-use Rattle.std.proofs.Common.{replicate, Option, Some, None, refl, sym, ap, subst, ◌∙◌, arith, length-append, false}
+use Rattle.std.proofs.Common.{◌≡◌, ◌⊎◌, inr, ⊎_elim, ℕ, ◌+◌, ◌-◌, ◌<◌, ◌≤◌, List, [], ◌∷◌, ◌++◌, length, slice_index}
+use Rattle.std.proofs.Common.{Option, Some, refl, sym, ap, subst, ◌∙◌, arith, length-append}
 use Rattle.std.proofs.lemmas.Bool.{cases_eq}
 use Rattle.std.specs.List.{AllByRecursion, AllZip}
-use Rattle.std.specs.Ordering.{nat_cmp}
-use Rattle.std.specs.FinMap.Entries.{find}
-use Rattle.blockdisk.specs.Disk.{Contents}
 use Rattle.changeset.specs.Crashes.{IsGateOrLog}
 use Rattle.changeset.specs.Puts.{IsPutIn}
 use Rattle.meaning.specs.declared.put.Put.{Put}
 use Rattle.meaning.specs.Costs.{directory_cost}
 use Rattle.meaning.specs.Faults.{InSpace}
-use Rattle.meaning.specs.Log.{IsTarget, targets, with_puts}
+use Rattle.meaning.specs.Log.{IsTarget, targets}
 use Rattle.meaning.specs.Maps.{total, times}
-use Rattle.meaning.specs.Regions.{table_blocks, space_start, log_images}
+use Rattle.meaning.specs.Regions.{space_start, log_images}
 use Rattle.meaning.proofs.MapSums.{times-append}
 use Rattle.meaning.proofs.Walking.{all_front}
-use Rattle.alloctab.specs.TableState.{bit, holds, space}
+use Rattle.alloctab.specs.TableState.{bit, holds}
 use Rattle.volume.specs.declared.pending.PendingVersion.{PendingVersion}
 use Rattle.volume.specs.Known.{KnownVersion, KnownDirectory, Known, IsWholeDirectory, IsWholeMap, reaches_in_entries}
-use Rattle.volume.specs.Known.{reaches_in_known, known_reaches, cost_of_version, cost_of_directory, cost_of_known}
-use Rattle.volume.specs.Known.{prime_in}
+use Rattle.volume.specs.Known.{reaches_in_known, cost_of_version, cost_of_directory, cost_of_known}
 use Rattle.volume.specs.Live.{VolumeCore, pending_at, IsKeyed, AreStanding, AreWaiting, held_reaches, held_cost}
-use Rattle.volume.specs.Live.{current_reaches, entry_reaches, pending_reaches, pending_cost, creates, growths, cost_beyond}
+use Rattle.volume.specs.Live.{current_reaches, pending_reaches, pending_cost, creates, growths, cost_beyond}
 use Rattle.volume.specs.Live.{IsWholeCore}
 use Rattle.volume.specs.Making.{IsAligned}
 use Rattle.volume.specs.RemovingDirectories.{less_master, IsDirectoryRemoved, RemovesDirectory}
 use Rattle.volume.proofs.Apart.{apart_same}
 use Rattle.volume.proofs.FoundDirectories.{all_at}
 use Rattle.volume.proofs.Growing.{share}
-use Rattle.volume.proofs.Holes.{hole_all, hole_zip, hole_growths, entry_hole}
+use Rattle.volume.proofs.Holes.{hole_all, hole_zip, hole_growths}
 use Rattle.volume.proofs.MakingDirectories.{not_put}
-use Rattle.volume.proofs.RemovedPlaces.{within, entries_out, directories_out, found_other, primes_same}
+use Rattle.volume.proofs.UnmakingTables.{chain_less}
+use Rattle.volume.proofs.UnmakingPlaces.{within, entries_out, directories_out, found_other, primes_same}
 use Rattle.volume.proofs.RemovingEntries.{zip_length}
 use Rattle.volume.proofs.RemovingLists.{hole, hole_is, hole_length, hole_total}
 
@@ -101,15 +98,9 @@ module _ (size : ℕ) (k k' : Known) (ppn : ℕ) (puts : List Put) (whole : IsWh
   }
 
   less_left : length removed.left ≡ less_master k
-  less_left =
-      let now = removed.chain.counted in
-      let was = whole.chain.counted in
-      let parts = ap (λ ns. length ns) removed.blocks ∙ length-append k'.master.blocks removed.left in
-      let fewer = hole_length k.master.entries removed.place removed.there.within in
-      let out = ap (λ l. length l) (entries_out size k k' ppn puts whole removed) in
-      let back : length k'.master.entries ≡ length k.master.entries - 1 = omega arith in
-      let cost = ap directory_cost back in
-      omega arith
+  less_left = chain_less k.master k'.master removed.left whole.chain removed.chain removed.blocks
+      (let out = ap (λ l. length l) (entries_out size k k' ppn puts whole removed) in
+      let fewer = hole_length k.master.entries removed.place removed.there.within in omega arith)
 
   cost_less : cost_of_known k'.master k'.directories + (1 + less_master k) ≡ cost_of_known k.master k.directories
   cost_less =

@@ -1,6 +1,6 @@
 -- The puts of a directory that is deleted lead from the map that is held to the one without it.
-use Rattle.std.proofs.Common.{◌≡◌, ◌⊎◌, inl, inr, ⊎_elim, ℕ, ◌+◌, ◌<◌, ◌≤◌, List, [], ◌∷◌, ◌++◌, length, slice_get}
-use Rattle.std.proofs.Common.{Option, Some, None, IsSome, option_map, refl, sym, ap, subst, ◌∙◌, arith}
+use Rattle.std.proofs.Common.{◌≡◌, ◌⊎◌, inl, inr, ⊎_elim, ℕ, ◌+◌, ◌<◌, ◌≤◌, List, slice_get}
+use Rattle.std.proofs.Common.{Some, IsSome, refl, sym, ap, subst, ◌∙◌, arith}
 use Rattle.std.specs.Cmp.{nat_cmp_total}
 use Rattle.std.specs.Ordering.{nat_cmp}
 use Rattle.std.specs.FinMap.{nat_cmp-IsAntisymmetric}
@@ -29,10 +29,10 @@ use Rattle.directory.specs.ChainLaws.{chain_stands, on_kept}
 use Rattle.volume.specs.Known.{KnownDirectory, Known, IsKnownDirectory, IsHeld, IsWholeMap}
 use Rattle.volume.specs.RemovingDirectories.{IsDirectoryRemoved}
 use Rattle.volume.proofs.Lookups.{all_each}
-use Rattle.volume.proofs.MakingHeld.{reached_in_space, chain_reached, master_reached}
+use Rattle.volume.proofs.MakingHeld.{reached_in_space, chain_reached}
 use Rattle.volume.proofs.MakingLaw.{head_front, none_mapped, bits_same}
-use Rattle.volume.proofs.RemovedCore.{removed_inside, chain_times, freed_times}
-use Rattle.volume.proofs.RemovedPlaces.{stood_at, was_directory}
+use Rattle.volume.proofs.UnmakingCore.{removed_inside, chain_times, freed_times}
+use Rattle.volume.proofs.UnmakingPlaces.{stood_at, was_directory}
 
 -- a map whose values are none is empty
 none_mapped_to : {X Y : Type 0} (f : X → Y) (m : FinMap name_cmp X) → map_values f m ≡ empty → m ≡ empty
@@ -154,8 +154,7 @@ module _ (size : ℕ) (k k' : Known) (m : DiskMap) (ppn : ℕ) (puts : List Put)
       → (s : StoredDirectory) × (get (remove m.directories ppn) e.0 ≡ Some s) × IsKnownDirectory x s
   each_known i e x is also =
       let was = stood_at size k k' ppn puts whole removed i e x is also in
-      let old = held.known.each was.0 e x was.1 was.2 in
-      (
+      let old = held.known.each was.0 e x was.1 was.2 in (
         old.0,
         get-remove_other nat_cmp_total nat_cmp-IsAntisymmetric m.directories ppn e.0 was.3 ∙ old.1,
         old.2,

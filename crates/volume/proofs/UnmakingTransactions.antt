@@ -1,6 +1,6 @@
 -- A directory is deleted on the disk: one commit, with nothing written before it.
-use Rattle.std.proofs.Common.{◌≡◌, ◌⊎◌, ℕ, Bool, true, false, List, Ok, Err, IsErrOf, refl, sym, ap, ◌∙◌}
-use Rattle.blockdisk.specs.Disk.{Contents, DiskState, NoneOpen, SameOutside, Modifies, LeavesOnly}
+use Rattle.std.proofs.Common.{◌≡◌, ◌⊎◌, ℕ, Bool, true, List, Ok, Err, IsErrOf, refl, ap, ◌∙◌}
+use Rattle.blockdisk.specs.Disk.{DiskState, NoneOpen, SameOutside, Modifies, LeavesOnly}
 use Rattle.changeset.specs.Crashes.{IsGateOrLog, IsShut, AllOrNone}
 use Rattle.changeset.specs.Puts.{IsPutIn}
 use Rattle.changeset.specs.Rest.{Ignores, AtRest, commit_leaves, commit_rest}
@@ -19,8 +19,8 @@ use Rattle.volume.specs.Rest.{IsAtRest, IsSound, RestsAt, StandsForEither, Keeps
 use Rattle.volume.proofs.LiveBodies.{bodies_stay, bodies_of, used_read, used_written}
 use Rattle.volume.proofs.MakingDirectories.{files_are, crash_for, rest_for, sound_for, sound_failed}
 use Rattle.volume.proofs.MakingHeld.{ignores_log}
-use Rattle.volume.proofs.RemovedCore.{removed_aligned, removed_core, not_written}
-use Rattle.volume.proofs.RemovedLaw.{removing_leads}
+use Rattle.volume.proofs.UnmakingCore.{removed_aligned, removed_core, not_written}
+use Rattle.volume.proofs.UnmakingLaw.{removing_leads}
 
 -- an answer is not another
 pub never_err : {T E : Type 0} (x : T) (e : E) → IsErrOf (Ok x) e → ⊥
