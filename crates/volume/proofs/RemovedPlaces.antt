@@ -1,6 +1,6 @@
 -- What a deletion makes of the places, and of the versions that readers hold.
-use Rattle.std.proofs.Common.{◌≡◌, inl, inr, ℕ, ◌<◌, ◌==◌, ◌⊎◌, Bool, true, false, if◌then◌else◌, List, slice_set, Some}
-use Rattle.std.proofs.Common.{None, refl, sym, ap, ◌∙◌, arith, ⊎_elim}
+use Rattle.std.proofs.Common.{◌≡◌, ℕ, ◌<◌, Bool, false, List, slice_set, Some}
+use Rattle.std.proofs.Common.{None, sym, ap, ◌∙◌, arith, ⊎_elim}
 use Rattle.std.proofs.lemmas.Bool.{cases_eq}
 use Rattle.std.specs.FinMap.Entries.{find}
 use Rattle.words36.specs.declared.names.FileName.{FileName}
@@ -90,8 +90,7 @@ module _ (size : ℕ) (c c' : VolumeCore) (ppn : ℕ) (name : FileName) (key : �
       (λ (same : k ≡ key).
       let which : v ≡ u = some_same (sym is.there ∙ ap (slot c.live) (sym same) ∙ there) in
       let left = not_zero v.readers None (Some (record v { is_current = false }))
-      (let readers = ap (λ (x : LiveVersion). x.readers) which in omega arith) in
-      (
+      (let readers = ap (λ (x : LiveVersion). x.readers) which in omega arith) in (
         false,
         ap (slot c'.live) same ∙ is.ended ∙ left
             ∙ ap (λ (x : LiveVersion). Some (record x { is_current = false })) which,

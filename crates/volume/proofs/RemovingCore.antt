@@ -1,8 +1,8 @@
 -- A file is deleted: what is in core stays whole.
-use Rattle.std.proofs.Common.{◌≡◌, ℕ, ◌+◌, ◌-◌, ◌<◌, ◌≤◌, ◌==◌, ◌⊎◌, inl, inr, ⊎_elim, if◌then◌else◌, true, false, List}
+use Rattle.std.proofs.Common.{◌≡◌, ℕ, ◌+◌, ◌-◌, ◌<◌, ◌≤◌, ◌==◌, ◌⊎◌, inl, inr, ⊎_elim, if◌then◌else◌, false, List}
 use Rattle.std.proofs.Common.{[], ◌∷◌, ◌++◌, length, slice_set, Option, Some, None, IfSome, refl, sym, ap, subst, ◌∙◌}
 use Rattle.std.proofs.Common.{arith}
-use Rattle.std.proofs.lemmas.Bool.{cases_eq, cases_lt}
+use Rattle.std.proofs.lemmas.Bool.{cases_lt}
 use Rattle.std.proofs.lemmas.List.{get_or_past, length-set}
 use Rattle.std.proofs.lemmas.Option.{slice_get_within}
 use Rattle.std.specs.List.{AllByRecursion}
@@ -27,21 +27,20 @@ use Rattle.volume.specs.Known.{prime_in, cost_of_known, IsWholeVersion, IsWholeD
 use Rattle.volume.specs.Live.{VolumeCore, slot, pending_at, as_known, held_reaches, held_cost, current_reaches, IsApart}
 use Rattle.volume.specs.Live.{IsCurrentAt, pending_reaches, pending_cost, creates, growths, cost_beyond}
 use Rattle.volume.specs.Live.{AreWaiting, IsWholeCore}
-use Rattle.volume.specs.Publishing.{before, left_of}
+use Rattle.volume.specs.Publishing.{left_of}
 use Rattle.volume.specs.Removing.{RemovesFile}
 use Rattle.volume.specs.declared.live.LiveVersion.{LiveVersion}
 use Rattle.volume.specs.declared.pending.PendingVersion.{PendingVersion}
 use Rattle.volume.proofs.FoundDirectories.{all_at}
-use Rattle.volume.proofs.Growing.{share, cost_rises, created_cost}
+use Rattle.volume.proofs.Growing.{cost_rises, created_cost}
 use Rattle.volume.proofs.LiveLookups.{standing_at}
 use Rattle.volume.proofs.LiveTotals.{total_updated}
 use Rattle.volume.proofs.MakingHeld.{element_at}
 use Rattle.volume.proofs.MakingLaw.{bit_few}
 use Rattle.volume.proofs.OnePlace.{one_key}
 use Rattle.volume.proofs.Pinning.{all_updated}
-use Rattle.volume.proofs.PublishedPlaces.{same_place}
 use Rattle.volume.proofs.PublishingSlots.{set_total, set_each, all_places, set_growths, reaches_parts, Counts, counts}
-use Rattle.volume.proofs.PublishingSlots.{left, left_cases}
+use Rattle.volume.proofs.PublishingSlots.{left_cases}
 use Rattle.volume.proofs.RemovedPlaces.{removed_before, removed_elsewhere}
 
 -- with nothing that is being written no directory is to grow

@@ -1,5 +1,5 @@
 -- A file is deleted: what the puts make of what is held.
-use Rattle.std.proofs.Common.{◌≡◌, ℕ, ◌+◌, ◌<◌, ◌≤◌, ◌⊎◌, inl, inr, ⊎_elim, List, ◌∷◌, ◌++◌, length, Some, option_map}
+use Rattle.std.proofs.Common.{◌≡◌, ℕ, ◌+◌, ◌<◌, ◌≤◌, ◌⊎◌, inl, inr, ⊎_elim, List, ◌++◌, length, Some, option_map}
 use Rattle.std.proofs.Common.{slice_get, refl, sym, ◌∙◌, ap, subst, arith}
 use Rattle.std.proofs.lemmas.Option.{slice_get_within}
 use Rattle.std.specs.List.{AllByRecursion}
@@ -9,13 +9,12 @@ use Rattle.std.specs.FinMap.{nat_cmp-IsAntisymmetric}
 use Rattle.words36.specs.declared.names.FileName.{FileName}
 use Rattle.blockdisk.specs.Disk.{Contents}
 use Rattle.meaning.specs.declared.put.Put.{Put}
-use Rattle.meaning.specs.Maps.{times, get, insert, remove, map_values, from_entries, sum_over}
+use Rattle.meaning.specs.Maps.{times, get, insert, remove, map_values, from_entries}
 use Rattle.meaning.specs.Blocks.{head_or_zero}
 use Rattle.meaning.specs.Regions.{table_blocks, table_start, space_start, log_images}
 use Rattle.meaning.specs.Log.{IsTarget, targets, with_puts}
 use Rattle.meaning.specs.Table.{table_bit}
 use Rattle.meaning.specs.Directories.{MasterEntry, master_words, master_word, FileEntry, file_words, IsFileEntry}
-use Rattle.meaning.specs.Files.{File, Files}
 use Rattle.meaning.specs.Stands.{StoredFile, StoredDirectory, DiskMap, HasMap, directory_of, files_of}
 use Rattle.meaning.specs.Stands.{entry_of, reaches_in_file, reaches_in_directory, reaches}
 use Rattle.meaning.specs.Changes.{TableFollows, IsFileChain, entries_of, primes_of, with_directory, without_file}
@@ -34,8 +33,7 @@ use Rattle.changeset.specs.Puts.{IsPutIn}
 use Rattle.changeset.specs.PutLaws.{some_or_none}
 use Rattle.directory.specs.Chains.{ChainState, IsOn}
 use Rattle.directory.specs.ChainLaws.{chain_stands, on_kept}
-use Rattle.volume.specs.Facts.{facts_of, known_facts}
-use Rattle.volume.specs.Known.{KnownVersion, KnownDirectory, Known, IsKnownFile, IsKnownDirectory, IsKnownMap, IsHeld}
+use Rattle.volume.specs.Known.{KnownVersion, KnownDirectory, Known, IsKnownFile, IsKnownDirectory, IsHeld}
 use Rattle.volume.specs.Known.{IsWholeDirectory, IsWholeMap, blocks_reached}
 use Rattle.volume.specs.Removing.{files_without, files_removed, IsRemoved}
 use Rattle.volume.proofs.FoundDirectories.{all_at}

@@ -1,5 +1,5 @@
 ghost use Rattle.std.specs.Prelude.{◌≡◌, ◌↔◌, ◌⊎◌, ◌<◌, ◌≤◌, ◌++◌, [], ℕ, List, Bool, true, false, length, map, slice_get};
-ghost use Rattle.std.specs.Prelude.{option_to_list, take, drop, suc, Some, None, IsSome, IfSome, OnOk, OnErr, IsErrOf};
+ghost use Rattle.std.specs.Prelude.{option_to_list, take, drop, suc, Some, None, IsSome, OnOk, OnErr, IsErrOf};
 ghost use Rattle.std.specs.Ordering.{nat_cmp};
 ghost use Rattle.std.specs.FinMap.Entries.{find};
 ghost use Rattle.blockdisk.specs.Disk.{LeavesOnly, SameDisk, one_more};
@@ -49,11 +49,7 @@ struct GivenUp {
 
 /// Takes the entry of a name out of a directory in core, with the key of its version: the last one moves into its
 /// place.
-fn remove_entry(
-    directory: &mut LiveDirectory,
-    name: &FileName,
-    set: &mut ChangeSet,
-) -> GivenUp
+fn remove_entry(directory: &mut LiveDirectory, name: &FileName, set: &mut ChangeSet) -> GivenUp
     requires there { IsSome (find name_cmp name.now (map file_view directory.old.chain.entries)) }
     requires aligned { length directory.old.keys.items ≡ length directory.old.chain.entries }
     requires empty { set.old ≡ [] }

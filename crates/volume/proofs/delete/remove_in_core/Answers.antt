@@ -1,7 +1,6 @@
-use Rattle.std.proofs.Common.{map, length, option_to_list, refl}
+use Rattle.std.proofs.Common.{option_to_list, refl}
 use Rattle.std.specs.Vec.{with_item}
-use Rattle.volume.specs.Cores.{file_view}
-use Rattle.volume.specs.LiveCores.{core_of, live_directory}
+use Rattle.volume.specs.LiveCores.{core_of}
 use Rattle.volume.specs.declared.live.LiveMap.{LiveMap}
 use Rattle.volume.proofs.MakingCurrent.{index_is, place_within}
 use Rattle.volume.proofs.Removals.{holds_few, removes_aligned, removes_there, retires_there, retires_set, retires_booked}
@@ -197,15 +196,14 @@ returns c =
       versions = c.retire.new.versions;
       pending = m.pending;
       table = c.changes.new.self;
-    } in
-    (
+    } in (
       key,
       (had m c.requires.whole ppn name place stands.0 stands.1 d at out.keys.0 out.keys.1 key out.keys.2 out.keys.3).0,
       removes_file m c.requires.whole ppn name place stands.0 stands.1 d at out.keys.0 out.keys.1 key out.keys.2 out.keys.3
-    d' block out.blocks out.items out.map out.chain
-    c.growth_at-less.result (grown_at m place d d' at ppn c.growth_at-less.result c.growth_at-less.ensures.value)
-    c.retire.new.table c.retire.ensures.retired c.clear_left.new.table c.clear_left.ensures
-    c.unbook.new.self c.unbook.ensures c.remove_entry-key.new.set out.put out.few
-      m' c.changes.new.set refl refl refl c.changes.ensures.done c.changes.ensures.others c.changes.ensures.spells
-      c.changes.ensures.in_range c.changes.ensures.few c.retire.ensures.left c.retire.ensures.others out.keys.4,
+          d' block out.blocks out.items out.map out.chain
+          c.growth_at-less.result (grown_at m place d d' at ppn c.growth_at-less.result c.growth_at-less.ensures.value)
+          c.retire.new.table c.retire.ensures.retired c.clear_left.new.table c.clear_left.ensures
+          c.unbook.new.self c.unbook.ensures c.remove_entry-key.new.set out.put out.few
+          m' c.changes.new.set refl refl refl c.changes.ensures.done c.changes.ensures.others c.changes.ensures.spells
+          c.changes.ensures.in_range c.changes.ensures.few c.retire.ensures.left c.retire.ensures.others out.keys.4,
     )

@@ -1,14 +1,9 @@
-use Rattle.std.proofs.Common.{◌≡◌, ◌≤◌, ◌<◌, ℕ, Some, None, refl, sym, ap, subst, ◌∙◌}
-use Rattle.std.specs.FinMap.Entries.{find}
-use Rattle.meaning.specs.Files.{name_cmp}
-use Rattle.meaning.proofs.MapLaws.{some_none}
+use Rattle.std.proofs.Common.{◌≤◌, ◌<◌, ℕ, sym, subst}
 use Rattle.alloctab.specs.TableState.{space}
-use Rattle.volume.specs.Known.{KnownDirectory}
 use Rattle.volume.specs.Live.{as_known, IsCurrentAt}
 use Rattle.volume.specs.LiveCores.{core_of}
 use Rattle.volume.specs.Removing.{RemovesFile}
 use Rattle.volume.specs.declared.live.LiveVersion.{LiveVersion}
-use Rattle.volume.proofs.Beginnings.{same_directory}
 use Rattle.volume.proofs.RemovedPlaces.{is_named, primes_elsewhere, primes_gone, removed_current}
 use Rattle.volume.proofs.RemovingLaw.{removed_in_range}
 use Rattle.volume.proofs.RemovingTransactions.{removed_failed, removed_sound, removed_crash, removed_done, removed_reads}
