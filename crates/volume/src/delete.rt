@@ -119,8 +119,8 @@ impl<D: Disk> Volume<D> {
     /// with `NotFound` where it has no such file. All is as before then. `Device` where the device failed, and the
     /// volume with it: a later start finds the files without it, or those from before.
     pub fn delete(&mut self, ppn: Ppn, name: &FileName) -> Result<(), CallError>
-        // Where readers hold its version, what is booked lies within the free space: the version is then one more
-        // that is booked beyond the files.
+        // Where readers hold its version, that is booked beyond the files from then on, and all that is booked has to
+        // lie within the free space (`within` of `IsWholeCore`).
         requires room { (v : LiveVersion) → IsCurrentAt self.old.core ppn name.now v → 0 < v.readers
             → self.old.core.known.table.booked ≤ space (D.state self.old.disk).size }
 
