@@ -234,8 +234,9 @@ module _ (size : ℕ) (k k' : Known) (ppn : ℕ) (name : FileName) (old : ℕ ×
             let entry : e ≡ (ppn, is.word) = some_same (sym was ∙ ap (slice_get k.master.entries) new.0 ∙ is.there.is)
             in (
               without_file stored is.directory'.chain.blocks name,
-              ap (λ (z : MasterEntry). get (insert m.directories ppn (without_file stored is.directory'.chain.blocks name))
-                  z.0) entry ∙ get-insert_same nat_cmp_total m.directories ppn
+              ap (λ (z : MasterEntry). get (insert m.directories ppn
+                  (without_file stored is.directory'.chain.blocks name)) z.0) entry
+                  ∙ get-insert_same nat_cmp_total m.directories ppn
                   (without_file stored is.directory'.chain.blocks name),
               subst (λ (z : KnownDirectory). IsKnownDirectory z (without_file stored is.directory'.chain.blocks name))
                   (sym new.1) new_known,

@@ -81,8 +81,8 @@ moved_reaches n (e ∷ es) (v ∷ vs) same =
     ≡ reaches_in_entries n (l.last ∷ l.front) (k.last ∷ k.front) = λ j.
     reaches_in_entries n (moved_is e es j) (moved_is v vs j) in
     let was : reaches_in_entries n (e ∷ es) (v ∷ vs)
-    ≡ reaches_in_entries n (l.front ++ l.last ∷ []) (k.front ++ k.last ∷ []) = λ j. reaches_in_entries n (l.is j) (k.is j)
-    in
+    ≡ reaches_in_entries n (l.front ++ l.last ∷ []) (k.front ++ k.last ∷ []) = λ j.
+    reaches_in_entries n (l.is j) (k.is j) in
     let push = entries_push n l.front k.front l.last k.last aligned in
     omega arith
 

@@ -6,8 +6,8 @@ use Rattle.volume.specs.Removing.{RemovesFile}
 use Rattle.volume.specs.declared.live.LiveVersion.{LiveVersion}
 use Rattle.volume.proofs.RemovedPlaces.{is_named, primes_elsewhere, primes_gone, removed_current}
 use Rattle.volume.proofs.RemovingLaw.{removed_in_range}
-use Rattle.volume.proofs.RemovingTransactions.{removed_failed, removed_sound, removed_crash, removed_done, removed_reads}
-use Rattle.volume.proofs.RemovingTransactions.{removed_writes}
+use Rattle.volume.proofs.RemovingTransactions.{removed_failed, removed_sound, removed_crash, removed_done}
+use Rattle.volume.proofs.RemovingTransactions.{removed_reads, removed_writes}
 use Rattle.volume.proofs.map.Volume.delete.Goals as goal
 
 pub commit_puts-requires-clause-in_range : goal.commit_puts-requires-clause-in_range
@@ -64,7 +64,8 @@ invariant_of-self g c =
     let room = subst (λ m. (x : LiveVersion) → IsCurrentAt m.core ppn name x → 0 < x.readers
     → m.core.known.table.booked ≤ space (g.D.Disk.state m.disk).size) (sym c.self.view_is) c.requires.room v
     (removed_current s.size core new ppn name key v puts is) in
-    removed_sound s s' core new ppn name key v puts whole is room c.self.inside.failed c.self.invariant c.commit_puts.ensures.same
+    removed_sound s s' core new ppn name key v puts whole is room c.self.inside.failed c.self.invariant
+    c.commit_puts.ensures.same
     c.in-Ok.ensures.modified c.in-Ok.ensures.all c.in-Ok.ensures.settled c.in-Ok.ensures.shut
 
 pub returns-in-Ok-clause-crash : goal.returns-in-Ok-clause-crash
