@@ -73,3 +73,7 @@ pub mod Claiming
 pub mod RemovingLists
 pub mod RemovingEntries
 pub mod Removals
+pub mod RemovedPlaces
+pub mod RemovingCore
+pub mod RemovingLaw
+pub mod RemovingTransactions

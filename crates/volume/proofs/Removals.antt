@@ -1,7 +1,7 @@
 -- A file is deleted in core: what each step asks for, and the whole of it from what each step did.
-use Rattle.std.proofs.Common.{◌≡◌, ℕ, zero, suc, get_or, ◌+◌, ◌-◌, ◌*◌, ◌^◌, ◌<◌, ◌≤◌, Bool, true, false, if◌then◌else◌, List, []}
-use Rattle.std.proofs.Common.{◌∷◌, ◌++◌, map, filter_map, length, replicate, take, drop, slice_get, slice_set, slice_index}
-use Rattle.std.proofs.Common.{option_to_list, Option, Some, None, IfSome, IsSome, refl, sym, ap, subst, ◌∙◌, arith}
+use Rattle.std.proofs.Common.{◌≡◌, ℕ, zero, suc, ◌+◌, ◌-◌, ◌^◌, ◌<◌, ◌≤◌, Bool, true, false, if◌then◌else◌, List, []}
+use Rattle.std.proofs.Common.{◌∷◌, ◌++◌, map, filter_map, length, replicate, take, drop, slice_get, slice_set}
+use Rattle.std.proofs.Common.{slice_index, get_or, Option, Some, None, IfSome, IsSome, refl, sym, ap, subst, ◌∙◌, arith}
 use Rattle.std.proofs.Common.{⊎_elim}
 use Rattle.std.proofs.lemmas.List.{length-map}
 use Rattle.std.proofs.lemmas.Option.{slice_get_within}
@@ -43,7 +43,7 @@ use Rattle.volume.specs.Removing.{IsEntryRemoved, RemovesFile}
 use Rattle.volume.proofs.Beginnings.{same_directory}
 use Rattle.volume.proofs.BlockLists.{marks_then}
 use Rattle.volume.proofs.FoundDirectories.{mapped_at, zip_at, all_at}
-use Rattle.volume.proofs.Growing.{share, cost_rises, entries_few}
+use Rattle.volume.proofs.Growing.{cost_rises, entries_few}
 use Rattle.volume.proofs.LiveLookups.{as_many, kept_at}
 use Rattle.volume.proofs.LiveTotals.{core_holds}
 use Rattle.volume.proofs.MakingCurrent.{part_of, share_within, changed_many}
@@ -206,8 +206,8 @@ module _ (m : LiveMap) (whole : IsWholeCore m.table.size (core_of m)) (ppn : ℕ
     retires_set = by_slot (λ x. (n : ℕ) → times n (blocks_reached x.at x.version) ≤ bit m.table n) old_set
 
     -- what its version and the directory cost is booked
-    costs_booked : cost_of_version (as_known u) + directory_cost (length dk.chain.entries + total (creates ppn) c.pending)
-        ≤ m.table.booked
+    costs_booked : cost_of_version (as_known u)
+        + directory_cost (length dk.chain.entries + total (creates ppn) c.pending) ≤ m.table.booked
     costs_booked =
         let one = part_of cost_of_version dk.versions i (as_known had.0) had.4 in
         let all = part_of cost_of_directory c.known.directories place dk known_here in

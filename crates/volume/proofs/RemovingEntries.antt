@@ -1,5 +1,5 @@
 -- A directory's entry is taken out, and the key of its version: the last ones move into their places.
-use Rattle.std.proofs.Common.{◌≡◌, ℕ, zero, suc, ◌+◌, ◌<◌, List, [], ◌∷◌, map, filter_map, length, slice_get}
+use Rattle.std.proofs.Common.{◌≡◌, ℕ, suc, ◌<◌, List, [], ◌∷◌, map, filter_map, length, slice_get}
 use Rattle.std.proofs.Common.{slice_index_or, drop, Option, Some, None, option_map, refl, sym, ap, subst, ◌∙◌}
 use Rattle.std.proofs.Common.{arith}
 use Rattle.std.proofs.lemmas.Option.{slice_get_within}
@@ -7,8 +7,8 @@ use Rattle.std.specs.List.{AllZip, cons_option}
 use Rattle.words36.specs.declared.names.FileName.{FileName}
 use Rattle.meaning.specs.Directories.{FileEntry, IsFileEntry}
 use Rattle.meaning.specs.Files.{name_cmp}
-use Rattle.meaning.specs.Maps.{times, remove, from_entries}
-use Rattle.meaning.proofs.MapLaws.{some_same, some_none}
+use Rattle.meaning.specs.Maps.{remove, from_entries}
+use Rattle.meaning.proofs.MapLaws.{some_same}
 use Rattle.directory.specs.Chains.{ChainState, IsChain}
 use Rattle.directory.specs.Edits.{StandsAt, removed}
 use Rattle.volume.specs.Known.{KnownVersion, KnownDirectory, IsWholeDirectory, reaches_in_entries}

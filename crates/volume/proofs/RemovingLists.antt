@@ -1,17 +1,16 @@
 -- Lists without the element at one place, into which the last one moves.
 use Rattle.std.proofs.Common.{◌≡◌, ℕ, zero, suc, ◌+◌, ◌-◌, ◌<◌, ◌⊎◌, inl, inr, cond, Bool, true, false, List, [], ◌∷◌}
-use Rattle.std.proofs.Common.{◌++◌, map, filter_map, length, take, drop, slice_get, slice_set, slice_index_or, swap_remove, get_or}
+use Rattle.std.proofs.Common.{◌++◌, map, length, take, drop, slice_get, slice_set, swap_remove, get_or}
 use Rattle.std.proofs.Common.{Option, Some, None, refl, sym, ap, ◌∙◌, arith, length-append}
 use Rattle.std.proofs.lemmas.List.{drop_more, drop_all}
 use Rattle.std.proofs.lemmas.Option.{slice_get_within}
-use Rattle.std.specs.List.{AllZip}
 use Rattle.std.specs.Ordering.{eq_by_cmp}
 use Rattle.std.specs.FinMap.Entries.{find}
 use Rattle.words36.specs.declared.names.FileName.{FileName}
 use Rattle.meaning.specs.Directories.{FileEntry}
 use Rattle.meaning.specs.Files.{name_cmp}
 use Rattle.meaning.specs.Maps.{total, times}
-use Rattle.meaning.proofs.ChainEdits.{HasLast, has_last}
+use Rattle.meaning.proofs.ChainEdits.{has_last}
 use Rattle.meaning.proofs.MapLaws.{some_same, some_none, at_itself}
 use Rattle.meaning.proofs.Names.{name_total}
 use Rattle.directory.specs.Edits.{StandsAt, removed, last_first}
@@ -82,8 +81,8 @@ moved_reaches n (e ∷ es) (v ∷ vs) same =
     ≡ reaches_in_entries n (l.last ∷ l.front) (k.last ∷ k.front) = λ j.
     reaches_in_entries n (moved_is e es j) (moved_is v vs j) in
     let was : reaches_in_entries n (e ∷ es) (v ∷ vs)
-    ≡ reaches_in_entries n (l.front ++ l.last ∷ []) (k.front ++ k.last ∷ []) = λ j. reaches_in_entries n (l.is j) (k.is j)
-    in
+    ≡ reaches_in_entries n (l.front ++ l.last ∷ []) (k.front ++ k.last ∷ []) = λ j.
+    reaches_in_entries n (l.is j) (k.is j) in
     let push = entries_push n l.front k.front l.last k.last aligned in
     omega arith
 
@@ -158,16 +157,14 @@ hole_at (x ∷ []) zero j y is = absurd (some_none (sym is))
 hole_at (x ∷ z ∷ zs) zero zero y is =
     let e = has_last z zs in
     let same : e.last ≡ y = some_same (ap (λ ws. slice_get ws 0) (sym (moved_is z zs)) ∙ is) in
-    let many = ap (λ ws. length ws) e.is ∙ length-append e.front (e.last ∷ []) in
-    (
+    let many = ap (λ ws. length ws) e.is ∙ length-append e.front (e.last ∷ []) in (
       suc (length e.front),
       inl (refl, omega arith),
       ap (λ ws. slice_get ws (length e.front)) e.is ∙ behind_at e.front e.last ∙ ap Some same,
     )
 hole_at (x ∷ z ∷ zs) zero (suc j) y is =
     let e = has_last z zs in
-    let there : slice_get e.front j ≡ Some y = ap (λ ws. slice_get ws (suc j)) (sym (moved_is z zs)) ∙ is in
-    (
+    let there : slice_get e.front j ≡ Some y = ap (λ ws. slice_get ws (suc j)) (sym (moved_is z zs)) ∙ is in (
       suc j,
       inr (λ same. omega arith, refl),
       ap (λ ws. slice_get ws j) e.is ∙ front_at e.front (e.last ∷ []) j y there,

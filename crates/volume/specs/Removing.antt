@@ -1,6 +1,6 @@
 -- A file is deleted: what this does to core, to the table and to the disk.
-use Rattle.std.specs.Prelude.{◌≡◌, ℕ, ◌+◌, ◌-◌, ◌≤◌, true, false, List, [], ◌++◌, length, replicate, slice_get, slice_set}
-use Rattle.std.specs.Prelude.{Option, None, Some}
+use Rattle.std.specs.Prelude.{◌≡◌, ℕ, ◌+◌, ◌-◌, ◌≤◌, true, false, List, [], ◌++◌, length, replicate, slice_get}
+use Rattle.std.specs.Prelude.{slice_set, Option, None, Some}
 use Rattle.std.specs.List.{AllZip}
 use Rattle.std.specs.Ordering.{nat_cmp}
 use Rattle.words36.specs.declared.names.FileName.{FileName}

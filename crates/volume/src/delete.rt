@@ -1,5 +1,6 @@
-ghost use Rattle.std.specs.Prelude.{◌≡◌, ◌↔◌, ◌⊎◌, ◌<◌, ◌≤◌, ◌++◌, [], ℕ, List, Bool, true, false, length, map, slice_get};
-ghost use Rattle.std.specs.Prelude.{option_to_list, take, drop, suc, Some, None, IsSome, IfSome, OnOk, OnErr, IsErrOf};
+ghost use Rattle.std.specs.Prelude.{◌≡◌, ◌↔◌, ◌⊎◌, ◌<◌, ◌≤◌, ◌++◌, [], ℕ, List, Bool, true, false, length, map};
+ghost use Rattle.std.specs.Prelude.{slice_get, option_to_list, take, drop, suc, Some, None, IsSome, OnOk, OnErr};
+ghost use Rattle.std.specs.Prelude.{IsErrOf};
 ghost use Rattle.std.specs.Ordering.{nat_cmp};
 ghost use Rattle.std.specs.FinMap.Entries.{find};
 ghost use Rattle.blockdisk.specs.Disk.{LeavesOnly, SameDisk, one_more};
@@ -49,11 +50,7 @@ struct GivenUp {
 
 /// Takes the entry of a name out of a directory in core, with the key of its version: the last one moves into its
 /// place.
-fn remove_entry(
-    directory: &mut LiveDirectory,
-    name: &FileName,
-    set: &mut ChangeSet,
-) -> GivenUp
+fn remove_entry(directory: &mut LiveDirectory, name: &FileName, set: &mut ChangeSet) -> GivenUp
     requires there { IsSome (find name_cmp name.now (map file_view directory.old.chain.entries)) }
     requires aligned { length directory.old.keys.items ≡ length directory.old.chain.entries }
     requires empty { set.old ≡ [] }
@@ -123,8 +120,8 @@ impl<D: Disk> Volume<D> {
     /// with `NotFound` where it has no such file. All is as before then. `Device` where the device failed, and the
     /// volume with it: a later start finds the files without it, or those from before.
     pub fn delete(&mut self, ppn: Ppn, name: &FileName) -> Result<(), CallError>
-        // Where readers hold its version, what is booked lies within the free space: the version is then one more
-        // that is booked beyond the files.
+        // Where readers hold its version, that is booked beyond the files from then on, and all that is booked has to
+        // lie within the free space (`within` of `IsWholeCore`).
         requires room { (v : LiveVersion) → IsCurrentAt self.old.core ppn name.now v → 0 < v.readers
             → self.old.core.known.table.booked ≤ space (D.state self.old.disk).size }
 

@@ -37,6 +37,10 @@
 //! 10. On a volume that failed before, `put_words`, `get_words` and `publish` answer `Failed`, and neither disk nor
 //!    core changes. `get_words` never answers a damaged block as words. (`failed`, `broken`, `whole`)
 //! 11. `Device` comes exactly with one more failure of the disk, on every disk. (`failed`, `served`)
+//! 12. `delete` takes a file away by one change, with no block written before it: whatever a crash leaves at any moment
+//!    of it stands for the files from before, or for these without the file. At Ok it is the latter. All versions that
+//!    readers hold and all that are being written stay, and but for `Device` their blocks do. (`crash`, `done`,
+//!    `removed`, `pending`, `held`, `readers`, `writers`)
 //!
 //! Between two calls the volume knows the map of its disk: the chains of its directories with their entries
 //! in the order of the disk, for each entry where its version lies, and the allocation table with what is

@@ -1,11 +1,11 @@
-use Rattle.std.proofs.Common.{map, length, option_to_list, refl}
+use Rattle.std.proofs.Common.{option_to_list, refl}
 use Rattle.std.specs.Vec.{with_item}
-use Rattle.volume.specs.Cores.{file_view}
-use Rattle.volume.specs.LiveCores.{core_of, live_directory}
+use Rattle.volume.specs.LiveCores.{core_of}
 use Rattle.volume.specs.declared.live.LiveMap.{LiveMap}
 use Rattle.volume.proofs.MakingCurrent.{index_is, place_within}
-use Rattle.volume.proofs.Removals.{holds_few, removes_aligned, removes_there, retires_there, retires_set, retires_booked}
-use Rattle.volume.proofs.Removals.{grows_few, left_sound, left_set, less_booked, changes_many, removes_file, had, grown_at}
+use Rattle.volume.proofs.Removals.{holds_few, removes_aligned, removes_there, retires_there, retires_set}
+use Rattle.volume.proofs.Removals.{retires_booked, grows_few, left_sound, left_set, less_booked, changes_many}
+use Rattle.volume.proofs.Removals.{removes_file, had, grown_at}
 use Rattle.volume.proofs.delete.remove_in_core.Goals as goal
 
 pub remove_entry-key-requires-clause-there : goal.remove_entry-key-requires-clause-there
@@ -45,7 +45,8 @@ growth_at-less-requires-clause-few c x is =
     let at = index_is m.directories.items place d _ (place_within m c.requires.whole ppn place stands.0 stands.1)
     c.index_mut.ensures.value in
     let out = c.remove_entry-key.ensures in
-    grows_few m c.requires.whole ppn name place stands.0 stands.1 d at out.keys.0 out.keys.1 key out.keys.2 out.keys.3
+    grows_few m c.requires.whole ppn name place stands.0 stands.1 d at out.keys.0 out.keys.1 key out.keys.2
+    out.keys.3
     d' block out.blocks out.items out.map out.chain
     m.versions.slots x is
 
@@ -63,7 +64,8 @@ retire-requires-clause-there c =
     let at = index_is m.directories.items place d _ (place_within m c.requires.whole ppn place stands.0 stands.1)
     c.index_mut.ensures.value in
     let out = c.remove_entry-key.ensures in
-    retires_there m c.requires.whole ppn name place stands.0 stands.1 d at out.keys.0 out.keys.1 key out.keys.2 out.keys.3
+    retires_there m c.requires.whole ppn name place stands.0 stands.1 d at out.keys.0 out.keys.1 key out.keys.2
+    out.keys.3
 
 pub retire-requires-clause-set : goal.retire-requires-clause-set
 retire-requires-clause-set c =
@@ -79,7 +81,8 @@ retire-requires-clause-set c =
     let at = index_is m.directories.items place d _ (place_within m c.requires.whole ppn place stands.0 stands.1)
     c.index_mut.ensures.value in
     let out = c.remove_entry-key.ensures in
-    retires_set m c.requires.whole ppn name place stands.0 stands.1 d at out.keys.0 out.keys.1 key out.keys.2 out.keys.3
+    retires_set m c.requires.whole ppn name place stands.0 stands.1 d at out.keys.0 out.keys.1 key out.keys.2
+    out.keys.3
 
 pub retire-requires-clause-booked : goal.retire-requires-clause-booked
 retire-requires-clause-booked c =
@@ -95,7 +98,8 @@ retire-requires-clause-booked c =
     let at = index_is m.directories.items place d _ (place_within m c.requires.whole ppn place stands.0 stands.1)
     c.index_mut.ensures.value in
     let out = c.remove_entry-key.ensures in
-    retires_booked m c.requires.whole ppn name place stands.0 stands.1 d at out.keys.0 out.keys.1 key out.keys.2 out.keys.3
+    retires_booked m c.requires.whole ppn name place stands.0 stands.1 d at out.keys.0 out.keys.1 key out.keys.2
+    out.keys.3
 
 pub retire-requires-clause-fits : goal.retire-requires-clause-fits
 retire-requires-clause-fits c = holds_few c.args.core.now.table.size (core_of c.args.core.now) c.requires.whole
@@ -114,7 +118,8 @@ clear_left-requires-clause-sound c =
     let at = index_is m.directories.items place d _ (place_within m c.requires.whole ppn place stands.0 stands.1)
     c.index_mut.ensures.value in
     let out = c.remove_entry-key.ensures in
-    left_sound m c.requires.whole ppn name place stands.0 stands.1 d at out.keys.0 out.keys.1 key out.keys.2 out.keys.3
+    left_sound m c.requires.whole ppn name place stands.0 stands.1 d at out.keys.0 out.keys.1 key out.keys.2
+    out.keys.3
     d' block out.blocks out.items out.map out.chain
     c.growth_at-less.result (grown_at m place d d' at ppn c.growth_at-less.result c.growth_at-less.ensures.value)
     c.retire.new.table c.retire.ensures.retired
@@ -133,7 +138,8 @@ clear_left-requires-clause-set c =
     let at = index_is m.directories.items place d _ (place_within m c.requires.whole ppn place stands.0 stands.1)
     c.index_mut.ensures.value in
     let out = c.remove_entry-key.ensures in
-    left_set m c.requires.whole ppn name place stands.0 stands.1 d at out.keys.0 out.keys.1 key out.keys.2 out.keys.3
+    left_set m c.requires.whole ppn name place stands.0 stands.1 d at out.keys.0 out.keys.1 key out.keys.2
+    out.keys.3
     d' block out.blocks out.items out.map out.chain
     c.growth_at-less.result (grown_at m place d d' at ppn c.growth_at-less.result c.growth_at-less.ensures.value)
     c.retire.new.table c.retire.ensures.retired
@@ -152,7 +158,8 @@ unbook-requires c =
     let at = index_is m.directories.items place d _ (place_within m c.requires.whole ppn place stands.0 stands.1)
     c.index_mut.ensures.value in
     let out = c.remove_entry-key.ensures in
-    less_booked m c.requires.whole ppn name place stands.0 stands.1 d at out.keys.0 out.keys.1 key out.keys.2 out.keys.3
+    less_booked m c.requires.whole ppn name place stands.0 stands.1 d at out.keys.0 out.keys.1 key out.keys.2
+    out.keys.3
     d' block out.blocks out.items out.map out.chain
     c.growth_at-less.result (grown_at m place d d' at ppn c.growth_at-less.result c.growth_at-less.ensures.value)
     c.retire.new.table c.retire.ensures.retired c.clear_left.new.table c.clear_left.ensures
@@ -171,7 +178,8 @@ changes-requires c =
     let at = index_is m.directories.items place d _ (place_within m c.requires.whole ppn place stands.0 stands.1)
     c.index_mut.ensures.value in
     let out = c.remove_entry-key.ensures in
-    changes_many m c.requires.whole ppn name place stands.0 stands.1 d at out.keys.0 out.keys.1 key out.keys.2 out.keys.3
+    changes_many m c.requires.whole ppn name place stands.0 stands.1 d at out.keys.0 out.keys.1 key out.keys.2
+    out.keys.3
     d' block out.blocks out.items out.map out.chain
     c.growth_at-less.result (grown_at m place d d' at ppn c.growth_at-less.result c.growth_at-less.ensures.value)
     c.retire.new.table c.retire.ensures.retired c.clear_left.new.table c.clear_left.ensures
@@ -197,15 +205,15 @@ returns c =
       versions = c.retire.new.versions;
       pending = m.pending;
       table = c.changes.new.self;
-    } in
-    (
+    } in (
       key,
       (had m c.requires.whole ppn name place stands.0 stands.1 d at out.keys.0 out.keys.1 key out.keys.2 out.keys.3).0,
-      removes_file m c.requires.whole ppn name place stands.0 stands.1 d at out.keys.0 out.keys.1 key out.keys.2 out.keys.3
-    d' block out.blocks out.items out.map out.chain
-    c.growth_at-less.result (grown_at m place d d' at ppn c.growth_at-less.result c.growth_at-less.ensures.value)
-    c.retire.new.table c.retire.ensures.retired c.clear_left.new.table c.clear_left.ensures
-    c.unbook.new.self c.unbook.ensures c.remove_entry-key.new.set out.put out.few
-      m' c.changes.new.set refl refl refl c.changes.ensures.done c.changes.ensures.others c.changes.ensures.spells
-      c.changes.ensures.in_range c.changes.ensures.few c.retire.ensures.left c.retire.ensures.others out.keys.4,
+      removes_file m c.requires.whole ppn name place stands.0 stands.1 d at out.keys.0 out.keys.1 key out.keys.2
+          out.keys.3
+          d' block out.blocks out.items out.map out.chain
+          c.growth_at-less.result (grown_at m place d d' at ppn c.growth_at-less.result c.growth_at-less.ensures.value)
+          c.retire.new.table c.retire.ensures.retired c.clear_left.new.table c.clear_left.ensures
+          c.unbook.new.self c.unbook.ensures c.remove_entry-key.new.set out.put out.few
+          m' c.changes.new.set refl refl refl c.changes.ensures.done c.changes.ensures.others c.changes.ensures.spells
+          c.changes.ensures.in_range c.changes.ensures.few c.retire.ensures.left c.retire.ensures.others out.keys.4,
     )
