@@ -170,7 +170,7 @@ module _ (less more : List (Option PendingVersion)) (key : ℕ) (p : PendingVers
 
 -- There are fewer entries than are booked.
 
-created_cost : (ppn : ℕ) (pending : List (Option PendingVersion))
+pub created_cost : (ppn : ℕ) (pending : List (Option PendingVersion))
     → total (creates ppn) pending ≤ total pending_cost pending
 created_cost ppn [] = omega arith
 created_cost ppn (None ∷ os) = let rest = created_cost ppn os in omega arith

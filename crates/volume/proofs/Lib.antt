@@ -36,6 +36,12 @@ pub mod BegunFiles
 pub mod ReadWords
 pub mod MakingDirectories
 pub mod MakingPlaces
+pub mod Holes
+pub mod UnmakingPlaces
+pub mod UnmakingTables
+pub mod UnmakingCore
+pub mod UnmakingLaw
+pub mod UnmakingTransactions
 pub mod PuttingCore
 pub mod PuttingDisk
 pub mod BeginningCounts
@@ -64,3 +70,10 @@ pub mod OnePlace
 pub mod PublishedPlaces
 pub mod Sharing
 pub mod Claiming
+pub mod RemovingLists
+pub mod RemovingEntries
+pub mod Removals
+pub mod RemovedPlaces
+pub mod RemovingCore
+pub mod RemovingLaw
+pub mod RemovingTransactions

@@ -46,7 +46,7 @@ use Rattle.volume.proofs.PrimeBlocks.{prime_of_place}
 use Rattle.volume.proofs.PuttingCore.{chains_within}
 
 -- A part of a sum.
-part_of : {X : Type 0} (f : X → ℕ) (xs : List X) (i : ℕ) (x : X) → slice_get xs i ≡ Some x → f x ≤ total f xs
+pub part_of : {X : Type 0} (f : X → ℕ) (xs : List X) (i : ℕ) (x : X) → slice_get xs i ≡ Some x → f x ≤ total f xs
 part_of f [] i x is = cc
 part_of f (y ∷ xs) zero x is = let same = ap f (some_same is) in omega arith
 part_of f (y ∷ xs) (suc i) x is = let rest = part_of f xs i x is in omega arith
@@ -86,7 +86,7 @@ no_number None none = refl
 no_number (Some n) none = absurd (omega arith)
 
 -- what one directory grows by is a part of what all do
-share_within : (pending : List (Option PendingVersion)) (es : List MasterEntry) (ds : List KnownDirectory)
+pub share_within : (pending : List (Option PendingVersion)) (es : List MasterEntry) (ds : List KnownDirectory)
     (i k : ℕ) (w : ℕ × ℕ) (d : KnownDirectory) → slice_get es i ≡ Some (k, w) → slice_get ds i ≡ Some d
     → share pending k d ≤ growths pending es ds
 share_within pending [] ds i k w d is at = cc

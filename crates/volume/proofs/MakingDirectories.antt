@@ -135,7 +135,7 @@ pub free_elsewhere : (size : ℕ) (k : Known) → IsWholeMap size k → (n : ℕ
 free_elsewhere size k whole n clear = let is = whole.bits n in omega arith
 
 -- one directory more
-growths_push : (pending : List (Option PendingVersion)) (es : List MasterEntry) (ds : List KnownDirectory)
+pub growths_push : (pending : List (Option PendingVersion)) (es : List MasterEntry) (ds : List KnownDirectory)
     (e : MasterEntry) (d : KnownDirectory) → length ds ≡ length es
     → growths pending (es ++ e ∷ []) (ds ++ d ∷ [])
     ≡ growths pending es ds + (directory_cost (length d.chain.entries + total (creates e.0) pending)

@@ -59,7 +59,7 @@ pub prime_of_place : (es : List MasterEntry) (ds : List KnownDirectory) (place p
 prime_of_place es ds place ppn name w d there at = found_at es ds place ppn name w d there.is there.before at
 
 -- A place has none whose directory isn't there,
-prime_nowhere : (es : List MasterEntry) (ds : List KnownDirectory) (ppn : ℕ) (name : FileName)
+pub prime_nowhere : (es : List MasterEntry) (ds : List KnownDirectory) (ppn : ℕ) (name : FileName)
     → find nat_cmp ppn es ≡ None → prime_in es ds ppn name ≡ None
 prime_nowhere [] ds ppn name none = refl
 prime_nowhere (e ∷ es) [] ppn name none = refl

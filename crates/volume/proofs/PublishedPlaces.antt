@@ -113,7 +113,7 @@ same_place q ppn n name = ⊎_elim
     (same_or_other name_total name_exact n name))
     (λ other. inr (λ both. other both.0)) (cases_eq q ppn)
 
-not_zero : {A : Type 0} (n : ℕ) (x y : A) → 0 < n → (if n == 0 then x else y) ≡ y
+pub not_zero : {A : Type 0} (n : ℕ) (x y : A) → 0 < n → (if n == 0 then x else y) ≡ y
 not_zero n x y some = grind (arith, nat_tests)
 
 module _ (size : ℕ) (c c' : VolumeCore) (key : ℕ) (p : PendingVersion) (words : ℕ) (whole : IsWholeCore size c)

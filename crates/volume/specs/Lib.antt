@@ -9,6 +9,7 @@ pub mod Cores
 pub mod Rest
 pub mod Queries
 pub mod Making
+pub mod RemovingDirectories
 pub mod Live
 pub mod LiveCores
 pub mod Putting
@@ -18,3 +19,4 @@ pub mod Publishing
 pub mod Places
 pub mod States
 pub mod Claims
+pub mod Removing

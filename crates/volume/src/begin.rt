@@ -45,7 +45,7 @@ fn creates(version: &PendingVersion, ppn: Ppn) -> u64
 }
 
 /// How many entries are being created in a directory.
-fn creations(pending: &Slab<PendingVersion>, ppn: Ppn) -> u64
+pub(crate) fn creations(pending: &Slab<PendingVersion>, ppn: Ppn) -> u64
     ensures { result ≡ total (creates ppn) pending.now.slots }
 {
     let _count = pending.len(); // no more than a number of 64 bits says

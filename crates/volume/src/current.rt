@@ -165,7 +165,7 @@ fn put_entry(
 }
 
 /// The place of a directory that there is.
-fn place_of(master: &Chain<MasterEntry>, ppn: Ppn) -> usize
+pub(crate) fn place_of(master: &Chain<MasterEntry>, ppn: Ppn) -> usize
     requires { find nat_cmp ppn (map master_view master.now.entries) ≡ None → ⊥ }
     ensures { (v : ℕ × ℕ) × StandsAt nat_cmp (map master_view master.now.entries) ppn v result }
 {

@@ -20,7 +20,9 @@
 //!    new directory, and where it answers Ok for the latter alone; each other answer but `Device` leaves disk
 //!    and map as they were. After `Device` the volume has failed, and no other answer changes whether it has.
 //!    But for `Device` no block changes of a version that is read or being written. (`crash`, `done`, `refused`,
-//!    `device`, `still`, `kept`, `readers`, `writers`)
+//!    `device`, `still`, `kept`, `readers`, `writers`) The same holds of `delete_dir`, with the files without the
+//!    directory: it takes away one that has no file and in which none is being created, and the others keep what they
+//!    have. (`no_directory`, `not_empty`, `directories`, `gone`, `primes`)
 //! 7. `pin` holds the version that a file has, and `unpin` lets it go; `begin` books what a version costs as it
 //!    begins, without words or with those of its file, whose blocks it shares, and `discard` gives back what is booked
 //!    and held for it. None of them touches the disk. `get_words` gives the words of a version that is pinned or being
@@ -35,6 +37,10 @@
 //! 10. On a volume that failed before, `put_words`, `get_words` and `publish` answer `Failed`, and neither disk nor
 //!    core changes. `get_words` never answers a damaged block as words. (`failed`, `broken`, `whole`)
 //! 11. `Device` comes exactly with one more failure of the disk, on every disk. (`failed`, `served`)
+//! 12. `delete` takes a file away by one change, with no block written before it: whatever a crash leaves at any moment
+//!    of it stands for the files from before, or for these without the file. At Ok it is the latter. All versions that
+//!    readers hold and all that are being written stay, and but for `Device` their blocks do. (`crash`, `done`,
+//!    `removed`, `pending`, `held`, `readers`, `writers`)
 //!
 //! Between two calls the volume knows the map of its disk: the chains of its directories with their entries
 //! in the order of the disk, for each entry where its version lies, and the allocation table with what is
@@ -48,6 +54,8 @@ mod blocks;
 mod claims;
 mod cost;
 mod current;
+mod delete;
+mod delete_dir;
 mod discard;
 mod error;
 mod file_facts;

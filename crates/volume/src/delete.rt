@@ -1,0 +1,190 @@
+ghost use Rattle.std.specs.Prelude.{◌≡◌, ◌↔◌, ◌⊎◌, ◌<◌, ◌≤◌, ◌++◌, [], ℕ, List, Bool, true, false, length, map};
+ghost use Rattle.std.specs.Prelude.{slice_get, option_to_list, take, drop, suc, Some, None, IsSome, OnOk, OnErr};
+ghost use Rattle.std.specs.Prelude.{IsErrOf};
+ghost use Rattle.std.specs.Ordering.{nat_cmp};
+ghost use Rattle.std.specs.FinMap.Entries.{find};
+ghost use Rattle.blockdisk.specs.Disk.{LeavesOnly, SameDisk, one_more};
+ghost use Rattle.words36.specs.declared.names.FileName.{FileName};
+ghost use Rattle.meaning.specs.declared.code.ErrorCode.{ErrorCode};
+ghost use Rattle.meaning.specs.declared.code.ErrorCode.TheVariants.{NoDirectory, NotFound};
+ghost use Rattle.meaning.specs.declared.put.Put.{Put};
+ghost use Rattle.meaning.specs.Directories.{file_words, IsFileEntry};
+ghost use Rattle.meaning.specs.Files.{File, Files, name_cmp};
+ghost use Rattle.meaning.specs.Maps.{remove, from_entries, times};
+ghost use Rattle.alloctab.specs.TableState.{IsTable, bit, space};
+ghost use Rattle.directory.specs.Chains.{IsChain, viewed};
+ghost use Rattle.directory.specs.Edits.{StandsAt, PutsChain, removed, last_first};
+ghost use Rattle.volume.specs.Beginning.{IsDirectoryOf};
+ghost use Rattle.volume.specs.Cores.{file_view};
+ghost use Rattle.volume.specs.Known.{KnownDirectory};
+ghost use Rattle.volume.specs.Live.{slot, IsCurrentAt, IsWholeCore};
+ghost use Rattle.volume.specs.LiveCores.{core_of};
+ghost use Rattle.volume.specs.Pins.{IsKeyOf};
+ghost use Rattle.volume.specs.Places.{prime_at};
+ghost use Rattle.volume.specs.Publishing.{ClearsBits};
+ghost use Rattle.volume.specs.Removing.{files_removed, RemovesFile};
+ghost use Rattle.volume.specs.Rest.{RestsAt, StandsForEither, KeepsRead, KeepsEachWritten};
+ghost use Rattle.volume.specs.declared.error.CallError.TheVariants.{Refused, Device, Failed, NoMemory};
+ghost use Rattle.volume.specs.declared.live.LiveVersion.{LiveVersion};
+
+use crate::CallError;
+use crate::begin::growth_at;
+use crate::current::{place_of, retire};
+use crate::live::{LiveDirectory, LiveMap};
+use crate::map::Volume;
+use crate::pins::find_version;
+use crate::transaction::commit_puts;
+use alloctab::Table;
+use blockdisk::Disk;
+use changeset::ChangeSet;
+use words36::{FileName, Ppn};
+
+/// What a directory gives up with an entry.
+#[derive(Clone, Copy)]
+struct GivenUp {
+    /// The key of the entry's version.
+    key: usize,
+    /// The last block of the chain, where it is left empty.
+    block: Option<u32>,
+}
+
+/// Takes the entry of a name out of a directory in core, with the key of its version: the last one moves into its
+/// place.
+fn remove_entry(directory: &mut LiveDirectory, name: &FileName, set: &mut ChangeSet) -> GivenUp
+    requires there { IsSome (find name_cmp name.now (map file_view directory.old.chain.entries)) }
+    requires aligned { length directory.old.keys.items ≡ length directory.old.chain.entries }
+    requires empty { set.old ≡ [] }
+    // The list of keys, and the map without the entry.
+    ensures items { map file_view directory.new.chain.entries
+        ≡ removed name_cmp (map file_view directory.old.chain.entries) name.now }
+    ensures map { from_entries {R = name_cmp} (map file_view directory.new.chain.entries)
+        ≡ remove (from_entries (map file_view directory.old.chain.entries)) name.now }
+    ensures blocks { directory.old.chain.blocks ≡ directory.new.chain.blocks ++ option_to_list result.block }
+    ensures keys { (i : ℕ) × (w : ℕ) × StandsAt name_cmp (map file_view directory.old.chain.entries) name.now w i
+        × (slice_get directory.old.keys.items i ≡ Some result.key)
+        × (directory.new.keys.items
+        ≡ take i directory.old.keys.items ++ last_first (drop (suc i) directory.old.keys.items)) }
+    // What is put of the chain.
+    ensures chain { IsChain name_cmp IsFileEntry (viewed file_view directory.new.chain) }
+    ensures put { PutsChain file_words (viewed file_view directory.old.chain)
+        (viewed file_view directory.new.chain) [] set.new }
+    ensures few { length set.new ≤ 2 }
+{
+    let Some(i) = directory.chain.find(name) else {
+        unreachable!() // the name is there
+    };
+    let block = directory.chain.remove(name, set);
+    let _blocks = directory.chain.blocks(); // any chain is one as it should be
+    let key = directory.keys.swap_remove(i);
+    GivenUp { key, block }
+}
+
+/// Clears the bit of a block that a chain gives back.
+pub(crate) fn clear_left(table: &mut Table, block: Option<u32>)
+    requires sound { IsTable table.old }
+    requires set { (n : ℕ) → times n (option_to_list block) ≤ bit table.old n }
+    ensures { ClearsBits table.old table.new (option_to_list block) }
+{
+    if let Some(n) = block {
+        table.clear(n);
+    }
+    let _booked = table.booked(); // any table is one as it should be
+}
+
+/// Deletes a file in core, with the puts that will make it so on the disk.
+fn remove_in_core(core: &mut LiveMap, ppn: Ppn, name: &FileName, set: &mut ChangeSet)
+    requires whole { IsWholeCore core.old.table.size (core_of core.old) }
+    requires there { (key : ℕ) × IsKeyOf (core_of core.old) ppn name.now key }
+    requires empty { set.old ≡ [] }
+    ensures { (key : ℕ) × (v : LiveVersion) × RemovesFile core.old.table.size (core_of core.old)
+        (core_of core.new) ppn name.now key v set.new }
+{
+    let place = place_of(&core.master, ppn);
+    let _booked = core.table.booked(); // any table is one as it should be
+    let GivenUp { key, block } = remove_entry(&mut core.directories[place], name, set);
+    let less = growth_at(core, place, ppn);
+    retire(&mut core.versions, &mut core.table, key);
+    clear_left(&mut core.table, block);
+    core.table.unbook(less);
+    core.table.changes(set);
+}
+
+impl<D: Disk> Volume<D> {
+    /// Deletes a file, by one change of its directory and the allocation table. A crash finds the files from before,
+    /// or those without it. Its version stays for the readers that hold it, and takes its blocks until the last of
+    /// them lets go; versions that are being written stay, those of its place too. It takes no memory.
+    ///
+    /// # Errors
+    ///
+    /// `Failed` where the volume failed before. `Refused` with `NoDirectory` where there is no such directory, and
+    /// with `NotFound` where it has no such file. All is as before then. `Device` where the device failed, and the
+    /// volume with it: a later start finds the files without it, or those from before.
+    pub fn delete(&mut self, ppn: Ppn, name: &FileName) -> Result<(), CallError>
+        // Where readers hold its version, that is booked beyond the files from then on, and all that is booked has to
+        // lie within the free space (`within` of `IsWholeCore`).
+        requires room { (v : LiveVersion) → IsCurrentAt self.old.core ppn name.now v → 0 < v.readers
+            → self.old.core.known.table.booked ≤ space (D.state self.old.disk).size }
+
+        // Let all that a crash may leave stand for f. Then a crash at any moment leaves what stands for f, or for
+        // f without the file.
+        ensures crash { (D.state self.new.disk).honest → (f : Files File) → RestsAt (D.state self.old.disk) f
+            → LeavesOnly (D.state self.old.disk) (D.state self.new.disk)
+            (StandsForEither (D.state self.old.disk).size f (files_removed f ppn name.now)) }
+        // At Ok all that a crash may leave stands for the latter.
+        ensures done { (D.state self.new.disk).honest → (f : Files File) → RestsAt (D.state self.old.disk) f
+            → OnOk result (RestsAt (D.state self.new.disk) (files_removed f ppn name.now)) }
+        // What it does to core.
+        ensures removed { OnOk result ((key : ℕ) × (v : LiveVersion) × (puts : List Put)
+            × RemovesFile (D.state self.old.disk).size self.old.core self.new.core ppn name.now key v puts) }
+        // All versions in use stay, whatever the answer; and their blocks do, but where the device failed, since they
+        // may have been open then.
+        ensures pending { self.new.core.pending ≡ self.old.core.pending }
+        ensures held { (k : ℕ) (v : LiveVersion) → slot self.old.core.live k ≡ Some v → 0 < v.readers
+            → (b : Bool) × (slot self.new.core.live k ≡ Some (record v { is_current = b })) }
+        ensures readers { (D.state self.new.disk).honest → (IsErrOf result Device → ⊥)
+            → KeepsRead (D.state self.old.disk).contents (D.state self.new.disk).contents self.old.core }
+        ensures writers { (D.state self.new.disk).honest → (IsErrOf result Device → ⊥)
+            → KeepsEachWritten (D.state self.old.disk).contents (D.state self.new.disk).contents self.old.core }
+        // Each other place keeps its prime block, and this one has none.
+        ensures primes { OnOk result ((q : ℕ) (n : FileName) → ((q ≡ ppn) × (n ≡ name.now) → ⊥)
+            → prime_at self.new.core q n ≡ prime_at self.old.core q n) }
+        ensures gone { OnOk result (prime_at self.new.core ppn name.now ≡ None) }
+
+        // Which error comes when, and what it leaves.
+        ensures refused { (IsErrOf result Device → ⊥)
+            → OnErr result ((self.new.disk ≡ self.old.disk) × (self.new.core ≡ self.old.core)) }
+        ensures failed { self.old.failed ≡ true → IsErrOf result Failed }
+        ensures given_up { IsErrOf result Failed → self.old.failed ≡ true }
+        ensures no_directory { self.old.failed ≡ false
+            → (IsErrOf result (Refused NoDirectory) ↔ (find nat_cmp ppn self.old.core.known.master.entries ≡ None)) }
+        ensures not_found { self.old.failed ≡ false
+            → (IsErrOf result (Refused NotFound) ↔ ((d : KnownDirectory) × IsDirectoryOf self.old.core ppn d
+            × (find name_cmp name.now d.chain.entries ≡ None))) }
+        ensures codes { (code : ErrorCode) → IsErrOf result (Refused code)
+            → (code ≡ NoDirectory) ⊎ (code ≡ NotFound) }
+        ensures memory { IsErrOf result NoMemory → ⊥ }
+        ensures device { IsErrOf result Device → self.new.failed ≡ true }
+        ensures counted { IsErrOf result Device → (D.state self.new.disk).failures
+            ≡ one_more (D.state self.old.disk).failures }
+        ensures served { (IsErrOf result Device → ⊥) → (D.state self.new.disk).failures
+            ≡ (D.state self.old.disk).failures }
+        ensures still { (IsErrOf result Device → ⊥) → self.new.failed ≡ self.old.failed }
+        ensures same { SameDisk (D.state self.old.disk) (D.state self.new.disk) }
+    {
+        if self.failed {
+            return Err(CallError::Failed);
+        }
+        if let Err(error) = find_version(&self.map, ppn, name) {
+            return Err(error);
+        }
+        let mut set = ChangeSet::new();
+        remove_in_core(&mut self.map, ppn, name, &mut set);
+        match commit_puts(&mut self.disk, &set) {
+            Ok(()) => Ok(()),
+            Err(_) => {
+                self.failed = true; // nothing of core is used any more
+                Err(CallError::Device)
+            }
+        }
+    }
+}
