@@ -71,3 +71,4 @@ pub mod RemovedPlaces
 pub mod RemovingCore
 pub mod RemovingLaw
 pub mod RemovingTransactions
+pub mod CostBounds
