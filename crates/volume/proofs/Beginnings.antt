@@ -313,6 +313,7 @@ module _ (size : ℕ) (c : VolumeCore) (whole : IsWholeCore size c) (sound : IsT
           let file = begun_shares n new in
           file_apart size c whole prime.ppn prime.file file.0 file.1 n file.2) (held_before n some);
       fits = let large = whole.map.volume.large in omega arith;
+      beyond = λ some. omega (arith, room);
       within = λ some. room;
       booked =
           let grown = added_growths c.pending pending key p adds c.known.master.entries

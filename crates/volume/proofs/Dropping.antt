@@ -120,6 +120,10 @@ module _ (size : ℕ) (c : VolumeCore) (whole : IsWholeCore size c) (less : List
       inside = λ n there. whole.inside n (omega (arith, fewer n));
       apart = λ n there. whole.apart n (omega (arith, fewer n));
       fits = let fits = whole.fits in omega arith;
+      beyond = λ some.
+          let more = added_total less c.pending key p adds pending_cost refl in
+          let most = whole.beyond (omega arith) in
+          omega arith;
       within = λ some.
           let more = added_total less c.pending key p adds pending_cost refl in
           let most = whole.within (omega arith) in

@@ -77,3 +77,4 @@ pub mod RemovedPlaces
 pub mod RemovingCore
 pub mod RemovingLaw
 pub mod RemovingTransactions
+pub mod CostBounds

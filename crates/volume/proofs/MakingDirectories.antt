@@ -302,6 +302,10 @@ module _ (size : ℕ) (k k' : Known) (ppn protection first : ℕ) (puts : List P
             let large = whole.volume.large in
             let e = ap (λ x. x.table.booked) is in
             omega arith;
+        beyond = λ some.
+            let few = made.room in
+            let e = ap (λ x. x.table.booked) is in
+            omega arith;
         within = λ some. subst (λ (x : Known). x.table.booked ≤ space size) (sym is) made.room;
         booked =
             let a = made.taken.booked in

@@ -128,8 +128,9 @@ counted_whole size c new key v readers whole was now others = record {
   inside = whole.inside;
   apart = whole.apart;
   fits = whole.fits;
-  within = λ some. let same = same_total c.live new key v readers was now others held_cost refl refl in
-      whole.within (omega arith);
+  beyond = λ some. let same = same_total c.live new key v readers was now others held_cost refl refl in
+      whole.beyond (omega arith);
+  within = whole.within;
   booked = let before = whole.booked in
       let same = same_total c.live new key v readers was now others held_cost refl refl in omega arith;
 }
@@ -231,10 +232,11 @@ gone_whole size c new key v held booked whole was ended now others less fewer = 
   inside = λ n there. whole.inside n (omega (arith, less n));
   apart = λ n there. whole.apart n (omega (arith, less n));
   fits = let fits = whole.fits in omega arith;
-  within = λ some.
+  beyond = λ some.
       let all = total_updated held_cost refl c.live new key None now others in
-      let most = whole.within (omega arith) in
+      let most = whole.beyond (omega arith) in
       omega arith;
+  within = λ some. let most = whole.within some in omega arith;
   booked =
       let all = total_updated held_cost refl c.live new key None now others in
       let here = ap held_cost was ∙ ap (λ b. if b then 0 else cost_of_blocks (length v.version.blocks)) ended in

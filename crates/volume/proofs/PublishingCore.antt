@@ -278,6 +278,11 @@ module _ (size : ℕ) (c c' : VolumeCore) (key : ℕ) (p : PendingVersion) (at :
     apart = made_current_apart;
     fits = let fits = whole.fits in let few = no_more_booked in omega arith;
     booked = made_current_booked;
+    beyond = λ some.
+        let waiting = pending_total pending_cost refl in
+        let most = whole.within (omega arith) in
+        let few = no_more_booked in
+        omega arith;
     within = λ some.
         let waiting = pending_total pending_cost refl in
         let most = whole.within (omega arith) in

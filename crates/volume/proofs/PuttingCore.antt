@@ -225,6 +225,7 @@ module _ (size : ℕ) (c : VolumeCore) (whole : IsWholeCore size c) (key : ℕ) 
           (λ new. all_times_at (InSpace size) v.blocks n grown.inside new.1) (held_or_new n some);
       apart = λ n some. ⊎_elim (λ old. whole.apart n old) (λ new. clear_apart n new.0) (held_or_new n some);
       fits = let few = grown.within in let large = whole.map.volume.large in omega arith;
+      beyond = λ some. let few = grown.within in omega arith;
       within = λ some. grown.within;
       booked =
           let all = new_total pending_cost refl in

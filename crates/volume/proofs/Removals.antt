@@ -79,12 +79,12 @@ none_waits n [] none = refl
 none_waits n (None ∷ os) none = let rest = none_waits n os (omega arith) in omega arith
 none_waits n (Some p ∷ os) none = absurd (omega arith)
 
--- what is booked lies within the free space, where anything beyond the files is; and nothing is held where nothing is
+-- with anything beyond the files no more is booked than twice the disk; and nothing is held where there is nothing
 pub holds_few : (size : ℕ) (c : VolumeCore) → IsWholeCore size c → (n : ℕ) → holds c.known.table n + 1 < 2 ^ 32
 holds_few size c whole n = ⊎_elim
     (λ (some : 0 < cost_beyond c).
     let few = core_holds size c whole n in
-    let most = whole.within some in
+    let most = whole.beyond some in
     let large = whole.map.volume.large in
     omega arith)
     (λ (none : cost_beyond c ≡ 0).

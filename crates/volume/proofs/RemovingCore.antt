@@ -1,6 +1,6 @@
 -- A file is deleted: what is in core stays whole.
-use Rattle.std.proofs.Common.{◌≡◌, ℕ, ◌+◌, ◌-◌, ◌<◌, ◌≤◌, ◌==◌, ◌⊎◌, inl, inr, ⊎_elim, if◌then◌else◌, false, List}
-use Rattle.std.proofs.Common.{[], ◌∷◌, ◌++◌, length, slice_set, Option, Some, None, IfSome, refl, sym, ap, subst, ◌∙◌}
+use Rattle.std.proofs.Common.{◌≡◌, ℕ, ◌+◌, ◌-◌, ◌*◌, ◌<◌, ◌≤◌, ◌⊎◌, inl, inr, ⊎_elim, List}
+use Rattle.std.proofs.Common.{◌++◌, length, slice_set, Option, Some, None, IfSome, refl, sym, ap, subst, ◌∙◌}
 use Rattle.std.proofs.Common.{arith}
 use Rattle.std.proofs.lemmas.Bool.{cases_lt}
 use Rattle.std.proofs.lemmas.List.{get_or_past, length-set}
@@ -19,7 +19,7 @@ use Rattle.meaning.proofs.DiskMaps.{fixed_below}
 use Rattle.meaning.proofs.MapLaws.{some_same}
 use Rattle.meaning.proofs.MapSums.{times-append}
 use Rattle.meaning.proofs.Walking.{all_front}
-use Rattle.alloctab.specs.TableState.{bit, holds, space}
+use Rattle.alloctab.specs.TableState.{IsTable, bit, holds}
 use Rattle.changeset.specs.PutLaws.{some_or_none}
 use Rattle.directory.specs.Chains.{ChainState, IsChain}
 use Rattle.volume.specs.Known.{KnownDirectory, blocks_reached, reaches_in_known, reaches_in_entries, cost_of_directory}
@@ -31,8 +31,9 @@ use Rattle.volume.specs.Publishing.{left_of}
 use Rattle.volume.specs.Removing.{RemovesFile}
 use Rattle.volume.specs.declared.live.LiveVersion.{LiveVersion}
 use Rattle.volume.specs.declared.pending.PendingVersion.{PendingVersion}
+use Rattle.volume.proofs.CostBounds.{known_few}
 use Rattle.volume.proofs.FoundDirectories.{all_at}
-use Rattle.volume.proofs.Growing.{cost_rises, created_cost}
+use Rattle.volume.proofs.Growing.{cost_rises}
 use Rattle.volume.proofs.LiveLookups.{standing_at}
 use Rattle.volume.proofs.LiveTotals.{total_updated}
 use Rattle.volume.proofs.MakingHeld.{element_at}
@@ -42,27 +43,6 @@ use Rattle.volume.proofs.Pinning.{all_updated}
 use Rattle.volume.proofs.PublishingSlots.{set_total, set_each, all_places, set_growths, reaches_parts, Counts, counts}
 use Rattle.volume.proofs.PublishingSlots.{left_cases}
 use Rattle.volume.proofs.RemovedPlaces.{removed_before, removed_elsewhere}
-
--- with nothing that is being written no directory is to grow
-no_growths : (pending : List (Option PendingVersion)) (es : List MasterEntry) (ds : List KnownDirectory)
-    → total pending_cost pending ≡ 0 → growths pending es ds ≡ 0
-no_growths pending [] ds none = refl
-no_growths pending (e ∷ es) [] none = refl
-no_growths pending (e ∷ es) (d ∷ ds) none =
-    let rest = no_growths pending es ds none in
-    let few = created_cost e.0 pending in
-    let same = ap directory_cost (no_more (length d.chain.entries) (total (creates e.0) pending) (omega arith)) in
-    omega arith
-  where
-    no_more : (n m : ℕ) → m ≡ 0 → n + m ≡ n
-    no_more n m is = omega arith
-
--- nothing is left of a version that nobody reads
-nothing_left : (key : ℕ) (v : LiveVersion) → v.readers ≡ 0 → left_of (Some (key, v)) ≡ None
-nothing_left key v none = by v.readers none
-  where
-    by : (r : ℕ) → r ≡ 0 → (if r == 0 then None else Some (record v { is_current = false })) ≡ None
-    by r is = ap (λ (n : ℕ). if n == 0 then None else Some (record v { is_current = false })) is
 
 module _ (size : ℕ) (c c' : VolumeCore) (ppn : ℕ) (name : FileName) (key : ℕ) (v : LiveVersion) (puts : List Put)
     (whole : IsWholeCore size c) (is : RemovesFile size c c' ppn name key v puts) where
@@ -296,23 +276,18 @@ module _ (size : ℕ) (c c' : VolumeCore) (ppn : ℕ) (name : FileName) (key : �
       let master = ap (λ (m : ChainState MasterEntry). length m.blocks) is.removed.master in
       omega arith
 
-  -- With anything beyond the files there was something before, or readers hold the version.
-  removed_within : (0 < v.readers → c.known.table.booked ≤ space size) → 0 < cost_beyond c'
-      → c'.known.table.booked ≤ space size
-  removed_within room some = ⊎_elim
-      (λ (there : 0 < cost_beyond c). let most = whole.within there in let few = no_more_booked in omega arith)
-      (λ (nothing : cost_beyond c ≡ 0). ⊎_elim
-      (λ (read : 0 < v.readers). let most = room read in let few = no_more_booked in omega arith)
-      (λ (unread : v.readers ≡ 0).
-      let held = live_total held_cost refl in
-      let none = (counted 0).uncosted in
-      let gone : held_cost (left_of (Some (key, v))) ≡ 0 = ap held_cost (nothing_left key v unread) in
-      let waiting = same_pending pending_cost in
-      let grown = no_growths c'.pending c'.known.master.entries c'.known.directories (omega arith) in
-      absurd (omega arith)) (some_or_none v.readers)) (some_or_none (cost_beyond c))
+  -- with nothing beyond the files what they cost is booked
+  removed_beyond : IsTable c.known.table → 0 < cost_beyond c' → c'.known.table.booked ≤ 2 * size
+  removed_beyond sound some = ⊎_elim
+      (λ (there : 0 < cost_beyond c). let most = whole.beyond there in let few = no_more_booked in omega arith)
+      (λ (nothing : cost_beyond c ≡ 0).
+      let most = known_few size c.known whole.map sound in
+      let booked = whole.booked in
+      let few = no_more_booked in
+      omega arith) (some_or_none (cost_beyond c))
 
-  pub removed_whole : (0 < v.readers → c.known.table.booked ≤ space size) → IsWholeCore size c'
-  removed_whole room = record {
+  pub removed_whole : IsTable c.known.table → IsWholeCore size c'
+  removed_whole sound = record {
     map = removed_map;
     keyed = is.keyed;
     standing = removed_standing;
@@ -340,5 +315,10 @@ module _ (size : ℕ) (c c' : VolumeCore) (ppn : ℕ) (name : FileName) (key : �
     apart = removed_apart;
     fits = let fits = whole.fits in let few = no_more_booked in omega arith;
     booked = removed_booked;
-    within = removed_within room;
+    beyond = removed_beyond sound;
+    within = λ some.
+        let waiting = same_pending pending_cost in
+        let most = whole.within (omega arith) in
+        let few = no_more_booked in
+        omega arith;
   }

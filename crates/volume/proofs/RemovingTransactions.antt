@@ -1,5 +1,5 @@
 -- A file is deleted on the disk: the puts are committed, with no block written before.
-use Rattle.std.proofs.Common.{◌≡◌, ◌⊎◌, ⊎_elim, ℕ, ◌<◌, ◌≤◌, Bool, true, false, List, Some, refl, sym, ap}
+use Rattle.std.proofs.Common.{◌≡◌, ◌⊎◌, ⊎_elim, ℕ, Bool, true, false, List, Some, refl, sym, ap}
 use Rattle.std.proofs.Common.{subst, ◌∙◌, arith}
 use Rattle.std.proofs.lemmas.Bool.{cases_eq}
 use Rattle.words36.specs.declared.names.FileName.{FileName}
@@ -13,7 +13,7 @@ use Rattle.meaning.specs.Log.{with_puts}
 use Rattle.meaning.specs.Maps.{get, times}
 use Rattle.meaning.specs.Stands.{StoredDirectory, DiskMap, files_of}
 use Rattle.meaning.proofs.MapLaws.{some_same, some_none}
-use Rattle.alloctab.specs.TableState.{space}
+use Rattle.alloctab.specs.TableState.{IsTable}
 use Rattle.volume.specs.Known.{IsHeld}
 use Rattle.volume.specs.Live.{VolumeCore, slot, pending_at, as_known, IsWholeCore}
 use Rattle.volume.specs.Removing.{files_removed, RemovesFile}
@@ -30,9 +30,9 @@ use Rattle.volume.proofs.RemovingLaw.{map_removed, removed_files, removing_leads
 
 module _ (s s' : DiskState) (c c' : VolumeCore) (ppn : ℕ) (name : FileName) (key : ℕ) (v : LiveVersion)
     (puts : List Put) (whole : IsWholeCore s.size c) (is : RemovesFile s.size c c' ppn name key v puts)
-    (room : 0 < v.readers → c.known.table.booked ≤ space s.size) where
+    (table : IsTable c.known.table) where
   pub now_whole : IsWholeCore s.size c'
-  now_whole = removed_whole s.size c c' ppn name key v puts whole is room
+  now_whole = removed_whole s.size c c' ppn name key v puts whole is table
 
   -- a volume that failed stays sound, whatever the disk does
   pub removed_failed : SameDisk s s' → IsSound s' c' true

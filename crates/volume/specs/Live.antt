@@ -1,8 +1,8 @@
 -- What a volume keeps in core: what it knows of its disk, the key of each file's version, and the versions
 -- under their keys. One is current where a file of the disk has it; another is there while readers hold it.
 -- Besides them there are versions that are being written, which nobody else sees.
-use Rattle.std.specs.Prelude.{◌≡◌, ℕ, ◌+◌, ◌-◌, ◌^◌, ◌<◌, ◌≤◌, ◌==◌, Bool, true, false, if◌then◌else◌, List, [], ◌∷◌}
-use Rattle.std.specs.Prelude.{length, Option}
+use Rattle.std.specs.Prelude.{◌≡◌, ℕ, ◌+◌, ◌-◌, ◌*◌, ◌^◌, ◌<◌, ◌≤◌, ◌==◌, Bool, true, false, if◌then◌else◌, List, []}
+use Rattle.std.specs.Prelude.{◌∷◌, length, Option}
 use Rattle.std.specs.Prelude.{Some, None, IfSome, slice_index_or}
 use Rattle.std.specs.List.{AllByRecursion, AllZip}
 use Rattle.std.specs.Ordering.{nat_cmp}
@@ -171,5 +171,7 @@ pub record IsWholeCore (size : ℕ) (c : VolumeCore) : Type 0 where
   -- what the map costs is booked, and what is beyond
   pub fits : c.known.table.booked < 2 ^ 63
   pub booked : c.known.table.booked ≡ cost_of_known c.known.master c.known.directories + cost_beyond c
-  -- with anything booked beyond the map, all lies within the free space
-  pub within : 0 < cost_beyond c → c.known.table.booked ≤ space size
+  -- with anything booked beyond the map, that is no more than twice as many blocks as the disk has, and while anything
+  -- is being written it lies within the free space
+  pub beyond : 0 < cost_beyond c → c.known.table.booked ≤ 2 * size
+  pub within : 0 < total pending_cost c.pending → c.known.table.booked ≤ space size

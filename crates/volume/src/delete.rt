@@ -11,13 +11,13 @@ ghost use Rattle.meaning.specs.declared.put.Put.{Put};
 ghost use Rattle.meaning.specs.Directories.{file_words, IsFileEntry};
 ghost use Rattle.meaning.specs.Files.{File, Files, name_cmp};
 ghost use Rattle.meaning.specs.Maps.{remove, from_entries, times};
-ghost use Rattle.alloctab.specs.TableState.{IsTable, bit, space};
+ghost use Rattle.alloctab.specs.TableState.{IsTable, bit};
 ghost use Rattle.directory.specs.Chains.{IsChain, viewed};
 ghost use Rattle.directory.specs.Edits.{StandsAt, PutsChain, removed, last_first};
 ghost use Rattle.volume.specs.Beginning.{IsDirectoryOf};
 ghost use Rattle.volume.specs.Cores.{file_view};
 ghost use Rattle.volume.specs.Known.{KnownDirectory};
-ghost use Rattle.volume.specs.Live.{slot, IsCurrentAt, IsWholeCore};
+ghost use Rattle.volume.specs.Live.{slot, IsWholeCore};
 ghost use Rattle.volume.specs.LiveCores.{core_of};
 ghost use Rattle.volume.specs.Pins.{IsKeyOf};
 ghost use Rattle.volume.specs.Places.{prime_at};
@@ -96,8 +96,9 @@ fn remove_in_core(core: &mut LiveMap, ppn: Ppn, name: &FileName, set: &mut Chang
     requires whole { IsWholeCore core.old.table.size (core_of core.old) }
     requires there { (key : ℕ) × IsKeyOf (core_of core.old) ppn name.now key }
     requires empty { set.old ≡ [] }
-    ensures { (key : ℕ) × (v : LiveVersion) × RemovesFile core.old.table.size (core_of core.old)
+    ensures removed { (key : ℕ) × (v : LiveVersion) × RemovesFile core.old.table.size (core_of core.old)
         (core_of core.new) ppn name.now key v set.new }
+    ensures table { IsTable core.old.table }
 {
     let place = place_of(&core.master, ppn);
     let _booked = core.table.booked(); // any table is one as it should be
@@ -120,11 +121,6 @@ impl<D: Disk> Volume<D> {
     /// with `NotFound` where it has no such file. All is as before then. `Device` where the device failed, and the
     /// volume with it: a later start finds the files without it, or those from before.
     pub fn delete(&mut self, ppn: Ppn, name: &FileName) -> Result<(), CallError>
-        // Where readers hold its version, that is booked beyond the files from then on, and all that is booked has to
-        // lie within the free space (`within` of `IsWholeCore`).
-        requires room { (v : LiveVersion) → IsCurrentAt self.old.core ppn name.now v → 0 < v.readers
-            → self.old.core.known.table.booked ≤ space (D.state self.old.disk).size }
-
         // Let all that a crash may leave stand for f. Then a crash at any moment leaves what stands for f, or for
         // f without the file.
         ensures crash { (D.state self.new.disk).honest → (f : Files File) → RestsAt (D.state self.old.disk) f

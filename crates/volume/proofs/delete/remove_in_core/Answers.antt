@@ -185,8 +185,8 @@ changes-requires c =
     c.retire.new.table c.retire.ensures.retired c.clear_left.new.table c.clear_left.ensures
     c.unbook.new.self c.unbook.ensures c.remove_entry-key.new.set out.put out.few
 
-pub returns : goal.returns
-returns c =
+pub returns-clause-removed : goal.returns-clause-removed
+returns-clause-removed c =
     let m = c.args.core.now in
     let ppn = c.args.ppn in
     let name = c.args.name.now in

@@ -1,10 +1,8 @@
-use Rattle.std.proofs.Common.{◌≤◌, ◌<◌, ℕ, sym, subst}
-use Rattle.alloctab.specs.TableState.{space}
-use Rattle.volume.specs.Live.{as_known, IsCurrentAt}
+use Rattle.std.proofs.Common.{ℕ, subst}
+use Rattle.volume.specs.Live.{as_known}
 use Rattle.volume.specs.LiveCores.{core_of}
 use Rattle.volume.specs.Removing.{RemovesFile}
-use Rattle.volume.specs.declared.live.LiveVersion.{LiveVersion}
-use Rattle.volume.proofs.RemovedPlaces.{is_named, primes_elsewhere, primes_gone, removed_current}
+use Rattle.volume.proofs.RemovedPlaces.{is_named, primes_elsewhere, primes_gone}
 use Rattle.volume.proofs.RemovingLaw.{removed_in_range}
 use Rattle.volume.proofs.RemovingTransactions.{removed_failed, removed_sound, removed_crash, removed_done}
 use Rattle.volume.proofs.RemovingTransactions.{removed_reads, removed_writes}
@@ -18,7 +16,7 @@ commit_puts-requires-clause-in_range g c =
     let ppn = c.args.ppn in
     let name = c.args.name.now in
     let puts = c.remove_in_core.new.set in
-    let made = c.remove_in_core.ensures in
+    let made = c.remove_in_core.ensures.removed in
     let key = made.0 in
     let v = made.1 in
     let whole = c.self.invariant.whole in
@@ -35,16 +33,14 @@ invariant_of-self-in-Err-commit_puts g c =
     let ppn = c.args.ppn in
     let name = c.args.name.now in
     let puts = c.remove_in_core.new.set in
-    let made = c.remove_in_core.ensures in
+    let made = c.remove_in_core.ensures.removed in
     let key = made.0 in
     let v = made.1 in
     let whole = c.self.invariant.whole in
     let is : RemovesFile s.size core new ppn name key v puts = subst (λ (b : ℕ).
     RemovesFile b core new ppn name key v puts) whole.map.size_is made.2 in
-    let room = subst (λ m. (x : LiveVersion) → IsCurrentAt m.core ppn name x → 0 < x.readers
-    → m.core.known.table.booked ≤ space (g.D.Disk.state m.disk).size) (sym c.self.view_is) c.requires.room v
-    (removed_current s.size core new ppn name key v puts is) in
-    removed_failed s s' core new ppn name key v puts whole is room c.commit_puts.ensures.same
+    let table = c.remove_in_core.ensures.table in
+    removed_failed s s' core new ppn name key v puts whole is table c.commit_puts.ensures.same
 
 pub invariant_of-self : goal.invariant_of-self
 invariant_of-self g c =
@@ -55,16 +51,14 @@ invariant_of-self g c =
     let ppn = c.args.ppn in
     let name = c.args.name.now in
     let puts = c.remove_in_core.new.set in
-    let made = c.remove_in_core.ensures in
+    let made = c.remove_in_core.ensures.removed in
     let key = made.0 in
     let v = made.1 in
     let whole = c.self.invariant.whole in
     let is : RemovesFile s.size core new ppn name key v puts = subst (λ (b : ℕ).
     RemovesFile b core new ppn name key v puts) whole.map.size_is made.2 in
-    let room = subst (λ m. (x : LiveVersion) → IsCurrentAt m.core ppn name x → 0 < x.readers
-    → m.core.known.table.booked ≤ space (g.D.Disk.state m.disk).size) (sym c.self.view_is) c.requires.room v
-    (removed_current s.size core new ppn name key v puts is) in
-    removed_sound s s' core new ppn name key v puts whole is room c.self.inside.failed c.self.invariant
+    let table = c.remove_in_core.ensures.table in
+    removed_sound s s' core new ppn name key v puts whole is table c.self.inside.failed c.self.invariant
     c.commit_puts.ensures.same
     c.in-Ok.ensures.modified c.in-Ok.ensures.all c.in-Ok.ensures.settled c.in-Ok.ensures.shut
 
@@ -77,16 +71,14 @@ returns-in-Ok-clause-crash g c = rw (← c.self.view_is) (λ h f rests.
     let ppn = c.args.ppn in
     let name = c.args.name.now in
     let puts = c.remove_in_core.new.set in
-    let made = c.remove_in_core.ensures in
+    let made = c.remove_in_core.ensures.removed in
     let key = made.0 in
     let v = made.1 in
     let whole = c.self.invariant.whole in
     let is : RemovesFile s.size core new ppn name key v puts = subst (λ (b : ℕ).
     RemovesFile b core new ppn name key v puts) whole.map.size_is made.2 in
-    let room = subst (λ m. (x : LiveVersion) → IsCurrentAt m.core ppn name x → 0 < x.readers
-    → m.core.known.table.booked ≤ space (g.D.Disk.state m.disk).size) (sym c.self.view_is) c.requires.room v
-    (removed_current s.size core new ppn name key v puts is) in
-    removed_crash s s' core new ppn name key v puts whole is room
+    let table = c.remove_in_core.ensures.table in
+    removed_crash s s' core new ppn name key v puts whole is table
     (c.self.invariant.rest (c.commit_puts.ensures.same.was_honest h) c.if-self.false) f rests
     (c.commit_puts.ensures.crash h))
 
@@ -99,16 +91,14 @@ returns-in-Err-commit_puts-clause-crash g c = rw (← c.self.view_is) (λ h f re
     let ppn = c.args.ppn in
     let name = c.args.name.now in
     let puts = c.remove_in_core.new.set in
-    let made = c.remove_in_core.ensures in
+    let made = c.remove_in_core.ensures.removed in
     let key = made.0 in
     let v = made.1 in
     let whole = c.self.invariant.whole in
     let is : RemovesFile s.size core new ppn name key v puts = subst (λ (b : ℕ).
     RemovesFile b core new ppn name key v puts) whole.map.size_is made.2 in
-    let room = subst (λ m. (x : LiveVersion) → IsCurrentAt m.core ppn name x → 0 < x.readers
-    → m.core.known.table.booked ≤ space (g.D.Disk.state m.disk).size) (sym c.self.view_is) c.requires.room v
-    (removed_current s.size core new ppn name key v puts is) in
-    removed_crash s s' core new ppn name key v puts whole is room
+    let table = c.remove_in_core.ensures.table in
+    removed_crash s s' core new ppn name key v puts whole is table
     (c.self.invariant.rest (c.commit_puts.ensures.same.was_honest h) c.if-self.false) f rests
     (c.commit_puts.ensures.crash h))
 
@@ -121,16 +111,14 @@ returns-in-Ok-clause-done g c = rw (← c.self.view_is) (λ h f rests.
     let ppn = c.args.ppn in
     let name = c.args.name.now in
     let puts = c.remove_in_core.new.set in
-    let made = c.remove_in_core.ensures in
+    let made = c.remove_in_core.ensures.removed in
     let key = made.0 in
     let v = made.1 in
     let whole = c.self.invariant.whole in
     let is : RemovesFile s.size core new ppn name key v puts = subst (λ (b : ℕ).
     RemovesFile b core new ppn name key v puts) whole.map.size_is made.2 in
-    let room = subst (λ m. (x : LiveVersion) → IsCurrentAt m.core ppn name x → 0 < x.readers
-    → m.core.known.table.booked ≤ space (g.D.Disk.state m.disk).size) (sym c.self.view_is) c.requires.room v
-    (removed_current s.size core new ppn name key v puts is) in
-    removed_done s s' core new ppn name key v puts whole is room
+    let table = c.remove_in_core.ensures.table in
+    removed_done s s' core new ppn name key v puts whole is table
     (c.self.invariant.rest (c.commit_puts.ensures.same.was_honest h) c.if-self.false) c.commit_puts.ensures.same f rests
     (c.in-Ok.ensures.all h) (c.in-Ok.ensures.settled h) (c.in-Ok.ensures.shut h))
 
@@ -143,16 +131,14 @@ returns-in-Ok-clause-readers g c = rw (← c.self.view_is) (λ h served.
     let ppn = c.args.ppn in
     let name = c.args.name.now in
     let puts = c.remove_in_core.new.set in
-    let made = c.remove_in_core.ensures in
+    let made = c.remove_in_core.ensures.removed in
     let key = made.0 in
     let v = made.1 in
     let whole = c.self.invariant.whole in
     let is : RemovesFile s.size core new ppn name key v puts = subst (λ (b : ℕ).
     RemovesFile b core new ppn name key v puts) whole.map.size_is made.2 in
-    let room = subst (λ m. (x : LiveVersion) → IsCurrentAt m.core ppn name x → 0 < x.readers
-    → m.core.known.table.booked ≤ space (g.D.Disk.state m.disk).size) (sym c.self.view_is) c.requires.room v
-    (removed_current s.size core new ppn name key v puts is) in
-    removed_reads s s' core new ppn name key v puts whole is room
+    let table = c.remove_in_core.ensures.table in
+    removed_reads s s' core new ppn name key v puts whole is table
     (c.in-Ok.ensures.modified h))
 
 pub returns-in-Ok-clause-writers : goal.returns-in-Ok-clause-writers
@@ -164,16 +150,14 @@ returns-in-Ok-clause-writers g c = rw (← c.self.view_is) (λ h served.
     let ppn = c.args.ppn in
     let name = c.args.name.now in
     let puts = c.remove_in_core.new.set in
-    let made = c.remove_in_core.ensures in
+    let made = c.remove_in_core.ensures.removed in
     let key = made.0 in
     let v = made.1 in
     let whole = c.self.invariant.whole in
     let is : RemovesFile s.size core new ppn name key v puts = subst (λ (b : ℕ).
     RemovesFile b core new ppn name key v puts) whole.map.size_is made.2 in
-    let room = subst (λ m. (x : LiveVersion) → IsCurrentAt m.core ppn name x → 0 < x.readers
-    → m.core.known.table.booked ≤ space (g.D.Disk.state m.disk).size) (sym c.self.view_is) c.requires.room v
-    (removed_current s.size core new ppn name key v puts is) in
-    removed_writes s s' core new ppn name key v puts whole is room
+    let table = c.remove_in_core.ensures.table in
+    removed_writes s s' core new ppn name key v puts whole is table
     (c.in-Ok.ensures.modified h))
 
 pub returns-in-Ok-clause-removed : goal.returns-in-Ok-clause-removed
@@ -184,7 +168,7 @@ returns-in-Ok-clause-removed g c = rw (← c.self.view_is) (
     let ppn = c.args.ppn in
     let name = c.args.name.now in
     let puts = c.remove_in_core.new.set in
-    let made = c.remove_in_core.ensures in
+    let made = c.remove_in_core.ensures.removed in
     let key = made.0 in
     let v = made.1 in
     let whole = c.self.invariant.whole in
@@ -200,7 +184,7 @@ returns-in-Ok-clause-primes g c = rw (← c.self.view_is) (
     let ppn = c.args.ppn in
     let name = c.args.name.now in
     let puts = c.remove_in_core.new.set in
-    let made = c.remove_in_core.ensures in
+    let made = c.remove_in_core.ensures.removed in
     let key = made.0 in
     let v = made.1 in
     let whole = c.self.invariant.whole in
@@ -216,7 +200,7 @@ returns-in-Ok-clause-gone g c =
     let ppn = c.args.ppn in
     let name = c.args.name.now in
     let puts = c.remove_in_core.new.set in
-    let made = c.remove_in_core.ensures in
+    let made = c.remove_in_core.ensures.removed in
     let key = made.0 in
     let v = made.1 in
     let whole = c.self.invariant.whole in
