@@ -219,8 +219,13 @@ module _ (size : ℕ) (c c' : VolumeCore) (ppn : ℕ) (puts : List Put) (core : 
         let cost = cost_less size k k' ppn puts core.map removed in
         let beyond = beyond_same in
         omega arith;
+    beyond = λ some.
+        let most = core.beyond (let beyond = beyond_same in omega arith) in
+        let less = removed.booked in
+        omega arith;
     within = λ some.
-        let most = core.within (let beyond = beyond_same in omega arith) in
+        let waits = ap (total pending_cost) removes.pending in
+        let most = core.within (omega arith) in
         let less = removed.booked in
         omega arith;
   }
