@@ -17,7 +17,7 @@ use Rattle.meaning.specs.Room.{growth}
 use Rattle.meaning.specs.Table.{fixed}
 use Rattle.meaning.proofs.DiskMaps.{fixed_below}
 use Rattle.meaning.proofs.MapSums.{times-append}
-use Rattle.alloctab.specs.TableState.{bit, holds}
+use Rattle.alloctab.specs.TableState.{holds}
 use Rattle.directory.specs.Chains.{ChainState, IsChain}
 use Rattle.volume.specs.Known.{KnownDirectory, blocks_reached, reaches_in_known, reaches_in_entries, cost_of_directory}
 use Rattle.volume.specs.Known.{cost_of_known, IsWholeVersion, IsWholeDirectory, IsWholeMap}

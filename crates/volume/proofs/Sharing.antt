@@ -1,5 +1,5 @@
 -- What versions that are being written share, where one begins with the blocks of its file, and where one becomes it.
-use Rattle.std.proofs.Common.{◌≡◌, ◌⊎◌, inl, inr, ⊎_elim, ℕ, ◌+◌, ◌<◌, ◌≤◌, Bool, true, if◌then◌else◌, List, [], ◌∷◌}
+use Rattle.std.proofs.Common.{◌≡◌, ◌⊎◌, inl, inr, ⊎_elim, ℕ, ◌+◌, ◌<◌, ◌≤◌, Bool, true, if◌then◌else◌, List, ◌∷◌}
 use Rattle.std.proofs.Common.{◌++◌, Option, Some}
 use Rattle.std.proofs.Common.{None, option_map, refl, sym, ap, subst, ◌∙◌, arith}
 use Rattle.std.proofs.lemmas.Bool.{cases_eq, cases_lt}
@@ -10,7 +10,7 @@ use Rattle.meaning.specs.Maps.{total, times}
 use Rattle.meaning.proofs.DiskMaps.{fixed_below}
 use Rattle.meaning.proofs.MapLaws.{some_same, some_none}
 use Rattle.meaning.proofs.MapSums.{times-append}
-use Rattle.alloctab.specs.TableState.{IsTable, bit, holds}
+use Rattle.alloctab.specs.TableState.{IsTable, bit}
 use Rattle.changeset.specs.PutLaws.{some_or_none}
 use Rattle.volume.specs.Known.{blocks_reached, given_up, prime_in}
 use Rattle.volume.specs.Live.{VolumeCore, as_known, slot, pending_at, current_reaches, pending_reaches, IsApart}
@@ -24,7 +24,7 @@ use Rattle.volume.proofs.OnePlace.{both_at, reached_once, one_key, one_place}
 use Rattle.volume.proofs.Pinning.{entries_within, total_at}
 use Rattle.volume.proofs.PublishingSlots.{reaches_parts}
 use Rattle.volume.proofs.Retiring.{set_inside}
-use Rattle.volume.proofs.PublishedPlaces.{published_here, published_before, published_elsewhere, same_place}
+use Rattle.volume.proofs.PublishedPlaces.{published_here, published_before, published_elsewhere}
 
 -- Blocks of current versions.
 

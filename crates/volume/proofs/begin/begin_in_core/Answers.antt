@@ -3,10 +3,9 @@ use Rattle.meaning.specs.Maps.{times}
 use Rattle.alloctab.specs.TableState.{TableState, holds}
 use Rattle.volume.specs.Beginning.{begin_cost, entries_with, begun, begun_version, is_absent, version_before}
 use Rattle.volume.specs.Live.{pending_at, is_create, IsWholeCore}
-use Rattle.volume.specs.LiveCores.{core_of, live_directory}
-use Rattle.volume.specs.declared.live.LiveMap.{LiveMap}
+use Rattle.volume.specs.LiveCores.{core_of}
 use Rattle.volume.specs.declared.pending.PendingVersion.{PendingVersion}
-use Rattle.volume.proofs.Beginnings.{absent_same, not_there, not_absent, before_same, cost_is, misfit_exists}
+use Rattle.volume.proofs.Beginnings.{absent_same, not_there, not_absent, cost_is, misfit_exists}
 use Rattle.volume.proofs.Beginnings.{misfit_absent, misfit_not, no_room, begun_inside, begun_once, begun_whole}
 use Rattle.volume.proofs.Beginnings.{known_place, named_here, before_none, has_version, fits_before, begun_hold}
 use Rattle.volume.proofs.Growing.{Adds, entries_few}

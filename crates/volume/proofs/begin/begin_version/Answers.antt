@@ -1,7 +1,6 @@
 use Rattle.std.proofs.Common.{sym, ◌∙◌}
 use Rattle.volume.specs.Beginning.{version_before}
 use Rattle.volume.proofs.Beginnings.{begun_bare}
-use Rattle.volume.specs.declared.pending.PendingVersion.{PendingVersion}
 use Rattle.volume.proofs.begin.begin_version.Goals as goal
 
 pub returns : goal.returns

@@ -1,6 +1,5 @@
-use Rattle.std.proofs.Common.{◌≡◌, ◌+◌, ◌<◌, length, refl, ap, arith}
+use Rattle.std.proofs.Common.{◌<◌, refl, ap, arith}
 use Rattle.std.proofs.lemmas.List.{length-map}
-use Rattle.meaning.specs.Maps.{total}
 use Rattle.volume.specs.Beginning.{entries_with}
 use Rattle.volume.specs.Cores.{file_view}
 use Rattle.volume.specs.Known.{KnownDirectory}

@@ -1,4 +1,4 @@
-use Rattle.std.proofs.Common.{◌≡◌, ◌↔◌, ◌+◌, ◌<◌, ℕ, Ok, Err, IsErrOf, refl, ap, subst, ◌∙◌, rules}
+use Rattle.std.proofs.Common.{◌↔◌, ◌+◌, ◌<◌, ℕ, Ok, Err, IsErrOf, refl, ap, subst, ◌∙◌, rules}
 use Rattle.std.proofs.lemmas.Result.{err_from_is_err_and}
 use Rattle.meaning.specs.declared.code.ErrorCode.TheVariants.{NameExists, NotFound, NoRoom}
 use Rattle.alloctab.specs.TableState.{space}
