@@ -1,4 +1,4 @@
-ghost use Rattle.std.specs.Prelude.{◌<◌};
+ghost use Rattle.std.specs.Prelude.{◌≡◌, ◌<◌};
 ghost use Rattle.volume.specs.Pins.{IsReadable};
 ghost use Rattle.volume.specs.declared.handles.Pin.{Pin};
 ghost use Rattle.volume.specs.declared.handles.VersionHandle.TheVariants.{Pinned};
@@ -41,7 +41,9 @@ fn delete_directory<D: Disk>(rt: &impl Abort, volume: &mut Volume<D>) -> bool {
 }
 
 /// The directory [10,20] isn't deleted, with this code.
-fn expect_directory_kept<D: Disk>(rt: &impl Abort, volume: &mut Volume<D>, code: ErrorCode) {
+fn expect_directory_kept<D: Disk>(rt: &impl Abort, volume: &mut Volume<D>, code: ErrorCode)
+    ensures { volume.new.core.pending ≡ volume.old.core.pending }
+{
     assert!(rt; volume.delete_dir(ppn_of(rt)) == Err(CallError::Refused(code)));
 }
 
@@ -223,9 +225,9 @@ fn make_directory(rt: &impl Abort, alloc: Global, volume: &mut Volume<MemDisk>, 
 }
 
 /// Makes directories beside [10,20], so that there are so many.
-fn make_each(rt: &impl Abort, alloc: Global, volume: &mut Volume<MemDisk>, count: u32) {
+fn make_each(rt: &impl Abort, alloc: Global, volume: &mut Volume<MemDisk>, count: u16) {
     for n in 1..count {
-        assert!(rt; make_directory(rt, alloc, volume, 0o100 + n));
+        assert!(rt; make_directory(rt, alloc, volume, 0o100 + u32::from(n)));
     }
 }
 
