@@ -19,3 +19,4 @@ pub mod Places
 pub mod States
 pub mod Claims
 pub mod Removing
+pub mod Moving
