@@ -67,3 +67,5 @@ pub mod Claiming
 pub mod RemovingLists
 pub mod RemovingEntries
 pub mod Removals
+pub mod RenamingEntries
+pub mod Renamings
