@@ -69,3 +69,4 @@ pub mod RemovingEntries
 pub mod Removals
 pub mod RenamingEntries
 pub mod Renamings
+pub mod RenamingLaw

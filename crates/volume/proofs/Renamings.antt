@@ -251,7 +251,7 @@ names_differ a b differ same = by (b.name == b.name) (b.ext == b.ext) (itself b.
     itself n = grind (arith, nat_tests)
 
     by : (x y : Bool) → x ≡ true → y ≡ true → false ≡ (x && y) → ⊥
-    by x y p q no = let both : (x && y) ≡ true = λ i. p i && q i in let no' : false ≡ true = no ∙ both in cc
+    by x y p q differs = let both : (x && y) ≡ true = λ i. p i && q i in let apart : false ≡ true = differs ∙ both in cc
 
 -- The version under a key.
 
