@@ -70,3 +70,5 @@ pub mod Removals
 pub mod RenamingEntries
 pub mod Renamings
 pub mod RenamingLaw
+pub mod RenamedPlaces
+pub mod RenamingCore

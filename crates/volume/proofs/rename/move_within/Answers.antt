@@ -1,8 +1,9 @@
 use Rattle.volume.proofs.RenamingLaw.{moving_leads}
+use Rattle.volume.proofs.RenamingCore.{moved_whole}
 use Rattle.volume.proofs.rename.move_within.Goals as goal
 
 pub read_prime-requires : goal.read_prime-requires
-read_prime-requires g c = ?
+read_prime-requires g c = let a = moving_leads in let b = moved_whole in ?
 
 pub returns-in-Err-clause-held : goal.returns-in-Err-clause-held
 returns-in-Err-clause-held g c = ?
