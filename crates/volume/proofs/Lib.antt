@@ -72,3 +72,4 @@ pub mod Renamings
 pub mod RenamingLaw
 pub mod RenamedPlaces
 pub mod RenamingCore
+pub mod RenamingTransactions

@@ -1,5 +1,5 @@
 -- A file gets another name in its directory: what is in core stays whole.
-use Rattle.std.proofs.Common.{◌≡◌, ℕ, ◌+◌, ◌-◌, ◌<◌, ◌≤◌, ◌⊎◌, inl, inr, ⊎_elim, false, List, length, slice_set, Option}
+use Rattle.std.proofs.Common.{◌≡◌, ℕ, ◌+◌, ◌-◌, ◌<◌, ◌≤◌, ◌⊎◌, inl, inr, ⊎_elim, true, false, List, length, slice_set, Option}
 use Rattle.std.proofs.Common.{Some, None, IfSome, refl, sym, ap, subst, ◌∙◌, arith}
 use Rattle.std.proofs.lemmas.Bool.{cases_eq}
 use Rattle.std.proofs.lemmas.List.{length-set}
@@ -150,6 +150,14 @@ module _ (size : ℕ) (c c' : VolumeCore) (ppn : ℕ) (name to : FileName) (prot
   same_holds : (n : ℕ) → holds c'.known.table n ≡ holds c.known.table n
   same_holds n = ap (λ (t : TableState). holds t n) is.moved.table
 
+  moved_primes : (k : ℕ) (u : LiveVersion) → slot c'.live k ≡ Some u → u.is_current ≡ true
+      → holds c.known.table u.at ≡ 0
+  moved_primes k u there current = ⊎_elim
+      (λ (same : k ≡ key).
+      let of : v' ≡ u = some_same (sym is.here ∙ sym (ap (slot c'.live) same) ∙ there) in
+      ap (λ (x : LiveVersion). holds c.known.table x.at) (sym of) ∙ whole.primes key v is.there is.current)
+      (λ other. whole.primes k u (sym (is.others k other) ∙ there) current) (cases_eq k key)
+
   -- Where nothing is written for the file, what is written shares nothing with it.
   module _ (unclaimed : claims c.pending (place_of ppn name) ≡ false) where
     moved_current : (p : PendingVersion) → ((p.prime.ppn ≡ ppn) × (p.prime.file ≡ name) → ⊥) → (u : LiveVersion)
@@ -221,6 +229,7 @@ module _ (size : ℕ) (c c' : VolumeCore) (ppn : ℕ) (name to : FileName) (prot
           let all = directory_total (λ d. times n d.chain.blocks) (chain_times n) in
           let master = master_times n in
           omega arith;
+      primes = λ k u there current. same_holds u.at ∙ moved_primes k u there current;
       fits = let same = same_booked in let fits = whole.fits in omega arith;
       booked =
           let same = same_booked in

@@ -289,6 +289,7 @@ fn move_within<D: Disk>(
     ensures served { (IsErrOf result Device → ⊥) → (D.state disk.new).failures ≡ (D.state disk.old).failures }
     ensures same { SameDisk (D.state disk.old) (D.state disk.new) }
 {
+    let _booked = map.table.booked(); // any table is one as it should be
     let at = prime_of(&map.versions, key);
     let words = match read_prime(disk, at) {
         Ok(words) => words,
