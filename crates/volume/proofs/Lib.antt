@@ -73,3 +73,4 @@ pub mod RenamingLaw
 pub mod RenamedPlaces
 pub mod RenamingCore
 pub mod RenamingTransactions
+pub mod RenamingAnswers

@@ -3,8 +3,10 @@
 use Rattle.std.specs.Prelude.{◌≡◌, ◌⊎◌, ℕ, ◌≤◌, true, List, [], length, slice_get, slice_set, Option, None, Some}
 use Rattle.std.specs.List.{AllZip}
 use Rattle.std.specs.Ordering.{nat_cmp}
+use Rattle.std.specs.FinMap.Entries.{find}
 use Rattle.words36.specs.declared.names.FileName.{FileName}
 use Rattle.changeset.specs.Puts.{replaced}
+use Rattle.meaning.specs.declared.code.ErrorCode.TheVariants.{NameExists}
 use Rattle.meaning.specs.declared.put.Put.{Put}
 use Rattle.meaning.specs.Directories.{FileEntry, file_words, IsFileEntry}
 use Rattle.meaning.specs.Files.{File, Files, Directory, name_cmp}
@@ -13,10 +15,14 @@ use Rattle.directory.specs.Chains.{IsChain}
 use Rattle.directory.specs.Edits.{StandsAt, PutsChain}
 use Rattle.retrieval.specs.Primes.{IsRewritten}
 use Rattle.retrieval.specs.declared.prime.Prime.{Prime}
+use Rattle.volume.specs.Beginning.{IsDirectoryOf}
 use Rattle.volume.specs.Known.{IsNamed, KnownVersion, KnownDirectory, Known, reaches_in_entries, cost_of_version}
 use Rattle.volume.specs.Live.{VolumeCore, as_known, slot, IsKeyed}
+use Rattle.volume.specs.Pins.{IsKeyOf, IsNoFile}
 use Rattle.volume.specs.Publishing.{files_published}
 use Rattle.volume.specs.Removing.{files_removed}
+use Rattle.volume.specs.declared.error.CallError.{CallError}
+use Rattle.volume.specs.declared.error.CallError.TheVariants.{Refused}
 use Rattle.volume.specs.declared.live.LiveVersion.{LiveVersion}
 
 -- Files.
@@ -73,6 +79,20 @@ pub record IsEntryRenamed (d d' : KnownDirectory) (name to : FileName) (old : �
   pub reaches : (n : ℕ) → reaches_in_entries n d'.chain.entries d'.versions
       ≡ reaches_in_entries n d.chain.entries d.versions
   pub cost : total cost_of_version d'.versions ≡ total cost_of_version d.versions
+
+-- Refusals.
+
+-- The new name is another one, and is there already, beside the file.
+pub record IsNameTaken (c : VolumeCore) (ppn : ℕ) (name to : FileName) : Type 0 where
+  pub other : to ≡ name → ⊥
+  pub key : ℕ
+  pub file : IsKeyOf c ppn name key
+  pub taken : (d : KnownDirectory) → IsDirectoryOf c ppn d → find name_cmp to d.chain.entries ≡ None → ⊥
+
+-- what refuses another name: there is no such file, or the name is taken
+abbrev pub IsMoveRefusal : VolumeCore → ℕ → FileName → FileName → CallError → Type 0
+IsMoveRefusal c ppn name to error = IsNoFile c ppn name error
+    ⊎ ((error ≡ Refused NameExists) × IsNameTaken c ppn name to)
 
 -- The map.
 

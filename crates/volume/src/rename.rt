@@ -22,8 +22,8 @@ ghost use Rattle.volume.specs.Cores.{file_view};
 ghost use Rattle.volume.specs.Known.{KnownDirectory};
 ghost use Rattle.volume.specs.Live.{slot, IsWholeCore};
 ghost use Rattle.volume.specs.LiveCores.{core_of};
-ghost use Rattle.volume.specs.Moving.{files_moved, IsFreeFor, IsPrimeMoved, MovesWithin};
-ghost use Rattle.volume.specs.Pins.{IsKeyOf, IsNoFile};
+ghost use Rattle.volume.specs.Moving.{files_moved, IsFreeFor, IsPrimeMoved, IsMoveRefusal, MovesWithin};
+ghost use Rattle.volume.specs.Pins.{IsKeyOf};
 ghost use Rattle.volume.specs.Places.{prime_at};
 ghost use Rattle.volume.specs.Rest.{IsSound, RestsAt, StandsForEither, KeepsRead, KeepsEachWritten};
 ghost use Rattle.volume.specs.declared.error.CallError.{CallError};
@@ -76,11 +76,7 @@ fn find_movable(
     ensures found { IfOk result (IsKeyOf (core_of map.now) ppn name.now) }
     ensures free { OnOk result ((d : KnownDirectory) → IsDirectoryOf (core_of map.now) ppn d
         → IsFreeFor d name.now to.now) }
-    ensures none { IfErr result (λ error. (error ≡ Refused NameExists → ⊥) → IsNoFile (core_of map.now) ppn name.now
-        error) }
-    ensures exists { IsErrOf result (Refused NameExists) → (to.now ≡ name.now → ⊥) × ((key : ℕ)
-        × IsKeyOf (core_of map.now) ppn name.now key) × ((d : KnownDirectory) → IsDirectoryOf (core_of map.now) ppn d
-        → find name_cmp to.now d.chain.entries ≡ None → ⊥) }
+    ensures refused { IfErr result (IsMoveRefusal (core_of map.now) ppn name.now to.now) }
 {
     let key = match find_version(map, ppn, name) {
         Ok(key) => key,
