@@ -6,7 +6,7 @@ use Rattle.std.specs.List.{AllByRecursion}
 use Rattle.std.proofs.lemmas.List.{take_more, take_all, take-append-drop, map-append, length-map, length-take-le}
 use Rattle.std.proofs.Math.Seq.{set-append_seam}
 use Rattle.words36.specs.Words.{join}
-use Rattle.meaning.specs.Retrieval.{Prime, pointer, prime_word, extension_word, attributes, prime_block}
+use Rattle.meaning.specs.Retrieval.{Prime, Run, pointer, prime_word, extension_word, attributes, prime_block}
 use Rattle.retrieval.specs.Heads.{prime_front}
 use Rattle.retrieval.proofs.Spellings.{ext_word}
 use Rattle.retrieval.specs.Pointers.{one_each}
@@ -100,3 +100,14 @@ block_written p ns part new count next is part_is new_is =
     ∙ ap (λ (n : ℕ). prime_front p count next ++ (pointers (take 112 ns) ++ replicate (112 - n) 0)) room
     ∙ ap (λ (n : ℕ). prime_front p n next
     ++ (pointers (take 112 ns) ++ replicate (112 - length (one_each (take 112 ns))) 0)) counted
+
+-- What a prime block says is written anew, its length and what follows stay.
+pub front_rewritten : (p q : Prime) (runs : List Run) (next b d e f : ℕ) (old : List ℕ) → q.date < 4096 → b ≡ 0
+    → d ≡ join q.place.name.ext b → e ≡ attributes q → f ≡ q.place.ppn → q.words ≡ p.words → old ≡ prime_block p runs next
+    → slice_set (slice_set (slice_set (slice_set old 1 q.place.name.name) 2 d) 3 e) 4 f ≡ prime_block q runs next
+front_rewritten p q runs next b d e f old fits none ext attr ppn length_is is =
+    let ext_is : d ≡ extension_word q = ext ∙ ap (λ (n : ℕ). join q.place.name.ext n) none ∙ add-zero _
+    ∙ ext_word q fits in
+    ap (λ (l : List ℕ). slice_set (slice_set (slice_set (slice_set l 1 q.place.name.name) 2 d) 3 e) 4 f) is
+    ∙ (λ i. prime_word ∷ q.place.name.name ∷ ext_is i ∷ attr i ∷ ppn i ∷ sym length_is i ∷ length runs ∷ next
+    ∷ 0 ∷ 0 ∷ 0 ∷ 0 ∷ 0 ∷ 0 ∷ 0 ∷ 0 ∷ (map pointer runs ++ replicate (112 - length runs) 0))

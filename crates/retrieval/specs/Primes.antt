@@ -1,6 +1,6 @@
 -- What a prime block says of its file, as code has it and as the disk does.
-use Rattle.std.specs.Prelude.{ℕ}
-use Rattle.meaning.specs.Retrieval.{Prime}
+use Rattle.std.specs.Prelude.{◌≡◌, ℕ, List}
+use Rattle.meaning.specs.Retrieval.{Prime, Run, prime_block}
 use Rattle.retrieval.specs.Modes.{mode_number}
 use Rattle.retrieval.specs.declared.prime.Prime.{Prime as PrimeValue}
 
@@ -14,3 +14,9 @@ with_length prime words = record {
   date = prime.moment.date;
   words = words;
 }
+
+-- Where the old words are those of a prime block, the new ones are those of one with the same length, the same runs and
+-- the same first extension that says of its file what this prime does.
+abbrev pub IsRewritten : List ℕ → List ℕ → PrimeValue → Type 0
+IsRewritten old new prime = (p : Prime) (runs : List Run) (next : ℕ) → old ≡ prime_block p runs next
+    → new ≡ prime_block (with_length prime p.words) runs next

@@ -4,7 +4,7 @@ ghost use Rattle.meaning.specs.Blocks.{head_or_zero};
 ghost use Rattle.meaning.specs.Retrieval.{pointer, prime_block};
 ghost use Rattle.retrieval.specs.Heads.{prime_front};
 ghost use Rattle.retrieval.specs.Pointers.{one_each};
-ghost use Rattle.retrieval.specs.Primes.{with_length};
+ghost use Rattle.retrieval.specs.Primes.{with_length, IsRewritten};
 
 use crate::head::{PRIME_WORD, attributes_word};
 use crate::{Prime, Version};
@@ -62,6 +62,19 @@ pub fn prime_block(prime: &Prime, version: &Version) -> Block
     let mut words = without_pointers(prime, version, count);
     put_pointers(&mut words, &blocks[..count]);
     words
+}
+
+/// The words of a prime block for another prime: what this one says is written anew, its length and where its data lie
+/// stay.
+pub fn prime_block_for(words: &Block, prime: &Prime) -> Block
+    ensures { IsRewritten words.now result prime.now }
+{
+    let mut anew = *words;
+    anew[1] = prime.file.name;
+    anew[2] = Word::from_halves(prime.file.ext, Half::from_bits(0));
+    anew[3] = attributes_word(prime);
+    anew[4] = prime.ppn.word();
+    anew
 }
 
 /// The first of the ribs, or 0 where there is none.

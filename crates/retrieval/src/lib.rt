@@ -10,7 +10,8 @@
 //!    (`blocks_inside`, `ribs_inside`, `counted`, `few`, `named`)
 //! 3. It writes nothing, and answers `Device` exactly with one more failure of the disk. (`keeps`,
 //!    `failed`, `served`)
-//! 4. `prime_block` spells the prime block of a version, a pointer of its own to each data block.
+//! 4. `prime_block` spells the prime block of a version, a pointer of its own to each data block. `prime_block_for`
+//!    writes one that was read for another name, and leaves its pointers as they are.
 //! 5. A `Prime` has a protection below 1000 (octal) and a date that fits the twelve bits of layout 1; a
 //!    `Mode` is one of the six data modes of files.
 //! 6. `write_version` writes no block but the prime block and the ribs that it took from the table, all
@@ -46,7 +47,7 @@ mod version;
 mod write;
 
 pub use body::get_words;
-pub use build::prime_block;
+pub use build::{prime_block, prime_block_for};
 pub use error::{BodyError, RetrievalError};
 pub use mode::Mode;
 pub use prime::Prime;

@@ -47,6 +47,7 @@ use Rattle.volume.proofs.Growing.{absent_at, one_place, Adds, added_total, creat
 use Rattle.volume.proofs.LiveLookups.{standing_at}
 use Rattle.volume.proofs.LiveTotals.{core_holds}
 use Rattle.volume.proofs.MakingHeld.{element_at}
+use Rattle.volume.proofs.OnePlace.{first_no_data}
 use Rattle.volume.proofs.Pinning.{all_updated}
 use Rattle.volume.proofs.PrimeBlocks.{prime_of_place}
 use Rattle.volume.proofs.PublishingEntries.{one_place as one_entry}
@@ -311,6 +312,15 @@ module _ (size : ℕ) (c : VolumeCore) (whole : IsWholeCore size c) (sound : IsT
           (λ new.
           let file = begun_shares n new in
           file_apart size c whole prime.ppn prime.file file.0 file.1 n file.2) (held_before n some);
+      primes = λ k u there current.
+          let none = whole.primes k u there current in
+          let sum = more u.at in
+          ⊎_elim
+          (λ some.
+          let file = begun_shares u.at some in
+          let apart = first_no_data size c whole k u there current file.1.key file.0 file.1.there file.1.current in
+          absurd (omega arith))
+          (λ away. omega arith) (some_or_none (times u.at (begun_version kind old).blocks));
       fits = let large = whole.map.volume.large in omega arith;
       beyond = λ some. omega (arith, room);
       within = λ some. room;

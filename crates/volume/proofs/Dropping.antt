@@ -119,6 +119,7 @@ module _ (size : ℕ) (c : VolumeCore) (whole : IsWholeCore size c) (less : List
           (whole.own k q (still_written k q at)) refl (λ n is. is) (λ n there set. set) still_written;
       inside = λ n there. whole.inside n (omega (arith, fewer n));
       apart = λ n there. whole.apart n (omega (arith, fewer n));
+      primes = λ k v there current. let none = whole.primes k v there current in omega (arith, fewer v.at);
       fits = let fits = whole.fits in omega arith;
       beyond = λ some.
           let more = added_total less c.pending key p adds pending_cost refl in

@@ -78,3 +78,10 @@ pub mod RemovingCore
 pub mod RemovingLaw
 pub mod RemovingTransactions
 pub mod CostBounds
+pub mod RenamingEntries
+pub mod Renamings
+pub mod RenamingLaw
+pub mod RenamedPlaces
+pub mod RenamingCore
+pub mod RenamingTransactions
+pub mod RenamingAnswers

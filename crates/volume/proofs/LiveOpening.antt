@@ -78,6 +78,7 @@ kept_whole size k c whole booked same keyed read none current =
       own = λ key p at. absurd (some_none (sym at ∙ ap (λ ps. pending_at ps key) none));
       inside = λ n some. let none = unheld n in absurd (omega arith);
       apart = λ n some. let none = unheld n in absurd (omega arith);
+      primes = λ key v there file. unheld v.at;
       beyond = λ some. absurd (let beyond = none_beyond c read none in omega arith);
       within = λ some. absurd (let waits = ap (total pending_cost) none in omega arith);
       fits = subst (λ (x : Known). x.table.booked < 2 ^ 63) (sym same) (map_few size k whole booked);

@@ -32,7 +32,7 @@ use Rattle.alloctab.specs.TableState.{bit, holds, space, IsFree}
 use Rattle.retrieval.specs.Writing.{IsFixed}
 use Rattle.volume.specs.Known.{KnownDirectory, Known, IsHeld, reaches_in_entries, reaches_in_known, known_reaches}
 use Rattle.volume.specs.Known.{IsWholeDirectory, IsWholeMap, cost_of_directory, cost_of_known, prime_in}
-use Rattle.volume.specs.Live.{VolumeCore, pending_at, IsKeyed, AreStanding, held_reaches, held_cost, current_reaches}
+use Rattle.volume.specs.Live.{VolumeCore, slot, pending_at, IsKeyed, AreStanding, held_reaches, held_cost, current_reaches}
 use Rattle.volume.specs.Live.{entry_reaches}
 use Rattle.volume.specs.Live.{pending_reaches, pending_cost, creates, growths, AreWaiting, IsWholeCore}
 use Rattle.volume.specs.declared.pending.PendingVersion.{PendingVersion}
@@ -297,6 +297,8 @@ module _ (size : ℕ) (k k' : Known) (ppn protection first : ℕ) (puts : List P
             let dirs = ap (total (λ (d : KnownDirectory). times n d.chain.blocks)) directories
             ∙ total-push (λ (d : KnownDirectory). times n d.chain.blocks) c.known.directories (bare_known first) in
             omega arith;
+        primes = λ key v there file. ap (λ l. slice_index l v.at) table
+            ∙ core.primes key v (ap (λ l. slot l key) (sym live) ∙ there) file;
         fits =
             let few = made.room in
             let large = whole.volume.large in

@@ -12,7 +12,9 @@ use Rattle.meaning.specs.Directories.{MasterEntry, FileEntry}
 use Rattle.meaning.specs.Files.{name_cmp}
 use Rattle.meaning.specs.Maps.{total, times}
 use Rattle.meaning.proofs.MapLaws.{some_same, some_none, tied}
+use Rattle.meaning.proofs.MapSums.{times-append}
 use Rattle.meaning.proofs.Names.{name_total, name_exact}
+use Rattle.alloctab.specs.TableState.{bit}
 use Rattle.changeset.specs.PutLaws.{times_head}
 use Rattle.volume.specs.Known.{KnownVersion, KnownDirectory, blocks_reached, reaches_in_entries, reaches_in_known}
 use Rattle.volume.specs.Known.{IsWholeDirectory}
@@ -65,6 +67,56 @@ one_key size c whole key key' v v' there there' current current' same = ⊎_elim
     let most = entries_within v'.at c.known.directories in
     let once = reached_once size c whole v'.at in
     absurd (omega arith)) (cases_eq key key')
+
+-- The prime block of a current version is set; it stands in no other one, and is no data block of its own.
+module _ (size : ℕ) (c : VolumeCore) (whole : IsWholeCore size c) (key : ℕ) (v : LiveVersion)
+    (there : slot c.live key ≡ Some v) (current : v.is_current ≡ true) where
+  current_once : total (current_reaches v.at) c.live ≤ 1
+  current_once =
+      let all = whole.current v.at in
+      let most = entries_within v.at c.known.directories in
+      let once = reached_once size c whole v.at in
+      omega arith
+
+  reaches_of : (l : ℕ) (u : LiveVersion) → slot c.live l ≡ Some u → u.is_current ≡ true
+      → current_reaches v.at (slot c.live l) ≡ times v.at (blocks_reached u.at u.version)
+  reaches_of l u at of_file = ap (current_reaches v.at) at
+      ∙ ap (λ (b : Bool). if b then times v.at (blocks_reached u.at u.version) else 0) of_file
+
+  pub first_set : 0 < bit c.known.table v.at
+  first_set =
+      let here = current_there c.live key v.at v there current refl in
+      let part = total_at (current_reaches v.at) refl c.live key in
+      let all = whole.current v.at in
+      let most = entries_within v.at c.known.directories in
+      let bits = whole.map.bits v.at in
+      omega arith
+
+  pub first_elsewhere : (l : ℕ) (u : LiveVersion) → slot c.live l ≡ Some u → u.is_current ≡ true → (key ≡ l → ⊥)
+      → times v.at (blocks_reached u.at u.version) ≡ 0
+  first_elsewhere l u at of_file apart =
+      let both = both_at (current_reaches v.at) refl c.live key l apart in
+      let one = current_there c.live key v.at v there current refl in
+      let other = reaches_of l u at of_file in
+      let once = current_once in
+      omega arith
+
+  pub first_no_data : (l : ℕ) (u : LiveVersion) → slot c.live l ≡ Some u → u.is_current ≡ true
+      → times v.at u.version.blocks ≡ 0
+  first_no_data l u at of_file = ⊎_elim
+      (λ (same : key ≡ l).
+      let is : u ≡ v = some_same (sym at ∙ ap (slot c.live) (sym same) ∙ there) in
+      let blocks = ap (λ (x : LiveVersion). times v.at x.version.blocks) is in
+      let part = total_at (current_reaches v.at) refl c.live key in
+      let here = reaches_of key v there current in
+      let head = times_head v.at v.at (v.version.ribs ++ v.version.blocks) refl in
+      let parts = times-append v.at v.version.ribs v.version.blocks in
+      let once = current_once in
+      omega arith)
+      (λ apart.
+      let none = first_elsewhere l u at of_file apart in
+      let parts = times-append v.at u.version.ribs u.version.blocks in
+      omega arith) (cases_eq key l)
 
 -- One entry.
 

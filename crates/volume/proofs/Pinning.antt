@@ -8,6 +8,7 @@ use Rattle.std.specs.Option.{option_map}
 use Rattle.meaning.specs.Costs.{cost_of_blocks}
 use Rattle.meaning.specs.Maps.{total, times}
 use Rattle.meaning.specs.Retrieval.{most_blocks}
+use Rattle.meaning.proofs.MapLaws.{some_same, some_none}
 use Rattle.alloctab.specs.TableState.{TableState, holds}
 use Rattle.volume.specs.Known.{KnownDirectory, Known, blocks_reached, reaches_in_known, IsWholeVersion, IsWholeMap}
 use Rattle.volume.specs.Live.{VolumeCore, as_known, slot, held_reaches, held_cost, current_reaches, entry_reaches}
@@ -127,6 +128,12 @@ counted_whole size c new key v readers whole was now others = record {
   });
   inside = whole.inside;
   apart = whole.apart;
+  primes = λ k w there current. ⊎_elim
+      (λ (same : k ≡ key).
+      let is : record v { readers = readers } ≡ w = some_same (sym now ∙ sym (ap (slot new) same) ∙ there) in
+      subst (λ (x : LiveVersion). holds c.known.table x.at ≡ 0) is
+      (whole.primes key v was (ap (λ (x : LiveVersion). x.is_current) is ∙ current)))
+      (λ other. whole.primes k w (sym (others k other) ∙ there) current) (cases_eq k key);
   fits = whole.fits;
   beyond = λ some. let same = same_total c.live new key v readers was now others held_cost refl refl in
       whole.beyond (omega arith);
@@ -231,6 +238,10 @@ gone_whole size c new key v held booked whole was ended now others less fewer = 
   });
   inside = λ n there. whole.inside n (omega (arith, less n));
   apart = λ n there. whole.apart n (omega (arith, less n));
+  primes = λ k w there current. ⊎_elim
+      (λ (same : k ≡ key). absurd (some_none (sym there ∙ ap (slot new) same ∙ now)))
+      (λ other. let none = whole.primes k w (sym (others k other) ∙ there) current in
+      omega (arith, less w.at)) (cases_eq k key);
   fits = let fits = whole.fits in omega arith;
   beyond = λ some.
       let all = total_updated held_cost refl c.live new key None now others in

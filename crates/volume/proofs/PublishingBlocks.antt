@@ -52,7 +52,7 @@ made_current_of size bits c c' key p v puts current size_is made_current there =
 -- Lists.
 
 -- one element counts in a sum
-total_place : {A : Type 0} (f : A → ℕ) (xs : List A) (i : ℕ) (x : A) → slice_get xs i ≡ Some x → f x ≤ total f xs
+pub total_place : {A : Type 0} (f : A → ℕ) (xs : List A) (i : ℕ) (x : A) → slice_get xs i ≡ Some x → f x ≤ total f xs
 total_place f [] i x is = absurd (some_none (sym is))
 total_place f (y ∷ ys) zero x is = let same = ap f (some_same is) in omega arith
 total_place f (y ∷ ys) (suc i) x is = let rest = total_place f ys i x is in omega arith

@@ -2,7 +2,7 @@
 use Rattle.std.proofs.Common.{◌≡◌, ℕ, ◌+◌, ◌-◌, ◌<◌, ◌≤◌, ◌⊎◌, inl, inr, ⊎_elim, Bool, true, false, if◌then◌else◌, List}
 use Rattle.std.proofs.Common.{◌∷◌, ◌++◌, length, slice_set, Option, Some, None, IfSome, is_none, refl, sym, ap, subst}
 use Rattle.std.proofs.Common.{◌∙◌, arith}
-use Rattle.std.proofs.lemmas.Bool.{cases_lt}
+use Rattle.std.proofs.lemmas.Bool.{cases_eq, cases_lt}
 use Rattle.std.proofs.lemmas.List.{get_or_past, length-set}
 use Rattle.std.proofs.lemmas.Option.{slice_get_within}
 use Rattle.std.specs.List.{AllByRecursion}
@@ -16,15 +16,16 @@ use Rattle.meaning.specs.Maps.{total, times}
 use Rattle.meaning.specs.Room.{growth}
 use Rattle.meaning.specs.Table.{fixed}
 use Rattle.meaning.proofs.DiskMaps.{fixed_below}
+use Rattle.meaning.proofs.MapLaws.{some_same, some_none}
 use Rattle.meaning.proofs.MapSums.{times-append}
 use Rattle.alloctab.specs.TableState.{holds}
 use Rattle.directory.specs.Chains.{ChainState, IsChain}
 use Rattle.volume.specs.Known.{KnownDirectory, blocks_reached, reaches_in_known, reaches_in_entries, cost_of_directory}
 use Rattle.volume.specs.Known.{cost_of_known, IsWholeVersion, IsWholeDirectory, IsWholeMap}
-use Rattle.volume.specs.Live.{is_creation, VolumeCore, as_known, held_reaches, held_cost, current_reaches}
+use Rattle.volume.specs.Live.{is_creation, VolumeCore, slot, as_known, held_reaches, held_cost, current_reaches}
 use Rattle.volume.specs.Live.{pending_reaches}
 use Rattle.volume.specs.Live.{pending_cost, creates, growths, cost_beyond, IsWholePending, IsWholeCore}
-use Rattle.volume.specs.Publishing.{added, before, left_of, MakesCurrent}
+use Rattle.volume.specs.Publishing.{added, before, left_of, IsEnded, MakesCurrent}
 use Rattle.volume.specs.Known.{given_up}
 use Rattle.volume.specs.declared.live.LiveVersion.{LiveVersion}
 use Rattle.volume.specs.declared.pending.PendingVersion.{PendingVersion}
@@ -32,13 +33,24 @@ use Rattle.volume.proofs.FoundDirectories.{all_at}
 use Rattle.volume.proofs.Growing.{Adds, added_total, added_growths}
 use Rattle.volume.proofs.MakingHeld.{element_at}
 use Rattle.volume.proofs.MakingLaw.{bit_few}
-use Rattle.volume.proofs.Pinning.{all_updated}
+use Rattle.volume.proofs.OnePlace.{first_elsewhere}
+use Rattle.volume.proofs.Pinning.{all_updated, entries_within}
 use Rattle.volume.proofs.PublishingPuts.{was_whole, published_times, published_inside}
 use Rattle.volume.proofs.PublishingSlots.{set_total, set_each, all_places, set_growths, came, reaches_parts, entered}
-use Rattle.volume.proofs.PublishingSlots.{Counts, counts, made_current_total, made_current_all}
+use Rattle.volume.proofs.PublishingSlots.{Counts, counts, made_current_total, made_current_all, left, left_cases}
+use Rattle.volume.proofs.PublishingSlots.{slot_of}
 use Rattle.volume.proofs.PuttingCore.{waits}
 use Rattle.volume.proofs.Sharing.{made_current_apart as made_current_own}
-use Rattle.changeset.specs.PutLaws.{some_or_none}
+use Rattle.changeset.specs.PutLaws.{times_head, some_or_none}
+
+-- what is left of a version is no longer current
+pub not_left : (v u : LiveVersion) → left v ≡ Some u → u.is_current ≡ true → ⊥
+not_left v u is current = ⊎_elim
+    (λ gone. some_none (sym is ∙ gone.1))
+    (λ stays.
+    let same : u ≡ record v { is_current = false } = some_same (sym is ∙ stays) in
+    let no : true ≡ false = sym current ∙ ap (λ (x : LiveVersion). x.is_current) same in
+    absurd (cc)) (left_cases v)
 
 module _ (size : ℕ) (c c' : VolumeCore) (key : ℕ) (p : PendingVersion) (at : ℕ) (ribs : List ℕ) (puts : List Put)
     (whole : IsWholeCore size c) (is : MakesCurrent size c c' key p at ribs puts) where
@@ -191,6 +203,50 @@ module _ (size : ℕ) (c c' : VolumeCore) (key : ℕ) (p : PendingVersion) (at :
       (λ given. let alone = given_alone n given in let chains = alone.1 in let grown = alone.2 in omega arith)
       (held_before n some)
 
+  -- A prime block is held as little as before: that of the new version was free, and one of another version stands
+  -- nowhere else.
+
+  new_unheld : holds c'.known.table at ≡ 0
+  new_unheld =
+      let here : 0 < times at (is.published.grown ++ at ∷ ribs) =
+      (let split = times-append at is.published.grown (at ∷ ribs) in
+      let head = times_head at at ribs refl in omega arith) in
+      let free = is.unheld at here in
+      let fresh = is.published.fresh at in
+      let sum = is.held at in
+      let part = (counted at).held in
+      let within = (counted at).within in
+      let current = whole.current at in
+      let most = entries_within at c.known.directories in
+      let bits = whole.map.bits at in
+      omega arith
+
+  given_none : (k : ℕ) (u : LiveVersion) → slot c'.live k ≡ Some u → slot c.live k ≡ Some u → u.is_current ≡ true
+      → given_up u.at (before is.old) ≡ 0
+  given_none k u now there current = by is.old is.ended
+    where
+      by : (old : Option (ℕ × LiveVersion)) → IsEnded c.live c'.live old → given_up u.at (before old) ≡ 0
+      by None ended = refl
+      by (Some o) ended = first_elsewhere size c whole k u there current o.0 o.1 ended.0 ended.1
+          (λ same. not_left o.1 u (sym ended.2 ∙ ap (slot c'.live) (sym same) ∙ now) current)
+
+  made_current_primes : (k : ℕ) (u : LiveVersion) → slot c'.live k ≡ Some u → u.is_current ≡ true
+      → holds c'.known.table u.at ≡ 0
+  made_current_primes k u there current = ⊎_elim
+      (λ (same : k ≡ is.new_key).
+      let new_is : u ≡ new = some_same (sym there ∙ ap (slot c'.live) same ∙ is.here) in
+      ap (λ (x : LiveVersion). holds c'.known.table x.at) new_is ∙ new_unheld)
+      (λ other. ⊎_elim
+      (λ kept.
+      let was_there : slot c.live k ≡ Some u = sym kept ∙ there in
+      let none = whole.primes k u was_there current in
+      let sum = is.held u.at in
+      let part = (counted u.at).held in
+      let given = given_none k u there was_there current in
+      omega arith)
+      (λ ended. absurd (not_left ended.0 u (sym ended.2 ∙ there) current))
+      (slot_of size c c' key p at ribs puts is k other)) (cases_eq k is.new_key)
+
   -- What is booked.
 
   no_more_booked : c'.known.table.booked ≤ c.known.table.booked
@@ -276,6 +332,7 @@ module _ (size : ℕ) (c c' : VolumeCore) (key : ℕ) (p : PendingVersion) (at :
     own = λ k q there. made_current_own size c c' key p at ribs puts whole is k q there;
     inside = made_current_inside;
     apart = made_current_apart;
+    primes = made_current_primes;
     fits = let fits = whole.fits in let few = no_more_booked in omega arith;
     booked = made_current_booked;
     beyond = λ some.

@@ -26,7 +26,7 @@ use Rattle.volume.proofs.Reaching.{entries_push}
 -- The place of a name, each once.
 
 -- a name that isn't found stands at no place
-absent_at : (es : List FileEntry) (i : ℕ) (name : FileName) (w : ℕ) → slice_get es i ≡ Some (name, w)
+pub absent_at : (es : List FileEntry) (i : ℕ) (name : FileName) (w : ℕ) → slice_get es i ≡ Some (name, w)
     → find name_cmp name es ≡ None → ⊥
 absent_at [] i name w is none = some_none (sym is)
 absent_at (e ∷ es) zero name w is none =

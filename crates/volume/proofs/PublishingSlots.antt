@@ -192,7 +192,7 @@ made_current_slot live live' (Some o) key ended others k other = ⊎_elim
 
 module _ (size : ℕ) (c c' : VolumeCore) (key : ℕ) (p : PendingVersion) (at : ℕ) (ribs : List ℕ) (puts : List Put)
     (is : MakesCurrent size c c' key p at ribs puts) where
-  slot_of : (k : ℕ) → (k ≡ is.new_key → ⊥) → (slot c'.live k ≡ slot c.live k)
+  pub slot_of : (k : ℕ) → (k ≡ is.new_key → ⊥) → (slot c'.live k ≡ slot c.live k)
       ⊎ ((v : LiveVersion) × (slot c.live k ≡ Some v) × (slot c'.live k ≡ left v))
   slot_of = made_current_slot c.live c'.live is.old is.new_key is.ended is.others
 

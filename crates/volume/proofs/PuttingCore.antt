@@ -18,6 +18,7 @@ use Rattle.volume.specs.declared.pending.PendingVersion.{PendingVersion}
 use Rattle.volume.proofs.FoundDirectories.{all_times_at}
 use Rattle.volume.proofs.LiveTotals.{total_updated, core_uses_one}
 use Rattle.volume.proofs.MakingDirectories.{whole_fixed}
+use Rattle.volume.proofs.OnePlace.{first_set}
 use Rattle.volume.proofs.Pinning.{each_slot, total_at, all_updated, counts_whole}
 
 -- directories grow by as many entries as before
@@ -224,6 +225,11 @@ module _ (size : ℕ) (c : VolumeCore) (whole : IsWholeCore size c) (key : ℕ) 
       inside = λ n some. ⊎_elim (λ old. whole.inside n old)
           (λ new. all_times_at (InSpace size) v.blocks n grown.inside new.1) (held_or_new n some);
       apart = λ n some. ⊎_elim (λ old. whole.apart n old) (λ new. clear_apart n new.0) (held_or_new n some);
+      primes = λ k u there current. ⊎_elim
+          (λ some. absurd (let none = whole.primes k u there current in
+          let set = first_set size c whole k u there current in
+          ⊎_elim (λ old. omega arith) (λ new. let clear = new.0 in omega arith) (held_or_new u.at some)))
+          (λ few. omega arith) (cases_lt 0 (holds t u.at));
       fits = let few = grown.within in let large = whole.map.volume.large in omega arith;
       beyond = λ some. let few = grown.within in omega arith;
       within = λ some. grown.within;

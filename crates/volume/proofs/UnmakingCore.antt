@@ -17,7 +17,7 @@ use Rattle.alloctab.specs.TableState.{bit, holds}
 use Rattle.volume.specs.declared.pending.PendingVersion.{PendingVersion}
 use Rattle.volume.specs.Known.{KnownVersion, KnownDirectory, Known, IsWholeDirectory, IsWholeMap, reaches_in_entries}
 use Rattle.volume.specs.Known.{reaches_in_known, cost_of_version, cost_of_directory, cost_of_known}
-use Rattle.volume.specs.Live.{VolumeCore, pending_at, IsKeyed, AreStanding, AreWaiting, held_reaches, held_cost}
+use Rattle.volume.specs.Live.{VolumeCore, slot, pending_at, IsKeyed, AreStanding, AreWaiting, held_reaches, held_cost}
 use Rattle.volume.specs.Live.{current_reaches, pending_reaches, pending_cost, creates, growths, cost_beyond}
 use Rattle.volume.specs.Live.{IsWholeCore}
 use Rattle.volume.specs.Making.{IsAligned}
@@ -201,6 +201,10 @@ module _ (size : ℕ) (c c' : VolumeCore) (ppn : ℕ) (puts : List Put) (core : 
         let waits = ap (total (pending_reaches n)) removes.pending in
         omega arith;
     inside = λ n some. core.inside n (let same = holds_same n in omega arith);
+    primes = λ key v there current.
+        let none = core.primes key v (sym (ap (λ ls. slot ls key) removes.live) ∙ there) current in
+        let same = holds_same v.at in
+        omega arith;
     own = λ key p at.
         let waited : pending_at c.pending key ≡ Some p = ap (λ ps. pending_at ps key) (sym removes.pending) ∙ at in
         apart_same c c' p (core.own key p waited) removes.live

@@ -20,3 +20,4 @@ pub mod Places
 pub mod States
 pub mod Claims
 pub mod Removing
+pub mod Moving

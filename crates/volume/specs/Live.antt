@@ -168,6 +168,9 @@ pub record IsWholeCore (size : ℕ) (c : VolumeCore) : Type 0 where
   -- no block that is held stands in a chain
   pub apart : (n : ℕ) → 0 < holds c.known.table n
       → times n c.known.master.blocks + total (λ d. times n d.chain.blocks) c.known.directories ≡ 0
+  -- nor is it the prime block of a file
+  pub primes : (key : ℕ) (v : LiveVersion) → slot c.live key ≡ Some v → v.is_current ≡ true
+      → holds c.known.table v.at ≡ 0
   -- what the map costs is booked, and what is beyond
   pub fits : c.known.table.booked < 2 ^ 63
   pub booked : c.known.table.booked ≡ cost_of_known c.known.master c.known.directories + cost_beyond c

@@ -176,7 +176,7 @@ pub(crate) fn place_of(master: &Chain<MasterEntry>, ppn: Ppn) -> usize
 }
 
 /// The entry of a name that isn't zero.
-fn file_entry(name: FileName, prime: u32) -> FileEntry
+pub(crate) fn file_entry(name: FileName, prime: u32) -> FileEntry
     requires { 0 < name.name }
     ensures name { result.name ≡ name }
     ensures prime { result.prime ≡ prime }

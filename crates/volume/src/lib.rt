@@ -75,6 +75,7 @@ mod publish;
 mod put;
 mod query;
 mod read;
+mod rename;
 mod start;
 mod supplies;
 mod transaction;

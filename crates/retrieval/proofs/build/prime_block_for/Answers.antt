@@ -1,0 +1,10 @@
+use Rattle.std.proofs.Common.{refl}
+use Rattle.retrieval.specs.Primes.{with_length}
+use Rattle.retrieval.proofs.Building.{front_rewritten}
+use Rattle.retrieval.proofs.build.prime_block_for.Goals as goal
+
+pub returns : goal.returns
+returns c p runs next is =
+    front_rewritten p (with_length c.args.prime.now p.words) runs next c.from_bits.result c.from_halves.result
+    c.attributes_word.result c.word.result c.args.words.now c.args.prime.now.date_fits c.from_bits.ensures
+    c.from_halves.ensures (c.attributes_word.ensures p.words) c.word.ensures.value refl is
