@@ -4,8 +4,8 @@ ghost use Rattle.volume.specs.declared.handles.Pin.{Pin};
 ghost use Rattle.volume.specs.declared.handles.VersionHandle.TheVariants.{Pinned};
 
 use crate::files::{
-    FOO, disk_of, expect_file, expect_room, expect_words, file_name, fresh, hold, numbers, opened,
-    ppn_of, prime_of, publish, store, try_write, word, write,
+    BAR, FOO, disk_of, expect_file, expect_room, expect_words, file_name, fresh, hold, is_there,
+    numbers, opened, opened_anew, ppn_of, prime_of, publish, store, try_write, word, write,
 };
 use blockdisk::{Disk, MemDisk, NoMemory};
 use meaning::ErrorCode;
@@ -14,10 +14,7 @@ use std::alloc::Global;
 use std::process::Abort;
 use std::test::Fail;
 use volume::{CallError, Kind, Volume};
-use words36::{BLOCK_WORDS, Ppn, Word};
-
-/// BAR in SIXBIT.
-const BAR: u64 = 0o424162000000;
+use words36::{Ppn, Word};
 
 /// How many entries a block of a directory has.
 const ENTRIES: u64 = 42;
@@ -45,17 +42,6 @@ fn expect_directory_kept<D: Disk>(rt: &impl Abort, volume: &mut Volume<D>, code:
     ensures { volume.new.core.pending ≡ volume.old.core.pending }
 {
     assert!(rt; volume.delete_dir(ppn_of(rt)) == Err(CallError::Refused(code)));
-}
-
-/// [10,20] has a file of this name, or has none.
-fn is_there<D: Disk>(rt: &impl Abort, volume: &Volume<D>, name: u64) -> bool {
-    match volume.look(ppn_of(rt), &file_name(name)) {
-        Ok(_facts) => true,
-        Err(error) => {
-            assert!(rt; error == CallError::Refused(ErrorCode::NotFound));
-            false
-        }
-    }
 }
 
 /// Opens the disk of a volume again: there is no FOO.TXT in [10,20], and so much room.
@@ -260,14 +246,6 @@ const SHUT: usize = 2 + 1 + 1;
 /// All of them: the gate is opened, then a sync; the images are written to their places, then a sync; the gate is
 /// closed, then a sync.
 const WHOLE: usize = SHUT + 2 + 3 + 2;
-
-/// Empties a disk's record of its writes and syncs, which has room then, and opens it.
-fn opened_anew(rt: &impl Abort, alloc: Global, volume: Volume<MemDisk>) -> Volume<MemDisk> {
-    let mut disk = disk_of(volume);
-    assert!(rt; disk.blocks() > 0);
-    disk.load(0, &[Word::ZERO; BLOCK_WORDS]);
-    opened(rt, alloc, disk)
-}
 
 /// Deletes a file of three blocks, where the record has room for so many writes and syncs of that, and opens the disk
 /// again.

@@ -8,6 +8,7 @@ ghost use Rattle.volume.specs.declared.live.LiveVersion.{LiveVersion};
 ghost use Rattle.volume.specs.declared.pending.PendingVersion.{PendingVersion};
 
 use blockdisk::{Disk, MemDisk, NoMemory};
+use meaning::ErrorCode;
 use retrieval::{Mode, Prime};
 use std::alloc::{AllocError, Global};
 use std::process::Abort;
@@ -16,6 +17,9 @@ use words36::{BLOCK_WORDS, FileName, Half, Moment, Ppn, Word};
 
 /// FOO in SIXBIT.
 pub(crate) const FOO: u64 = 0o465757000000;
+
+/// BAR in SIXBIT.
+pub(crate) const BAR: u64 = 0o424162000000;
 
 /// How many words a block has.
 pub(crate) const BLOCK: u32 = BLOCK_WORDS as u32;
@@ -91,6 +95,23 @@ pub(crate) fn opened(rt: &impl Abort, alloc: Global, disk: MemDisk) -> Volume<Me
 /// The disk of a volume, which is given up.
 pub(crate) fn disk_of(volume: Volume<MemDisk>) -> MemDisk {
     volume.into_disk()
+}
+
+/// Empties a disk's record of its writes and syncs, which has room then.
+pub(crate) fn forget(rt: &impl Abort, disk: &mut MemDisk) {
+    assert!(rt; disk.blocks() > 0);
+    disk.load(0, &[Word::ZERO; BLOCK_WORDS]);
+}
+
+/// Opens the disk of a volume again, whose record has room then.
+pub(crate) fn opened_anew(
+    rt: &impl Abort,
+    alloc: Global,
+    volume: Volume<MemDisk>,
+) -> Volume<MemDisk> {
+    let mut disk = disk_of(volume);
+    forget(rt, &mut disk);
+    opened(rt, alloc, disk)
 }
 
 /// An empty volume is made on a disk.
@@ -275,6 +296,17 @@ pub(crate) fn expect_kept(
 ) {
     let mut volume = opened(rt, alloc, disk_of(volume));
     expect_file(rt, alloc, &mut volume, words, room);
+}
+
+/// [10,20] has a file of this name, or has none.
+pub(crate) fn is_there<D: Disk>(rt: &impl Abort, volume: &Volume<D>, name: u64) -> bool {
+    match volume.look(ppn_of(rt), &file_name(name)) {
+        Ok(_facts) => true,
+        Err(error) => {
+            assert!(rt; error == CallError::Refused(ErrorCode::NotFound));
+            false
+        }
+    }
 }
 
 /// A version began so, and keeps so many of its first blocks.

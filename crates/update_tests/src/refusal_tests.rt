@@ -4,8 +4,8 @@ ghost use Rattle.volume.specs.Publishing.{IsPlaced};
 ghost use Rattle.volume.specs.declared.pending.PendingVersion.{PendingVersion};
 
 use crate::files::{
-    BLOCK, FOO, disk_of, expect_file, expect_kept, expect_room, file_name, fresh, numbers, opened,
-    ppn_of, prime_of, publish, refusal, store, try_write, with_words, word, write,
+    BAR, BLOCK, FOO, disk_of, expect_file, expect_kept, expect_room, file_name, forget, fresh,
+    numbers, opened, ppn_of, prime_of, publish, refusal, store, try_write, with_words, word, write,
 };
 use blockdisk::{Disk, MemDisk, NoMemory};
 use meaning::ErrorCode;
@@ -15,9 +15,6 @@ use std::process::Abort;
 use std::test::Fail;
 use volume::{CallError, Kind, Pending, Volume};
 use words36::{BLOCK_WORDS, Ppn, Word};
-
-/// BAR in SIXBIT.
-const BAR: u64 = 0o424162000000;
 
 /// A version isn't begun, for this reason.
 fn expect_refused(
@@ -209,12 +206,6 @@ fn cut_off(
     assert!(rt; is_done == (calls == ALL));
     assert!(rt; volume.has_failed() != is_done);
     Ok(disk_of(volume))
-}
-
-/// Empties a disk's record of its writes and syncs, which has room then.
-fn forget(rt: &impl Abort, disk: &mut MemDisk) {
-    assert!(rt; disk.blocks() > 0);
-    disk.load(0, &[Word::ZERO; BLOCK_WORDS]);
 }
 
 /// The record has room for so many writes and syncs of an update, and the next one fails. When the disk is opened again
