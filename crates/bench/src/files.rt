@@ -3,6 +3,7 @@ ghost use Rattle.meaning.specs.Files.{File, Files};
 ghost use Rattle.retrieval.specs.Writing.{rib_count};
 ghost use Rattle.volume.specs.Beginning.{is_update};
 ghost use Rattle.volume.specs.Publishing.{file_of, files_published};
+ghost use Rattle.volume.specs.Removing.{files_removed};
 ghost use Rattle.volume.specs.Rest.{RestsAt};
 
 use crate::counting::{Calls, CountingDisk};
@@ -97,4 +98,14 @@ pub fn publish_file<D: Disk>(
         put: written.since(begun),
         published: published.since(written),
     })
+}
+
+/// Deletes the file that a prime block names. Answers what the disk was called for.
+pub fn delete_file<D: Disk>(volume: &mut Volume<CountingDisk<D>>, prime: &Prime) -> Result<Calls>
+    ensures done { (D.state volume.new.disk.inner).honest → (f : Files File) → RestsAt (D.state volume.old.disk.inner) f
+        → OnOk result (RestsAt (D.state volume.new.disk.inner) (files_removed f prime.now.ppn prime.now.file)) }
+{
+    let before = volume.disk().calls();
+    volume.delete(prime.ppn, &prime.file)?;
+    Ok(volume.disk().calls().since(before))
 }

@@ -1,6 +1,6 @@
-//! What a volume asks of its disk, counted: the blocks that `open` reads, the writes and syncs of a `make_dir`,
-//! and for files of 0 to 1024 blocks, created and superseded, the calls of `put_words` and of `publish`, beside
-//! the fewest writes and syncs that a publication can make. With `--time` also how many times as long `open`
+//! What a volume asks of its disk, counted: the blocks that `open` reads, the writes and syncs of a `make_dir` and
+//! of a `delete_dir`, and for files of 0 to 1024 blocks, created, superseded and deleted, the calls of `put_words`,
+//! of `publish` and of `delete`, beside the fewest writes and syncs that a publication can make. With `--time` also how many times as long `open`
 //! takes as a plain read of the same blocks, and the publication of 1024 blocks as a plain copy of its words.
 #![tactic(auto)]
 
@@ -11,8 +11,10 @@ mod volumes;
 
 use anyhow::Result;
 use blockdisk::{Disk, MemDisk};
-use counting::CountingDisk;
-use files::{FileCalls, LEAST_SYNCS, least_writes, prime_of_foo, publish_file, words_of_file};
+use counting::{Calls, CountingDisk};
+use files::{
+    FileCalls, LEAST_SYNCS, delete_file, least_writes, prime_of_foo, publish_file, words_of_file,
+};
 use full::full_image;
 use meaning::layout::{TABLE_BLOCK_BITS, table_blocks, table_start};
 use std::alloc::Global;
@@ -20,7 +22,7 @@ use std::env;
 use std::rt::{Clock, Env};
 use std::time::Instant;
 use volume::{LARGEST_VOLUME, SMALLEST_VOLUME, Volume};
-use volumes::{make_directory, make_volume, open, reached};
+use volumes::{delete_directory, make_directory, make_volume, open, reached};
 use words36::{BLOCK_WORDS, Word};
 
 /// Room to record the writes and syncs of `init` and of an `open`, and of one `make_dir`.
@@ -62,11 +64,16 @@ fn with_directories(rt: &impl Print, alloc: Global, blocks: u32, directories: u1
     print_opened(rt, &volume, reached)?;
     let before = volume.disk().calls();
     make_directory(alloc, &mut volume, u32::from(directories) + 1)?;
-    let calls = volume.disk().calls().since(before);
-    println!(rt;
-        "  make_dir: {} writes, {} syncs",
-        calls.writes, calls.syncs
-    )?;
+    let made = volume.disk().calls();
+    print_changed(rt, "make_dir", made.since(before))?;
+    delete_directory(&mut volume, u32::from(directories) + 1)?;
+    print_changed(rt, "delete_dir", volume.disk().calls().since(made))
+}
+
+/// Prints what the disk was called for while a call of the volume made its change.
+fn print_changed(rt: &impl Print, call: &str, calls: Calls) -> Result<()> {
+    let Calls { writes, syncs, .. } = calls;
+    println!(rt; "  {call}: {writes} writes, {syncs} syncs")?;
     Ok(())
 }
 
@@ -126,14 +133,17 @@ fn print_written(rt: &impl Print, blocks: u16, act: &str, calls: &FileCalls) -> 
     Ok(())
 }
 
-/// A file of so many blocks is created, and superseded by one of the same size.
+/// A file of so many blocks is created, superseded by one of the same size, and deleted.
 fn with_file(rt: &impl Print, alloc: Global, blocks: u16) -> Result<()> {
     let mut volume = volume_for_files(alloc)?;
     let words = words_of_file(alloc, blocks)?;
     let created = publish_file(alloc, &mut volume, prime_of_foo()?, words.as_slice())?;
     print_written(rt, blocks, "created", &created)?;
     let superseded = publish_file(alloc, &mut volume, prime_of_foo()?, words.as_slice())?;
-    print_written(rt, blocks, "superseded", &superseded)
+    print_written(rt, blocks, "superseded", &superseded)?;
+    let deleted = delete_file(&mut volume, &prime_of_foo()?)?;
+    println!(rt; "{FILES_VOLUME} blocks, 1 directory, file of {blocks} blocks deleted")?;
+    print_changed(rt, "delete", deleted)
 }
 
 /// Copies words into the blocks of a disk, each block once.

@@ -1,3 +1,10 @@
+ghost use Rattle.std.specs.Prelude.{OnOk};
+ghost use Rattle.words36.specs.Words.{join};
+ghost use Rattle.meaning.specs.Files.{File, Files};
+ghost use Rattle.volume.specs.Making.{files_made};
+ghost use Rattle.volume.specs.RemovingDirectories.{directory_removed};
+ghost use Rattle.volume.specs.Rest.{RestsAt};
+
 use anyhow::{Context, Result};
 use blockdisk::Disk;
 use std::alloc::Global;
@@ -16,9 +23,22 @@ pub fn open<D: Disk + Drop>(alloc: Global, disk: D) -> Result<Volume<D>> {
 }
 
 /// Makes the directory [1,n].
-pub fn make_directory<D: Disk>(alloc: Global, volume: &mut Volume<D>, n: u32) -> Result<()> {
+pub fn make_directory<D: Disk>(alloc: Global, volume: &mut Volume<D>, n: u32) -> Result<()>
+    ensures done { (D.state volume.new.disk).honest → (f : Files File) → RestsAt (D.state volume.old.disk) f
+        → OnOk result (RestsAt (D.state volume.new.disk) (files_made f (join 1 n) 509)) }
+{
     let ppn = Ppn::new(1, n).context("no such number")?;
     volume.make_dir(alloc, ppn, PROTECTION)?;
+    Ok(())
+}
+
+/// Deletes the directory [1,n], which has to be empty.
+pub fn delete_directory<D: Disk>(volume: &mut Volume<D>, n: u32) -> Result<()>
+    ensures done { (D.state volume.new.disk).honest → (f : Files File) → RestsAt (D.state volume.old.disk) f
+        → OnOk result (RestsAt (D.state volume.new.disk) (directory_removed f (join 1 n))) }
+{
+    let ppn = Ppn::new(1, n).context("no such number")?;
+    volume.delete_dir(ppn)?;
     Ok(())
 }
 
