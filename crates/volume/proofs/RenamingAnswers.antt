@@ -71,8 +71,7 @@ module _ (size : ℕ) (c : VolumeCore) (whole : IsWholeCore size c) (ppn : ℕ) 
   )
   refused_exists to error (inr taken) =
       let file = taken.1.file in
-      let there : IsDirectoryOf c ppn file.directory = (file.place, file.word, file.there, file.directory_at) in
-      (
+      let there : IsDirectoryOf c ppn file.directory = (file.place, file.word, file.there, file.directory_at) in (
         λ is. (
           file.directory,
           there,

@@ -382,8 +382,7 @@ module _ (size : ℕ) (k k' : Known) (m : DiskMap) (ppn : ℕ) (name to : FileNa
         new_facts ∙ sym (λ j. known_facts (entry j).1 (known j).prime (known j).version),
       ))
       (λ kept.
-      let found = stored_is.each kept.2 e u kept.3 kept.4 in
-      (
+      let found = stored_is.each kept.2 e u kept.3 kept.4 in (
         found.0,
         get-insert_other name_total name_exact (remove stored.files name) to (in_place_of f file) e.0 kept.0
             ∙ get-remove_other name_total name_exact stored.files name e.0 kept.1 ∙ found.1,

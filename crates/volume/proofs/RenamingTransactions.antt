@@ -172,38 +172,38 @@ module _ (s mid : DiskState) (c c' : VolumeCore) (ppn : ℕ) (name to : FileName
       omega arith) put)
 
   module _ (keeps : Keeps s mid) (s' : DiskState) (after : Modifies (λ n. IsGateOrLog mid.size n ⊎ IsPutIn puts n) mid s')
-      where
-    stays : (n : ℕ) → IsKept s.size c n → (n ≡ v.at → ⊥) → s'.contents n ≡ s.contents n
-    stays n kept other =
-        after.contents n (λ there. kept_put n kept other
-        (subst (λ (b : ℕ). IsGateOrLog b n ⊎ IsPutIn puts n) same.size there)) ∙ keeps.contents n
+    where
+      stays : (n : ℕ) → IsKept s.size c n → (n ≡ v.at → ⊥) → s'.contents n ≡ s.contents n
+      stays n kept other =
+          after.contents n (λ there. kept_put n kept other
+          (subst (λ (b : ℕ). IsGateOrLog b n ⊎ IsPutIn puts n) same.size there)) ∙ keeps.contents n
 
-    pub committed_readers : KeepsRead s.contents s'.contents c
-    committed_readers k u at some n there = stays n (read_kept s.size c sound.whole k u at some n there)
-        (not_read s.size c sound.whole key v moves.there moves.current k u at n there)
+      pub committed_readers : KeepsRead s.contents s'.contents c
+      committed_readers k u at some n there = stays n (read_kept s.size c sound.whole k u at some n there)
+          (not_read s.size c sound.whole key v moves.there moves.current k u at n there)
 
-    pub committed_writers : KeepsEachWritten s.contents s'.contents c
-    committed_writers k q at n there = stays n (written_kept s.size c sound.whole k q at n there)
-        (not_written s.size c sound.whole key v moves.there moves.current k q at n there)
+      pub committed_writers : KeepsEachWritten s.contents s'.contents c
+      committed_writers k q at n there = stays n (written_kept s.size c sound.whole k q at n there)
+          (not_written s.size c sound.whole key v moves.there moves.current k q at n there)
 
-    committed_bodies : s.honest → HaveBodies s'.contents c'
-    committed_bodies h = record {
-      read = λ k u at some. ⊎_elim
-          (λ (is_key : k ≡ key).
-          let of : record v { prime = moves.prime } ≡ u = some_same (sym moves.here ∙ sym (ap (slot c'.live) is_key)
-          ∙ at) in
-          let readers = ap (λ (x : LiveVersion). x.readers) of in
-          subst (λ (x : LiveVersion). HasSomeBody s'.contents x.version) of
-          (body_stays s.contents s'.contents v.version (sound.read h refl key v moves.there (omega arith))
-          (committed_readers key v moves.there (omega arith))))
-          (λ other.
-          let was : slot c.live k ≡ Some u = sym (moves.others k other) ∙ at in
-          body_stays s.contents s'.contents u.version (sound.read h refl k u was some) (committed_readers k u was some))
-          (cases_eq k key);
-      written = λ k q at.
-          let was : pending_at c.pending k ≡ Some q = ap (λ l. pending_at l k) (sym moves.pending) ∙ at in
-          body_stays s.contents s'.contents q.version (sound.written h refl k q was) (committed_writers k q was);
-    }
+      committed_bodies : s.honest → HaveBodies s'.contents c'
+      committed_bodies h = record {
+        read = λ k u at some. ⊎_elim
+            (λ (is_key : k ≡ key).
+            let of : record v { prime = moves.prime } ≡ u = some_same (sym moves.here ∙ sym (ap (slot c'.live) is_key)
+            ∙ at) in
+            let readers = ap (λ (x : LiveVersion). x.readers) of in
+            subst (λ (x : LiveVersion). HasSomeBody s'.contents x.version) of
+            (body_stays s.contents s'.contents v.version (sound.read h refl key v moves.there (omega arith))
+            (committed_readers key v moves.there (omega arith))))
+            (λ other.
+            let was : slot c.live k ≡ Some u = sym (moves.others k other) ∙ at in
+            body_stays s.contents s'.contents u.version (sound.read h refl k u was some) (committed_readers k u was some))
+            (cases_eq k key);
+        written = λ k q at.
+            let was : pending_at c.pending k ≡ Some q = ap (λ l. pending_at l k) (sym moves.pending) ∙ at in
+            body_stays s.contents s'.contents q.version (sound.written h refl k q was) (committed_writers k q was);
+      }
 
   module _ (h : s.honest) (keeps : Keeps s mid) (read : s.contents v.at ≡ Some words) where
     abbrev rest : IsAtRest s c.known
@@ -303,7 +303,9 @@ module _ (s mid : DiskState) (c c' : VolumeCore) (ppn : ℕ) (name to : FileName
       → (prime : Prime) × (slot c'.live k ≡ Some (record u { prime = prime }))
   moved_held k u at = ⊎_elim
       (λ (is_key : k ≡ key).
-      let of : v ≡ u = some_same (sym moves.there ∙ sym (ap (slot c.live) is_key) ∙ at) in
-      (moves.prime, ap (slot c'.live) is_key ∙ moves.here
-      ∙ ap (λ (x : LiveVersion). Some (record x { prime = moves.prime })) of))
+      let of : v ≡ u = some_same (sym moves.there ∙ sym (ap (slot c.live) is_key) ∙ at) in (
+        moves.prime,
+        ap (slot c'.live) is_key ∙ moves.here
+            ∙ ap (λ (x : LiveVersion). Some (record x { prime = moves.prime })) of,
+      ))
       (λ other. (u.prime, moves.others k other ∙ at)) (cases_eq k key)

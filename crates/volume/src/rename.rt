@@ -66,12 +66,7 @@ fn has_other(map: &LiveMap, ppn: Ppn, name: &FileName, to: &FileName) -> bool
 ///
 /// `Refused` with `NoDirectory` where there is no such directory, with `NotFound` where it has no such file, and with
 /// `NameExists` where the new name is another one and is there already.
-fn find_movable(
-    map: &LiveMap,
-    ppn: Ppn,
-    name: &FileName,
-    to: &FileName,
-) -> Result<usize, CallError>
+fn find_movable(map: &LiveMap, ppn: Ppn, name: &FileName, to: &FileName) -> Result<usize, CallError>
     requires whole { IsWholeCore map.now.table.size (core_of map.now) }
     ensures found { IfOk result (IsKeyOf (core_of map.now) ppn name.now) }
     ensures free { OnOk result ((d : KnownDirectory) → IsDirectoryOf (core_of map.now) ppn d

@@ -19,8 +19,7 @@ returns-clause-yes c some =
     let place = c.place_of-place.result in
     let stands = c.place_of-place.ensures in
     let at = index_is m.directories.items place c.index.result.now _ (place_within m c.requires.whole c.args.ppn place
-    stands.0 stands.1) c.index.ensures in
-    (
+    stands.0 stands.1) c.index.ensures in (
       names_differ c.args.to.now c.args.name.now c.if-eq.ensures,
       name_taken m c.requires.whole c.args.ppn place stands.0 stands.1 c.index.result.now at c.args.to.now c.find.result
           (sym c.is_some.ensures ∙ some) c.find.ensures.found,

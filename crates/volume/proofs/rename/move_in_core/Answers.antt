@@ -45,13 +45,12 @@ returns c =
       versions = c.move_version.new.versions;
       pending = m.pending;
       table = m.table;
-    } in
-    (
+    } in (
       u,
       moves_within m c.requires.whole c.args.ppn c.args.name.now c.args.to.now c.args.key c.requires.there
-      c.requires.free place stands.0 stands.1 d at d' c.file_entry-entry.result.name c.file_entry-entry.result.prime
-      c.file_entry-entry.ensures.name (c.file_entry-entry.ensures.prime ∙ c.prime_of.ensures u c.requires.there.here)
-      out.items out.map out.blocks (ap (λ v. v.items) out.keys) out.chain c.rename_entry.new.set out.put out.few c.args.protection moved.0 moved.1
-      c.args.words.now moved.3 moved.4 m' c.move_version.new.set moved.5 refl refl refl refl moved.2
-      c.move_version.ensures.others,
+          c.requires.free place stands.0 stands.1 d at d' c.file_entry-entry.result.name c.file_entry-entry.result.prime
+          c.file_entry-entry.ensures.name (c.file_entry-entry.ensures.prime ∙ c.prime_of.ensures u c.requires.there.here)
+          out.items out.map out.blocks (ap (λ v. v.items) out.keys) out.chain c.rename_entry.new.set out.put out.few c.args.protection moved.0 moved.1
+          c.args.words.now moved.3 moved.4 m' c.move_version.new.set moved.5 refl refl refl refl moved.2
+          c.move_version.ensures.others,
     )

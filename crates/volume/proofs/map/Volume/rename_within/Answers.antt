@@ -112,8 +112,7 @@ returns-clause-primes g c = rw (← c.self.view_is) (
 pub returns-clause-not_found : goal.returns-clause-not_found
 returns-clause-not_found g c = rw (← c.self.view_is) (λ alive.
     let s = g.D.Disk.state c.self.inside.disk in
-    let core = core_of c.self.inside.map in
-    (
+    let core = core_of c.self.inside.map in (
       λ is. absurd (not_refused c.move_within.result c.move_within.ensures.only NotFound is),
       λ lacks. absurd (key_there s.size core c.self.invariant.whole c.args.ppn c.args.name.now c.in-Ok.key c.in-Ok.ensures.found lacks),
     ))
