@@ -74,3 +74,4 @@ pub mod RenamedPlaces
 pub mod RenamingCore
 pub mod RenamingTransactions
 pub mod RenamingAnswers
+pub mod RetiredPrimes

@@ -44,7 +44,7 @@ use Rattle.volume.proofs.Sharing.{made_current_apart as made_current_own}
 use Rattle.changeset.specs.PutLaws.{times_head, some_or_none}
 
 -- what is left of a version is no longer current
-not_left : (v u : LiveVersion) → left v ≡ Some u → u.is_current ≡ true → ⊥
+pub not_left : (v u : LiveVersion) → left v ≡ Some u → u.is_current ≡ true → ⊥
 not_left v u is current = ⊎_elim
     (λ gone. some_none (sym is ∙ gone.1))
     (λ stays.

@@ -1,5 +1,5 @@
 -- What a new name in a directory makes of the places, and which of them a version is written for.
-use Rattle.std.proofs.Common.{◌≡◌, ◌⊎◌, inl, inr, ⊎_elim, ℕ, zero, suc, ◌==◌, ◌&&◌, ◌||◌, Bool, true, false, List, []}
+use Rattle.std.proofs.Common.{◌≡◌, inl, inr, ⊎_elim, ℕ, zero, suc, ◌==◌, ◌&&◌, ◌||◌, Bool, true, false, List, []}
 use Rattle.std.proofs.Common.{◌∷◌, slice_set, Option, Some, None, refl, sym, ap, ◌∙◌, arith}
 use Rattle.std.proofs.lemmas.Bool.{cases_eq}
 use Rattle.std.proofs.lemmas.Bool.Decides.{nat_tests}
@@ -7,11 +7,11 @@ use Rattle.std.specs.List.{list_any}
 use Rattle.std.specs.FinMap.Entries.{find}
 use Rattle.words36.specs.declared.names.FileName.{FileName}
 use Rattle.meaning.specs.declared.put.Put.{Put}
-use Rattle.meaning.specs.Files.{name_cmp, Place}
+use Rattle.meaning.specs.Files.{name_cmp}
 use Rattle.meaning.specs.Maps.{get, insert, remove, from_entries}
 use Rattle.meaning.specs.Published.{same_place}
 use Rattle.meaning.specs.Stands.{place_of}
-use Rattle.meaning.proofs.MapLaws.{some_same, some_none, get-insert_same, get-insert_other, get-removed}
+use Rattle.meaning.proofs.MapLaws.{some_none, get-insert_same, get-insert_other, get-removed}
 use Rattle.meaning.proofs.MapLaws.{get-remove_other}
 use Rattle.meaning.proofs.MapLists.{get-from_entries}
 use Rattle.meaning.proofs.Names.{name_total, name_exact}

@@ -1,5 +1,5 @@
 -- A file gets another name in its directory: which refusal comes when.
-use Rattle.std.proofs.Common.{◌≡◌, ◌↔◌, ◌⊎◌, inl, inr, ⊎_elim, ℕ, Option, Some, None, Result, Ok, Err, IsErrOf, IfErr}
+use Rattle.std.proofs.Common.{◌≡◌, ◌↔◌, ◌⊎◌, inl, inr, ⊎_elim, ℕ, None, Result, Ok, Err, IsErrOf, IfErr}
 use Rattle.std.proofs.Common.{refl, sym, ap, subst, ◌∙◌}
 use Rattle.std.specs.Ordering.{nat_cmp}
 use Rattle.std.specs.FinMap.Entries.{find}
@@ -11,7 +11,7 @@ use Rattle.meaning.proofs.MapLaws.{some_none}
 use Rattle.volume.specs.Beginning.{IsDirectoryOf}
 use Rattle.volume.specs.Known.{KnownDirectory}
 use Rattle.volume.specs.Live.{VolumeCore, IsWholeCore}
-use Rattle.volume.specs.Moving.{IsNameTaken, IsMoveRefusal}
+use Rattle.volume.specs.Moving.{IsMoveRefusal}
 use Rattle.volume.specs.Pins.{IsKeyOf}
 use Rattle.volume.specs.declared.error.CallError.{CallError}
 use Rattle.volume.specs.declared.error.CallError.TheVariants.{Refused, Device, Failed, NoMemory}

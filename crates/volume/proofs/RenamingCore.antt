@@ -1,5 +1,5 @@
 -- A file gets another name in its directory: what is in core stays whole.
-use Rattle.std.proofs.Common.{◌≡◌, ℕ, ◌+◌, ◌-◌, ◌<◌, ◌≤◌, ◌⊎◌, inl, inr, ⊎_elim, true, false, List, length, slice_set, Option}
+use Rattle.std.proofs.Common.{◌≡◌, ℕ, ◌+◌, ◌-◌, ◌<◌, ⊎_elim, true, false, List, length, slice_set, Option}
 use Rattle.std.proofs.Common.{Some, None, IfSome, refl, sym, ap, subst, ◌∙◌, arith}
 use Rattle.std.proofs.lemmas.Bool.{cases_eq}
 use Rattle.std.proofs.lemmas.List.{length-set}
@@ -19,8 +19,8 @@ use Rattle.alloctab.specs.TableState.{TableState, bit, holds}
 use Rattle.directory.specs.Chains.{ChainState, IsChain}
 use Rattle.retrieval.specs.Versions.{VersionState}
 use Rattle.volume.specs.Claims.{claims}
-use Rattle.volume.specs.Known.{KnownVersion, KnownDirectory, blocks_reached, reaches_in_known, reaches_in_entries}
-use Rattle.volume.specs.Known.{cost_of_directory, IsWholeVersion, IsWholeDirectory, IsWholeMap, prime_in}
+use Rattle.volume.specs.Known.{KnownVersion, KnownDirectory, reaches_in_known, reaches_in_entries}
+use Rattle.volume.specs.Known.{cost_of_directory, IsWholeVersion, IsWholeDirectory, IsWholeMap}
 use Rattle.volume.specs.Live.{VolumeCore, slot, pending_at, as_known, held_reaches, held_cost, current_reaches}
 use Rattle.volume.specs.Live.{pending_reaches, pending_cost, creates, growths, AreWaiting, IsCurrentAt, IsApart}
 use Rattle.volume.specs.Live.{IsWholeCore}
@@ -36,7 +36,6 @@ use Rattle.volume.proofs.MakingHeld.{element_at}
 use Rattle.volume.proofs.Pinning.{all_updated}
 use Rattle.volume.proofs.PublishingSlots.{set_total, set_each, all_places, set_growths}
 use Rattle.volume.proofs.RenamedPlaces.{moved_stays, unclaimed_place}
-use Rattle.volume.proofs.RenamingLaw.{was_whole, new_times}
 
 module _ (size : ℕ) (c c' : VolumeCore) (ppn : ℕ) (name to : FileName) (protection key : ℕ) (v : LiveVersion)
     (words : List ℕ) (puts : List Put) (whole : IsWholeCore size c)

@@ -1,5 +1,5 @@
 -- An entry of a directory comes to have another name, in its place, and its version another prime.
-use Rattle.std.proofs.Common.{◌≡◌, ℕ, zero, suc, ◌+◌, ◌<◌, ◌⊎◌, inl, inr, cond, Bool, true, false, List, [], ◌∷◌}
+use Rattle.std.proofs.Common.{◌≡◌, ℕ, zero, suc, ◌⊎◌, inl, inr, cond, Bool, true, false, List, [], ◌∷◌}
 use Rattle.std.proofs.Common.{length, take, slice_get, slice_set, Option, Some, None, refl, sym, ap, ◌∙◌, arith}
 use Rattle.std.proofs.lemmas.List.{length-set}
 use Rattle.std.specs.Ordering.{eq_by_cmp}
@@ -7,7 +7,7 @@ use Rattle.std.specs.FinMap.Entries.{find}
 use Rattle.words36.specs.declared.names.FileName.{FileName}
 use Rattle.meaning.specs.Directories.{FileEntry, IsFileEntry}
 use Rattle.meaning.specs.Files.{name_cmp}
-use Rattle.meaning.specs.Maps.{times, total, insert, remove, from_entries}
+use Rattle.meaning.specs.Maps.{times, insert, remove, from_entries}
 use Rattle.meaning.proofs.MapLaws.{some_same, some_none, at_itself}
 use Rattle.meaning.proofs.Names.{name_total}
 use Rattle.directory.specs.Chains.{ChainState, IsChain}

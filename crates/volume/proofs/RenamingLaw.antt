@@ -1,7 +1,6 @@
 -- A file gets another name in its directory: what the puts make of what is held.
-use Rattle.std.proofs.Common.{◌≡◌, ℕ, ◌+◌, ◌<◌, ◌≤◌, ◌⊎◌, inl, inr, ⊎_elim, List, [], ◌∷◌, ◌++◌, Option, Some, None}
+use Rattle.std.proofs.Common.{◌≡◌, ℕ, ◌+◌, ◌<◌, ◌≤◌, ◌⊎◌, inl, inr, ⊎_elim, List, [], ◌∷◌, ◌++◌, Some, None}
 use Rattle.std.proofs.Common.{option_map, length, slice_get, refl, sym, ◌∙◌, ap, subst, arith}
-use Rattle.std.proofs.lemmas.Bool.{cases_eq}
 use Rattle.std.proofs.lemmas.Option.{slice_get_within}
 use Rattle.std.specs.List.{AllByRecursion}
 use Rattle.std.specs.Option.{IsSome}
@@ -30,8 +29,7 @@ use Rattle.meaning.proofs.Names.{name_total, name_exact}
 use Rattle.meaning.proofs.MapLaws.{some_same, get-insert_same, get-insert_other, get-remove_other, insert_same}
 use Rattle.meaning.proofs.MapLaws.{insert-insert_same}
 use Rattle.meaning.proofs.MapLists.{get-from_entries, get-map_values, map_values-insert, map_values-remove}
-use Rattle.meaning.proofs.MapSums.{times-append, at-le-sum, two-le-sum}
-use Rattle.meaning.proofs.MapParts.{found-le-sum}
+use Rattle.meaning.proofs.MapSums.{at-le-sum, two-le-sum}
 use Rattle.meaning.proofs.DiskMaps.{once}
 use Rattle.meaning.proofs.QuietLaws.{each_times}
 use Rattle.meaning.proofs.VersionEdits.{version_rewritten}
@@ -43,8 +41,8 @@ use Rattle.directory.specs.ChainLaws.{chain_stands, on_kept}
 use Rattle.retrieval.specs.Modes.{mode_number}
 use Rattle.retrieval.specs.Primes.{with_length}
 use Rattle.volume.specs.Facts.{Facts, facts_of, known_facts}
-use Rattle.volume.specs.Known.{KnownVersion, KnownDirectory, Known, IsKnownFile, IsKnownDirectory, IsKnownMap, IsHeld}
-use Rattle.volume.specs.Known.{IsWholeMap, IsWholeDirectory, blocks_reached}
+use Rattle.volume.specs.Known.{KnownVersion, KnownDirectory, Known, IsKnownFile, IsKnownDirectory, IsHeld}
+use Rattle.volume.specs.Known.{IsWholeMap, IsWholeDirectory}
 use Rattle.volume.specs.Moving.{file_protected, file_in, files_moved_as, files_moved, IsFreeFor, IsPrimeMoved}
 use Rattle.volume.specs.Moving.{IsMovedWithin}
 use Rattle.volume.specs.Publishing.{files_put_in, files_published}
@@ -53,7 +51,7 @@ use Rattle.volume.proofs.FoundDirectories.{all_at}
 use Rattle.volume.proofs.MakingDirectories.{not_put}
 use Rattle.volume.proofs.MakingHeld.{reached_in_space, element_at}
 use Rattle.volume.proofs.MakingLaw.{bits_same, none_mapped}
-use Rattle.volume.proofs.PublishingPuts.{set_cases, other_key, file_times}
+use Rattle.volume.proofs.PublishingPuts.{set_cases, other_key}
 
 -- The directory with the file so, and the map.
 

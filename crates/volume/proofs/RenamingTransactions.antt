@@ -1,9 +1,9 @@
 -- A file gets another name in its directory: its prime block is read, and the puts are committed, over plain disk states.
-use Rattle.std.proofs.Common.{◌≡◌, ℕ, ◌<◌, ◌⊎◌, inl, inr, ⊎_elim, Bool, true, false, if◌then◌else◌, List, ◌∷◌, ◌++◌, Option}
+use Rattle.std.proofs.Common.{◌≡◌, ℕ, ◌<◌, ◌⊎◌, inl, ⊎_elim, Bool, true, false, if◌then◌else◌, List, ◌++◌}
 use Rattle.std.proofs.Common.{Some, None, refl, sym, ap, subst, ◌∙◌, arith}
 use Rattle.std.proofs.lemmas.Bool.{cases_eq, cases_lt}
 use Rattle.words36.specs.declared.names.FileName.{FileName}
-use Rattle.blockdisk.specs.Disk.{Contents, DiskState, MayLeave, Keeps, Still, Modifies, NoneOpen, SameDisk, SameOutside}
+use Rattle.blockdisk.specs.Disk.{Contents, DiskState, MayLeave, Keeps, Modifies, NoneOpen, SameDisk, SameOutside}
 use Rattle.blockdisk.specs.Disk.{LeavesOnly}
 use Rattle.blockdisk.specs.Laws.{same_contents, keeps_still, still_modifies, leaves_weaker}
 use Rattle.changeset.specs.Crashes.{IsGateOrLog, IsShut, AllOrNone}
@@ -14,13 +14,13 @@ use Rattle.meaning.specs.declared.put.Put.{Put}
 use Rattle.meaning.specs.Faults.{InSpace}
 use Rattle.meaning.specs.Files.{File, Files}
 use Rattle.meaning.specs.Log.{with_puts}
-use Rattle.meaning.specs.Maps.{get, total, times}
+use Rattle.meaning.specs.Maps.{get, times}
 use Rattle.meaning.specs.Regions.{space_start}
 use Rattle.meaning.specs.Stands.{StoredFile, StoredDirectory, DiskMap, files_of, place_of}
 use Rattle.meaning.proofs.DiskMaps.{fixed_below}
 use Rattle.meaning.proofs.MapLaws.{some_same, some_none}
 use Rattle.meaning.proofs.MapSums.{times-append}
-use Rattle.alloctab.specs.TableState.{IsTable, bit, holds}
+use Rattle.alloctab.specs.TableState.{IsTable, holds}
 use Rattle.changeset.specs.PutLaws.{times_head}
 use Rattle.retrieval.specs.declared.prime.Prime.{Prime}
 use Rattle.volume.specs.Claims.{claims}

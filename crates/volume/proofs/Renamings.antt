@@ -1,9 +1,7 @@
 -- A file gets another name in its directory in core: what each step asks for, and the whole of it from what each did.
-use Rattle.std.proofs.Common.{◌≡◌, ℕ, zero, suc, ◌<◌, ◌≤◌, ◌⊎◌, ◌==◌, ◌&&◌, inl, inr, Bool, true, false, List, [], ◌∷◌, map, filter_map, length, slice_get}
+use Rattle.std.proofs.Common.{◌≡◌, ℕ, zero, suc, ◌≤◌, ◌⊎◌, ◌==◌, ◌&&◌, inl, inr, Bool, true, false, List, [], ◌∷◌, map, filter_map, length, slice_get}
 use Rattle.std.proofs.Common.{slice_set, Option, Some, None, IfSome, IfNone, IsSome, is_some, refl, sym, ap, subst, ◌∙◌, arith}
 use Rattle.std.proofs.lemmas.Bool.Decides.{nat_tests}
-use Rattle.std.proofs.lemmas.List.{length-map}
-use Rattle.std.proofs.lemmas.Option.{slice_get_within}
 use Rattle.std.specs.List.{AllZip}
 use Rattle.std.specs.Ordering.{nat_cmp}
 use Rattle.std.specs.FinMap.Entries.{find}
@@ -23,7 +21,7 @@ use Rattle.volume.specs.declared.live.LiveMap.{LiveMap}
 use Rattle.volume.specs.declared.live.LiveVersion.{LiveVersion}
 use Rattle.volume.specs.Beginning.{IsDirectoryOf}
 use Rattle.volume.specs.Cores.{file_view, master_view}
-use Rattle.volume.specs.Known.{KnownVersion, KnownDirectory, IsWholeDirectory}
+use Rattle.volume.specs.Known.{KnownDirectory, IsWholeDirectory}
 use Rattle.volume.specs.Live.{VolumeCore, slot, as_known, IsCurrent, IsKeyed, IsWholeCore}
 use Rattle.volume.specs.LiveCores.{core_of, known_at, live_directory}
 use Rattle.volume.specs.Moving.{IsFreeFor, IsPrimeMoved, IsEntryRenamed, MovesWithin}

@@ -1,4 +1,4 @@
-use Rattle.std.proofs.Common.{map, length, refl, ap, ◌∙◌}
+use Rattle.std.proofs.Common.{refl, ap, ◌∙◌}
 use Rattle.std.specs.Vec.{with_item}
 use Rattle.volume.specs.declared.live.LiveMap.{LiveMap}
 use Rattle.volume.proofs.MakingCurrent.{index_is, place_within}

@@ -1,4 +1,4 @@
-use Rattle.std.proofs.Common.{sym, ap, subst, ◌∙◌}
+use Rattle.std.proofs.Common.{ap, subst, ◌∙◌}
 use Rattle.changeset.specs.Puts.{replaced}
 use Rattle.meaning.proofs.MapLaws.{some_same}
 use Rattle.volume.specs.declared.live.LiveVersion.{LiveVersion}

@@ -1,4 +1,4 @@
-use Rattle.std.proofs.Common.{ℕ, ◌<◌, ◌≤◌, List, Bool, length, sym, ap, subst, ◌∙◌}
+use Rattle.std.proofs.Common.{ℕ, ◌<◌, ◌≤◌, Bool, length, sym, ap, subst, ◌∙◌}
 use Rattle.std.specs.List.{AllByRecursion}
 use Rattle.meaning.specs.Log.{IsTarget, targets}
 use Rattle.meaning.specs.Regions.{log_images}
@@ -110,8 +110,7 @@ returns-in-Ok-commit_puts-clause-moved g c =
     let words = c.in-Ok.words in
     let moves = subst (λ (n : ℕ). MovesWithin n core new c.args.ppn c.args.name.now c.args.to.now c.args.protection
     c.args.key v words puts) c.requires.sound.whole.map.size_is c.move_in_core.ensures.1 in
-    let same = c.read_prime.ensures.same in
-    (
+    let same = c.read_prime.ensures.same in (
       v,
       words,
       puts,
