@@ -22,7 +22,7 @@ use std::env;
 use std::rt::{Clock, Env};
 use std::time::Instant;
 use volume::{LARGEST_VOLUME, SMALLEST_VOLUME, Volume};
-use volumes::{delete_directory, make_directory, make_volume, open, reached};
+use volumes::{delete_directory, directory_number, make_directory, make_volume, open, reached};
 use words36::{BLOCK_WORDS, Word};
 
 /// Room to record the writes and syncs of `init` and of an `open`, and of one `make_dir`.
@@ -62,11 +62,12 @@ fn with_directories(rt: &impl Print, alloc: Global, blocks: u32, directories: u1
     let mut volume = open(alloc, CountingDisk::new(disk))?;
     println!(rt; "{blocks} blocks, {directories} directories")?;
     print_opened(rt, &volume, reached)?;
+    let ppn = directory_number(u32::from(directories) + 1)?;
     let before = volume.disk().calls();
-    make_directory(alloc, &mut volume, u32::from(directories) + 1)?;
+    make_directory(alloc, &mut volume, ppn)?;
     let made = volume.disk().calls();
     print_changed(rt, "make_dir", made.since(before))?;
-    delete_directory(&mut volume, u32::from(directories) + 1)?;
+    delete_directory(&mut volume, ppn)?;
     print_changed(rt, "delete_dir", volume.disk().calls().since(made))
 }
 

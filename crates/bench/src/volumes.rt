@@ -1,5 +1,4 @@
 ghost use Rattle.std.specs.Prelude.{OnOk};
-ghost use Rattle.words36.specs.Words.{join};
 ghost use Rattle.meaning.specs.Files.{File, Files};
 ghost use Rattle.volume.specs.Making.{files_made};
 ghost use Rattle.volume.specs.RemovingDirectories.{directory_removed};
@@ -22,22 +21,25 @@ pub fn open<D: Disk + Drop>(alloc: Global, disk: D) -> Result<Volume<D>> {
     }
 }
 
-/// Makes the directory [1,n].
-pub fn make_directory<D: Disk>(alloc: Global, volume: &mut Volume<D>, n: u32) -> Result<()>
+/// The number [1,n] of a directory.
+pub fn directory_number(n: u32) -> Result<Ppn> {
+    Ppn::new(1, n).context("no such number")
+}
+
+/// Makes a directory.
+pub fn make_directory<D: Disk>(alloc: Global, volume: &mut Volume<D>, ppn: Ppn) -> Result<()>
     ensures done { (D.state volume.new.disk).honest → (f : Files File) → RestsAt (D.state volume.old.disk) f
-        → OnOk result (RestsAt (D.state volume.new.disk) (files_made f (join 1 n) 509)) }
+        → OnOk result (RestsAt (D.state volume.new.disk) (files_made f ppn 509)) }
 {
-    let ppn = Ppn::new(1, n).context("no such number")?;
     volume.make_dir(alloc, ppn, PROTECTION)?;
     Ok(())
 }
 
-/// Deletes the directory [1,n], which has to be empty.
-pub fn delete_directory<D: Disk>(volume: &mut Volume<D>, n: u32) -> Result<()>
+/// Deletes a directory, which has to be empty.
+pub fn delete_directory<D: Disk>(volume: &mut Volume<D>, ppn: Ppn) -> Result<()>
     ensures done { (D.state volume.new.disk).honest → (f : Files File) → RestsAt (D.state volume.old.disk) f
-        → OnOk result (RestsAt (D.state volume.new.disk) (directory_removed f (join 1 n))) }
+        → OnOk result (RestsAt (D.state volume.new.disk) (directory_removed f ppn)) }
 {
-    let ppn = Ppn::new(1, n).context("no such number")?;
     volume.delete_dir(ppn)?;
     Ok(())
 }
@@ -48,7 +50,7 @@ pub fn make_volume<D: Disk + Drop>(alloc: Global, disk: D, count: u32) -> Result
     Volume::init(&mut disk)?;
     let mut volume = open(alloc, disk)?;
     for n in 0..count {
-        make_directory(alloc, &mut volume, n + 1)?;
+        make_directory(alloc, &mut volume, directory_number(n + 1)?)?;
     }
     Ok(volume)
 }

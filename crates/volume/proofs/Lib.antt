@@ -85,3 +85,4 @@ pub mod RenamedPlaces
 pub mod RenamingCore
 pub mod RenamingTransactions
 pub mod RenamingAnswers
+pub mod RetiredPrimes

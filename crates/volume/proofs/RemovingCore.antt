@@ -1,8 +1,8 @@
 -- A file is deleted: what is in core stays whole.
-use Rattle.std.proofs.Common.{◌≡◌, ℕ, ◌+◌, ◌-◌, ◌*◌, ◌<◌, ◌≤◌, ◌⊎◌, inl, inr, ⊎_elim, true, List}
+use Rattle.std.proofs.Common.{◌≡◌, ℕ, ◌+◌, ◌-◌, ◌*◌, ◌<◌, ◌≤◌, ◌⊎◌, inl, inr, ⊎_elim, List}
 use Rattle.std.proofs.Common.{◌++◌, length, slice_set, Option, Some, None, IfSome, refl, sym, ap, subst, ◌∙◌}
 use Rattle.std.proofs.Common.{arith}
-use Rattle.std.proofs.lemmas.Bool.{cases_eq, cases_lt}
+use Rattle.std.proofs.lemmas.Bool.{cases_lt}
 use Rattle.std.proofs.lemmas.List.{get_or_past, length-set}
 use Rattle.std.proofs.lemmas.Option.{slice_get_within}
 use Rattle.std.specs.List.{AllByRecursion}
@@ -23,11 +23,11 @@ use Rattle.alloctab.specs.TableState.{IsTable, bit, holds}
 use Rattle.changeset.specs.PutLaws.{some_or_none}
 use Rattle.directory.specs.Chains.{ChainState, IsChain}
 use Rattle.volume.specs.Known.{KnownDirectory, blocks_reached, reaches_in_known, reaches_in_entries, cost_of_directory}
-use Rattle.volume.specs.Known.{prime_in, cost_of_known, given_up, IsWholeVersion, IsWholeDirectory, IsWholeMap}
+use Rattle.volume.specs.Known.{prime_in, cost_of_known, IsWholeVersion, IsWholeDirectory, IsWholeMap}
 use Rattle.volume.specs.Live.{VolumeCore, slot, pending_at, as_known, held_reaches, held_cost, current_reaches, IsApart}
 use Rattle.volume.specs.Live.{IsCurrentAt, pending_reaches, pending_cost, creates, growths, cost_beyond}
 use Rattle.volume.specs.Live.{AreWaiting, IsWholeCore}
-use Rattle.volume.specs.Publishing.{before, left_of}
+use Rattle.volume.specs.Publishing.{left_of}
 use Rattle.volume.specs.Removing.{RemovesFile}
 use Rattle.volume.specs.declared.live.LiveVersion.{LiveVersion}
 use Rattle.volume.specs.declared.pending.PendingVersion.{PendingVersion}
@@ -38,12 +38,12 @@ use Rattle.volume.proofs.LiveLookups.{standing_at}
 use Rattle.volume.proofs.LiveTotals.{total_updated}
 use Rattle.volume.proofs.MakingHeld.{element_at}
 use Rattle.volume.proofs.MakingLaw.{bit_few}
-use Rattle.volume.proofs.OnePlace.{one_key, first_elsewhere}
+use Rattle.volume.proofs.OnePlace.{one_key}
 use Rattle.volume.proofs.Pinning.{all_updated}
-use Rattle.volume.proofs.PublishingCore.{not_left}
 use Rattle.volume.proofs.PublishingSlots.{set_total, set_each, all_places, set_growths, reaches_parts, Counts, counts}
 use Rattle.volume.proofs.PublishingSlots.{left_cases}
 use Rattle.volume.proofs.RemovedPlaces.{removed_before, removed_elsewhere}
+use Rattle.volume.proofs.RetiredPrimes.{retired_primes}
 
 module _ (size : ℕ) (c c' : VolumeCore) (ppn : ℕ) (name : FileName) (key : ℕ) (v : LiveVersion) (puts : List Put)
     (whole : IsWholeCore size c) (is : RemovesFile size c c' ppn name key v puts) where
@@ -229,20 +229,6 @@ module _ (size : ℕ) (c c' : VolumeCore) (ppn : ℕ) (name : FileName) (key : �
                 ∙ removed_before size c.known c'.known ppn name (v.at, as_known v) puts is.removed)))) ∙ current.at;
           }
 
-  -- A prime block is held as little as before: that of another version doesn't stand in the one that is given up.
-  removed_primes : (k : ℕ) (u : LiveVersion) → slot c'.live k ≡ Some u → u.is_current ≡ true
-      → holds c'.known.table u.at ≡ 0
-  removed_primes k u there current = ⊎_elim
-      (λ (same : k ≡ key). absurd (not_left v u (sym is.ended ∙ ap (slot c'.live) (sym same) ∙ there) current))
-      (λ other.
-      let was_there : slot c.live k ≡ Some u = sym (is.others k other) ∙ there in
-      let none = whole.primes k u was_there current in
-      let sum = is.held u.at in
-      let part = (counted u.at).held in
-      let given : given_up u.at (before (Some (key, v))) ≡ 0
-      = first_elsewhere size c whole k u was_there current key v is.there is.current other in
-      omega arith) (cases_eq k key)
-
   -- What is booked.
 
   no_more_booked : c'.known.table.booked ≤ c.known.table.booked
@@ -328,7 +314,7 @@ module _ (size : ℕ) (c c' : VolumeCore) (ppn : ℕ) (name : FileName) (key : �
     own = removed_own;
     inside = removed_inside;
     apart = removed_apart;
-    primes = removed_primes;
+    primes = retired_primes size c c' key v whole is.there is.current is.ended is.others is.held;
     fits = let fits = whole.fits in let few = no_more_booked in omega arith;
     booked = removed_booked;
     beyond = removed_beyond sound;

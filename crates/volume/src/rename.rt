@@ -257,7 +257,7 @@ fn move_within<D: Disk>(
     ensures sound { IsSound (D.state disk.new) (core_of map.new) failed.new }
     ensures moved { OnOk result ((v : LiveVersion) × (words : List ℕ) × (puts : List Put)
         × MovesWithin (D.state disk.old).size (core_of map.old) (core_of map.new) ppn name.now to.now protection key v
-        words puts) }
+        words puts × ((D.state disk.new).honest → (D.state disk.old).contents v.at ≡ Some words)) }
     ensures pending { (core_of map.new).pending ≡ (core_of map.old).pending }
     ensures held { (k : ℕ) (v : LiveVersion) → slot (core_of map.old).live k ≡ Some v
         → (prime : PrimeValue) × (slot (core_of map.new).live k ≡ Some (record v { prime = prime })) }
@@ -332,10 +332,10 @@ impl<D: Disk> Volume<D> {
         // At Ok all that a crash may leave stands for the latter.
         ensures done { (D.state self.new.disk).honest → (f : Files File) → RestsAt (D.state self.old.disk) f
             → OnOk result (RestsAt (D.state self.new.disk) (files_moved f ppn name.now ppn to.now protection)) }
-        // What it does to core.
+        // What it does to core, and what it puts, where the prime block had these words.
         ensures moved { OnOk result ((key : ℕ) × (v : LiveVersion) × (words : List ℕ) × (puts : List Put)
             × MovesWithin (D.state self.old.disk).size self.old.core self.new.core ppn name.now to.now protection key v
-            words puts) }
+            words puts × ((D.state self.new.disk).honest → (D.state self.old.disk).contents v.at ≡ Some words)) }
         // All versions in use stay, whatever the answer; and their blocks do, but where the device failed, since they
         // may have been open then.
         ensures pending { self.new.core.pending ≡ self.old.core.pending }

@@ -110,8 +110,14 @@ returns-in-Ok-commit_puts-clause-moved g c =
     let words = c.in-Ok.words in
     let moves = subst (λ (n : ℕ). MovesWithin n core new c.args.ppn c.args.name.now c.args.to.now c.args.protection
     c.args.key v words puts) c.requires.sound.whole.map.size_is c.move_in_core.ensures.1 in
-    let same = c.read_prime.ensures.same in
-    (v, words, puts, moves)
+    let same = c.read_prime.ensures.same in (
+      v,
+      words,
+      puts,
+      moves,
+      λ h. ap s.contents (sym (c.prime_of-at.ensures v moves.there))
+          ∙ c.in-Ok.ensures.words (c.commit_puts.ensures.same.was_honest h),
+    )
 
 pub returns-in-Ok-commit_puts-clause-held : goal.returns-in-Ok-commit_puts-clause-held
 returns-in-Ok-commit_puts-clause-held g c k u at =

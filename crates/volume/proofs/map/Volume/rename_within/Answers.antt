@@ -75,7 +75,7 @@ returns-clause-crash g c = rw (← c.self.view_is) (λ h f rests.
 pub returns-clause-moved : goal.returns-clause-moved
 returns-clause-moved g c = rw (← c.self.view_is)
     (on_ok c.move_within.result _ _
-    (λ found. (c.in-Ok.key, found.0, found.1, found.2, found.3)) c.move_within.ensures.moved)
+    (λ found. (c.in-Ok.key, found.0, found.1, found.2, found.3, found.4)) c.move_within.ensures.moved)
 
 pub returns-clause-held : goal.returns-clause-held
 returns-clause-held g c = rw (← c.self.view_is) (λ k v is some.
