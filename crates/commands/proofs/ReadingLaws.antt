@@ -1,6 +1,6 @@
 -- Plans that are followed one after the other, and words of a body that are read by them.
 use Rattle.std.proofs.Common.{◌≡◌, ℕ, zero, suc, ◌+◌, ◌-◌, ◌<◌, ◌≤◌, ◌%◌, ◌/◌, ◌*◌, ◌^◌, ◌==◌, if◌then◌else◌, Bool}
-use Rattle.std.proofs.Common.{true, false, List, [], ◌∷◌, ◌++◌, length, map, take, get_or, replicate, Option, Some}
+use Rattle.std.proofs.Common.{true, false, List, [], ◌∷◌, ◌++◌, length, take, get_or, replicate, Option, Some}
 use Rattle.std.proofs.Common.{None, Result, Ok, Err, bit_and, refl, sym, ◌∙◌, ap, subst, append_assoc, append-nil}
 use Rattle.std.proofs.Common.{add-one, zero-mul, arith}
 use Rattle.std.proofs.lemmas.List.{take_all}

@@ -1,14 +1,13 @@
 -- The events that look a file up, and those that enter one, are served one after the other: each is asked where the one
 -- before it was done, so that job 1 has by then the mode in its core, and the channel that is to write reads nothing.
-use Rattle.std.proofs.Common.{◌≡◌, ◌≢◌, ◌<◌, ℕ, zero, suc, ◌+◌, ◌%◌, Bool, true, false, if◌then◌else◌, List, [], ◌∷◌}
+use Rattle.std.proofs.Common.{◌≡◌, ◌≢◌, ◌<◌, ℕ, ◌+◌, ◌%◌, Bool, true, false, if◌then◌else◌, [], ◌∷◌}
 use Rattle.std.proofs.Common.{length, Option, None, Some, refl, sym, ap, subst, ◌∙◌, ⊎_elim, arith, slice_index}
-use Rattle.std.proofs.Common.{slice_set}
 use Rattle.std.specs.Prelude.{nat_lt, nat_le}
 use Rattle.std.proofs.lemmas.Bool.Decides.{nat_tests}
 use Rattle.std.proofs.lemmas.List.{get_or-set_same, get_or-set_other}
 use Rattle.words36.specs.declared.moment.Moment.{Moment}
 use Rattle.meaning.specs.Plans.{open_words, file_words, new_words}
-use Rattle.meaning.specs.Jobs.{Job, State, job_at, slot, with_job}
+use Rattle.meaning.specs.Jobs.{Job, State, job_at, with_job}
 use Rattle.meaning.specs.Opening.{dump_mode, open_answer, open_done, opens}
 use Rattle.meaning.specs.Rings.{is_buffered}
 use Rattle.meaning.specs.Room.{Pack}

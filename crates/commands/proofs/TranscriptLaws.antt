@@ -1,7 +1,6 @@
 -- Lines that are answered one after another.
 use Rattle.std.proofs.Common.{◌≡◌, ◌≢◌, ℕ, ◌||◌, Bool, true, false, List, [], ◌∷◌, ◌++◌, refl, sym, ◌∙◌, ap, subst}
 use Rattle.std.proofs.Common.{append_assoc, append-nil, Option}
-use Rattle.std.specs.Prelude.{option_map}
 use Rattle.words36.specs.declared.moment.Moment.{Moment}
 use Rattle.meaning.specs.Lines.{Line}
 use Rattle.meaning.specs.Texts.{Spoken, joined, silent}

@@ -1,5 +1,5 @@
 -- A whole session, a whole call script, and the parts that they are made of.
-use Rattle.std.specs.Prelude.{◌≡◌, ◌≢◌, ◌<◌, ◌||◌, ℕ, List, [], ◌∷◌, ◌++◌, length, Option, None, option_map, Result, Ok}
+use Rattle.std.specs.Prelude.{◌≡◌, ◌≢◌, ◌<◌, ◌||◌, ℕ, List, [], ◌∷◌, ◌++◌, length, Option, None, Result, Ok}
 use Rattle.std.specs.Prelude.{Err, IfOk, IfErr, OnOk, OnErr}
 use Rattle.std.specs.Io.KnownBytes.{Consumes, Appends, IsAtEnd}
 use Rattle.words36.specs.declared.moment.Moment.{Moment}
