@@ -86,3 +86,4 @@ pub mod RenamingCore
 pub mod RenamingTransactions
 pub mod RenamingAnswers
 pub mod RetiredPrimes
+pub mod MovingLaw
