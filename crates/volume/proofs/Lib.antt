@@ -87,3 +87,4 @@ pub mod RenamingTransactions
 pub mod RenamingAnswers
 pub mod RetiredPrimes
 pub mod MovingLaw
+pub mod MovingTransactions
