@@ -1,5 +1,5 @@
 ghost use Rattle.std.specs.Prelude.{◌≡◌, ◌↔◌, ◌⊎◌, ◌+◌, ◌<◌, ◌≤◌, ◌∷◌, ◌++◌, [], ℕ, List, true, false, length, map};
-ghost use Rattle.std.specs.Prelude.{slice_get, Some, None, IsSome, IfOk, IfErr, OnOk, IsErrOf};
+ghost use Rattle.std.specs.Prelude.{slice_get, option_to_list, Some, None, IsSome, IfOk, IfErr, OnOk, IsErrOf};
 ghost use Rattle.std.specs.Ordering.{nat_cmp};
 ghost use Rattle.std.specs.FinMap.Entries.{find};
 ghost use Rattle.blockdisk.specs.Disk.{LeavesOnly, SameDisk, one_more};
@@ -8,9 +8,10 @@ ghost use Rattle.meaning.specs.declared.code.ErrorCode.{ErrorCode};
 ghost use Rattle.meaning.specs.declared.code.ErrorCode.TheVariants.{NameExists, NoDirectory, NoRoom, NotFound};
 ghost use Rattle.meaning.specs.declared.put.Put.{Put};
 ghost use Rattle.meaning.specs.Files.{File, Files, name_cmp};
+ghost use Rattle.meaning.specs.Maps.{times};
 ghost use Rattle.meaning.specs.Room.{growth};
 ghost use Rattle.meaning.specs.Stands.{place_of};
-ghost use Rattle.alloctab.specs.TableState.{space};
+ghost use Rattle.alloctab.specs.TableState.{IsTable, bit, holds, space};
 ghost use Rattle.directory.specs.Chains.{viewed};
 ghost use Rattle.directory.specs.Edits.{StandsAt, IsReserve};
 ghost use Rattle.retrieval.specs.declared.prime.Prime.{Prime as PrimeValue};
@@ -20,9 +21,10 @@ ghost use Rattle.volume.specs.Cores.{file_view, master_view};
 ghost use Rattle.volume.specs.Known.{KnownDirectory};
 ghost use Rattle.volume.specs.Live.{slot, IsWholeCore};
 ghost use Rattle.volume.specs.LiveCores.{core_of};
-ghost use Rattle.volume.specs.Moving.{files_moved, HasFile, HasNoRoom, MovesAcross};
+ghost use Rattle.volume.specs.Moving.{files_moved, HasFile, HasNoRoom, MovesAcross, Arrives, MayLeave, Leaves};
 ghost use Rattle.volume.specs.Pins.{IsKeyOf};
 ghost use Rattle.volume.specs.Places.{prime_at};
+ghost use Rattle.volume.specs.Publishing.{PutsInUse};
 ghost use Rattle.volume.specs.Rest.{IsSound, RestsAt, StandsForEither, KeepsRead, KeepsEachWritten};
 ghost use Rattle.volume.specs.declared.error.CallError.TheVariants.{Refused, Device, Failed, NoMemory};
 ghost use Rattle.volume.specs.declared.live.LiveDirectory.{LiveDirectory};
@@ -40,6 +42,7 @@ use crate::query::directory_place;
 use crate::rename_within::{move_version, prime_of, read_prime};
 use crate::supplies::{EntrySupplies, find_entry_supplies};
 use crate::transaction::commit_puts;
+use alloctab::Table;
 use blockdisk::Disk;
 use changeset::ChangeSet;
 use meaning::ErrorCode;
@@ -52,35 +55,48 @@ use words36::{Block, FileName, Ppn};
 ///
 /// `Refused` with `NoDirectory` where there is no such directory, with `NameExists` where it has the name already, and
 /// with `NoRoom` where it costs a block more with one entry more, for which there is no room.
-fn find_target(map: &LiveMap, ppn: Ppn, name: &FileName) -> Result<usize, CallError>
-    requires whole { IsWholeCore map.now.table.size (core_of map.now) }
+fn find_target(core: &LiveMap, ppn: Ppn, name: &FileName) -> Result<usize, CallError>
+    requires whole { IsWholeCore core.now.table.size (core_of core.now) }
     ensures place { IfOk result (λ place. (v : ℕ × ℕ)
-        × StandsAt nat_cmp (map master_view map.now.master.entries) ppn v place) }
-    ensures free { OnOk result ((d : KnownDirectory) → IsDirectoryOf (core_of map.now) ppn d
+        × StandsAt nat_cmp (map master_view core.now.master.entries) ppn v place) }
+    ensures free { OnOk result ((d : KnownDirectory) → IsDirectoryOf (core_of core.now) ppn d
         → find name_cmp name.now d.chain.entries ≡ None) }
-    ensures room { OnOk result ((d : KnownDirectory) → IsDirectoryOf (core_of map.now) ppn d
-        → 0 < growth (entries_with (core_of map.now) d ppn)
-        → map.now.table.booked + growth (entries_with (core_of map.now) d ppn) ≤ space map.now.table.size) }
+    ensures room { OnOk result ((d : KnownDirectory) → IsDirectoryOf (core_of core.now) ppn d
+        → 0 < growth (entries_with (core_of core.now) d ppn)
+        → core.now.table.booked + growth (entries_with (core_of core.now) d ppn) ≤ space core.now.table.size) }
     ensures no_directory { IsErrOf result (Refused NoDirectory)
-        ↔ (find nat_cmp ppn (core_of map.now).known.master.entries ≡ None) }
-    ensures exists { IsErrOf result (Refused NameExists) ↔ HasFile (core_of map.now) ppn name.now }
+        ↔ (find nat_cmp ppn (core_of core.now).known.master.entries ≡ None) }
+    ensures exists { IsErrOf result (Refused NameExists) ↔ HasFile (core_of core.now) ppn name.now }
     ensures no_room { IsErrOf result (Refused NoRoom)
-        ↔ HasNoRoom map.now.table.size (core_of map.now) ppn name.now }
+        ↔ HasNoRoom core.now.table.size (core_of core.now) ppn name.now }
     ensures only { IfErr result (λ error. (error ≡ Refused NoDirectory) ⊎ (error ≡ Refused NameExists)
         ⊎ (error ≡ Refused NoRoom)) }
 {
-    let place = match directory_place(&map.master, ppn) {
+    let place = match directory_place(&core.master, ppn) {
         Ok(place) => place,
         Err(error) => return Err(error),
     };
-    if map.directories[place].chain.find(name).is_some() {
+    if core.directories[place].chain.find(name).is_some() {
         return Err(CallError::Refused(ErrorCode::NameExists));
     }
-    let more = growth_at(map, place, ppn);
-    if more > 0 && !map.table.can_book(more) {
+    let more = growth_at(core, place, ppn);
+    if more > 0 && !core.table.can_book(more) {
         return Err(CallError::Refused(ErrorCode::NoRoom));
     }
     Ok(place)
+}
+
+/// Brings the block that a chain took into use, where it took one.
+fn use_grown(table: &mut Table, grown: Option<u32>)
+    requires sound { IsTable table.old }
+    requires held { (n : ℕ) → times n (option_to_list grown) ≤ holds table.old n }
+    requires clear { (n : ℕ) → bit table.old n + times n (option_to_list grown) ≤ 1 }
+    ensures { PutsInUse table.old table.new (option_to_list grown) }
+{
+    if let Some(n) = grown {
+        use_block(table, n);
+    }
+    let _booked = table.booked(); // any table is one as it should be
 }
 
 /// Gives a directory in core an entry of a name that is new there, for the version under a key, with the puts of its
@@ -92,12 +108,29 @@ fn arrive(
     key: usize,
     supplies: EntrySupplies,
     set: &mut ChangeSet,
-) {
+)
+    requires whole { IsWholeCore core.old.table.size (core_of core.old) }
+    requires key { IsSome (slot core.old.versions.slots key) }
+    requires target { find nat_cmp ppn (core_of core.old).known.master.entries ≡ None → ⊥ }
+    requires free { (d : KnownDirectory) → IsDirectoryOf (core_of core.old) ppn d
+        → find name_cmp name.now d.chain.entries ≡ None }
+    requires room { (d : KnownDirectory) → IsDirectoryOf (core_of core.old) ppn d
+        → 0 < growth (entries_with (core_of core.old) d ppn)
+        → core.old.table.booked + growth (entries_with (core_of core.old) d ppn) ≤ space core.old.table.size }
+    requires named { 0 < name.now.name }
+    requires fits { (d : LiveDirectory) (place : ℕ) (v : ℕ × ℕ)
+        → StandsAt nat_cmp (map master_view core.old.master.entries) ppn v place
+        → slice_get core.old.directories.items place ≡ Some d
+        → IsReserve name_cmp (viewed file_view d.chain) name.now (viewed file_view supplies.reserve)
+        × (supplies.keys.items ≡ d.keys.items ++ 0 ∷ []) }
+    requires empty { set.old ≡ [] }
+    ensures { Arrives core.old core.new ppn name.now key set.new }
+{
     let _booked = core.table.booked(); // any table is one as it should be
     let place = place_of(&core.master, ppn);
     let more = growth_at(core, place, ppn);
-    core.table.book(more);
     let grows = takes_block(core, place, name);
+    core.table.book(more);
     let grown = take_for_chain(&mut core.table, grows);
     let entry = file_entry(*name, prime_of(&core.versions, key));
     let EntrySupplies { reserve, keys } = supplies;
@@ -110,14 +143,22 @@ fn arrive(
         grown,
         set,
     );
-    if let Some(n) = grown {
-        use_block(&mut core.table, n);
-    }
+    use_grown(&mut core.table, grown);
 }
 
 /// Takes the entry of a name out of a directory in core, with the puts of its chain. What the directory costs less is
 /// not booked any more, and a block that its chain gives back is free.
-fn leave(core: &mut LiveMap, ppn: Ppn, name: &FileName, set: &mut ChangeSet) {
+fn leave(core: &mut LiveMap, ppn: Ppn, name: &FileName, set: &mut ChangeSet)
+    requires sound { IsTable core.old.table }
+    requires there { find nat_cmp ppn (map master_view core.old.master.entries) ≡ None → ⊥ }
+    requires aligned { length core.old.directories.items ≡ length core.old.master.entries }
+    requires may_leave { (d : LiveDirectory) (place : ℕ) (v : ℕ × ℕ)
+        → StandsAt nat_cmp (map master_view core.old.master.entries) ppn v place
+        → slice_get core.old.directories.items place ≡ Some d → MayLeave core.old d ppn name.now }
+    requires booked { 0 < core.old.table.booked }
+    requires room { length set.old ≤ 2 }
+    ensures { Leaves core.old core.new ppn name.now set.old set.new }
+{
     let place = place_of(&core.master, ppn);
     let GivenUp { block, .. } = remove_entry(&mut core.directories[place], name, set);
     let less = growth_at(core, place, ppn);
@@ -184,7 +225,7 @@ fn move_to_directory(
 /// volume has failed then.
 fn move_across<D: Disk>(
     disk: &mut D,
-    map: &mut LiveMap,
+    core: &mut LiveMap,
     failed: &mut bool,
     ppn: Ppn,
     name: &FileName,
@@ -195,42 +236,42 @@ fn move_across<D: Disk>(
     supplies: EntrySupplies,
 ) -> Result<(), CallError>
     // What the caller sees to.
-    requires sound { IsSound (D.state disk.old) (core_of map.old) false }
+    requires sound { IsSound (D.state disk.old) (core_of core.old) false }
     requires alive { failed.old ≡ false }
-    requires there { IsKeyOf (core_of map.old) ppn name.now key }
+    requires there { IsKeyOf (core_of core.old) ppn name.now key }
     requires apart { to_ppn ≡ ppn → ⊥ }
-    requires target { find nat_cmp to_ppn (core_of map.old).known.master.entries ≡ None → ⊥ }
-    requires free { (d : KnownDirectory) → IsDirectoryOf (core_of map.old) to_ppn d
+    requires target { find nat_cmp to_ppn (core_of core.old).known.master.entries ≡ None → ⊥ }
+    requires free { (d : KnownDirectory) → IsDirectoryOf (core_of core.old) to_ppn d
         → find name_cmp to.now d.chain.entries ≡ None }
-    requires room { (d : KnownDirectory) → IsDirectoryOf (core_of map.old) to_ppn d
-        → 0 < growth (entries_with (core_of map.old) d to_ppn)
-        → map.old.table.booked + growth (entries_with (core_of map.old) d to_ppn) ≤ space map.old.table.size }
+    requires room { (d : KnownDirectory) → IsDirectoryOf (core_of core.old) to_ppn d
+        → 0 < growth (entries_with (core_of core.old) d to_ppn)
+        → core.old.table.booked + growth (entries_with (core_of core.old) d to_ppn) ≤ space core.old.table.size }
     requires named { 0 < to.now.name }
     requires protection { protection < 512 }
     requires fits { (d : LiveDirectory) (place : ℕ) (v : ℕ × ℕ)
-        → StandsAt nat_cmp (map master_view map.old.master.entries) to_ppn v place
-        → slice_get map.old.directories.items place ≡ Some d
+        → StandsAt nat_cmp (map master_view core.old.master.entries) to_ppn v place
+        → slice_get core.old.directories.items place ≡ Some d
         → IsReserve name_cmp (viewed file_view d.chain) to.now (viewed file_view supplies.reserve)
         × (supplies.keys.items ≡ d.keys.items ++ 0 ∷ []) }
-    requires unclaimed { claims (core_of map.old).pending (place_of ppn name.now) ≡ false }
+    requires unclaimed { claims (core_of core.old).pending (place_of ppn name.now) ≡ false }
 
     // What it does to core and disk.
-    ensures sound { IsSound (D.state disk.new) (core_of map.new) failed.new }
+    ensures sound { IsSound (D.state disk.new) (core_of core.new) failed.new }
     ensures moved { OnOk result ((v : LiveVersion) × (words : List ℕ) × (puts : List Put)
-        × MovesAcross (D.state disk.old).size (core_of map.old) (core_of map.new) ppn name.now to_ppn to.now protection
+        × MovesAcross (D.state disk.old).size (core_of core.old) (core_of core.new) ppn name.now to_ppn to.now protection
         key v words puts × ((D.state disk.new).honest → (D.state disk.old).contents v.at ≡ Some words)) }
-    ensures pending { (core_of map.new).pending ≡ (core_of map.old).pending }
-    ensures held { (k : ℕ) (v : LiveVersion) → slot (core_of map.old).live k ≡ Some v
-        → (prime : PrimeValue) × (slot (core_of map.new).live k ≡ Some (record v { prime = prime })) }
+    ensures pending { (core_of core.new).pending ≡ (core_of core.old).pending }
+    ensures held { (k : ℕ) (v : LiveVersion) → slot (core_of core.old).live k ≡ Some v
+        → (prime : PrimeValue) × (slot (core_of core.new).live k ≡ Some (record v { prime = prime })) }
     ensures crash { (D.state disk.new).honest → (f : Files File) → RestsAt (D.state disk.old) f
         → LeavesOnly (D.state disk.old) (D.state disk.new) (StandsForEither (D.state disk.old).size f
         (files_moved f ppn name.now to_ppn to.now protection)) }
     ensures done { (D.state disk.new).honest → (f : Files File) → RestsAt (D.state disk.old) f
         → OnOk result (RestsAt (D.state disk.new) (files_moved f ppn name.now to_ppn to.now protection)) }
     ensures readers { (D.state disk.new).honest → (IsErrOf result Device → ⊥)
-        → KeepsRead (D.state disk.old).contents (D.state disk.new).contents (core_of map.old) }
+        → KeepsRead (D.state disk.old).contents (D.state disk.new).contents (core_of core.old) }
     ensures writers { (D.state disk.new).honest → (IsErrOf result Device → ⊥)
-        → KeepsEachWritten (D.state disk.old).contents (D.state disk.new).contents (core_of map.old) }
+        → KeepsEachWritten (D.state disk.old).contents (D.state disk.new).contents (core_of core.old) }
 
     // Which refusal comes when, and what it leaves.
     ensures only { IfErr result (λ error. (error ≡ Device) ⊎ (error ≡ Failed)) }
@@ -241,8 +282,8 @@ fn move_across<D: Disk>(
     ensures served { (IsErrOf result Device → ⊥) → (D.state disk.new).failures ≡ (D.state disk.old).failures }
     ensures same { SameDisk (D.state disk.old) (D.state disk.new) }
 {
-    let _booked = map.table.booked(); // any table is one as it should be
-    let at = prime_of(&map.versions, key);
+    let _booked = core.table.booked(); // any table is one as it should be
+    let at = prime_of(&core.versions, key);
     let words = match read_prime(disk, at) {
         Ok(words) => words,
         Err(error) => {
@@ -252,7 +293,7 @@ fn move_across<D: Disk>(
     };
     let mut set = ChangeSet::new();
     move_to_directory(
-        map, ppn, name, to_ppn, to, protection, key, supplies, &words, &mut set,
+        core, ppn, name, to_ppn, to, protection, key, supplies, &words, &mut set,
     );
     match commit_puts(disk, &set) {
         Ok(()) => Ok(()),
