@@ -86,3 +86,6 @@ pub mod RenamingCore
 pub mod RenamingTransactions
 pub mod RenamingAnswers
 pub mod RetiredPrimes
+pub mod Arriving
+pub mod Leaving
+pub mod MovingAcross
