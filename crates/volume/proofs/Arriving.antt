@@ -1,7 +1,7 @@
--- A directory in core gets an entry of a new name: what each step asks for, and the whole of it from what each step did.
+-- A directory in core gets an entry of a new name: what each step asks for, and the whole of it from what each did.
 use Rattle.std.proofs.Common.{◌≡◌, ◌↔◌, ℕ, ◌+◌, ◌-◌, ◌^◌, ◌<◌, ◌≤◌, ⊎_elim, Bool, true, false, if◌then◌else◌, List, []}
 use Rattle.std.proofs.Common.{◌∷◌, ◌++◌, map, length, slice_get, slice_set, option_to_list, Option, Some, None, IfSome}
-use Rattle.std.proofs.Common.{IfNone, IsSome, IsTrue, refl, sym, ap, subst, ◌∙◌, arith, append-nil}
+use Rattle.std.proofs.Common.{IfNone, IsTrue, refl, sym, ap, subst, ◌∙◌, arith, append-nil}
 use Rattle.std.proofs.lemmas.List.{length-map}
 use Rattle.std.specs.Ordering.{nat_cmp}
 use Rattle.std.specs.FinMap.Entries.{find}
@@ -18,7 +18,7 @@ use Rattle.meaning.proofs.MapLaws.{some_same, some_none}
 use Rattle.alloctab.specs.TableLaws.{sound-booked}
 use Rattle.alloctab.specs.TableState.{TableState, IsTable, IsFree, bit, holds, space, used_in_space}
 use Rattle.directory.specs.Chains.{IsChain, viewed}
-use Rattle.directory.specs.Edits.{StandsAt, TakesBlock, IsReserve, PutsChain, inserted}
+use Rattle.directory.specs.Edits.{StandsAt, TakesBlock, PutsChain, inserted}
 use Rattle.retrieval.specs.Writing.{Takes, IsFixed}
 use Rattle.retrieval.proofs.Taking.{Stays, takes_stays, takes_each, may_be_written}
 use Rattle.volume.specs.declared.live.LiveDirectory.{LiveDirectory}
@@ -44,7 +44,7 @@ use Rattle.volume.proofs.PuttingCore.{chains_within}
 use Rattle.volume.proofs.Removals.{marks_booked}
 use Rattle.volume.proofs.UsedVersions.{takes_kept, takes_holds, takes_once}
 
--- Blocks that are taken once their cost is booked.
+-- Blocks that are taken once what they cost is booked.
 
 pub record TakesFor (t u : TableState) (grown : List ℕ) (more : ℕ) : Type 0 where
   pub marks : Marks t u
@@ -58,7 +58,8 @@ taken_for : (t u : TableState) (grown : List ℕ) (more : ℕ) → IsTable t →
     → Takes (with_booked t more) grown u → TakesFor t u grown more
 taken_for t u grown more sound fixed takes = record {
   marks = subst (Marks t) (sym same)
-      (marks_counts t b u.held (marks_booked t t (t.booked + more) (marks_none t sound)) (subst IsTable same stays.sound));
+      (marks_counts t b u.held (marks_booked t t (t.booked + more) (marks_none t sound))
+      (subst IsTable same stays.sound));
   bits = λ n. ap (λ (w : TableState). bit w n) same;
   held = takes_holds b grown u sound' takes;
   booked = stays.booked;

@@ -43,7 +43,7 @@ use Rattle.volume.specs.Moving.{IsPrimeMoved, MovesAcross, Arrives, MayLeave, Le
 use Rattle.volume.specs.Pins.{IsKeyOf}
 use Rattle.volume.specs.Publishing.{Marks, IsEntryPut}
 use Rattle.volume.specs.Removing.{IsEntryRemoved}
-use Rattle.volume.proofs.Arriving.{known_here, keys_here, keyed_here, whole_here, directory_here, as_many_keys}
+use Rattle.volume.proofs.Arriving.{known_here, keys_here, whole_here, directory_here, as_many_keys}
 use Rattle.volume.proofs.Arriving.{entries_fit}
 use Rattle.volume.proofs.Beginnings.{same_directory}
 use Rattle.volume.proofs.BlockLists.{marks_then}
@@ -54,7 +54,8 @@ use Rattle.volume.proofs.MakingCurrent.{part_of}
 use Rattle.volume.proofs.MakingTables.{puts_marked}
 use Rattle.volume.proofs.OnePlace.{one_key}
 use Rattle.volume.proofs.PublishingEntries.{inserted_new, entry_added}
-use Rattle.volume.proofs.PublishingKeys.{StayIn, mapped_alike, mapped_set, pair_at, pairs_of, kept_keyed, kept_known, keys_apart}
+use Rattle.volume.proofs.PublishingKeys.{StayIn, mapped_alike, mapped_set, pair_at, pairs_of, kept_keyed, kept_known}
+use Rattle.volume.proofs.PublishingKeys.{keys_apart}
 use Rattle.volume.proofs.PublishingPuts.{set_cases}
 use Rattle.volume.proofs.PuttingCore.{chains_within}
 use Rattle.volume.proofs.Removals.{had, removes_there, cost_of_last}
@@ -243,8 +244,8 @@ module _ (m m1 : LiveMap) (whole : IsWholeCore m.table.size (core_of m)) (ppn : 
           (free : (x : KnownDirectory) → IsDirectoryOf c to_ppn x → find name_cmp to x.chain.entries ≡ None)
           (room : (x : KnownDirectory) → IsDirectoryOf c to_ppn x → 0 < growth (entries_with c x to_ppn)
           → m.table.booked + growth (entries_with c x to_ppn) ≤ space m.table.size)
-          (m' : LiveMap) (puts : List Put) (master : m'.master ≡ m2.master) (directories : m'.directories ≡ m2.directories)
-          (pending : m'.pending ≡ m2.pending)
+          (m' : LiveMap) (puts : List Put) (master : m'.master ≡ m2.master)
+          (directories : m'.directories ≡ m2.directories) (pending : m'.pending ≡ m2.pending)
           (table : m'.table ≡ record m2.table { changed = replicate (table_blocks m2.table.size) false })
           (others_put : (x : Contents) (n : ℕ) → (IsChangedBlock m2.table n → ⊥)
           → with_puts puts x n ≡ with_puts set3 x n)
@@ -269,7 +270,8 @@ module _ (m m1 : LiveMap) (whole : IsWholeCore m.table.size (core_of m)) (ppn : 
         -- other directories have the versions that they had
         stay_in : (j : ℕ) (x : LiveDirectory) → slice_get m.directories.items j ≡ Some x → (j ≡ leaves.place → ⊥)
             → StayIn live live' x.keys.items
-        stay_in j x is far i k y key_is there = others k (λ same. not_elsewhere j i x is far (key_is ∙ ap Some same)) ∙ there
+        stay_in j x is far i k y key_is there = others k
+            (λ same. not_elsewhere j i x is far (key_is ∙ ap Some same)) ∙ there
 
         keyed_at : (j : ℕ) (x : LiveDirectory) → slice_get m.directories.items j ≡ Some x
             → IsKeyed live (live_directory live x) x.keys.items

@@ -273,14 +273,15 @@ pub record Arrives (m m' : LiveMap) (ppn : ℕ) (name : FileName) (key : ℕ) (p
   pub held : (n : ℕ) → holds m'.table n ≡ holds m.table n
   pub booked : m'.table.booked ≡ m.table.booked + growth (entries_there m directory ppn)
 
--- What a directory is that has an entry of this name to give up.
+-- What is so of a directory that is to give up its entry of this name.
 pub record MayLeave (m : LiveMap) (d : LiveDirectory) (ppn : ℕ) (name : FileName) : Type 0 where
   pub named : IsSome (find name_cmp name (map file_view d.chain.entries))
   pub aligned : length d.keys.items ≡ length d.chain.entries
   pub few : entries_there m d ppn < 2 ^ 64
+  -- the blocks of its chain are in use
   pub set : (n : ℕ) → times n d.chain.blocks ≤ bit m.table n
 
--- A directory has no entry of this name any more, which the version under the key had.
+-- A directory has no entry of this name any more; the last one has moved into its place, as has its key.
 pub record Leaves (m m' : LiveMap) (ppn : ℕ) (name : FileName) (before after : List Put) : Type 0 where
   pub place : ℕ
   pub word : ℕ × ℕ

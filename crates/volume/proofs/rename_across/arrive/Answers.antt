@@ -1,11 +1,10 @@
-use Rattle.std.proofs.Common.{◌≡◌, map, slice_set, refl, sym, subst}
+use Rattle.std.proofs.Common.{◌≡◌, slice_set, refl, sym, subst}
 use Rattle.std.specs.Vec.{with_item}
-use Rattle.std.specs.FinMap.Entries.{find}
 use Rattle.meaning.specs.Files.{name_cmp}
 use Rattle.directory.specs.Chains.{viewed}
 use Rattle.directory.specs.Edits.{IsReserve}
 use Rattle.volume.specs.Cores.{file_view}
-use Rattle.volume.specs.LiveCores.{core_of, live_directory}
+use Rattle.volume.specs.LiveCores.{live_directory}
 use Rattle.volume.specs.declared.live.LiveMap.{LiveMap}
 use Rattle.volume.proofs.Arriving.{known_here, directory_here, as_many_keys, known_fit, chain_booked, chain_room}
 use Rattle.volume.proofs.Arriving.{grown_free, use_held, use_clear, takes_for, arrives}
@@ -181,4 +180,5 @@ returns c =
     c.args.key c.prime_of.result c.prime_of.ensures c.file_entry-entry.result.name c.file_entry-entry.ensures.name
     c.file_entry-entry.result.prime c.file_entry-entry.ensures.prime d' put.items put.map put.same put.more put.chain
     c.put_entry.new.set put.put put.few c.put_entry.result
-    (λ i. d'.keys.items ≡ slice_set d.keys.items i c.args.key) put.replaced put.added c.use_grown.new.table c.use_grown.ensures m' refl refl refl refl refl
+    (λ i. d'.keys.items ≡ slice_set d.keys.items i c.args.key) put.replaced put.added c.use_grown.new.table
+    c.use_grown.ensures m' refl refl refl refl refl

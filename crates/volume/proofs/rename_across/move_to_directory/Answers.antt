@@ -1,5 +1,4 @@
-use Rattle.std.proofs.Common.{IsSome, refl, sym, ap, subst, ◌∙◌}
-use Rattle.volume.specs.Live.{slot}
+use Rattle.std.proofs.Common.{IsSome, refl, sym, subst}
 use Rattle.volume.specs.declared.live.LiveMap.{LiveMap}
 use Rattle.volume.proofs.MovingAcross.{leaves_there, leaves_aligned, may_leave, some_booked, moves_there, moves_here}
 use Rattle.volume.proofs.MovingAcross.{moves_few, changes_many, moves_across}
