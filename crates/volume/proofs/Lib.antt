@@ -86,5 +86,8 @@ pub mod RenamingCore
 pub mod RenamingTransactions
 pub mod RenamingAnswers
 pub mod RetiredPrimes
+pub mod Arriving
+pub mod Leaving
+pub mod MovingAcross
 pub mod MovingLaw
 pub mod MovingTransactions

@@ -98,7 +98,7 @@ index_of [] i x is = absurd (some_none (sym is))
 index_of (y ∷ xs) zero x is = sym (some_same is)
 index_of (y ∷ xs) (suc i) x is = index_of xs i x is
 
-set_there : {X : Type 0} (xs : List X) (i : ℕ) (x y : X) → slice_get xs i ≡ Some x → slice_get (slice_set xs i y) i
+pub set_there : {X : Type 0} (xs : List X) (i : ℕ) (x y : X) → slice_get xs i ≡ Some x → slice_get (slice_set xs i y) i
     ≡ Some y
 set_there [] i x y is = absurd (some_none (sym is))
 set_there (z ∷ xs) zero x y is = refl

@@ -1,7 +1,7 @@
 -- A file gets another place, or the same one, and another protection: what this does to core and to the disk. Its words
 -- and its blocks stay; what its prime block says of the place and of the protection is written anew.
-use Rattle.std.specs.Prelude.{◌≡◌, ◌⊎◌, ℕ, ◌+◌, ◌-◌, ◌<◌, ◌≤◌, true, false, List, [], ◌++◌, length, replicate}
-use Rattle.std.specs.Prelude.{slice_get, slice_set, Option, None, Some}
+use Rattle.std.specs.Prelude.{◌≡◌, ◌⊎◌, ℕ, suc, ◌+◌, ◌-◌, ◌^◌, ◌<◌, ◌≤◌, true, false, List, [], ◌∷◌, ◌++◌, length}
+use Rattle.std.specs.Prelude.{replicate, map, take, drop, slice_get, slice_set, Option, None, Some, IsSome}
 use Rattle.std.specs.List.{AllByRecursion, AllZip}
 use Rattle.std.specs.Ordering.{nat_cmp}
 use Rattle.std.specs.FinMap.Entries.{find}
@@ -16,20 +16,23 @@ use Rattle.meaning.specs.Faults.{InSpace}
 use Rattle.meaning.specs.Maps.{get, insert, remove, from_entries, total, times}
 use Rattle.meaning.specs.Regions.{table_blocks}
 use Rattle.meaning.specs.Room.{growth}
-use Rattle.alloctab.specs.TableState.{IsTable, bit, holds, space}
-use Rattle.directory.specs.Chains.{IsChain}
-use Rattle.directory.specs.Edits.{StandsAt, PutsChain}
+use Rattle.alloctab.specs.TableState.{IsTable, IsFree, bit, holds, space}
+use Rattle.directory.specs.Chains.{IsChain, viewed}
+use Rattle.directory.specs.Edits.{StandsAt, PutsChain, inserted, removed, last_first}
 use Rattle.retrieval.specs.Primes.{IsRewritten}
 use Rattle.retrieval.specs.declared.prime.Prime.{Prime}
 use Rattle.volume.specs.Beginning.{entries_with, IsDirectoryOf}
+use Rattle.volume.specs.Cores.{file_view, master_view}
 use Rattle.volume.specs.Known.{IsNamed, KnownVersion, KnownDirectory, Known, reaches_in_entries, cost_of_version}
-use Rattle.volume.specs.Live.{VolumeCore, as_known, slot, IsKeyed}
+use Rattle.volume.specs.Live.{VolumeCore, as_known, slot, creates, IsKeyed}
 use Rattle.volume.specs.Making.{PutsTable}
 use Rattle.volume.specs.Pins.{IsKeyOf, IsNoFile}
-use Rattle.volume.specs.Publishing.{IsEntryPut, files_published}
+use Rattle.volume.specs.Publishing.{Marks, IsEntryPut, files_published}
 use Rattle.volume.specs.Removing.{IsEntryRemoved, files_removed}
 use Rattle.volume.specs.declared.error.CallError.{CallError}
 use Rattle.volume.specs.declared.error.CallError.TheVariants.{Refused}
+use Rattle.volume.specs.declared.live.LiveDirectory.{LiveDirectory}
+use Rattle.volume.specs.declared.live.LiveMap.{LiveMap}
 use Rattle.volume.specs.declared.live.LiveVersion.{LiveVersion}
 
 -- Files.
@@ -229,3 +232,86 @@ pub record MovesAcross (size : ℕ) (c c' : VolumeCore) (ppn : ℕ) (name : File
   pub unchanged : c'.known.table.changed ≡ replicate (table_blocks size) false
   -- no block is held past the end of the disk
   pub sound : IsTable c'.known.table
+
+-- The two steps of it, as they change what is kept in core. Between them two entries have one key, so that core isn't
+-- whole there.
+
+-- how many entries the directory has, with those that are being created in it
+abbrev pub entries_there : LiveMap → LiveDirectory → ℕ → ℕ
+entries_there m d ppn = length (map file_view d.chain.entries) + total (creates ppn) m.pending.slots
+
+-- A directory has an entry of this name more, for the version under the key.
+pub record Arrives (m m' : LiveMap) (ppn : ℕ) (name : FileName) (key : ℕ) (puts : List Put) : Type 0 where
+  pub place : ℕ
+  pub word : ℕ × ℕ
+  pub there : StandsAt nat_cmp (map master_view m.master.entries) ppn word place
+  pub directory : LiveDirectory
+  pub directory' : LiveDirectory
+  pub directory_at : slice_get m.directories.items place ≡ Some directory
+  pub master : m'.master ≡ m.master
+  pub versions : m'.versions ≡ m.versions
+  pub pending : m'.pending ≡ m.pending
+  pub directories : m'.directories.items ≡ slice_set m.directories.items place directory'
+  -- the entry with its prime block, and its key
+  pub at : ℕ
+  pub at_is : (v : LiveVersion) → slot m.versions.slots key ≡ Some v → at ≡ v.at
+  pub items : map file_view directory'.chain.entries
+      ≡ inserted name_cmp (map file_view directory.chain.entries) (name, at)
+  pub names : from_entries {R = name_cmp} (map file_view directory'.chain.entries)
+      ≡ insert (from_entries (map file_view directory.chain.entries)) name at
+  pub keys : directory'.keys.items ≡ directory.keys.items ++ key ∷ []
+  pub chain : IsChain name_cmp IsFileEntry (viewed file_view directory'.chain)
+  -- the block that its chain takes, which was free
+  pub grown : List ℕ
+  pub blocks : directory'.chain.blocks ≡ directory.chain.blocks ++ grown
+  pub fresh : (n : ℕ) → bit m.table n + times n grown ≤ 1
+  pub free : (n : ℕ) → 0 < times n grown → IsFree m.table n × InSpace m.table.size n
+  pub put_chain : PutsChain file_words (viewed file_view directory.chain) (viewed file_view directory'.chain) [] puts
+  pub few : length puts ≤ 2
+  pub marks : Marks m.table m'.table
+  pub bits : (n : ℕ) → bit m'.table n ≡ bit m.table n + times n grown
+  pub held : (n : ℕ) → holds m'.table n ≡ holds m.table n
+  pub booked : m'.table.booked ≡ m.table.booked + growth (entries_there m directory ppn)
+
+-- What is so of a directory that is to give up its entry of this name.
+pub record MayLeave (m : LiveMap) (d : LiveDirectory) (ppn : ℕ) (name : FileName) : Type 0 where
+  pub named : IsSome (find name_cmp name (map file_view d.chain.entries))
+  pub aligned : length d.keys.items ≡ length d.chain.entries
+  pub few : entries_there m d ppn < 2 ^ 64
+  -- the blocks of its chain are in use
+  pub set : (n : ℕ) → times n d.chain.blocks ≤ bit m.table n
+
+-- A directory has no entry of this name any more; the last one has moved into its place, as has its key.
+pub record Leaves (m m' : LiveMap) (ppn : ℕ) (name : FileName) (before after : List Put) : Type 0 where
+  pub place : ℕ
+  pub word : ℕ × ℕ
+  pub there : StandsAt nat_cmp (map master_view m.master.entries) ppn word place
+  pub directory : LiveDirectory
+  pub directory' : LiveDirectory
+  pub directory_at : slice_get m.directories.items place ≡ Some directory
+  pub master : m'.master ≡ m.master
+  pub versions : m'.versions ≡ m.versions
+  pub pending : m'.pending ≡ m.pending
+  pub directories : m'.directories.items ≡ slice_set m.directories.items place directory'
+  -- the entry that goes, and its key
+  pub index : ℕ
+  pub at : ℕ
+  pub stood : StandsAt name_cmp (map file_view directory.chain.entries) name at index
+  pub key : ℕ
+  pub key_at : slice_get directory.keys.items index ≡ Some key
+  pub items : map file_view directory'.chain.entries ≡ removed name_cmp (map file_view directory.chain.entries) name
+  pub names : from_entries {R = name_cmp} (map file_view directory'.chain.entries)
+      ≡ remove (from_entries (map file_view directory.chain.entries)) name
+  pub keys : directory'.keys.items
+      ≡ take index directory.keys.items ++ last_first (drop (suc index) directory.keys.items)
+  pub chain : IsChain name_cmp IsFileEntry (viewed file_view directory'.chain)
+  -- the block that its chain gives back
+  pub left : List ℕ
+  pub blocks : directory.chain.blocks ≡ directory'.chain.blocks ++ left
+  pub put_chain : PutsChain file_words (viewed file_view directory.chain) (viewed file_view directory'.chain) before
+      after
+  pub few : length after ≤ length before + 2
+  pub marks : Marks m.table m'.table
+  pub bits : (n : ℕ) → bit m'.table n + times n left ≡ bit m.table n
+  pub held : (n : ℕ) → holds m'.table n ≡ holds m.table n
+  pub booked : m'.table.booked + growth (entries_there m directory' ppn) ≡ m.table.booked

@@ -47,8 +47,8 @@ pub(crate) struct Places {
 
 /// Takes a block for a chain, where it grows.
 pub(crate) fn take_for_chain(table: &mut Table, grows: bool) -> Option<u32>
-    requires used { used_in_space table.old + (if grows then 1 else 0) ≤ table.old.booked }
-    requires room { table.old.booked ≤ space table.old.size }
+    requires used { IsTrue grows → used_in_space table.old < table.old.booked }
+    requires room { IsTrue grows → table.old.booked ≤ space table.old.size }
     ensures taken { Takes table.old (option_to_list result) table.new }
     ensures count { length (option_to_list result) ≡ (if grows then 1 else 0) }
 {

@@ -1,5 +1,5 @@
 ghost use Rattle.std.specs.Prelude.{◌≡◌, ◌↔◌, ◌⊎◌, ◌+◌, ◌<◌, ◌≤◌, ◌∷◌, ◌++◌, [], ℕ, List, true, false, length, map};
-ghost use Rattle.std.specs.Prelude.{slice_get, Some, None, IsSome, IfOk, IfErr, OnOk, IsErrOf};
+ghost use Rattle.std.specs.Prelude.{slice_get, option_to_list, Some, None, IsSome, IfOk, IfErr, OnOk, IsErrOf};
 ghost use Rattle.std.specs.Ordering.{nat_cmp};
 ghost use Rattle.std.specs.FinMap.Entries.{find};
 ghost use Rattle.blockdisk.specs.Disk.{LeavesOnly, SameDisk, one_more};
@@ -8,9 +8,10 @@ ghost use Rattle.meaning.specs.declared.code.ErrorCode.{ErrorCode};
 ghost use Rattle.meaning.specs.declared.code.ErrorCode.TheVariants.{NameExists, NoDirectory, NoRoom, NotFound};
 ghost use Rattle.meaning.specs.declared.put.Put.{Put};
 ghost use Rattle.meaning.specs.Files.{File, Files, name_cmp};
+ghost use Rattle.meaning.specs.Maps.{times};
 ghost use Rattle.meaning.specs.Room.{growth};
 ghost use Rattle.meaning.specs.Stands.{place_of};
-ghost use Rattle.alloctab.specs.TableState.{space};
+ghost use Rattle.alloctab.specs.TableState.{IsTable, bit, holds, space};
 ghost use Rattle.directory.specs.Chains.{viewed};
 ghost use Rattle.directory.specs.Edits.{StandsAt, IsReserve};
 ghost use Rattle.retrieval.specs.declared.prime.Prime.{Prime as PrimeValue};
@@ -20,9 +21,10 @@ ghost use Rattle.volume.specs.Cores.{file_view, master_view};
 ghost use Rattle.volume.specs.Known.{KnownDirectory};
 ghost use Rattle.volume.specs.Live.{slot, IsWholeCore};
 ghost use Rattle.volume.specs.LiveCores.{core_of};
-ghost use Rattle.volume.specs.Moving.{files_moved, HasFile, HasNoRoom, MovesAcross};
+ghost use Rattle.volume.specs.Moving.{files_moved, HasFile, HasNoRoom, MovesAcross, Arrives, MayLeave, Leaves};
 ghost use Rattle.volume.specs.Pins.{IsKeyOf};
 ghost use Rattle.volume.specs.Places.{prime_at};
+ghost use Rattle.volume.specs.Publishing.{PutsInUse};
 ghost use Rattle.volume.specs.Rest.{IsSound, RestsAt, StandsForEither, KeepsRead, KeepsEachWritten};
 ghost use Rattle.volume.specs.declared.error.CallError.TheVariants.{Refused, Device, Failed, NoMemory};
 ghost use Rattle.volume.specs.declared.live.LiveDirectory.{LiveDirectory};
@@ -40,6 +42,7 @@ use crate::query::directory_place;
 use crate::rename_within::{move_version, prime_of, read_prime};
 use crate::supplies::{EntrySupplies, find_entry_supplies};
 use crate::transaction::commit_puts;
+use alloctab::Table;
 use blockdisk::Disk;
 use changeset::ChangeSet;
 use meaning::ErrorCode;
@@ -83,6 +86,19 @@ fn find_target(core: &LiveMap, ppn: Ppn, name: &FileName) -> Result<usize, CallE
     Ok(place)
 }
 
+/// Brings the block that a chain took into use, where it took one.
+fn use_grown(table: &mut Table, grown: Option<u32>)
+    requires sound { IsTable table.old }
+    requires held { (n : ℕ) → times n (option_to_list grown) ≤ holds table.old n }
+    requires clear { (n : ℕ) → bit table.old n + times n (option_to_list grown) ≤ 1 }
+    ensures { PutsInUse table.old table.new (option_to_list grown) }
+{
+    if let Some(n) = grown {
+        use_block(table, n);
+    }
+    let _booked = table.booked(); // any table is one as it should be
+}
+
 /// Gives a directory in core an entry of a name that is new there, for the version under a key, with the puts of its
 /// chain. What the directory costs more is booked, and a block that its chain takes is in use.
 fn arrive(
@@ -92,12 +108,29 @@ fn arrive(
     key: usize,
     supplies: EntrySupplies,
     set: &mut ChangeSet,
-) {
+)
+    requires whole { IsWholeCore core.old.table.size (core_of core.old) }
+    requires key { IsSome (slot core.old.versions.slots key) }
+    requires target { find nat_cmp ppn (core_of core.old).known.master.entries ≡ None → ⊥ }
+    requires free { (d : KnownDirectory) → IsDirectoryOf (core_of core.old) ppn d
+        → find name_cmp name.now d.chain.entries ≡ None }
+    requires room { (d : KnownDirectory) → IsDirectoryOf (core_of core.old) ppn d
+        → 0 < growth (entries_with (core_of core.old) d ppn)
+        → core.old.table.booked + growth (entries_with (core_of core.old) d ppn) ≤ space core.old.table.size }
+    requires named { 0 < name.now.name }
+    requires fits { (d : LiveDirectory) (place : ℕ) (v : ℕ × ℕ)
+        → StandsAt nat_cmp (map master_view core.old.master.entries) ppn v place
+        → slice_get core.old.directories.items place ≡ Some d
+        → IsReserve name_cmp (viewed file_view d.chain) name.now (viewed file_view supplies.reserve)
+        × (supplies.keys.items ≡ d.keys.items ++ 0 ∷ []) }
+    requires empty { set.old ≡ [] }
+    ensures { Arrives core.old core.new ppn name.now key set.new }
+{
     let _booked = core.table.booked(); // any table is one as it should be
     let place = place_of(&core.master, ppn);
     let more = growth_at(core, place, ppn);
-    core.table.book(more);
     let grows = takes_block(core, place, name);
+    core.table.book(more);
     let grown = take_for_chain(&mut core.table, grows);
     let entry = file_entry(*name, prime_of(&core.versions, key));
     let EntrySupplies { reserve, keys } = supplies;
@@ -110,14 +143,22 @@ fn arrive(
         grown,
         set,
     );
-    if let Some(n) = grown {
-        use_block(&mut core.table, n);
-    }
+    use_grown(&mut core.table, grown);
 }
 
 /// Takes the entry of a name out of a directory in core, with the puts of its chain. What the directory costs less is
 /// not booked any more, and a block that its chain gives back is free.
-fn leave(core: &mut LiveMap, ppn: Ppn, name: &FileName, set: &mut ChangeSet) {
+fn leave(core: &mut LiveMap, ppn: Ppn, name: &FileName, set: &mut ChangeSet)
+    requires sound { IsTable core.old.table }
+    requires there { find nat_cmp ppn (map master_view core.old.master.entries) ≡ None → ⊥ }
+    requires aligned { length core.old.directories.items ≡ length core.old.master.entries }
+    requires may_leave { (d : LiveDirectory) (place : ℕ) (v : ℕ × ℕ)
+        → StandsAt nat_cmp (map master_view core.old.master.entries) ppn v place
+        → slice_get core.old.directories.items place ≡ Some d → MayLeave core.old d ppn name.now }
+    requires booked { 0 < core.old.table.booked }
+    requires room { length set.old ≤ 2 }
+    ensures { Leaves core.old core.new ppn name.now set.old set.new }
+{
     let place = place_of(&core.master, ppn);
     let GivenUp { block, .. } = remove_entry(&mut core.directories[place], name, set);
     let less = growth_at(core, place, ppn);
