@@ -52,32 +52,32 @@ use words36::{Block, FileName, Ppn};
 ///
 /// `Refused` with `NoDirectory` where there is no such directory, with `NameExists` where it has the name already, and
 /// with `NoRoom` where it costs a block more with one entry more, for which there is no room.
-fn find_target(map: &LiveMap, ppn: Ppn, name: &FileName) -> Result<usize, CallError>
-    requires whole { IsWholeCore map.now.table.size (core_of map.now) }
+fn find_target(core: &LiveMap, ppn: Ppn, name: &FileName) -> Result<usize, CallError>
+    requires whole { IsWholeCore core.now.table.size (core_of core.now) }
     ensures place { IfOk result (λ place. (v : ℕ × ℕ)
-        × StandsAt nat_cmp (map master_view map.now.master.entries) ppn v place) }
-    ensures free { OnOk result ((d : KnownDirectory) → IsDirectoryOf (core_of map.now) ppn d
+        × StandsAt nat_cmp (map master_view core.now.master.entries) ppn v place) }
+    ensures free { OnOk result ((d : KnownDirectory) → IsDirectoryOf (core_of core.now) ppn d
         → find name_cmp name.now d.chain.entries ≡ None) }
-    ensures room { OnOk result ((d : KnownDirectory) → IsDirectoryOf (core_of map.now) ppn d
-        → 0 < growth (entries_with (core_of map.now) d ppn)
-        → map.now.table.booked + growth (entries_with (core_of map.now) d ppn) ≤ space map.now.table.size) }
+    ensures room { OnOk result ((d : KnownDirectory) → IsDirectoryOf (core_of core.now) ppn d
+        → 0 < growth (entries_with (core_of core.now) d ppn)
+        → core.now.table.booked + growth (entries_with (core_of core.now) d ppn) ≤ space core.now.table.size) }
     ensures no_directory { IsErrOf result (Refused NoDirectory)
-        ↔ (find nat_cmp ppn (core_of map.now).known.master.entries ≡ None) }
-    ensures exists { IsErrOf result (Refused NameExists) ↔ HasFile (core_of map.now) ppn name.now }
+        ↔ (find nat_cmp ppn (core_of core.now).known.master.entries ≡ None) }
+    ensures exists { IsErrOf result (Refused NameExists) ↔ HasFile (core_of core.now) ppn name.now }
     ensures no_room { IsErrOf result (Refused NoRoom)
-        ↔ HasNoRoom map.now.table.size (core_of map.now) ppn name.now }
+        ↔ HasNoRoom core.now.table.size (core_of core.now) ppn name.now }
     ensures only { IfErr result (λ error. (error ≡ Refused NoDirectory) ⊎ (error ≡ Refused NameExists)
         ⊎ (error ≡ Refused NoRoom)) }
 {
-    let place = match directory_place(&map.master, ppn) {
+    let place = match directory_place(&core.master, ppn) {
         Ok(place) => place,
         Err(error) => return Err(error),
     };
-    if map.directories[place].chain.find(name).is_some() {
+    if core.directories[place].chain.find(name).is_some() {
         return Err(CallError::Refused(ErrorCode::NameExists));
     }
-    let more = growth_at(map, place, ppn);
-    if more > 0 && !map.table.can_book(more) {
+    let more = growth_at(core, place, ppn);
+    if more > 0 && !core.table.can_book(more) {
         return Err(CallError::Refused(ErrorCode::NoRoom));
     }
     Ok(place)
@@ -184,7 +184,7 @@ fn move_to_directory(
 /// volume has failed then.
 fn move_across<D: Disk>(
     disk: &mut D,
-    map: &mut LiveMap,
+    core: &mut LiveMap,
     failed: &mut bool,
     ppn: Ppn,
     name: &FileName,
@@ -195,42 +195,42 @@ fn move_across<D: Disk>(
     supplies: EntrySupplies,
 ) -> Result<(), CallError>
     // What the caller sees to.
-    requires sound { IsSound (D.state disk.old) (core_of map.old) false }
+    requires sound { IsSound (D.state disk.old) (core_of core.old) false }
     requires alive { failed.old ≡ false }
-    requires there { IsKeyOf (core_of map.old) ppn name.now key }
+    requires there { IsKeyOf (core_of core.old) ppn name.now key }
     requires apart { to_ppn ≡ ppn → ⊥ }
-    requires target { find nat_cmp to_ppn (core_of map.old).known.master.entries ≡ None → ⊥ }
-    requires free { (d : KnownDirectory) → IsDirectoryOf (core_of map.old) to_ppn d
+    requires target { find nat_cmp to_ppn (core_of core.old).known.master.entries ≡ None → ⊥ }
+    requires free { (d : KnownDirectory) → IsDirectoryOf (core_of core.old) to_ppn d
         → find name_cmp to.now d.chain.entries ≡ None }
-    requires room { (d : KnownDirectory) → IsDirectoryOf (core_of map.old) to_ppn d
-        → 0 < growth (entries_with (core_of map.old) d to_ppn)
-        → map.old.table.booked + growth (entries_with (core_of map.old) d to_ppn) ≤ space map.old.table.size }
+    requires room { (d : KnownDirectory) → IsDirectoryOf (core_of core.old) to_ppn d
+        → 0 < growth (entries_with (core_of core.old) d to_ppn)
+        → core.old.table.booked + growth (entries_with (core_of core.old) d to_ppn) ≤ space core.old.table.size }
     requires named { 0 < to.now.name }
     requires protection { protection < 512 }
     requires fits { (d : LiveDirectory) (place : ℕ) (v : ℕ × ℕ)
-        → StandsAt nat_cmp (map master_view map.old.master.entries) to_ppn v place
-        → slice_get map.old.directories.items place ≡ Some d
+        → StandsAt nat_cmp (map master_view core.old.master.entries) to_ppn v place
+        → slice_get core.old.directories.items place ≡ Some d
         → IsReserve name_cmp (viewed file_view d.chain) to.now (viewed file_view supplies.reserve)
         × (supplies.keys.items ≡ d.keys.items ++ 0 ∷ []) }
-    requires unclaimed { claims (core_of map.old).pending (place_of ppn name.now) ≡ false }
+    requires unclaimed { claims (core_of core.old).pending (place_of ppn name.now) ≡ false }
 
     // What it does to core and disk.
-    ensures sound { IsSound (D.state disk.new) (core_of map.new) failed.new }
+    ensures sound { IsSound (D.state disk.new) (core_of core.new) failed.new }
     ensures moved { OnOk result ((v : LiveVersion) × (words : List ℕ) × (puts : List Put)
-        × MovesAcross (D.state disk.old).size (core_of map.old) (core_of map.new) ppn name.now to_ppn to.now protection
+        × MovesAcross (D.state disk.old).size (core_of core.old) (core_of core.new) ppn name.now to_ppn to.now protection
         key v words puts × ((D.state disk.new).honest → (D.state disk.old).contents v.at ≡ Some words)) }
-    ensures pending { (core_of map.new).pending ≡ (core_of map.old).pending }
-    ensures held { (k : ℕ) (v : LiveVersion) → slot (core_of map.old).live k ≡ Some v
-        → (prime : PrimeValue) × (slot (core_of map.new).live k ≡ Some (record v { prime = prime })) }
+    ensures pending { (core_of core.new).pending ≡ (core_of core.old).pending }
+    ensures held { (k : ℕ) (v : LiveVersion) → slot (core_of core.old).live k ≡ Some v
+        → (prime : PrimeValue) × (slot (core_of core.new).live k ≡ Some (record v { prime = prime })) }
     ensures crash { (D.state disk.new).honest → (f : Files File) → RestsAt (D.state disk.old) f
         → LeavesOnly (D.state disk.old) (D.state disk.new) (StandsForEither (D.state disk.old).size f
         (files_moved f ppn name.now to_ppn to.now protection)) }
     ensures done { (D.state disk.new).honest → (f : Files File) → RestsAt (D.state disk.old) f
         → OnOk result (RestsAt (D.state disk.new) (files_moved f ppn name.now to_ppn to.now protection)) }
     ensures readers { (D.state disk.new).honest → (IsErrOf result Device → ⊥)
-        → KeepsRead (D.state disk.old).contents (D.state disk.new).contents (core_of map.old) }
+        → KeepsRead (D.state disk.old).contents (D.state disk.new).contents (core_of core.old) }
     ensures writers { (D.state disk.new).honest → (IsErrOf result Device → ⊥)
-        → KeepsEachWritten (D.state disk.old).contents (D.state disk.new).contents (core_of map.old) }
+        → KeepsEachWritten (D.state disk.old).contents (D.state disk.new).contents (core_of core.old) }
 
     // Which refusal comes when, and what it leaves.
     ensures only { IfErr result (λ error. (error ≡ Device) ⊎ (error ≡ Failed)) }
@@ -241,8 +241,8 @@ fn move_across<D: Disk>(
     ensures served { (IsErrOf result Device → ⊥) → (D.state disk.new).failures ≡ (D.state disk.old).failures }
     ensures same { SameDisk (D.state disk.old) (D.state disk.new) }
 {
-    let _booked = map.table.booked(); // any table is one as it should be
-    let at = prime_of(&map.versions, key);
+    let _booked = core.table.booked(); // any table is one as it should be
+    let at = prime_of(&core.versions, key);
     let words = match read_prime(disk, at) {
         Ok(words) => words,
         Err(error) => {
@@ -252,7 +252,7 @@ fn move_across<D: Disk>(
     };
     let mut set = ChangeSet::new();
     move_to_directory(
-        map, ppn, name, to_ppn, to, protection, key, supplies, &words, &mut set,
+        core, ppn, name, to_ppn, to, protection, key, supplies, &words, &mut set,
     );
     match commit_puts(disk, &set) {
         Ok(()) => Ok(()),
