@@ -85,4 +85,6 @@ pub mod RenamedPlaces
 pub mod RenamingCore
 pub mod RenamingTransactions
 pub mod RenamingAnswers
+pub mod MovedPlaces
+pub mod MovingCore
 pub mod RetiredPrimes

@@ -1,0 +1,40 @@
+use Rattle.std.proofs.Common.{refl, sym, subst, ◌∙◌}
+use Rattle.std.proofs.lemmas.Option.{get_or_from_slice_get}
+use Rattle.directory.specs.Chains.{viewed}
+use Rattle.meaning.proofs.MapLaws.{some_same}
+use Rattle.volume.specs.Cores.{file_view}
+use Rattle.volume.specs.LiveCores.{core_of}
+use Rattle.volume.specs.Publishing.{IsSupplied}
+use Rattle.volume.specs.declared.pending.PendingVersion.{PendingVersion}
+use Rattle.volume.proofs.MakingCurrent.{place_within}
+use Rattle.volume.proofs.MakingHeld.{element_at}
+use Rattle.volume.proofs.Supplying.{is_there, supplied}
+use Rattle.volume.proofs.supplies.find_supplies.Goals as goal
+
+-- src/supplies.rt:108:9
+pub unreachable-requires-in_default-directory_place :
+    goal.unreachable-requires-in_default-directory_place
+unreachable-requires-in_default-directory_place c =
+    let p = c.in-Some.version.now in
+    is_there (core_of c.args.map.now) p (c.requires.placed p (sym c.in-Some.ensures))
+    (c.in_default-directory_place.ensures.none refl)
+
+-- src/supplies.rt:111:43
+pub find_entry_supplies-requires-clause-named : goal.find_entry_supplies-requires-clause-named
+find_entry_supplies-requires-clause-named c = (c.requires.placed c.in-Some.version.now (sym c.in-Some.ensures)).named
+
+-- src/supplies.rt:88:1
+pub returns-clause-supplied : goal.returns-clause-supplied
+returns-clause-supplied c p is =
+    let core = c.args.map.now in
+    let q = c.in-Some.version.now in
+    let place = c.in-Ok.place in
+    let stands = c.in-Ok.ensures.found in
+    let within = place_within core c.requires.whole q.prime.ppn place stands.0 stands.1 in
+    let e = element_at core.directories.items place within in
+    let room = viewed file_view c.in_ok-reserve.field-0.reserve in
+    let keys = c.in_ok-reserve.field-0.keys.items in
+    let all = supplied core.table.size core q place stands.0 e.0 room keys c.requires.whole stands.1
+    (sym (get_or_from_slice_get core.directories.items place e.0 e.0 e.1))
+    (c.in_ok-reserve.ensures.fits e.0 e.1) (c.in_ok-reserve.ensures.longer e.0 e.1) in
+    subst (λ (v : PendingVersion). IsSupplied (core_of core) v room keys) (some_same (c.in-Some.ensures ∙ is)) all
