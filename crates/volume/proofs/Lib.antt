@@ -87,4 +87,5 @@ pub mod RenamingTransactions
 pub mod RenamingAnswers
 pub mod MovedPlaces
 pub mod MovingCore
+pub mod MovingAnswers
 pub mod RetiredPrimes
