@@ -1,4 +1,4 @@
-use Rattle.std.proofs.Common.{◌≡◌, ◌<◌, ◌≤◌, ◌+◌, refl, sym, ◌∙◌, arith}
+use Rattle.std.proofs.Common.{◌<◌, ◌≤◌, ◌+◌, refl, sym, ◌∙◌, arith}
 use Rattle.alloctab.specs.TableState.{space}
 use Rattle.volume.proofs.Beginnings.{no_room}
 use Rattle.volume.proofs.MakingCurrent.{index_is, place_within}
