@@ -107,8 +107,8 @@ pub(crate) fn find_supplies(
     let Ok(place) = directory_place(&map.master, version.prime.ppn) else {
         unreachable!() // its directory is there
     };
-    let EntrySupplies { reserve, keys } =
-        find_entry_supplies(map, alloc, place, version.prime.file)?;
+    let file = version.prime.file;
+    let EntrySupplies { reserve, keys } = find_entry_supplies(map, alloc, place, file)?;
     let ribs = vec![in alloc; 0; rib_count(blocks)]?;
     map.versions.reserve(1)?;
     Ok(Supplies {
