@@ -235,9 +235,11 @@ module _ (size : ℕ) (c : VolumeCore) (whole : IsWholeCore size c) (ppn : ℕ) 
         → (IsErrOf {T = Unit {0}} (Err error) (Refused NameExists) ↔ (HasFile c ppn name × HasFile c to_ppn to))
     target_exists says = on_call NameExists _ says
 
-    pub target_no_room : (IsErrOf {T = ℕ} (Err error) (Refused NoRoom) ↔ HasNoRoom size c to_ppn to)
+    pub target_no_room : (IsErrOf {T = ℕ} (Err error) (Refused NoRoom) ↔ HasNoRoom c.known.table.size c to_ppn to)
         → (IsErrOf {T = Unit {0}} (Err error) (Refused NoRoom) ↔ (HasFile c ppn name × HasNoRoom size c to_ppn to))
-    target_no_room says = on_call NoRoom _ says
+    target_no_room says = on_call NoRoom (HasNoRoom size c to_ppn to)
+        (subst (λ (n : ℕ). IsErrOf {T = ℕ} (Err error) (Refused NoRoom) ↔ HasNoRoom n c to_ppn to)
+        whole.map.size_is says)
 
     target_code : (code : ErrorCode) × (error ≡ Refused code)
         × ((code ≡ NoDirectory) ⊎ (code ≡ NameExists) ⊎ (code ≡ NoRoom))
@@ -303,9 +305,13 @@ module _ (size : ℕ) (c : VolumeCore) (whole : IsWholeCore size c) (ppn : ℕ) 
         → (IsErrOf result (Refused NameExists) ↔ (HasFile c ppn name × HasFile c to_ppn to))
     moved_exists says = (λ said. absurd (plain NameExists said), λ has. absurd (let no = says.1 has.1 in cc))
 
-    pub moved_no_room : (IsErrOf {T = ℕ} {E = CallError} (Ok place) (Refused NoRoom) ↔ HasNoRoom size c to_ppn to)
+    pub moved_no_room : (IsErrOf {T = ℕ} {E = CallError} (Ok place) (Refused NoRoom)
+        ↔ HasNoRoom c.known.table.size c to_ppn to)
         → (IsErrOf result (Refused NoRoom) ↔ (HasFile c ppn name × HasNoRoom size c to_ppn to))
-    moved_no_room says = (λ said. absurd (plain NoRoom said), λ has. absurd (let no = says.1 has.1 in cc))
+    moved_no_room says = (
+      λ said. absurd (plain NoRoom said),
+      λ has. absurd (let no = says.1 (subst (λ (n : ℕ). HasNoRoom n c to_ppn to) (sym whole.map.size_is) has.1) in cc),
+    )
 
 -- That there was no memory is no refusal.
 pub memory_plain : (code : ErrorCode) → IsErrOf {T = Unit {0}} (Err NoMemory) (Refused code) → ⊥
