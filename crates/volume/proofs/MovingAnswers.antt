@@ -1,7 +1,8 @@
 -- A file moves to another directory: which refusal comes when.
-use Rattle.std.proofs.Common.{◌≡◌, ◌↔◌, ◌⊎◌, inl, inr, ⊎_elim, ℕ, ◌+◌, ◌^◌, ◌<◌, ◌≤◌, true, false, List, map, slice_get}
-use Rattle.std.proofs.Common.{Option, Some, None, IfSome, IfNone, is_some, Result, Ok, Err, IsErrOf, IfErr, refl, sym, ap}
-use Rattle.std.proofs.Common.{subst, ◌∙◌, arith}
+use Rattle.std.proofs.Common.{◌≡◌, ◌↔◌, ◌⊎◌, inl, inr, ⊎_elim, ℕ, zero, suc, ◌+◌, ◌^◌, ◌<◌, ◌≤◌, true, false, List, []}
+use Rattle.std.proofs.Common.{◌∷◌, map, take, slice_get, Option, Some, None, IfSome, IfNone, is_some, Result, Ok, Err}
+use Rattle.std.proofs.Common.{IsErrOf, refl, sym, ap, subst, ◌∙◌, arith}
+use Rattle.std.specs.Cmp.{nat_cmp_total}
 use Rattle.std.specs.Ordering.{nat_cmp}
 use Rattle.std.specs.FinMap.Entries.{find}
 use Rattle.words36.specs.declared.names.FileName.{FileName}
@@ -9,7 +10,9 @@ use Rattle.meaning.specs.declared.code.ErrorCode.{ErrorCode}
 use Rattle.meaning.specs.declared.code.ErrorCode.TheVariants.{NameExists, NoDirectory, NoRoom, NotFound}
 use Rattle.meaning.specs.Files.{name_cmp}
 use Rattle.meaning.specs.Room.{growth}
+use Rattle.meaning.specs.Directories.{MasterEntry}
 use Rattle.meaning.proofs.MapLaws.{some_same, some_none}
+use Rattle.meaning.proofs.MapLists.{find_first, find_tail_none}
 use Rattle.alloctab.specs.TableState.{space}
 use Rattle.directory.specs.Edits.{StandsAt}
 use Rattle.volume.specs.Beginning.{entries_with, IsDirectoryOf}
@@ -27,7 +30,7 @@ use Rattle.volume.proofs.Beginnings.{same_directory}
 use Rattle.volume.proofs.FoundDirectories.{mapped_at}
 use Rattle.volume.proofs.Growing.{entries_few}
 use Rattle.volume.proofs.Renamings.{name_free, name_taken}
-use Rattle.volume.proofs.RenamingAnswers.{IsLacking, key_there, not_refused}
+use Rattle.volume.proofs.RenamingAnswers.{IsLacking, IsBeside, key_there}
 
 -- The directory that a file is to come to.
 
@@ -235,9 +238,11 @@ module _ (size : ℕ) (c : VolumeCore) (whole : IsWholeCore size c) (ppn : ℕ) 
         → (IsErrOf {T = Unit {0}} (Err error) (Refused NameExists) ↔ (HasFile c ppn name × HasFile c to_ppn to))
     target_exists says = on_call NameExists _ says
 
-    pub target_no_room : (IsErrOf {T = ℕ} (Err error) (Refused NoRoom) ↔ HasNoRoom size c to_ppn to)
+    pub target_no_room : (IsErrOf {T = ℕ} (Err error) (Refused NoRoom) ↔ HasNoRoom c.known.table.size c to_ppn to)
         → (IsErrOf {T = Unit {0}} (Err error) (Refused NoRoom) ↔ (HasFile c ppn name × HasNoRoom size c to_ppn to))
-    target_no_room says = on_call NoRoom _ says
+    target_no_room says = on_call NoRoom (HasNoRoom size c to_ppn to)
+        (subst (λ (n : ℕ). IsErrOf {T = ℕ} (Err error) (Refused NoRoom) ↔ HasNoRoom n c to_ppn to)
+        whole.map.size_is says)
 
     target_code : (code : ErrorCode) × (error ≡ Refused code)
         × ((code ≡ NoDirectory) ⊎ (code ≡ NameExists) ⊎ (code ≡ NoRoom))
@@ -303,10 +308,60 @@ module _ (size : ℕ) (c : VolumeCore) (whole : IsWholeCore size c) (ppn : ℕ) 
         → (IsErrOf result (Refused NameExists) ↔ (HasFile c ppn name × HasFile c to_ppn to))
     moved_exists says = (λ said. absurd (plain NameExists said), λ has. absurd (let no = says.1 has.1 in cc))
 
-    pub moved_no_room : (IsErrOf {T = ℕ} {E = CallError} (Ok place) (Refused NoRoom) ↔ HasNoRoom size c to_ppn to)
+    pub moved_no_room : (IsErrOf {T = ℕ} {E = CallError} (Ok place) (Refused NoRoom)
+        ↔ HasNoRoom c.known.table.size c to_ppn to)
         → (IsErrOf result (Refused NoRoom) ↔ (HasFile c ppn name × HasNoRoom size c to_ppn to))
-    moved_no_room says = (λ said. absurd (plain NoRoom said), λ has. absurd (let no = says.1 has.1 in cc))
+    moved_no_room says = (
+      λ said. absurd (plain NoRoom said),
+      λ has. absurd (let no = says.1 (subst (λ (n : ℕ). HasNoRoom n c to_ppn to) (sym whole.map.size_is) has.1) in cc),
+    )
 
 -- That there was no memory is no refusal.
 pub memory_plain : (code : ErrorCode) → IsErrOf {T = Unit {0}} (Err NoMemory) (Refused code) → ⊥
 memory_plain code said = let a : NoMemory ≡ Refused code = error_is NoMemory _ said in cc
+
+-- Within one directory.
+
+-- what is found first isn't found only behind
+not_behind : (e : MasterEntry) (es : List MasterEntry) (k : ℕ) (v : ℕ × ℕ) → Some e ≡ Some (k, v)
+    → find nat_cmp k (e ∷ es) ≡ None → ⊥
+not_behind e es k v is none =
+    let key = ap (λ (x : MasterEntry). x.0) (some_same is) in
+    some_none (sym (find_first nat_cmp_total e es) ∙ ap (λ (q : ℕ). find nat_cmp q (e ∷ es)) key ∙ none)
+
+-- a key stands at one place: it is the first one
+first_place : (es : List MasterEntry) (i j k : ℕ) (v w : ℕ × ℕ) → slice_get es i ≡ Some (k, v)
+    → find nat_cmp k (take i es) ≡ None → slice_get es j ≡ Some (k, w) → find nat_cmp k (take j es) ≡ None → i ≡ j
+first_place [] i j k v w is before is' before' = absurd (some_none (sym is))
+first_place (e ∷ es) zero zero k v w is before is' before' = refl
+first_place (e ∷ es) zero (suc j) k v w is before is' before' = absurd (not_behind e (take j es) k v is before')
+first_place (e ∷ es) (suc i) zero k v w is before is' before' = absurd (not_behind e (take i es) k w is' before)
+first_place (e ∷ es) (suc i) (suc j) k v w is before is' before' =
+    ap suc (first_place es i j k v w is (find_tail_none nat_cmp e (take i es) k before) is'
+    (find_tail_none nat_cmp e (take j es) k before'))
+
+pub within_exists : (c : VolumeCore) (ppn : ℕ) (name : FileName) (to_ppn : ℕ) (to : FileName) → to_ppn ≡ ppn
+    → (result : Result (Unit {0}) CallError) → (IsErrOf result (Refused NameExists) ↔ IsBeside c ppn name to)
+    → (IsErrOf result (Refused NameExists) ↔ (HasFile c ppn name × ((to_ppn ≡ ppn) × (to ≡ name) → ⊥)
+    × HasFile c to_ppn to))
+within_exists c ppn name to_ppn to same result says = (
+  λ said.
+      let beside = says.0 said in (
+        (beside.0, beside.1, beside.2),
+        λ both. beside.3 both.1,
+        subst (λ (q : ℕ). HasFile c q to) (sym same) (beside.0, beside.1, beside.4),
+      ),
+  λ has.
+      let there = has.0.1 in
+      let taken : HasFile c ppn to = subst (λ (q : ℕ). HasFile c q to) same has.2 in
+      let place = first_place c.known.master.entries taken.1.0 there.0 ppn taken.1.1 there.1 taken.1.2.is
+      taken.1.2.before there.2.is there.2.before in
+      let one : taken.0 ≡ has.0.0 = some_same (sym taken.1.3 ∙ ap (slice_get c.known.directories) place ∙ there.3) in
+      says.1 (
+        has.0.0,
+        there,
+        has.0.2,
+        λ is_name. has.1 (same, is_name),
+        λ none. taken.2 (ap (λ (d : KnownDirectory). find name_cmp to d.chain.entries) one ∙ none),
+      ),
+)
