@@ -1,11 +1,12 @@
--- What is found in [p,n]<PROT>.
+-- What is found in [p,n]<PROT> and in SPEC<PROT>.
 use Rattle.std.proofs.Common.{◌≡◌, ℕ, ◌^◌, ◌<◌, ◌≤◌, List, [], ◌∷◌, ◌++◌, length, take, drop, get_or, refl, sym, ◌∙◌}
 use Rattle.std.proofs.Common.{subst, Option, Some, None, IfNone, arith}
 use Rattle.std.proofs.Math.Nat.{pow-le-pow_right}
 use Rattle.std.proofs.lemmas.List.{take-append-drop}
-use Rattle.meaning.specs.Spellings.{Are, IsNumber, IsSmall, IsBracketed}
-use Rattle.meaning.specs.Commands.{IsAngled, IsProtection, IsMade}
-use Rattle.meaning.proofs.SpellingLaws.{Stops, stretch, bracketed_other, same_but_last, same_tail}
+use Rattle.meaning.specs.Spellings.{Are, IsNumber, IsSmall, IsBracketed, IsSpec}
+use Rattle.meaning.specs.Commands.{IsAngled, IsProtection, IsProtected, IsMade}
+use Rattle.meaning.specs.declared.command.Spec.{Spec}
+use Rattle.meaning.proofs.SpellingLaws.{Stops, stretch, bracketed_other, spec_other, same_but_last, same_tail}
 use Rattle.commands.specs.Characters.{is_other_than}
 use Rattle.commands.proofs.FieldLaws.{mark_stops}
 use Rattle.commands.proofs.NumberLaws.{below_power}
@@ -24,30 +25,34 @@ number_small text n a = record { number = a; small = omega (arith, number_fits t
 pub protection_none : (text : List ℕ) → text ≡ [] → IsProtection text 0
 protection_none text e = subst (λ l. IsProtection l 0) (sym e) refl
 
-pub protection_is : (text inner : List ℕ) (n : ℕ) → text ≡ 60 ∷ (inner ++ 62 ∷ []) → IsSmall 3 inner n
-    → IsProtection text n
-protection_is text inner n e a = subst (λ l. IsProtection l n) (sym e)
-    (record { digits = inner; number = a.number; spelled = refl })
+pub angled_is : (text inner : List ℕ) (n : ℕ) → text ≡ 60 ∷ (inner ++ 62 ∷ []) → IsSmall 3 inner n → IsAngled text n
+angled_is text inner n e a = record { digits = inner; number = a.number; spelled = e }
+
+no_number : (text inner : List ℕ) (n : ℕ) → text ≡ 60 ∷ (inner ++ 62 ∷ []) → ((m : ℕ) → IsSmall 3 inner m → ⊥)
+    → IsAngled text n → ⊥
+no_number text inner n e none b =
+    none n (number_small inner n
+    (subst (λ l. IsNumber 3 l n) (same_but_last 62 b.digits inner (same_tail (sym b.spelled ∙ e))) b.number))
+
+pub none_in_angles : (found : Option ℕ) (text inner : List ℕ) → text ≡ 60 ∷ (inner ++ 62 ∷ [])
+    → IfNone found ((m : ℕ) → IsSmall 3 inner m → ⊥) → IfNone found ((n : ℕ) → IsAngled text n → ⊥)
+none_in_angles (Some m) text inner e none = tt
+none_in_angles None text inner e none = λ n. no_number text inner n e none
+
+-- nothing, or that
+
+pub protection_angled : (text : List ℕ) (n : ℕ) → IsAngled text n → IsProtection text n
+protection_angled [] n a = cc a.spelled
+protection_angled (c ∷ cs) n a = a
 
 angled : (text : List ℕ) (n : ℕ) → 0 < length text → IsProtection text n → IsAngled text n
 angled [] n some a = absurd (omega (arith, some))
 angled (c ∷ cs) n some a = a
 
-pub no_angles : (text : List ℕ) (n : ℕ) → 0 < length text → ((inner : List ℕ) → text ≡ 60 ∷ (inner ++ 62 ∷ []) → ⊥)
-    → IsProtection text n → ⊥
-no_angles text n some none a = let b = angled text n some a in none b.digits b.spelled
-
-no_number : (text inner : List ℕ) (n : ℕ) → text ≡ 60 ∷ (inner ++ 62 ∷ []) → ((m : ℕ) → IsSmall 3 inner m → ⊥)
-    → IsProtection text n → ⊥
-no_number text inner n e none a =
-    let b : IsAngled (60 ∷ (inner ++ 62 ∷ [])) n = subst (λ l. IsProtection l n) e a in
-    none n (number_small inner n
-    (subst (λ l. IsNumber 3 l n) (same_but_last 62 b.digits inner (same_tail (sym b.spelled))) b.number))
-
-pub none_in_angles : (found : Option ℕ) (text inner : List ℕ) → text ≡ 60 ∷ (inner ++ 62 ∷ [])
-    → IfNone found ((m : ℕ) → IsSmall 3 inner m → ⊥) → IfNone found ((n : ℕ) → IsProtection text n → ⊥)
-none_in_angles (Some m) text inner e none = tt
-none_in_angles None text inner e none = λ n. no_number text inner n e none
+pub no_protection : (found : Option ℕ) (text : List ℕ) → 0 < length text
+    → IfNone found ((n : ℕ) → IsAngled text n → ⊥) → IfNone found ((n : ℕ) → IsProtection text n → ⊥)
+no_protection (Some m) text some none = tt
+no_protection None text some none = λ n a. none n (angled text n some a)
 
 pub protection_fits : (text : List ℕ) (n : ℕ) → IsProtection text n → n < 512
 protection_fits [] n a = omega (arith, a)
@@ -89,3 +94,23 @@ made_parts text front back p n parted m =
     (bracketed_other 60 m.before p refl refl refl refl m.left) parted.stops (protection_stops m.behind n m.right)
     (sym parted.whole ∙ m.spelled) in
     (subst (λ l. IsBracketed l p) (sym r.0) m.left, subst (λ l. IsProtection l n) (sym r.1) m.right)
+
+-- SPEC<PROT>
+
+pub protected_is : (text front back : List ℕ) (x : Spec) (n : ℕ) → AreParted 60 text front back → IsSpec front x
+    → IsAngled back n → IsProtected text x n
+protected_is text front back x n parted a b = record {
+  before = front;
+  behind = back;
+  left = a;
+  right = b;
+  spelled = parted.whole;
+}
+
+pub protected_parts : (text front back : List ℕ) (x : Spec) (n : ℕ) → AreParted 60 text front back
+    → IsProtected text x n → IsSpec front x × IsAngled back n
+protected_parts text front back x n parted m =
+    let r = stretch (is_other_than 60) front back m.before m.behind parted.plain
+    (spec_other 60 refl refl refl refl refl refl m.before x m.left) parted.stops
+    (subst (Stops (is_other_than 60)) (sym m.right.spelled) refl) (sym parted.whole ∙ m.spelled) in
+    (subst (λ l. IsSpec l x) (sym r.0) m.left, subst (λ l. IsAngled l n) (sym r.1) m.right)

@@ -1,9 +1,8 @@
--- The text of lines of which only some are served is one too: those that say nothing that is served stand like
--- lines that are too long.
+-- The text of lines is one: those that say nothing stand like lines that are too long.
 use Rattle.std.proofs.Common.{◌≡◌, ℕ, List, [], ◌∷◌, Option, Some, None, refl, sym, ap, subst, ◌∙◌}
 use Rattle.words36.specs.declared.moment.Moment.{Moment}
 use Rattle.meaning.specs.Lines.{Line, Bytes, TooLong}
-use Rattle.meaning.specs.Commands.{Means}
+use Rattle.meaning.specs.Commands.{Says, Means}
 use Rattle.meaning.specs.Texts.{Spoken}
 use Rattle.meaning.specs.Plans.{Act}
 use Rattle.meaning.specs.Transcripts.{IsTranscript, Scripts, Served}
@@ -12,17 +11,16 @@ use Rattle.meaning.specs.Jobs.{State}
 use Rattle.meaning.specs.declared.command.Command.{Command}
 use Rattle.meaning.proofs.CommandLaws.{same_command}
 use Rattle.meaning.proofs.TranscriptLaws.{one_text, one_script}
-use Rattle.commands.specs.Served.{SaysServed, MeansServed}
 use Rattle.commands.specs.Streams.{IsServedTranscript}
 use Rattle.commands.specs.declared.language.Language.TheVariants.{Commands, Events}
 
-same_says : (text : List ℕ) (x y : Option Command) → SaysServed text x → SaysServed text y → x ≡ y
+same_says : (text : List ℕ) (x y : Option Command) → Says text x → Says text y → x ≡ y
 same_says text None None a b = refl
-same_says text None (Some c) a b = absurd (a c b.0 b.1)
-same_says text (Some c) None a b = absurd (b c a.0 a.1)
-same_says text (Some c) (Some d) a b = ap Some (same_command text c d a.1 b.1)
+same_says text None (Some c) a b = absurd (a c b)
+same_says text (Some c) None a b = absurd (b c a)
+same_says text (Some c) (Some d) a b = ap Some (same_command text c d a b)
 
-same_meant : (line : Line) (x y : Option Command) → MeansServed line x → MeansServed line y → x ≡ y
+pub same_meant : (line : Line) (x y : Option Command) → Means line x → Means line y → x ≡ y
 same_meant (Bytes text) x y a b = same_says text x y a b
 same_meant TooLong x y a b = a ∙ sym b
 
@@ -31,14 +29,14 @@ abbrev form : Option Command → Line → Line
 form None line = TooLong
 form (Some command) line = line
 
-means_form : (line : Line) (meant : Option Command) → MeansServed line meant → Means (form meant line) meant
+means_form : (line : Line) (meant : Option Command) → Means line meant → Means (form meant line) meant
 means_form line None m = refl
-means_form (Bytes text) (Some command) m = m.1
+means_form (Bytes text) (Some command) m = m
 means_form TooLong (Some command) m = m
 
 abbrev Forms : List Line → List Line → Type 0
 Forms [] forms = forms ≡ []
-Forms (line ∷ lines) forms = (meant : Option Command) × MeansServed line meant × (rest : List Line) × Forms lines rest
+Forms (line ∷ lines) forms = (meant : Option Command) × Means line meant × (rest : List Line) × Forms lines rest
     × (forms ≡ form meant line ∷ rest)
 
 same_forms : (lines x y : List Line) → Forms lines x → Forms lines y → x ≡ y

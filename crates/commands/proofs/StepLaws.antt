@@ -9,7 +9,6 @@ use Rattle.words36.specs.declared.moment.Moment.{Moment}
 use Rattle.meaning.specs.Lines.{Line, without_return, fitting, lines}
 use Rattle.meaning.specs.Texts.{Spoken, silent}
 use Rattle.meaning.specs.declared.command.Command.{Command}
-use Rattle.commands.specs.Served.{served}
 use Rattle.meaning.specs.Plans.{Act, Asks, calls}
 use Rattle.meaning.specs.declared.call.Call.TheVariants as played
 use Rattle.meaning.specs.declared.call.Reply.{Reply}
@@ -422,7 +421,7 @@ module _ {V E S : Type 0} (machine : S → Machine) (bytes : V
     → List ℕ) (result : Result (Unit {0}) SessionError) (text : Result V E) (a b : S) (p q : Option (List ℕ))
     (moment : Moment) (who after : Option ℕ) (tally counted : Tally) (heard : Heard) where
   pub told_said : (meant : Option Command) → heard ≡ Said meant
-      → Spoke bytes text machine a b moment who after tally counted (served meant) → Puts bytes result p q text
+      → Spoke bytes text machine a b moment who after tally counted meant → Puts bytes result p q text
       → Told result machine a b p q moment who after tally counted heard
   told_said meant e s put = told_put machine bytes a b p q moment who after tally counted heard
       (is_something heard meant e) result text

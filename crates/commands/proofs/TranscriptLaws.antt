@@ -2,6 +2,7 @@
 use Rattle.std.proofs.Common.{◌≡◌, ◌≢◌, ℕ, ◌||◌, Bool, true, false, List, [], ◌∷◌, ◌++◌, refl, sym, ◌∙◌, ap, subst}
 use Rattle.std.proofs.Common.{append_assoc, append-nil, Option}
 use Rattle.words36.specs.declared.moment.Moment.{Moment}
+use Rattle.meaning.specs.Commands.{Means}
 use Rattle.meaning.specs.Lines.{Line}
 use Rattle.meaning.specs.Texts.{Spoken, joined, silent}
 use Rattle.meaning.specs.Plans.{Act}
@@ -10,7 +11,6 @@ use Rattle.meaning.specs.declared.command.Command.{Command}
 use Rattle.meaning.specs.declared.call.Event.{Event}
 use Rattle.commands.specs.Languages.{Says}
 use Rattle.meaning.specs.Scripts.{MeansEvent}
-use Rattle.commands.specs.Served.{MeansServed, served}
 use Rattle.commands.specs.Streams.{IsServedTranscript, spoken}
 use Rattle.commands.specs.Sessions.{HeardIn, Hears}
 use Rattle.commands.specs.declared.answer.Tally.{Tally}
@@ -18,7 +18,6 @@ use Rattle.commands.specs.declared.language.Language.{Language}
 use Rattle.commands.specs.declared.language.Language.TheVariants.{Commands, Events}
 use Rattle.commands.specs.declared.run.Heard.{Heard}
 use Rattle.commands.specs.declared.run.Heard.TheVariants.{Nothing, Said, Ordered}
-use Rattle.commands.proofs.SayingLaws.{means_served}
 
 pub or-false : (b : Bool) → b ≡ b || false
 or-false true = refl
@@ -87,12 +86,12 @@ module _ (language : Language) (moment : Moment) where
   -- What was heard is what the line says.
 
   says_said : (who : Option ℕ) (line : Line) (meant : Option Command) (acts : List Act) (said : Spoken)
-      (after : Option ℕ) → language ≡ Commands → MeansServed line meant
-      → Speaks moment who (served meant) acts said after
+      (after : Option ℕ) → language ≡ Commands → Means line meant
+      → Speaks moment who meant acts said after
       → Says language moment who line acts said after
   says_said who line meant acts said after e m p =
       subst (λ (l : Language). Says l moment who line acts said after) (sym e)
-      (meant, m, subst (λ (o : Option Command). Speaks moment who o acts said after) (means_served line meant m) p)
+      (meant, m, p)
 
   says_ordered : (who : Option ℕ) (line : Line) (order : Option Event) (acts : List Act) (said : Spoken)
       (after : Option ℕ) → language ≡ Events → MeansEvent line moment order → Orders order acts said × (after ≡ who)

@@ -1,6 +1,7 @@
 -- What a line of an input says in either language, and what is done at the end of the input.
 use Rattle.std.specs.Prelude.{◌≡◌, ℕ, List, [], ◌∷◌, Option}
 use Rattle.words36.specs.declared.moment.Moment.{Moment}
+use Rattle.meaning.specs.Commands.{Means}
 use Rattle.meaning.specs.Lines.{Line}
 use Rattle.meaning.specs.Scripts.{MeansEvent}
 use Rattle.meaning.specs.Texts.{Spoken}
@@ -11,14 +12,12 @@ use Rattle.meaning.specs.declared.call.Call.TheVariants.{Reset}
 use Rattle.meaning.specs.declared.call.Event.{Event}
 use Rattle.meaning.specs.declared.call.Reply.{Reply}
 use Rattle.commands.specs.Machines.{Machine, GoesBy, GoesServed}
-use Rattle.commands.specs.Served.{MeansServed}
 use Rattle.commands.specs.declared.language.Language.{Language}
 use Rattle.commands.specs.declared.language.Language.TheVariants.{Commands, Events}
 
--- What a line asks and says: one with a command or an event that is not served says nothing. Of an event it does not
--- matter who is logged in.
+-- What a line asks and says. Of an event it does not matter who is logged in.
 abbrev pub Says : Language → Moment → Option ℕ → Line → List Act → Spoken → Option ℕ → Type 0
-Says Commands moment who line acts said then_who = (meant : Option Command) × MeansServed line meant
+Says Commands moment who line acts said then_who = (meant : Option Command) × Means line meant
     × Speaks moment who meant acts said then_who
 Says Events moment who line acts said then_who = (meant : Option Event) × MeansEvent line moment meant
     × Orders meant acts said × (then_who ≡ who)

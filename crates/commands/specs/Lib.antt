@@ -1,5 +1,5 @@
 pub mod PartialLines
-pub mod Served
+pub mod Fitting
 pub mod Characters
 pub mod Machines
 pub mod Asking

@@ -3,6 +3,7 @@ use Rattle.std.specs.Prelude.{◌≡◌, ◌≢◌, ◌<◌, ◌||◌, ℕ, List
 use Rattle.std.specs.Prelude.{Err, IfOk, IfErr, OnOk, OnErr}
 use Rattle.std.specs.Io.KnownBytes.{Consumes, Appends, IsAtEnd}
 use Rattle.words36.specs.declared.moment.Moment.{Moment}
+use Rattle.meaning.specs.Commands.{Means}
 use Rattle.meaning.specs.Lines.{Line, lines}
 use Rattle.meaning.specs.Texts.{Spoken, silent}
 use Rattle.meaning.specs.Plans.{Act}
@@ -10,7 +11,7 @@ use Rattle.meaning.specs.Transcripts.{Speaks, Orders}
 use Rattle.meaning.specs.Runs.{Service}
 use Rattle.meaning.specs.declared.command.Command.{Command}
 use Rattle.commands.specs.PartialLines.{IsPartialLine}
-use Rattle.commands.specs.Served.{MeansServed, served, Fits}
+use Rattle.commands.specs.Fitting.{Fits}
 use Rattle.commands.specs.Languages.{Closes, Goes}
 use Rattle.commands.specs.Machines.{Machine, GoesBy, GoesServed, AreServedActs}
 use Rattle.meaning.specs.Scripts.{MeansEvent}
@@ -43,7 +44,7 @@ pub record Spoke {V E S : Type 0} (bytes : V → List ℕ) (result : Result V E)
 abbrev pub HeardIn : Language → Moment → List Line → Heard → Type 0
 HeardIn language moment [] heard = heard ≡ Nothing
 HeardIn language moment (line ∷ lines) Nothing = ⊥
-HeardIn language moment (line ∷ lines) (Said meant) = (language ≡ Commands) × MeansServed line meant × (lines ≡ [])
+HeardIn language moment (line ∷ lines) (Said meant) = (language ≡ Commands) × Means line meant × (lines ≡ [])
 HeardIn language moment (line ∷ lines) (Ordered order) = (language ≡ Events) × MeansEvent line moment order
     × (lines ≡ [])
 
@@ -60,7 +61,7 @@ FitsIn (Ordered order) = Unit {0}
 
 abbrev pub Hears : Moment → Option ℕ → Heard → List Act → Spoken → Option ℕ → Type 0
 Hears moment who Nothing acts said after = (acts ≡ []) × (said ≡ silent) × (after ≡ who)
-Hears moment who (Said meant) acts said after = Speaks moment who (served meant) acts said after
+Hears moment who (Said meant) acts said after = Speaks moment who meant acts said after
 Hears moment who (Ordered order) acts said after = Orders order acts said × (after ≡ who)
 
 -- The calls of what was heard were made, and its text is what was said.

@@ -2,10 +2,12 @@ ghost use Rattle.std.specs.Prelude.{◌≡◌, ◌<◌, ◌||◌, IfOk, Some, co
 ghost use Rattle.meaning.specs.Texts.{line, is_broken};
 ghost use Rattle.meaning.specs.declared.command.Command.TheVariants.{Login as LoginLine, Directory as DirectoryLine};
 ghost use Rattle.meaning.specs.declared.command.Command.TheVariants.{Copy as CopyLine, TypeOut as TypeLine};
-ghost use Rattle.meaning.specs.declared.command.Command.TheVariants.{MakeDir as MakeLine};
-ghost use Rattle.commands.specs.Served.{served, Fits};
+ghost use Rattle.meaning.specs.declared.command.Command.TheVariants.{Rename as RenameLine, Delete as DeleteLine};
+ghost use Rattle.meaning.specs.declared.command.Command.TheVariants.{Protect as ProtectLine, MakeDir as MakeLine};
+ghost use Rattle.commands.specs.Fitting.{Fits};
 ghost use Rattle.commands.specs.Sessions.{Spoke};
 
+use crate::changing::{delete, protect, rename};
 use crate::copying::copy;
 use crate::makdir::make_dir;
 use crate::service::FileService;
@@ -189,7 +191,64 @@ fn type_for<S: FileService>(
     }
 }
 
-/// Makes the calls of a line that means this, as far as it is served, and gives the bytes that it prints.
+/// Answers RENAME, for whoever is logged in.
+fn rename_for<S: FileService>(
+    alloc: Global,
+    service: &mut S,
+    moment: Moment,
+    who: Option<Ppn>,
+    tally: &mut Tally,
+    to: Spec,
+    from: Spec,
+) -> Result<Vec<u8>, AllocError>
+    ensures { Spoke (λ bytes. bytes.items) result S.machine service.old service.new moment who who tally.old tally.new
+        (Some (RenameLine to from)) }
+{
+    match who {
+        Some(me) => rename(alloc, service, moment, me, tally, to, from),
+        None => turn_away(alloc, tally),
+    }
+}
+
+/// Answers DELETE, for whoever is logged in.
+fn delete_for<S: FileService>(
+    alloc: Global,
+    service: &mut S,
+    moment: Moment,
+    who: Option<Ppn>,
+    tally: &mut Tally,
+    spec: Spec,
+) -> Result<Vec<u8>, AllocError>
+    ensures { Spoke (λ bytes. bytes.items) result S.machine service.old service.new moment who who tally.old tally.new
+        (Some (DeleteLine spec)) }
+{
+    match who {
+        Some(me) => delete(alloc, service, moment, me, tally, spec),
+        None => turn_away(alloc, tally),
+    }
+}
+
+/// Answers PROTECT, for whoever is logged in.
+fn protect_for<S: FileService>(
+    alloc: Global,
+    service: &mut S,
+    moment: Moment,
+    who: Option<Ppn>,
+    tally: &mut Tally,
+    spec: Spec,
+    protection: u32,
+) -> Result<Vec<u8>, AllocError>
+    requires { protection < 512 }
+    ensures { Spoke (λ bytes. bytes.items) result S.machine service.old service.new moment who who tally.old tally.new
+        (Some (ProtectLine spec protection)) }
+{
+    match who {
+        Some(me) => protect(alloc, service, moment, me, tally, spec, protection),
+        None => turn_away(alloc, tally),
+    }
+}
+
+/// Makes the calls of a line that means this, and gives the bytes that it prints.
 pub fn answer<S: FileService>(
     alloc: Global,
     service: &mut S,
@@ -200,7 +259,7 @@ pub fn answer<S: FileService>(
 ) -> Result<Vec<u8>, AllocError>
     requires { Fits meant }
     ensures { Spoke (λ bytes. bytes.items) result S.machine service.old service.new moment who.old who.new
-        tally.old tally.new (served meant) }
+        tally.old tally.new meant }
 {
     let Some(command) = meant else {
         return refuse(alloc, tally, "?Command error", false);
@@ -209,10 +268,14 @@ pub fn answer<S: FileService>(
         Command::Login(owner) => log_in(alloc, service, moment, who, tally, owner),
         Command::Directory(place) => list_for(alloc, service, moment, *who, tally, place),
         Command::Copy(to, from) => copy_for(alloc, service, moment, *who, tally, to, from),
+        Command::Rename(to, from) => rename_for(alloc, service, moment, *who, tally, to, from),
+        Command::Delete(spec) => delete_for(alloc, service, moment, *who, tally, spec),
         Command::TypeOut(spec) => type_for(alloc, service, moment, *who, tally, spec),
+        Command::Protect(spec, protection) => {
+            protect_for(alloc, service, moment, *who, tally, spec, protection)
+        }
         Command::MakeDir(owner, protection) => {
             make_dir_for(alloc, service, moment, *who, tally, owner, protection)
         }
-        _ => refuse(alloc, tally, "?Command error", false),
     }
 }

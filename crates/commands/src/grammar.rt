@@ -1,13 +1,13 @@
 ghost use Rattle.std.specs.Prelude.{◌≡◌, ◌++◌, ◌∷◌, [], length, IfSome, IfNone, ℕ, List};
 ghost use Rattle.meaning.specs.Spellings.{AreFields, IsBracketed};
-ghost use Rattle.meaning.specs.Commands.{IsProtection, IsMade};
-ghost use Rattle.commands.specs.Served.{SaysServed, MeansServed};
+ghost use Rattle.meaning.specs.Commands.{IsAngled, IsProtection, IsProtected, IsMade, Says, Means};
+ghost use Rattle.meaning.specs.declared.command.Spec.{Spec as SpecValue};
 ghost use Rattle.commands.specs.PartialLines.{line_of};
 
 use crate::fields::{first_field, length_before, pair, small_number};
 use crate::input::InputLine;
 use crate::specs::{spec, specs};
-use meaning::Command;
+use meaning::{Command, Spec};
 use words36::Ppn;
 
 /// The two fields of a text that has two, with spaces between them and none at its ends.
@@ -46,7 +46,15 @@ pub(crate) fn bracketed(text: &[u8]) -> Option<Ppn>
     pair(between(text, b'[', b']')?, 6)
 }
 
-/// The protection of `<PROT>`, one to three digits, or 0 where there is nothing.
+/// The protection of `<PROT>`, one to three digits.
+fn angled(text: &[u8]) -> Option<u32>
+    ensures some { IfSome result (λ number. IsAngled text.now number) }
+    ensures none { IfNone result ((number : ℕ) → IsAngled text.now number → ⊥) }
+{
+    small_number(between(text, b'<', b'>')?, 3)
+}
+
+/// The same, or 0 where there is nothing.
 fn protection(text: &[u8]) -> Option<u32>
     ensures some { IfSome result (λ number. IsProtection text.now number) }
     ensures none { IfNone result ((number : ℕ) → IsProtection text.now number → ⊥) }
@@ -54,7 +62,7 @@ fn protection(text: &[u8]) -> Option<u32>
     if text.is_empty() {
         return Some(0);
     }
-    small_number(between(text, b'<', b'>')?, 3)
+    angled(text)
 }
 
 /// The directory and the protection of `[p,n]` or `[p,n]<PROT>`.
@@ -68,14 +76,21 @@ fn made(text: &[u8]) -> Option<(Ppn, u32)>
     Some((owner, number))
 }
 
-/// The command that a text in upper case spells, where it is one that is served.
-pub fn command_of(text: &[u8]) -> Option<Command>
-    ensures { SaysServed text.now result }
+/// The file and the protection of `SPEC<PROT>`.
+fn protected(text: &[u8]) -> Option<(Spec, u32)>
+    ensures some { IfSome result (λ found. IsProtected text.now found.0 found.1) }
+    ensures none { IfNone result ((spec : SpecValue) (number : ℕ) → IsProtected text.now spec number → ⊥) }
 {
-    if text == b"DIRECTORY".as_slice() {
-        return Some(Command::Directory(None));
-    }
-    let (word, argument) = two_fields(text)?;
+    let (front, back) = text.split_at(length_before(text, b'<'));
+    let spec = spec(front)?;
+    let number = angled(back)?;
+    Some((spec, number))
+}
+
+/// The command that a word and the text behind it spell.
+fn command_with(word: &[u8], argument: &[u8]) -> Option<Command>
+    ensures { (text : List ℕ) → AreFields (word.now ∷ argument.now ∷ []) text → Says text result }
+{
     if word == b"LOGIN".as_slice() {
         return Some(Command::Login(bracketed(argument)?));
     }
@@ -93,12 +108,34 @@ pub fn command_of(text: &[u8]) -> Option<Command>
     if word == b"TYPE".as_slice() {
         return Some(Command::TypeOut(spec(argument)?));
     }
+    if word == b"RENAME".as_slice() {
+        let (to, from) = specs(argument)?;
+        return Some(Command::Rename(to, from));
+    }
+    if word == b"DELETE".as_slice() {
+        return Some(Command::Delete(spec(argument)?));
+    }
+    if word == b"PROTECT".as_slice() {
+        let (spec, number) = protected(argument)?;
+        return Some(Command::Protect(spec, number));
+    }
     None
 }
 
-/// What a line says, where that is a command that is served; a line that is too long says nothing.
+/// The command that a text in upper case spells.
+pub fn command_of(text: &[u8]) -> Option<Command>
+    ensures { Says text.now result }
+{
+    if text == b"DIRECTORY".as_slice() {
+        return Some(Command::Directory(None));
+    }
+    let (word, argument) = two_fields(text)?;
+    command_with(word, argument)
+}
+
+/// What a line says, where that is a command; a line that is too long says nothing.
 pub fn meant_by(line: InputLine<'_>) -> Option<Command>
-    ensures { MeansServed (line_of line.entry) result }
+    ensures { Means (line_of line.entry) result }
 {
     match line {
         InputLine::Text(text) => command_of(text),

@@ -10,14 +10,12 @@ ghost use Rattle.meaning.specs.Transcripts.{Served};
 ghost use Rattle.meaning.specs.Texts.{Spoken};
 ghost use Rattle.meaning.specs.declared.call.Event.{Event};
 ghost use Rattle.meaning.specs.declared.command.Command.{Command};
-ghost use Rattle.commands.specs.Served.{MeansServed, served};
 ghost use Rattle.commands.specs.Streams.{IsServedTranscript};
 ghost use Rattle.commands.specs.declared.language.Language.TheVariants.{Commands, Events};
 
-/// What a line says that is served is what it means, where that is served, and nothing where it is not.
-pub fn lines_say_what_is_served()
-    ensures { (line : Line) (meant said : Option Command) → Means line meant → MeansServed line said
-        → said ≡ served meant }
+/// A line says one thing, or nothing.
+pub fn lines_have_one_meaning()
+    ensures { (line : Line) (meant said : Option Command) → Means line meant → Means line said → said ≡ meant }
 {}
 
 /// The text of lines, of a session or of a call script, and what is counted of them, is a function of the lines,

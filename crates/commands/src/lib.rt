@@ -2,9 +2,9 @@
 //!
 //! 1. The lines of an input are those of the definition, in whatever pieces the reader gives it. (`PartialLine`,
 //!    `Session`)
-//! 2. `command_of` answers a command exactly where a text spells one that is served, and none exactly where
-//!    it spells none. So far LOGIN, DIRECTORY, COPY, TYPE and MAKDIR are served; a line that means another
-//!    command is no command. (`lines_say_what_is_served`)
+//! 2. `command_of` answers a command exactly where a text spells one, and none exactly where it spells none: LOGIN,
+//!    DIRECTORY, COPY, RENAME, DELETE, TYPE, PROTECT and MAKDIR. A line says one thing, or nothing.
+//!    (`lines_have_one_meaning`)
 //! 3. The greeting, the text of a refusal and the list of a directory are the definition's, byte by byte.
 //! 4. `session` reads to the end of the input, makes the calls that each line stands for, each by the
 //!    replies so far, and writes what they print: at Ok the writer got the text of all that the reader had,
@@ -33,6 +33,7 @@
 
 mod answer;
 mod asking;
+mod changing;
 mod concluding;
 mod copying;
 mod error;
@@ -67,7 +68,7 @@ mod typing;
 
 pub use answer::Tally;
 pub use error::SessionError;
-pub use laws::{lines_say_what_is_served, orders_have_one_reading, served_texts_are_functions};
+pub use laws::{lines_have_one_meaning, orders_have_one_reading, served_texts_are_functions};
 pub use monitor::{Monitor, StartError};
 pub use monitored::{script, session};
 pub use restart::start_after_acts;

@@ -1,9 +1,9 @@
-ghost use Rattle.std.specs.Prelude.{◌≡◌, ◌<◌, ◌≤◌, ◌+◌, ◌-◌, ◌*◌, ◌%◌, ◌^◌, map, unwrap_or};
+ghost use Rattle.std.specs.Prelude.{◌≡◌, ◌<◌, ◌≤◌, ◌+◌, ◌-◌, ◌*◌, ◌%◌, ◌^◌, ◌++◌, ◌∷◌, [], map, unwrap_or};
 ghost use Rattle.std.specs.List.{AllByRecursion};
 ghost use Rattle.words36.specs.Words.{join};
 ghost use Rattle.meaning.specs.Plans as plans;
-ghost use Rattle.meaning.specs.Plans.{block_address};
-ghost use Rattle.meaning.specs.declared.call.Call.TheVariants.{Close};
+ghost use Rattle.meaning.specs.Plans.{block_address, file_words};
+ghost use Rattle.meaning.specs.declared.call.Call.TheVariants.{Close, Rename};
 ghost use Rattle.meaning.specs.declared.call.Event.TheVariants.{Deposit};
 ghost use Rattle.commands.specs.Asking.{AreServedFrom, IsAlwaysServed};
 
@@ -183,5 +183,46 @@ pub fn makes(moment: Moment, owner: Ppn, protection: u32) -> [Event; 3]
         Event::Deposit(SESSION_JOB, FILE_WORDS, owner.word()),
         Event::Deposit(SESSION_JOB, FILE_WORDS + 1, protection_word(protection)),
         Event::Call(SESSION_JOB, Call::MakeDir(FILE_WORDS), moment),
+    ]
+}
+
+/// What gives the file that was looked up another name and place; its protection stands where LOOKUP has put it.
+pub fn moves(moment: Moment, to: Spec) -> [Event; 4]
+    ensures made { result ≡ Deposit 1 file_words to.name.name ∷ Deposit 1 (file_words + 1) (join to.name.ext 0)
+        ∷ Deposit 1 (file_words + 3) (unwrap_or to.owner 0) ∷ plans.calls moment (Rename 1 file_words) ∷ [] }
+    ensures served { AllByRecursion IsAlwaysServed result }
+{
+    let Spec { name, owner } = to;
+    [
+        Event::Deposit(SESSION_JOB, FILE_WORDS, name.name),
+        Event::Deposit(SESSION_JOB, FILE_WORDS + 1, extension_word(&name)),
+        Event::Deposit(SESSION_JOB, FILE_WORDS + 3, owner_word(owner)),
+        Event::Call(SESSION_JOB, Call::Rename(READER, FILE_WORDS), moment),
+    ]
+}
+
+/// What deletes the file that was looked up: it gets the name 0.
+pub fn removes(moment: Moment) -> [Event; 2]
+    ensures made { result ≡ Deposit 1 file_words 0 ∷ plans.calls moment (Rename 1 file_words) ∷ [] }
+    ensures served { AllByRecursion IsAlwaysServed result }
+{
+    [
+        Event::Deposit(SESSION_JOB, FILE_WORDS, Word::ZERO),
+        Event::Call(SESSION_JOB, Call::Rename(READER, FILE_WORDS), moment),
+    ]
+}
+
+/// What gives the file that was looked up another protection: it gets its own place once more.
+pub fn protects(moment: Moment, spec: &Spec, protection: u32) -> [Event; 5]
+    requires { protection < 512 }
+    ensures made { result ≡ plans.names file_words spec.now protection ++ plans.calls moment (Rename 1 file_words) ∷ [] }
+    ensures served { AllByRecursion IsAlwaysServed result }
+{
+    [
+        Event::Deposit(SESSION_JOB, FILE_WORDS, spec.name.name),
+        Event::Deposit(SESSION_JOB, FILE_WORDS + 1, extension_word(&spec.name)),
+        Event::Deposit(SESSION_JOB, FILE_WORDS + 2, protection_word(protection)),
+        Event::Deposit(SESSION_JOB, FILE_WORDS + 3, owner_word(spec.owner)),
+        Event::Call(SESSION_JOB, Call::Rename(READER, FILE_WORDS), moment),
     ]
 }

@@ -1,0 +1,83 @@
+ghost use Rattle.std.specs.Prelude.{◌<◌, ◌++◌, Some};
+ghost use Rattle.meaning.specs.Plans.{Plan, each, finds as found};
+ghost use Rattle.meaning.specs.declared.command.Command.TheVariants.{Rename as RenameLine, Delete as DeleteLine};
+ghost use Rattle.meaning.specs.declared.command.Command.TheVariants.{Protect as ProtectLine};
+ghost use Rattle.commands.specs.Asking.{AreServedFrom, Led, followed};
+ghost use Rattle.commands.specs.Sessions.{Spoke};
+
+use crate::answer::Tally;
+use crate::asking::ask_all;
+use crate::concluding::conclude;
+use crate::requests::{finds, moves, protects, removes};
+use crate::service::FileService;
+use meaning::{Event, Reply, Spec};
+use std::alloc::{AllocError, Global};
+use words36::{Moment, Ppn};
+
+/// Looks a file up, and then asks for what changes it.
+fn change<S: FileService>(
+    alloc: Global,
+    service: &mut S,
+    moment: Moment,
+    spec: Spec,
+    changes: &[Event],
+) -> Result<(), Reply>
+    requires { AreServedFrom changes.now }
+    ensures { (next : Plan) → Led S.machine service.old service.new
+        (each moment (found moment spec ++ changes.now) next) (followed moment result (λ unit. next)) }
+{
+    ask_all(alloc, service, &finds(moment, spec))?;
+    ask_all(alloc, service, changes)
+}
+
+/// Answers RENAME, for a job that is logged in.
+pub fn rename<S: FileService>(
+    alloc: Global,
+    service: &mut S,
+    moment: Moment,
+    me: Ppn,
+    tally: &mut Tally,
+    to: Spec,
+    from: Spec,
+) -> Result<Vec<u8>, AllocError>
+    ensures { Spoke (λ bytes. bytes.items) result S.machine service.old service.new moment (Some me)
+        (Some me) tally.old tally.new (Some (RenameLine to from)) }
+{
+    let renamed = change(alloc, service, moment, from, &moves(moment, to));
+    conclude(alloc, service, moment, tally, renamed)
+}
+
+/// Answers DELETE, for a job that is logged in.
+pub fn delete<S: FileService>(
+    alloc: Global,
+    service: &mut S,
+    moment: Moment,
+    me: Ppn,
+    tally: &mut Tally,
+    spec: Spec,
+) -> Result<Vec<u8>, AllocError>
+    ensures { Spoke (λ bytes. bytes.items) result S.machine service.old service.new moment (Some me)
+        (Some me) tally.old tally.new (Some (DeleteLine spec)) }
+{
+    let deleted = change(alloc, service, moment, spec, &removes(moment));
+    conclude(alloc, service, moment, tally, deleted)
+}
+
+/// Answers PROTECT, for a job that is logged in.
+pub fn protect<S: FileService>(
+    alloc: Global,
+    service: &mut S,
+    moment: Moment,
+    me: Ppn,
+    tally: &mut Tally,
+    spec: Spec,
+    protection: u32,
+) -> Result<Vec<u8>, AllocError>
+    requires { protection < 512 }
+    ensures { Spoke (λ bytes. bytes.items) result S.machine service.old service.new moment (Some me)
+        (Some me) tally.old tally.new (Some (ProtectLine spec protection)) }
+{
+    let changes = protects(moment, &spec, protection);
+    let protected = change(alloc, service, moment, spec, &changes);
+    conclude(alloc, service, moment, tally, protected)
+}
