@@ -45,8 +45,8 @@ named_file None name x at = absurd (some_none (sym at))
 named_file (Some d) name x at = get-map_values name_total (λ (v : Version). v.file) d.files name
     ∙ ap (option_map (λ (v : Version). v.file)) at
 
-module _ (c c' : VolumeCore) (input renewed : Input) (ppn : ℕ) (file : FileName)
-    (is : Renews c c' input renewed ppn file) where
+module _ (c c' : VolumeCore) (input renewed : Input) (ppn : ℕ) (file : FileName) (protection : ℕ)
+    (is : Renews c c' input renewed ppn file protection) where
   -- Core has what is written, and knows of the disk what it knew, but for the table.
 
   pub renewed_pending : c'.pending ≡ c.pending

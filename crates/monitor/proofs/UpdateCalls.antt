@@ -14,7 +14,7 @@ use Rattle.meaning.specs.Jobs.{State, slot, channel_at, with_channel, is_create}
 use Rattle.meaning.specs.Looking.{place_at, digit_at, digit_for_version, with_attributes}
 use Rattle.meaning.specs.Maps.{get, times}
 use Rattle.meaning.specs.Outcomes.{settled, refused_at}
-use Rattle.meaning.specs.Published.{Version, without_serials, file_at}
+use Rattle.meaning.specs.Published.{Version, without_serials, file_at, with_protection}
 use Rattle.meaning.specs.Retrieval.{HasBody}
 use Rattle.meaning.specs.Rights.{file_digit, may_update}
 use Rattle.meaning.specs.Runs.{Service, Serving, Answers}
@@ -296,8 +296,14 @@ module _ (d : DiskState) (map map' : VolumeCore) (jobs jobs' : List (Option Job)
       input_is =
           let same = is.renews.renewed_is in
           let v = sym (with_read_same state.under.read pin version pin refl) in
-          (λ i. record { place = place; version = v i; next = input.next })
-          ∙ ap (λ (j : Input). record { place = place_of j.ppn j.file; version = w.read pin; next = j.next }) (sym same)
+          let q : version.file.protection ≡ is.version.prime.protection = ap (λ (f : File). f.protection) found.2
+          ∙ sym of_file.begins.protection in
+          (λ i. record { place = place; version = with_protection (v i) (q i); next = input.next })
+          ∙ ap (λ (j : Input). record {
+            place = place_of j.ppn j.file;
+            version = with_protection (w.read pin) j.protection;
+            next = j.next;
+          }) (sym same)
 
       -- what is put into the words
       attributes_are : with_attributes 1 job.core e version.file
