@@ -85,4 +85,12 @@ pub mod RenamedPlaces
 pub mod RenamingCore
 pub mod RenamingTransactions
 pub mod RenamingAnswers
+pub mod MovedPlaces
+pub mod MovingCore
+pub mod MovingAnswers
 pub mod RetiredPrimes
+pub mod Arriving
+pub mod Leaving
+pub mod MovingAcross
+pub mod MovingLaw
+pub mod MovingTransactions

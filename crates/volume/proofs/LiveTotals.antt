@@ -249,6 +249,12 @@ pub core_uses_more : (size : ℕ) (c : VolumeCore) → IsWholeCore size c → (k
 core_uses_more size c whole key p is more few = let ribs = waiting_ribs c.pending key p is in
     uses_by size c whole (more + (1 + rib_count (length p.version.blocks))) (omega arith)
 
+-- and as many as the directories grow by
+pub core_uses_grown : (size : ℕ) (c : VolumeCore) → IsWholeCore size c → (more : ℕ)
+    → more ≤ growths c.pending c.known.master.entries c.known.directories
+    → uses c.known.table + more ≤ c.known.table.booked
+core_uses_grown size c whole more few = let rest = waiting_cost c.pending in uses_by size c whole more (omega arith)
+
 stretch_at : (f : ℕ → ℕ) (k i : ℕ) → i < k → f i ≤ sum_below f k
 stretch_at f zero i below = absurd (omega arith)
 stretch_at f (suc k) i below = ⊎_elim (λ less. let r = stretch_at f k i less in

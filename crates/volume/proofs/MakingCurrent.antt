@@ -99,7 +99,7 @@ share_within pending (e ∷ es) (x ∷ ds) (suc i) k w d is at = let rest = shar
     omega arith
 
 -- a chain whose last block is full takes one more for the next entry
-full_grows : (entries blocks more : ℕ) → blocks ≡ directory_cost entries → entries ≡ 42 * blocks → 0 < more
+pub full_grows : (entries blocks more : ℕ) → blocks ≡ directory_cost entries → entries ≡ 42 * blocks → 0 < more
     → 1 ≤ directory_cost (entries + more) - directory_cost entries
 full_grows entries blocks more counted full some = grind (arith, nat_tests)
 

@@ -114,11 +114,11 @@ keys_apart size c whole place i other j ks ls key here is there is' =
 -- Lists in which one element is another.
 
 module _ {A B : Type 0} (f g : A → B) where
-  mapped_alike : (xs : List A) → ((j : ℕ) (y : A) → slice_get xs j ≡ Some y → f y ≡ g y) → map f xs ≡ map g xs
+  pub mapped_alike : (xs : List A) → ((j : ℕ) (y : A) → slice_get xs j ≡ Some y → f y ≡ g y) → map f xs ≡ map g xs
   mapped_alike [] same = refl
   mapped_alike (x ∷ xs) same = λ i. same 0 x refl i ∷ mapped_alike xs (λ j y is. same (suc j) y is) i
 
-  mapped_set : (xs : List A) (place : ℕ) (x : A) → ((j : ℕ) (y : A) → slice_get xs j ≡ Some y → (j ≡ place → ⊥)
+  pub mapped_set : (xs : List A) (place : ℕ) (x : A) → ((j : ℕ) (y : A) → slice_get xs j ≡ Some y → (j ≡ place → ⊥)
       → f y ≡ g y) → map f (slice_set xs place x) ≡ slice_set (map g xs) place (f x)
   mapped_set [] place x same = refl
   mapped_set (y ∷ xs) zero x same = ap (λ ys. f x ∷ ys)
@@ -130,12 +130,12 @@ module _ {A B : Type 0} (f g : A → B) where
 
 module _ {A B C : Type 0} (P : B → C → Type 0) (f : A → B) (h : A → C) where
   -- the pair that one element makes
-  pair_at : (xs : List A) (j : ℕ) (x : A) → AllZip P (map f xs) (map h xs) → slice_get xs j ≡ Some x → P (f x) (h x)
+  pub pair_at : (xs : List A) (j : ℕ) (x : A) → AllZip P (map f xs) (map h xs) → slice_get xs j ≡ Some x → P (f x) (h x)
   pair_at [] j x zip is = absurd (some_none (sym is))
   pair_at (y ∷ xs) zero x zip is = subst (λ z. P (f z) (h z)) (some_same is) zip.0
   pair_at (y ∷ xs) (suc j) x zip is = pair_at xs j x zip.1 is
 
-  pairs_of : (xs : List A) → ((j : ℕ) (x : A) → slice_get xs j ≡ Some x → P (f x) (h x))
+  pub pairs_of : (xs : List A) → ((j : ℕ) (x : A) → slice_get xs j ≡ Some x → P (f x) (h x))
       → AllZip P (map f xs) (map h xs)
   pairs_of [] each = tt
   pairs_of (x ∷ xs) each = (each 0 x refl, pairs_of xs (λ j y is. each (suc j) y is))
@@ -152,7 +152,7 @@ module _ {A B C : Type 0} (P : B → C → Type 0) (f : A → B) (h : A → C) w
 -- One directory, under versions that are others.
 
 -- the version under each of these keys is as it was
-abbrev StayIn : List (Option LiveVersion) → List (Option LiveVersion) → List ℕ → Type 0
+abbrev pub StayIn : List (Option LiveVersion) → List (Option LiveVersion) → List ℕ → Type 0
 StayIn live live' keys = (j k : ℕ) (v : LiveVersion) → slice_get keys j ≡ Some k → slot live k ≡ Some v
     → slot live' k ≡ Some v
 
@@ -162,7 +162,7 @@ StayBut live live' keys i = (j k : ℕ) (v : LiveVersion) → slice_get keys j �
     → slot live' k ≡ Some v
 
 module _ (live live' : List (Option LiveVersion)) where
-  kept_keyed : (es : List FileEntry) (keys : List ℕ) → AreCurrent live es keys → StayIn live live' keys
+  pub kept_keyed : (es : List FileEntry) (keys : List ℕ) → AreCurrent live es keys → StayIn live live' keys
       → AreCurrent live' es keys
   kept_keyed [] [] zip stay = tt
   kept_keyed [] (k ∷ keys) zip stay = absurd zip
@@ -173,7 +173,7 @@ module _ (live live' : List (Option LiveVersion)) where
         kept_keyed es keys zip.1 (λ j q v at was. stay (suc j) q v at was),
       )
 
-  kept_known : (es : List FileEntry) (keys : List ℕ) → AreCurrent live es keys → StayIn live live' keys
+  pub kept_known : (es : List FileEntry) (keys : List ℕ) → AreCurrent live es keys → StayIn live live' keys
       → filter_map (known_at live') keys ≡ filter_map (known_at live) keys
   kept_known [] [] zip stay = refl
   kept_known [] (k ∷ keys) zip stay = absurd zip

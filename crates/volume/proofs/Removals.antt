@@ -23,7 +23,7 @@ use Rattle.meaning.proofs.MapSums.{times-append}
 use Rattle.alloctab.specs.Changes.{IsChangedBlock, SpellsTable}
 use Rattle.alloctab.specs.TableLaws.{sound-booked, sound-unchanged}
 use Rattle.alloctab.specs.TableState.{TableState, IsTable, bit, holds, changed_blocks}
-use Rattle.directory.specs.Chains.{IsChain, viewed}
+use Rattle.directory.specs.Chains.{ChainState, IsChain, viewed}
 use Rattle.directory.specs.Edits.{StandsAt, PutsChain, removed, last_first}
 use Rattle.changeset.specs.PutLaws.{some_or_none}
 use Rattle.volume.specs.declared.live.LiveDirectory.{LiveDirectory}
@@ -98,11 +98,20 @@ index_of [] i x is = absurd (some_none (sym is))
 index_of (y ∷ xs) zero x is = sym (some_same is)
 index_of (y ∷ xs) (suc i) x is = index_of xs i x is
 
-set_there : {X : Type 0} (xs : List X) (i : ℕ) (x y : X) → slice_get xs i ≡ Some x → slice_get (slice_set xs i y) i
+pub set_there : {X : Type 0} (xs : List X) (i : ℕ) (x y : X) → slice_get xs i ≡ Some x → slice_get (slice_set xs i y) i
     ≡ Some y
 set_there [] i x y is = absurd (some_none (sym is))
 set_there (z ∷ xs) zero x y is = refl
 set_there (z ∷ xs) (suc i) x y is = set_there xs i x y is
+
+-- What is put of its chain is what is put first of all.
+
+pub put_first : (d d' : ChainState FileEntry) (old new : List Put) → old ≡ [] → PutsChain file_words d d' old new
+    → PutsChain file_words d d' [] new
+put_first d d' old new none put = subst (λ (before : List Put). PutsChain file_words d d' before new) none put
+
+pub few_first : (old new : List Put) → old ≡ [] → length new ≤ length old + 2 → length new ≤ 2
+few_first old new none few = let empty = ap (λ (puts : List Put). length puts) none in omega arith
 
 -- what one directory costs less with an entry less
 pub cost_of_last : (n m e less : ℕ) → e + 1 ≡ n → less ≡ growth (e + m)

@@ -102,7 +102,7 @@ module _ (size : ℕ) (c : VolumeCore) (whole : IsWholeCore size c) (key : ℕ) 
 abbrev pub Nowhere : ℕ → Type 0
 Nowhere n = ⊥
 
-ignores_nothing : (Q : Contents → Type 0) → Ignores Nowhere Q
+pub ignores_nothing : (Q : Contents → Type 0) → Ignores Nowhere Q
 ignores_nothing Q c d same is = subst Q (sym (same_contents c d (λ n. same n (λ none. none)))) is
 
 -- The prime block is read.
@@ -128,10 +128,10 @@ module _ (s mid : DiskState) (c : VolumeCore) (sound : IsSound s c false) (same 
       some_none (sym version.retrieved.prime_is ∙ ap s.contents prime ∙ none)
 
   module _ (keeps : Keeps s mid) where
-    quiet : Modifies Nowhere s mid
+    pub quiet : Modifies Nowhere s mid
     quiet = still_modifies Nowhere s mid (keeps_still s mid keeps)
 
-    mid_rest : AtRest mid (IsHeld s.size c.known at_rest.map)
+    pub mid_rest : AtRest mid (IsHeld s.size c.known at_rest.map)
     mid_rest = quiet_rest Nowhere s mid (IsHeld s.size c.known at_rest.map)
         (ignores_nothing (IsHeld s.size c.known at_rest.map)) (λ none. none) same.size at_rest.rest quiet
 
@@ -147,6 +147,40 @@ module _ (s mid : DiskState) (c : VolumeCore) (sound : IsSound s c false) (same 
         (quiet_leaves Nowhere s mid (IsHeld s.size c.known at_rest.map)
         (ignores_nothing (IsHeld s.size c.known at_rest.map)) (λ none. none) at_rest.rest only_now quiet))
         (λ d held. inl (held.0, held.1, (at_rest.map, held.2.stands, is)))
+
+-- A version is the same but for what its prime block says, and the others stay.
+
+module _ (c c' : VolumeCore) (key : ℕ) (v : LiveVersion) (prime : Prime) (there : slot c.live key ≡ Some v)
+    (here : slot c'.live key ≡ Some (record v { prime = prime }))
+    (others : (k : ℕ) → (k ≡ key → ⊥) → slot c'.live k ≡ slot c.live k) where
+  pub version_held : (k : ℕ) (u : LiveVersion) → slot c.live k ≡ Some u
+      → (p : Prime) × (slot c'.live k ≡ Some (record u { prime = p }))
+  version_held k u at = ⊎_elim
+      (λ (is_key : k ≡ key).
+      let of : v ≡ u = some_same (sym there ∙ sym (ap (slot c.live) is_key) ∙ at) in (
+        prime,
+        ap (slot c'.live) is_key ∙ here ∙ ap (λ (x : LiveVersion). Some (record x { prime = prime })) of,
+      ))
+      (λ other. (u.prime, others k other ∙ at)) (cases_eq k key)
+
+  pub versions_have : (s : DiskState) (d : Contents) → IsSound s c false → s.honest → c'.pending ≡ c.pending
+      → KeepsRead s.contents d c → KeepsEachWritten s.contents d c → HaveBodies d c'
+  versions_have s d sound h pending readers writers = record {
+    read = λ k u at some. ⊎_elim
+        (λ (is_key : k ≡ key).
+        let of : record v { prime = prime } ≡ u = some_same (sym here ∙ sym (ap (slot c'.live) is_key) ∙ at) in
+        let reads = ap (λ (x : LiveVersion). x.readers) of in
+        subst (λ (x : LiveVersion). HasSomeBody d x.version) of
+        (body_stays s.contents d v.version (sound.read h refl key v there (omega arith))
+        (readers key v there (omega arith))))
+        (λ other.
+        let was : slot c.live k ≡ Some u = sym (others k other) ∙ at in
+        body_stays s.contents d u.version (sound.read h refl k u was some) (readers k u was some))
+        (cases_eq k key);
+    written = λ k q at.
+        let was : pending_at c.pending k ≡ Some q = ap (λ l. pending_at l k) (sym pending) ∙ at in
+        body_stays s.contents d q.version (sound.written h refl k q was) (writers k q was);
+  }
 
 -- The puts are committed.
 
@@ -187,23 +221,8 @@ module _ (s mid : DiskState) (c c' : VolumeCore) (ppn : ℕ) (name to : FileName
           (not_written s.size c sound.whole key v moves.there moves.current k q at n there)
 
       committed_bodies : s.honest → HaveBodies s'.contents c'
-      committed_bodies h = record {
-        read = λ k u at some. ⊎_elim
-            (λ (is_key : k ≡ key).
-            let of : record v { prime = moves.prime } ≡ u = some_same (sym moves.here ∙ sym (ap (slot c'.live) is_key)
-            ∙ at) in
-            let readers = ap (λ (x : LiveVersion). x.readers) of in
-            subst (λ (x : LiveVersion). HasSomeBody s'.contents x.version) of
-            (body_stays s.contents s'.contents v.version (sound.read h refl key v moves.there (omega arith))
-            (committed_readers key v moves.there (omega arith))))
-            (λ other.
-            let was : slot c.live k ≡ Some u = sym (moves.others k other) ∙ at in
-            body_stays s.contents s'.contents u.version (sound.read h refl k u was some) (committed_readers k u was some))
-            (cases_eq k key);
-        written = λ k q at.
-            let was : pending_at c.pending k ≡ Some q = ap (λ l. pending_at l k) (sym moves.pending) ∙ at in
-            body_stays s.contents s'.contents q.version (sound.written h refl k q was) (committed_writers k q was);
-      }
+      committed_bodies h = versions_have c c' key v moves.prime moves.there moves.here moves.others s s'.contents sound
+          h moves.pending committed_readers committed_writers
 
   module _ (h : s.honest) (keeps : Keeps s mid) (read : s.contents v.at ≡ Some words) where
     abbrev rest : IsAtRest s c.known
@@ -301,11 +320,4 @@ module _ (s mid : DiskState) (c c' : VolumeCore) (ppn : ℕ) (name to : FileName
   -- each version is there still
   pub moved_held : (k : ℕ) (u : LiveVersion) → slot c.live k ≡ Some u
       → (prime : Prime) × (slot c'.live k ≡ Some (record u { prime = prime }))
-  moved_held k u at = ⊎_elim
-      (λ (is_key : k ≡ key).
-      let of : v ≡ u = some_same (sym moves.there ∙ sym (ap (slot c.live) is_key) ∙ at) in (
-        moves.prime,
-        ap (slot c'.live) is_key ∙ moves.here
-            ∙ ap (λ (x : LiveVersion). Some (record x { prime = moves.prime })) of,
-      ))
-      (λ other. (u.prime, moves.others k other ∙ at)) (cases_eq k key)
+  moved_held = version_held c c' key v moves.prime moves.there moves.here moves.others

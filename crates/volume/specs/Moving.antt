@@ -1,28 +1,38 @@
 -- A file gets another place, or the same one, and another protection: what this does to core and to the disk. Its words
 -- and its blocks stay; what its prime block says of the place and of the protection is written anew.
-use Rattle.std.specs.Prelude.{◌≡◌, ◌⊎◌, ℕ, ◌≤◌, true, List, [], length, slice_get, slice_set, Option, None, Some}
-use Rattle.std.specs.List.{AllZip}
+use Rattle.std.specs.Prelude.{◌≡◌, ◌⊎◌, ℕ, suc, ◌+◌, ◌-◌, ◌^◌, ◌<◌, ◌≤◌, true, false, List, [], ◌∷◌, ◌++◌, length}
+use Rattle.std.specs.Prelude.{replicate, map, take, drop, slice_get, slice_set, Option, None, Some, IsSome}
+use Rattle.std.specs.List.{AllByRecursion, AllZip}
 use Rattle.std.specs.Ordering.{nat_cmp}
 use Rattle.std.specs.FinMap.Entries.{find}
 use Rattle.words36.specs.declared.names.FileName.{FileName}
 use Rattle.changeset.specs.Puts.{replaced}
 use Rattle.meaning.specs.declared.code.ErrorCode.TheVariants.{NameExists}
 use Rattle.meaning.specs.declared.put.Put.{Put}
+use Rattle.meaning.specs.Costs.{directory_cost}
 use Rattle.meaning.specs.Directories.{FileEntry, file_words, IsFileEntry}
 use Rattle.meaning.specs.Files.{File, Files, Directory, name_cmp}
-use Rattle.meaning.specs.Maps.{get, insert, remove, from_entries, total}
-use Rattle.directory.specs.Chains.{IsChain}
-use Rattle.directory.specs.Edits.{StandsAt, PutsChain}
+use Rattle.meaning.specs.Faults.{InSpace}
+use Rattle.meaning.specs.Maps.{get, insert, remove, from_entries, total, times}
+use Rattle.meaning.specs.Regions.{table_blocks}
+use Rattle.meaning.specs.Room.{growth}
+use Rattle.alloctab.specs.TableState.{IsTable, IsFree, bit, holds, space}
+use Rattle.directory.specs.Chains.{IsChain, viewed}
+use Rattle.directory.specs.Edits.{StandsAt, PutsChain, inserted, removed, last_first}
 use Rattle.retrieval.specs.Primes.{IsRewritten}
 use Rattle.retrieval.specs.declared.prime.Prime.{Prime}
-use Rattle.volume.specs.Beginning.{IsDirectoryOf}
+use Rattle.volume.specs.Beginning.{entries_with, IsDirectoryOf}
+use Rattle.volume.specs.Cores.{file_view, master_view}
 use Rattle.volume.specs.Known.{IsNamed, KnownVersion, KnownDirectory, Known, reaches_in_entries, cost_of_version}
-use Rattle.volume.specs.Live.{VolumeCore, as_known, slot, IsKeyed}
+use Rattle.volume.specs.Live.{VolumeCore, as_known, slot, creates, IsKeyed}
+use Rattle.volume.specs.Making.{PutsTable}
 use Rattle.volume.specs.Pins.{IsKeyOf, IsNoFile}
-use Rattle.volume.specs.Publishing.{files_published}
-use Rattle.volume.specs.Removing.{files_removed}
+use Rattle.volume.specs.Publishing.{Marks, IsEntryPut, files_published}
+use Rattle.volume.specs.Removing.{IsEntryRemoved, files_removed}
 use Rattle.volume.specs.declared.error.CallError.{CallError}
 use Rattle.volume.specs.declared.error.CallError.TheVariants.{Refused}
+use Rattle.volume.specs.declared.live.LiveDirectory.{LiveDirectory}
+use Rattle.volume.specs.declared.live.LiveMap.{LiveMap}
 use Rattle.volume.specs.declared.live.LiveVersion.{LiveVersion}
 
 -- Files.
@@ -82,6 +92,16 @@ pub record IsEntryRenamed (d d' : KnownDirectory) (name to : FileName) (old : �
 
 -- Refusals.
 
+-- the place has a file
+abbrev pub HasFile : VolumeCore → ℕ → FileName → Type 0
+HasFile c ppn name = (d : KnownDirectory) × IsDirectoryOf c ppn d × (find name_cmp name d.chain.entries ≡ None → ⊥)
+
+-- The name is new in a directory that grows for it, and there is no room for what that costs.
+abbrev pub HasNoRoom : ℕ → VolumeCore → ℕ → FileName → Type 0
+HasNoRoom size c ppn name = (d : KnownDirectory) × IsDirectoryOf c ppn d
+    × (find name_cmp name d.chain.entries ≡ None) × (0 < growth (entries_with c d ppn))
+    × (space size < c.known.table.booked + growth (entries_with c d ppn))
+
 -- The new name is another one, and is there already, beside the file.
 pub record IsNameTaken (c : VolumeCore) (ppn : ℕ) (name to : FileName) : Type 0 where
   pub other : to ≡ name → ⊥
@@ -136,3 +156,162 @@ pub record MovesWithin (size : ℕ) (c c' : VolumeCore) (ppn : ℕ) (name to : F
   pub here : slot c'.live key ≡ Some (record v { prime = prime })
   pub others : (k : ℕ) → (k ≡ key → ⊥) → slot c'.live k ≡ slot c.live k
   pub keyed : AllZip (IsKeyed c'.live) c'.known.directories c'.keys
+
+-- Another directory.
+
+-- The file with prime block and version `old` has left its directory for another one, where its name is new and where
+-- it has the version `v`, in the same blocks; and these puts will make it so on the disk, where the words of the prime
+-- block are `words` before.
+pub record IsMovedAcross (size : ℕ) (k k' : Known) (ppn : ℕ) (name : FileName) (to_ppn : ℕ) (to : FileName)
+    (old : ℕ × KnownVersion) (v : KnownVersion) (words : List ℕ) (puts : List Put) : Type 0 where
+  -- the directory that it leaves
+  pub place : ℕ
+  pub word : ℕ × ℕ
+  pub there : StandsAt nat_cmp k.master.entries ppn word place
+  pub directory : KnownDirectory
+  pub directory' : KnownDirectory
+  pub directory_at : slice_get k.directories place ≡ Some directory
+  pub removed : IsEntryRemoved directory directory' name old
+  -- the block that its chain gives back, where its last one is left empty
+  pub left : List ℕ
+  pub blocks : directory.chain.blocks ≡ directory'.chain.blocks ++ left
+  -- the one that it comes to
+  pub to_place : ℕ
+  pub to_word : ℕ × ℕ
+  pub to_there : StandsAt nat_cmp k.master.entries to_ppn to_word to_place
+  pub target : KnownDirectory
+  pub target' : KnownDirectory
+  pub target_at : slice_get k.directories to_place ≡ Some target
+  pub entered : IsEntryPut target target' to old.0 v None
+  pub lies : v.version ≡ old.1.version
+  -- the block that its chain takes, where its last one is full
+  pub grown : List ℕ
+  pub to_blocks : target'.chain.blocks ≡ target.chain.blocks ++ grown
+  pub inside : AllByRecursion (InSpace size) grown
+  pub fresh : (n : ℕ) → bit k.table n + times n grown ≤ 1
+  -- the others stay
+  pub apart : to_ppn ≡ ppn → ⊥
+  pub master : k'.master ≡ k.master
+  pub directories : k'.directories ≡ slice_set (slice_set k.directories to_place target') place directory'
+  pub size_is : k'.table.size ≡ k.table.size
+  pub bits : (n : ℕ) → bit k'.table n + times n left ≡ bit k.table n + times n grown
+  -- what is put: the chains, that of the target first, then the prime block, then the table
+  pub target_puts : List Put
+  pub put_target : PutsChain file_words target.chain target'.chain [] target_puts
+  pub few_target : length target_puts ≤ 2
+  pub chain_puts : List Put
+  pub put_chain : PutsChain file_words directory.chain directory'.chain target_puts chain_puts
+  pub few : length chain_puts ≤ 4
+  pub anew : List ℕ
+  pub rewritten : IsRewritten words anew v.prime
+  pub put_table : PutsTable size k.table k'.table (replaced (record { block = old.0; words = anew }) chain_puts) puts
+
+-- The version under `key`, that of the file, stays where it is, and its prime block says the new place and the new
+-- protection.
+pub record MovesAcross (size : ℕ) (c c' : VolumeCore) (ppn : ℕ) (name : FileName) (to_ppn : ℕ) (to : FileName)
+    (protection key : ℕ) (v : LiveVersion) (words : List ℕ) (puts : List Put) : Type 0 where
+  pub prime : Prime
+  pub prime_is : IsPrimeMoved v.prime prime to_ppn to protection
+  pub moved : IsMovedAcross size c.known c'.known ppn name to_ppn to (v.at, as_known v)
+      (record { prime = prime; version = v.version }) words puts
+  pub pending : c'.pending ≡ c.pending
+  pub there : slot c.live key ≡ Some v
+  pub current : v.is_current ≡ true
+  pub here : slot c'.live key ≡ Some (record v { prime = prime })
+  pub others : (k : ℕ) → (k ≡ key → ⊥) → slot c'.live k ≡ slot c.live k
+  pub keyed : AllZip (IsKeyed c'.live) c'.known.directories c'.keys
+  -- nobody held the block that a chain takes
+  pub unheld : (n : ℕ) → 0 < times n moved.grown → holds c.known.table n ≡ 0
+  -- what is held stays; the one directory costs less perhaps, and the other one more, for which there is room
+  pub held : (n : ℕ) → holds c'.known.table n ≡ holds c.known.table n
+  pub booked : c'.known.table.booked + (directory_cost (entries_with c moved.directory ppn)
+      - directory_cost (entries_with c moved.directory ppn - 1))
+      ≡ c.known.table.booked + growth (entries_with c moved.target to_ppn)
+  pub room : 0 < growth (entries_with c moved.target to_ppn)
+      → c.known.table.booked + growth (entries_with c moved.target to_ppn) ≤ space size
+  pub unchanged : c'.known.table.changed ≡ replicate (table_blocks size) false
+  -- no block is held past the end of the disk
+  pub sound : IsTable c'.known.table
+
+-- The two steps of it, as they change what is kept in core. Between them two entries have one key, so that core isn't
+-- whole there.
+
+-- how many entries the directory has, with those that are being created in it
+abbrev pub entries_there : LiveMap → LiveDirectory → ℕ → ℕ
+entries_there m d ppn = length (map file_view d.chain.entries) + total (creates ppn) m.pending.slots
+
+-- A directory has an entry of this name more, for the version under the key.
+pub record Arrives (m m' : LiveMap) (ppn : ℕ) (name : FileName) (key : ℕ) (puts : List Put) : Type 0 where
+  pub place : ℕ
+  pub word : ℕ × ℕ
+  pub there : StandsAt nat_cmp (map master_view m.master.entries) ppn word place
+  pub directory : LiveDirectory
+  pub directory' : LiveDirectory
+  pub directory_at : slice_get m.directories.items place ≡ Some directory
+  pub master : m'.master ≡ m.master
+  pub versions : m'.versions ≡ m.versions
+  pub pending : m'.pending ≡ m.pending
+  pub directories : m'.directories.items ≡ slice_set m.directories.items place directory'
+  -- the entry with its prime block, and its key
+  pub at : ℕ
+  pub at_is : (v : LiveVersion) → slot m.versions.slots key ≡ Some v → at ≡ v.at
+  pub items : map file_view directory'.chain.entries
+      ≡ inserted name_cmp (map file_view directory.chain.entries) (name, at)
+  pub names : from_entries {R = name_cmp} (map file_view directory'.chain.entries)
+      ≡ insert (from_entries (map file_view directory.chain.entries)) name at
+  pub keys : directory'.keys.items ≡ directory.keys.items ++ key ∷ []
+  pub chain : IsChain name_cmp IsFileEntry (viewed file_view directory'.chain)
+  -- the block that its chain takes, which was free
+  pub grown : List ℕ
+  pub blocks : directory'.chain.blocks ≡ directory.chain.blocks ++ grown
+  pub fresh : (n : ℕ) → bit m.table n + times n grown ≤ 1
+  pub free : (n : ℕ) → 0 < times n grown → IsFree m.table n × InSpace m.table.size n
+  pub put_chain : PutsChain file_words (viewed file_view directory.chain) (viewed file_view directory'.chain) [] puts
+  pub few : length puts ≤ 2
+  pub marks : Marks m.table m'.table
+  pub bits : (n : ℕ) → bit m'.table n ≡ bit m.table n + times n grown
+  pub held : (n : ℕ) → holds m'.table n ≡ holds m.table n
+  pub booked : m'.table.booked ≡ m.table.booked + growth (entries_there m directory ppn)
+
+-- What is so of a directory that is to give up its entry of this name.
+pub record MayLeave (m : LiveMap) (d : LiveDirectory) (ppn : ℕ) (name : FileName) : Type 0 where
+  pub named : IsSome (find name_cmp name (map file_view d.chain.entries))
+  pub aligned : length d.keys.items ≡ length d.chain.entries
+  pub few : entries_there m d ppn < 2 ^ 64
+  -- the blocks of its chain are in use
+  pub set : (n : ℕ) → times n d.chain.blocks ≤ bit m.table n
+
+-- A directory has no entry of this name any more; the last one has moved into its place, as has its key.
+pub record Leaves (m m' : LiveMap) (ppn : ℕ) (name : FileName) (before after : List Put) : Type 0 where
+  pub place : ℕ
+  pub word : ℕ × ℕ
+  pub there : StandsAt nat_cmp (map master_view m.master.entries) ppn word place
+  pub directory : LiveDirectory
+  pub directory' : LiveDirectory
+  pub directory_at : slice_get m.directories.items place ≡ Some directory
+  pub master : m'.master ≡ m.master
+  pub versions : m'.versions ≡ m.versions
+  pub pending : m'.pending ≡ m.pending
+  pub directories : m'.directories.items ≡ slice_set m.directories.items place directory'
+  -- the entry that goes, and its key
+  pub index : ℕ
+  pub at : ℕ
+  pub stood : StandsAt name_cmp (map file_view directory.chain.entries) name at index
+  pub key : ℕ
+  pub key_at : slice_get directory.keys.items index ≡ Some key
+  pub items : map file_view directory'.chain.entries ≡ removed name_cmp (map file_view directory.chain.entries) name
+  pub names : from_entries {R = name_cmp} (map file_view directory'.chain.entries)
+      ≡ remove (from_entries (map file_view directory.chain.entries)) name
+  pub keys : directory'.keys.items
+      ≡ take index directory.keys.items ++ last_first (drop (suc index) directory.keys.items)
+  pub chain : IsChain name_cmp IsFileEntry (viewed file_view directory'.chain)
+  -- the block that its chain gives back
+  pub left : List ℕ
+  pub blocks : directory.chain.blocks ≡ directory'.chain.blocks ++ left
+  pub put_chain : PutsChain file_words (viewed file_view directory.chain) (viewed file_view directory'.chain) before
+      after
+  pub few : length after ≤ length before + 2
+  pub marks : Marks m.table m'.table
+  pub bits : (n : ℕ) → bit m'.table n + times n left ≡ bit m.table n
+  pub held : (n : ℕ) → holds m'.table n ≡ holds m.table n
+  pub booked : m'.table.booked + growth (entries_there m directory' ppn) ≡ m.table.booked

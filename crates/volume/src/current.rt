@@ -46,9 +46,9 @@ pub(crate) struct Places {
 }
 
 /// Takes a block for a chain, where it grows.
-fn take_for_chain(table: &mut Table, grows: bool) -> Option<u32>
-    requires used { used_in_space table.old + (if grows then 1 else 0) ≤ table.old.booked }
-    requires room { table.old.booked ≤ space table.old.size }
+pub(crate) fn take_for_chain(table: &mut Table, grows: bool) -> Option<u32>
+    requires used { IsTrue grows → used_in_space table.old < table.old.booked }
+    requires room { IsTrue grows → table.old.booked ≤ space table.old.size }
     ensures taken { Takes table.old (option_to_list result) table.new }
     ensures count { length (option_to_list result) ≡ (if grows then 1 else 0) }
 {
@@ -113,7 +113,7 @@ fn use_current(table: &mut Table, versions: &Slab<LiveVersion>, key: usize, grow
 
 /// Gives a name its entry in a directory in core, with the key of its version. Answers the key of the version that
 /// it had. `reserve` and `keys` are lists with a place for it, where its name is new.
-fn put_entry(
+pub(crate) fn put_entry(
     directory: &mut LiveDirectory,
     reserve: Reserve<FileEntry>,
     keys: Vec<usize>,
@@ -188,7 +188,7 @@ pub(crate) fn file_entry(name: FileName, prime: u32) -> FileEntry
 }
 
 /// Whether the chain at a place takes a block for an entry with this name.
-fn takes_block(core: &LiveMap, place: usize, name: &FileName) -> bool
+pub(crate) fn takes_block(core: &LiveMap, place: usize, name: &FileName) -> bool
     requires { place < length core.now.directories.items }
     ensures { (d : LiveDirectory) → slice_get core.now.directories.items place ≡ Some d
         → (IsTrue result ↔ TakesBlock name_cmp (viewed file_view d.chain) name.now) }

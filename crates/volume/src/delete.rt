@@ -1,4 +1,4 @@
-ghost use Rattle.std.specs.Prelude.{◌≡◌, ◌↔◌, ◌⊎◌, ◌<◌, ◌≤◌, ◌++◌, [], ℕ, List, Bool, true, false, length, map};
+ghost use Rattle.std.specs.Prelude.{◌≡◌, ◌↔◌, ◌⊎◌, ◌+◌, ◌<◌, ◌≤◌, ◌++◌, [], ℕ, List, Bool, true, false, length, map};
 ghost use Rattle.std.specs.Prelude.{slice_get, option_to_list, take, drop, suc, Some, None, IsSome, OnOk, OnErr};
 ghost use Rattle.std.specs.Prelude.{IsErrOf};
 ghost use Rattle.std.specs.Ordering.{nat_cmp};
@@ -41,19 +41,19 @@ use words36::{FileName, Ppn};
 
 /// What a directory gives up with an entry.
 #[derive(Clone, Copy)]
-struct GivenUp {
+pub(crate) struct GivenUp {
     /// The key of the entry's version.
-    key: usize,
+    pub key: usize,
     /// The last block of the chain, where it is left empty.
-    block: Option<u32>,
+    pub block: Option<u32>,
 }
 
 /// Takes the entry of a name out of a directory in core, with the key of its version: the last one moves into its
 /// place.
-fn remove_entry(directory: &mut LiveDirectory, name: &FileName, set: &mut ChangeSet) -> GivenUp
+pub(crate) fn remove_entry(directory: &mut LiveDirectory, name: &FileName, set: &mut ChangeSet) -> GivenUp
     requires there { IsSome (find name_cmp name.now (map file_view directory.old.chain.entries)) }
     requires aligned { length directory.old.keys.items ≡ length directory.old.chain.entries }
-    requires empty { set.old ≡ [] }
+    requires room { length set.old ≤ 2 }
     // The list of keys, and the map without the entry.
     ensures items { map file_view directory.new.chain.entries
         ≡ removed name_cmp (map file_view directory.old.chain.entries) name.now }
@@ -67,8 +67,8 @@ fn remove_entry(directory: &mut LiveDirectory, name: &FileName, set: &mut Change
     // What is put of the chain.
     ensures chain { IsChain name_cmp IsFileEntry (viewed file_view directory.new.chain) }
     ensures put { PutsChain file_words (viewed file_view directory.old.chain)
-        (viewed file_view directory.new.chain) [] set.new }
-    ensures few { length set.new ≤ 2 }
+        (viewed file_view directory.new.chain) set.old set.new }
+    ensures few { length set.new ≤ length set.old + 2 }
 {
     let Some(i) = directory.chain.find(name) else {
         unreachable!() // the name is there

@@ -79,6 +79,8 @@ mod put;
 mod query;
 mod read;
 mod rename;
+mod rename_across;
+mod rename_within;
 mod start;
 mod supplies;
 mod transaction;

@@ -1,11 +1,14 @@
-ghost use Rattle.std.specs.Prelude.{◌≡◌, ◌++◌, ◌∷◌, [], length, IfOk, IsSome};
+ghost use Rattle.std.specs.Prelude.{◌≡◌, ◌<◌, ◌++◌, ◌∷◌, [], length, slice_get, Some, IfOk, IsSome};
+ghost use Rattle.meaning.specs.Files.{name_cmp};
 ghost use Rattle.retrieval.specs.Writing.{rib_count};
 ghost use Rattle.slab.specs.Slab.{HasRoomFor};
 ghost use Rattle.directory.specs.Chains.{viewed};
+ghost use Rattle.directory.specs.Edits.{IsReserve};
 ghost use Rattle.volume.specs.Cores.{file_view};
 ghost use Rattle.volume.specs.Live.{pending_at, IsWholeCore};
 ghost use Rattle.volume.specs.LiveCores.{core_of};
 ghost use Rattle.volume.specs.Publishing.{IsPlaced, IsSupplied};
+ghost use Rattle.volume.specs.declared.live.LiveDirectory.{LiveDirectory};
 ghost use Rattle.volume.specs.declared.pending.PendingVersion.{PendingVersion};
 
 use crate::live::LiveMap;
@@ -14,6 +17,7 @@ use blockdisk::NoMemory;
 use directory::{FileEntry, Reserve};
 use retrieval::rib_count;
 use std::alloc::Global;
+use words36::FileName;
 
 /// The memory that a publication takes, found before anything is written.
 #[derive(Drop)]
@@ -36,6 +40,44 @@ fn longer(alloc: Global, keys: &[usize]) -> Result<Vec<usize>, NoMemory>
         Ok(()) => Ok(longer),
         Err(_) => Err(NoMemory),
     }
+}
+
+/// The memory that a new entry of a directory takes.
+#[derive(Drop)]
+pub(crate) struct EntrySupplies {
+    /// Memory for the entry in its chain.
+    pub reserve: Reserve<FileEntry>,
+    /// The keys of the directory's versions with a place behind.
+    pub keys: Vec<usize>,
+}
+
+/// Finds the memory that an entry of this name takes in the directory at a place.
+///
+/// # Errors
+///
+/// `NoMemory` where there is none.
+pub(crate) fn find_entry_supplies(
+    map: &LiveMap,
+    alloc: Global,
+    place: usize,
+    name: FileName,
+) -> Result<EntrySupplies, NoMemory>
+    requires inside { place < length map.now.directories.items }
+    requires named { 0 < name.name }
+    ensures fits { IfOk result (λ supplies. (d : LiveDirectory) → slice_get map.now.directories.items place ≡ Some d
+        → IsReserve name_cmp (viewed file_view d.chain) name (viewed file_view supplies.reserve)) }
+    ensures longer { IfOk result (λ supplies. (d : LiveDirectory) → slice_get map.now.directories.items place ≡ Some d
+        → supplies.keys.items ≡ d.keys.items ++ 0 ∷ []) }
+{
+    let Some(entry) = FileEntry::new(name, 0) else {
+        unreachable!() // its name isn't zero
+    };
+    let directory = &map.directories[place];
+    let Ok(reserve) = directory.chain.reserve_for(alloc, &entry) else {
+        return Err(NoMemory);
+    };
+    let keys = longer(alloc, &directory.keys)?;
+    Ok(EntrySupplies { reserve, keys })
 }
 
 /// Finds the memory that the publication of the version under a key takes, once it has so many data blocks.
@@ -65,14 +107,8 @@ pub(crate) fn find_supplies(
     let Ok(place) = directory_place(&map.master, version.prime.ppn) else {
         unreachable!() // its directory is there
     };
-    let Some(entry) = FileEntry::new(version.prime.file, 0) else {
-        unreachable!() // its name isn't zero
-    };
-    let directory = &map.directories[place];
-    let Ok(reserve) = directory.chain.reserve_for(alloc, &entry) else {
-        return Err(NoMemory);
-    };
-    let keys = longer(alloc, &directory.keys)?;
+    let file = version.prime.file;
+    let EntrySupplies { reserve, keys } = find_entry_supplies(map, alloc, place, file)?;
     let ribs = vec![in alloc; 0; rib_count(blocks)]?;
     map.versions.reserve(1)?;
     Ok(Supplies {

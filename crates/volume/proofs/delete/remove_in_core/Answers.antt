@@ -1,11 +1,13 @@
 use Rattle.std.proofs.Common.{option_to_list, refl}
 use Rattle.std.specs.Vec.{with_item}
+use Rattle.directory.specs.Chains.{viewed}
+use Rattle.volume.specs.Cores.{file_view}
 use Rattle.volume.specs.LiveCores.{core_of}
 use Rattle.volume.specs.declared.live.LiveMap.{LiveMap}
 use Rattle.volume.proofs.MakingCurrent.{index_is, place_within}
 use Rattle.volume.proofs.Removals.{holds_few, removes_aligned, removes_there, retires_there, retires_set}
 use Rattle.volume.proofs.Removals.{retires_booked, grows_few, left_sound, left_set, less_booked, changes_many}
-use Rattle.volume.proofs.Removals.{removes_file, had, grown_at}
+use Rattle.volume.proofs.Removals.{removes_file, had, grown_at, put_first, few_first}
 use Rattle.volume.proofs.delete.remove_in_core.Goals as goal
 
 pub remove_entry-key-requires-clause-there : goal.remove_entry-key-requires-clause-there
@@ -178,12 +180,16 @@ changes-requires c =
     let at = index_is m.directories.items place d _ (place_within m c.requires.whole ppn place stands.0 stands.1)
     c.index_mut.ensures.value in
     let out = c.remove_entry-key.ensures in
+    let set = c.remove_entry-key.new.set in
+    let put = put_first (viewed file_view d.chain) (viewed file_view d'.chain) c.args.set.now set c.requires.empty
+    out.put in
+    let few = few_first c.args.set.now set c.requires.empty out.few in
     changes_many m c.requires.whole ppn name place stands.0 stands.1 d at out.keys.0 out.keys.1 key out.keys.2
     out.keys.3
     d' block out.blocks out.items out.map out.chain
     c.growth_at-less.result (grown_at m place d d' at ppn c.growth_at-less.result c.growth_at-less.ensures.value)
     c.retire.new.table c.retire.ensures.retired c.clear_left.new.table c.clear_left.ensures
-    c.unbook.new.self c.unbook.ensures c.remove_entry-key.new.set out.put out.few
+    c.unbook.new.self c.unbook.ensures set put few
 
 pub returns-clause-removed : goal.returns-clause-removed
 returns-clause-removed c =
@@ -199,6 +205,10 @@ returns-clause-removed c =
     let at = index_is m.directories.items place d _ (place_within m c.requires.whole ppn place stands.0 stands.1)
     c.index_mut.ensures.value in
     let out = c.remove_entry-key.ensures in
+    let set = c.remove_entry-key.new.set in
+    let put = put_first (viewed file_view d.chain) (viewed file_view d'.chain) c.args.set.now set c.requires.empty
+    out.put in
+    let few = few_first c.args.set.now set c.requires.empty out.few in
     let m' : LiveMap = record {
       master = m.master;
       directories = with_item m.directories place d';
@@ -213,7 +223,7 @@ returns-clause-removed c =
           d' block out.blocks out.items out.map out.chain
           c.growth_at-less.result (grown_at m place d d' at ppn c.growth_at-less.result c.growth_at-less.ensures.value)
           c.retire.new.table c.retire.ensures.retired c.clear_left.new.table c.clear_left.ensures
-          c.unbook.new.self c.unbook.ensures c.remove_entry-key.new.set out.put out.few
+          c.unbook.new.self c.unbook.ensures set put few
           m' c.changes.new.set refl refl refl c.changes.ensures.done c.changes.ensures.others c.changes.ensures.spells
           c.changes.ensures.in_range c.changes.ensures.few c.retire.ensures.left c.retire.ensures.others out.keys.4,
     )

@@ -12,7 +12,7 @@ use Rattle.volume.proofs.RenamingLaw.{moved_in_range, moved_few}
 use Rattle.volume.proofs.RenamingTransactions.{first_below, first_inside, prime_stands, read_crash, read_shut}
 use Rattle.volume.proofs.RenamingTransactions.{committed_readers, committed_writers, committed_crash, committed_done}
 use Rattle.volume.proofs.RenamingTransactions.{committed_failed, committed_sound, moved_held}
-use Rattle.volume.proofs.rename.move_within.Goals as goal
+use Rattle.volume.proofs.rename_within.move_within.Goals as goal
 
 pub read_prime-requires : goal.read_prime-requires
 read_prime-requires g c =

@@ -1,7 +1,7 @@
 use Rattle.std.proofs.Common.{inr, sym, ◌∙◌}
 use Rattle.volume.proofs.MakingCurrent.{index_is, place_within}
 use Rattle.volume.proofs.Renamings.{name_free, name_taken, names_differ}
-use Rattle.volume.proofs.rename.has_other.Goals as goal
+use Rattle.volume.proofs.rename_within.has_other.Goals as goal
 
 pub returns-clause-no : goal.returns-clause-no
 returns-clause-no c none d there =

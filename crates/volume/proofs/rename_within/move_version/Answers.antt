@@ -4,7 +4,7 @@ use Rattle.meaning.proofs.MapLaws.{some_same}
 use Rattle.volume.specs.declared.live.LiveVersion.{LiveVersion}
 use Rattle.volume.specs.Moving.{IsPrimeMoved}
 use Rattle.volume.proofs.Renamings.{slot_moved}
-use Rattle.volume.proofs.rename.move_version.Goals as goal
+use Rattle.volume.proofs.rename_within.move_version.Goals as goal
 
 pub returns-clause-moved : goal.returns-clause-moved
 returns-clause-moved c v is =

@@ -3,7 +3,7 @@ use Rattle.std.specs.Vec.{with_item}
 use Rattle.volume.specs.declared.live.LiveMap.{LiveMap}
 use Rattle.volume.proofs.MakingCurrent.{index_is, place_within}
 use Rattle.volume.proofs.Renamings.{renames_there, renames_free, moves_within}
-use Rattle.volume.proofs.rename.move_in_core.Goals as goal
+use Rattle.volume.proofs.rename_within.move_in_core.Goals as goal
 
 pub rename_entry-requires-clause-there : goal.rename_entry-requires-clause-there
 rename_entry-requires-clause-there c =

@@ -1,0 +1,404 @@
+ghost use Rattle.std.specs.Prelude.{◌≡◌, ◌↔◌, ◌⊎◌, ◌+◌, ◌<◌, ◌≤◌, ◌∷◌, ◌++◌, [], ℕ, List, true, false, length, map};
+ghost use Rattle.std.specs.Prelude.{slice_get, option_to_list, Some, None, IsSome, IfOk, IfErr, OnOk, IsErrOf};
+ghost use Rattle.std.specs.Ordering.{nat_cmp};
+ghost use Rattle.std.specs.FinMap.Entries.{find};
+ghost use Rattle.blockdisk.specs.Disk.{LeavesOnly, SameDisk, one_more};
+ghost use Rattle.words36.specs.declared.names.FileName.{FileName};
+ghost use Rattle.meaning.specs.declared.code.ErrorCode.{ErrorCode};
+ghost use Rattle.meaning.specs.declared.code.ErrorCode.TheVariants.{NameExists, NoDirectory, NoRoom, NotFound};
+ghost use Rattle.meaning.specs.declared.put.Put.{Put};
+ghost use Rattle.meaning.specs.Files.{File, Files, name_cmp};
+ghost use Rattle.meaning.specs.Maps.{times};
+ghost use Rattle.meaning.specs.Room.{growth};
+ghost use Rattle.meaning.specs.Stands.{place_of};
+ghost use Rattle.alloctab.specs.TableState.{IsTable, bit, holds, space};
+ghost use Rattle.directory.specs.Chains.{viewed};
+ghost use Rattle.directory.specs.Edits.{StandsAt, IsReserve};
+ghost use Rattle.retrieval.specs.declared.prime.Prime.{Prime as PrimeValue};
+ghost use Rattle.volume.specs.Beginning.{entries_with, IsDirectoryOf};
+ghost use Rattle.volume.specs.Claims.{claims};
+ghost use Rattle.volume.specs.Cores.{file_view, master_view};
+ghost use Rattle.volume.specs.Known.{KnownDirectory};
+ghost use Rattle.volume.specs.Live.{slot, IsWholeCore};
+ghost use Rattle.volume.specs.LiveCores.{core_of};
+ghost use Rattle.volume.specs.Moving.{files_moved, HasFile, HasNoRoom, MovesAcross, Arrives, MayLeave, Leaves};
+ghost use Rattle.volume.specs.Pins.{IsKeyOf};
+ghost use Rattle.volume.specs.Places.{prime_at};
+ghost use Rattle.volume.specs.Publishing.{PutsInUse};
+ghost use Rattle.volume.specs.Rest.{IsSound, RestsAt, StandsForEither, KeepsRead, KeepsEachWritten};
+ghost use Rattle.volume.specs.declared.error.CallError.TheVariants.{Refused, Device, Failed, NoMemory};
+ghost use Rattle.volume.specs.declared.live.LiveDirectory.{LiveDirectory};
+ghost use Rattle.volume.specs.declared.live.LiveVersion.{LiveVersion};
+
+use crate::CallError;
+use crate::begin::growth_at;
+use crate::current::{file_entry, place_of, put_entry, take_for_chain, takes_block};
+use crate::delete::{GivenUp, clear_left, remove_entry};
+use crate::live::LiveMap;
+use crate::make::use_block;
+use crate::map::Volume;
+use crate::pins::find_version;
+use crate::query::directory_place;
+use crate::rename_within::{move_version, prime_of, read_prime};
+use crate::supplies::{EntrySupplies, find_entry_supplies};
+use crate::transaction::commit_puts;
+use alloctab::Table;
+use blockdisk::Disk;
+use changeset::ChangeSet;
+use meaning::ErrorCode;
+use std::alloc::Global;
+use words36::{Block, FileName, Ppn};
+
+/// The place of the directory that a file is to come to, where its name is new.
+///
+/// # Errors
+///
+/// `Refused` with `NoDirectory` where there is no such directory, with `NameExists` where it has the name already, and
+/// with `NoRoom` where it costs a block more with one entry more, for which there is no room.
+fn find_target(core: &LiveMap, ppn: Ppn, name: &FileName) -> Result<usize, CallError>
+    requires whole { IsWholeCore core.now.table.size (core_of core.now) }
+    ensures place { IfOk result (λ place. (v : ℕ × ℕ)
+        × StandsAt nat_cmp (map master_view core.now.master.entries) ppn v place) }
+    ensures free { OnOk result ((d : KnownDirectory) → IsDirectoryOf (core_of core.now) ppn d
+        → find name_cmp name.now d.chain.entries ≡ None) }
+    ensures room { OnOk result ((d : KnownDirectory) → IsDirectoryOf (core_of core.now) ppn d
+        → 0 < growth (entries_with (core_of core.now) d ppn)
+        → core.now.table.booked + growth (entries_with (core_of core.now) d ppn) ≤ space core.now.table.size) }
+    ensures no_directory { IsErrOf result (Refused NoDirectory)
+        ↔ (find nat_cmp ppn (core_of core.now).known.master.entries ≡ None) }
+    ensures exists { IsErrOf result (Refused NameExists) ↔ HasFile (core_of core.now) ppn name.now }
+    ensures no_room { IsErrOf result (Refused NoRoom)
+        ↔ HasNoRoom core.now.table.size (core_of core.now) ppn name.now }
+    ensures only { IfErr result (λ error. (error ≡ Refused NoDirectory) ⊎ (error ≡ Refused NameExists)
+        ⊎ (error ≡ Refused NoRoom)) }
+{
+    let place = match directory_place(&core.master, ppn) {
+        Ok(place) => place,
+        Err(error) => return Err(error),
+    };
+    if core.directories[place].chain.find(name).is_some() {
+        return Err(CallError::Refused(ErrorCode::NameExists));
+    }
+    let more = growth_at(core, place, ppn);
+    if more > 0 && !core.table.can_book(more) {
+        return Err(CallError::Refused(ErrorCode::NoRoom));
+    }
+    Ok(place)
+}
+
+/// Brings the block that a chain took into use, where it took one.
+fn use_grown(table: &mut Table, grown: Option<u32>)
+    requires sound { IsTable table.old }
+    requires held { (n : ℕ) → times n (option_to_list grown) ≤ holds table.old n }
+    requires clear { (n : ℕ) → bit table.old n + times n (option_to_list grown) ≤ 1 }
+    ensures { PutsInUse table.old table.new (option_to_list grown) }
+{
+    if let Some(n) = grown {
+        use_block(table, n);
+    }
+    let _booked = table.booked(); // any table is one as it should be
+}
+
+/// Gives a directory in core an entry of a name that is new there, for the version under a key, with the puts of its
+/// chain. What the directory costs more is booked, and a block that its chain takes is in use.
+fn arrive(
+    core: &mut LiveMap,
+    ppn: Ppn,
+    name: &FileName,
+    key: usize,
+    supplies: EntrySupplies,
+    set: &mut ChangeSet,
+)
+    requires whole { IsWholeCore core.old.table.size (core_of core.old) }
+    requires key { IsSome (slot core.old.versions.slots key) }
+    requires target { find nat_cmp ppn (core_of core.old).known.master.entries ≡ None → ⊥ }
+    requires free { (d : KnownDirectory) → IsDirectoryOf (core_of core.old) ppn d
+        → find name_cmp name.now d.chain.entries ≡ None }
+    requires room { (d : KnownDirectory) → IsDirectoryOf (core_of core.old) ppn d
+        → 0 < growth (entries_with (core_of core.old) d ppn)
+        → core.old.table.booked + growth (entries_with (core_of core.old) d ppn) ≤ space core.old.table.size }
+    requires named { 0 < name.now.name }
+    requires fits { (d : LiveDirectory) (place : ℕ) (v : ℕ × ℕ)
+        → StandsAt nat_cmp (map master_view core.old.master.entries) ppn v place
+        → slice_get core.old.directories.items place ≡ Some d
+        → IsReserve name_cmp (viewed file_view d.chain) name.now (viewed file_view supplies.reserve)
+        × (supplies.keys.items ≡ d.keys.items ++ 0 ∷ []) }
+    requires empty { set.old ≡ [] }
+    ensures { Arrives core.old core.new ppn name.now key set.new }
+{
+    let _booked = core.table.booked(); // any table is one as it should be
+    let place = place_of(&core.master, ppn);
+    let more = growth_at(core, place, ppn);
+    let grows = takes_block(core, place, name);
+    core.table.book(more);
+    let grown = take_for_chain(&mut core.table, grows);
+    let entry = file_entry(*name, prime_of(&core.versions, key));
+    let EntrySupplies { reserve, keys } = supplies;
+    put_entry(
+        &mut core.directories[place],
+        reserve,
+        keys,
+        entry,
+        key,
+        grown,
+        set,
+    );
+    use_grown(&mut core.table, grown);
+}
+
+/// Takes the entry of a name out of a directory in core, with the puts of its chain. What the directory costs less is
+/// not booked any more, and a block that its chain gives back is free.
+fn leave(core: &mut LiveMap, ppn: Ppn, name: &FileName, set: &mut ChangeSet)
+    requires sound { IsTable core.old.table }
+    requires there { find nat_cmp ppn (map master_view core.old.master.entries) ≡ None → ⊥ }
+    requires aligned { length core.old.directories.items ≡ length core.old.master.entries }
+    requires may_leave { (d : LiveDirectory) (place : ℕ) (v : ℕ × ℕ)
+        → StandsAt nat_cmp (map master_view core.old.master.entries) ppn v place
+        → slice_get core.old.directories.items place ≡ Some d → MayLeave core.old d ppn name.now }
+    requires booked { 0 < core.old.table.booked }
+    requires room { length set.old ≤ 2 }
+    ensures { Leaves core.old core.new ppn name.now set.old set.new }
+{
+    let place = place_of(&core.master, ppn);
+    let GivenUp { block, .. } = remove_entry(&mut core.directories[place], name, set);
+    let less = growth_at(core, place, ppn);
+    clear_left(&mut core.table, block);
+    core.table.unbook(less);
+}
+
+/// Moves a file to another directory in core, where its name is new, and gives it another protection, with the puts
+/// that will make it so on the disk. The words of its prime block are `words`.
+fn move_to_directory(
+    core: &mut LiveMap,
+    ppn: Ppn,
+    name: &FileName,
+    to_ppn: Ppn,
+    to: &FileName,
+    protection: u16,
+    key: usize,
+    supplies: EntrySupplies,
+    words: &Block,
+    set: &mut ChangeSet,
+)
+    requires whole { IsWholeCore core.old.table.size (core_of core.old) }
+    requires there { IsKeyOf (core_of core.old) ppn name.now key }
+    requires apart { to_ppn ≡ ppn → ⊥ }
+    requires target { find nat_cmp to_ppn (core_of core.old).known.master.entries ≡ None → ⊥ }
+    requires free { (d : KnownDirectory) → IsDirectoryOf (core_of core.old) to_ppn d
+        → find name_cmp to.now d.chain.entries ≡ None }
+    requires room { (d : KnownDirectory) → IsDirectoryOf (core_of core.old) to_ppn d
+        → 0 < growth (entries_with (core_of core.old) d to_ppn)
+        → core.old.table.booked + growth (entries_with (core_of core.old) d to_ppn) ≤ space core.old.table.size }
+    requires named { 0 < to.now.name }
+    requires protection { protection < 512 }
+    // Lists with a place for the entry and for its key.
+    requires fits { (d : LiveDirectory) (place : ℕ) (v : ℕ × ℕ)
+        → StandsAt nat_cmp (map master_view core.old.master.entries) to_ppn v place
+        → slice_get core.old.directories.items place ≡ Some d
+        → IsReserve name_cmp (viewed file_view d.chain) to.now (viewed file_view supplies.reserve)
+        × (supplies.keys.items ≡ d.keys.items ++ 0 ∷ []) }
+    requires empty { set.old ≡ [] }
+    ensures { (v : LiveVersion) × MovesAcross core.old.table.size (core_of core.old) (core_of core.new) ppn name.now
+        to_ppn to.now protection key v words.now set.new }
+{
+    arrive(core, to_ppn, to, key, supplies, set);
+    leave(core, ppn, name, set);
+    move_version(
+        &mut core.versions,
+        key,
+        to_ppn,
+        to,
+        protection,
+        words,
+        set,
+    );
+    core.table.changes(set);
+}
+
+/// Moves a file to another directory, where its name is new, and gives it another protection, once nothing refuses it:
+/// the words of its prime block are read, then core is the new one, with the puts that it asks for, then these are made
+/// in one change.
+///
+/// # Errors
+///
+/// `Device` where the device failed, and `Failed` where the prime block is damaged, which no honest disk shows; the
+/// volume has failed then.
+fn move_across<D: Disk>(
+    disk: &mut D,
+    core: &mut LiveMap,
+    failed: &mut bool,
+    ppn: Ppn,
+    name: &FileName,
+    to_ppn: Ppn,
+    to: &FileName,
+    protection: u16,
+    key: usize,
+    supplies: EntrySupplies,
+) -> Result<(), CallError>
+    // What the caller sees to.
+    requires sound { IsSound (D.state disk.old) (core_of core.old) false }
+    requires alive { failed.old ≡ false }
+    requires there { IsKeyOf (core_of core.old) ppn name.now key }
+    requires apart { to_ppn ≡ ppn → ⊥ }
+    requires target { find nat_cmp to_ppn (core_of core.old).known.master.entries ≡ None → ⊥ }
+    requires free { (d : KnownDirectory) → IsDirectoryOf (core_of core.old) to_ppn d
+        → find name_cmp to.now d.chain.entries ≡ None }
+    requires room { (d : KnownDirectory) → IsDirectoryOf (core_of core.old) to_ppn d
+        → 0 < growth (entries_with (core_of core.old) d to_ppn)
+        → core.old.table.booked + growth (entries_with (core_of core.old) d to_ppn) ≤ space core.old.table.size }
+    requires named { 0 < to.now.name }
+    requires protection { protection < 512 }
+    requires fits { (d : LiveDirectory) (place : ℕ) (v : ℕ × ℕ)
+        → StandsAt nat_cmp (map master_view core.old.master.entries) to_ppn v place
+        → slice_get core.old.directories.items place ≡ Some d
+        → IsReserve name_cmp (viewed file_view d.chain) to.now (viewed file_view supplies.reserve)
+        × (supplies.keys.items ≡ d.keys.items ++ 0 ∷ []) }
+    requires unclaimed { claims (core_of core.old).pending (place_of ppn name.now) ≡ false }
+
+    // What it does to core and disk.
+    ensures sound { IsSound (D.state disk.new) (core_of core.new) failed.new }
+    ensures moved { OnOk result ((v : LiveVersion) × (words : List ℕ) × (puts : List Put)
+        × MovesAcross (D.state disk.old).size (core_of core.old) (core_of core.new) ppn name.now to_ppn to.now protection
+        key v words puts × ((D.state disk.new).honest → (D.state disk.old).contents v.at ≡ Some words)) }
+    ensures pending { (core_of core.new).pending ≡ (core_of core.old).pending }
+    ensures held { (k : ℕ) (v : LiveVersion) → slot (core_of core.old).live k ≡ Some v
+        → (prime : PrimeValue) × (slot (core_of core.new).live k ≡ Some (record v { prime = prime })) }
+    ensures crash { (D.state disk.new).honest → (f : Files File) → RestsAt (D.state disk.old) f
+        → LeavesOnly (D.state disk.old) (D.state disk.new) (StandsForEither (D.state disk.old).size f
+        (files_moved f ppn name.now to_ppn to.now protection)) }
+    ensures done { (D.state disk.new).honest → (f : Files File) → RestsAt (D.state disk.old) f
+        → OnOk result (RestsAt (D.state disk.new) (files_moved f ppn name.now to_ppn to.now protection)) }
+    ensures readers { (D.state disk.new).honest → (IsErrOf result Device → ⊥)
+        → KeepsRead (D.state disk.old).contents (D.state disk.new).contents (core_of core.old) }
+    ensures writers { (D.state disk.new).honest → (IsErrOf result Device → ⊥)
+        → KeepsEachWritten (D.state disk.old).contents (D.state disk.new).contents (core_of core.old) }
+
+    // Which refusal comes when, and what it leaves.
+    ensures only { IfErr result (λ error. (error ≡ Device) ⊎ (error ≡ Failed)) }
+    ensures given_up { IsErrOf result Failed → (D.state disk.new).honest → ⊥ }
+    ensures ended { IfErr result (λ error. failed.new ≡ true) }
+    ensures still { OnOk result (failed.new ≡ false) }
+    ensures counted { IsErrOf result Device → (D.state disk.new).failures ≡ one_more (D.state disk.old).failures }
+    ensures served { (IsErrOf result Device → ⊥) → (D.state disk.new).failures ≡ (D.state disk.old).failures }
+    ensures same { SameDisk (D.state disk.old) (D.state disk.new) }
+{
+    let _booked = core.table.booked(); // any table is one as it should be
+    let at = prime_of(&core.versions, key);
+    let words = match read_prime(disk, at) {
+        Ok(words) => words,
+        Err(error) => {
+            *failed = true; // nothing is known of the disk any more
+            return Err(error);
+        }
+    };
+    let mut set = ChangeSet::new();
+    move_to_directory(
+        core, ppn, name, to_ppn, to, protection, key, supplies, &words, &mut set,
+    );
+    match commit_puts(disk, &set) {
+        Ok(()) => Ok(()),
+        Err(_) => {
+            *failed = true; // nothing of core is used any more
+            Err(CallError::Device)
+        }
+    }
+}
+
+impl<D: Disk> Volume<D> {
+    /// The part of `rename` that moves a file to another directory.
+    ///
+    /// # Errors
+    ///
+    /// Those of `rename`.
+    pub(crate) fn rename_across(
+        &mut self,
+        alloc: Global,
+        ppn: Ppn,
+        name: &FileName,
+        to_ppn: Ppn,
+        to: &FileName,
+        protection: u16,
+    ) -> Result<(), CallError>
+        requires apart { to_ppn ≡ ppn → ⊥ }
+        requires named { 0 < to.now.name }
+        requires protection { protection < 512 }
+        requires unclaimed { claims self.old.core.pending (place_of ppn name.now) ≡ false }
+
+        ensures crash { (D.state self.new.disk).honest → (f : Files File) → RestsAt (D.state self.old.disk) f
+            → LeavesOnly (D.state self.old.disk) (D.state self.new.disk)
+            (StandsForEither (D.state self.old.disk).size f (files_moved f ppn name.now to_ppn to.now protection)) }
+        ensures done { (D.state self.new.disk).honest → (f : Files File) → RestsAt (D.state self.old.disk) f
+            → OnOk result (RestsAt (D.state self.new.disk) (files_moved f ppn name.now to_ppn to.now protection)) }
+        ensures moved { OnOk result ((key : ℕ) × (v : LiveVersion) × (words : List ℕ) × (puts : List Put)
+            × MovesAcross (D.state self.old.disk).size self.old.core self.new.core ppn name.now to_ppn to.now protection
+            key v words puts × ((D.state self.new.disk).honest → (D.state self.old.disk).contents v.at ≡ Some words)) }
+        ensures pending { self.new.core.pending ≡ self.old.core.pending }
+        ensures held { (k : ℕ) (v : LiveVersion) → slot self.old.core.live k ≡ Some v → 0 < v.readers
+            → (prime : PrimeValue) × (slot self.new.core.live k ≡ Some (record v { prime = prime })) }
+        ensures readers { (D.state self.new.disk).honest → (IsErrOf result Device → ⊥)
+            → KeepsRead (D.state self.old.disk).contents (D.state self.new.disk).contents self.old.core }
+        ensures writers { (D.state self.new.disk).honest → (IsErrOf result Device → ⊥)
+            → KeepsEachWritten (D.state self.old.disk).contents (D.state self.new.disk).contents self.old.core }
+        ensures here { OnOk result (prime_at self.new.core to_ppn to.now ≡ prime_at self.old.core ppn name.now) }
+        ensures gone { OnOk result (prime_at self.new.core ppn name.now ≡ None) }
+        ensures primes { OnOk result ((q : ℕ) (n : FileName) → ((q ≡ ppn) × (n ≡ name.now) → ⊥)
+            → ((q ≡ to_ppn) × (n ≡ to.now) → ⊥) → prime_at self.new.core q n ≡ prime_at self.old.core q n) }
+
+        ensures failed { self.old.failed ≡ true → IsErrOf result Failed }
+        ensures broken { self.old.failed ≡ true → (self.new.disk ≡ self.old.disk) × (self.new.core ≡ self.old.core) }
+        ensures given_up { IsErrOf result Failed → (self.old.failed ≡ true) ⊎ ((D.state self.new.disk).honest → ⊥) }
+        ensures no_directory { self.old.failed ≡ false
+            → (IsErrOf result (Refused NoDirectory) ↔ ((find nat_cmp ppn self.old.core.known.master.entries ≡ None)
+            ⊎ (HasFile self.old.core ppn name.now
+            × (find nat_cmp to_ppn self.old.core.known.master.entries ≡ None)))) }
+        ensures not_found { self.old.failed ≡ false
+            → (IsErrOf result (Refused NotFound) ↔ ((d : KnownDirectory) × IsDirectoryOf self.old.core ppn d
+            × (find name_cmp name.now d.chain.entries ≡ None))) }
+        ensures exists { self.old.failed ≡ false
+            → (IsErrOf result (Refused NameExists) ↔ (HasFile self.old.core ppn name.now
+            × HasFile self.old.core to_ppn to.now)) }
+        ensures no_room { self.old.failed ≡ false
+            → (IsErrOf result (Refused NoRoom) ↔ (HasFile self.old.core ppn name.now
+            × HasNoRoom (D.state self.old.disk).size self.old.core to_ppn to.now)) }
+        ensures codes { (code : ErrorCode) → IsErrOf result (Refused code)
+            → (code ≡ NoDirectory) ⊎ (code ≡ NotFound) ⊎ (code ≡ NameExists) ⊎ (code ≡ NoRoom) }
+        ensures refused { (code : ErrorCode) → IsErrOf result (Refused code) → (self.new.disk ≡ self.old.disk)
+            × (self.new.core ≡ self.old.core) }
+        ensures memory { IsErrOf result NoMemory → (self.new.disk ≡ self.old.disk) × (self.new.core ≡ self.old.core) }
+        ensures device { IsErrOf result Device → self.new.failed ≡ true }
+        ensures ended { IsErrOf result Failed → self.new.failed ≡ true }
+        ensures still { (IsErrOf result Device → ⊥) → (IsErrOf result Failed → ⊥) → self.new.failed ≡ self.old.failed }
+        ensures counted { IsErrOf result Device → (D.state self.new.disk).failures
+            ≡ one_more (D.state self.old.disk).failures }
+        ensures served { (IsErrOf result Device → ⊥) → (D.state self.new.disk).failures
+            ≡ (D.state self.old.disk).failures }
+        ensures same { SameDisk (D.state self.old.disk) (D.state self.new.disk) }
+    {
+        if self.failed {
+            return Err(CallError::Failed);
+        }
+        let key = match find_version(&self.map, ppn, name) {
+            Ok(key) => key,
+            Err(error) => return Err(error),
+        };
+        let place = match find_target(&self.map, to_ppn, to) {
+            Ok(place) => place,
+            Err(error) => return Err(error),
+        };
+        let Ok(supplies) = find_entry_supplies(&self.map, alloc, place, *to) else {
+            return Err(CallError::NoMemory);
+        };
+        move_across(
+            &mut self.disk,
+            &mut self.map,
+            &mut self.failed,
+            ppn,
+            name,
+            to_ppn,
+            to,
+            protection,
+            key,
+            supplies,
+        )
+    }
+}
