@@ -46,7 +46,7 @@ named_file (Some d) name x at = get-map_values name_total (λ (v : Version). v.f
     ∙ ap (option_map (λ (v : Version). v.file)) at
 
 -- the same, with the protection by another name
-pub renews_with : (c c' : VolumeCore) (input renewed : Input) (ppn : ℕ) (file : FileName) (p q : ℕ) → p ≡ q
+abbrev pub renews_with : (c c' : VolumeCore) (input renewed : Input) (ppn : ℕ) (file : FileName) (p q : ℕ) → p ≡ q
     → Renews c c' input renewed ppn file p → Renews c c' input renewed ppn file q
 renews_with c c' input renewed ppn file p q same is = record {
   held = is.held;
