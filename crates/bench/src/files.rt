@@ -1,13 +1,14 @@
-ghost use Rattle.std.specs.Prelude.{◌≡◌, ◌+◌, ◌*◌, ◌<◌, false, IfOk, OnOk, length};
+ghost use Rattle.std.specs.Prelude.{◌≡◌, ◌+◌, ◌*◌, ◌^◌, ◌<◌, false, IfOk, OnOk, length};
 ghost use Rattle.meaning.specs.Files.{File, Files};
 ghost use Rattle.retrieval.specs.Writing.{rib_count};
 ghost use Rattle.volume.specs.Beginning.{is_update};
+ghost use Rattle.volume.specs.Moving.{files_moved};
 ghost use Rattle.volume.specs.Publishing.{file_of, files_published};
 ghost use Rattle.volume.specs.Removing.{files_removed};
 ghost use Rattle.volume.specs.Rest.{RestsAt};
 
 use crate::counting::{Calls, CountingDisk};
-use anyhow::{Context, Result};
+use anyhow::{Context, Error, Result};
 use blockdisk::Disk;
 use retrieval::{Mode, Prime, rib_count};
 use std::alloc::Global;
@@ -16,6 +17,9 @@ use words36::{BLOCK_WORDS, FileName, Half, Moment, Ppn, Word};
 
 /// FOO in SIXBIT.
 const FOO: u64 = 0o465757000000;
+
+/// BAR in SIXBIT.
+const BAR: u64 = 0o424162000000;
 
 /// The protection of the file.
 const PROTECTION: u16 = 0o057;
@@ -48,8 +52,24 @@ pub fn least_writes(blocks: u16) -> u32
 pub fn prime_of_foo() -> Result<Prime>
     ensures { IfOk result (λ prime. 0 < prime.file.name) }
 {
+    prime_of(FOO)
+}
+
+/// What the prime block of BAR there says.
+pub fn prime_of_bar() -> Result<Prime>
+    ensures { IfOk result (λ prime. 0 < prime.file.name) }
+{
+    prime_of(BAR)
+}
+
+/// What the prime block of a file of this name there says.
+fn prime_of(name: u64) -> Result<Prime>
+    requires name { 0 < name }
+    requires word { name < 2 ^ 36 }
+    ensures { IfOk result (λ prime. 0 < prime.file.name) }
+{
     let file = FileName {
-        name: Word::from_bits(FOO),
+        name: Word::from_bits(name),
         ext: Half::from_bits(0),
     };
     let ppn = Ppn::new(1, 1).context("no such number")?;
@@ -107,5 +127,27 @@ pub fn delete_file<D: Disk>(volume: &mut Volume<CountingDisk<D>>, prime: &Prime)
 {
     let before = volume.disk().calls();
     volume.delete(prime.ppn, &prime.file)?;
+    Ok(volume.disk().calls().since(before))
+}
+
+/// Gives the file that a prime block names another place, with the protection that it has. Answers what the disk was
+/// called for.
+pub fn rename_file<D: Disk>(
+    alloc: Global,
+    volume: &mut Volume<CountingDisk<D>>,
+    prime: &Prime,
+    to_ppn: Ppn,
+    to: &FileName,
+) -> Result<Calls>
+    requires named { 0 < to.now.name }
+    ensures done { (D.state volume.new.disk.inner).honest → (f : Files File) → RestsAt (D.state volume.old.disk.inner) f
+        → OnOk result (RestsAt (D.state volume.new.disk.inner)
+        (files_moved f prime.now.ppn prime.now.file to_ppn to.now 47)) }
+{
+    if volume.is_claimed(prime.ppn, &prime.file) {
+        return Err(Error::msg("the file is being written"));
+    }
+    let before = volume.disk().calls();
+    volume.rename(alloc, prime.ppn, &prime.file, to_ppn, to, PROTECTION)?;
     Ok(volume.disk().calls().since(before))
 }

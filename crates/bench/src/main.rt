@@ -1,7 +1,8 @@
 //! What a volume asks of its disk, counted: the blocks that `open` reads, the writes and syncs of a `make_dir` and
 //! of a `delete_dir`, and for files of 0 to 1024 blocks, created, superseded and deleted, the calls of `put_words`,
-//! of `publish` and of `delete`, beside the fewest writes and syncs that a publication can make. With `--time` also how many times as long `open`
-//! takes as a plain read of the same blocks, and the publication of 1024 blocks as a plain copy of its words.
+//! of `publish` and of `delete`, beside the fewest writes and syncs that a publication can make, and those of a `rename`.
+//! With `--time` also how many times as long `open` takes as a plain read of the same blocks, and the publication of 1024
+//! blocks as a plain copy of its words.
 #![tactic(auto)]
 
 mod counting;
@@ -13,7 +14,8 @@ use anyhow::Result;
 use blockdisk::{Disk, MemDisk};
 use counting::{Calls, CountingDisk};
 use files::{
-    FileCalls, LEAST_SYNCS, delete_file, least_writes, prime_of_foo, publish_file, words_of_file,
+    FileCalls, LEAST_SYNCS, delete_file, least_writes, prime_of_bar, prime_of_foo, publish_file,
+    rename_file, words_of_file,
 };
 use full::full_image;
 use meaning::layout::{TABLE_BLOCK_BITS, table_blocks, table_start};
@@ -111,10 +113,10 @@ fn largest(rt: &(impl Print + Clock), alloc: Global, is_timed: bool) -> Result<(
     Ok(())
 }
 
-/// A volume whose table is one block, with one directory.
-fn volume_for_files(alloc: Global) -> Result<Volume<CountingDisk<MemDisk>>> {
+/// A volume whose table is one block, with so many directories.
+fn volume_for_files(alloc: Global, directories: u32) -> Result<Volume<CountingDisk<MemDisk>>> {
     let disk = MemDisk::new(alloc, FILES_VOLUME, FILE_CALLS)?;
-    let made = make_volume(alloc, disk, 1)?;
+    let made = make_volume(alloc, disk, directories)?;
     open(alloc, CountingDisk::new(made.into_disk()))
 }
 
@@ -136,7 +138,7 @@ fn print_written(rt: &impl Print, blocks: u16, act: &str, calls: &FileCalls) -> 
 
 /// A file of so many blocks is created, superseded by one of the same size, and deleted.
 fn with_file(rt: &impl Print, alloc: Global, blocks: u16) -> Result<()> {
-    let mut volume = volume_for_files(alloc)?;
+    let mut volume = volume_for_files(alloc, 1)?;
     let words = words_of_file(alloc, blocks)?;
     let created = publish_file(alloc, &mut volume, prime_of_foo()?, words.as_slice())?;
     print_written(rt, blocks, "created", &created)?;
@@ -145,6 +147,19 @@ fn with_file(rt: &impl Print, alloc: Global, blocks: u16) -> Result<()> {
     let deleted = delete_file(&mut volume, &prime_of_foo()?)?;
     println!(rt; "{FILES_VOLUME} blocks, 1 directory, file of {blocks} blocks deleted")?;
     print_changed(rt, "delete", deleted)
+}
+
+/// A file is given another name in its directory, and then the place of its old name in another one.
+fn with_names(rt: &impl Print, alloc: Global) -> Result<()> {
+    let mut volume = volume_for_files(alloc, 2)?;
+    let old = prime_of_foo()?;
+    let new = prime_of_bar()?;
+    publish_file(alloc, &mut volume, prime_of_foo()?, &[])?;
+    let within = rename_file(alloc, &mut volume, &old, old.ppn, &new.file)?;
+    let across = rename_file(alloc, &mut volume, &new, directory_number(2)?, &old.file)?;
+    println!(rt; "{FILES_VOLUME} blocks, 2 directories, file renamed")?;
+    print_changed(rt, "rename in its directory", within)?;
+    print_changed(rt, "rename to another directory", across)
 }
 
 /// Copies words into the blocks of a disk, each block once.
@@ -161,7 +176,7 @@ fn copy_plainly(disk: &mut MemDisk, words: &[Word]) -> Result<()> {
 
 /// Publishes 1 MiB, and prints how many times as long that takes as a plain copy.
 fn print_published(rt: &(impl Print + Clock), alloc: Global) -> Result<()> {
-    let mut volume = volume_for_files(alloc)?;
+    let mut volume = volume_for_files(alloc, 1)?;
     let prime = prime_of_foo()?;
     let words = words_of_file(alloc, MEBIBYTE)?;
     let start = Instant::now(rt)?;
@@ -186,6 +201,7 @@ fn main(rt: HostRuntime) -> Result<()> {
     for blocks in [0, 1, 112, 113, MEBIBYTE] {
         with_file(&rt, rt.alloc(), blocks)?;
     }
+    with_names(&rt, rt.alloc())?;
     if is_timed {
         print_published(&rt, rt.alloc())?;
     }

@@ -11,6 +11,8 @@ mod delete_tests;
 #[cfg(test)]
 mod files;
 #[cfg(test)]
+mod move_tests;
+#[cfg(test)]
 mod refusal_tests;
 #[cfg(test)]
 mod rename_tests;

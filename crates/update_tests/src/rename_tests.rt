@@ -15,26 +15,14 @@ use std::test::Fail;
 use volume::{CallError, FileFacts, Kind, Volume};
 use words36::{Ppn, Word};
 
-/// Gives a file of [10,20] another name in it, and this protection.
-fn rename<D: Disk>(
+/// Gives a file of a directory another place, and this protection.
+pub(crate) fn move_to<D: Disk>(
     rt: &impl Abort,
-    volume: &mut Volume<D>,
-    name: u64,
-    to: u64,
-    protection: u16,
-) -> Result<(), CallError>
-    requires { protection < 512 }
-    ensures readers { (pin : Pin) → IsReadable volume.old.core (Pinned pin) → IsReadable volume.new.core (Pinned pin) }
-{
-    rename_at(rt, volume, ppn_of(rt), name, to, protection)
-}
-
-/// Gives a file of a directory another name in it, and this protection.
-fn rename_at<D: Disk>(
-    rt: &impl Abort,
+    alloc: Global,
     volume: &mut Volume<D>,
     ppn: Ppn,
     name: u64,
+    to_ppn: Ppn,
     to: u64,
     protection: u16,
 ) -> Result<(), CallError>
@@ -45,11 +33,38 @@ fn rename_at<D: Disk>(
     let to = file_name(to);
     assert!(rt; to.name.bits() > 0);
     assert!(rt; !volume.is_claimed(ppn, &name));
-    volume.rename_within(ppn, &name, &to, protection)
+    volume.rename(alloc, ppn, &name, to_ppn, &to, protection)
+}
+
+/// Gives a file of [10,20] another name in it, and this protection.
+fn rename<D: Disk>(
+    rt: &impl Abort,
+    alloc: Global,
+    volume: &mut Volume<D>,
+    name: u64,
+    to: u64,
+    protection: u16,
+) -> Result<(), CallError>
+    requires { protection < 512 }
+    ensures readers { (pin : Pin) → IsReadable volume.old.core (Pinned pin) → IsReadable volume.new.core (Pinned pin) }
+{
+    let ppn = ppn_of(rt);
+    move_to(rt, alloc, volume, ppn, name, ppn, to, protection)
 }
 
 /// A file of [10,20] of 300 words has this protection, and all else as the tests write it.
 fn expect_facts(rt: &impl Abort, volume: &Volume<MemDisk>, name: u64, protection: u16) {
+    expect_facts_in(rt, volume, ppn_of(rt), name, protection);
+}
+
+/// The same of a file of a directory.
+pub(crate) fn expect_facts_in(
+    rt: &impl Abort,
+    volume: &Volume<MemDisk>,
+    ppn: Ppn,
+    name: u64,
+    protection: u16,
+) {
     let prime = prime_of(rt, FOO);
     let facts = FileFacts {
         protection,
@@ -58,7 +73,7 @@ fn expect_facts(rt: &impl Abort, volume: &Volume<MemDisk>, name: u64, protection
         words: 300,
         blocks: 3,
     };
-    assert!(rt; volume.look(ppn_of(rt), &file_name(name)) == Ok(facts));
+    assert!(rt; volume.look(ppn, &file_name(name)) == Ok(facts));
 }
 
 /// FOO.TXT, of these words, becomes BAR.TXT with protection 155 (octal), and FOO.TXT again with 057.
@@ -69,12 +84,12 @@ fn rename_there_and_back(
     words: &[Word],
 ) -> Volume<MemDisk> {
     let mut volume = volume;
-    assert!(rt; rename(rt, &mut volume, FOO, BAR, 0o155) == Ok(()));
+    assert!(rt; rename(rt, alloc, &mut volume, FOO, BAR, 0o155) == Ok(()));
     expect_room(rt, &volume, 43);
     let mut volume = opened(rt, alloc, disk_of(volume));
     expect_facts(rt, &volume, BAR, 0o155);
     assert!(rt; !is_there(rt, &volume, FOO));
-    assert!(rt; rename(rt, &mut volume, BAR, FOO, 0o057) == Ok(()));
+    assert!(rt; rename(rt, alloc, &mut volume, BAR, FOO, 0o057) == Ok(()));
     expect_file(rt, alloc, &mut volume, words, 43);
     volume
 }
@@ -115,7 +130,7 @@ fn a_file_is_protected(rt: HostRuntime) -> Result<(), Fail> {
         words.as_slice(),
         43,
     );
-    assert!(rt; rename(&rt, &mut volume, FOO, FOO, 0o777) == Ok(()));
+    assert!(rt; rename(&rt, alloc, &mut volume, FOO, FOO, 0o777) == Ok(()));
     let volume = opened(&rt, alloc, disk_of(volume));
     expect_facts(&rt, &volume, FOO, 0o777);
     expect_kept(&rt, alloc, volume, words.as_slice(), 43);
@@ -125,7 +140,7 @@ fn a_file_is_protected(rt: HostRuntime) -> Result<(), Fail> {
 /// Renames a file beside its reader, who reads on, and makes another one of its name before.
 fn rename_beside(rt: &impl Abort, alloc: Global, volume: &mut Volume<MemDisk>, old: &[Word]) {
     let pin = hold(rt, volume);
-    assert!(rt; rename(rt, volume, FOO, BAR, 0o057) == Ok(()));
+    assert!(rt; rename(rt, alloc, volume, FOO, BAR, 0o057) == Ok(()));
     expect_room(rt, volume, 43);
     store(rt, alloc, volume, Kind::Create, 1, &[word(7)], 41);
     expect_words(rt, alloc, volume, pin, old);
@@ -157,12 +172,13 @@ fn a_reader_of_a_renamed_file_reads_on(rt: HostRuntime) -> Result<(), Fail> {
 /// A renaming is refused with this code.
 fn expect_refused(
     rt: &impl Abort,
+    alloc: Global,
     volume: &mut Volume<MemDisk>,
     name: u64,
     to: u64,
     code: ErrorCode,
 ) {
-    assert!(rt; rename(rt, volume, name, to, 0o155) == Err(CallError::Refused(code)));
+    assert!(rt; rename(rt, alloc, volume, name, to, 0o155) == Err(CallError::Refused(code)));
 }
 
 /// A file isn't renamed where another one has its new name, where there is no such file, and where there is no such
@@ -181,8 +197,8 @@ fn renamings_are_refused(rt: HostRuntime) -> Result<(), Fail> {
         words.as_slice(),
         43,
     );
-    expect_refused(&rt, &mut volume, BAR, FOO, ErrorCode::NotFound);
-    assert!(rt; rename(&rt, &mut volume, FOO, BAR, 0o057) == Ok(()));
+    expect_refused(&rt, alloc, &mut volume, BAR, FOO, ErrorCode::NotFound);
+    assert!(rt; rename(&rt, alloc, &mut volume, FOO, BAR, 0o057) == Ok(()));
     store(
         &rt,
         alloc,
@@ -192,9 +208,9 @@ fn renamings_are_refused(rt: HostRuntime) -> Result<(), Fail> {
         words.as_slice(),
         39,
     );
-    expect_refused(&rt, &mut volume, FOO, BAR, ErrorCode::NameExists);
+    expect_refused(&rt, alloc, &mut volume, FOO, BAR, ErrorCode::NameExists);
     let nowhere = Ppn::new(0o10, 0o21).expect(&rt, "a PPN");
-    let refused = rename_at(&rt, &mut volume, nowhere, FOO, BAR, 0o155);
+    let refused = move_to(&rt, alloc, &mut volume, nowhere, FOO, nowhere, BAR, 0o155);
     assert!(rt; refused == Err(CallError::Refused(ErrorCode::NoDirectory)));
     expect_facts(&rt, &volume, BAR, 0o057);
     expect_kept(&rt, alloc, volume, words.as_slice(), 39);
@@ -207,7 +223,7 @@ fn a_renaming_takes_no_room(rt: HostRuntime) -> Result<(), Fail> {
     let alloc = rt.alloc();
     let mut volume = fresh(&rt, alloc, 1000)?;
     store(&rt, alloc, &mut volume, Kind::Create, 46, &[word(7)], 0);
-    assert!(rt; rename(&rt, &mut volume, FOO, BAR, 0o155) == Ok(()));
+    assert!(rt; rename(&rt, alloc, &mut volume, FOO, BAR, 0o155) == Ok(()));
     let volume = opened(&rt, alloc, disk_of(volume));
     expect_room(&rt, &volume, 0);
     assert!(rt; is_there(&rt, &volume, BAR));
@@ -236,7 +252,7 @@ fn rename_cut_off(
 ) -> Result<Volume<MemDisk>, NoMemory> {
     let mut volume = fresh(rt, alloc, STORED.saturating_add(calls))?;
     store(rt, alloc, &mut volume, Kind::Create, 1, words, 43);
-    let is_done = rename(rt, &mut volume, FOO, BAR, 0o155) == Ok(());
+    let is_done = rename(rt, alloc, &mut volume, FOO, BAR, 0o155) == Ok(());
     assert!(rt; is_done == (calls == WHOLE));
     assert!(rt; volume.has_failed() != is_done);
     Ok(opened_anew(rt, alloc, volume))

@@ -50,7 +50,11 @@ pub(crate) struct GivenUp {
 
 /// Takes the entry of a name out of a directory in core, with the key of its version: the last one moves into its
 /// place.
-pub(crate) fn remove_entry(directory: &mut LiveDirectory, name: &FileName, set: &mut ChangeSet) -> GivenUp
+pub(crate) fn remove_entry(
+    directory: &mut LiveDirectory,
+    name: &FileName,
+    set: &mut ChangeSet,
+) -> GivenUp
     requires there { IsSome (find name_cmp name.now (map file_view directory.old.chain.entries)) }
     requires aligned { length directory.old.keys.items ≡ length directory.old.chain.entries }
     requires room { length set.old ≤ 2 }

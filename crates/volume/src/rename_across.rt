@@ -203,15 +203,7 @@ fn move_to_directory(
 {
     arrive(core, to_ppn, to, key, supplies, set);
     leave(core, ppn, name, set);
-    move_version(
-        &mut core.versions,
-        key,
-        to_ppn,
-        to,
-        protection,
-        words,
-        set,
-    );
+    move_version(&mut core.versions, key, to_ppn, to, protection, words, set);
     core.table.changes(set);
 }
 

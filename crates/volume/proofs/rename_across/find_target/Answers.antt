@@ -82,8 +82,8 @@ returns-clause-room c =
     let more = c.growth_at-more.result in
     let fits : 0 < more → m.table.booked + more ≤ space m.table.size = λ grows.
     elim c.else-more-gt0.branch [
-      else-more-gt0-via-then-more-gt0+else-not-can_book w ↦ w.can_book.ensures.0 w.if-not-can_book.false |
-      else-more-gt0-via-else-more-gt0 w ↦ absurd (let no = w.if-more-gt0.false in omega arith)
+      | else-more-gt0-via-then-more-gt0+else-not-can_book w ↦ w.can_book.ensures.0 w.if-not-can_book.false
+      | else-more-gt0-via-else-more-gt0 w ↦ absurd (let no = w.if-more-gt0.false in omega arith)
     ] in
     target_room m c.requires.whole c.args.ppn c.in-Ok.place stands.0 stands.1 c.index.result.now at
     c.args.name.now c.find.result (sym c.is_some.ensures ∙ c.if-is_some.false) c.find.ensures.none more
@@ -109,8 +109,8 @@ returns-clause-no_room c =
     let more = c.growth_at-more.result in
     let fits : 0 < more → m.table.booked + more ≤ space m.table.size = λ grows.
     elim c.else-more-gt0.branch [
-      else-more-gt0-via-then-more-gt0+else-not-can_book w ↦ w.can_book.ensures.0 w.if-not-can_book.false |
-      else-more-gt0-via-else-more-gt0 w ↦ absurd (let no = w.if-more-gt0.false in omega arith)
+      | else-more-gt0-via-then-more-gt0+else-not-can_book w ↦ w.can_book.ensures.0 w.if-not-can_book.false
+      | else-more-gt0-via-else-more-gt0 w ↦ absurd (let no = w.if-more-gt0.false in omega arith)
     ] in (
       λ said. cc,
       λ lacks. absurd (room_enough m c.requires.whole c.args.ppn c.in-Ok.place stands.0 stands.1 c.index.result.now at

@@ -1,4 +1,4 @@
-use Rattle.std.proofs.Common.{◌≡◌, ℕ, sym, subst, eqb-true}
+use Rattle.std.proofs.Common.{ℕ, sym, subst, eqb-true}
 use Rattle.blockdisk.specs.Disk.{LeavesOnly}
 use Rattle.volume.specs.Moving.{files_moved}
 use Rattle.volume.specs.Rest.{StandsForEither}

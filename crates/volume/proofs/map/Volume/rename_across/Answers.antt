@@ -4,9 +4,9 @@ use Rattle.volume.specs.LiveCores.{core_of}
 use Rattle.volume.proofs.Growing.{one_place}
 use Rattle.volume.proofs.Marking.{on_ok}
 use Rattle.volume.proofs.MovedPlaces.{across_before, across_here, across_gone, across_elsewhere}
-use Rattle.volume.proofs.MovingAnswers.{no_file_homeless, no_file_exists, no_file_no_room, target_homeless, target_exists}
-use Rattle.volume.proofs.MovingAnswers.{target_no_room, target_lacking, moved_lacking, moved_exists, moved_no_room}
-use Rattle.volume.proofs.MovingAnswers.{memory_plain}
+use Rattle.volume.proofs.MovingAnswers.{no_file_homeless, no_file_exists, no_file_no_room, target_homeless}
+use Rattle.volume.proofs.MovingAnswers.{target_exists, target_no_room, target_lacking, moved_lacking, moved_exists}
+use Rattle.volume.proofs.MovingAnswers.{moved_no_room, memory_plain}
 use Rattle.volume.proofs.Publications.{unchanged_leaves}
 use Rattle.volume.proofs.RenamingAnswers.{not_refused}
 use Rattle.volume.proofs.map.Volume.rename_across.Goals as goal
@@ -140,7 +140,7 @@ returns-clause-here g c = rw (← c.self.view_is) (
     c.args.to.now (found.0.at, as_known found.0) _ found.1 found.2 found.3.moved)) c.move_across.ensures.moved)
 
 pub returns-clause-gone : goal.returns-clause-gone
-returns-clause-gone g c = 
+returns-clause-gone g c =
     let s = g.D.Disk.state c.self.inside.disk in
     let core = core_of c.self.inside.map in
     let new = core_of c.move_across.new.core in
