@@ -21,6 +21,8 @@ use Rattle.meaning.specs.declared.call.Event.TheVariants.{Call as Calls}
 use Rattle.meaning.specs.declared.call.Reply.{Reply}
 use Rattle.meaning.specs.declared.call.Reply.TheVariants.{Done, Value, Refused, Stopped, NoChannel, AddressCheck, NoJob}
 use Rattle.meaning.specs.declared.call.Reply.TheVariants.{NoMemory, Device, Failed, DateRange}
+use Rattle.volume.specs.Beginning.{IsDirectoryOf}
+use Rattle.volume.specs.Known.{KnownDirectory}
 use Rattle.volume.specs.Live.{VolumeCore, creates}
 use Rattle.volume.specs.Places.{prime_at}
 use Rattle.volume.specs.RemovingDirectories.{directory_removed}
@@ -30,12 +32,13 @@ use Rattle.monitor.specs.DeleteDirRows.{IsKeptBy, IsFree, IsDeleteDir}
 use Rattle.monitor.specs.DirectoryRows.{asked_owner}
 use Rattle.monitor.specs.Events.{CallCrashes, IsIdle}
 use Rattle.monitor.specs.Refusals.{with_code}
-use Rattle.monitor.specs.Serving.{pack_of, AreKeyed, AreReading, IsState, Serves}
+use Rattle.monitor.specs.Serving.{pack_of, AreKeyed, ArePlaced, AreReading, IsState, Serves}
 use Rattle.monitor.specs.Sides.{job_of, state_of}
 use Rattle.monitor.specs.declared.job.Job.{Job}
 use Rattle.monitor.proofs.Answering.{in_state, goes_on, same_files, on_disk, state_is}
 use Rattle.monitor.proofs.DeleteDirCalls.{checked, refused_by, may_delete, empty_one}
 use Rattle.monitor.proofs.DeleteDirStates.{row_done, row_kept, shown_removed, removed_state}
+use Rattle.monitor.proofs.DeleteDirs.{placed_removed}
 use Rattle.monitor.proofs.Dropped.{leaves_none}
 use Rattle.monitor.proofs.Knowing.{known}
 use Rattle.monitor.proofs.MakeDirAnswers.{idle_crashes, not_failed}
@@ -150,6 +153,22 @@ module _ {D : Type 0} (state_in : D → DiskState) (disk disk' : D) (c c' : Volu
         (checked d c s.files state.under jobs sound.whole holds creations owner honest state.files job e outside)
         (λ is. cc is) refl serial
         ∙ ap (λ js. (AddressCheck, state_of s.files state.under js)) (set_to job same))
+
+  -- Each version that is being written may still be published.
+  pub still_placed : (reply : Reply) → IsDeleteDir d c Same job job' e reply → c'.pending ≡ c.pending
+      → ((ppn : ℕ) (x : KnownDirectory) → IsDirectoryOf c ppn x → (ppn ≡ owner → ⊥) → IsDirectoryOf c' ppn x)
+      → ArePlaced c → ArePlaced c'
+  still_placed Done (job_is, inside, free) pending stays = placed_removed c c' owner pending stays free.2
+  still_placed (Refused code) (job_is, same, inside, why) pending stays = subst ArePlaced (sym same.1)
+  still_placed AddressCheck (job_is, same, outside) pending stays = subst ArePlaced (sym same.1)
+  still_placed Device (job_is, inside, free) pending stays = placed_removed c c' owner pending stays free.2
+  still_placed NoMemory wrong pending stays = absurd wrong
+  still_placed (Value word) wrong pending stays = absurd wrong
+  still_placed (Stopped status) wrong pending stays = absurd wrong
+  still_placed NoChannel wrong pending stays = absurd wrong
+  still_placed NoJob wrong pending stays = absurd wrong
+  still_placed Failed wrong pending stays = absurd wrong
+  still_placed DateRange wrong pending stays = absurd wrong
 
   -- Crashes.
   module _ (was : d'.honest → d.honest) (only_now : d.honest → (x : Contents) → d.left_since d.clock x → MayLeave d x)
