@@ -12,7 +12,7 @@ use Rattle.meaning.specs.Jobs.{State, slot}
 use Rattle.meaning.specs.Maps.{remove, total}
 use Rattle.meaning.specs.Published.{without_serials}
 use Rattle.meaning.specs.Room.{pending_creations}
-use Rattle.meaning.specs.Runs.{Service, Serving, Broken, Answers, is_plain}
+use Rattle.meaning.specs.Runs.{Service, Broken, Answers, is_plain}
 use Rattle.meaning.specs.Stands.{Stands}
 use Rattle.meaning.specs.Step.{step}
 use Rattle.meaning.specs.declared.call.Call.TheVariants.{DeleteDir}
@@ -33,7 +33,7 @@ use Rattle.monitor.specs.DirectoryRows.{asked_owner}
 use Rattle.monitor.specs.Events.{CallCrashes, IsIdle}
 use Rattle.monitor.specs.Refusals.{with_code}
 use Rattle.monitor.specs.Serving.{pack_of, AreKeyed, ArePlaced, AreReading, IsState, Serves}
-use Rattle.monitor.specs.Sides.{job_of, state_of}
+use Rattle.monitor.specs.Sides.{state_of}
 use Rattle.monitor.specs.declared.job.Job.{Job}
 use Rattle.monitor.proofs.Answering.{in_state, goes_on, same_files, on_disk, state_is}
 use Rattle.monitor.proofs.DeleteDirCalls.{checked, refused_by, may_delete, empty_one}

@@ -1,6 +1,5 @@
 -- DeleteDir: the machine's row, and the state after it.
-use Rattle.std.proofs.Common.{◌≡◌, ◌≤◌, ◌+◌, ℕ, false, List, Option, None, Some, refl, sym, ap, subst, ◌∙◌, ⊎_elim}
-use Rattle.std.proofs.Common.{slice_set, arith}
+use Rattle.std.proofs.Common.{◌≡◌, ◌≤◌, ℕ, List, Option, None, Some, refl, sym, ap, subst, ◌∙◌, ⊎_elim, slice_set}
 use Rattle.std.specs.Cmp.{nat_cmp_total}
 use Rattle.std.specs.FinMap.{nat_cmp-IsAntisymmetric}
 use Rattle.words36.specs.declared.moment.Moment.{Moment}
@@ -9,10 +8,9 @@ use Rattle.blockdisk.specs.Disk.{DiskState}
 use Rattle.meaning.specs.Files.{Files, Directory, Place, map_directory, name_cmp}
 use Rattle.meaning.specs.Jobs.{State, slot}
 use Rattle.meaning.specs.Making.{remove_answer}
-use Rattle.meaning.specs.Maps.{get, insert, remove, empty, size, values}
+use Rattle.meaning.specs.Maps.{get, remove, empty, size, values}
 use Rattle.meaning.specs.Outcomes.{settled, refused_at}
 use Rattle.meaning.specs.Published.{Version, without_serials, file_in, file_at}
-use Rattle.meaning.specs.Room.{entry_count, names_in, pending_creations}
 use Rattle.meaning.specs.Runs.{AreDistinct}
 use Rattle.meaning.specs.Sound as meaning
 use Rattle.meaning.specs.Step.{step, of_files}
@@ -20,8 +18,8 @@ use Rattle.meaning.specs.declared.call.Call.TheVariants.{DeleteDir}
 use Rattle.meaning.specs.declared.call.Event.TheVariants.{Call as Calls}
 use Rattle.meaning.specs.declared.call.Reply.{Reply}
 use Rattle.meaning.specs.declared.call.Reply.TheVariants.{Done}
-use Rattle.meaning.proofs.MapLaws.{some_none, same_or_other, get-empty, get-removed, get-remove_other, insert-removed}
-use Rattle.meaning.proofs.MapLaws.{insert_same}
+use Rattle.meaning.proofs.MapLaws.{some_none, same_or_other, get-empty, get-removed, get-remove_other, insert_same}
+use Rattle.meaning.proofs.MapLaws.{insert-removed}
 use Rattle.meaning.proofs.MapLists.{map_values-remove}
 use Rattle.meaning.proofs.MapSums.{empty_of_size}
 use Rattle.meaning.proofs.Versions.{body_kept}

@@ -1,4 +1,4 @@
-use Rattle.std.proofs.Common.{◌≡◌, ◌⊎◌, false, None, refl, sym, subst, ◌∙◌, rules}
+use Rattle.std.proofs.Common.{◌≡◌, ◌⊎◌, false, None, refl, sym, ap, subst, ◌∙◌, rules}
 use Rattle.std.specs.Ordering.{nat_cmp}
 use Rattle.std.specs.FinMap.Entries.{find}
 use Rattle.words36.specs.Words.{IsPpn}
@@ -44,8 +44,12 @@ returns-in-Ok-clause-outcome g c =
     c.directory.ensures.value (sym c.is_err.ensures.value ∙ c.if-is_err.false) in
     let own : is_strange c.args.job.now.ppn c.in-Some.owner ≡ false = search rules in
     let bare : HasEntries old.core c.in-Some.owner → ⊥ = search rules in
-    let inside = sym c.lies_outside.ensures.value ∙ c.if-lies_outside.false in
-    (refl, inside, subst (IsFree d old.core c.args.job.now.ppn) (c.in-Some.ensures.value ∙ c.word_at.ensures.value) (there, own, bare))
+    let inside = sym c.lies_outside.ensures.value ∙ c.if-lies_outside.false in (
+      refl,
+      inside,
+      subst (IsFree d old.core c.args.job.now.ppn) (c.in-Some.ensures.value ∙ c.word_at.ensures.value)
+          (there, own, bare),
+    )
 
 pub returns-in-Ok-clause-keeps : goal.returns-in-Ok-clause-keeps
 returns-in-Ok-clause-keeps g c = keeps_core c.args.volume.now.core.pending c.delete_dir.new.self.core.pending
@@ -79,11 +83,15 @@ returns-in-Err-Refused-clause-outcome g c =
     let filled : code ≡ NotEmpty → HasEntries old.core c.in-Some.owner = search rules in
     let kept = kept_by d old.core c.args.job.now.ppn c.in-Some.owner code codes nowhere filled there own in
     let inside = sym c.lies_outside.ensures.value ∙ c.if-lies_outside.false in
-    let job' = c.refuse-in-Err-Refused.new.core in
     subst (IsDeleteDir d old.core ((c.delete_dir.new.self.disk ≡ old.disk) × (c.delete_dir.new.self.core ≡ old.core))
-    c.args.job.now (record c.args.job.now { core = job' }) c.args.address) (sym c.refuse-in-Err-Refused.ensures.answered)
-    ((λ i. record c.args.job.now { core = c.refuse-in-Err-Refused.ensures.kept i }), same, inside,
-    subst (λ n. IsKeptBy d old.core c.args.job.now.ppn n (number_of code)) (c.in-Some.ensures.value ∙ c.word_at.ensures.value) kept)
+    c.args.job.now (record c.args.job.now { core = c.refuse-in-Err-Refused.new.core }) c.args.address)
+    (sym c.refuse-in-Err-Refused.ensures.answered) (
+      ap (λ core. record c.args.job.now { core = core }) c.refuse-in-Err-Refused.ensures.kept,
+      same,
+      inside,
+      subst (λ n. IsKeptBy d old.core c.args.job.now.ppn n (number_of code))
+          (c.in-Some.ensures.value ∙ c.word_at.ensures.value) kept,
+    )
 
 pub returns-in-Err-Refused-clause-keeps : goal.returns-in-Err-Refused-clause-keeps
 returns-in-Err-Refused-clause-keeps g c = keeps_core c.args.volume.now.core.pending c.delete_dir.new.self.core.pending
@@ -103,8 +111,12 @@ returns-in-Err-Device-clause-outcome g c =
     c.directory.ensures.value (sym c.is_err.ensures.value ∙ c.if-is_err.false) in
     let own : is_strange c.args.job.now.ppn c.in-Some.owner ≡ false = search rules in
     let bare : HasEntries old.core c.in-Some.owner → ⊥ = search rules in
-    let inside = sym c.lies_outside.ensures.value ∙ c.if-lies_outside.false in
-    (refl, inside, subst (IsFree d old.core c.args.job.now.ppn) (c.in-Some.ensures.value ∙ c.word_at.ensures.value) (there, own, bare))
+    let inside = sym c.lies_outside.ensures.value ∙ c.if-lies_outside.false in (
+      refl,
+      inside,
+      subst (IsFree d old.core c.args.job.now.ppn) (c.in-Some.ensures.value ∙ c.word_at.ensures.value)
+          (there, own, bare),
+    )
 
 pub returns-in-Err-Device-clause-keeps : goal.returns-in-Err-Device-clause-keeps
 returns-in-Err-Device-clause-keeps g c = keeps_core c.args.volume.now.core.pending c.delete_dir.new.self.core.pending
