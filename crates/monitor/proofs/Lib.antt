@@ -80,3 +80,7 @@ pub mod Promised
 pub mod OutOfOrder
 pub mod UpdateCalls
 pub mod UpdateAnswers
+pub mod DeleteDirCalls
+pub mod DeleteDirStates
+pub mod DeleteDirs
+pub mod DeleteDirAnswers

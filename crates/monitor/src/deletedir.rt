@@ -1,3 +1,16 @@
+ghost use Rattle.std.specs.Prelude.{◌≡◌, ◌↔◌, ℕ, false, IsTrue};
+ghost use Rattle.words36.specs.declared.names.FileName.{FileName};
+ghost use Rattle.blockdisk.specs.Disk.{LeavesOnly, SameDisk, one_more};
+ghost use Rattle.meaning.specs.Files.{File, Files};
+ghost use Rattle.meaning.specs.declared.call.Reply.TheVariants.{Done, Device};
+ghost use Rattle.volume.specs.Beginning.{IsDirectoryOf};
+ghost use Rattle.volume.specs.Known.{KnownDirectory};
+ghost use Rattle.volume.specs.Places.{prime_at};
+ghost use Rattle.volume.specs.RemovingDirectories.{directory_removed};
+ghost use Rattle.volume.specs.Rest.{IsSound, RestsAt, StandsForEither, KeepsRead, KeepsEachWritten};
+ghost use Rattle.monitor.specs.DeleteDirRows.{IsDeleteDir};
+ghost use Rattle.monitor.specs.DirectoryRows.{asked_owner};
+ghost use Rattle.monitor.specs.Rows.{Keeps, KeepsReading};
 ghost use Rattle.meaning.specs.declared.call.Call.TheVariants.{DeleteDir};
 ghost use Rattle.monitor.specs.Promises.{IsReady, ServesAlways};
 
@@ -10,13 +23,49 @@ use meaning::{ErrorCode, Reply};
 use volume::{CallError, Volume};
 use words36::Ppn;
 
-/// DeleteDir: deletes an empty directory, whose it is by the first of the two words at an address. It is refused where
-/// there is no such directory, then to anybody but [1,2] and whose it is, then where it has a file or one is being
-/// created in it.
+/// DeleteDir: deletes an empty directory, by the first of the two words at an address. Its row is `removes`.
 pub fn serve_delete_dir<D: Disk>(volume: &mut Volume<D>, job: &mut Job, address: u32) -> Reply
     requires ready { IsReady (D.state volume.old.disk) volume.old.core volume.old.failed job.old }
     ensures serving { ServesAlways D.state volume.old.disk volume.new.disk volume.old.core volume.new.core
         volume.new.failed job.old job.new (DeleteDir address) result }
+{
+    delete_dir(volume, job, address)
+}
+
+/// DeleteDir: deletes an empty directory, whose it is by the first of the two words at an address. It is refused where
+/// there is no such directory, then to anybody but [1,2] and whose it is, then where it has a file or one is being
+/// created in it.
+fn delete_dir<D: Disk>(volume: &mut Volume<D>, job: &mut Job, address: u32) -> Reply
+    requires serves { volume.old.failed ≡ false }
+    requires sound { IsSound (D.state volume.old.disk) volume.old.core volume.old.failed }
+    ensures outcome { IsDeleteDir (D.state volume.old.disk) volume.old.core ((volume.new.disk ≡ volume.old.disk)
+        × (volume.new.core ≡ volume.old.core)) job.old job.new address result }
+    ensures keeps { Keeps volume.old.core.pending volume.new.core.pending job.old job.new }
+    ensures reads { KeepsReading volume.old.core.live volume.new.core.live job.old job.new }
+    // A crash finds the files as they were, or without the directory.
+    ensures crash { (D.state volume.new.disk).honest → (f : Files File) → RestsAt (D.state volume.old.disk) f
+        → LeavesOnly (D.state volume.old.disk) (D.state volume.new.disk)
+        (StandsForEither (D.state volume.old.disk).size f (directory_removed f (asked_owner job.old.core address))) }
+    ensures done { (D.state volume.new.disk).honest → (f : Files File) → RestsAt (D.state volume.old.disk) f
+        → result ≡ Done
+        → RestsAt (D.state volume.new.disk) (directory_removed f (asked_owner job.old.core address)) }
+    // The versions in use stay, and so do the other directories, and the prime blocks of all files.
+    ensures live { volume.new.core.live ≡ volume.old.core.live }
+    ensures pending { volume.new.core.pending ≡ volume.old.core.pending }
+    ensures directories { (owner : ℕ) (d : KnownDirectory) → IsDirectoryOf volume.old.core owner d
+        → (owner ≡ asked_owner job.old.core address → ⊥) → IsDirectoryOf volume.new.core owner d }
+    ensures primes { (owner : ℕ) (name : FileName)
+        → prime_at volume.new.core owner name ≡ prime_at volume.old.core owner name }
+    ensures readers { (D.state volume.new.disk).honest → volume.new.failed ≡ false
+        → KeepsRead (D.state volume.old.disk).contents (D.state volume.new.disk).contents volume.old.core }
+    ensures writers { (D.state volume.new.disk).honest → volume.new.failed ≡ false
+        → KeepsEachWritten (D.state volume.old.disk).contents (D.state volume.new.disk).contents volume.old.core }
+    // It blames the device where that failed.
+    ensures failed { IsTrue volume.new.failed ↔ (result ≡ Device) }
+    ensures counted { result ≡ Device → (D.state volume.new.disk).failures
+        ≡ one_more (D.state volume.old.disk).failures }
+    ensures served { (result ≡ Device → ⊥) → (D.state volume.new.disk).failures ≡ (D.state volume.old.disk).failures }
+    ensures same { SameDisk (D.state volume.old.disk) (D.state volume.new.disk) }
 {
     if lies_outside(&job.core, address, 2) {
         return Reply::AddressCheck;
