@@ -80,3 +80,5 @@ pub mod Promised
 pub mod OutOfOrder
 pub mod UpdateCalls
 pub mod UpdateAnswers
+pub mod DeletedFiles
+pub mod ReadsDeleted
