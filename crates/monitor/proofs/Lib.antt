@@ -82,3 +82,4 @@ pub mod UpdateCalls
 pub mod UpdateAnswers
 pub mod DeletedFiles
 pub mod ReadsDeleted
+pub mod ChangeAnswers
