@@ -83,3 +83,5 @@ pub mod UpdateAnswers
 pub mod DeletedFiles
 pub mod ReadsDeleted
 pub mod ChangeAnswers
+pub mod InputsClosed
+pub mod RenameRows
