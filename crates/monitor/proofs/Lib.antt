@@ -85,3 +85,4 @@ pub mod ReadsDeleted
 pub mod ChangeAnswers
 pub mod InputsClosed
 pub mod RenameRows
+pub mod DeletedStates
