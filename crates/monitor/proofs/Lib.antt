@@ -86,3 +86,4 @@ pub mod ChangeAnswers
 pub mod InputsClosed
 pub mod RenameRows
 pub mod DeletedStates
+pub mod Deletions
