@@ -87,3 +87,4 @@ pub mod InputsClosed
 pub mod RenameRows
 pub mod DeletedStates
 pub mod Deletions
+pub mod RenameRefusals
