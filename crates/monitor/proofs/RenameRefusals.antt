@@ -25,9 +25,10 @@ use Rattle.volume.specs.Rest.{IsSound}
 use Rattle.volume.specs.declared.live.LiveVersion.{LiveVersion}
 use Rattle.monitor.specs.Changing.{asked_protection}
 use Rattle.monitor.specs.Finding.{IsKnown}
-use Rattle.monitor.specs.Promises.{IsAmong, IsServing}
+use Rattle.monitor.specs.Promises.{IsAmong, IsServing, ServesJob}
 use Rattle.monitor.specs.Readers.{readers_of}
 use Rattle.monitor.specs.Refusals.{with_code}
+use Rattle.monitor.specs.Rows.{IsRow}
 use Rattle.monitor.specs.Serving.{pack_of, AreKeyed, ArePlaced, AreReading, IsState, Serves}
 use Rattle.monitor.specs.Sides.{UnderKeys, sides_in, job_of, state_of}
 use Rattle.monitor.specs.declared.channel.Channel.{Channel}
@@ -35,9 +36,10 @@ use Rattle.monitor.specs.declared.input.Input.{Input}
 use Rattle.monitor.specs.declared.job.Job.{Job}
 use Rattle.monitor.proofs.Answering.{in_state, goes_on, state_is, same_files}
 use Rattle.monitor.proofs.Dropped.{job_keyed, leaves_none}
-use Rattle.monitor.proofs.EnterReads.{reading_same}
+use Rattle.monitor.proofs.EnterReads.{reading_core, reading_same}
 use Rattle.monitor.proofs.Knowing.{known}
-use Rattle.monitor.proofs.Promised.{quiet_serves}
+use Rattle.monitor.proofs.MakeDirs.{keeps_core}
+use Rattle.monitor.proofs.Promised.{alone_serves, quiet_serves}
 use Rattle.monitor.proofs.ReadingJobs.{keeps_reading}
 use Rattle.monitor.proofs.RenameRows.{row_refused}
 
@@ -128,3 +130,19 @@ module _ {D : Type 0} (state : D → DiskState) (only_now : (disk : D) (contents
       (sym job_is)
       (subst (λ r. IsServing state disk disk c c failed jobs jobs' n (Rename number e) moment r) (sym answer_is)
       serves_refused)
+
+-- It is out of order, whatever there is on the disk.
+pub out_of_order : {D : Type 0} (state : D → DiskState) → ((disk : D) (contents : Contents) → (state disk).honest
+    → (state disk).left_since (state disk).clock contents → MayLeave (state disk) contents)
+    → (disk : D) (c : VolumeCore) (failed : Bool) (job after : Job) (number e : ℕ) (moment : Moment) (reply : Reply)
+    → failed ≡ false → ArePlaced c → moment.date ≤ 4095 → IsRow job (with_code job e 5) (Rename number e) (Refused 5)
+    → after ≡ with_code job e 5 → reply ≡ Refused 5
+    → ServesJob state disk disk c c failed job after (Rename number e) moment reply
+out_of_order state only_now disk c failed job after number e moment reply alive placed timely row job_is answer_is =
+    subst (λ j. ServesJob state disk disk c c failed job j (Rename number e) moment reply) (sym job_is)
+    (subst (λ r. ServesJob state disk disk c c failed job (with_code job e 5) (Rename number e) moment r) (sym answer_is)
+    (alone_serves state only_now disk c failed job (with_code job e 5) (Rename number e) moment (Refused 5) alive placed
+    timely (λ served. row) (λ asked. absurd asked)
+    (λ pending. keeps_core pending pending job (with_code job e 5).core refl)
+    (λ live. reading_core live job (with_code job e 5).core) (λ x. cc x, λ x. cc x, λ x. cc x)
+    (λ k at. ap (with_code job e) (same_code at))))
