@@ -1,5 +1,5 @@
 -- RENAME that deletes, by what the volume answers: what it promises, whichever jobs there are.
-use Rattle.std.proofs.Common.{◌≡◌, ◌⊎◌, ◌<◌, ◌≤◌, ℕ, Bool, true, false, List, [], ◌∷◌, Option, Some, None, Result, Ok, Err}
+use Rattle.std.proofs.Common.{◌≡◌, ◌⊎◌, ◌≤◌, ℕ, Bool, true, false, List, [], ◌∷◌, Option, Some, None, Result, Ok, Err}
 use Rattle.std.proofs.Common.{refl, sym, ap, subst, ◌∙◌, inl, inr, ⊎_elim, slice_index, slice_set}
 use Rattle.std.proofs.lemmas.Bool.{eq-eqb}
 use Rattle.std.specs.Prelude.{◌↔◌, if◌then◌else◌, is_none, IsErrOf, OnOk, OnErr}
@@ -15,22 +15,21 @@ use Rattle.meaning.specs.declared.put.Put.{Put}
 use Rattle.meaning.specs.Codes.{number_of}
 use Rattle.meaning.specs.Cores.{lies_outside}
 use Rattle.meaning.specs.Files.{File, Files, Directory, Place, name_cmp}
-use Rattle.meaning.specs.Jobs as machine
 use Rattle.meaning.specs.Jobs.{State, slot}
 use Rattle.meaning.specs.Looking.{place_at}
 use Rattle.meaning.specs.Maps.{get}
 use Rattle.meaning.specs.Published.{Version, without_serials, file_in, file_at, without_file}
 use Rattle.meaning.specs.Renaming.{deletes_at, rename_from, move_answer, files_moved, protection_at}
-use Rattle.meaning.specs.Runs.{Service, Serving, Broken, Answers, is_plain}
+use Rattle.meaning.specs.Runs.{Service, Broken, Answers, is_plain}
 use Rattle.meaning.specs.Stands.{Stands, place_of}
 use Rattle.meaning.specs.Step.{step}
 use Rattle.meaning.specs.declared.call.Call.TheVariants.{Rename}
 use Rattle.meaning.specs.declared.call.Event.TheVariants.{Call as Calls}
 use Rattle.meaning.specs.declared.call.Reply.{Reply}
 use Rattle.meaning.specs.declared.call.Reply.TheVariants as replies
-use Rattle.meaning.proofs.MapLaws.{some_none, some_same}
+use Rattle.meaning.proofs.MapLaws.{some_none}
 use Rattle.meaning.proofs.SlotLaws.{slot-set_other}
-use Rattle.volume.specs.Beginning.{is_absent, IsDirectoryOf}
+use Rattle.volume.specs.Beginning.{IsDirectoryOf}
 use Rattle.volume.specs.Claims.{claims}
 use Rattle.volume.specs.Known.{KnownDirectory}
 use Rattle.volume.specs.Live.{VolumeCore}
@@ -61,7 +60,6 @@ use Rattle.monitor.proofs.EnterReads.{reading_same}
 use Rattle.monitor.proofs.InputsClosed.{input_behind}
 use Rattle.monitor.proofs.Knowing.{known}
 use Rattle.monitor.proofs.Lookups.{placed_still}
-use Rattle.monitor.proofs.Publications.{IsBehind}
 use Rattle.monitor.proofs.Promised.{quiet_serves}
 use Rattle.monitor.proofs.ReadsDeleted.{readers_left}
 use Rattle.monitor.proofs.ReadingJobs.{keeps_reading}
@@ -171,9 +169,12 @@ module _ {D : Type 0} (state : D → DiskState) (only_now : (disk : D) (contents
         ≡ (replies.Done, state_of (without_file s.files place) w (slice_set jobs n (Some closed)))) (sym before_is)
         (row_done d s.files w jobs n job among.there number e moment timely channel is_open input side free inside
         answer serial
-        ∙ ap (λ b. (replies.Done, state_of (if b then without_file s.files place else files_moved s.files place
-        (place_at (job_of w job) e) (protection_at (job_of w job) e) (file_at s.files place)) w
-        (slice_set jobs n (Some closed)))) deletes)
+        ∙ ap (λ b. (
+          replies.Done,
+          state_of (if b then without_file s.files place else files_moved s.files place
+              (place_at (job_of w job) e) (protection_at (job_of w job) e) (file_at s.files place)) w
+              (slice_set jobs n (Some closed)),
+        )) deletes)
 
     undecided : is_plain ((step (pack_of d) 0 s (Calls n (Rename number e) moment)).0) ≡ false
     undecided = ap (λ (r : Reply × State). is_plain r.0) (step_done 0)

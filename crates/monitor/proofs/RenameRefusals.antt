@@ -1,6 +1,6 @@
 -- A RENAME that is refused: what it promises, whichever jobs there are.
-use Rattle.std.proofs.Common.{◌≡◌, ◌<◌, ◌≤◌, ◌+◌, ℕ, Bool, false, List, length, Option, None, Some, Result, Ok, Err, refl}
-use Rattle.std.proofs.Common.{sym, ap, subst, ◌∙◌, slice_index, slice_set, arith}
+use Rattle.std.proofs.Common.{◌≡◌, ◌<◌, ◌≤◌, ℕ, Bool, false, List, length, Option, None, Some, Result, Ok, Err, refl}
+use Rattle.std.proofs.Common.{sym, ap, subst, slice_index, slice_set, arith}
 use Rattle.std.proofs.lemmas.Bool.{eq-eqb}
 use Rattle.std.proofs.lemmas.Bool.Decides.{nat_tests}
 use Rattle.std.specs.Prelude.{if◌then◌else◌, OnOk}
@@ -9,7 +9,6 @@ use Rattle.blockdisk.specs.Disk.{Contents, DiskState, MayLeave}
 use Rattle.meaning.specs.declared.code.ErrorCode.{ErrorCode}
 use Rattle.meaning.specs.Codes.{number_of}
 use Rattle.meaning.specs.Cores.{lies_outside}
-use Rattle.meaning.specs.Files.{Place}
 use Rattle.meaning.specs.Jobs.{State, slot}
 use Rattle.meaning.specs.Renaming.{protection_at, rename_from}
 use Rattle.meaning.specs.Runs.{Service, Answers}
