@@ -66,7 +66,7 @@ still_read live live' key stays read (Ok x) = by (version_at live key) refl read
     by (Some v) at some = let there = stays v at some in
         subst (λ o. 0 < readers_of o) (sym there.1) some
 
-same_code : {a b : ℕ} → Refused a ≡ Refused b → a ≡ b
+pub same_code : {a b : ℕ} → Refused a ≡ Refused b → a ≡ b
 same_code is = cc is
 
 -- The place that was looked up, or the new one, is refused.
