@@ -84,3 +84,11 @@ pub mod DeleteDirCalls
 pub mod DeleteDirStates
 pub mod DeleteDirs
 pub mod DeleteDirAnswers
+pub mod DeletedFiles
+pub mod ReadsDeleted
+pub mod ChangeAnswers
+pub mod InputsClosed
+pub mod RenameRows
+pub mod DeletedStates
+pub mod Deletions
+pub mod RenameRefusals
