@@ -80,3 +80,4 @@ pub mod Promised
 pub mod OutOfOrder
 pub mod UpdateCalls
 pub mod UpdateAnswers
+pub mod MovedFiles
