@@ -24,3 +24,4 @@ pub mod Promises
 pub mod Renewing
 pub mod Updating
 pub mod Closing
+pub mod Changing

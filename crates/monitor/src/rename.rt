@@ -1,17 +1,23 @@
 ghost use Rattle.std.specs.Prelude.{◌≡◌, ◌+◌, ◌==◌, ◌<◌, ◌≤◌, ◌^◌, ℕ, false, None, Some, IfOk, MatchResult, List};
-ghost use Rattle.std.specs.Prelude.{Option, Result, slice_index};
+ghost use Rattle.std.specs.Prelude.{Option, Result, OnOk, [], ◌∷◌, slice_index};
 ghost use Rattle.meaning.specs.Codes.{number_of};
 ghost use Rattle.meaning.specs.Cores.{lies_outside};
-ghost use Rattle.meaning.specs.Jobs.{State, slot};
+ghost use Rattle.meaning.specs.Jobs.{State, Job as MachineJob, slot};
 ghost use Rattle.meaning.specs.Renaming.{protection_at};
 ghost use Rattle.meaning.specs.Stands.{place_of};
 ghost use Rattle.meaning.specs.declared.call.Call.TheVariants.{Rename};
 ghost use Rattle.meaning.specs.declared.call.Reply.TheVariants.{Done, NoMemory, Failed, Device, Refused};
 ghost use Rattle.volume.specs.Claims.{claims};
+ghost use Rattle.volume.specs.Live.{slot as version_at};
+ghost use Rattle.volume.specs.Rest.{IsSound};
 ghost use Rattle.volume.specs.declared.live.LiveVersion.{LiveVersion};
 ghost use Rattle.volume.specs.declared.pending.PendingVersion.{PendingVersion};
+ghost use Rattle.monitor.specs.Changing.{may_become, allowed_change, asked_protection, change_answer, IsChangeAnswer};
+ghost use Rattle.monitor.specs.Changing.{with_input_closed, CloseAfter, changed_reply, changed_job};
+ghost use Rattle.monitor.specs.Dropping.{Closes};
 ghost use Rattle.monitor.specs.Finding.{found_in, IsKnown};
 ghost use Rattle.monitor.specs.Promises.{IsReady, ServesAlways};
+ghost use Rattle.monitor.specs.Readers.{readers_of};
 ghost use Rattle.monitor.specs.Refusals.{with_code};
 ghost use Rattle.monitor.specs.Rows.{IsRow, Keeps, KeepsReading};
 ghost use Rattle.monitor.specs.Sides.{UnderKeys, job_of, reader_of};
@@ -109,7 +115,9 @@ fn allow_change(
     is_zero: bool,
     protection: Option<u16>,
     is_claimed: bool,
-) -> Result<(), ErrorCode> {
+) -> Result<(), ErrorCode>
+    ensures { result ≡ allowed_change found who owner is_zero protection is_claimed }
+{
     acts_are_nested();
     let (directory, own) = match found {
         Found::NoDirectory => return Err(ErrorCode::NoDirectory),
@@ -135,7 +143,9 @@ fn allow_change(
 }
 
 /// Whether a job may rename a file of this protection, or delete it, and give it another one where it is to have it.
-fn may_become(own: u16, protection: Option<u16>, who: Ppn, owner: Ppn) -> bool {
+fn may_become(own: u16, protection: Option<u16>, who: Ppn, owner: Ppn) -> bool
+    ensures { result ≡ may_become own protection who owner }
+{
     if !right(own, who, owner, Act::RENAME) {
         return false;
     }
@@ -151,7 +161,15 @@ fn may_change<D: Disk>(
     who: Ppn,
     input: &Input,
     protection: Option<u16>,
-) -> Result<(), ErrorCode> {
+) -> Result<(), ErrorCode>
+    requires sound { IsSound (D.state volume.now.disk) volume.now.core volume.now.failed }
+    ensures free { OnOk result (claims volume.now.core.pending (place_of input.now.ppn input.now.file) ≡ false) }
+    // It answers as the machine does to a RENAME, by any job with this number, that asks for this protection.
+    ensures answered { (D.state volume.now.disk).honest → volume.now.failed ≡ false → (s : State)
+        → IsKnown (D.state volume.now.disk) volume.now.core s
+        → (job : MachineJob) (e : ℕ) → job.ppn ≡ who → protection ≡ asked_protection job e
+        → IsChangeAnswer result (change_answer s job e (place_of input.now.ppn input.now.file)) }
+{
     let found = find(volume, input.ppn, &input.file);
     let claimed = volume.is_claimed(input.ppn, &input.file);
     let is_zero = input.file.name.bits() == 0;
@@ -192,7 +210,13 @@ fn close_input<D: Disk>(
     number: u32,
     channel: Channel,
     input: Input,
-) {
+)
+    requires held { 0 < readers_of (version_at volume.old.core.live input.pin.key) }
+    ensures closed { Closes volume.old.core volume.new.core [] (input.pin.key ∷ []) }
+    ensures pending { volume.new.core.pending ≡ volume.old.core.pending }
+    ensures untouched { (volume.new.disk ≡ volume.old.disk) × (volume.new.failed ≡ volume.old.failed) }
+    ensures job { job.new ≡ with_input_closed job.old number channel }
+{
     release_input(volume, Some(input));
     let closed = Channel {
         status: cleared(channel.status),
@@ -212,7 +236,14 @@ fn answer_change<D: Disk>(
     channel: Channel,
     input: Input,
     changed: Result<(), CallError>,
-) -> Reply {
+) -> Reply
+    requires inside { address < 0o400000 }
+    requires held { OnOk changed (0 < readers_of (version_at volume.old.core.live input.pin.key)) }
+    ensures answered { result ≡ changed_reply changed }
+    ensures job { job.new ≡ changed_job changed job.old number address channel }
+    ensures closed { CloseAfter changed volume.old.core volume.new.core input }
+    ensures untouched { (volume.new.disk ≡ volume.old.disk) × (volume.new.failed ≡ volume.old.failed) }
+{
     match changed {
         Ok(()) => {
             close_input(volume, job, number, channel, input);
