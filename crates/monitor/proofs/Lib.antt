@@ -81,3 +81,4 @@ pub mod OutOfOrder
 pub mod UpdateCalls
 pub mod UpdateAnswers
 pub mod MovedFiles
+pub mod MovedCore

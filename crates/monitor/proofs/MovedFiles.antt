@@ -1,6 +1,7 @@
 -- A file moves to another place: the files with and without serials, what each place has, and the serials, which stay
 -- the same numbers.
-use Rattle.std.proofs.Common.{◌≡◌, ◌≢◌, ◌+◌, ℕ, Bool, true, false, Option, Some, None, refl, sym, ap, ◌∙◌, ⊎_elim, arith}
+use Rattle.std.proofs.Common.{◌≡◌, ◌≢◌, ◌+◌, ℕ, Bool, true, false, Option, Some, None, refl, sym, ap, ◌∙◌, ◌⊎◌, inl}
+use Rattle.std.proofs.Common.{inr, ⊎_elim, arith}
 use Rattle.std.specs.Prelude.{option_map}
 use Rattle.std.specs.Cmp.{nat_cmp_total}
 use Rattle.std.specs.FinMap.{nat_cmp-IsAntisymmetric}
@@ -73,6 +74,15 @@ shown_moved files old new protection x at =
     (sym (shown_file files old ∙ ap (option_map (λ (v : Version). v.file)) at))
 
 -- What a place has.
+
+pub same_or_another : (p q : Place) → (p ≡ q) ⊎ (p ≢ q)
+same_or_another p q = ⊎_elim
+    (λ (here : p.ppn ≡ q.ppn). ⊎_elim
+    (λ (name : p.name ≡ q.name). inl (λ i. record { ppn = here i; name = name i }))
+    (λ apart. inr (λ same. apart (ap (λ (r : Place). r.name) same)))
+    (same_or_other name_total name_exact p.name q.name))
+    (λ apart. inr (λ same. apart (ap (λ (r : Place). r.ppn) same)))
+    (same_or_other nat_cmp_total nat_cmp-IsAntisymmetric p.ppn q.ppn)
 
 at_there : (files : Files Version) (place : Place) (d : Directory Version) → get files place.ppn ≡ Some d
     → file_at files place ≡ get d.files place.name
@@ -202,16 +212,9 @@ module _ (files : Files Version) (old new : Place) (protection : ℕ) (x : Versi
   module _ (free : new ≢ old → file_at files new ≡ None) where
     vacant : file_at out new ≡ None
     vacant = ⊎_elim
-        (λ (here : new.ppn ≡ old.ppn). ⊎_elim
-        (λ (name : new.name ≡ old.name).
-        ap (file_at out) (λ i. record { ppn = here i; name = name i }) ∙ out_there files old)
-        (λ apart. elsewhere (λ same. apart (ap (λ (q : Place). q.name) same)))
-        (same_or_other name_total name_exact new.name old.name))
-        (λ apart. elsewhere (λ same. apart (ap (λ (q : Place). q.ppn) same)))
-        (same_or_other nat_cmp_total nat_cmp-IsAntisymmetric new.ppn old.ppn)
-      where
-        elsewhere : new ≢ old → file_at out new ≡ None
-        elsewhere apart = out_elsewhere files old new apart ∙ free apart
+        (λ (same : new ≡ old). ap (file_at out) same ∙ out_there files old)
+        (λ apart. out_elsewhere files old new apart ∙ free apart)
+        (same_or_another new old)
 
     copies-moved : (k : ℕ) → copies k (versions_in moved) ≡ copies k (versions_in files)
     copies-moved k =
