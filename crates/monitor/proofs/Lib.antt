@@ -82,3 +82,6 @@ pub mod UpdateCalls
 pub mod UpdateAnswers
 pub mod MovedFiles
 pub mod MovedCore
+pub mod ReadsMoved
+pub mod DeletedFiles
+pub mod ReadsDeleted

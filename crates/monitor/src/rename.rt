@@ -118,7 +118,6 @@ fn allow_change(
 ) -> Result<(), ErrorCode>
     ensures { result ≡ allowed_change found who owner is_zero protection is_claimed }
 {
-    acts_are_nested();
     let (directory, own) = match found {
         Found::NoDirectory => return Err(ErrorCode::NoDirectory),
         Found::Absent(directory) => (directory, None),
@@ -146,6 +145,7 @@ fn allow_change(
 fn may_become(own: u16, protection: Option<u16>, who: Ppn, owner: Ppn) -> bool
     ensures { result ≡ may_become own protection who owner }
 {
+    acts_are_nested();
     if !right(own, who, owner, Act::RENAME) {
         return false;
     }
