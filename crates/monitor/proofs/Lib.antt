@@ -83,5 +83,6 @@ pub mod UpdateAnswers
 pub mod MovedFiles
 pub mod MovedCore
 pub mod ReadsMoved
+pub mod Arrivals
 pub mod DeletedFiles
 pub mod ReadsDeleted

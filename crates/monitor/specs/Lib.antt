@@ -25,3 +25,4 @@ pub mod Renewing
 pub mod Updating
 pub mod Closing
 pub mod Changing
+pub mod Arriving
