@@ -84,5 +84,6 @@ pub mod MovedFiles
 pub mod MovedCore
 pub mod ReadsMoved
 pub mod Arrivals
+pub mod MoveReplies
 pub mod DeletedFiles
 pub mod ReadsDeleted
