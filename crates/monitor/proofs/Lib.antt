@@ -87,3 +87,7 @@ pub mod Arrivals
 pub mod MoveReplies
 pub mod DeletedFiles
 pub mod ReadsDeleted
+pub mod ChangeAnswers
+pub mod InputsClosed
+pub mod RenameRows
+pub mod DeletedStates
