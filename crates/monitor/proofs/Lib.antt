@@ -85,6 +85,7 @@ pub mod MovedCore
 pub mod ReadsMoved
 pub mod Arrivals
 pub mod MoveReplies
+pub mod MovedStates
 pub mod DeletedFiles
 pub mod ReadsDeleted
 pub mod ChangeAnswers
