@@ -86,6 +86,8 @@ pub mod ReadsMoved
 pub mod Arrivals
 pub mod MoveReplies
 pub mod MovedStates
+pub mod RenameRefused
+pub mod MoveServing
 pub mod DeletedFiles
 pub mod ReadsDeleted
 pub mod ChangeAnswers

@@ -338,6 +338,7 @@ fn move_file<D: Disk>(
     ensures serving { ServesAlways D.state volume.old.disk volume.new.disk volume.old.core volume.new.core
         volume.new.failed job.old job.new (Rename number address) result }
 {
+    let _length = job.core.length(); // no address is behind it
     let protection = (word_at(&job.core, address + 2).bits() >> 27) as u16;
     if let Err(code) = may_change(volume, job.ppn, &input, Some(protection)) {
         return refuse(&mut job.core, address, code);
