@@ -94,3 +94,5 @@ pub mod ChangeAnswers
 pub mod InputsClosed
 pub mod RenameRows
 pub mod DeletedStates
+pub mod Deletions
+pub mod RenameRefusals

@@ -10,6 +10,7 @@ use Rattle.meaning.specs.Jobs.{State, slot}
 use Rattle.meaning.specs.Outcomes.{settled, refused_at}
 use Rattle.meaning.specs.Published.{Version}
 use Rattle.meaning.specs.Renaming.{rename_from, rename_sides, rename_done, files_from, files_renamed, renames}
+use Rattle.meaning.specs.Room.{Pack}
 use Rattle.meaning.specs.Stands.{place_of}
 use Rattle.meaning.specs.Step.{step, on_channel, of_files}
 use Rattle.meaning.specs.declared.call.Call.TheVariants.{Rename}
@@ -18,6 +19,7 @@ use Rattle.meaning.specs.declared.call.Reply.{Reply}
 use Rattle.meaning.specs.declared.call.Reply.TheVariants.{Done, Refused, AddressCheck}
 use Rattle.monitor.specs.Changing.{input_closed, with_input_closed}
 use Rattle.monitor.specs.Refusals.{with_code}
+use Rattle.monitor.specs.Rows.{IsRow}
 use Rattle.monitor.specs.Serving.{pack_of}
 use Rattle.monitor.specs.Sides.{UnderKeys, input_of, output_of, channel_of, job_of, state_of}
 use Rattle.monitor.specs.declared.channel.Channel.{Channel}
@@ -83,3 +85,23 @@ module _ (d : DiskState) (files : Files Version) (w : UnderKeys) (jobs : List (O
       ap (λ (r : Reply × State). r.0) (asks 0)
       ∙ settled_reply (rename_from (pack_of d) t j e old)
       (rename_done j number (channel_of w channel), files_from files j e old) (λ r. (refused_at j e r, files))
+
+-- A channel that writes, too, is out of order.
+
+busy : (pack : Pack) (s : State) (j : machine.Job) (e : ℕ) (i : Option machine.Input) (o : machine.Output)
+    → rename_sides pack s j e i (Some o) ≡ Refused 5
+busy pack s j e None o = refl
+busy pack s j e (Some i) o = refl
+
+pub rename_writing : (job : Job) (number e : ℕ) (channel : Channel) → slot job.channels number ≡ Some channel
+    → (o : Output) → channel.output ≡ Some o → lies_outside job.core e 4 ≡ false
+    → IsRow job (with_code job e 5) (Rename number e) (Refused 5)
+rename_writing job number e channel is_open o writes inside pack serial s n w moment at =
+    let j = job_of w job in
+    let c = channel_of w channel in
+    ap (λ x. on_channel s x (λ y. of_files s n (renames pack s j number y e)))
+    (channel_is w job number (Some channel) is_open)
+    ∙ ap (λ r. of_files s n (settled r (rename_done j number c, files_renamed s.files j e c.input)
+    (λ reply. (refused_at j e reply, s.files))))
+    ((λ i. if inside i then AddressCheck else rename_sides pack s j e c.input (option_map (output_of w) (writes i)))
+    ∙ busy pack s j e c.input (output_of w o))

@@ -311,6 +311,7 @@ fn remove_file<D: Disk>(
     ensures serving { ServesAlways D.state volume.old.disk volume.new.disk volume.old.core volume.new.core
         volume.new.failed job.old job.new (Rename number address) result }
 {
+    let _length = job.core.length(); // which says how long a core may be
     if let Err(code) = may_change(volume, job.ppn, &input, None) {
         return refuse(&mut job.core, address, code);
     }

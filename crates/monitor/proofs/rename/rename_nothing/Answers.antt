@@ -10,6 +10,8 @@ use Rattle.monitor.proofs.ReadsDeleted.{reads_deleted}
 use Rattle.monitor.proofs.InputsClosed.{input_behind}
 use Rattle.monitor.proofs.RenameRows.{row_done}
 use Rattle.monitor.proofs.DeletedStates.{deleted_state}
+use Rattle.monitor.proofs.Deletions.{deleting_serves}
+use Rattle.monitor.proofs.RenameRefusals.{refusing_serves}
 use Rattle.monitor.proofs.OutOfOrder.{rename_none, rename_outside, rename_refused}
 use Rattle.monitor.proofs.rename.rename_nothing.Goals as goal
 
