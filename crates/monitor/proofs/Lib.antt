@@ -86,8 +86,9 @@ pub mod ReadsMoved
 pub mod Arrivals
 pub mod MoveReplies
 pub mod MovedStates
-pub mod RenameRefused
+pub mod RenameWanting
 pub mod MoveServing
+pub mod Moves
 pub mod DeletedFiles
 pub mod ReadsDeleted
 pub mod ChangeAnswers

@@ -228,7 +228,7 @@ only_first true b is first = cc first
 only_first false true is first = refl
 only_first false false is first = cc is
 
-other_place : (a b : Place) → a ≢ b → same_place a b ≡ false
+pub other_place : (a b : Place) → a ≢ b → same_place a b ≡ false
 other_place a b apart = ⊎_elim
     (λ (is : same_place a b ≡ true). absurd (apart (same_place-equal a b is)))
     (λ not. not) (cases_Bool (same_place a b))

@@ -1,7 +1,7 @@
 -- RENAME that moves a file, by what the volume answers: what it promises, among whichever jobs.
 use Rattle.std.proofs.Common.{◌≡◌, ◌≢◌, ◌⊎◌, ◌≤◌, ◌<◌, ◌+◌, ◌/◌, ◌^◌, ℕ, Bool, true, false, if◌then◌else◌, List, [], ◌∷◌}
 use Rattle.std.proofs.Common.{Option, Some, None, Result, Ok, Err, refl, sym, ap, subst, ◌∙◌, inl, inr, ⊎_elim, slice_set}
-use Rattle.std.proofs.Common.{slice_index}
+use Rattle.std.proofs.Common.{slice_index, arith}
 use Rattle.std.specs.Prelude.{◌↔◌, ◌==◌, IsErrOf, OnOk, IsTrue}
 use Rattle.std.proofs.lemmas.Bool.{cases_eq, ne_eqb}
 use Rattle.words36.specs.declared.moment.Moment.{Moment}
@@ -27,6 +27,7 @@ use Rattle.meaning.specs.declared.call.Event.TheVariants.{Call as Calls}
 use Rattle.meaning.specs.declared.call.Reply.{Reply}
 use Rattle.meaning.specs.declared.call.Reply.TheVariants as replies
 use Rattle.meaning.proofs.SlotLaws.{slot-set_other}
+use Rattle.retrieval.specs.declared.prime.Prime.{Prime}
 use Rattle.volume.specs.Claims.{claims}
 use Rattle.volume.specs.Live.{VolumeCore}
 use Rattle.volume.specs.Live.{slot as version_at}
@@ -42,6 +43,8 @@ use Rattle.monitor.specs.Dropping.{Closes}
 use Rattle.monitor.specs.Events.{CallCrashes}
 use Rattle.monitor.specs.Finding.{IsKnown}
 use Rattle.monitor.specs.Promises.{IsAmong, IsServing, ServesAlways}
+use Rattle.monitor.specs.Readers.{readers_of}
+use Rattle.monitor.specs.Refusals.{with_code}
 use Rattle.monitor.specs.Serving.{pack_of, ArePlaced, IsState, Serves}
 use Rattle.monitor.specs.Sides.{UnderKeys, job_of, jobs_of, state_of}
 use Rattle.monitor.specs.declared.channel.Channel.{Channel}
@@ -57,8 +60,9 @@ use Rattle.monitor.proofs.MovedStates.{readers_moved, moved_keyed, moved_reading
 use Rattle.monitor.proofs.MoveReplies.{IsMoveAnswer, moves_from, moves_home, moves_free, moves_done, moves_refused}
 use Rattle.monitor.proofs.Publications.{IsBehind}
 use Rattle.monitor.proofs.ReadsMoved.{protected_jobs, with_protected}
-use Rattle.monitor.proofs.RenameRefused.{refused_serves, wanting_serves, rename_serves, rename_undecided}
+use Rattle.monitor.proofs.RenameRefusals.{refusing_serves}
 use Rattle.monitor.proofs.RenameRows.{row_done}
+use Rattle.monitor.proofs.RenameWanting.{wanting_serves, rename_serves, rename_undecided}
 
 -- What a volume that serves says of a move; `Same` is that disk and core are as they were.
 pub record Moves (d d' : DiskState) (c b : VolumeCore) (Same : Type 0) (failed' : Bool) (ppn : ℕ) (name : FileName)
@@ -84,6 +88,19 @@ pub record Moves (d d' : DiskState) (c b : VolumeCore) (Same : Type 0) (failed' 
   pub counted : IsErrOf answer Device → d'.failures ≡ one_more d.failures
   pub served : (IsErrOf answer Device → ⊥) → d'.failures ≡ d.failures
   pub same : SameDisk d d'
+
+-- A version that is read stays so over a move.
+pub read_on : (live live' : List (Option LiveVersion)) (key : ℕ) → ((v : LiveVersion) → version_at live key ≡ Some v
+    → 0 < v.readers → (prime : Prime) × (version_at live' key ≡ Some (record v { prime = prime })))
+    → 0 < readers_of (version_at live key) → (answer : Result (Unit {0}) CallError)
+    → OnOk answer (0 < readers_of (version_at live' key))
+read_on live live' key stays held (Err error) = tt
+read_on live live' key stays held (Ok x) = by (version_at live key) refl held
+  where
+    by : (was : Option LiveVersion) → version_at live key ≡ was → 0 < readers_of was
+        → 0 < readers_of (version_at live' key)
+    by None at none = absurd (omega (arith, none))
+    by (Some v) at some = let there = stays v at some in subst (λ o. 0 < readers_of o) (sym there.1) some
 
 -- A move that was made, within a directory or to another one.
 pub moves_file : (d d' : DiskState) (c b : VolumeCore) (Same : Type 0) (failed' : Bool) (ppn : ℕ) (name : FileName)
@@ -333,9 +350,11 @@ module _ {D : Type 0} (state : D → DiskState) (only_now : (disk : D) (contents
       let same = says.refused code refl in
       rename_serves state disk disk disk' core core core' false failed' job _ _ (Rename number e) _ _ (sym same.0)
       (sym same.1 ∙ sym closes) (sym (says.still (λ e. cc e) (λ e. cc e))) refl refl
-      (refused_serves state only_now disk core job number e channel is_open input side free inside sound placed code
+      (λ moment timely jobs n among. refusing_serves state only_now disk core false refl job number e channel input
+      is_open side free inside sound placed code
       (λ honest s at w. moves_refused d core s at sound honest (job_of w job) e input.ppn input.file to_ppn to (place w)
-      moves (changes honest s at w) (comes honest s at w) (Err (Refused code)) says.answers code refl))
+      moves (changes honest s at w) (comes honest s at w) (Err (Refused code)) says.answers code refl)
+      moment timely jobs n among (with_code job e (number_of code)) (replies.Refused (number_of code)) refl refl)
   move_serves (Err NoMemory) says core' closes =
       let same = says.memory refl in
       rename_serves state disk disk disk' core core core' false failed' job _ _ (Rename number e) _ _ (sym same.0)

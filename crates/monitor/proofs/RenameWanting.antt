@@ -1,15 +1,12 @@
--- A RENAME of what a channel reads that is refused, or finds no memory, leaves the volume as it was.
+-- A RENAME of what a channel reads that finds no memory, and when its answer is decided.
 use Rattle.std.proofs.Common.{◌≡◌, ◌≤◌, ℕ, Bool, false, List, Option, Some, None, refl, sym, ap, subst, ◌∙◌, inr, slice_set}
 use Rattle.words36.specs.declared.moment.Moment.{Moment}
 use Rattle.blockdisk.specs.Disk.{Contents, DiskState, MayLeave}
-use Rattle.meaning.specs.Codes.{number_of}
 use Rattle.meaning.specs.Cores.{lies_outside}
 use Rattle.meaning.specs.Jobs.{State, slot}
-use Rattle.meaning.specs.Renaming.{rename_from}
 use Rattle.meaning.specs.Runs.{Service, Serving, Answers, is_plain}
 use Rattle.meaning.specs.Stands.{place_of}
 use Rattle.meaning.specs.Step.{step}
-use Rattle.meaning.specs.declared.code.ErrorCode.{ErrorCode}
 use Rattle.meaning.specs.declared.call.Call.{Call}
 use Rattle.meaning.specs.declared.call.Call.TheVariants.{Rename}
 use Rattle.meaning.specs.declared.call.Event.TheVariants.{Call as Calls}
@@ -18,23 +15,17 @@ use Rattle.meaning.specs.declared.call.Reply.TheVariants as replies
 use Rattle.meaning.proofs.SlotLaws.{set-slot}
 use Rattle.volume.specs.Live.{VolumeCore}
 use Rattle.volume.specs.Rest.{IsSound}
-use Rattle.monitor.specs.Finding.{IsKnown}
-use Rattle.monitor.specs.Promises.{IsAmong, IsServing, ServesJob, ServesAlways}
-use Rattle.monitor.specs.Refusals.{with_code}
-use Rattle.monitor.specs.Serving.{pack_of, AreKeyed, ArePlaced, AreReading, IsState, Serves}
-use Rattle.monitor.specs.Sides.{UnderKeys, job_of, state_of}
+use Rattle.monitor.specs.Promises.{IsServing, ServesAlways}
+use Rattle.monitor.specs.Serving.{pack_of, ArePlaced, IsState, Serves}
+use Rattle.monitor.specs.Sides.{job_of, state_of}
 use Rattle.monitor.specs.declared.channel.Channel.{Channel}
 use Rattle.monitor.specs.declared.input.Input.{Input}
 use Rattle.monitor.specs.declared.job.Job.{Job}
-use Rattle.monitor.proofs.Answering.{in_state, goes_on, same_files, state_is}
+use Rattle.monitor.proofs.Answering.{in_state, state_is}
 use Rattle.monitor.proofs.Calling.{keeps_same, reads_same}
-use Rattle.monitor.proofs.Dropped.{leaves_none}
-use Rattle.monitor.proofs.EnterReads.{reading_core}
-use Rattle.monitor.proofs.Knowing.{known}
-use Rattle.monitor.proofs.MakeDirs.{keeps_core}
 use Rattle.monitor.proofs.MoveReplies.{rename_late}
 use Rattle.monitor.proofs.Promised.{quiet_serves}
-use Rattle.monitor.proofs.RenameRows.{row_refused, row_answers}
+use Rattle.monitor.proofs.RenameRows.{row_answers}
 use Rattle.monitor.proofs.Serving.{alone_keyed, alone_reading}
 
 -- it is decided only after memory and the disk are needed
@@ -74,39 +65,6 @@ module _ {D : Type 0} (state : D → DiskState) (only_now : (disk : D) (contents
     (placed : ArePlaced core) where
   abbrev d : DiskState
   d = state disk
-
-  pub refused_serves : (code : ErrorCode)
-      → (d.honest → (s : State) → IsKnown d core s → (w : UnderKeys)
-      → rename_from (pack_of d) s (job_of w job) e (place_of input.ppn input.file) ≡ replies.Refused (number_of code))
-      → ServesAlways state disk disk core core false job (with_code job e (number_of code)) (Rename number e)
-      (replies.Refused (number_of code))
-  refused_serves code row moment timely jobs n among =
-      let number' = number_of code in
-      let job' = with_code job e number' in
-      let call = Rename number e in
-      let set = slice_set jobs n (Some job') in
-      let keyed = alone_keyed d core false jobs n call moment refl timely set job job' among.keyed among.there refl
-      (keeps_core core.pending core.pending job job'.core refl) in
-      let reading = alone_reading d core false jobs n call moment refl timely set job job' among.reading among.there refl
-      (reading_core core.live job job'.core) in
-      quiet_serves state only_now disk disk core core false false job job' call moment (replies.Refused number') refl
-      (refl, refl) (λ x. cc x, λ x. cc x) placed (λ light. absurd light) (λ kept. absurd kept) (λ none. cc none)
-      (λ k same. ap (with_code job e) (code_is number' k same)) (λ asked. absurd asked) jobs n among keyed reading
-      (λ honest served. in_state d core false jobs (λ old. (new : Service) × Serves d core false set new
-      × Answers (pack_of d) old (Calls n call moment) (replies.Refused number') new) refl
-      (λ s is.
-      let before = state_is s is.under jobs is.jobs_are in
-      let here = subst (IsKnown d core) before (known d core jobs s is sound honest) in
-      goes_on d core false set (pack_of d) (Calls n call moment) (replies.Refused number') s
-      (state_of s.files is.under set) refl is.sound
-      (λ serial. subst (λ y. step (pack_of d) serial y (Calls n call moment)
-      ≡ (replies.Refused number', state_of s.files is.under set)) (sym before)
-      (row_refused d s.files is.under jobs n job among.there number e moment timely channel is_open input side free inside
-      number' (row honest (state_of s.files is.under jobs) here is.under) serial))
-      (same_files d core core false jobs set keyed reading (leaves_none core) s is)))
-    where
-      code_is : (a b : ℕ) → replies.Refused a ≡ replies.Refused b → a ≡ b
-      code_is a b same = cc same
 
   pub wanting_serves : ServesAlways state disk disk core core false job job (Rename number e) replies.NoMemory
   wanting_serves moment timely jobs n among =
