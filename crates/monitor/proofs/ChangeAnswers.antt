@@ -36,6 +36,7 @@ use Rattle.monitor.specs.Changing.{may_become, is_other, changes_file, allowed_c
 use Rattle.monitor.specs.Changing.{IsChangeAnswer}
 use Rattle.monitor.specs.Finding.{IsKnown, found_file, found_in}
 use Rattle.monitor.specs.Inputs.{named_in}
+use Rattle.monitor.specs.declared.found.Found.{Found}
 use Rattle.monitor.proofs.Growths.{shown_at}
 
 -- A file of a disk has a name.
@@ -174,6 +175,20 @@ change_answered d map s known sound honest job e ppn name =
     (asked_is job e ppn name claimed (get s.files ppn) (λ x is. nonzero name.name (named_file d map.known
     (without_serials s.files) (rest_holds d map false sound honest refl (without_serials s.files) known.files) ppn name
     x.file (ap (λ o. named_in o name) (shown_at s.files ppn) ∙ file_shown (get s.files ppn) name x is)))))
+
+-- The same of what is found, and asked for.
+pub found_answered : (d : DiskState) (map : VolumeCore) (s : State) → IsKnown d map s → IsSound d map false → d.honest
+    → (job : machine.Job) (e ppn : ℕ) (name : FileName) (who word : ℕ) (protection : Option ℕ) (found : Found)
+    (claimed : Bool) (result : Result (Unit {0}) ErrorCode)
+    → result ≡ allowed_change found who ppn (word == 0) protection claimed
+    → found ≡ found_in (get (without_serials s.files) ppn) name → job.ppn ≡ who → word ≡ name.name
+    → protection ≡ asked_protection job e → claimed ≡ claims map.pending (place_of ppn name)
+    → IsChangeAnswer result (change_answer s job e (place_of ppn name))
+found_answered d map s known sound honest job e ppn name who word protection found claimed result is seen same zero
+    asks claims_it =
+    subst (λ r. IsChangeAnswer r (change_answer s job e (place_of ppn name)))
+    (sym (is ∙ (λ i. allowed_change (seen i) (sym same i) ppn (zero i == 0) (asks i) (claims_it i))))
+    (change_answered d map s known sound honest job e ppn name)
 
 -- What a RENAME answers begins so.
 

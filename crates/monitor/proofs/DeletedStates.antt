@@ -1,5 +1,5 @@
 -- The state that the monitor stands for once a file is deleted.
-use Rattle.std.proofs.Common.{◌≡◌, ◌<◌, ℕ, Bool, true, false, List, Option, Some, None, refl, sym, ap, subst, ◌∙◌}
+use Rattle.std.proofs.Common.{◌≡◌, ℕ, false, List, Option, Some, refl, sym, ap, subst, ◌∙◌}
 use Rattle.std.proofs.Common.{⊎_elim, slice_set}
 use Rattle.std.proofs.lemmas.Bool.{cases_eq}
 use Rattle.std.specs.Prelude.{is_none, slice_get}
@@ -12,7 +12,6 @@ use Rattle.meaning.specs.Files.{Files, Place, name_cmp}
 use Rattle.meaning.specs.Jobs.{State, slot}
 use Rattle.meaning.specs.Maps.{remove, get, from_entries}
 use Rattle.meaning.specs.Published.{Version, without_serials, file_at, without_file}
-use Rattle.meaning.specs.Runs.{AreDistinct}
 use Rattle.meaning.specs.Sound as meaning
 use Rattle.meaning.specs.Stands.{place_of}
 use Rattle.meaning.proofs.MapLaws.{some_same, get-remove_other}

@@ -1,5 +1,5 @@
 -- RENAME that deletes, by what the volume answers: what it promises, whichever jobs there are.
-use Rattle.std.proofs.Common.{◌≡◌, ◌⊎◌, ◌<◌, ◌≤◌, ℕ, Bool, true, false, List, [], ◌∷◌, Option, Some, None, Result, Ok, Err}
+use Rattle.std.proofs.Common.{◌≡◌, ◌⊎◌, ◌≤◌, ℕ, Bool, true, false, List, [], ◌∷◌, Option, Some, None, Result, Ok, Err}
 use Rattle.std.proofs.Common.{refl, sym, ap, subst, ◌∙◌, inl, inr, ⊎_elim, slice_index, slice_set}
 use Rattle.std.proofs.lemmas.Bool.{eq-eqb}
 use Rattle.std.specs.Prelude.{◌↔◌, if◌then◌else◌, is_none, IsErrOf, OnOk, OnErr}
@@ -15,22 +15,21 @@ use Rattle.meaning.specs.declared.put.Put.{Put}
 use Rattle.meaning.specs.Codes.{number_of}
 use Rattle.meaning.specs.Cores.{lies_outside}
 use Rattle.meaning.specs.Files.{File, Files, Directory, Place, name_cmp}
-use Rattle.meaning.specs.Jobs as machine
 use Rattle.meaning.specs.Jobs.{State, slot}
 use Rattle.meaning.specs.Looking.{place_at}
 use Rattle.meaning.specs.Maps.{get}
 use Rattle.meaning.specs.Published.{Version, without_serials, file_in, file_at, without_file}
 use Rattle.meaning.specs.Renaming.{deletes_at, rename_from, move_answer, files_moved, protection_at}
-use Rattle.meaning.specs.Runs.{Service, Serving, Broken, Answers, is_plain}
+use Rattle.meaning.specs.Runs.{Service, Broken, Answers, is_plain}
 use Rattle.meaning.specs.Stands.{Stands, place_of}
 use Rattle.meaning.specs.Step.{step}
 use Rattle.meaning.specs.declared.call.Call.TheVariants.{Rename}
 use Rattle.meaning.specs.declared.call.Event.TheVariants.{Call as Calls}
 use Rattle.meaning.specs.declared.call.Reply.{Reply}
 use Rattle.meaning.specs.declared.call.Reply.TheVariants as replies
-use Rattle.meaning.proofs.MapLaws.{some_none, some_same}
+use Rattle.meaning.proofs.MapLaws.{some_none}
 use Rattle.meaning.proofs.SlotLaws.{slot-set_other}
-use Rattle.volume.specs.Beginning.{is_absent, IsDirectoryOf}
+use Rattle.volume.specs.Beginning.{IsDirectoryOf}
 use Rattle.volume.specs.Claims.{claims}
 use Rattle.volume.specs.Known.{KnownDirectory}
 use Rattle.volume.specs.Live.{VolumeCore}
@@ -61,10 +60,10 @@ use Rattle.monitor.proofs.EnterReads.{reading_same}
 use Rattle.monitor.proofs.InputsClosed.{input_behind}
 use Rattle.monitor.proofs.Knowing.{known}
 use Rattle.monitor.proofs.Lookups.{placed_still}
-use Rattle.monitor.proofs.Publications.{IsBehind}
 use Rattle.monitor.proofs.Promised.{quiet_serves}
 use Rattle.monitor.proofs.ReadsDeleted.{readers_left}
 use Rattle.monitor.proofs.ReadingJobs.{keeps_reading}
+use Rattle.monitor.proofs.RenameRefusals.{same_code}
 use Rattle.monitor.proofs.RenameRows.{row_done}
 
 -- What a volume says of a deletion; `Same` is that disk and core are as they were.
@@ -111,9 +110,6 @@ not_refused d c s sound holds ppn name x at result code gone absent which is = b
         let there_is = sym (ap (λ o. file_in o name) shown.there) ∙ at in
         contrary (ap is_none there_is) (sym shown.absent ∙ ap is_none found.2))
         which
-
-same_code : {a b : ℕ} → replies.Refused a ≡ replies.Refused b → a ≡ b
-same_code is = cc is
 
 module _ {D : Type 0} (state : D → DiskState) (only_now : (disk : D) (contents : Contents) → (state disk).honest
     → (state disk).left_since (state disk).clock contents → MayLeave (state disk) contents) (disk disk' : D)
@@ -171,9 +167,12 @@ module _ {D : Type 0} (state : D → DiskState) (only_now : (disk : D) (contents
         ≡ (replies.Done, state_of (without_file s.files place) w (slice_set jobs n (Some closed)))) (sym before_is)
         (row_done d s.files w jobs n job among.there number e moment timely channel is_open input side free inside
         answer serial
-        ∙ ap (λ b. (replies.Done, state_of (if b then without_file s.files place else files_moved s.files place
-        (place_at (job_of w job) e) (protection_at (job_of w job) e) (file_at s.files place)) w
-        (slice_set jobs n (Some closed)))) deletes)
+        ∙ ap (λ b. (
+          replies.Done,
+          state_of (if b then without_file s.files place else files_moved s.files place
+              (place_at (job_of w job) e) (protection_at (job_of w job) e) (file_at s.files place)) w
+              (slice_set jobs n (Some closed)),
+        )) deletes)
 
     undecided : is_plain ((step (pack_of d) 0 s (Calls n (Rename number e) moment)).0) ≡ false
     undecided = ap (λ (r : Reply × State). is_plain r.0) (step_done 0)
@@ -196,12 +195,12 @@ module _ {D : Type 0} (state : D → DiskState) (only_now : (disk : D) (contents
             (sym (step_done (is.same.was_honest honest) s state_s 0))) new,
       )))
 
-  abbrev Serving_ : Result (Unit {0}) CallError → Type 0
-  Serving_ r = IsServing state disk disk' c c' failed' jobs
+  abbrev ServesAfter : Result (Unit {0}) CallError → Type 0
+  ServesAfter r = IsServing state disk disk' c c' failed' jobs
       (slice_set jobs n (Some (changed_job r job number e channel))) n (Rename number e) moment (changed_reply r)
 
   -- It is done, and the channel's input side is closed behind it.
-  done : result ≡ Ok tt → Closes b c' [] (input.pin.key ∷ []) → c'.pending ≡ b.pending → Serving_ (Ok tt)
+  done : result ≡ Ok tt → Closes b c' [] (input.pin.key ∷ []) → c'.pending ≡ b.pending → ServesAfter (Ok tt)
   done ok closes pending =
       let removed = subst (λ r. OnOk r ((key : ℕ) × (v : LiveVersion) × (puts : List Put)
       × RemovesFile d.size c b input.ppn input.file key v puts)) ok is.removed in
@@ -250,7 +249,7 @@ module _ {D : Type 0} (state : D → DiskState) (only_now : (disk : D) (contents
       }
 
   -- It is refused, which happens to no file that is there: so this is no honest disk.
-  refused : (code : ErrorCode) → IsErrOf result (Refused code) → c' ≡ b → Serving_ (Err (Refused code))
+  refused : (code : ErrorCode) → IsErrOf result (Refused code) → c' ≡ b → ServesAfter (Err (Refused code))
   refused code error same =
       let fine : IsErrOf result Device → ⊥ = λ broke. let wrong = sym error ∙ broke in cc in
       let still = subst (λ r. OnErr r ((disk' ≡ disk) × (b ≡ c))) error (is.refused fine) in
@@ -270,7 +269,7 @@ module _ {D : Type 0} (state : D → DiskState) (only_now : (disk : D) (contents
       (λ s state_s. absurd (never_refused (is.same.was_honest honest) s state_s code error)))
 
   -- The device failed.
-  broken : IsErrOf result Device → Serving_ (Err Device)
+  broken : IsErrOf result Device → ServesAfter (Err Device)
   broken error = record {
     keyed = λ serves. absurd (contrary serves (is.device error));
     placed = λ serves. absurd (contrary serves (is.device error));
@@ -294,7 +293,7 @@ module _ {D : Type 0} (state : D → DiskState) (only_now : (disk : D) (contents
     same = is.same;
   }
 
-  by_result : (r : Result (Unit {0}) CallError) → result ≡ r → CloseAfter r b c' input → Serving_ r
+  by_result : (r : Result (Unit {0}) CallError) → result ≡ r → CloseAfter r b c' input → ServesAfter r
   by_result (Ok x) at after = done at after.0 after.1
   by_result (Err (Refused code)) at after = refused code at after
   by_result (Err NoMemory) at after = absurd (is.memory at)

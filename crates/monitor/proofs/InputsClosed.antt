@@ -1,11 +1,11 @@
 -- The input side of a channel closes: what it reads is held once less, and all else of the job stays.
-use Rattle.std.proofs.Common.{◌≡◌, ℕ, ◌+◌, ◌<◌, ◌≤◌, List, [], ◌∷◌, Option, Some, None, refl, sym, ap, subst, ◌∙◌, arith}
+use Rattle.std.proofs.Common.{◌≡◌, ℕ, ◌<◌, ◌≤◌, List, [], ◌∷◌, Option, Some, None, refl, sym, ap, subst, ◌∙◌, arith}
 use Rattle.std.specs.Prelude.{option_to_list}
 use Rattle.meaning.specs.Jobs.{slot}
 use Rattle.meaning.specs.Maps.{times}
 use Rattle.meaning.proofs.MapLaws.{some_none, some_same}
 use Rattle.meaning.proofs.MapSums.{times_head}
-use Rattle.volume.specs.Live.{VolumeCore, pending_at}
+use Rattle.volume.specs.Live.{VolumeCore}
 use Rattle.volume.specs.Live.{slot as version_at}
 use Rattle.volume.specs.declared.live.LiveVersion.{LiveVersion}
 use Rattle.monitor.specs.Changing.{input_closed, with_input_closed}

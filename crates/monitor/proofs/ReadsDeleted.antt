@@ -1,7 +1,7 @@
 -- What readers hold, where a file is deleted: its version is past for those who read it.
-use Rattle.std.proofs.Common.{◌≡◌, ◌⊎◌, inl, inr, ℕ, ◌<◌, ◌==◌, if◌then◌else◌, true, false, Option, Some, None, refl, sym}
-use Rattle.std.proofs.Common.{ap, subst, ◌∙◌, ⊎_elim, List, arith}
-use Rattle.std.proofs.lemmas.Bool.{cases_Bool, cases_eq, cases_lt, both_ways}
+use Rattle.std.proofs.Common.{◌≡◌, ◌⊎◌, inl, inr, ℕ, ◌<◌, true, false, Option, Some, refl, sym}
+use Rattle.std.proofs.Common.{ap, subst, ◌∙◌, ⊎_elim, List}
+use Rattle.std.proofs.lemmas.Bool.{cases_Bool, cases_eq, both_ways}
 use Rattle.words36.specs.declared.names.FileName.{FileName}
 use Rattle.blockdisk.specs.Disk.{DiskState}
 use Rattle.meaning.specs.declared.put.Put.{Put}
@@ -9,7 +9,7 @@ use Rattle.meaning.specs.Files.{Files, Place}
 use Rattle.meaning.specs.Published.{Version, file_at, without_file}
 use Rattle.meaning.specs.Runs.{AreDistinct}
 use Rattle.meaning.specs.Stands.{place_of}
-use Rattle.meaning.proofs.MapLaws.{some_same, some_none}
+use Rattle.meaning.proofs.MapLaws.{some_same}
 use Rattle.volume.specs.Live.{as_known, VolumeCore, slot, IsWholeCore}
 use Rattle.volume.specs.Places.{prime_at}
 use Rattle.volume.specs.Publishing.{left_of}
@@ -17,30 +17,17 @@ use Rattle.volume.specs.Removing.{RemovesFile}
 use Rattle.volume.specs.Rest.{KeepsRead}
 use Rattle.volume.specs.declared.live.LiveVersion.{LiveVersion}
 use Rattle.volume.proofs.OnePlace.{one_key, one_place}
-use Rattle.volume.proofs.PublishingSlots.{left, left_cases}
 use Rattle.volume.proofs.RemovedPlaces.{removed_current, primes_elsewhere}
 use Rattle.monitor.specs.Readers.{readers_of, IsRead, AreRead}
 use Rattle.monitor.proofs.DeletedFiles.{left_elsewhere, none_left, serial_gone}
 use Rattle.monitor.proofs.PublishedFiles.{versions_in}
 use Rattle.monitor.proofs.ReadsPinned.{words_kept}
+use Rattle.monitor.proofs.ReadsPublished.{left_of_read, left_readers}
 
 -- One version isn't current any more, and is gone where nobody reads it; all others are as they were.
 module _ (live live' : List (Option LiveVersion)) (key : ℕ) (v : LiveVersion) (there : slot live key ≡ Some v)
     (ended : slot live' key ≡ left_of (Some (key, v)))
     (others : (k : ℕ) → (k ≡ key → ⊥) → slot live' k ≡ slot live k) where
-  -- nothing is left of a version that nobody reads
-  left_unread : (u : LiveVersion) → u.readers ≡ 0 → left u ≡ None
-  left_unread u unread = ap (λ n. if n == 0 then None else Some (record u { is_current = false })) unread
-
-  left_read : (u w : LiveVersion) → left u ≡ Some w → (0 < u.readers) × (record u { is_current = false } ≡ w)
-  left_read u w is_left = ⊎_elim
-      (λ none. absurd (some_none (sym is_left ∙ none.1)))
-      (λ some. (
-        ⊎_elim (λ (held : 0 < u.readers). held) (λ few. absurd (some_none (sym is_left ∙ left_unread u (omega arith))))
-            (cases_lt 0 u.readers),
-        some_same (sym some ∙ is_left),
-      )) (left_cases u)
-
   -- what stands under a key was there
   abbrev WasThere : ℕ → LiveVersion → Type 0
   WasThere k w = (u : LiveVersion) × (slot live k ≡ Some u)
@@ -51,7 +38,7 @@ module _ (live live' : List (Option LiveVersion)) (key : ℕ) (v : LiveVersion) 
       (λ (same : k ≡ key). (
         v,
         ap (slot live) same ∙ there,
-        inr (left_read v w (sym ended ∙ ap (slot live') (sym same) ∙ now)),
+        inr (left_of_read v w (sym ended ∙ ap (slot live') (sym same) ∙ now)),
       ))
       (λ other. (w, sym (others k other) ∙ now, inl refl))
       (cases_eq k key)
@@ -76,8 +63,7 @@ module _ (live live' : List (Option LiveVersion)) (key : ℕ) (v : LiveVersion) 
   -- each version has as many readers as before
   pub readers_left : (k : ℕ) → readers_of (slot live' k) ≡ readers_of (slot live k)
   readers_left k = ⊎_elim
-      (λ (same : k ≡ key). ap readers_of (ap (slot live') same ∙ ended)
-      ∙ ⊎_elim (λ none. ap readers_of none.1 ∙ sym none.0) (λ some. ap readers_of some) (left_cases v)
+      (λ (same : k ≡ key). ap readers_of (ap (slot live') same ∙ ended) ∙ left_readers v
       ∙ sym (ap readers_of (ap (slot live) same ∙ there)))
       (λ other. ap readers_of (others k other))
       (cases_eq k key)
@@ -138,7 +124,7 @@ module _ (d d' : DiskState) (c c' : VolumeCore) (files : Files Version) (read : 
         let which : v ≡ u = some_same (sym is.there ∙ ap (slot c.live) (sym same) ∙ was) in
         let of_file = sym (ap (λ (z : LiveVersion). z.is_current) which) ∙ is.current in
         let found = old.current of_file in
-        let turned = (left_read c.live c'.live key v is.there is.ended is.others v w
+        let turned = (left_of_read v w
         (sym is.ended ∙ ap (slot c'.live) (sym same) ∙ now)).1 in
         subst (λ z. IsRead d' c' files' z (read k))
         (ap (λ (z : LiveVersion). record z { is_current = false }) (sym which) ∙ turned)

@@ -1,6 +1,6 @@
 -- A RENAME that is refused: what it promises, whichever jobs there are.
-use Rattle.std.proofs.Common.{◌≡◌, ◌<◌, ◌≤◌, ◌+◌, ℕ, Bool, false, List, length, Option, None, Some, Result, Ok, Err, refl}
-use Rattle.std.proofs.Common.{sym, ap, subst, ◌∙◌, slice_index, slice_set, arith}
+use Rattle.std.proofs.Common.{◌≡◌, ◌<◌, ◌≤◌, ℕ, Bool, false, List, length, Option, None, Some, Result, Ok, Err, refl}
+use Rattle.std.proofs.Common.{sym, ap, subst, slice_index, slice_set, arith}
 use Rattle.std.proofs.lemmas.Bool.{eq-eqb}
 use Rattle.std.proofs.lemmas.Bool.Decides.{nat_tests}
 use Rattle.std.specs.Prelude.{if◌then◌else◌, OnOk}
@@ -9,7 +9,6 @@ use Rattle.blockdisk.specs.Disk.{Contents, DiskState, MayLeave}
 use Rattle.meaning.specs.declared.code.ErrorCode.{ErrorCode}
 use Rattle.meaning.specs.Codes.{number_of}
 use Rattle.meaning.specs.Cores.{lies_outside}
-use Rattle.meaning.specs.Files.{Place}
 use Rattle.meaning.specs.Jobs.{State, slot}
 use Rattle.meaning.specs.Renaming.{protection_at, rename_from}
 use Rattle.meaning.specs.Runs.{Service, Answers}
@@ -25,9 +24,10 @@ use Rattle.volume.specs.Rest.{IsSound}
 use Rattle.volume.specs.declared.live.LiveVersion.{LiveVersion}
 use Rattle.monitor.specs.Changing.{asked_protection}
 use Rattle.monitor.specs.Finding.{IsKnown}
-use Rattle.monitor.specs.Promises.{IsAmong, IsServing}
+use Rattle.monitor.specs.Promises.{IsAmong, IsServing, ServesJob}
 use Rattle.monitor.specs.Readers.{readers_of}
 use Rattle.monitor.specs.Refusals.{with_code}
+use Rattle.monitor.specs.Rows.{IsRow}
 use Rattle.monitor.specs.Serving.{pack_of, AreKeyed, ArePlaced, AreReading, IsState, Serves}
 use Rattle.monitor.specs.Sides.{UnderKeys, sides_in, job_of, state_of}
 use Rattle.monitor.specs.declared.channel.Channel.{Channel}
@@ -35,9 +35,10 @@ use Rattle.monitor.specs.declared.input.Input.{Input}
 use Rattle.monitor.specs.declared.job.Job.{Job}
 use Rattle.monitor.proofs.Answering.{in_state, goes_on, state_is, same_files}
 use Rattle.monitor.proofs.Dropped.{job_keyed, leaves_none}
-use Rattle.monitor.proofs.EnterReads.{reading_same}
+use Rattle.monitor.proofs.EnterReads.{reading_core, reading_same}
 use Rattle.monitor.proofs.Knowing.{known}
-use Rattle.monitor.proofs.Promised.{quiet_serves}
+use Rattle.monitor.proofs.MakeDirs.{keeps_core}
+use Rattle.monitor.proofs.Promised.{alone_serves, quiet_serves}
 use Rattle.monitor.proofs.ReadingJobs.{keeps_reading}
 use Rattle.monitor.proofs.RenameRows.{row_refused}
 
@@ -65,7 +66,7 @@ still_read live live' key stays read (Ok x) = by (version_at live key) refl read
     by (Some v) at some = let there = stays v at some in
         subst (λ o. 0 < readers_of o) (sym there.1) some
 
-same_code : {a b : ℕ} → Refused a ≡ Refused b → a ≡ b
+pub same_code : {a b : ℕ} → Refused a ≡ Refused b → a ≡ b
 same_code is = cc is
 
 -- The place that was looked up, or the new one, is refused.
@@ -128,3 +129,19 @@ module _ {D : Type 0} (state : D → DiskState) (only_now : (disk : D) (contents
       (sym job_is)
       (subst (λ r. IsServing state disk disk c c failed jobs jobs' n (Rename number e) moment r) (sym answer_is)
       serves_refused)
+
+-- It is out of order, whatever there is on the disk.
+pub out_of_order : {D : Type 0} (state : D → DiskState) → ((disk : D) (contents : Contents) → (state disk).honest
+    → (state disk).left_since (state disk).clock contents → MayLeave (state disk) contents)
+    → (disk : D) (c : VolumeCore) (failed : Bool) (job after : Job) (number e : ℕ) (moment : Moment) (reply : Reply)
+    → failed ≡ false → ArePlaced c → moment.date ≤ 4095 → IsRow job (with_code job e 5) (Rename number e) (Refused 5)
+    → after ≡ with_code job e 5 → reply ≡ Refused 5
+    → ServesJob state disk disk c c failed job after (Rename number e) moment reply
+out_of_order state only_now disk c failed job after number e moment reply alive placed timely row job_is answer_is =
+    subst (λ j. ServesJob state disk disk c c failed job j (Rename number e) moment reply) (sym job_is)
+    (subst (λ r. ServesJob state disk disk c c failed job (with_code job e 5) (Rename number e) moment r) (sym answer_is)
+    (alone_serves state only_now disk c failed job (with_code job e 5) (Rename number e) moment (Refused 5) alive placed
+    timely (λ served. row) (λ asked. absurd asked)
+    (λ pending. keeps_core pending pending job (with_code job e 5).core refl)
+    (λ live. reading_core live job (with_code job e 5).core) (λ x. cc x, λ x. cc x, λ x. cc x)
+    (λ k at. ap (with_code job e) (same_code at))))

@@ -1,5 +1,5 @@
 -- The machine's RENAME of a channel that reads a file, by what it answers there.
-use Rattle.std.proofs.Common.{◌≡◌, ◌≤◌, ℕ, Bool, true, false, List, Option, None, Some, refl, sym, ap, ◌∙◌, slice_set}
+use Rattle.std.proofs.Common.{◌≡◌, ◌≤◌, ℕ, Bool, false, List, Option, None, Some, refl, ap, ◌∙◌, slice_set}
 use Rattle.std.specs.Prelude.{if◌then◌else◌, option_map}
 use Rattle.words36.specs.declared.moment.Moment.{Moment}
 use Rattle.blockdisk.specs.Disk.{DiskState}

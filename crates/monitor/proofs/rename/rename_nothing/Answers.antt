@@ -5,13 +5,6 @@ use Rattle.monitor.specs.Rows.{IsRow}
 use Rattle.monitor.specs.Sides.{reader_of}
 use Rattle.monitor.proofs.Calling.{keeps_same}
 use Rattle.monitor.proofs.MakeDirs.{keeps_core}
-use Rattle.monitor.proofs.DeletedFiles.{files_left}
-use Rattle.monitor.proofs.ReadsDeleted.{reads_deleted}
-use Rattle.monitor.proofs.InputsClosed.{input_behind}
-use Rattle.monitor.proofs.RenameRows.{row_done}
-use Rattle.monitor.proofs.DeletedStates.{deleted_state}
-use Rattle.monitor.proofs.Deletions.{deleting_serves}
-use Rattle.monitor.proofs.RenameRefusals.{refusing_serves}
 use Rattle.monitor.proofs.OutOfOrder.{rename_none, rename_outside, rename_refused}
 use Rattle.monitor.proofs.rename.rename_nothing.Goals as goal
 
