@@ -69,7 +69,7 @@ left_elsewhere files place q apart = by (get files place.ppn) refl
 
 module _ (files : Files Version) (place : Place) (x : Version) (at : file_at files place ≡ Some x) where
   -- each stands there as often as before, but for that of the file
-  copies_left : (k : ℕ) → copies k (versions_in (without_file files place)) + with_serial k x
+  pub copies_left : (k : ℕ) → copies k (versions_in (without_file files place)) + with_serial k x
       ≡ copies k (versions_in files)
   copies_left k =
       let d = directory_of_file files place x at in

@@ -24,7 +24,7 @@ use Rattle.meaning.specs.declared.code.ErrorCode.{ErrorCode}
 use Rattle.meaning.specs.declared.code.ErrorCode.TheVariants.{NoDirectory, NotFound, NameExists, NoRoom}
 use Rattle.meaning.specs.declared.call.Reply.{Reply}
 use Rattle.meaning.specs.declared.call.Reply.TheVariants as replies
-use Rattle.meaning.proofs.MapLaws.{some_none}
+use Rattle.meaning.proofs.PlaceLaws.{directory_of_file}
 use Rattle.meaning.proofs.SoundLaws.{same_place-equal}
 use Rattle.alloctab.specs.TableState.{space}
 use Rattle.volume.specs.Beginning.{entries_with, IsDirectoryOf}
@@ -40,6 +40,8 @@ use Rattle.monitor.specs.Changing.{change_answer}
 use Rattle.monitor.specs.Finding.{IsKnown}
 use Rattle.monitor.specs.Serving.{pack_of}
 use Rattle.monitor.proofs.Beginning.{IsHome, home, home_of, listed}
+use Rattle.monitor.proofs.ChangeAnswers.{rename_goes_on, changed_there}
+use Rattle.monitor.proofs.Entering.{less}
 
 -- The answer, by its tests.
 
@@ -52,30 +54,6 @@ asked_of homeless hidden absent forbidden claimed rest =
     else if forbidden then replies.Refused 2
     else if claimed then replies.Refused 3
     else rest
-
-asked_done : (a b c d e : Bool) (rest : Reply) → asked_of a b c d e replies.Done ≡ replies.Done
-    → asked_of a b c d e rest ≡ rest
-asked_done true b c d e rest is = cc is
-asked_done false true c d e rest is = cc is
-asked_done false false true d e rest is = cc is
-asked_done false false false true e rest is = cc is
-asked_done false false false false true rest is = cc is
-asked_done false false false false false rest is = refl
-
-asked_there : (a b c d e : Bool) → asked_of a b c d e replies.Done ≡ replies.Done → (a ≡ false) × (c ≡ false)
-asked_there true b c d e is = cc is
-asked_there false true c d e is = cc is
-asked_there false false true d e is = cc is
-asked_there false false false d e is = (refl, refl)
-
-asked_other : (a b c d e : Bool) (rest reply : Reply) → asked_of a b c d e replies.Done ≡ reply
-    → (reply ≡ replies.Done → ⊥) → asked_of a b c d e rest ≡ reply
-asked_other true b c d e rest reply is other = is
-asked_other false true c d e rest reply is other = is
-asked_other false false true d e rest reply is other = is
-asked_other false false false true e rest reply is other = is
-asked_other false false false false true rest reply is other = is
-asked_other false false false false false rest reply is other = absurd (other (sym is))
 
 -- it is found only after memory and the disk are needed
 asked_plain : (a b c d e : Bool) (rest : Reply) → is_plain rest ≡ false → is_plain (asked_of a b c d e rest) ≡ false
@@ -134,23 +112,7 @@ module _ (pack : Pack) (s : State) (job : machine.Job) (e : ℕ) (old new : Plac
   abbrev answer : Reply
   answer = move_answer pack s job old new
 
-  -- a refusal for what is at the old place
-  pub change_refused : (reply : Reply) → change_answer s job e old ≡ reply → (reply ≡ replies.Done → ⊥)
-      → rename_from pack s job e old ≡ reply
-  change_refused reply is other = asked_other (has_no_directory s old) (not (may_look (directory_digit_at s job old)))
-      (is_absent s old) (is_forbidden s job e old) (is_claimed s old) _ reply is other
-
-  changed : change_answer s job e old ≡ replies.Done → deletes_at job e ≡ false → rename_from pack s job e old
-      ≡ move_answer pack s job old (place_at job e)
-  changed is moves = asked_done (has_no_directory s old) (not (may_look (directory_digit_at s job old)))
-      (is_absent s old) (is_forbidden s job e old) (is_claimed s old) _ is
-      ∙ ap (λ b. if b then replies.Done else move_answer pack s job old (place_at job e)) moves
-
-  change_there : change_answer s job e old ≡ replies.Done → (has_no_directory s old ≡ false) × (is_absent s old ≡ false)
-  change_there is = asked_there (has_no_directory s old) (not (may_look (directory_digit_at s job old)))
-      (is_absent s old) (is_forbidden s job e old) (is_claimed s old) is
-
-  -- one for what is at the new place
+  -- a refusal for what is at the new place
   arrived_other : (reply : Reply) → arrival_answer s job old new ≡ reply → (reply ≡ replies.Done → ⊥) → answer ≡ reply
   arrived_other reply is other = comes_other (has_no_directory s new)
       (not (new.ppn == old.ppn) && not (may_create (directory_digit_at s job new)))
@@ -172,7 +134,9 @@ module _ (pack : Pack) (s : State) (job : machine.Job) (e : ℕ) (old new : Plac
   module _ (place : new ≡ place_at job e) (moves : deletes_at job e ≡ false)
       (changes : change_answer s job e old ≡ replies.Done) where
     at_new : rename_from pack s job e old ≡ answer
-    at_new = changed changes moves ∙ ap (move_answer pack s job old) (sym place)
+    at_new = rename_goes_on s job e old pack changes
+        ∙ ap (λ b. if b then replies.Done else move_answer pack s job old (place_at job e)) moves
+        ∙ ap (move_answer pack s job old) (sym place)
 
     pub arrival_refused : (reply : Reply) → arrival_answer s job old new ≡ reply → (reply ≡ replies.Done → ⊥)
         → rename_from pack s job e old ≡ reply
@@ -239,9 +203,6 @@ grows_once n = omega arith
 less_of : (a b : ℕ) → nat_lt a b ≡ true → a < b
 less_of a b is = grind (arith, nat_tests)
 
-less_is : (a b : ℕ) → a < b → nat_lt a b ≡ true
-less_is a b is = grind (arith, nat_tests)
-
 all_three : (a b c : Bool) → (not a && not b && c) ≡ true → (a ≡ false) × (b ≡ false) × (c ≡ true)
 all_three true b c is = cc is
 all_three false true c is = cc is
@@ -270,13 +231,13 @@ module _ (d : DiskState) (c : VolumeCore) (s : State) (known : IsKnown d c s) (s
   -- What the machine has there.
 
   pub moves_from : (x : Version) × (file_at s.files old ≡ Some x)
-  moves_from = some_of (file_at s.files old) (change_there pack s job e old new changes).1
+  moves_from = changed_there s job e old changes
 
   pub moves_home : (home : Directory Version) × (get s.files to_ppn ≡ Some home)
   moves_home = some_of (get s.files to_ppn) (arrival_there pack s job e old new comes).0
 
   old_home : (home : Directory Version) × (get s.files ppn ≡ Some home)
-  old_home = some_of (get s.files ppn) (change_there pack s job e old new changes).0
+  old_home = let found = directory_of_file s.files old moves_from.0 moves_from.1 in (found.0, found.1)
 
   pub moves_free : new ≢ old → file_at s.files new ≡ None
   moves_free apart = none_of (file_at s.files new)
@@ -292,8 +253,7 @@ module _ (d : DiskState) (c : VolumeCore) (s : State) (known : IsKnown d c s) (s
   has_file : HasFile c ppn name
   has_file =
       let h = home_at ppn name old_home.0 old_home.1 in
-      let there = some_of (file_at s.files old) (change_there pack s job e old new changes).1 in
-      let in_home = sym (ap (λ o. file_in o name) old_home.1) ∙ there.1 in
+      let in_home = sym (ap (λ o. file_in o name) old_home.1) ∙ moves_from.1 in
       (h.known, h.there, λ none. let absent = ap is_none (sym none) ∙ h.absent ∙ ap is_none in_home in cc absent)
 
   listed_at : (ppn : ℕ) (x : Directory Version) → get s.files ppn ≡ Some x
@@ -342,7 +302,7 @@ module _ (d : DiskState) (c : VolumeCore) (s : State) (known : IsKnown d c s) (s
       let books = known.booked_is in
       let other = ne_eqb to_ppn ppn apart in
       let some : growth (entry_count s to_ppn) ≡ 1 = ap growth count ∙ (omega arith) in
-      let full = less_is (space d.size) (booked s + 1) (omega arith) in
+      let full = less (space d.size) (booked s + 1) (omega arith) in
       λ i. not (other i) && not (some i == 0) && full i
 
   module _ (answer : Result (Unit {0}) CallError) (is : IsMoveAnswer d.size c ppn name to_ppn to answer) where
