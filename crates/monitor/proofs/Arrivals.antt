@@ -1,10 +1,10 @@
 -- The place to which a file comes: the volume allows what the machine does.
-use Rattle.std.proofs.Common.{◌≡◌, ℕ, Bool, true, false, Option, None, Some, Ok, Err, refl, sym}
+use Rattle.std.proofs.Common.{ℕ, Bool, true, false, Option, None, Some, Ok, Err, refl, sym}
 use Rattle.std.proofs.Common.{subst}
 use Rattle.std.specs.Prelude.{◌==◌, ◌&&◌, not, if◌then◌else◌, is_none, option_map}
 use Rattle.words36.specs.declared.names.FileName.{FileName}
 use Rattle.blockdisk.specs.Disk.{DiskState}
-use Rattle.meaning.specs.declared.code.ErrorCode.TheVariants.{NoDirectory, Protection, NameExists, BeingModified}
+use Rattle.meaning.specs.declared.code.ErrorCode.TheVariants.{Protection, NameExists, BeingModified}
 use Rattle.meaning.specs.Files.{Directory, Place, map_directory}
 use Rattle.meaning.specs.Jobs as machine
 use Rattle.meaning.specs.Jobs.{State}

@@ -2,14 +2,14 @@
 use Rattle.std.proofs.Common.{◌≡◌, ◌≢◌, ◌⊎◌, ℕ, ◌+◌, ◌<◌, ◌≤◌, Bool, true, false, if◌then◌else◌, Option, None, Some}
 use Rattle.std.proofs.Common.{Result, Err, refl, sym, ap, subst, ◌∙◌, ⊎_elim, arith}
 use Rattle.std.specs.Prelude.{◌↔◌, ◌==◌, ◌&&◌, not, is_none, nat_lt}
-use Rattle.std.proofs.lemmas.Bool.{cases_Bool, eqb-true, eq-eqb, ne_eqb}
+use Rattle.std.proofs.lemmas.Bool.{cases_Bool, eq-eqb, ne_eqb}
 use Rattle.std.proofs.lemmas.Bool.Decides.{nat_tests}
 use Rattle.std.specs.Ordering.{nat_cmp}
 use Rattle.std.specs.FinMap.Entries.{find}
 use Rattle.words36.specs.declared.names.FileName.{FileName}
 use Rattle.blockdisk.specs.Disk.{DiskState}
 use Rattle.meaning.specs.Codes.{number_of}
-use Rattle.meaning.specs.Files.{Directory, Files, Place, name_cmp}
+use Rattle.meaning.specs.Files.{Directory, Place, name_cmp}
 use Rattle.meaning.specs.Jobs as machine
 use Rattle.meaning.specs.Jobs.{State}
 use Rattle.meaning.specs.Looking.{place_at, has_no_directory, is_absent, directory_digit_at}
@@ -283,8 +283,7 @@ module _ (d : DiskState) (c : VolumeCore) (s : State) (known : IsKnown d c s) (s
       let count = counted_at h.known h.there in
       let grows : 0 < growth (entry_count s to_ppn) = above (growth (entry_count s to_ppn)) tests.1 in
       let past = less_of (space d.size) (booked s + 1) tests.2 in
-      let books = known.booked_is in
-      (
+      let books = known.booked_is in (
         apart,
         (
           h.known,

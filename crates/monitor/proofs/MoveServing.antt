@@ -1,8 +1,8 @@
 -- RENAME that moves a file, by what the volume answers: what it promises, among whichever jobs.
-use Rattle.std.proofs.Common.{◌≡◌, ◌≢◌, ◌⊎◌, ◌≤◌, ◌<◌, ◌+◌, ◌/◌, ◌^◌, ℕ, Bool, true, false, if◌then◌else◌, List, [], ◌∷◌}
+use Rattle.std.proofs.Common.{◌≡◌, ◌≢◌, ◌≤◌, ◌<◌, ◌+◌, ◌/◌, ◌^◌, ℕ, Bool, true, false, if◌then◌else◌, List, [], ◌∷◌}
 use Rattle.std.proofs.Common.{Option, Some, None, Result, Ok, Err, refl, sym, ap, subst, ◌∙◌, inl, inr, ⊎_elim, slice_set}
 use Rattle.std.proofs.Common.{slice_index, arith}
-use Rattle.std.specs.Prelude.{◌↔◌, ◌==◌, IsErrOf, OnOk, IsTrue}
+use Rattle.std.specs.Prelude.{◌==◌, IsErrOf, OnOk}
 use Rattle.std.proofs.lemmas.Bool.{cases_eq, ne_eqb}
 use Rattle.words36.specs.declared.moment.Moment.{Moment}
 use Rattle.words36.specs.declared.names.FileName.{FileName}
@@ -11,12 +11,11 @@ use Rattle.blockdisk.specs.Laws.{leaves_weaker}
 use Rattle.meaning.specs.Codes.{number_of}
 use Rattle.meaning.specs.Cores.{lies_outside}
 use Rattle.meaning.specs.Files.{File, Files, Place}
-use Rattle.meaning.specs.Jobs as machine
 use Rattle.meaning.specs.Jobs.{State, slot}
 use Rattle.meaning.specs.Looking.{place_at}
 use Rattle.meaning.specs.Published.{Version, without_serials, without_file, file_at}
-use Rattle.meaning.specs.Renaming.{rename_from, files_from, files_moved, protection_at}
-use Rattle.meaning.specs.Runs.{Service, Serving, Broken, Answers}
+use Rattle.meaning.specs.Renaming.{files_from, files_moved, protection_at}
+use Rattle.meaning.specs.Runs.{Service, Broken, Answers}
 use Rattle.meaning.specs.Stands.{Stands, place_of}
 use Rattle.meaning.specs.Step.{step}
 use Rattle.meaning.specs.declared.put.Put.{Put}
@@ -46,7 +45,7 @@ use Rattle.monitor.specs.Promises.{IsAmong, IsServing, ServesAlways}
 use Rattle.monitor.specs.Readers.{readers_of}
 use Rattle.monitor.specs.Refusals.{with_code}
 use Rattle.monitor.specs.Serving.{pack_of, ArePlaced, IsState, Serves}
-use Rattle.monitor.specs.Sides.{UnderKeys, job_of, jobs_of, state_of}
+use Rattle.monitor.specs.Sides.{UnderKeys, job_of, state_of}
 use Rattle.monitor.specs.declared.channel.Channel.{Channel}
 use Rattle.monitor.specs.declared.input.Input.{Input}
 use Rattle.monitor.specs.declared.job.Job.{Job}

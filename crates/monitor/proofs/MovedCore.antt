@@ -1,6 +1,6 @@
 -- What a move of a file does to core, within a directory or to another one, and which versions that are being written
 -- may still be published.
-use Rattle.std.proofs.Common.{◌≡◌, ◌≢◌, ℕ, true, List, Option, Some, None, slice_get, slice_set, sym, ap, ◌∙◌, ⊎_elim, subst}
+use Rattle.std.proofs.Common.{◌≡◌, ◌≢◌, ℕ, true, List, Some, slice_get, slice_set, sym, ap, ◌∙◌, ⊎_elim, subst}
 use Rattle.std.specs.Prelude.{is_none}
 use Rattle.std.proofs.lemmas.Bool.{cases_eq}
 use Rattle.std.specs.Ordering.{nat_cmp}
@@ -16,10 +16,9 @@ use Rattle.volume.specs.Known.{KnownDirectory}
 use Rattle.volume.specs.Live.{VolumeCore, pending_at, as_known, slot}
 use Rattle.volume.specs.Moving.{IsPrimeMoved, MovesWithin, MovesAcross}
 use Rattle.volume.specs.Places.{prime_at}
-use Rattle.volume.specs.Publishing.{IsPlaced}
 use Rattle.volume.specs.declared.live.LiveVersion.{LiveVersion}
 use Rattle.volume.specs.declared.pending.PendingVersion.{PendingVersion}
-use Rattle.volume.proofs.MovedPlaces.{set_elsewhere, across_before, across_here, across_elsewhere, across_free}
+use Rattle.volume.proofs.MovedPlaces.{set_elsewhere, across_before, across_here, across_elsewhere}
 use Rattle.volume.proofs.PrimeBlocks.{prime_of_place}
 use Rattle.volume.proofs.Removals.{set_there}
 use Rattle.volume.proofs.RenamedPlaces.{moved_before, moved_here, moved_elsewhere}

@@ -9,7 +9,6 @@ use Rattle.meaning.specs.Maps.{get}
 use Rattle.meaning.specs.Published.{Version, without_serials, file_at}
 use Rattle.meaning.specs.Sound as meaning
 use Rattle.meaning.specs.Stands.{place_of}
-use Rattle.meaning.proofs.MapLaws.{some_none}
 use Rattle.meaning.proofs.Versions.{body_kept}
 use Rattle.volume.specs.Claims.{claims}
 use Rattle.volume.specs.Live.{VolumeCore, pending_at, IsWholeCore}

@@ -1,6 +1,6 @@
 -- What readers hold, where a file moves: the version that has moved is read on, as the file of its new place with its
 -- new protection; and jobs have what they had, since an input side keeps the protection that it found.
-use Rattle.std.proofs.Common.{◌≡◌, ◌≢◌, ◌⊎◌, ℕ, ◌<◌, true, false, List, map, Option, Some, None, refl, sym, ap, subst}
+use Rattle.std.proofs.Common.{◌≡◌, ◌≢◌, ℕ, ◌<◌, List, map, Option, Some, None, refl, sym, ap, subst}
 use Rattle.std.proofs.Common.{◌∙◌, ⊎_elim}
 use Rattle.std.specs.Prelude.{option_map}
 use Rattle.std.proofs.lemmas.Bool.{cases_eq, both_ways}
@@ -20,7 +20,7 @@ use Rattle.volume.specs.Rest.{KeepsRead}
 use Rattle.volume.specs.declared.live.LiveVersion.{LiveVersion}
 use Rattle.volume.proofs.OnePlace.{one_key, one_place}
 use Rattle.monitor.specs.Readers.{IsRead, AreRead}
-use Rattle.monitor.specs.Sides.{UnderKeys, input_of, output_of, channel_of, job_of, jobs_of}
+use Rattle.monitor.specs.Sides.{UnderKeys, input_of, output_of, jobs_of}
 use Rattle.monitor.specs.declared.channel.Channel.{Channel}
 use Rattle.monitor.specs.declared.input.Input.{Input}
 use Rattle.monitor.specs.declared.job.Job.{Job}
@@ -170,8 +170,7 @@ module _ (d d' : DiskState) (c c' : VolumeCore) (files : Files Version) (read : 
             let not_old : place.0 ≢ old = λ same. apart (one_key d.size c whole k key v is.version there is.there current
             is.current (some_same (sym place.1 ∙ ap (λ (q : Place). prime_at c q.ppn q.name) same ∙ is.before))) in
             let not_new : place.0 ≢ new = λ same. some_none (sym place.2 ∙ ap (file_at files) same
-            ∙ free (λ back. not_old (same ∙ back))) in
-            (
+            ∙ free (λ back. not_old (same ∙ back))) in (
               place.0,
               is.elsewhere place.0.ppn place.0.name
                   (λ both. not_old (λ i. record { ppn = both.0 i; name = both.1 i }))

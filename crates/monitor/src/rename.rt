@@ -178,8 +178,8 @@ fn may_change<D: Disk>(
     allow_change(found, who, input.ppn, is_zero, protection, claimed)
 }
 
-/// Whether a job may give a file the place where this is found, or why not: `who` asks, in the directory of `owner`, where
-/// the file is already, or to which it comes.
+/// Whether a job may give a file the place where this is found, or why not: `who` asks, in the directory of `owner`.
+/// That is another one than the file's where `is_other` is so, and the place is the file's own where `is_same` is.
 fn allow_arrival(
     found: Found,
     who: Ppn,
