@@ -1,9 +1,9 @@
 -- The place to which a file comes: the volume allows what the machine does.
-use Rattle.std.proofs.Common.{ℕ, Bool, true, false, Option, None, Some, Ok, Err, refl, sym}
-use Rattle.std.proofs.Common.{subst}
+use Rattle.std.proofs.Common.{◌≡◌, ℕ, Bool, true, false, Option, None, Some, Result, Ok, Err, refl, sym, subst, ◌∙◌}
 use Rattle.std.specs.Prelude.{◌==◌, ◌&&◌, not, if◌then◌else◌, is_none, option_map}
 use Rattle.words36.specs.declared.names.FileName.{FileName}
 use Rattle.blockdisk.specs.Disk.{DiskState}
+use Rattle.meaning.specs.declared.code.ErrorCode.{ErrorCode}
 use Rattle.meaning.specs.declared.code.ErrorCode.TheVariants.{Protection, NameExists, BeingModified}
 use Rattle.meaning.specs.Files.{Directory, Place, map_directory}
 use Rattle.meaning.specs.Jobs as machine
@@ -22,6 +22,7 @@ use Rattle.volume.specs.Live.{VolumeCore}
 use Rattle.monitor.specs.Arriving.{is_kept_out, allowed_arrival, arrival_answer}
 use Rattle.monitor.specs.Changing.{IsChangeAnswer}
 use Rattle.monitor.specs.Finding.{found_file, found_in, IsKnown}
+use Rattle.monitor.specs.declared.found.Found.{Found}
 use Rattle.monitor.proofs.Growths.{shown_at}
 
 -- what the machine answers, by what is there
@@ -74,7 +75,7 @@ arrival_by name owner job (Some d) is_other is_same is_claimed =
     by None = absent_by kept_out is_same is_claimed
     by (Some v) = present_by kept_out is_same is_claimed
 
-pub arrival_is : (d : DiskState) (map : VolumeCore) (s : State) → IsKnown d map s → (job : machine.Job) (old new : Place)
+arrival_is : (d : DiskState) (map : VolumeCore) (s : State) → IsKnown d map s → (job : machine.Job) (old new : Place)
     → IsChangeAnswer (allowed_arrival (found_in (get (without_serials s.files) new.ppn) new.name) job.ppn new.ppn
     (not (new.ppn == old.ppn)) (same_place new old) (claims map.pending new)) (arrival_answer s job old new)
 arrival_is d map s known job old new =
@@ -85,3 +86,15 @@ arrival_is d map s known job old new =
     (not (new.ppn == old.ppn)) (same_place new old) b) (arrival_answer s job old new)) (known.claimed new)
     (arrival_by new.name new.ppn job (get s.files new.ppn) (not (new.ppn == old.ppn)) (same_place new old)
     (is_claimed s new)))
+
+-- and answers what it does
+pub arrival_answered : (d : DiskState) (map : VolumeCore) (s : State) → IsKnown d map s → (job : machine.Job)
+    (who : ℕ) (old new : Place) (there : Found) (is_other is_same claimed : Bool) (answer : Result (Unit {0}) ErrorCode)
+    → job.ppn ≡ who → there ≡ found_in (get (without_serials s.files) new.ppn) new.name
+    → is_other ≡ not (new.ppn == old.ppn) → is_same ≡ same_place new old → claimed ≡ claims map.pending new
+    → answer ≡ allowed_arrival there who new.ppn is_other is_same claimed
+    → IsChangeAnswer answer (arrival_answer s job old new)
+arrival_answered d map s known job who old new there is_other is_same claimed answer caller found other same claim is =
+    subst (λ r. IsChangeAnswer r (arrival_answer s job old new))
+    (sym (is ∙ (λ i. allowed_arrival (found i) (sym caller i) new.ppn (other i) (same i) (claim i))))
+    (arrival_is d map s known job old new)
