@@ -240,7 +240,8 @@ module _ (s : State) (job : machine.Job) (e : ℕ) (old : Place) where
   -- the file is there
   pub changed_there : change_answer s job e old ≡ Done → (x : Version) × (file_at s.files old ≡ Some x)
   changed_there is = by (file_at s.files old) (no_longer_absent (has_no_directory s old)
-      (not (may_look (directory_digit_at s job old))) (is_absent s old) (is_forbidden s job e old) (is_claimed s old) is)
+      (not (may_look (directory_digit_at s job old))) (is_absent s old) (is_forbidden s job e old)
+      (is_claimed s old) is)
     where
       by : (was : Option Version) → is_none was ≡ false → (x : Version) × (was ≡ Some x)
       by None none = cc none

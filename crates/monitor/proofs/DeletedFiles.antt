@@ -69,12 +69,13 @@ left_elsewhere files place q apart = by (get files place.ppn) refl
 
 module _ (files : Files Version) (place : Place) (x : Version) (at : file_at files place ≡ Some x) where
   -- each stands there as often as before, but for that of the file
-  copies_left : (k : ℕ) → copies k (versions_in (without_file files place)) + with_serial k x
+  pub copies_left : (k : ℕ) → copies k (versions_in (without_file files place)) + with_serial k x
       ≡ copies k (versions_in files)
   copies_left k =
       let d = directory_of_file files place x at in
       let new : Directory Version = record d.0 { files = remove d.0.files place.name } in
-      let left : copies k (versions_in (without_file files place)) ≡ copies k (versions_in (insert files place.ppn new)) =
+      let left : copies k (versions_in (without_file files place))
+      ≡ copies k (versions_in (insert files place.ppn new)) =
       ap (λ o. copies k (versions_in (without_file_in o files place))) d.1 in
       let in_files = sum-insert_over nat_cmp_total nat_cmp-IsAntisymmetric
       (λ (z : Directory Version). copies k (values z.files)) files place.ppn new d.0 d.1 in
@@ -98,7 +99,8 @@ module _ (files : Files Version) (place : Place) (x : Version) (at : file_at fil
       copies_none (versions_in (without_file files place)) k (omega arith)
 
   -- and that of the file is none's any more
-  pub serial_gone : AreDistinct (versions_in files) → has_serial x.serial (versions_in (without_file files place)) ≡ false
+  pub serial_gone : AreDistinct (versions_in files)
+      → has_serial x.serial (versions_in (without_file files place)) ≡ false
   serial_gone distinct =
       let left = copies_left x.serial in
       let one = counts_one x.serial x refl in

@@ -91,8 +91,9 @@ pub record Deletes (d d' : DiskState) (c b : VolumeCore) (Same : Type 0) (failed
   pub same : SameDisk d d'
 
 -- A file that is there is not refused.
-not_refused : (d : DiskState) (c : VolumeCore) (s : State) → IsSound d c false → Holds d c.known (without_serials s.files)
-    → (ppn : ℕ) (name : FileName) (x : Version) → file_at s.files (place_of ppn name) ≡ Some x
+not_refused : (d : DiskState) (c : VolumeCore) (s : State) → IsSound d c false
+    → Holds d c.known (without_serials s.files) → (ppn : ℕ) (name : FileName) (x : Version)
+    → file_at s.files (place_of ppn name) ≡ Some x
     → (result : Result (Unit {0}) CallError) (code : ErrorCode)
     → (IsErrOf result (Refused NoDirectory) ↔ (find nat_cmp ppn c.known.master.entries ≡ None))
     → (IsErrOf result (Refused NotFound) ↔ ((k : KnownDirectory) × IsDirectoryOf c ppn k
@@ -113,7 +114,8 @@ not_refused d c s sound holds ppn name x at result code gone absent which is = b
 
 module _ {D : Type 0} (state : D → DiskState) (only_now : (disk : D) (contents : Contents) → (state disk).honest
     → (state disk).left_since (state disk).clock contents → MayLeave (state disk) contents) (disk disk' : D)
-    (c b c' : VolumeCore) (failed failed' : Bool) (alive : failed ≡ false) (job : Job) (number e : ℕ) (channel : Channel) (input : Input) (is_open : slot job.channels number ≡ Some channel)
+    (c b c' : VolumeCore) (failed failed' : Bool) (alive : failed ≡ false) (job : Job) (number e : ℕ)
+    (channel : Channel) (input : Input) (is_open : slot job.channels number ≡ Some channel)
     (side : channel.input ≡ Some input) (free : channel.output ≡ None) (inside : lies_outside job.core e 4 ≡ false)
     (zero : slice_index job.core e ≡ 0) (sound : IsSound (state disk) c false) (placed : ArePlaced c)
     (unclaimed : claims c.pending (place_of input.ppn input.file) ≡ false)
@@ -213,8 +215,8 @@ module _ {D : Type 0} (state : D → DiskState) (only_now : (disk : D) (contents
       let behind = input_behind job number channel is_open input side c b c' removes.pending
       (readers_left c.live b.live key v removes.there removes.ended removes.others) closes pending in
       record {
-        keyed = λ serves. deleted_keyed d d' c b c' jobs n job closed among.there input.ppn input.file key v puts removes
-            behind among.keyed;
+        keyed = λ serves. deleted_keyed d d' c b c' jobs n job closed among.there input.ppn input.file key v puts
+            removes behind among.keyed;
         placed = λ serves. placed_still b c' pending closes.leaves.known
             (placed_deleted d.size c b input.ppn input.file key v puts removes unclaimed placed);
         reading = λ serves. deleted_reading d d' c b c' jobs n job closed among.there input.ppn input.file key v puts
@@ -227,8 +229,8 @@ module _ {D : Type 0} (state : D → DiskState) (only_now : (disk : D) (contents
             let was = is.same.was_honest honest in
             let x = there was s state_s in
             goes_on d' c' failed' (slice_set jobs n (Some closed)) (pack_of d) (Calls n (Rename number e) moment)
-            replies.Done s (state_of (without_file s.files place) state_s.under (slice_set jobs n (Some closed))) serves'
-            state_s.sound (step_done was s state_s)
+            replies.Done s (state_of (without_file s.files place) state_s.under (slice_set jobs n (Some closed)))
+            serves' state_s.sound (step_done was s state_s)
             (deleted_state d d' c b c' jobs n job closed among.there input.ppn input.file key v puts removes behind s
             state_s sound.whole x.0 x.1 unclaimed
             (subst (λ r. OnOk r (RestsAt d' (files_removed (without_serials s.files) input.ppn input.file))) ok

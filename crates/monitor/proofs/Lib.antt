@@ -84,6 +84,15 @@ pub mod DeleteDirCalls
 pub mod DeleteDirStates
 pub mod DeleteDirs
 pub mod DeleteDirAnswers
+pub mod MovedFiles
+pub mod MovedCore
+pub mod ReadsMoved
+pub mod Arrivals
+pub mod MoveReplies
+pub mod MovedStates
+pub mod RenameWanting
+pub mod MoveServing
+pub mod Moves
 pub mod DeletedFiles
 pub mod ReadsDeleted
 pub mod ChangeAnswers

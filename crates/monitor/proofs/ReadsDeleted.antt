@@ -135,8 +135,8 @@ module _ (d d' : DiskState) (c c' : VolumeCore) (files : Files Version) (read : 
         subst (λ z. IsRead d' c' files' z (read k)) kept (⊎_elim
         (λ (of_file : u.is_current ≡ true).
         let found = old.current of_file in
-        current_read of_file found.0 found.1 found.2 (λ both. other (one_key d.size c whole k key u v was is.there of_file
-        is.current (some_same (sym found.1 ∙ (λ i. prime_at c (both.0 i) (both.1 i)) ∙ here_before)))))
+        current_read of_file found.0 found.1 found.2 (λ both. other (one_key d.size c whole k key u v was is.there
+        of_file is.current (some_same (sym found.1 ∙ (λ i. prime_at c (both.0 i) (both.1 i)) ∙ here_before)))))
         (λ past. past_read past)
         (cases_Bool u.is_current)))
         (cases_eq k key)

@@ -105,8 +105,8 @@ module _ {D : Type 0} (state : D → DiskState) (only_now : (disk : D) (contents
       subst (λ t. step (pack_of d) serial t (Calls n (Rename number e) moment)
       ≡ (Refused (number_of code), state_of s.files w jobs')) (sym before_is)
       (row_refused d s.files w jobs n job among.there number e moment timely channel is_open input side free inside
-      (number_of code) (subst (λ t. rename_from (pack_of d) t (job_of w job) e place ≡ Refused (number_of code)) before_is
-      (refuses honest s (known d c jobs s state_s sound honest) w)) serial)
+      (number_of code) (subst (λ t. rename_from (pack_of d) t (job_of w job) e place ≡ Refused (number_of code))
+      before_is (refuses honest s (known d c jobs s state_s sound honest) w)) serial)
 
   serves_refused : IsServing state disk disk c c failed jobs jobs' n (Rename number e) moment
       (Refused (number_of code))
@@ -125,8 +125,8 @@ module _ {D : Type 0} (state : D → DiskState) (only_now : (disk : D) (contents
   pub refusing_serves : (after : Job) (reply : Reply) → after ≡ job' → reply ≡ Refused (number_of code)
       → IsServing state disk disk c c failed jobs (slice_set jobs n (Some after)) n (Rename number e) moment reply
   refusing_serves after reply job_is answer_is =
-      subst (λ j. IsServing state disk disk c c failed jobs (slice_set jobs n (Some j)) n (Rename number e) moment reply)
-      (sym job_is)
+      subst (λ j. IsServing state disk disk c c failed jobs (slice_set jobs n (Some j)) n (Rename number e) moment
+      reply) (sym job_is)
       (subst (λ r. IsServing state disk disk c c failed jobs jobs' n (Rename number e) moment r) (sym answer_is)
       serves_refused)
 
@@ -139,9 +139,10 @@ pub out_of_order : {D : Type 0} (state : D → DiskState) → ((disk : D) (conte
     → ServesJob state disk disk c c failed job after (Rename number e) moment reply
 out_of_order state only_now disk c failed job after number e moment reply alive placed timely row job_is answer_is =
     subst (λ j. ServesJob state disk disk c c failed job j (Rename number e) moment reply) (sym job_is)
-    (subst (λ r. ServesJob state disk disk c c failed job (with_code job e 5) (Rename number e) moment r) (sym answer_is)
-    (alone_serves state only_now disk c failed job (with_code job e 5) (Rename number e) moment (Refused 5) alive placed
-    timely (λ served. row) (λ asked. absurd asked)
+    (subst (λ r. ServesJob state disk disk c c failed job (with_code job e 5) (Rename number e) moment r)
+    (sym answer_is)
+    (alone_serves state only_now disk c failed job (with_code job e 5) (Rename number e) moment (Refused 5) alive
+    placed timely (λ served. row) (λ asked. absurd asked)
     (λ pending. keeps_core pending pending job (with_code job e 5).core refl)
     (λ live. reading_core live job (with_code job e 5).core) (λ x. cc x, λ x. cc x, λ x. cc x)
     (λ k at. ap (with_code job e) (same_code at))))

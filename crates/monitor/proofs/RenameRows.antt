@@ -47,7 +47,8 @@ module _ (d : DiskState) (files : Files Version) (w : UnderKeys) (jobs : List (O
   -- the row, by its sides and by what it answers
   abbrev by_sides : Bool → Option Input → Option Output → Reply × (machine.Job × Files Version)
   by_sides outside i o = settled
-      (if outside then AddressCheck else rename_sides (pack_of d) t j e (option_map (input_of w) i) (option_map (output_of w) o))
+      (if outside then AddressCheck else rename_sides (pack_of d) t j e (option_map (input_of w) i)
+      (option_map (output_of w) o))
       (rename_done j number (channel_of w channel), files_renamed files j e (option_map (input_of w) i))
       (λ reply. (refused_at j e reply, files))
 

@@ -1,6 +1,6 @@
 -- What a RENAME asks of the file that it moves or deletes, and what becomes of the channel that had found it.
-use Rattle.std.specs.Prelude.{◌≡◌, ℕ, ◌==◌, ◌&&◌, not, Bool, false, if◌then◌else◌, [], ◌∷◌, Option, None, Some, Result, Ok}
-use Rattle.std.specs.Prelude.{Err, slice_set}
+use Rattle.std.specs.Prelude.{◌≡◌, ℕ, ◌==◌, ◌&&◌, not, Bool, false, if◌then◌else◌, [], ◌∷◌, Option, None, Some, Result}
+use Rattle.std.specs.Prelude.{Ok, Err, slice_set}
 use Rattle.meaning.specs.declared.code.ErrorCode.{ErrorCode}
 use Rattle.meaning.specs.declared.code.ErrorCode.TheVariants.{NotFound, NoDirectory, Protection, BeingModified}
 use Rattle.meaning.specs.Codes.{number_of}

@@ -26,3 +26,4 @@ pub mod Updating
 pub mod Closing
 pub mod DeleteDirRows
 pub mod Changing
+pub mod Arriving

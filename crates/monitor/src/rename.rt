@@ -3,6 +3,7 @@ ghost use Rattle.std.specs.Prelude.{Option, Result, OnOk, [], ◌∷◌, slice_i
 ghost use Rattle.meaning.specs.Codes.{number_of};
 ghost use Rattle.meaning.specs.Cores.{lies_outside};
 ghost use Rattle.meaning.specs.Jobs.{State, Job as MachineJob, slot};
+ghost use Rattle.meaning.specs.Published.{same_place};
 ghost use Rattle.meaning.specs.Renaming.{protection_at};
 ghost use Rattle.meaning.specs.Stands.{place_of};
 ghost use Rattle.meaning.specs.declared.call.Call.TheVariants.{Rename};
@@ -12,6 +13,7 @@ ghost use Rattle.volume.specs.Live.{slot as version_at};
 ghost use Rattle.volume.specs.Rest.{IsSound};
 ghost use Rattle.volume.specs.declared.live.LiveVersion.{LiveVersion};
 ghost use Rattle.volume.specs.declared.pending.PendingVersion.{PendingVersion};
+ghost use Rattle.monitor.specs.Arriving.{allowed_arrival, arrival_answer};
 ghost use Rattle.monitor.specs.Changing.{may_become, allowed_change, asked_protection, change_answer, IsChangeAnswer};
 ghost use Rattle.monitor.specs.Changing.{with_input_closed, CloseAfter, changed_reply, changed_job};
 ghost use Rattle.monitor.specs.Dropping.{Closes};
@@ -176,6 +178,45 @@ fn may_change<D: Disk>(
     allow_change(found, who, input.ppn, is_zero, protection, claimed)
 }
 
+/// Whether a job may give a file the place where this is found, or why not: `who` asks, in the directory of `owner`.
+/// That is another one than the file's where `is_other` is so, and the place is the file's own where `is_same` is.
+fn allow_arrival(
+    found: Found,
+    who: Ppn,
+    owner: Ppn,
+    is_other: bool,
+    is_same: bool,
+    is_claimed: bool,
+) -> Result<(), ErrorCode>
+    ensures { result ≡ allowed_arrival found who owner is_other is_same is_claimed }
+{
+    let (directory, is_free) = match found {
+        Found::NoDirectory => return Err(ErrorCode::NoDirectory),
+        Found::Absent(directory) => (directory, true),
+        Found::Present(directory, _) => (directory, false),
+    };
+    if is_other && !dir_right(directory, who, owner, DirectoryAct::Create) {
+        return Err(ErrorCode::Protection);
+    }
+    if is_same {
+        return Ok(()); // it stays
+    }
+    if !is_free {
+        return Err(ErrorCode::NameExists);
+    }
+    if is_claimed {
+        return Err(ErrorCode::BeingModified);
+    }
+    Ok(())
+}
+
+/// Whether a place is the one that an input side reads.
+fn is_place_of(input: &Input, ppn: Ppn, name: &FileName) -> bool
+    ensures { result ≡ same_place (place_of ppn name.now) (place_of input.now.ppn input.now.file) }
+{
+    ppn == input.ppn && name.name == input.file.name && name.ext == input.file.ext
+}
+
 /// Whether a job may give a file that it may change this place, or why not.
 fn may_come<D: Disk>(
     volume: &Volume<D>,
@@ -183,24 +224,20 @@ fn may_come<D: Disk>(
     input: &Input,
     ppn: Ppn,
     name: &FileName,
-) -> Result<(), ErrorCode> {
-    let Ok(protection) = volume.directory(ppn) else {
-        return Err(ErrorCode::NoDirectory);
-    };
-    let elsewhere = ppn != input.ppn;
-    if elsewhere && !dir_right(protection, who, ppn, DirectoryAct::Create) {
-        return Err(ErrorCode::Protection);
-    }
-    if !elsewhere && name == &input.file {
-        return Ok(()); // it stays
-    }
-    if volume.look(ppn, name).is_ok() {
-        return Err(ErrorCode::NameExists);
-    }
-    if volume.is_claimed(ppn, name) {
-        return Err(ErrorCode::BeingModified);
-    }
-    Ok(())
+) -> Result<(), ErrorCode>
+    ensures free { OnOk result (same_place (place_of ppn name.now) (place_of input.now.ppn input.now.file) ≡ false
+        → claims volume.now.core.pending (place_of ppn name.now) ≡ false) }
+    // It answers as the machine does to a RENAME, by any job with this number, that names this place.
+    ensures answered { (D.state volume.now.disk).honest → volume.now.failed ≡ false → (s : State)
+        → IsKnown (D.state volume.now.disk) volume.now.core s
+        → (job : MachineJob) → job.ppn ≡ who
+        → IsChangeAnswer result
+        (arrival_answer s job (place_of input.now.ppn input.now.file) (place_of ppn name.now)) }
+{
+    let found = find(volume, ppn, name);
+    let claimed = volume.is_claimed(ppn, name);
+    let same = is_place_of(input, ppn, name);
+    allow_arrival(found, who, ppn, ppn != input.ppn, same, claimed)
 }
 
 /// The input side of a channel closes, once what it reads has another place, or none.
@@ -302,6 +339,7 @@ fn move_file<D: Disk>(
     ensures serving { ServesAlways D.state volume.old.disk volume.new.disk volume.old.core volume.new.core
         volume.new.failed job.old job.new (Rename number address) result }
 {
+    let _length = job.core.length(); // no address is behind it
     let protection = (word_at(&job.core, address + 2).bits() >> 27) as u16;
     if let Err(code) = may_change(volume, job.ppn, &input, Some(protection)) {
         return refuse(&mut job.core, address, code);
