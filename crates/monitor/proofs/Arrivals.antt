@@ -35,8 +35,8 @@ answer_by job owner name o is_other is_same is_claimed =
     else replies.Done
 
 absent_by : (kept_out is_same is_claimed : Bool)
-    → IsChangeAnswer (if kept_out then Err Protection else if is_same then Ok tt else if is_claimed then Err BeingModified
-    else Ok tt)
+    → IsChangeAnswer (if kept_out then Err Protection else if is_same then Ok tt
+    else if is_claimed then Err BeingModified else Ok tt)
     (if kept_out then replies.Refused 2 else if not is_same && not true then replies.Refused 4
     else if not is_same && is_claimed then replies.Refused 3 else replies.Done)
 absent_by true is_same is_claimed = refl

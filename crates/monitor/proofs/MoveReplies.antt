@@ -73,7 +73,8 @@ comes_to homeless kept_out taken claimed rest =
     else if claimed then replies.Refused 3
     else rest
 
-comes_done : (a b c d : Bool) (rest : Reply) → comes_to a b c d replies.Done ≡ replies.Done → comes_to a b c d rest ≡ rest
+comes_done : (a b c d : Bool) (rest : Reply) → comes_to a b c d replies.Done ≡ replies.Done
+    → comes_to a b c d rest ≡ rest
 comes_done true b c d rest is = cc is
 comes_done false true c d rest is = cc is
 comes_done false false true d rest is = cc is
@@ -116,7 +117,8 @@ module _ (pack : Pack) (s : State) (job : machine.Job) (e : ℕ) (old new : Plac
   arrived_other : (reply : Reply) → arrival_answer s job old new ≡ reply → (reply ≡ replies.Done → ⊥) → answer ≡ reply
   arrived_other reply is other = comes_other (has_no_directory s new)
       (not (new.ppn == old.ppn) && not (may_create (directory_digit_at s job new)))
-      (not (same_place new old) && not (is_absent s new)) (not (same_place new old) && is_claimed s new) _ reply is other
+      (not (same_place new old) && not (is_absent s new)) (not (same_place new old) && is_claimed s new) _
+      reply is other
 
   arrived : arrival_answer s job old new ≡ replies.Done
       → answer ≡ (if crowds pack s old new then replies.Refused 0o14 else replies.Done)

@@ -1,6 +1,7 @@
 -- RENAME that moves a file, by what the volume answers: what it promises, among whichever jobs.
 use Rattle.std.proofs.Common.{◌≡◌, ◌≢◌, ◌≤◌, ◌<◌, ◌+◌, ◌/◌, ◌^◌, ℕ, Bool, true, false, if◌then◌else◌, List, [], ◌∷◌}
-use Rattle.std.proofs.Common.{Option, Some, None, Result, Ok, Err, refl, sym, ap, subst, ◌∙◌, inl, inr, ⊎_elim, slice_set}
+use Rattle.std.proofs.Common.{Option, Some, None, Result, Ok, Err, refl, sym, ap, subst, ◌∙◌, inl, inr, ⊎_elim}
+use Rattle.std.proofs.Common.{slice_set}
 use Rattle.std.proofs.Common.{slice_index, arith}
 use Rattle.std.specs.Prelude.{◌==◌, IsErrOf, OnOk}
 use Rattle.std.proofs.lemmas.Bool.{cases_eq, ne_eqb}
@@ -10,9 +11,10 @@ use Rattle.blockdisk.specs.Disk.{Contents, DiskState, MayLeave, LeavesOnly, Same
 use Rattle.blockdisk.specs.Laws.{leaves_weaker}
 use Rattle.meaning.specs.Codes.{number_of}
 use Rattle.meaning.specs.Cores.{lies_outside}
-use Rattle.meaning.specs.Files.{File, Files, Place}
+use Rattle.meaning.specs.Files.{File, Files, Directory, Place}
 use Rattle.meaning.specs.Jobs.{State, slot}
 use Rattle.meaning.specs.Looking.{place_at}
+use Rattle.meaning.specs.Maps.{get}
 use Rattle.meaning.specs.Published.{Version, without_serials, without_file, file_at}
 use Rattle.meaning.specs.Renaming.{files_from, files_moved, protection_at}
 use Rattle.meaning.specs.Runs.{Service, Broken, Answers}
@@ -173,6 +175,14 @@ module _ {D : Type 0} (state : D → DiskState) (only_now : (disk : D) (contents
       from = moves_from d core t here sound honest (job_of w job) e input.ppn input.file to_ppn to (place w) moves
           (changes honest t here w) (comes honest t here w)
 
+      home : (D : Directory Version) × (get s.files to_ppn ≡ Some D)
+      home = moves_home d core t here sound honest (job_of w job) e input.ppn input.file to_ppn to (place w) moves
+          (changes honest t here w) (comes honest t here w)
+
+      absent : new ≢ old → file_at s.files new ≡ None
+      absent = moves_free d core t here sound honest (job_of w job) e input.ppn input.file to_ppn to (place w) moves
+          (changes honest t here w) (comes honest t here w)
+
       abbrev files' : Files Version
       files' = files_moved s.files old new protection (Some from.0)
 
@@ -226,36 +236,35 @@ module _ {D : Type 0} (state : D → DiskState) (only_now : (disk : D) (contents
       done_answered : d'.honest → (old' : Service) → Serves d core false jobs old' → (new' : Service)
           × Serves d' core' failed' moved_jobs new'
           × Answers (pack_of d) old' (Calls n (Rename number e) moment) replies.Done new'
-      done_answered honest' = in_state d core false jobs (λ old'. (new' : Service) × Serves d' core' failed' moved_jobs new'
+      done_answered honest' = in_state d core false jobs
+          (λ old'. (new' : Service) × Serves d' core' failed' moved_jobs new'
           × Answers (pack_of d) old' (Calls n (Rename number e) moment) replies.Done new') refl
           (λ s is.
           let honest = says.same.was_honest honest' in
           let w' = with_protected is.under made.key protection in
           let moved = files' honest s is in
           let t' = state_of moved w' moved_jobs in
-          let at = here honest s is in
-          let home = moves_home d core (t honest s is) at sound honest (job_of is.under job) e input.ppn input.file to_ppn
-          to (place is.under) moves (changes honest (t honest s is) at is.under) (comes honest (t honest s is) at is.under) in
-          let absent = moves_free d core (t honest s is) at sound honest (job_of is.under job) e input.ppn input.file to_ppn
-          to (place is.under) moves (changes honest (t honest s is) at is.under) (comes honest (t honest s is) at is.under) in
-          goes_on d' core' failed' moved_jobs (pack_of d) (Calls n (Rename number e) moment) replies.Done s t' works is.sound
-          (λ serial. row honest s is (Ok x) says (λ e. cc e) serial
+          let moved_from = from honest s is in
+          let moved_home = home honest s is in
+          goes_on d' core' failed' moved_jobs (pack_of d) (Calls n (Rename number e) moment) replies.Done s t' works
+          is.sound (λ serial. row honest s is (Ok x) says (λ e. cc e) serial
           ∙ ap (λ js. (replies.Done, record { files = moved; jobs = js }))
           (sym (protected_jobs is.under made.key protection moved_jobs)))
           (moved_state core b core' jobs n job job' among.there input.ppn input.file to_ppn to protection made behind
-          unclaimed vacant d d' s is sound.whole (from honest s is).0 (from honest s is).1 home.0 home.1 absent
+          unclaimed vacant d d' s is sound.whole moved_from.0 moved_from.1 moved_home.0 moved_home.1
+          (absent honest s is)
           (says.done honest' (without_serials s.files) is.files) (says.readers honest' (λ e. cc e))
           (says.writers honest' (λ e. cc e)) closed.leaves))
 
       pub done_serves : IsServing state disk disk' core core' failed' jobs moved_jobs n (Rename number e) moment
           replies.Done
       done_serves = record {
-        keyed = λ alive. moved_keyed core b core' jobs n job job' among.there input.ppn input.file to_ppn to protection made
-            behind among.keyed;
-        placed = λ alive. moved_placed core b core' jobs n job job' among.there input.ppn input.file to_ppn to protection
-            made behind unclaimed vacant placed;
-        reading = λ alive. moved_reading core b core' jobs n job job' among.there input.ppn input.file to_ppn to protection
-            made behind among.reading;
+        keyed = λ alive. moved_keyed core b core' jobs n job job' among.there input.ppn input.file to_ppn to
+            protection made behind among.keyed;
+        placed = λ alive. moved_placed core b core' jobs n job job' among.there input.ppn input.file to_ppn to
+            protection made behind unclaimed vacant placed;
+        reading = λ alive. moved_reading core b core' jobs n job job' among.there input.ppn input.file to_ppn to
+            protection made behind among.reading;
         others = λ m other. slot-set_other jobs n m (Some job') other;
         answered = λ honest' served. done_answered honest';
         crash = crashes (Ok x) says (λ e. cc e);
@@ -294,7 +303,8 @@ module _ {D : Type 0} (state : D → DiskState) (only_now : (disk : D) (contents
                 is,
                 (
                   refl,
-                  rename_undecided d core jobs s at n job among.there number e moment timely channel is_open input side free
+                  rename_undecided d core jobs s at n job among.there number e moment timely channel is_open input
+                      side free
                       inside,
                   refl,
                 ),

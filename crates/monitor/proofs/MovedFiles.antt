@@ -95,8 +95,8 @@ copies_new : (k : ℕ) (files : Files Version) (place : Place) (d : Directory Ve
     → copies k (versions_in (with_file files place v)) ≡ copies k (versions_in files) + with_serial k v
 copies_new k files place d v is none =
     let new : Directory Version = record d { files = insert d.files place.name v } in
-    let put : copies k (versions_in (with_file files place v)) ≡ copies k (versions_in (insert files place.ppn new)) = ap
-    (λ o. copies k (versions_in (with_file_in o files place v))) is in
+    let put : copies k (versions_in (with_file files place v)) ≡ copies k (versions_in (insert files place.ppn new)) =
+    ap (λ o. copies k (versions_in (with_file_in o files place v))) is in
     let free : get d.files place.name ≡ None = sym (at_there files place d is) ∙ none in
     let in_files = sum-insert_over nat_cmp_total nat_cmp-IsAntisymmetric
     (λ (x : Directory Version). copies k (values x.files)) files place.ppn new d is in

@@ -1,5 +1,6 @@
 -- The state that the monitor stands for once a file has moved.
-use Rattle.std.proofs.Common.{◌≡◌, ◌≢◌, ℕ, false, List, Option, Some, None, refl, sym, ap, subst, ◌∙◌, ⊎_elim, slice_set}
+use Rattle.std.proofs.Common.{◌≡◌, ◌≢◌, ℕ, false, List, Option, Some, None, refl, sym, ap, subst, ◌∙◌, ⊎_elim}
+use Rattle.std.proofs.Common.{slice_set}
 use Rattle.std.proofs.lemmas.Bool.{cases_eq}
 use Rattle.words36.specs.declared.names.FileName.{FileName}
 use Rattle.blockdisk.specs.Disk.{DiskState}
@@ -130,8 +131,8 @@ module _ (c b c' : VolumeCore) (jobs : List (Option Job)) (n : ℕ) (job job' : 
             (not_new k p was) ∙ state.absent k p was creates;
         keyed = moved_keyed state.keyed;
         read = reads_left d' b c' files' under_moved.read leaves
-            (reads_moved d d' c b s.files w.read state.read whole ppn name to_ppn to protection is x at home housed absent
-            readers);
+            (reads_moved d d' c b s.files w.read state.read whole ppn name to_ppn to protection is x at home housed
+            absent readers);
         reading = moved_reading state.reading;
         jobs_are = refl;
         sound = sound;

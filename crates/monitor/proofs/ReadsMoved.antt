@@ -167,8 +167,9 @@ module _ (d d' : DiskState) (c c' : VolumeCore) (files : Files Version) (read : 
         version = words_kept d.contents d'.contents (as_known v) (read k).file (keeps k v there held) was.version;
         current = λ current.
             let place = was.current current in
-            let not_old : place.0 ≢ old = λ same. apart (one_key d.size c whole k key v is.version there is.there current
-            is.current (some_same (sym place.1 ∙ ap (λ (q : Place). prime_at c q.ppn q.name) same ∙ is.before))) in
+            let not_old : place.0 ≢ old = λ same. apart (one_key d.size c whole k key v is.version there is.there
+            current is.current
+            (some_same (sym place.1 ∙ ap (λ (q : Place). prime_at c q.ppn q.name) same ∙ is.before))) in
             let not_new : place.0 ≢ new = λ same. some_none (sym place.2 ∙ ap (file_at files) same
             ∙ free (λ back. not_old (same ∙ back))) in (
               place.0,

@@ -1,5 +1,6 @@
 -- A RENAME of what a channel reads that finds no memory, and when its answer is decided.
-use Rattle.std.proofs.Common.{◌≡◌, ◌≤◌, ℕ, Bool, false, List, Option, Some, None, refl, sym, ap, subst, ◌∙◌, inr, slice_set}
+use Rattle.std.proofs.Common.{◌≡◌, ◌≤◌, ℕ, Bool, false, List, Option, Some, None, refl, sym, ap, subst, ◌∙◌, inr}
+use Rattle.std.proofs.Common.{slice_set}
 use Rattle.words36.specs.declared.moment.Moment.{Moment}
 use Rattle.blockdisk.specs.Disk.{Contents, DiskState, MayLeave}
 use Rattle.meaning.specs.Cores.{lies_outside}
@@ -29,7 +30,8 @@ use Rattle.monitor.proofs.RenameRows.{row_answers}
 use Rattle.monitor.proofs.Serving.{alone_keyed, alone_reading}
 
 -- it is decided only after memory and the disk are needed
-pub rename_undecided : (d : DiskState) (c : VolumeCore) (jobs : List (Option Job)) (s : State) (state : IsState d c jobs s)
+pub rename_undecided : (d : DiskState) (c : VolumeCore) (jobs : List (Option Job)) (s : State)
+    (state : IsState d c jobs s)
     (n : ℕ) (job : Job) → slot jobs n ≡ Some job → (number e : ℕ) (moment : Moment) → moment.date ≤ 4095
     → (channel : Channel) → slot job.channels number ≡ Some channel → (input : Input) → channel.input ≡ Some input
     → channel.output ≡ None → lies_outside job.core e 4 ≡ false
@@ -48,18 +50,19 @@ pub rename_serves : {D : Type 0} (state : D → DiskState) (disk mid new : D) (c
     → failed ≡ failed' → left ≡ job' → answer ≡ reply
     → ServesAlways state disk mid core between failed job left call answer
     → ServesAlways state disk new core core' failed' job job' call reply
-rename_serves state disk mid new core between core' failed failed' job job' left call reply answer same kept alive set is
-    serves moment timely jobs n among =
+rename_serves state disk mid new core between core' failed failed' job job' left call reply answer same kept alive
+    set is serves moment timely jobs n among =
     subst (λ r. IsServing state disk new core core' failed' jobs (slice_set jobs n (Some job')) n call moment r) is
     (subst (λ j. IsServing state disk new core core' failed' jobs (slice_set jobs n (Some j)) n call moment answer) set
     (subst (λ b. IsServing state disk new core core' b jobs (slice_set jobs n (Some left)) n call moment answer) alive
     (subst (λ x. IsServing state disk new core x failed jobs (slice_set jobs n (Some left)) n call moment answer) kept
-    (subst (λ y. IsServing state disk y core between failed jobs (slice_set jobs n (Some left)) n call moment answer) same
-    (serves moment timely jobs n among)))))
+    (subst (λ y. IsServing state disk y core between failed jobs (slice_set jobs n (Some left)) n call moment answer)
+    same (serves moment timely jobs n among)))))
 
 module _ {D : Type 0} (state : D → DiskState) (only_now : (disk : D) (contents : Contents) → (state disk).honest
     → (state disk).left_since (state disk).clock contents → MayLeave (state disk) contents) (disk : D)
-    (core : VolumeCore) (job : Job) (number e : ℕ) (channel : Channel) (is_open : slot job.channels number ≡ Some channel)
+    (core : VolumeCore) (job : Job) (number e : ℕ) (channel : Channel)
+    (is_open : slot job.channels number ≡ Some channel)
     (input : Input) (side : channel.input ≡ Some input) (free : channel.output ≡ None)
     (inside : lies_outside job.core e 4 ≡ false) (sound : IsSound (state disk) core false)
     (placed : ArePlaced core) where

@@ -128,8 +128,8 @@ returns-in-Err-may_come g c = record {
       (λ h s known w.
       let e = c.args.address in
       arrival_refused (pack_of d) s (job_of w job) e (place_of input.ppn input.file) (place_of c.in-Some.ppn name)
-      (at_place w job e c.in-Some.ppn name c.in-Some.ensures.there c.name_at-name.ensures.0 c.name_at-name.ensures.1) moves
-      (c.in_default.ensures.answered h ready.alive s known (job_of w job) e refl
+      (at_place w job e c.in-Some.ppn name c.in-Some.ensures.there c.name_at-name.ensures.0 c.name_at-name.ensures.1)
+      moves (c.in_default.ensures.answered h ready.alive s known (job_of w job) e refl
       (asks_for w job e (c.bits.result / 2 ^ 27)
       c.requires.named (ap (λ x. x / 2 ^ 27) (c.bits.ensures.value ∙ c.word_at.ensures.value))))
       (replies.Refused (number_of c.in-Err-may_come.code))
