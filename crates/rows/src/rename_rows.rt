@@ -299,7 +299,7 @@ enum Chase {
 }
 
 /// Job 1 does it, on channel 3.
-fn chase(rt: &impl Abort, monitor: &mut Monitor<MemDisk>, alloc: Global, how: Chase) {
+fn change_foo(rt: &impl Abort, monitor: &mut Monitor<MemDisk>, alloc: Global, how: Chase) {
     match how {
         Chase::Supersede => write(rt, monitor, alloc, FOO, 129),
         Chase::Delete => rename(rt, monitor, alloc, (FOO, 0), 0, Reply::Done),
@@ -311,7 +311,7 @@ fn chase(rt: &impl Abort, monitor: &mut Monitor<MemDisk>, alloc: Global, how: Ch
 fn rename_after(rt: &impl Abort, alloc: Global, how: Chase, wanted: Reply) -> Result<(), NoMemory> {
     let mut monitor = two_files(rt, alloc)?;
     read_as(rt, &mut monitor, alloc, 2);
-    chase(rt, &mut monitor, alloc, how);
+    change_foo(rt, &mut monitor, alloc, how);
     expect_rename(
         rt,
         &mut monitor,
