@@ -90,8 +90,10 @@ pub record HoldsPublished (d' : DiskState) (c b c' : VolumeCore) (key : ℕ) (jo
   pub renewed : Input
   pub ppn : ℕ
   pub file : FileName
-  pub renews : Renews b c' input renewed ppn file
+  pub protection : ℕ
+  pub renews : Renews b c' input renewed ppn file protection
   pub place : (p : PendingVersion) → pending_at c.pending key ≡ Some p → (ppn ≡ p.prime.ppn) × (file ≡ p.prime.file)
+      × (protection ≡ p.prime.protection)
   pub whole : IsWholeCore d'.size b
   pub pinned : d'.honest → (files : Files File) → RestsAt d' files
       → IsPinAnswer d'.contents renews.between.live file (Ok renewed.pin) (get files ppn)
@@ -101,7 +103,7 @@ pub record HoldsPublished (d' : DiskState) (c b c' : VolumeCore) (key : ℕ) (jo
 -- so it is where a side was renewed, and the disk left alone
 pub holds_published : {D : Type 0} (state : D → DiskState) (mid new : D) (c b c' : VolumeCore) (failed : Bool) (key : ℕ)
     (job job' : Job) (number : ℕ) (channel : Channel) (input renewed : Input) (prime : Prime) → new ≡ mid
-    → IsSound (state mid) b failed → ((is : Renews b c' input renewed prime.ppn prime.file)
+    → IsSound (state mid) b failed → ((is : Renews b c' input renewed prime.ppn prime.file prime.protection)
     × ((state new).honest → (files : Files File) → RestsAt (state mid) files
     → IsPinAnswer (state mid).contents is.between.live prime.file (Ok is.held.pin) (get files prime.ppn)))
     → ((p : PendingVersion) → pending_at c.pending key ≡ Some p → prime ≡ p.prime)
@@ -112,8 +114,10 @@ holds_published state mid new c b c' failed key job job' number channel input re
       renewed = renewed;
       ppn = prime.ppn;
       file = prime.file;
+      protection = prime.protection;
       renews = renews.0;
-      place = λ p at. let is = of p at in (ap (λ (q : Prime). q.ppn) is, ap (λ (q : Prime). q.file) is);
+      place = λ p at. let is = of p at in
+          (ap (λ (q : Prime). q.ppn) is, ap (λ (q : Prime). q.file) is, ap (λ (q : Prime). q.protection) is);
       whole = subst (λ disk. IsWholeCore (state disk).size b) (sym same) sound.whole;
       pinned = λ honest files rests.
           subst (λ (pin : Pin). IsPinAnswer (state new).contents renews.0.between.live prime.file (Ok pin)
@@ -254,18 +258,25 @@ module _ {d d' : DiskState} {c b : VolumeCore} {failed failed' : Bool} {reply : 
             pinned k = state.reading.pinned k ∙ sym (readers_behind o by.whatever has live k)
 
             jobs_same : jobs_of u jobs ≡ jobs_of w jobs
-            jobs_same = renewed_jobs b c' input h.renewed h.ppn h.file h.renews d' files' w.read reads h.whole x it_is
+            jobs_same = renewed_jobs b c' input h.renewed h.ppn h.file h.protection h.renews d' files' w.read reads h.whole x it_is
                 w jobs refl pinned
 
-            pin_only : h.renewed ≡ record input { pin = h.renewed.pin }
+            pin_only : h.renewed ≡ record input { pin = h.renewed.pin; protection = h.renewed.protection }
             pin_only = h.renews.renewed_is
-                ∙ ap (λ (p : Pin). record input { pin = p }) (sym (ap (λ (i : Input). i.pin) h.renews.renewed_is))
+                ∙ ap (λ (i : Input). record input { pin = i.pin; protection = i.protection })
+                (sym h.renews.renewed_is)
+
+            protected : h.renewed.protection ≡ x.file.protection
+            protected =
+                let p = some_is (pending_at c.pending key) live in
+                ap (λ (i : Input). i.protection) h.renews.renewed_is ∙ (h.place p.0 p.1).2
+                ∙ sym (state.versions key p.0 p.1).protection
 
             renewed_goes : GoesOn d c key (Close number bits) jobs n moment s state d' b by.whatever live honest c' job'
                 serial
             renewed_goes = (
               with_read w.read h.renewed.pin.key x,
-              renewed_reads b c' input h.renewed h.ppn h.file h.renews d' files' w.read reads h.whole x it_is distinct
+              renewed_reads b c' input h.renewed h.ppn h.file h.protection h.renews d' files' w.read reads h.whole x it_is distinct
                   answer,
               subst (λ t. step (pack_of d) serial t (Calls n (Close number bits) moment)
                   ≡ (Done, state_of files' u (slice_set jobs n (Some job'))))
@@ -273,7 +284,7 @@ module _ {d d' : DiskState} {c b : VolumeCore} {failed failed' : Bool} {reply : 
                   (close_step d jobs n moment timely s.files u job at number channel there o side bits drops
                   publishes_it serial (output_closed channel h.renewed)
                   (channel_renewed u channel o bits side drops publishes_it serial job input h.renewed reads_it keeps
-                  pin_only (with_read_same w.read h.renewed.pin.key x h.renewed.pin.key refl)) job' h.job_is),
+                  pin_only protected (with_read_same w.read h.renewed.pin.key x h.renewed.pin.key refl)) job' h.job_is),
             )
 
         pub renewed_row : IsPublishRow d d' c c' failed' job job' (Close number bits) reply
@@ -295,5 +306,5 @@ module _ {d d' : DiskState} {c b : VolumeCore} {failed failed' : Bool} {reply : 
       → IsBehind c b c' job job'
   holds_behind input reads h has =
       renewed_behind o by.whatever has live c' job job' number channel there side
-      (renewed_pending b c' input h.renewed h.ppn h.file h.renews) input h.renewed h.ppn h.file
+      (renewed_pending b c' input h.renewed h.ppn h.file h.protection h.renews) input h.renewed h.ppn h.file h.protection
       (output_closed channel h.renewed) reads refl refl h.job_is h.renews

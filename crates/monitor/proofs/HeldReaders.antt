@@ -1,16 +1,18 @@
--- What the machine holds, as a list: the version under each pin of an input side.
+-- What the machine holds, as a list: the version under the pin of each input side, with the protection that it had when
+-- it was found.
 use Rattle.std.proofs.Common.{◌≡◌, ◌<◌, ℕ, Bool, true, false, List, [], ◌∷◌, ◌++◌, map, flat_map, Option, Some, None}
 use Rattle.std.proofs.Common.{refl, sym, ap, subst, ◌∙◌, arith}
 use Rattle.std.specs.Prelude.{◌==◌, ◌||◌, option_map, filter_map}
-use Rattle.std.specs.List.{cons_option}
+use Rattle.std.specs.List.{cons_option, AllZip}
 use Rattle.std.proofs.lemmas.Bool.{eq-eqb, both_ways}
 use Rattle.std.proofs.lemmas.List.{map-append}
 use Rattle.meaning.specs.Jobs.{State}
 use Rattle.meaning.specs.Maps.{times}
-use Rattle.meaning.specs.Published.{Version}
+use Rattle.meaning.specs.Published.{Version, with_protection}
 use Rattle.meaning.specs.Room.{held_by, held, version_of, current, has_serial}
 use Rattle.meaning.specs.Runs.{IsFresh}
 use Rattle.meaning.proofs.MapSums.{times_other}
+use Rattle.monitor.specs.Readers.{IsReadAs}
 use Rattle.monitor.specs.Sides.{UnderKeys, reader_of, readers_in, readers, pins_of, input_of, channel_of, job_of}
 use Rattle.monitor.specs.Sides.{jobs_of}
 use Rattle.monitor.specs.declared.channel.Channel.{Channel}
@@ -19,8 +21,11 @@ use Rattle.monitor.specs.declared.job.Job.{Job}
 use Rattle.monitor.proofs.Dropped.{same_or_not}
 
 module _ (under : UnderKeys) where
-  abbrev shown : List Input → List Version
-  shown is = map under.read (pins_of is)
+  abbrev found_by : Input → Version
+  found_by i = with_protection (under.read i.pin.key) i.protection
+
+  abbrev pub shown : List Input → List Version
+  shown is = map found_by is
 
   cons_shown : (o : Option Input) (is : List Input)
       → cons_option (option_map (λ i. i.version) (option_map (input_of under) o)) (shown is) ≡ shown (cons_option o is)
@@ -39,13 +44,20 @@ module _ (under : UnderKeys) where
   job_holds (Some job) = channels_hold job.channels
 
   joined : (xs ys : List Input) → shown (xs ++ ys) ≡ shown xs ++ shown ys
-  joined xs ys = ap (map under.read) (map-append (λ (i : Input). i.pin.key) xs ys)
-      ∙ map-append under.read (pins_of xs) (pins_of ys)
+  joined xs ys = map-append found_by xs ys
 
-  pub held_are : (jobs : List (Option Job)) → flat_map held_by (jobs_of under jobs)
-      ≡ map under.read (pins_of (readers jobs))
+  pub held_are : (jobs : List (Option Job)) → flat_map held_by (jobs_of under jobs) ≡ shown (readers jobs)
   held_are [] = refl
   held_are (j ∷ jobs) = (λ i. job_holds j i ++ held_are jobs i) ∙ sym (joined (readers_in j) (readers jobs))
+
+  -- but for their protection they are the versions under the keys
+  pub shown_as : (is : List Input) → AllZip IsReadAs (shown is) (map under.read (pins_of is))
+  shown_as [] = tt
+  shown_as (i ∷ is) = (record { serial = refl; words = refl }, shown_as is)
+
+  shown_serials : (n : ℕ) (is : List Input) → has_serial n (shown is) ≡ has_serial n (map under.read (pins_of is))
+  shown_serials n [] = refl
+  shown_serials n (i ∷ is) = ap (λ b. ((under.read i.pin.key).serial == n) || b) (shown_serials n is)
 
 -- A serial that no version has is that of none which is read.
 
@@ -75,9 +87,10 @@ has_pinned read key (p ∷ pins) some = by ((read p).serial == (read key).serial
 pub fresh_read : (s : State) (under : UnderKeys) (jobs : List (Option Job)) → s.jobs ≡ jobs_of under jobs → (serial : ℕ)
     → IsFresh s serial → (key : ℕ) → 0 < times key (pins_of (readers jobs)) → serial ≡ (under.read key).serial → ⊥
 fresh_read s under jobs are serial fresh key some same =
-    let held_is : held s ≡ map under.read (pins_of (readers jobs)) = ap (flat_map held_by) are ∙ held_are under jobs in
+    let held_is : held s ≡ shown under (readers jobs) = ap (flat_map held_by) are ∙ held_are under jobs in
     let has = has_pinned under.read key (pins_of (readers jobs)) some in
     let none : has_serial serial (map under.read (pins_of (readers jobs)))
-    ≡ false = subst (λ vs. has_serial serial vs ≡ false) held_is (has_last serial (current s) (held s) fresh) in
+    ≡ false = sym (shown_serials under serial (readers jobs))
+    ∙ subst (λ vs. has_serial serial vs ≡ false) held_is (has_last serial (current s) (held s) fresh) in
     both_ways (has_serial serial (map under.read (pins_of (readers jobs)))) none
     (subst (λ k. has_serial k (map under.read (pins_of (readers jobs))) ≡ true) (sym same) has)

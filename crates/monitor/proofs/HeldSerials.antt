@@ -16,7 +16,7 @@ use Rattle.monitor.proofs.PublishedFiles.{with_serial, copies, none_copies, copi
 use Rattle.monitor.proofs.PublishedFiles.{copies-files, copies-put, one_if}
 
 module _ (k : ℕ) where
-  counts_one : (x : Version) → x.serial ≡ k → with_serial k x ≡ 1
+  pub counts_one : (x : Version) → x.serial ≡ k → with_serial k x ≡ 1
   counts_one x same = ap one_if (eq-eqb x.serial k same)
 
   counts_none : (x : Version) → (x.serial ≡ k → ⊥) → with_serial k x ≡ 0

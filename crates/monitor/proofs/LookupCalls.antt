@@ -12,7 +12,7 @@ use Rattle.meaning.specs.Jobs.{State, slot, channel_at, with_channel, with_job}
 use Rattle.meaning.specs.Looking.{place_at, with_attributes, size_word, lookup, lookup_answer, lookup_done, looked_up}
 use Rattle.meaning.specs.Maps.{times}
 use Rattle.meaning.specs.Outcomes.{settled, clean, refused_at}
-use Rattle.meaning.specs.Published.{Version, file_at}
+use Rattle.meaning.specs.Published.{Version, file_at, with_protection}
 use Rattle.meaning.specs.Runs.{Service, Serving, Answers}
 use Rattle.meaning.specs.Stands.{place_of}
 use Rattle.meaning.specs.Step.{step, on_channel, of_job}
@@ -55,7 +55,11 @@ module _ (w : UnderKeys) (key : ℕ) (x : Version) where
       let at = subst (λ (k : ℕ). times key (k ∷ []) ≡ 0) same none in absurd (omega arith)))
     where
       input_at : Version → machine.Input
-      input_at v = record { place = place_of i.ppn i.file; version = v; next = i.next }
+      input_at v = record {
+        place = place_of i.ppn i.file;
+        version = with_protection v i.protection;
+        next = i.next;
+      }
 
   side_same : (o : Option Input) → held key (option_to_list o) ≡ 0 → option_map (input_of (with_version w key x)) o
       ≡ option_map (input_of w) o
@@ -141,9 +145,11 @@ module _ (d : DiskState) (map between map' : VolumeCore) (jobs jobs' : List (Opt
     -- the new side
     input_is : record { place = place_at (job_of w job) e; version = found.version; next = 1 } ≡ input_of w input
     input_is =
-        let p = sym (looks.place w) in let v = sym (with_read_same state.under.read key found.version key refl) in
+        let p = sym (looks.place w) in
+        let v = sym (with_read_same state.under.read key found.version key refl) in
+        let q = sym found.protection in
         let x = sym looks.next in
-        λ i. record { place = p i; version = v i; next = x i }
+        λ i. record { place = p i; version = with_protection (v i) (q i); next = x i }
 
     abbrev words : List ℕ
     words = after_writes (with_attributes 1 job.core e found.version.file)

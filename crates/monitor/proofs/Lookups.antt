@@ -115,6 +115,7 @@ pub is_found : (contents : Contents) (live : List (Option LiveVersion)) (s : Sta
 is_found contents live s w job job' e input facts place is put = record {
   version = is.version;
   there = ap (file_at s.files) place ∙ is.there;
+  protection = is.protection;
   held = (is.held, is.held_at, is.body);
   core = put is.version.file is.shown is.short;
 }

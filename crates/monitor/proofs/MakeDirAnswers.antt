@@ -47,7 +47,7 @@ idle_crashes d c jobs n call moment only_now honest s state =
     (λ x left. inl (rest_settles d (λ y. SettledStands d.size y (without_serials s.files)) state.files x left))
 
 -- it failed just where the device did
-not_failed : (failed' : Bool) (reply : Reply) → IsTrue failed' ↔ (reply ≡ Device) → (reply ≡ Device → ⊥)
+pub not_failed : (failed' : Bool) (reply : Reply) → IsTrue failed' ↔ (reply ≡ Device) → (reply ≡ Device → ⊥)
     → failed' ≡ false
 not_failed false reply exact not_device = refl
 not_failed true reply exact not_device = absurd (not_device (exact.0 refl))

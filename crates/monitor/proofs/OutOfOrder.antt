@@ -1,21 +1,20 @@
--- Calls that are out of order wherever they are served: INBUF, OUTBUF, RENAME and DeleteDir answer as the machine does.
+-- Calls that are out of order: INBUF and OUTBUF on channels in dump mode, and RENAME on one that reads nothing, answer as
+-- the machine does.
 use Rattle.std.proofs.Common.{◌≡◌, ℕ, Bool, true, false, Option, None, Some, refl, ap, ◌∙◌}
-use Rattle.std.specs.Prelude.{◌==◌, not, if◌then◌else◌, is_none, option_map}
+use Rattle.std.specs.Prelude.{if◌then◌else◌, option_map}
 use Rattle.meaning.specs.Cores.{lies_outside}
 use Rattle.meaning.specs.Files.{Files}
 use Rattle.meaning.specs.Jobs as machine
 use Rattle.meaning.specs.Jobs.{State, slot, channel_at, job_at, with_job}
-use Rattle.meaning.specs.Making.{is_stranger, owner_at}
-use Rattle.meaning.specs.Maps.{get, remove}
 use Rattle.meaning.specs.Opening.{sets_up}
 use Rattle.meaning.specs.Outcomes.{settled, refused_at}
 use Rattle.meaning.specs.Published.{Version}
 use Rattle.meaning.specs.Renaming.{renames, rename_sides, rename_done, files_renamed}
-use Rattle.meaning.specs.Room.{Pack, entry_count}
+use Rattle.meaning.specs.Room.{Pack}
 use Rattle.meaning.specs.Step.{on_channel, of_job, of_files}
-use Rattle.meaning.specs.declared.call.Call.TheVariants.{Inbuf, Outbuf, Rename, DeleteDir}
+use Rattle.meaning.specs.declared.call.Call.TheVariants.{Inbuf, Outbuf, Rename}
 use Rattle.meaning.specs.declared.call.Reply.{Reply}
-use Rattle.meaning.specs.declared.call.Reply.TheVariants.{Done, Refused, NoChannel, AddressCheck}
+use Rattle.meaning.specs.declared.call.Reply.TheVariants.{Refused, NoChannel, AddressCheck}
 use Rattle.monitor.specs.Refusals.{with_code}
 use Rattle.monitor.specs.Rows.{IsRow}
 use Rattle.monitor.specs.Sides.{UnderKeys, input_of, channel_of, job_of}
@@ -74,22 +73,3 @@ module _ (job : Job) (number e : ℕ) where
         asked s n w (λ x. of_files s n (renames pack s (job_of w job) number x e))
         ∙ ap (λ b. of_files s n (renamed pack s w b (channel_of w c).input)) inside
         ∙ ap (λ i. of_files s n (renamed pack s w false (option_map (input_of w) i))) none
-
--- DeleteDir.
-module _ (job : Job) (e : ℕ) where
-  abbrev owner : UnderKeys → ℕ
-  owner w = owner_at (job_of w job) e
-
-  -- by whether the words are not all there
-  abbrev removed : State → UnderKeys → Bool → Reply × (machine.Job × Files Version)
-  removed s w outside =
-      settled
-      (if outside then AddressCheck
-      else if is_none (get s.files (owner w)) then Refused 1
-      else if is_stranger (job_of w job) (owner w) then Refused 2
-      else if not (entry_count s (owner w) == 0) then Refused 0o22
-      else Done)
-      (job_of w job, remove s.files (owner w)) (λ reply. (refused_at (job_of w job) e reply, s.files))
-
-  pub delete_outside : lies_outside job.core e 2 ≡ true → IsRow job job (DeleteDir e) AddressCheck
-  delete_outside outside pack serial s n w moment at = ap (λ b. of_files s n (removed s w b)) outside

@@ -176,13 +176,13 @@ allowed_free (found.Present p q) who owner z b kind is = begun_free Supersede (m
 
 -- One is published.
 
-set_here : {X : Type 0} (xs : List X) (i : ℕ) (x y : X) → slice_get xs i ≡ Some x
+pub set_here : {X : Type 0} (xs : List X) (i : ℕ) (x y : X) → slice_get xs i ≡ Some x
     → slice_get (slice_set xs i y) i ≡ Some y
 set_here [] i x y is = absurd (some_none (sym is))
 set_here (z ∷ xs) zero x y is = refl
 set_here (z ∷ xs) (suc i) x y is = set_here xs i x y is
 
-set_elsewhere : {X : Type 0} (xs : List X) (i j : ℕ) (y : X) → (j ≡ i → ⊥)
+pub set_elsewhere : {X : Type 0} (xs : List X) (i j : ℕ) (y : X) → (j ≡ i → ⊥)
     → slice_get (slice_set xs i y) j ≡ slice_get xs j
 set_elsewhere [] i j y other = refl
 set_elsewhere (z ∷ xs) zero zero y other = absurd (other refl)

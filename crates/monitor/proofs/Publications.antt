@@ -179,14 +179,15 @@ module _ {d d' : DiskState} {c b : VolumeCore} (o : Output) (whatever : MayPubli
     }
 
     -- or it comes to hold another version
-    pub renewed_behind : (input renewed : Input) (ppn : ℕ) (file : FileName) (x : Channel) → channel.input ≡ Some input
+    pub renewed_behind : (input renewed : Input) (ppn : ℕ) (file : FileName) (protection : ℕ) (x : Channel)
+        → channel.input ≡ Some input
         → x.input ≡ Some renewed → x.output ≡ None
         → job' ≡ record job { channels = slice_set job.channels number (Some x) }
-        → Renews b c' input renewed ppn file → IsBehind c b c' job job'
-    renewed_behind input renewed ppn file x reads now none set is = record {
+        → Renews b c' input renewed ppn file protection → IsBehind c b c' job job'
+    renewed_behind input renewed ppn file protection x reads now none set is = record {
       pending = pending;
-      known = renewed_known b c' input renewed ppn file is;
+      known = renewed_known b c' input renewed ppn file protection is;
       keeps = keeps_behind (Some x) none set;
       reads = reads_behind (subst (KeepsReading b.live c'.live job) (sym set)
-          (renewed_reading b c' input renewed ppn file is job number x channel job.core there reads now));
+          (renewed_reading b c' input renewed ppn file protection is job number x channel job.core there reads now));
     }

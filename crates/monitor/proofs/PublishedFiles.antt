@@ -102,7 +102,7 @@ distinct_few (v ∷ vs) distinct k = by (v.serial == k) refl (distinct_few vs di
         let same = ap (λ n. copies n vs) (eqb-true v.serial k e) in omega arith
     by false e rest = omega (arith, rest)
 
-few_distinct : (vs : List Version) → ((k : ℕ) → copies k vs ≤ 1) → AreDistinct vs
+pub few_distinct : (vs : List Version) → ((k : ℕ) → copies k vs ≤ 1) → AreDistinct vs
 few_distinct [] few = tt
 few_distinct (v ∷ vs) few =
     let here : with_serial v.serial v ≡ 1 = ap one_if (eq-eqb v.serial v.serial refl) in

@@ -11,7 +11,7 @@ use Rattle.meaning.specs.Jobs as machine
 use Rattle.meaning.specs.Jobs.{State, slot, with_channel}
 use Rattle.meaning.specs.Outcomes.{settled, stopped_in}
 use Rattle.meaning.specs.Outputs.{put_on}
-use Rattle.meaning.specs.Published.{Version, with_file}
+use Rattle.meaning.specs.Published.{Version, with_file, with_protection}
 use Rattle.meaning.specs.Room.{Pack}
 use Rattle.meaning.specs.Runs.{is_light, publishes_on, channel_of as channel_at_job}
 use Rattle.meaning.specs.Stands.{place_of}
@@ -80,12 +80,14 @@ module _ (w : UnderKeys) (c : Channel) (o : Output) (bits : ℕ) (side : c.outpu
     }
 
     module _ (input renewed : Input) (reads : c.input ≡ Some input) (keeps : keeps_input bits ≡ true)
-        (same : renewed ≡ record input { pin = renewed.pin }) (holds : w.read renewed.pin.key ≡ version serial) where
+        (same : renewed ≡ record input { pin = renewed.pin; protection = renewed.protection })
+        (protected : renewed.protection ≡ (version serial).file.protection)
+        (holds : w.read renewed.pin.key ≡ version serial) where
       -- the machine's input side is that of the new key
       input_same : record (input_of w input) { version = version serial } ≡ input_of w renewed
       input_same = λ i. record {
         place = place_of (sym same i).ppn (sym same i).file;
-        version = sym holds i;
+        version = with_protection (sym holds i) (sym protected i);
         next = (sym same i).next;
       }
 

@@ -25,6 +25,20 @@ use Rattle.monitor.proofs.ReadsPinned.{words_kept}
 none_left : (v : LiveVersion) → v.readers ≡ 0 → left v ≡ None
 none_left v unread = ap (λ n. if n == 0 then None else Some (record v { is_current = false })) unread
 
+-- one of which something is left has a reader
+pub left_of_read : (u v : LiveVersion) → left u ≡ Some v → (0 < u.readers) × (record u { is_current = false } ≡ v)
+left_of_read u v is_left = ⊎_elim
+    (λ none. absurd (some_none (sym is_left ∙ none.1)))
+    (λ some. (
+      ⊎_elim (λ (held : 0 < u.readers). held) (λ few. absurd (some_none (sym is_left ∙ none_left u (omega arith))))
+          (cases_lt 0 u.readers),
+      some_same (sym some ∙ is_left),
+    )) (left_cases u)
+
+-- and it keeps its readers
+pub left_readers : (u : LiveVersion) → readers_of (left u) ≡ u.readers
+left_readers u = ⊎_elim (λ none. ap readers_of none.1 ∙ sym none.0) (λ some. ap readers_of some) (left_cases u)
+
 -- What stood under a key before.
 module _ (size : ℕ) (c c' : VolumeCore) (key : ℕ) (p : PendingVersion) (words : ℕ)
     (is : IsPublishedCore size c c' key p words) where
@@ -34,16 +48,6 @@ module _ (size : ℕ) (c c' : VolumeCore) (key : ℕ) (p : PendingVersion) (word
   new_under k v now same =
       let version = some_same (sym is.makes_current.here ∙ ap (slot c'.live) (sym same) ∙ now) in
       (sym (ap (λ (u : LiveVersion). u.is_current) version), sym (ap (λ (u : LiveVersion). u.readers) version))
-
-  -- one that was superseded has a reader
-  left_of_read : (u v : LiveVersion) → left u ≡ Some v → (0 < u.readers) × (record u { is_current = false } ≡ v)
-  left_of_read u v is_left = ⊎_elim
-      (λ none. absurd (some_none (sym is_left ∙ none.1)))
-      (λ some. (
-        ⊎_elim (λ (held : 0 < u.readers). held) (λ few. absurd (some_none (sym is_left ∙ none_left u (omega arith))))
-            (cases_lt 0 u.readers),
-        some_same (sym some ∙ is_left),
-      )) (left_cases u)
 
   -- any other version was there
   abbrev WasThere : ℕ → LiveVersion → Type 0
@@ -83,9 +87,6 @@ module _ (size : ℕ) (c c' : VolumeCore) (key : ℕ) (p : PendingVersion) (word
       < u.readers) turned.1 turned.0) was.2) (cases_eq k is.makes_current.new_key)
 
   -- each version has as many readers as before
-  left_readers : (u : LiveVersion) → readers_of (left u) ≡ u.readers
-  left_readers u = ⊎_elim (λ none. ap readers_of none.1 ∙ sym none.0) (λ some. ap readers_of some) (left_cases u)
-
   pub readers_stay : (k : ℕ) → readers_of (slot c'.live k) ≡ readers_of (slot c.live k)
   readers_stay k = ⊎_elim
       (λ (new : k ≡ is.makes_current.new_key). ap readers_of (ap (slot c'.live) new ∙ is.makes_current.here)

@@ -45,8 +45,21 @@ named_file None name x at = absurd (some_none (sym at))
 named_file (Some d) name x at = get-map_values name_total (λ (v : Version). v.file) d.files name
     ∙ ap (option_map (λ (v : Version). v.file)) at
 
-module _ (c c' : VolumeCore) (input renewed : Input) (ppn : ℕ) (file : FileName)
-    (is : Renews c c' input renewed ppn file) where
+-- the same, with the protection by another name
+abbrev pub renews_with : (c c' : VolumeCore) (input renewed : Input) (ppn : ℕ) (file : FileName) (p q : ℕ) → p ≡ q
+    → Renews c c' input renewed ppn file p → Renews c c' input renewed ppn file q
+renews_with c c' input renewed ppn file p q same is = record {
+  held = is.held;
+  at = is.at;
+  between = is.between;
+  holds = is.holds;
+  closed = is.closed;
+  pending = is.pending;
+  renewed_is = is.renewed_is ∙ ap (λ (n : ℕ). record input { pin = is.held.pin; protection = n }) same;
+}
+
+module _ (c c' : VolumeCore) (input renewed : Input) (ppn : ℕ) (file : FileName) (protection : ℕ)
+    (is : Renews c c' input renewed ppn file protection) where
   -- Core has what is written, and knows of the disk what it knew, but for the table.
 
   pub renewed_pending : c'.pending ≡ c.pending

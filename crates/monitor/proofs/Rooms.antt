@@ -29,8 +29,8 @@ use Rattle.monitor.specs.declared.output.Output.{Output}
 use Rattle.monitor.specs.declared.channel.Channel.{Channel}
 use Rattle.monitor.specs.declared.job.Job.{Job}
 use Rattle.monitor.proofs.Growths.{growths_are}
-use Rattle.monitor.proofs.HeldReaders.{held_are}
-use Rattle.monitor.proofs.HeldRooms.{held_once}
+use Rattle.monitor.proofs.HeldReaders.{shown as shown_by, held_are, shown_as}
+use Rattle.monitor.proofs.HeldRooms.{held_as_once}
 use Rattle.monitor.proofs.ReadBookings.{reads_booked}
 use Rattle.monitor.proofs.SideLists.{each-as}
 use Rattle.monitor.proofs.SideSums.{all_at, sum_sides}
@@ -62,10 +62,6 @@ module _ (w : UnderKeys) where
   sides_are [] = refl
   sides_are (j ∷ jobs) = (λ i. job_sides j i ++ sides_are jobs i)
       ∙ sym (map-append (output_of w) (sides_in j) (sides jobs))
-
--- what the input sides read, in their order
-abbrev read_by : UnderKeys → List (Option Job) → List Version
-read_by under jobs = map under.read (pins_of (readers jobs))
 
 -- Versions with serials of their own cost what each costs.
 
@@ -166,7 +162,7 @@ module _ (d : DiskState) (map : VolumeCore) (jobs : List (Option Job)) (s : Stat
       ∙ ap cost_of_blocks
       (sym (all_at (IsWholePending d.size) map.pending o.pending.key p whole.waiting at).whole.counted))
 
-  held_is : held s ≡ read_by state.under jobs
+  held_is : held s ≡ shown_by state.under (readers jobs)
   held_is = ap (flat_map held_by) state.jobs_are ∙ held_are state.under jobs
 
   -- What is read is booked once, and what a file still has is booked with it.
@@ -174,7 +170,8 @@ module _ (d : DiskState) (map : VolumeCore) (jobs : List (Option Job)) (s : Stat
       ≡ distinct_cost (current s) + total held_cost map.live
   held_booked whole =
       ap (λ vs. distinct_cost (current s ++ vs)) held_is
-      ∙ held_once map.live (current s) state.under.read (pins_of (readers jobs)) state.reading.pinned
+      ∙ held_as_once map.live (current s) state.under.read (pins_of (readers jobs)) (shown_by state.under (readers jobs))
+      (shown_as state.under (readers jobs)) state.reading.pinned
       (reads_booked d map s.files state.under.read whole state.serials state.read)
 
   -- what is booked of the disk

@@ -9,27 +9,15 @@ use Rattle.meaning.specs.declared.call.Event.TheVariants.{Call as Calls}
 use Rattle.meaning.specs.declared.call.Reply.{Reply}
 use Rattle.meaning.specs.declared.call.Reply.TheVariants.{Failed}
 use Rattle.monitor.specs.Calls.{IsServed}
-use Rattle.monitor.specs.Runs.{IsServedFor, IsServedIn, IsUnreadOn}
+use Rattle.monitor.specs.Runs.{IsServedFor, IsServedIn}
 use Rattle.monitor.specs.Serving.{pack_of, Serves}
-use Rattle.monitor.specs.Sides.{UnderKeys, input_of, channel_of, job_of, reader_of}
+use Rattle.monitor.specs.Sides.{UnderKeys, job_of}
 use Rattle.monitor.specs.States.{MonitorState}
 use Rattle.meaning.specs.declared.call.Call.{Call}
 use Rattle.meaning.specs.declared.call.Call.TheVariants.{Open, Inbuf, Outbuf, Lookup, Enter, Rename, In, Out, Useti}
 use Rattle.meaning.specs.declared.call.Call.TheVariants.{Useto, Close, Releas, Getsts, Reset, MakeDir, DeleteDir}
-use Rattle.monitor.specs.declared.channel.Channel.{Channel}
-use Rattle.monitor.specs.declared.input.Input.{Input}
 use Rattle.monitor.specs.declared.job.Job.{Job}
-use Rattle.monitor.proofs.Calling.{channel_is}
 use Rattle.monitor.proofs.SideLists.{slot-map}
-
--- a channel that has no input side in the machine has none
-unread_side : (w : UnderKeys) (side : Option Input) → option_map (input_of w) side ≡ None → side ≡ None
-unread_side w None none = refl
-unread_side w (Some i) none = cc none
-
-unread_on : (w : UnderKeys) (o : Option Channel) → IsUnreadOn (option_map (channel_of w) o) → reader_of o ≡ None
-unread_on w None unread = refl
-unread_on w (Some c) unread = unread_side w c.input unread
 
 pub served_for : (w : UnderKeys) (call : Call) (o : Option Job) → IsServedFor call (option_map (job_of w) o)
     → IsServed call o
@@ -39,9 +27,7 @@ served_for w (Inbuf channel count) o served = tt
 served_for w (Outbuf channel count) o served = tt
 served_for w (Lookup channel address) o served = tt
 served_for w (Enter channel address) o served = tt
-served_for w (Rename channel address) None served = tt
-served_for w (Rename channel address) (Some job) served = unread_on w (slot job.channels channel)
-    (subst IsUnreadOn (channel_is w job channel (slot job.channels channel) refl) served)
+served_for w (Rename channel address) o served = tt
 served_for w (In channel address) o served = tt
 served_for w (Out channel address) o served = tt
 served_for w (Close channel bits) o served = tt
@@ -51,8 +37,7 @@ served_for w (Useto channel block) o served = tt
 served_for w (Getsts channel) o served = tt
 served_for w Reset o served = tt
 served_for w (MakeDir address) o served = tt
-served_for w (DeleteDir address) None served = tt
-served_for w (DeleteDir address) (Some job) served = served
+served_for w (DeleteDir address) o served = tt
 
 -- A call, by what it ensures.
 module _ {D : Type 0} (state : D → DiskState) (old new : MonitorState D) (n : ℕ) (call : Call) (moment : Moment)

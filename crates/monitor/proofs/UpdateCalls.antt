@@ -14,7 +14,7 @@ use Rattle.meaning.specs.Jobs.{State, slot, channel_at, with_channel, is_create}
 use Rattle.meaning.specs.Looking.{place_at, digit_at, digit_for_version, with_attributes}
 use Rattle.meaning.specs.Maps.{get, times}
 use Rattle.meaning.specs.Outcomes.{settled, refused_at}
-use Rattle.meaning.specs.Published.{Version, without_serials, file_at}
+use Rattle.meaning.specs.Published.{Version, without_serials, file_at, with_protection}
 use Rattle.meaning.specs.Retrieval.{HasBody}
 use Rattle.meaning.specs.Rights.{file_digit, may_update}
 use Rattle.meaning.specs.Runs.{Service, Serving, Answers}
@@ -144,7 +144,7 @@ module _ (d : DiskState) (map map' : VolumeCore) (jobs jobs' : List (Option Job)
   now = updating c is.renewed out
 
   pending_is : map'.pending ≡ is.between.pending
-  pending_is = renewed_pending is.between map' input is.renewed input.ppn input.file is.renews
+  pending_is = renewed_pending is.between map' input is.renewed input.ppn input.file is.version.prime.protection is.renews
 
   -- the version that is begun, and the others
   here : pending_at map'.pending key ≡ Some is.version
@@ -196,7 +196,7 @@ module _ (d : DiskState) (map map' : VolumeCore) (jobs jobs' : List (Option Job)
         core = with_attributes 1 job.core e (file_begun is.version.prime);
         channels = slice_set job.channels ch (Some now);
       })) is.begun.live
-      (renewed_reading is.between map' input is.renewed input.ppn input.file is.renews job ch now c
+      (renewed_reading is.between map' input is.renewed input.ppn input.file is.version.prime.protection is.renews job ch now c
       (with_attributes 1 job.core e (file_begun is.version.prime)) is.there is.side refl))))
 
   module _ (sound : IsSound d map false) (honest : d.honest) (timely : moment.date ≤ 4095)
@@ -247,7 +247,7 @@ module _ (d : DiskState) (map map' : VolumeCore) (jobs jobs' : List (Option Job)
       t_is : s ≡ t
       t_is = state_is s w jobs (state.jobs_are
           ∙ sym (jobs_same state.under key new_writing jobs (keyed.once key ∙ ap present is.begun.vacant))
-          ∙ sym (renewed_jobs is.between map' input is.renewed input.ppn input.file is.renews d s.files
+          ∙ sym (renewed_jobs is.between map' input is.renewed input.ppn input.file is.version.prime.protection is.renews d s.files
           state.under.read reads_begun whole version found.1 w0 jobs refl
           (subst (λ vs. ArePinned vs (pins_of (readers jobs))) (sym is.begun.live) reading.pinned)))
 
@@ -296,8 +296,14 @@ module _ (d : DiskState) (map map' : VolumeCore) (jobs jobs' : List (Option Job)
       input_is =
           let same = is.renews.renewed_is in
           let v = sym (with_read_same state.under.read pin version pin refl) in
-          (λ i. record { place = place; version = v i; next = input.next })
-          ∙ ap (λ (j : Input). record { place = place_of j.ppn j.file; version = w.read pin; next = j.next }) (sym same)
+          let q : version.file.protection ≡ is.version.prime.protection = ap (λ (f : File). f.protection) found.2
+          ∙ sym of_file.begins.protection in
+          (λ i. record { place = place; version = with_protection (v i) (q i); next = input.next })
+          ∙ ap (λ (j : Input). record {
+            place = place_of j.ppn j.file;
+            version = with_protection (w.read pin) j.protection;
+            next = j.next;
+          }) (sym same)
 
       -- what is put into the words
       attributes_are : with_attributes 1 job.core e version.file
@@ -398,7 +404,7 @@ module _ (d : DiskState) (map map' : VolumeCore) (jobs jobs' : List (Option Job)
                 (λ apart. ap (λ (x : Writing). file_at s.files x.place) (with_other state.under key new_writing k apart)
                 ∙ state.absent k p (sym (others k apart) ∙ at) is_new);
             keyed = update_keyed;
-            read = renewed_reads is.between map' input is.renewed input.ppn input.file is.renews d s.files
+            read = renewed_reads is.between map' input is.renewed input.ppn input.file is.version.prime.protection is.renews d s.files
                 state.under.read reads_begun whole version found.1 state.serials of_file.pinned;
             reading = update_reading;
             jobs_are = refl;

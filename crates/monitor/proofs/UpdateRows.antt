@@ -149,7 +149,7 @@ few_kept size c c' key kind prime whole begins p at =
 -- The file that it updates is that of its place, and so is the one that its input side then holds.
 pub is_update_of : (contents : Contents) (job : Job) (input : Input) (kind : Kind) (version : PendingVersion)
     (pending : Option PendingVersion) (between c' : VolumeCore) (renewed : Input) (files : Files File)
-    (renews : Renews between c' input renewed input.ppn input.file)
+    (renews : Renews between c' input renewed input.ppn input.file version.prime.protection)
     → pending ≡ Some version
     → BeginsWithFile contents pending input.file (get files input.ppn)
     → kind ≡ update_kind (digit_for job.ppn input.ppn (named_in (get files input.ppn) input.file))

@@ -1,7 +1,5 @@
 -- Which calls are served as the machine serves them, and which take no memory and leave the disk alone.
-use Rattle.std.specs.Prelude.{◌≡◌, ℕ, true, false, Option, None, Some}
-use Rattle.meaning.specs.Cores.{lies_outside}
-use Rattle.meaning.specs.Jobs.{slot}
+use Rattle.std.specs.Prelude.{◌≡◌, ℕ, false, Option, None, Some}
 use Rattle.meaning.specs.Opening.{mode_at}
 use Rattle.meaning.specs.Rings.{is_buffered}
 use Rattle.meaning.specs.declared.call.Call.{Call}
@@ -9,32 +7,20 @@ use Rattle.meaning.specs.declared.call.Call.TheVariants.{Open, Inbuf, Outbuf, Lo
 use Rattle.meaning.specs.declared.call.Call.TheVariants.{Useto, Close, Releas, Getsts, Reset, MakeDir, DeleteDir}
 use Rattle.monitor.specs.declared.job.Job.{Job}
 use Rattle.monitor.specs.Rows.{publishes_by}
-use Rattle.monitor.specs.Sides.{reader_of}
 
 -- the mode at the address is none with buffers
 abbrev pub IsUnbuffered : ℕ → Option Job → Type 0
 IsUnbuffered address None = Unit {0}
 IsUnbuffered address (Some job) = is_buffered (mode_at job.core address) ≡ false
 
--- the channel has no input side
-abbrev pub IsUnread : ℕ → Option Job → Type 0
-IsUnread number None = Unit {0}
-IsUnread number (Some job) = reader_of (slot job.channels number) ≡ None
-
--- so many words from the address on are not all there
-abbrev pub IsOutside : ℕ → ℕ → Option Job → Type 0
-IsOutside address count None = Unit {0}
-IsOutside address count (Some job) = lies_outside job.core address count ≡ true
-
--- A call that is answered as the machine does: so far no ring is opened, no file is renamed, and no directory is
--- removed.
+-- A call that is answered as the machine does: so far no ring is opened.
 abbrev pub IsServed : Call → Option Job → Type 0
 IsServed (Open channel address) job = IsUnbuffered address job
 IsServed (Inbuf channel count) job = Unit {0}
 IsServed (Outbuf channel count) job = Unit {0}
 IsServed (Lookup channel address) job = Unit {0}
 IsServed (Enter channel address) job = Unit {0}
-IsServed (Rename channel address) job = IsUnread channel job
+IsServed (Rename channel address) job = Unit {0}
 IsServed (In channel address) job = Unit {0}
 IsServed (Out channel address) job = Unit {0}
 IsServed (Useti channel block) job = Unit {0}
@@ -44,7 +30,7 @@ IsServed (Releas channel) job = Unit {0}
 IsServed (Getsts channel) job = Unit {0}
 IsServed Reset job = Unit {0}
 IsServed (MakeDir address) job = Unit {0}
-IsServed (DeleteDir address) job = IsOutside address 2 job
+IsServed (DeleteDir address) job = Unit {0}
 
 -- a call that takes no memory and leaves the disk alone, by the job that makes it
 abbrev pub IsLight : Call → Option Job → Type 0

@@ -61,6 +61,7 @@ pub record IsInputOf (contents : Contents) (live : List (Option LiveVersion)) (s
   pub version : Version
   pub there : file_at s.files (place_at job e) ≡ Some version
   pub shown : IsShown version.file facts
+  pub protection : input.protection ≡ version.file.protection
   pub short : HasShortFacts version.file
   pub held : LiveVersion
   pub held_at : slot live input.pin.key ≡ Some held

@@ -24,3 +24,6 @@ pub mod Promises
 pub mod Renewing
 pub mod Updating
 pub mod Closing
+pub mod DeleteDirRows
+pub mod Changing
+pub mod Arriving

@@ -51,6 +51,7 @@ pub record IsFound (contents : Contents) (live : List (Option LiveVersion)) (s :
     (address : ℕ) (input : Input) : Type 0 where
   pub version : Version
   pub there : file_at s.files (place_of input.ppn input.file) ≡ Some version
+  pub protection : input.protection ≡ version.file.protection
   pub held : (v : LiveVersion) × (version_at live input.pin.key ≡ Some v)
       × IsVersionOf contents (as_known v) version.file
   pub core : job'.core ≡ after_writes (with_attributes 1 job.core address version.file)

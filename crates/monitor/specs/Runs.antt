@@ -4,9 +4,8 @@ use Rattle.std.specs.List.{AllByRecursion}
 use Rattle.blockdisk.specs.Disk.{Contents, DiskState, MayLeave, LeavesOnly}
 use Rattle.meaning.specs.Crashes.{may_change}
 use Rattle.meaning.specs.Files.{File, Files}
-use Rattle.meaning.specs.Cores.{lies_outside}
 use Rattle.meaning.specs.Jobs as machine
-use Rattle.meaning.specs.Jobs.{State, channel_at, job_at}
+use Rattle.meaning.specs.Jobs.{State, job_at}
 use Rattle.meaning.specs.Opening.{mode_at}
 use Rattle.meaning.specs.Rings.{is_buffered}
 use Rattle.meaning.specs.Room.{Pack}
@@ -24,23 +23,11 @@ use Rattle.monitor.specs.declared.job.Job.{Job}
 use Rattle.meaning.specs.declared.call.Event.{Event}
 use Rattle.meaning.specs.declared.call.Event.TheVariants.{Login, Deposit, Examine, Call as Calls}
 
--- Events that are served: no OPEN in a mode with buffers, no RENAME on a channel that reads, and no DeleteDir.
+-- Events that are served: no OPEN in a mode with buffers.
 
 abbrev pub IsUnbufferedBy : ℕ → Option machine.Job → Type 0
 IsUnbufferedBy address None = Unit {0}
 IsUnbufferedBy address (Some job) = is_buffered (mode_at job.core address) ≡ false
-
-abbrev pub IsUnreadOn : Option machine.Channel → Type 0
-IsUnreadOn None = Unit {0}
-IsUnreadOn (Some c) = c.input ≡ None
-
-abbrev pub IsUnreadBy : ℕ → Option machine.Job → Type 0
-IsUnreadBy number None = Unit {0}
-IsUnreadBy number (Some job) = IsUnreadOn (channel_at job number)
-
-abbrev pub IsOutsideOf : ℕ → ℕ → Option machine.Job → Type 0
-IsOutsideOf address count None = Unit {0}
-IsOutsideOf address count (Some job) = lies_outside job.core address count ≡ true
 
 -- a call of a job that the machine has
 abbrev pub IsServedFor : Call → Option machine.Job → Type 0
@@ -49,7 +36,7 @@ IsServedFor (Inbuf channel count) job = Unit {0}
 IsServedFor (Outbuf channel count) job = Unit {0}
 IsServedFor (Lookup channel address) job = Unit {0}
 IsServedFor (Enter channel address) job = Unit {0}
-IsServedFor (Rename channel address) job = IsUnreadBy channel job
+IsServedFor (Rename channel address) job = Unit {0}
 IsServedFor (In channel address) job = Unit {0}
 IsServedFor (Out channel address) job = Unit {0}
 IsServedFor (Useti channel block) job = Unit {0}
@@ -59,7 +46,7 @@ IsServedFor (Releas channel) job = Unit {0}
 IsServedFor (Getsts channel) job = Unit {0}
 IsServedFor Reset job = Unit {0}
 IsServedFor (MakeDir address) job = Unit {0}
-IsServedFor (DeleteDir address) job = IsOutsideOf address 2 job
+IsServedFor (DeleteDir address) job = Unit {0}
 
 -- an event in a state of the machine; a service that has failed serves none
 abbrev pub IsServedAt : State → Event → Type 0

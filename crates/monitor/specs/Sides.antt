@@ -5,7 +5,7 @@ use Rattle.meaning.specs.Cores.{first_free, rings_begin, with_right}
 use Rattle.meaning.specs.Files.{File, Files, Place}
 use Rattle.meaning.specs.Jobs as machine
 use Rattle.meaning.specs.Opening.{dump_mode}
-use Rattle.meaning.specs.Published.{Version}
+use Rattle.meaning.specs.Published.{Version, with_protection}
 use Rattle.meaning.specs.Stands.{place_of}
 use Rattle.monitor.specs.declared.input.Input.{Input}
 use Rattle.monitor.specs.declared.output.Kind.{Kind}
@@ -79,8 +79,13 @@ output_of under o = record {
   next = o.next;
 }
 
+-- RENAME changes a file's protection, and not that of a version which was found before.
 abbrev pub input_of : UnderKeys → Input → machine.Input
-input_of under i = record { place = place_of i.ppn i.file; version = under.read i.pin.key; next = i.next }
+input_of under i = record {
+  place = place_of i.ppn i.file;
+  version = with_protection (under.read i.pin.key) i.protection;
+  next = i.next;
+}
 
 -- each channel is in dump mode
 abbrev pub channel_of : UnderKeys → Channel → machine.Channel

@@ -97,7 +97,7 @@ pub record IsUpdating (c c' : VolumeCore) (job job' : Job) (number address : ℕ
   pub version : PendingVersion
   pub version_is : pending_at between.pending key ≡ Some version
   pub renewed : Input
-  pub renews : Renews between c' input renewed input.ppn input.file
+  pub renews : Renews between c' input renewed input.ppn input.file version.prime.protection
   pub job_is : job' ≡ record job {
     core = with_attributes 1 job.core address (file_begun version.prime);
     channels = slice_set job.channels number

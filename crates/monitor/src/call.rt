@@ -18,7 +18,7 @@ ghost use Rattle.monitor.specs.declared.job.Job.{Job as JobRecord};
 ghost use Rattle.volume.specs.Rest.{IsSound};
 
 use crate::close::serve_close;
-use crate::deletedir::delete_dir;
+use crate::deletedir::serve_delete_dir;
 use crate::enter::serve_enter;
 use crate::getsts::getsts;
 use crate::inbuf::inbuf;
@@ -31,7 +31,7 @@ use crate::out::serve_out;
 use crate::outbuf::outbuf;
 use crate::read::serve_in;
 use crate::releas::serve_release;
-use crate::rename::rename;
+use crate::rename::serve_rename;
 use crate::reset::serve_reset;
 use crate::useti::useti;
 use crate::useto::useto;
@@ -63,7 +63,7 @@ fn answer<D: Disk>(
         Call::Outbuf(channel, _count) => outbuf(job, channel),
         Call::Lookup(channel, address) => serve_lookup(volume, job, channel, address),
         Call::Enter(channel, address) => serve_enter(alloc, volume, job, channel, address, moment),
-        Call::Rename(channel, address) => rename(job, channel, address),
+        Call::Rename(channel, address) => serve_rename(alloc, volume, job, channel, address),
         Call::In(channel, address) => serve_in(alloc, volume, job, channel, address),
         Call::Out(channel, address) => serve_out(alloc, volume, job, channel, address),
         Call::Useti(channel, block) => useti(job, channel, block),
@@ -73,7 +73,7 @@ fn answer<D: Disk>(
         Call::Getsts(channel) => getsts(job, channel),
         Call::Reset => serve_reset(volume, job),
         Call::MakeDir(address) => serve_make_dir(alloc, volume, job, address),
-        Call::DeleteDir(address) => delete_dir(job, address),
+        Call::DeleteDir(address) => serve_delete_dir(volume, job, address),
     }
 }
 
@@ -110,8 +110,7 @@ impl<D: Disk> Monitor<D> {
     /// `NoJob` where no job of that number is logged in; `NoChannel` where the channel isn't open, or where OPEN
     /// names one above 15; `NoMemory` where core can't grow, with everything as before; `Device` where the device
     /// failed, and then `Failed` to every call. A later start finds the files from before the call or those after
-    /// it. Not served yet are an OPEN in a mode with buffers, `Stopped` as one in a mode that there isn't, and RENAME
-    /// on a channel that reads and DeleteDir, which are `Refused(5)`.
+    /// it. Not served yet is an OPEN in a mode with buffers: it is `Stopped` as one in a mode that there isn't.
     pub fn call(&mut self, alloc: Global, job: u32, call: &Call, moment: Moment) -> Reply
         ensures answered { (D.state self.new.disk).honest → IsServed call.now (slot self.old.jobs job) → (old : Service)
             → Serves (D.state self.old.disk) self.old.map self.old.failed self.old.jobs old
@@ -156,7 +155,7 @@ impl<D: Disk> Monitor<D> {
         ensures same { SameDisk (D.state self.old.disk) (D.state self.new.disk) }
         // A date that the disk can't hold.
         ensures late { self.old.failed ≡ false → 4095 < moment.date → (result ≡ DateRange) × (self.new ≡ self.old) }
-        // Which calls leave what is known of the disk, and what is answered to those that aren't served yet.
+        // Which calls leave what is known of the disk, and what is answered to the one that isn't served yet.
         ensures kept { KeepsCore call.now → self.new.map ≡ self.old.map }
         ensures unserved { self.old.failed ≡ false → moment.date ≤ 4095 → (there : JobRecord)
             → slot self.old.jobs job ≡ Some there → IsUnserved call.now there

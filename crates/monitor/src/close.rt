@@ -206,7 +206,8 @@ fn close_and_hold<D: Disk>(
         volume.old.core between volume.old.failed volume.new.failed output.pending.key result }
     ensures memory { result ≡ NoMemory → (volume.new.disk ≡ volume.old.disk) × (volume.new.core ≡ volume.old.core) }
     // The job: the output side closes where it is done.
-    ensures closed { result ≡ Done → (renewed : Input) × (renewed ≡ record input { pin = renewed.pin })
+    ensures closed { result ≡ Done → (renewed : Input) × (renewed
+        ≡ record input { pin = renewed.pin; protection = renewed.protection })
         × (job.new ≡ record job.old {
           channels = slice_set job.old.channels number (Some (output_closed channel renewed));
         }) }
@@ -224,7 +225,7 @@ fn close_and_hold<D: Disk>(
     let reply = publish_output(alloc, volume, output);
     if reply == Reply::Done {
         let _failed = volume.has_failed(); // which says what holds of a volume between two calls
-        let renewed = renew(volume, input, prime.ppn, prime.file);
+        let renewed = renew(volume, input, prime.ppn, prime.file, prime.protection);
         let closed = Channel {
             status: cleared(channel.status),
             input: Some(renewed),

@@ -1,29 +1,89 @@
-ghost use Rattle.std.specs.Prelude.{◌≡◌, ℕ, true, List, Option};
-ghost use Rattle.meaning.specs.Cores.{lies_outside};
+ghost use Rattle.std.specs.Prelude.{◌≡◌, ◌↔◌, ℕ, false, IsTrue};
+ghost use Rattle.words36.specs.declared.names.FileName.{FileName};
+ghost use Rattle.blockdisk.specs.Disk.{LeavesOnly, SameDisk, one_more};
+ghost use Rattle.meaning.specs.Files.{File, Files};
+ghost use Rattle.meaning.specs.declared.call.Reply.TheVariants.{Done, Device};
+ghost use Rattle.volume.specs.Beginning.{IsDirectoryOf};
+ghost use Rattle.volume.specs.Known.{KnownDirectory};
+ghost use Rattle.volume.specs.Places.{prime_at};
+ghost use Rattle.volume.specs.RemovingDirectories.{directory_removed};
+ghost use Rattle.volume.specs.Rest.{IsSound, RestsAt, StandsForEither, KeepsRead, KeepsEachWritten};
+ghost use Rattle.monitor.specs.DeleteDirRows.{IsDeleteDir};
+ghost use Rattle.monitor.specs.DirectoryRows.{asked_owner};
+ghost use Rattle.monitor.specs.Rows.{Keeps, KeepsReading};
 ghost use Rattle.meaning.specs.declared.call.Call.TheVariants.{DeleteDir};
-ghost use Rattle.meaning.specs.declared.call.Reply.TheVariants.{NoMemory, Failed, Device, Refused};
-ghost use Rattle.volume.specs.declared.live.LiveVersion.{LiveVersion};
-ghost use Rattle.volume.specs.declared.pending.PendingVersion.{PendingVersion};
-ghost use Rattle.monitor.specs.Refusals.{with_code};
-ghost use Rattle.monitor.specs.Rows.{IsRow, Keeps, KeepsReading};
-ghost use Rattle.monitor.specs.Unserved.{refusal_at, job_refused};
+ghost use Rattle.monitor.specs.Promises.{IsReady, ServesAlways};
 
 use crate::job::Job;
-use crate::open::lies_outside;
+use crate::makedir::is_system;
+use crate::open::{lies_outside, word_at};
 use crate::status::refuse;
+use blockdisk::Disk;
 use meaning::{ErrorCode, Reply};
+use volume::{CallError, Volume};
+use words36::Ppn;
 
-/// DeleteDir: until directories are removed it is refused as being out of order.
-pub fn delete_dir(job: &mut Job, address: u32) -> Reply
-    ensures row { lies_outside job.old.core address 2 ≡ true → IsRow job.old job.new (DeleteDir address) result }
-    ensures unserved { (result ≡ refusal_at job.old address 2) × (job.new ≡ job_refused job.old address 2) }
-    ensures keeps { (pending : List (Option PendingVersion)) → Keeps pending pending job.old job.new }
-    ensures reads { (live : List (Option LiveVersion)) → KeepsReading live live job.old job.new }
-    ensures only { (result ≡ Failed → ⊥) × (result ≡ Device → ⊥) × (result ≡ NoMemory → ⊥) }
-    ensures refused { (code : ℕ) → result ≡ Refused code → job.new ≡ with_code job.old address code }
+/// DeleteDir: deletes an empty directory, by the first of the two words at an address. Its row is `removes`.
+pub fn serve_delete_dir<D: Disk>(volume: &mut Volume<D>, job: &mut Job, address: u32) -> Reply
+    requires ready { IsReady (D.state volume.old.disk) volume.old.core volume.old.failed job.old }
+    ensures serving { ServesAlways D.state volume.old.disk volume.new.disk volume.old.core volume.new.core
+        volume.new.failed job.old job.new (DeleteDir address) result }
+{
+    delete_dir(volume, job, address)
+}
+
+/// DeleteDir: deletes an empty directory, whose it is by the first of the two words at an address. It is refused where
+/// there is no such directory, then to anybody but [1,2] and whose it is, then where it has a file or one is being
+/// created in it.
+fn delete_dir<D: Disk>(volume: &mut Volume<D>, job: &mut Job, address: u32) -> Reply
+    requires serves { volume.old.failed ≡ false }
+    requires sound { IsSound (D.state volume.old.disk) volume.old.core volume.old.failed }
+    ensures outcome { IsDeleteDir (D.state volume.old.disk) volume.old.core ((volume.new.disk ≡ volume.old.disk)
+        × (volume.new.core ≡ volume.old.core)) job.old job.new address result }
+    ensures keeps { Keeps volume.old.core.pending volume.new.core.pending job.old job.new }
+    ensures reads { KeepsReading volume.old.core.live volume.new.core.live job.old job.new }
+    // A crash finds the files as they were, or without the directory.
+    ensures crash { (D.state volume.new.disk).honest → (f : Files File) → RestsAt (D.state volume.old.disk) f
+        → LeavesOnly (D.state volume.old.disk) (D.state volume.new.disk)
+        (StandsForEither (D.state volume.old.disk).size f (directory_removed f (asked_owner job.old.core address))) }
+    ensures done { (D.state volume.new.disk).honest → (f : Files File) → RestsAt (D.state volume.old.disk) f
+        → result ≡ Done
+        → RestsAt (D.state volume.new.disk) (directory_removed f (asked_owner job.old.core address)) }
+    // The versions in use stay, and so do the other directories, and the prime blocks of all files.
+    ensures live { volume.new.core.live ≡ volume.old.core.live }
+    ensures pending { volume.new.core.pending ≡ volume.old.core.pending }
+    ensures directories { (owner : ℕ) (d : KnownDirectory) → IsDirectoryOf volume.old.core owner d
+        → (owner ≡ asked_owner job.old.core address → ⊥) → IsDirectoryOf volume.new.core owner d }
+    ensures primes { (owner : ℕ) (name : FileName)
+        → prime_at volume.new.core owner name ≡ prime_at volume.old.core owner name }
+    ensures readers { (D.state volume.new.disk).honest → volume.new.failed ≡ false
+        → KeepsRead (D.state volume.old.disk).contents (D.state volume.new.disk).contents volume.old.core }
+    ensures writers { (D.state volume.new.disk).honest → volume.new.failed ≡ false
+        → KeepsEachWritten (D.state volume.old.disk).contents (D.state volume.new.disk).contents volume.old.core }
+    // It blames the device where that failed.
+    ensures failed { IsTrue volume.new.failed ↔ (result ≡ Device) }
+    ensures counted { result ≡ Device → (D.state volume.new.disk).failures
+        ≡ one_more (D.state volume.old.disk).failures }
+    ensures served { (result ≡ Device → ⊥) → (D.state volume.new.disk).failures ≡ (D.state volume.old.disk).failures }
+    ensures same { SameDisk (D.state volume.old.disk) (D.state volume.new.disk) }
 {
     if lies_outside(&job.core, address, 2) {
         return Reply::AddressCheck;
     }
-    refuse(&mut job.core, address, ErrorCode::Sequence)
+    let Some(owner) = Ppn::from_word(word_at(&job.core, address)) else {
+        return refuse(&mut job.core, address, ErrorCode::NoDirectory);
+    };
+    if volume.directory(owner).is_err() {
+        return refuse(&mut job.core, address, ErrorCode::NoDirectory);
+    }
+    if !is_system(job.ppn) && job.ppn != owner {
+        return refuse(&mut job.core, address, ErrorCode::Protection);
+    }
+    match volume.delete_dir(owner) {
+        Ok(()) => Reply::Done,
+        Err(CallError::Refused(code)) => refuse(&mut job.core, address, code),
+        Err(CallError::NoMemory) => Reply::NoMemory,
+        Err(CallError::Device) => Reply::Device,
+        Err(CallError::Failed) => Reply::Failed,
+    }
 }

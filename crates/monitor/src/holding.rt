@@ -17,12 +17,19 @@ use blockdisk::Disk;
 use volume::Volume;
 use words36::{FileName, Ppn};
 
-/// An input side that holds the version which the file of a place has now. There is such a file.
-fn hold<D: Disk>(volume: &mut Volume<D>, ppn: Ppn, file: FileName, next: u32) -> Input
+/// An input side that holds the version which the file of a place has now, of this protection. There is such a file.
+fn hold<D: Disk>(
+    volume: &mut Volume<D>,
+    ppn: Ppn,
+    file: FileName,
+    protection: u16,
+    next: u32,
+) -> Input
     requires alive { volume.old.failed ≡ false }
     requires there { prime_at volume.old.core ppn file ≡ None → ⊥ }
     requires few { (key : ℕ) (v : LiveVersion) → slot volume.old.core.live key ≡ Some v → v.readers + 1 < 2 ^ 32 }
-    ensures side { (result.ppn ≡ ppn) × (result.file ≡ file) × (result.next ≡ next) }
+    ensures side { (result.ppn ≡ ppn) × (result.file ≡ file) × (result.protection ≡ protection)
+        × (result.next ≡ next) }
     ensures holds { IsHolding volume.old.core volume.new.core result }
     ensures value { (D.state volume.new.disk).honest → (files : Files File) → RestsAt (D.state volume.old.disk) files
         → IsPinAnswer (D.state volume.old.disk).contents volume.new.core.live file (Ok result.pin) (get files ppn) }
@@ -33,6 +40,7 @@ fn hold<D: Disk>(volume: &mut Volume<D>, ppn: Ppn, file: FileName, next: u32) ->
             pin,
             ppn,
             file,
+            protection,
             next,
         },
         Err(_) => unreachable!(), // the place has a file
@@ -40,21 +48,28 @@ fn hold<D: Disk>(volume: &mut Volume<D>, ppn: Ppn, file: FileName, next: u32) ->
 }
 
 /// An input side that holds the version which the file of a place has now, in the place of the version that it held;
-/// its next block stays. There is such a file.
-pub fn renew<D: Disk>(volume: &mut Volume<D>, input: Input, ppn: Ppn, file: FileName) -> Input
+/// its next block stays. There is such a file, of this protection.
+pub fn renew<D: Disk>(
+    volume: &mut Volume<D>,
+    input: Input,
+    ppn: Ppn,
+    file: FileName,
+    protection: u16,
+) -> Input
     requires alive { volume.old.failed ≡ false }
     requires there { prime_at volume.old.core ppn file ≡ None → ⊥ }
     requires few { (key : ℕ) (v : LiveVersion) → slot volume.old.core.live key ≡ Some v → v.readers + 1 < 2 ^ 32 }
     requires held { (key : ℕ) → times key (pins_of (option_to_list (Some input)))
         ≤ readers_of (slot volume.old.core.live key) }
-    ensures renews { (is : Renews volume.old.core volume.new.core input result ppn file)
+    ensures renews { (is : Renews volume.old.core volume.new.core input result ppn file protection)
         × ((D.state volume.new.disk).honest → (files : Files File) → RestsAt (D.state volume.old.disk) files
         → IsPinAnswer (D.state volume.old.disk).contents is.between.live file (Ok is.held.pin) (get files ppn)) }
     ensures untouched { (volume.new.disk ≡ volume.old.disk) × (volume.new.failed ≡ volume.old.failed) }
 {
-    let held = hold(volume, ppn, file, input.next);
+    let held = hold(volume, ppn, file, protection, input.next);
     let renewed = Input {
         pin: held.pin,
+        protection,
         ..input
     };
     release_input(volume, Some(input));

@@ -11,6 +11,8 @@ pub struct Input {
     pub ppn: Ppn,
     /// Its name there.
     pub file: FileName,
+    /// The protection that the file had when it was found; RENAME may have changed the file's since.
+    pub protection: u16,
     /// The block that is read next, counted from 1.
     pub next: u32,
 }

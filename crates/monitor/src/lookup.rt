@@ -152,6 +152,7 @@ pub fn find_input<D: Disk>(
                 pin,
                 ppn,
                 file,
+                protection: facts.protection,
                 next: 1,
             };
             Ok((input, facts))

@@ -42,7 +42,7 @@ pub fn serve_make_dir<D: Disk>(
 }
 
 /// Whose directories anybody's are: [1,2].
-fn is_system(ppn: Ppn) -> bool
+pub fn is_system(ppn: Ppn) -> bool
     ensures { result ≡ (ppn == system) }
 {
     ppn.word().bits() == 0o000001000002

@@ -1,25 +1,69 @@
-ghost use Rattle.std.specs.Prelude.{◌≡◌, ℕ, List, Option, None};
-ghost use Rattle.meaning.specs.Jobs.{slot};
+ghost use Rattle.std.specs.Prelude.{◌≡◌, ◌+◌, ◌==◌, ◌<◌, ◌≤◌, ◌^◌, ℕ, false, None, Some, IfOk, MatchResult, List};
+ghost use Rattle.std.specs.Prelude.{Option, Result, OnOk, [], ◌∷◌, slice_index};
+ghost use Rattle.meaning.specs.Codes.{number_of};
+ghost use Rattle.meaning.specs.Cores.{lies_outside};
+ghost use Rattle.meaning.specs.Jobs.{State, Job as MachineJob, slot};
+ghost use Rattle.meaning.specs.Published.{same_place};
+ghost use Rattle.meaning.specs.Renaming.{protection_at};
+ghost use Rattle.meaning.specs.Stands.{place_of};
 ghost use Rattle.meaning.specs.declared.call.Call.TheVariants.{Rename};
-ghost use Rattle.meaning.specs.declared.call.Reply.TheVariants.{NoMemory, Failed, Device, Refused};
+ghost use Rattle.meaning.specs.declared.call.Reply.TheVariants.{Done, NoMemory, Failed, Device, Refused};
+ghost use Rattle.volume.specs.Claims.{claims};
+ghost use Rattle.volume.specs.Live.{slot as version_at};
+ghost use Rattle.volume.specs.Rest.{IsSound};
 ghost use Rattle.volume.specs.declared.live.LiveVersion.{LiveVersion};
 ghost use Rattle.volume.specs.declared.pending.PendingVersion.{PendingVersion};
+ghost use Rattle.monitor.specs.Arriving.{allowed_arrival, arrival_answer};
+ghost use Rattle.monitor.specs.Changing.{may_become, allowed_change, asked_protection, change_answer, IsChangeAnswer};
+ghost use Rattle.monitor.specs.Changing.{with_input_closed, CloseAfter, changed_reply, changed_job};
+ghost use Rattle.monitor.specs.Dropping.{Closes};
+ghost use Rattle.monitor.specs.Finding.{found_in, IsKnown};
+ghost use Rattle.monitor.specs.Promises.{IsReady, ServesAlways};
+ghost use Rattle.monitor.specs.Readers.{readers_of};
 ghost use Rattle.monitor.specs.Refusals.{with_code};
 ghost use Rattle.monitor.specs.Rows.{IsRow, Keeps, KeepsReading};
-ghost use Rattle.monitor.specs.Sides.{reader_of};
-ghost use Rattle.monitor.specs.Unserved.{IsReading, refusal_at, job_refused};
+ghost use Rattle.monitor.specs.Sides.{UnderKeys, job_of, reader_of};
 
+use crate::channel::Channel;
+use crate::dropping::release_input;
+use crate::enter::{find, name_at, owner_at};
+use crate::found::Found;
+use crate::input::Input;
 use crate::job::Job;
-use crate::open::lies_outside;
-use crate::status::refuse;
-use meaning::{ErrorCode, Reply};
+use crate::open::{lies_outside, word_at};
+use crate::status::{cleared, refuse};
+use crate::update::reading_side;
+use blockdisk::Disk;
+use meaning::{Act, ErrorCode, Reply};
+use protect::{DirectoryAct, acts_are_nested, dir_right, right};
+use std::alloc::Global;
+use usercore::Core;
+use volume::{CallError, Volume};
+use words36::{FileName, Ppn};
 
-/// RENAME: it is out of order on a channel that doesn't read; and until files are renamed, on one that reads too.
-pub fn rename(job: &mut Job, number: u32, address: u32) -> Reply
-    ensures row { reader_of (slot job.old.channels number) ≡ None
-        → IsRow job.old job.new (Rename number address) result }
-    ensures unserved { IsReading (slot job.old.channels number) → (result ≡ refusal_at job.old address 4)
-        × (job.new ≡ job_refused job.old address 4) }
+/// RENAME: gives the file that a channel has looked up, as it is now, the place that the four words at an address
+/// name, and the protection that they have in bits 0 to 8; a zero name deletes it. The channel reads it no longer.
+pub fn serve_rename<D: Disk>(
+    alloc: Global,
+    volume: &mut Volume<D>,
+    job: &mut Job,
+    channel: u32,
+    address: u32,
+) -> Reply
+    requires ready { IsReady (D.state volume.old.disk) volume.old.core volume.old.failed job.old }
+    ensures serving { ServesAlways D.state volume.old.disk volume.new.disk volume.old.core volume.new.core
+        volume.new.failed job.old job.new (Rename channel address) result }
+{
+    match reading_side(job, channel) {
+        Some((open, input)) => rename_input(alloc, volume, job, channel, address, open, input),
+        None => rename_nothing(job, channel, address),
+    }
+}
+
+/// RENAME of a channel that reads nothing: it is out of order.
+fn rename_nothing(job: &mut Job, number: u32, address: u32) -> Reply
+    requires unread { reader_of (slot job.old.channels number) ≡ None }
+    ensures row { IsRow job.old job.new (Rename number address) result }
     ensures keeps { (pending : List (Option PendingVersion)) → Keeps pending pending job.old job.new }
     ensures reads { (live : List (Option LiveVersion)) → KeepsReading live live job.old job.new }
     ensures only { (result ≡ Failed → ⊥) × (result ≡ Device → ⊥) × (result ≡ NoMemory → ⊥) }
@@ -32,4 +76,281 @@ pub fn rename(job: &mut Job, number: u32, address: u32) -> Reply
         return Reply::AddressCheck;
     }
     refuse(&mut job.core, address, ErrorCode::Sequence)
+}
+
+/// RENAME of a channel that reads a file: it is deleted where the words at the address have a zero name, and moved
+/// else.
+fn rename_input<D: Disk>(
+    alloc: Global,
+    volume: &mut Volume<D>,
+    job: &mut Job,
+    number: u32,
+    address: u32,
+    channel: Channel,
+    input: Input,
+) -> Reply
+    requires ready { IsReady (D.state volume.old.disk) volume.old.core volume.old.failed job.old }
+    requires there { slot job.old.channels number ≡ Some channel }
+    requires side { channel.input ≡ Some input }
+    ensures serving { ServesAlways D.state volume.old.disk volume.new.disk volume.old.core volume.new.core
+        volume.new.failed job.old job.new (Rename number address) result }
+{
+    if lies_outside(&job.core, address, 4) {
+        return Reply::AddressCheck;
+    }
+    if channel.output.is_some() {
+        return refuse(&mut job.core, address, ErrorCode::Sequence);
+    }
+    if word_at(&job.core, address).bits() == 0 {
+        remove_file(volume, job, number, address, channel, input)
+    } else {
+        move_file(alloc, volume, job, number, address, channel, input)
+    }
+}
+
+/// Whether a job may change the file at a place as it asks to, or why not. `protection` is the one that the file is to
+/// have; a file that is deleted gets none.
+fn allow_change(
+    found: Found,
+    who: Ppn,
+    owner: Ppn,
+    is_zero: bool,
+    protection: Option<u16>,
+    is_claimed: bool,
+) -> Result<(), ErrorCode>
+    ensures { result ≡ allowed_change found who owner is_zero protection is_claimed }
+{
+    let (directory, own) = match found {
+        Found::NoDirectory => return Err(ErrorCode::NoDirectory),
+        Found::Absent(directory) => (directory, None),
+        Found::Present(directory, own) => (directory, Some(own)),
+    };
+    if !dir_right(directory, who, owner, DirectoryAct::Look) {
+        return Err(ErrorCode::Protection);
+    }
+    let Some(own) = own else {
+        return Err(ErrorCode::NotFound);
+    };
+    if is_zero {
+        return Err(ErrorCode::NotFound);
+    }
+    if !may_become(own, protection, who, owner) {
+        return Err(ErrorCode::Protection);
+    }
+    if is_claimed {
+        return Err(ErrorCode::BeingModified);
+    }
+    Ok(())
+}
+
+/// Whether a job may rename a file of this protection, or delete it, and give it another one where it is to have it.
+fn may_become(own: u16, protection: Option<u16>, who: Ppn, owner: Ppn) -> bool
+    ensures { result ≡ may_become own protection who owner }
+{
+    acts_are_nested();
+    if !right(own, who, owner, Act::RENAME) {
+        return false;
+    }
+    match protection {
+        Some(protection) if protection != own => right(own, who, owner, Act::PROTECT),
+        _ => true,
+    }
+}
+
+/// Whether a job may change what an input side reads, as it is at its place now, or why not.
+fn may_change<D: Disk>(
+    volume: &Volume<D>,
+    who: Ppn,
+    input: &Input,
+    protection: Option<u16>,
+) -> Result<(), ErrorCode>
+    requires sound { IsSound (D.state volume.now.disk) volume.now.core volume.now.failed }
+    ensures free { OnOk result (claims volume.now.core.pending (place_of input.now.ppn input.now.file) ≡ false) }
+    // It answers as the machine does to a RENAME, by any job with this number, that asks for this protection.
+    ensures answered { (D.state volume.now.disk).honest → volume.now.failed ≡ false → (s : State)
+        → IsKnown (D.state volume.now.disk) volume.now.core s
+        → (job : MachineJob) (e : ℕ) → job.ppn ≡ who → protection ≡ asked_protection job e
+        → IsChangeAnswer result (change_answer s job e (place_of input.now.ppn input.now.file)) }
+{
+    let found = find(volume, input.ppn, &input.file);
+    let claimed = volume.is_claimed(input.ppn, &input.file);
+    let is_zero = input.file.name.bits() == 0;
+    allow_change(found, who, input.ppn, is_zero, protection, claimed)
+}
+
+/// Whether a job may give a file the place where this is found, or why not: `who` asks, in the directory of `owner`.
+/// That is another one than the file's where `is_other` is so, and the place is the file's own where `is_same` is.
+fn allow_arrival(
+    found: Found,
+    who: Ppn,
+    owner: Ppn,
+    is_other: bool,
+    is_same: bool,
+    is_claimed: bool,
+) -> Result<(), ErrorCode>
+    ensures { result ≡ allowed_arrival found who owner is_other is_same is_claimed }
+{
+    let (directory, is_free) = match found {
+        Found::NoDirectory => return Err(ErrorCode::NoDirectory),
+        Found::Absent(directory) => (directory, true),
+        Found::Present(directory, _) => (directory, false),
+    };
+    if is_other && !dir_right(directory, who, owner, DirectoryAct::Create) {
+        return Err(ErrorCode::Protection);
+    }
+    if is_same {
+        return Ok(()); // it stays
+    }
+    if !is_free {
+        return Err(ErrorCode::NameExists);
+    }
+    if is_claimed {
+        return Err(ErrorCode::BeingModified);
+    }
+    Ok(())
+}
+
+/// Whether a place is the one that an input side reads.
+fn is_place_of(input: &Input, ppn: Ppn, name: &FileName) -> bool
+    ensures { result ≡ same_place (place_of ppn name.now) (place_of input.now.ppn input.now.file) }
+{
+    ppn == input.ppn && name.name == input.file.name && name.ext == input.file.ext
+}
+
+/// Whether a job may give a file that it may change this place, or why not.
+fn may_come<D: Disk>(
+    volume: &Volume<D>,
+    who: Ppn,
+    input: &Input,
+    ppn: Ppn,
+    name: &FileName,
+) -> Result<(), ErrorCode>
+    ensures free { OnOk result (same_place (place_of ppn name.now) (place_of input.now.ppn input.now.file) ≡ false
+        → claims volume.now.core.pending (place_of ppn name.now) ≡ false) }
+    // It answers as the machine does to a RENAME, by any job with this number, that names this place.
+    ensures answered { (D.state volume.now.disk).honest → volume.now.failed ≡ false → (s : State)
+        → IsKnown (D.state volume.now.disk) volume.now.core s
+        → (job : MachineJob) → job.ppn ≡ who
+        → IsChangeAnswer result
+        (arrival_answer s job (place_of input.now.ppn input.now.file) (place_of ppn name.now)) }
+{
+    let found = find(volume, ppn, name);
+    let claimed = volume.is_claimed(ppn, name);
+    let same = is_place_of(input, ppn, name);
+    allow_arrival(found, who, ppn, ppn != input.ppn, same, claimed)
+}
+
+/// The input side of a channel closes, once what it reads has another place, or none.
+fn close_input<D: Disk>(
+    volume: &mut Volume<D>,
+    job: &mut Job,
+    number: u32,
+    channel: Channel,
+    input: Input,
+)
+    requires held { 0 < readers_of (version_at volume.old.core.live input.pin.key) }
+    ensures closed { Closes volume.old.core volume.new.core [] (input.pin.key ∷ []) }
+    ensures pending { volume.new.core.pending ≡ volume.old.core.pending }
+    ensures untouched { (volume.new.disk ≡ volume.old.disk) × (volume.new.failed ≡ volume.old.failed) }
+    ensures job { job.new ≡ with_input_closed job.old number channel }
+{
+    release_input(volume, Some(input));
+    let closed = Channel {
+        status: cleared(channel.status),
+        input: None,
+        ..channel
+    };
+    job.set_channel(number, Some(closed));
+}
+
+/// What a change of the map that the volume made, or didn't make, is answered with: where it is done the channel's
+/// input side closes.
+fn answer_change<D: Disk>(
+    volume: &mut Volume<D>,
+    job: &mut Job,
+    number: u32,
+    address: u32,
+    channel: Channel,
+    input: Input,
+    changed: Result<(), CallError>,
+) -> Reply
+    requires inside { address < 0o400000 }
+    requires held { OnOk changed (0 < readers_of (version_at volume.old.core.live input.pin.key)) }
+    ensures answered { result ≡ changed_reply changed }
+    ensures job { job.new ≡ changed_job changed job.old number address channel }
+    ensures closed { CloseAfter changed volume.old.core volume.new.core input }
+    ensures untouched { (volume.new.disk ≡ volume.old.disk) × (volume.new.failed ≡ volume.old.failed) }
+{
+    match changed {
+        Ok(()) => {
+            close_input(volume, job, number, channel, input);
+            Reply::Done
+        }
+        Err(CallError::Refused(code)) => refuse(&mut job.core, address, code),
+        Err(CallError::NoMemory) => Reply::NoMemory,
+        Err(CallError::Device) => Reply::Device,
+        Err(CallError::Failed) => Reply::Failed,
+    }
+}
+
+/// Deletes what an input side has found: the file that has its place now.
+fn remove_file<D: Disk>(
+    volume: &mut Volume<D>,
+    job: &mut Job,
+    number: u32,
+    address: u32,
+    channel: Channel,
+    input: Input,
+) -> Reply
+    requires ready { IsReady (D.state volume.old.disk) volume.old.core volume.old.failed job.old }
+    requires there { slot job.old.channels number ≡ Some channel }
+    requires side { channel.input ≡ Some input }
+    requires free { channel.output ≡ None }
+    requires inside { lies_outside job.old.core address 4 ≡ false }
+    requires deletes { slice_index job.old.core address ≡ 0 }
+    ensures serving { ServesAlways D.state volume.old.disk volume.new.disk volume.old.core volume.new.core
+        volume.new.failed job.old job.new (Rename number address) result }
+{
+    let _length = job.core.length(); // which says how long a core may be
+    if let Err(code) = may_change(volume, job.ppn, &input, None) {
+        return refuse(&mut job.core, address, code);
+    }
+    let changed = volume.delete(input.ppn, &input.file);
+    answer_change(volume, job, number, address, channel, input, changed)
+}
+
+/// Gives what an input side has found, the file that has its place now, the place that the words at an address name,
+/// and their protection.
+fn move_file<D: Disk>(
+    alloc: Global,
+    volume: &mut Volume<D>,
+    job: &mut Job,
+    number: u32,
+    address: u32,
+    channel: Channel,
+    input: Input,
+) -> Reply
+    requires ready { IsReady (D.state volume.old.disk) volume.old.core volume.old.failed job.old }
+    requires there { slot job.old.channels number ≡ Some channel }
+    requires side { channel.input ≡ Some input }
+    requires free { channel.output ≡ None }
+    requires inside { lies_outside job.old.core address 4 ≡ false }
+    requires named { slice_index job.old.core address ≡ 0 → ⊥ }
+    ensures serving { ServesAlways D.state volume.old.disk volume.new.disk volume.old.core volume.new.core
+        volume.new.failed job.old job.new (Rename number address) result }
+{
+    let _length = job.core.length(); // no address is behind it
+    let protection = (word_at(&job.core, address + 2).bits() >> 27) as u16;
+    if let Err(code) = may_change(volume, job.ppn, &input, Some(protection)) {
+        return refuse(&mut job.core, address, code);
+    }
+    let Some(ppn) = owner_at(job, address) else {
+        return refuse(&mut job.core, address, ErrorCode::NoDirectory);
+    };
+    let name = name_at(&job.core, address);
+    if let Err(code) = may_come(volume, job.ppn, &input, ppn, &name) {
+        return refuse(&mut job.core, address, code);
+    }
+    let changed = volume.rename(alloc, input.ppn, &input.file, ppn, &name, protection);
+    answer_change(volume, job, number, address, channel, input, changed)
 }

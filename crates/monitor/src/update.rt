@@ -278,7 +278,7 @@ pub fn update<D: Disk>(
             let _failed = volume.has_failed(); // which says what holds of a volume between two calls
             let output = side_of(volume, pending, kind);
             let prime = prime_of(volume, pending);
-            let renewed = renew(volume, input, input.ppn, input.file);
+            let renewed = renew(volume, input, input.ppn, input.file, prime.protection);
             put_attributes(&mut job.core, address, &prime);
             let updating = Channel {
                 status: cleared(channel.status),

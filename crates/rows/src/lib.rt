@@ -13,6 +13,8 @@ mod monitor_rows;
 #[cfg(test)]
 mod reading_rows;
 #[cfg(test)]
+mod rename_rows;
+#[cfg(test)]
 mod rights_rows;
 #[cfg(test)]
 mod update_rows;

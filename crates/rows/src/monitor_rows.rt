@@ -63,7 +63,7 @@ fn start_over(alloc: Global, disk: MemDisk) -> Option<Monitor<MemDisk>> {
 }
 
 /// Starts a monitor over a disk that has to be accepted.
-fn start(rt: &impl Abort, alloc: Global, disk: MemDisk) -> Monitor<MemDisk> {
+pub(crate) fn start(rt: &impl Abort, alloc: Global, disk: MemDisk) -> Monitor<MemDisk> {
     let Some(monitor) = start_over(alloc, disk) else {
         panic!(rt; "the disk is refused");
     };

@@ -1,7 +1,7 @@
 use Rattle.std.proofs.Common.{sym, subst, refl}
 use Rattle.meaning.specs.declared.call.Call.{Call}
-use Rattle.meaning.specs.declared.call.Call.TheVariants.{Open, Inbuf, Outbuf, Rename, Useti}
-use Rattle.meaning.specs.declared.call.Call.TheVariants.{Useto, Getsts, DeleteDir}
+use Rattle.meaning.specs.declared.call.Call.TheVariants.{Open, Inbuf, Outbuf, Useti}
+use Rattle.meaning.specs.declared.call.Call.TheVariants.{Useto, Getsts}
 use Rattle.monitor.specs.Promises.{ServesJob}
 use Rattle.monitor.proofs.Calling.{keeps_same, reads_same}
 use Rattle.monitor.proofs.Promised.{alone_serves}
@@ -24,15 +24,11 @@ returns-in-Open g c = record {
 pub returns-in-Rename : goal.returns-in-Rename
 returns-in-Rename g c = record {
   serving =
-      let volume = c.args.volume.now in
-      let map = volume.core in
-      subst (λ (call : Call). ServesJob g.D.Disk.state volume.disk volume.disk map map volume.failed c.args.job.now
-      c.rename.new.job call c.args.moment c.rename.result) (sym c.in-Rename.is)
-      (alone_serves g.D.Disk.state g.met.D.Disk.only_now volume.disk map volume.failed c.args.job.now c.rename.new.job
-      (Rename c.in-Rename.channel c.in-Rename.address) c.args.moment c.rename.result c.requires.ready.alive
-      c.requires.ready.placed c.requires.timely
-      (c.rename.ensures.row) (c.rename.ensures.unserved) c.rename.ensures.keeps c.rename.ensures.reads
-      c.rename.ensures.only c.rename.ensures.refused);
+      let old = c.args.volume.now in
+      let new = c.serve_rename.new.volume in
+      subst (λ (call : Call). ServesJob g.D.Disk.state old.disk new.disk old.core new.core new.failed c.args.job.now
+      c.serve_rename.new.job call c.args.moment c.serve_rename.result) (sym c.in-Rename.is)
+      (c.serve_rename.ensures.serving c.args.moment c.requires.timely);
 }
 
 pub returns-in-Useti : goal.returns-in-Useti
@@ -66,15 +62,11 @@ returns-in-Useto g c = record {
 pub returns-in-DeleteDir : goal.returns-in-DeleteDir
 returns-in-DeleteDir g c = record {
   serving =
-      let volume = c.args.volume.now in
-      let map = volume.core in
-      subst (λ (call : Call). ServesJob g.D.Disk.state volume.disk volume.disk map map volume.failed c.args.job.now
-      c.delete_dir.new.job call c.args.moment c.delete_dir.result) (sym c.in-DeleteDir.is)
-      (alone_serves g.D.Disk.state g.met.D.Disk.only_now volume.disk map volume.failed c.args.job.now
-      c.delete_dir.new.job (DeleteDir c.in-DeleteDir.address) c.args.moment c.delete_dir.result c.requires.ready.alive
-      c.requires.ready.placed c.requires.timely
-      (c.delete_dir.ensures.row) (λ is. c.delete_dir.ensures.unserved) c.delete_dir.ensures.keeps
-      c.delete_dir.ensures.reads c.delete_dir.ensures.only c.delete_dir.ensures.refused);
+      let old = c.args.volume.now in
+      let new = c.serve_delete_dir.new.volume in
+      subst (λ (call : Call). ServesJob g.D.Disk.state old.disk new.disk old.core new.core new.failed c.args.job.now
+      c.serve_delete_dir.new.job call c.args.moment c.serve_delete_dir.result) (sym c.in-DeleteDir.is)
+      (c.serve_delete_dir.ensures.serving c.args.moment c.requires.timely);
 }
 
 pub returns-in-Inbuf : goal.returns-in-Inbuf

@@ -49,6 +49,7 @@ returns-in-Ok-pin-clause-answered g c h s known w m free inside =
         version = x.0;
         there = ap (file_at s.files) (sym named) ∙ x.1;
         shown = x.2;
+        protection = x.2.protection;
         short = x.3;
         held = x.4;
         held_at = x.5;

@@ -27,7 +27,7 @@ use Rattle.retrieval.specs.declared.prime.Prime.{Prime}
 use Rattle.monitor.proofs.Enters.{no_side}
 use Rattle.monitor.proofs.Lookups.{placed_still}
 use Rattle.monitor.proofs.Placing.{placed_begun}
-use Rattle.monitor.proofs.Renewals.{renewed_reading, renewed_pending, renewed_known}
+use Rattle.monitor.proofs.Renewals.{renews_with, renewed_reading, renewed_pending, renewed_known}
 use Rattle.monitor.proofs.Updates.{no_creation}
 use Rattle.monitor.proofs.UpdateRows.{out_of_order, done, refused, wanting, reader_held, few_kept, is_update_of}
 use Rattle.monitor.proofs.update.update.Goals as goal
@@ -63,6 +63,9 @@ returns-in-Ok-clause-begun g c is =
     let version = begun c.in-Ok.kind begins.1 begins.4.old in
     let renews = c.renew-renewed.ensures.renews in
     let prime : c.prime_of-prime.result ≡ version.prime = c.prime_of-prime.ensures version begins.4.here in
+    let held = renews_with c.begin_update.new.volume.core c.renew-renewed.new.volume.core c.args.input
+    c.renew-renewed.result c.args.input.ppn c.args.input.file c.prime_of-prime.result.protection
+    version.prime.protection (ap (λ (p : Prime). p.protection) prime) renews.0 in
     let side : c.side_of-output.result ≡ updating_side c.in-Ok.pending.key c.in-Ok.kind version.kept_blocks =
     c.side_of-output.ensures version begins.4.here in
     let status = c.cleared.ensures.value in
@@ -83,7 +86,7 @@ returns-in-Ok-clause-begun g c is =
         version = version;
         version_is = begins.4.here;
         renewed = c.renew-renewed.result;
-        renews = renews.0;
+        renews = held;
         job_is = c.set_channel.ensures ∙ (λ i. record c.args.job.now {
           core = core i;
           channels = slice_set c.args.job.now.channels c.args.number
@@ -100,7 +103,7 @@ returns-in-Ok-clause-begun g c is =
           let between = subst (λ disk. (state disk).honest) c.renew-renewed.ensures.untouched.0 h in
           let same = c.in-Ok.ensures.untouched.0 in
           is_update_of (state c.args.volume.now.disk).contents c.args.job.now c.args.input c.in-Ok.kind version _
-          c.begin_update.new.volume.core c.renew-renewed.new.volume.core c.renew-renewed.result files renews.0
+          c.begin_update.new.volume.core c.renew-renewed.new.volume.core c.renew-renewed.result files held
           begins.4.here (c.in-Ok.ensures.file between c.requires.alive files rests)
           (c.in-Ok.ensures.kind between c.requires.alive files rests)
           (subst (λ disk. IsPinAnswer (state disk).contents renews.0.between.live c.args.input.file
@@ -117,8 +120,10 @@ returns-in-Ok-clause-placed g c placed =
     let new = c.renew-renewed.new.volume.core in
     let renews = c.renew-renewed.ensures.renews.0 in
     placed_still between new
-    (renewed_pending between new c.args.input c.renew-renewed.result c.args.input.ppn c.args.input.file renews)
-    (renewed_known between new c.args.input c.renew-renewed.result c.args.input.ppn c.args.input.file renews)
+    (renewed_pending between new c.args.input c.renew-renewed.result c.args.input.ppn c.args.input.file
+    c.prime_of-prime.result.protection renews)
+    (renewed_known between new c.args.input c.renew-renewed.result c.args.input.ppn c.args.input.file
+    c.prime_of-prime.result.protection renews)
     (placed_begun c.args.volume.now.core between c.in-Ok.pending.key c.in-Ok.kind begins.1 begins.4
     (ap (λ (x : FileName). x.name == 0) file ∙ c.in-Ok.ensures.free.0)
     ((λ i. claims c.args.volume.now.core.pending (place_of (ppn i) (file i))) ∙ c.in-Ok.ensures.free.1) placed)
@@ -131,7 +136,7 @@ returns-in-Ok-clause-reads g c =
     subst (λ live. KeepsReading live new.live c.args.job.now c.set_channel.new.self) begins.4.live
     (subst (KeepsReading between.live new.live c.args.job.now) (sym c.set_channel.ensures)
     (renewed_reading between new c.args.input c.renew-renewed.result c.args.input.ppn c.args.input.file
-    c.renew-renewed.ensures.renews.0 c.args.job.now c.args.number _ c.args.channel _ c.requires.there
+    c.prime_of-prime.result.protection c.renew-renewed.ensures.renews.0 c.args.job.now c.args.number _ c.args.channel _ c.requires.there
     c.requires.side refl))
 
 pub returns-then-is_some-clause-row : goal.returns-then-is_some-clause-row

@@ -1,0 +1,149 @@
+-- DeleteDir: the machine's row, and the state after it.
+use Rattle.std.proofs.Common.{◌≡◌, ◌≤◌, ℕ, List, Option, None, Some, refl, sym, ap, subst, ◌∙◌, ⊎_elim, slice_set}
+use Rattle.std.specs.Cmp.{nat_cmp_total}
+use Rattle.std.specs.FinMap.{nat_cmp-IsAntisymmetric}
+use Rattle.words36.specs.declared.moment.Moment.{Moment}
+use Rattle.words36.specs.declared.names.FileName.{FileName}
+use Rattle.blockdisk.specs.Disk.{DiskState}
+use Rattle.meaning.specs.Files.{Files, Directory, Place, map_directory, name_cmp}
+use Rattle.meaning.specs.Jobs.{State, slot}
+use Rattle.meaning.specs.Making.{remove_answer}
+use Rattle.meaning.specs.Maps.{get, remove, empty, size, values}
+use Rattle.meaning.specs.Outcomes.{settled, refused_at}
+use Rattle.meaning.specs.Published.{Version, without_serials, file_in, file_at}
+use Rattle.meaning.specs.Runs.{AreDistinct}
+use Rattle.meaning.specs.Sound as meaning
+use Rattle.meaning.specs.Step.{step, of_files}
+use Rattle.meaning.specs.declared.call.Call.TheVariants.{DeleteDir}
+use Rattle.meaning.specs.declared.call.Event.TheVariants.{Call as Calls}
+use Rattle.meaning.specs.declared.call.Reply.{Reply}
+use Rattle.meaning.specs.declared.call.Reply.TheVariants.{Done}
+use Rattle.meaning.proofs.MapLaws.{some_none, same_or_other, get-empty, get-removed, get-remove_other, insert_same}
+use Rattle.meaning.proofs.MapLaws.{insert-removed}
+use Rattle.meaning.proofs.MapLists.{map_values-remove}
+use Rattle.meaning.proofs.MapSums.{empty_of_size}
+use Rattle.meaning.proofs.Versions.{body_kept}
+use Rattle.volume.specs.Live.{VolumeCore, pending_at}
+use Rattle.volume.specs.Places.{prime_at}
+use Rattle.volume.specs.RemovingDirectories.{directory_removed}
+use Rattle.volume.specs.Rest.{RestsAt, KeepsRead, KeepsEachWritten}
+use Rattle.volume.specs.declared.pending.PendingVersion.{PendingVersion}
+use Rattle.monitor.specs.DirectoryRows.{asked_owner}
+use Rattle.monitor.specs.Serving.{pack_of, AreKeyed, AreReading, IsState}
+use Rattle.monitor.specs.Sides.{UnderKeys, job_of, state_of}
+use Rattle.monitor.specs.declared.job.Job.{Job}
+use Rattle.monitor.proofs.Answering.{job_set, called, settled_with}
+use Rattle.monitor.proofs.MakeDirServing.{versions_made, none_in}
+use Rattle.monitor.proofs.ReadBookings.{versions_of}
+use Rattle.monitor.proofs.ReadStays.{reads_go}
+
+-- The machine's row, by its answer.
+module _ (d : DiskState) (files : Files Version) (w : UnderKeys) (jobs : List (Option Job))
+    (n : ℕ) (job : Job) (there : slot jobs n ≡ Some job) (e : ℕ) (moment : Moment) (timely : moment.date ≤ 4095) where
+  abbrev t : State
+  t = state_of files w jobs
+
+  -- the files without the directory
+  abbrev removed : Files Version
+  removed = remove files (asked_owner job.core e)
+
+  abbrev by_answer : Reply → Reply × State
+  by_answer reply = of_files t n
+      (settled reply (job_of w job, removed) (λ r. (refused_at (job_of w job) e r, files)))
+
+  abbrev answer : Reply
+  answer = remove_answer t (job_of w job) e (asked_owner job.core e)
+
+  asks : (serial : ℕ) → step (pack_of d) serial t (Calls n (DeleteDir e) moment) ≡ by_answer answer
+  asks serial = called d jobs n (DeleteDir e) moment serial files w timely job there
+
+  pub row_done : answer ≡ Done → (serial : ℕ)
+      → step (pack_of d) serial t (Calls n (DeleteDir e) moment)
+      ≡ (Done, state_of removed w (slice_set jobs n (Some job)))
+  row_done is serial = asks serial ∙ ap by_answer is ∙ ap (λ x. (Done, x)) (job_set removed w jobs n job)
+
+  -- another answer
+  pub row_kept : (reply : Reply) (job' : Job) → answer ≡ reply → (reply ≡ Done → ⊥)
+      → refused_at (job_of w job) e reply ≡ job_of w job' → (serial : ℕ)
+      → step (pack_of d) serial t (Calls n (DeleteDir e) moment)
+      ≡ (reply, state_of files w (slice_set jobs n (Some job')))
+  row_kept reply job' is not_done left serial =
+      asks serial ∙ ap by_answer is ∙ ap (of_files t n) (settled_with reply (job_of w job, removed)
+      (λ r. (refused_at (job_of w job) e r, files)) not_done ∙ ap (λ j. (reply, (j, files))) left)
+      ∙ ap (λ x. (reply, x)) (job_set files w jobs n job')
+
+-- The files without a directory that has none.
+module _ (files : Files Version) (owner : ℕ) where
+  -- the volume's, too
+  pub shown_removed : without_serials (remove files owner) ≡ directory_removed (without_serials files) owner
+  shown_removed = map_values-remove nat_cmp_total nat_cmp-IsAntisymmetric (map_directory (λ (v : Version). v.file))
+      files owner
+
+  -- a file that isn't there isn't there now
+  pub absent_still : (q : Place) → file_at files q ≡ None → file_at (remove files owner) q ≡ None
+  absent_still q none = ⊎_elim
+      (λ here. ap (λ o. file_in o q.name) (ap (get (remove files owner)) here ∙ get-removed nat_cmp_total files owner))
+      (λ other. ap (λ o. file_in o q.name)
+      (get-remove_other nat_cmp_total nat_cmp-IsAntisymmetric files owner q.ppn other) ∙ none)
+      (same_or_other nat_cmp_total nat_cmp-IsAntisymmetric q.ppn owner)
+
+  module _ (v : Directory Version) (there : get files owner ≡ Some v) (bare : size v.files ≡ 0) where
+    is_empty : v.files ≡ empty
+    is_empty = empty_of_size v.files bare
+
+    -- all files that are there stay
+    pub file_stays : (q : Place) (x : Version) → file_at files q ≡ Some x → file_at (remove files owner) q ≡ Some x
+    file_stays q x is = ⊎_elim
+        (λ here. absurd (some_none (sym is ∙ ap (λ o. file_in o q.name) (ap (get files) here ∙ there)
+        ∙ ap (λ fs. get fs q.name) is_empty ∙ get-empty name_cmp Version q.name)))
+        (λ other. ap (λ o. file_in o q.name)
+        (get-remove_other nat_cmp_total nat_cmp-IsAntisymmetric files owner q.ppn other) ∙ is)
+        (same_or_other nat_cmp_total nat_cmp-IsAntisymmetric q.ppn owner)
+
+    -- and no version is another
+    pub versions_removed : versions_of (remove files owner) ≡ versions_of files
+    versions_removed =
+        sym (versions_made (remove files owner) owner v (ap values is_empty ∙ none_in)
+        (get-removed nat_cmp_total files owner))
+        ∙ ap versions_of (insert-removed nat_cmp_total nat_cmp-IsAntisymmetric files owner v
+        ∙ insert_same nat_cmp_total nat_cmp-IsAntisymmetric files owner v there)
+
+-- The state that the monitor stands for.
+module _ (d d' : DiskState) (c c' : VolumeCore) (jobs jobs' : List (Option Job)) (s : State)
+    (state : IsState d c jobs s) (keyed : AreKeyed c'.pending jobs') (reading : AreReading c'.live jobs')
+    (live : c'.live ≡ c.live) (pending : c'.pending ≡ c.pending)
+    (primes : (ppn : ℕ) (name : FileName) → prime_at c' ppn name ≡ prime_at c ppn name)
+    (readers : KeepsRead d.contents d'.contents c) (writers : KeepsEachWritten d.contents d'.contents c)
+    (owner : ℕ) (v : Directory Version) (there : get s.files owner ≡ Some v) (bare : size v.files ≡ 0)
+    (rests : RestsAt d' (directory_removed (without_serials s.files) owner)) where
+  was : (key : ℕ) (p : PendingVersion) → pending_at c'.pending key ≡ Some p → pending_at c.pending key ≡ Some p
+  was key p at = ap (λ ps. pending_at ps key) (sym pending) ∙ at
+
+  pub removed_state : meaning.IsSound (state_of (remove s.files owner) state.under jobs')
+      → IsState d' c' jobs' (state_of (remove s.files owner) state.under jobs')
+  removed_state still = record {
+    files = subst (RestsAt d') (sym (shown_removed s.files owner)) rests;
+    serials = subst AreDistinct (sym (versions_removed s.files owner v there bare)) state.serials;
+    under = state.under;
+    versions = λ key p at.
+        let is = state.versions key p (was key p at) in
+        record {
+          place = is.place;
+          protection = is.protection;
+          mode = is.mode;
+          time = is.time;
+          date = is.date;
+          words = is.words;
+          body = body_kept d.contents d'.contents p.version.blocks (state.under.written key).file.body is.body
+              (writers key p (was key p at));
+        };
+    absent = λ key p at new. absent_still s.files owner (state.under.written key).place
+        (state.absent key p (was key p at) new);
+    keyed = keyed;
+    read = reads_go d d' c c' state.under.read live readers s.files (remove s.files owner)
+        (λ ppn name m is. primes ppn name ∙ is) (file_stays s.files owner v there bare)
+        (versions_removed s.files owner v there bare) state.read;
+    reading = reading;
+    jobs_are = refl;
+    sound = still;
+  }

@@ -1,0 +1,319 @@
+-- RENAME that deletes, by what the volume answers: what it promises, whichever jobs there are.
+use Rattle.std.proofs.Common.{◌≡◌, ◌⊎◌, ◌≤◌, ℕ, Bool, true, false, List, [], ◌∷◌, Option, Some, None, Result, Ok, Err}
+use Rattle.std.proofs.Common.{refl, sym, ap, subst, ◌∙◌, inl, inr, ⊎_elim, slice_index, slice_set}
+use Rattle.std.proofs.lemmas.Bool.{eq-eqb}
+use Rattle.std.specs.Prelude.{◌↔◌, if◌then◌else◌, is_none, IsErrOf, OnOk, OnErr}
+use Rattle.std.specs.Ordering.{nat_cmp}
+use Rattle.std.specs.FinMap.Entries.{find}
+use Rattle.words36.specs.declared.moment.Moment.{Moment}
+use Rattle.words36.specs.declared.names.FileName.{FileName}
+use Rattle.blockdisk.specs.Disk.{Contents, DiskState, MayLeave, LeavesOnly, SameDisk, one_more}
+use Rattle.blockdisk.specs.Laws.{leaves_weaker}
+use Rattle.meaning.specs.declared.code.ErrorCode.{ErrorCode}
+use Rattle.meaning.specs.declared.code.ErrorCode.TheVariants.{NoDirectory, NotFound}
+use Rattle.meaning.specs.declared.put.Put.{Put}
+use Rattle.meaning.specs.Codes.{number_of}
+use Rattle.meaning.specs.Cores.{lies_outside}
+use Rattle.meaning.specs.Files.{File, Files, Directory, Place, name_cmp}
+use Rattle.meaning.specs.Jobs.{State, slot}
+use Rattle.meaning.specs.Looking.{place_at}
+use Rattle.meaning.specs.Maps.{get}
+use Rattle.meaning.specs.Published.{Version, without_serials, file_in, file_at, without_file}
+use Rattle.meaning.specs.Renaming.{deletes_at, rename_from, move_answer, files_moved, protection_at}
+use Rattle.meaning.specs.Runs.{Service, Broken, Answers, is_plain}
+use Rattle.meaning.specs.Stands.{Stands, place_of}
+use Rattle.meaning.specs.Step.{step}
+use Rattle.meaning.specs.declared.call.Call.TheVariants.{Rename}
+use Rattle.meaning.specs.declared.call.Event.TheVariants.{Call as Calls}
+use Rattle.meaning.specs.declared.call.Reply.{Reply}
+use Rattle.meaning.specs.declared.call.Reply.TheVariants as replies
+use Rattle.meaning.proofs.MapLaws.{some_none}
+use Rattle.meaning.proofs.SlotLaws.{slot-set_other}
+use Rattle.volume.specs.Beginning.{IsDirectoryOf}
+use Rattle.volume.specs.Claims.{claims}
+use Rattle.volume.specs.Known.{KnownDirectory}
+use Rattle.volume.specs.Live.{VolumeCore}
+use Rattle.volume.specs.Removing.{files_removed, RemovesFile}
+use Rattle.volume.specs.Rest.{IsSound, RestsAt, StandsForEither, KeepsRead, KeepsEachWritten}
+use Rattle.volume.specs.declared.error.CallError.{CallError}
+use Rattle.volume.specs.declared.error.CallError.TheVariants.{Refused, Device, Failed, NoMemory}
+use Rattle.volume.specs.declared.live.LiveVersion.{LiveVersion}
+use Rattle.volume.proofs.Answering.{Holds, rest_holds}
+use Rattle.monitor.specs.Changing.{change_answer, with_input_closed, CloseAfter, changed_reply, changed_job}
+use Rattle.monitor.specs.Dropping.{Closes}
+use Rattle.monitor.specs.Events.{CallCrashes}
+use Rattle.monitor.specs.Finding.{IsKnown}
+use Rattle.monitor.specs.Promises.{IsAmong, IsServing}
+use Rattle.monitor.specs.Refusals.{with_code}
+use Rattle.monitor.specs.Serving.{pack_of, AreKeyed, ArePlaced, AreReading, IsState, Serves}
+use Rattle.monitor.specs.Sides.{UnderKeys, sides_in, job_of, state_of}
+use Rattle.monitor.specs.declared.channel.Channel.{Channel}
+use Rattle.monitor.specs.declared.input.Input.{Input}
+use Rattle.monitor.specs.declared.job.Job.{Job}
+use Rattle.monitor.proofs.Answering.{in_state, goes_on, state_is, contrary}
+use Rattle.monitor.proofs.Beginning.{home_of, listed}
+use Rattle.monitor.proofs.ChangeAnswers.{rename_goes_on, changed_there}
+use Rattle.monitor.proofs.DeletedFiles.{files_left}
+use Rattle.monitor.proofs.DeletedStates.{placed_deleted, deleted_keyed, deleted_reading, deleted_state}
+use Rattle.monitor.proofs.Dropped.{job_keyed}
+use Rattle.monitor.proofs.EnterReads.{reading_same}
+use Rattle.monitor.proofs.InputsClosed.{input_behind}
+use Rattle.monitor.proofs.Knowing.{known}
+use Rattle.monitor.proofs.Lookups.{placed_still}
+use Rattle.monitor.proofs.Promised.{quiet_serves}
+use Rattle.monitor.proofs.ReadsDeleted.{readers_left}
+use Rattle.monitor.proofs.ReadingJobs.{keeps_reading}
+use Rattle.monitor.proofs.RenameRefusals.{same_code}
+use Rattle.monitor.proofs.RenameRows.{row_done}
+
+-- What a volume says of a deletion; `Same` is that disk and core are as they were.
+pub record Deletes (d d' : DiskState) (c b : VolumeCore) (Same : Type 0) (failed failed' : Bool) (ppn : ℕ)
+    (name : FileName) (result : Result (Unit {0}) CallError) : Type 0 where
+  pub crash : d'.honest → (f : Files File) → RestsAt d f
+      → LeavesOnly d d' (StandsForEither d.size f (files_removed f ppn name))
+  pub done : d'.honest → (f : Files File) → RestsAt d f → OnOk result (RestsAt d' (files_removed f ppn name))
+  pub removed : OnOk result ((key : ℕ) × (v : LiveVersion) × (puts : List Put)
+      × RemovesFile d.size c b ppn name key v puts)
+  pub readers : d'.honest → (IsErrOf result Device → ⊥) → KeepsRead d.contents d'.contents c
+  pub writers : d'.honest → (IsErrOf result Device → ⊥) → KeepsEachWritten d.contents d'.contents c
+  pub refused : (IsErrOf result Device → ⊥) → OnErr result Same
+  pub given_up : IsErrOf result Failed → failed ≡ true
+  pub no_directory : failed ≡ false
+      → (IsErrOf result (Refused NoDirectory) ↔ (find nat_cmp ppn c.known.master.entries ≡ None))
+  pub not_found : failed ≡ false → (IsErrOf result (Refused NotFound) ↔ ((x : KnownDirectory) × IsDirectoryOf c ppn x
+      × (find name_cmp name x.chain.entries ≡ None)))
+  pub codes : (code : ErrorCode) → IsErrOf result (Refused code) → (code ≡ NoDirectory) ⊎ (code ≡ NotFound)
+  pub memory : IsErrOf result NoMemory → ⊥
+  pub device : IsErrOf result Device → failed' ≡ true
+  pub counted : IsErrOf result Device → d'.failures ≡ one_more d.failures
+  pub served : (IsErrOf result Device → ⊥) → d'.failures ≡ d.failures
+  pub still : (IsErrOf result Device → ⊥) → failed' ≡ failed
+  pub same : SameDisk d d'
+
+-- A file that is there is not refused.
+not_refused : (d : DiskState) (c : VolumeCore) (s : State) → IsSound d c false
+    → Holds d c.known (without_serials s.files) → (ppn : ℕ) (name : FileName) (x : Version)
+    → file_at s.files (place_of ppn name) ≡ Some x
+    → (result : Result (Unit {0}) CallError) (code : ErrorCode)
+    → (IsErrOf result (Refused NoDirectory) ↔ (find nat_cmp ppn c.known.master.entries ≡ None))
+    → (IsErrOf result (Refused NotFound) ↔ ((k : KnownDirectory) × IsDirectoryOf c ppn k
+    × (find name_cmp name k.chain.entries ≡ None)))
+    → (code ≡ NoDirectory) ⊎ (code ≡ NotFound) → IsErrOf result (Refused code) → ⊥
+not_refused d c s sound holds ppn name x at result code gone absent which is = by (get s.files ppn) refl
+  where
+    by : (was : Option (Directory Version)) → get s.files ppn ≡ was → ⊥
+    by None there = some_none (sym at ∙ ap (λ o. file_in o name) there)
+    by (Some D) there = ⊎_elim
+        (λ no. listed d c s.files holds sound.whole.map ppn D there (gone.0 (is ∙ ap (λ e. Err (Refused e)) no)))
+        (λ none.
+        let found = absent.0 (is ∙ ap (λ e. Err (Refused e)) none) in
+        let shown = home_of d c s.files holds sound.whole.map ppn name found.0 found.1 in
+        let there_is = sym (ap (λ o. file_in o name) shown.there) ∙ at in
+        contrary (ap is_none there_is) (sym shown.absent ∙ ap is_none found.2))
+        which
+
+module _ {D : Type 0} (state : D → DiskState) (only_now : (disk : D) (contents : Contents) → (state disk).honest
+    → (state disk).left_since (state disk).clock contents → MayLeave (state disk) contents) (disk disk' : D)
+    (c b c' : VolumeCore) (failed failed' : Bool) (alive : failed ≡ false) (job : Job) (number e : ℕ)
+    (channel : Channel) (input : Input) (is_open : slot job.channels number ≡ Some channel)
+    (side : channel.input ≡ Some input) (free : channel.output ≡ None) (inside : lies_outside job.core e 4 ≡ false)
+    (zero : slice_index job.core e ≡ 0) (sound : IsSound (state disk) c false) (placed : ArePlaced c)
+    (unclaimed : claims c.pending (place_of input.ppn input.file) ≡ false)
+    (may : (state disk).honest → (s : State) → IsKnown (state disk) c s → (w : UnderKeys)
+    → change_answer s (job_of w job) e (place_of input.ppn input.file) ≡ replies.Done)
+    (result : Result (Unit {0}) CallError)
+    (is : Deletes (state disk) (state disk') c b ((disk' ≡ disk) × (b ≡ c)) failed failed' input.ppn input.file result)
+    (moment : Moment) (timely : moment.date ≤ 4095) (jobs : List (Option Job)) (n : ℕ)
+    (among : IsAmong c jobs n job) where
+  abbrev d : DiskState
+  d = state disk
+
+  abbrev d' : DiskState
+  d' = state disk'
+
+  abbrev place : Place
+  place = place_of input.ppn input.file
+
+  abbrev closed : Job
+  closed = with_input_closed job number channel
+
+  -- The machine, in a state that the monitor stands for.
+  module _ (honest : d.honest) (s : State) (state_s : IsState d c jobs s) where
+    abbrev w : UnderKeys
+    w = state_s.under
+
+    abbrev before : State
+    before = state_of s.files w jobs
+
+    before_is : s ≡ before
+    before_is = state_is s w jobs state_s.jobs_are
+
+    allowed : change_answer before (job_of w job) e place ≡ replies.Done
+    allowed = subst (λ t. change_answer t (job_of w job) e place ≡ replies.Done) before_is
+        (may honest s (known d c jobs s state_s sound honest) w)
+
+    there : (x : Version) × (file_at s.files place ≡ Some x)
+    there = changed_there before (job_of w job) e place allowed
+
+    deletes : deletes_at (job_of w job) e ≡ true
+    deletes = eq-eqb (slice_index job.core e) 0 zero
+
+    answer : rename_from (pack_of d) before (job_of w job) e place ≡ replies.Done
+    answer = rename_goes_on before (job_of w job) e place (pack_of d) allowed
+        ∙ ap (λ b. if b then replies.Done else move_answer (pack_of d) before (job_of w job) place
+        (place_at (job_of w job) e)) deletes
+
+    step_done : (serial : ℕ) → step (pack_of d) serial s (Calls n (Rename number e) moment)
+        ≡ (replies.Done, state_of (without_file s.files place) w (slice_set jobs n (Some closed)))
+    step_done serial = subst (λ t. step (pack_of d) serial t (Calls n (Rename number e) moment)
+        ≡ (replies.Done, state_of (without_file s.files place) w (slice_set jobs n (Some closed)))) (sym before_is)
+        (row_done d s.files w jobs n job among.there number e moment timely channel is_open input side free inside
+        answer serial
+        ∙ ap (λ b. (
+          replies.Done,
+          state_of (if b then without_file s.files place else files_moved s.files place
+              (place_at (job_of w job) e) (protection_at (job_of w job) e) (file_at s.files place)) w
+              (slice_set jobs n (Some closed)),
+        )) deletes)
+
+    undecided : is_plain ((step (pack_of d) 0 s (Calls n (Rename number e) moment)).0) ≡ false
+    undecided = ap (λ (r : Reply × State). is_plain r.0) (step_done 0)
+
+    never_refused : (code : ErrorCode) → IsErrOf result (Refused code) → ⊥
+    never_refused code refused = not_refused d c s sound
+        (rest_holds d c false sound honest refl (without_serials s.files) state_s.files)
+        input.ppn input.file there.0 there.1 result code (is.no_directory alive) (is.not_found alive)
+        (is.codes code refused) refused
+
+  crashes : CallCrashes d d' c jobs n (Rename number e) moment
+  crashes honest s state_s =
+      leaves_weaker d d' (StandsForEither d.size (without_serials s.files) _) _
+      (is.crash honest (without_serials s.files) state_s.files)
+      (λ contents. ⊎_elim (λ was. inl was)
+      (λ new. inr (
+        0,
+        subst (Stands d.size contents) (sym (files_left s.files place)
+            ∙ ap (λ (r : Reply × State). without_serials r.1.files)
+            (sym (step_done (is.same.was_honest honest) s state_s 0))) new,
+      )))
+
+  abbrev ServesAfter : Result (Unit {0}) CallError → Type 0
+  ServesAfter r = IsServing state disk disk' c c' failed' jobs
+      (slice_set jobs n (Some (changed_job r job number e channel))) n (Rename number e) moment (changed_reply r)
+
+  -- It is done, and the channel's input side is closed behind it.
+  done : result ≡ Ok tt → Closes b c' [] (input.pin.key ∷ []) → c'.pending ≡ b.pending → ServesAfter (Ok tt)
+  done ok closes pending =
+      let removed = subst (λ r. OnOk r ((key : ℕ) × (v : LiveVersion) × (puts : List Put)
+      × RemovesFile d.size c b input.ppn input.file key v puts)) ok is.removed in
+      let key = removed.0 in
+      let v = removed.1 in
+      let puts = removed.2 in
+      let removes : RemovesFile d.size c b input.ppn input.file key v puts = removed.3 in
+      let fine : IsErrOf result Device → ⊥ = λ error. let wrong = sym ok ∙ error in cc in
+      let serves' : failed' ≡ false = is.still fine ∙ alive in
+      let behind = input_behind job number channel is_open input side c b c' removes.pending
+      (readers_left c.live b.live key v removes.there removes.ended removes.others) closes pending in
+      record {
+        keyed = λ serves. deleted_keyed d d' c b c' jobs n job closed among.there input.ppn input.file key v puts
+            removes behind among.keyed;
+        placed = λ serves. placed_still b c' pending closes.leaves.known
+            (placed_deleted d.size c b input.ppn input.file key v puts removes unclaimed placed);
+        reading = λ serves. deleted_reading d d' c b c' jobs n job closed among.there input.ppn input.file key v puts
+            removes behind among.reading;
+        others = λ m other. slot-set_other jobs n m (Some closed) other;
+        answered = λ honest asked. in_state d c false jobs (λ old. (new : Service)
+            × Serves d' c' failed' (slice_set jobs n (Some closed)) new
+            × Answers (pack_of d) old (Calls n (Rename number e) moment) replies.Done new) refl
+            (λ s state_s.
+            let was = is.same.was_honest honest in
+            let x = there was s state_s in
+            goes_on d' c' failed' (slice_set jobs n (Some closed)) (pack_of d) (Calls n (Rename number e) moment)
+            replies.Done s (state_of (without_file s.files place) state_s.under (slice_set jobs n (Some closed)))
+            serves' state_s.sound (step_done was s state_s)
+            (deleted_state d d' c b c' jobs n job closed among.there input.ppn input.file key v puts removes behind s
+            state_s sound.whole x.0 x.1 unclaimed
+            (subst (λ r. OnOk r (RestsAt d' (files_removed (without_serials s.files) input.ppn input.file))) ok
+            (is.done honest (without_serials s.files) state_s.files))
+            (is.readers honest fine) (is.writers honest fine) closes.leaves));
+        crash = crashes;
+        idle = λ idle. absurd idle;
+        light = λ light. absurd light;
+        kept = λ kept. absurd kept;
+        memory = λ none. cc none;
+        refused = λ code none. cc none;
+        unserved = λ x at asked. absurd asked;
+        failed = (λ broken. absurd (contrary serves' broken), ⊎_elim (λ error. cc error) (λ error. cc error));
+        blamed = λ honest error. cc error;
+        counted = λ error. cc error;
+        served = λ serves. is.served fine;
+        same = is.same;
+      }
+
+  -- It is refused, which happens to no file that is there: so this is no honest disk.
+  refused : (code : ErrorCode) → IsErrOf result (Refused code) → c' ≡ b → ServesAfter (Err (Refused code))
+  refused code error same =
+      let fine : IsErrOf result Device → ⊥ = λ broke. let wrong = sym error ∙ broke in cc in
+      let still = subst (λ r. OnErr r ((disk' ≡ disk) × (b ≡ c))) error (is.refused fine) in
+      let core = sym (same ∙ still.1) in
+      let job' = with_code job e (number_of code) in
+      quiet_serves state only_now disk disk' c c' failed failed' job job' (Rename number e) moment
+      (replies.Refused (number_of code)) alive (still.0, is.still fine) (λ x. cc x, λ x. cc x)
+      (subst ArePlaced core placed) (λ light. absurd light) (λ kept. absurd kept) (λ none. cc none)
+      (λ k at. ap (with_code job e) (same_code at)) (λ asked. absurd asked) jobs n among
+      (subst (λ (x : VolumeCore). AreKeyed x.pending (slice_set jobs n (Some job'))) core
+      (job_keyed c.pending jobs n (Some job') among.keyed (ap sides_in (sym among.there))))
+      (subst (λ (x : VolumeCore). AreReading x.live (slice_set jobs n (Some job'))) core
+      (keeps_reading c.live c.live jobs n job job' among.reading among.there (reading_same c c job job' refl refl)))
+      (λ honest asked. in_state d c false jobs (λ old. (new : Service)
+      × Serves d c' false (slice_set jobs n (Some job')) new
+      × Answers (pack_of d) old (Calls n (Rename number e) moment) (replies.Refused (number_of code)) new) refl
+      (λ s state_s. absurd (never_refused (is.same.was_honest honest) s state_s code error)))
+
+  -- The device failed.
+  broken : IsErrOf result Device → ServesAfter (Err Device)
+  broken error = record {
+    keyed = λ serves. absurd (contrary serves (is.device error));
+    placed = λ serves. absurd (contrary serves (is.device error));
+    reading = λ serves. absurd (contrary serves (is.device error));
+    others = λ m other. slot-set_other jobs n m (Some job) other;
+    answered = λ honest asked. in_state d c false jobs (λ old. (new : Service)
+        × Serves d' c' failed' (slice_set jobs n (Some job)) new
+        × Answers (pack_of d) old (Calls n (Rename number e) moment) replies.Device new) refl
+        (λ s state_s. (Broken, is.device error, (refl, undecided (is.same.was_honest honest) s state_s, refl)));
+    crash = crashes;
+    idle = λ idle. absurd idle;
+    light = λ light. absurd light;
+    kept = λ kept. absurd kept;
+    memory = λ none. cc none;
+    refused = λ code at. cc at;
+    unserved = λ x at asked. absurd asked;
+    failed = (λ t. inl refl, λ t. is.device error);
+    blamed = λ honest at. cc at;
+    counted = λ at. is.counted error;
+    served = λ serves. absurd (serves refl);
+    same = is.same;
+  }
+
+  by_result : (r : Result (Unit {0}) CallError) → result ≡ r → CloseAfter r b c' input → ServesAfter r
+  by_result (Ok x) at after = done at after.0 after.1
+  by_result (Err (Refused code)) at after = refused code at after
+  by_result (Err NoMemory) at after = absurd (is.memory at)
+  by_result (Err Device) at after = broken at
+  by_result (Err Failed) at after = absurd (contrary alive (is.given_up at))
+
+  -- The call's answer, and what it leaves of the job; behind the deletion disk and volume are left alone.
+  pub deleting_serves : (disk'' : D) (failed'' : Bool) (job' : Job) (reply : Reply)
+      → (disk'' ≡ disk') × (failed'' ≡ failed') → CloseAfter result b c' input → reply ≡ changed_reply result
+      → job' ≡ changed_job result job number e channel
+      → IsServing state disk disk'' c c' failed'' jobs (slice_set jobs n (Some job')) n (Rename number e) moment reply
+  deleting_serves disk'' failed'' job' reply same after answer_is job_is =
+      subst (λ x. IsServing state disk x c c' failed'' jobs (slice_set jobs n (Some job')) n (Rename number e) moment
+      reply) (sym same.0)
+      (subst (λ x. IsServing state disk disk' c c' x jobs (slice_set jobs n (Some job')) n (Rename number e) moment
+      reply) (sym same.1)
+      (subst (λ x. IsServing state disk disk' c c' failed' jobs (slice_set jobs n (Some x)) n (Rename number e) moment
+      reply) (sym job_is)
+      (subst (λ x. IsServing state disk disk' c c' failed' jobs
+      (slice_set jobs n (Some (changed_job result job number e channel))) n (Rename number e) moment x)
+      (sym answer_is) (by_result result refl after))))

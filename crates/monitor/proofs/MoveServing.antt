@@ -1,0 +1,377 @@
+-- RENAME that moves a file, by what the volume answers: what it promises, among whichever jobs.
+use Rattle.std.proofs.Common.{◌≡◌, ◌≢◌, ◌≤◌, ◌<◌, ◌+◌, ◌/◌, ◌^◌, ℕ, Bool, true, false, if◌then◌else◌, List, [], ◌∷◌}
+use Rattle.std.proofs.Common.{Option, Some, None, Result, Ok, Err, refl, sym, ap, subst, ◌∙◌, inl, inr, ⊎_elim}
+use Rattle.std.proofs.Common.{slice_set}
+use Rattle.std.proofs.Common.{slice_index, arith}
+use Rattle.std.specs.Prelude.{◌==◌, IsErrOf, OnOk}
+use Rattle.std.proofs.lemmas.Bool.{cases_eq, ne_eqb}
+use Rattle.words36.specs.declared.moment.Moment.{Moment}
+use Rattle.words36.specs.declared.names.FileName.{FileName}
+use Rattle.blockdisk.specs.Disk.{Contents, DiskState, MayLeave, LeavesOnly, SameDisk, one_more}
+use Rattle.blockdisk.specs.Laws.{leaves_weaker}
+use Rattle.meaning.specs.Codes.{number_of}
+use Rattle.meaning.specs.Cores.{lies_outside}
+use Rattle.meaning.specs.Files.{File, Files, Directory, Place}
+use Rattle.meaning.specs.Jobs.{State, slot}
+use Rattle.meaning.specs.Looking.{place_at}
+use Rattle.meaning.specs.Maps.{get}
+use Rattle.meaning.specs.Published.{Version, without_serials, without_file, file_at}
+use Rattle.meaning.specs.Renaming.{files_from, files_moved, protection_at}
+use Rattle.meaning.specs.Runs.{Service, Broken, Answers}
+use Rattle.meaning.specs.Stands.{Stands, place_of}
+use Rattle.meaning.specs.Step.{step}
+use Rattle.meaning.specs.declared.put.Put.{Put}
+use Rattle.meaning.specs.declared.code.ErrorCode.{ErrorCode}
+use Rattle.meaning.specs.declared.code.ErrorCode.TheVariants.{NoRoom}
+use Rattle.meaning.specs.declared.call.Call.TheVariants.{Rename}
+use Rattle.meaning.specs.declared.call.Event.TheVariants.{Call as Calls}
+use Rattle.meaning.specs.declared.call.Reply.{Reply}
+use Rattle.meaning.specs.declared.call.Reply.TheVariants as replies
+use Rattle.meaning.proofs.SlotLaws.{slot-set_other}
+use Rattle.retrieval.specs.declared.prime.Prime.{Prime}
+use Rattle.volume.specs.Claims.{claims}
+use Rattle.volume.specs.Live.{VolumeCore}
+use Rattle.volume.specs.Live.{slot as version_at}
+use Rattle.volume.specs.Moving as volume
+use Rattle.volume.specs.Moving.{MovesWithin, MovesAcross}
+use Rattle.volume.specs.Rest.{IsSound, RestsAt, StandsForEither, KeepsRead, KeepsEachWritten}
+use Rattle.volume.specs.declared.error.CallError.{CallError}
+use Rattle.volume.specs.declared.error.CallError.TheVariants.{Refused, Device, Failed, NoMemory}
+use Rattle.volume.specs.declared.live.LiveVersion.{LiveVersion}
+use Rattle.monitor.specs.Arriving.{arrival_answer}
+use Rattle.monitor.specs.Changing.{change_answer, with_input_closed, CloseAfter, changed_reply, changed_job}
+use Rattle.monitor.specs.Dropping.{Closes}
+use Rattle.monitor.specs.Events.{CallCrashes}
+use Rattle.monitor.specs.Finding.{IsKnown}
+use Rattle.monitor.specs.Promises.{IsAmong, IsServing, ServesAlways}
+use Rattle.monitor.specs.Readers.{readers_of}
+use Rattle.monitor.specs.Refusals.{with_code}
+use Rattle.monitor.specs.Serving.{pack_of, ArePlaced, IsState, Serves}
+use Rattle.monitor.specs.Sides.{UnderKeys, job_of, state_of}
+use Rattle.monitor.specs.declared.channel.Channel.{Channel}
+use Rattle.monitor.specs.declared.input.Input.{Input}
+use Rattle.monitor.specs.declared.job.Job.{Job}
+use Rattle.monitor.proofs.Answering.{in_state, goes_on, state_is, contrary}
+use Rattle.monitor.proofs.Called.{quiet_failed}
+use Rattle.monitor.proofs.InputsClosed.{input_behind}
+use Rattle.monitor.proofs.Knowing.{known}
+use Rattle.monitor.proofs.MovedCore.{MovesFile, moves_within, moves_across}
+use Rattle.monitor.proofs.MovedFiles.{shown_moved}
+use Rattle.monitor.proofs.MovedStates.{readers_moved, moved_keyed, moved_reading, moved_placed, moved_state}
+use Rattle.monitor.proofs.MoveReplies.{IsMoveAnswer, moves_from, moves_home, moves_free, moves_done, moves_refused}
+use Rattle.monitor.proofs.Publications.{IsBehind}
+use Rattle.monitor.proofs.ReadsMoved.{protected_jobs, with_protected}
+use Rattle.monitor.proofs.RenameRefusals.{refusing_serves}
+use Rattle.monitor.proofs.RenameRows.{row_done}
+use Rattle.monitor.proofs.RenameWanting.{wanting_serves, rename_serves, rename_undecided}
+
+-- What a volume that serves says of a move; `Same` is that disk and core are as they were.
+pub record Moves (d d' : DiskState) (c b : VolumeCore) (Same : Type 0) (failed' : Bool) (ppn : ℕ) (name : FileName)
+    (to_ppn : ℕ) (to : FileName) (protection : ℕ) (answer : Result (Unit {0}) CallError) : Type 0 where
+  pub crash : d'.honest → (f : Files File) → RestsAt d f
+      → LeavesOnly d d' (StandsForEither d.size f (volume.files_moved f ppn name to_ppn to protection))
+  pub done : d'.honest → (f : Files File) → RestsAt d f
+      → OnOk answer (RestsAt d' (volume.files_moved f ppn name to_ppn to protection))
+  pub within : to_ppn ≡ ppn → OnOk answer ((key : ℕ) × (v : LiveVersion) × (words : List ℕ) × (puts : List Put)
+      × MovesWithin d.size c b ppn name to protection key v words puts × (d'.honest → d.contents v.at ≡ Some words))
+  pub across : (to_ppn ≡ ppn → ⊥) → OnOk answer ((key : ℕ) × (v : LiveVersion) × (words : List ℕ) × (puts : List Put)
+      × MovesAcross d.size c b ppn name to_ppn to protection key v words puts
+      × (d'.honest → d.contents v.at ≡ Some words))
+  pub readers : d'.honest → (IsErrOf answer Device → ⊥) → KeepsRead d.contents d'.contents c
+  pub writers : d'.honest → (IsErrOf answer Device → ⊥) → KeepsEachWritten d.contents d'.contents c
+  pub answers : IsMoveAnswer d.size c ppn name to_ppn to answer
+  pub refused : (code : ErrorCode) → IsErrOf answer (Refused code) → Same
+  pub memory : IsErrOf answer NoMemory → Same
+  pub given_up : IsErrOf answer Failed → d'.honest → ⊥
+  pub device : IsErrOf answer Device → failed' ≡ true
+  pub ended : IsErrOf answer Failed → failed' ≡ true
+  pub still : (IsErrOf answer Device → ⊥) → (IsErrOf answer Failed → ⊥) → failed' ≡ false
+  pub counted : IsErrOf answer Device → d'.failures ≡ one_more d.failures
+  pub served : (IsErrOf answer Device → ⊥) → d'.failures ≡ d.failures
+  pub same : SameDisk d d'
+
+-- A version that is read stays so over a move.
+pub read_on : (live live' : List (Option LiveVersion)) (key : ℕ) → ((v : LiveVersion) → version_at live key ≡ Some v
+    → 0 < v.readers → (prime : Prime) × (version_at live' key ≡ Some (record v { prime = prime })))
+    → 0 < readers_of (version_at live key) → (answer : Result (Unit {0}) CallError)
+    → OnOk answer (0 < readers_of (version_at live' key))
+read_on live live' key stays held (Err error) = tt
+read_on live live' key stays held (Ok x) = by (version_at live key) refl held
+  where
+    by : (was : Option LiveVersion) → version_at live key ≡ was → 0 < readers_of was
+        → 0 < readers_of (version_at live' key)
+    by None at none = absurd (omega (arith, none))
+    by (Some v) at some = let there = stays v at some in subst (λ o. 0 < readers_of o) (sym there.1) some
+
+-- A move that was made, within a directory or to another one.
+pub moves_file : (d d' : DiskState) (c b : VolumeCore) (Same : Type 0) (failed' : Bool) (ppn : ℕ) (name : FileName)
+    (to_ppn : ℕ) (to : FileName) (protection : ℕ) (x : Unit {0})
+    → Moves d d' c b Same failed' ppn name to_ppn to protection (Ok x) → MovesFile c b ppn name to_ppn to protection
+moves_file d d' c b Same failed' ppn name to_ppn to protection x is = ⊎_elim
+    (λ (here : to_ppn ≡ ppn).
+    let (key, v, words, puts, moved, at) = is.within here in
+    subst (λ q. MovesFile c b ppn name q to protection) (sym here)
+    (moves_within d.size c b ppn name to protection key v words puts moved))
+    (λ apart.
+    let (key, v, words, puts, moved, at) = is.across apart in
+    moves_across d.size c b ppn name to_ppn to protection key v words puts moved)
+    (cases_eq to_ppn ppn)
+
+module _ {D : Type 0} (state : D → DiskState) (only_now : (disk : D) (contents : Contents) → (state disk).honest
+    → (state disk).left_since (state disk).clock contents → MayLeave (state disk) contents) (disk disk' : D)
+    (core b : VolumeCore) (failed' : Bool) (job : Job) (number e : ℕ) (channel : Channel)
+    (is_open : slot job.channels number ≡ Some channel) (input : Input) (side : channel.input ≡ Some input)
+    (free : channel.output ≡ None) (inside : lies_outside job.core e 4 ≡ false) (named : slice_index job.core e ≡ 0 → ⊥)
+    (sound : IsSound (state disk) core false) (placed : ArePlaced core) (to_ppn : ℕ) (to : FileName) (protection : ℕ)
+    (place : (w : UnderKeys) → place_of to_ppn to ≡ place_at (job_of w job) e)
+    (protects : protection ≡ slice_index job.core (e + 2) / 2 ^ 27)
+    (unclaimed : claims core.pending (place_of input.ppn input.file) ≡ false)
+    (vacant : place_of to_ppn to ≢ place_of input.ppn input.file → claims core.pending (place_of to_ppn to) ≡ false)
+    (changes : (state disk).honest → (s : State) → IsKnown (state disk) core s → (w : UnderKeys)
+    → change_answer s (job_of w job) e (place_of input.ppn input.file) ≡ replies.Done)
+    (comes : (state disk).honest → (s : State) → IsKnown (state disk) core s → (w : UnderKeys)
+    → arrival_answer s (job_of w job) (place_of input.ppn input.file) (place_of to_ppn to) ≡ replies.Done) where
+  abbrev d : DiskState
+  d = state disk
+
+  abbrev d' : DiskState
+  d' = state disk'
+
+  abbrev old : Place
+  old = place_of input.ppn input.file
+
+  abbrev new : Place
+  new = place_of to_ppn to
+
+  abbrev Same : Type 0
+  Same = (disk' ≡ disk) × (b ≡ core)
+
+  abbrev Says : Result (Unit {0}) CallError → Type 0
+  Says answer = Moves d d' core b Same failed' input.ppn input.file to_ppn to protection answer
+
+  moves : (slice_index job.core e == 0) ≡ false
+  moves = ne_eqb (slice_index job.core e) 0 named
+
+  module _ (moment : Moment) (timely : moment.date ≤ 4095) (jobs : List (Option Job)) (n : ℕ)
+      (among : IsAmong core jobs n job) where
+    abbrev moved_jobs : List (Option Job)
+    moved_jobs = slice_set jobs n (Some (with_input_closed job number channel))
+
+    -- The machine's row.
+    module _ (honest : d.honest) (s : State) (is : IsState d core jobs s) where
+      abbrev w : UnderKeys
+      w = is.under
+
+      abbrev t : State
+      t = state_of s.files w jobs
+
+      before : s ≡ t
+      before = state_is s w jobs is.jobs_are
+
+      here : IsKnown d core t
+      here = subst (IsKnown d core) before (known d core jobs s is sound honest)
+
+      from : (x : Version) × (file_at s.files old ≡ Some x)
+      from = moves_from d core t here sound honest (job_of w job) e input.ppn input.file to_ppn to (place w) moves
+          (changes honest t here w) (comes honest t here w)
+
+      home : (D : Directory Version) × (get s.files to_ppn ≡ Some D)
+      home = moves_home d core t here sound honest (job_of w job) e input.ppn input.file to_ppn to (place w) moves
+          (changes honest t here w) (comes honest t here w)
+
+      absent : new ≢ old → file_at s.files new ≡ None
+      absent = moves_free d core t here sound honest (job_of w job) e input.ppn input.file to_ppn to (place w) moves
+          (changes honest t here w) (comes honest t here w)
+
+      abbrev files' : Files Version
+      files' = files_moved s.files old new protection (Some from.0)
+
+      files_are : files_from s.files (job_of w job) e old ≡ files'
+      files_are =
+          ap (λ b. if b then without_file s.files old else files_moved s.files old (place_at (job_of w job) e)
+          (protection_at (job_of w job) e) (file_at s.files old)) moves
+          ∙ (λ i. files_moved s.files old (sym (place w) i) (sym protects i) (from.1 i))
+
+      row : (answer : Result (Unit {0}) CallError) → Says answer → (answer ≡ Err (Refused NoRoom) → ⊥) → (serial : ℕ)
+          → step (pack_of d) serial s (Calls n (Rename number e) moment) ≡ (replies.Done, state_of files' w moved_jobs)
+      row answer says fits serial =
+          subst (λ y. step (pack_of d) serial y (Calls n (Rename number e) moment)
+          ≡ (replies.Done, state_of files' w moved_jobs)) (sym before)
+          (row_done d s.files w jobs n job among.there number e moment timely channel is_open input side free inside
+          (moves_done d core t here sound honest (job_of w job) e input.ppn input.file to_ppn to (place w) moves
+          (changes honest t here w) (comes honest t here w) answer says.answers fits) serial
+          ∙ ap (λ fs. (replies.Done, state_of fs w moved_jobs)) files_are)
+
+    -- A crash.
+    crashes : (answer : Result (Unit {0}) CallError) → Says answer → (answer ≡ Err (Refused NoRoom) → ⊥)
+        → CallCrashes d d' core jobs n (Rename number e) moment
+    crashes answer says fits honest' s is =
+        let honest = says.same.was_honest honest' in
+        leaves_weaker d d' (StandsForEither d.size (without_serials s.files) _) _
+        (says.crash honest' (without_serials s.files) is.files)
+        (λ contents. ⊎_elim (λ was. inl was)
+        (λ put. inr (
+          0,
+          subst (Stands d.size contents)
+              (sym (shown_moved s.files old new protection (from honest s is).0 (from honest s is).1)
+              ∙ ap (λ (r : Reply × State). without_serials r.1.files) (sym (row honest s is answer says fits 0))) put,
+        )))
+
+    -- It is done.
+    module _ (core' : VolumeCore) (x : Unit {0}) (says : Says (Ok x)) (closed : Closes b core' [] (input.pin.key ∷ []))
+        (pending : core'.pending ≡ b.pending) where
+      abbrev job' : Job
+      job' = with_input_closed job number channel
+
+      made : MovesFile core b input.ppn input.file to_ppn to protection
+      made = moves_file d d' core b Same failed' input.ppn input.file to_ppn to protection x says
+
+      behind : IsBehind core b core' job job'
+      behind = input_behind job number channel is_open input side core b core' made.pending
+          (readers_moved core b input.ppn input.file to_ppn to protection made) closed pending
+
+      works : failed' ≡ false
+      works = says.still (λ e. cc e) (λ e. cc e)
+
+      done_answered : d'.honest → (old' : Service) → Serves d core false jobs old' → (new' : Service)
+          × Serves d' core' failed' moved_jobs new'
+          × Answers (pack_of d) old' (Calls n (Rename number e) moment) replies.Done new'
+      done_answered honest' = in_state d core false jobs
+          (λ old'. (new' : Service) × Serves d' core' failed' moved_jobs new'
+          × Answers (pack_of d) old' (Calls n (Rename number e) moment) replies.Done new') refl
+          (λ s is.
+          let honest = says.same.was_honest honest' in
+          let w' = with_protected is.under made.key protection in
+          let moved = files' honest s is in
+          let t' = state_of moved w' moved_jobs in
+          let moved_from = from honest s is in
+          let moved_home = home honest s is in
+          goes_on d' core' failed' moved_jobs (pack_of d) (Calls n (Rename number e) moment) replies.Done s t' works
+          is.sound (λ serial. row honest s is (Ok x) says (λ e. cc e) serial
+          ∙ ap (λ js. (replies.Done, record { files = moved; jobs = js }))
+          (sym (protected_jobs is.under made.key protection moved_jobs)))
+          (moved_state core b core' jobs n job job' among.there input.ppn input.file to_ppn to protection made behind
+          unclaimed vacant d d' s is sound.whole moved_from.0 moved_from.1 moved_home.0 moved_home.1
+          (absent honest s is)
+          (says.done honest' (without_serials s.files) is.files) (says.readers honest' (λ e. cc e))
+          (says.writers honest' (λ e. cc e)) closed.leaves))
+
+      pub done_serves : IsServing state disk disk' core core' failed' jobs moved_jobs n (Rename number e) moment
+          replies.Done
+      done_serves = record {
+        keyed = λ alive. moved_keyed core b core' jobs n job job' among.there input.ppn input.file to_ppn to
+            protection made behind among.keyed;
+        placed = λ alive. moved_placed core b core' jobs n job job' among.there input.ppn input.file to_ppn to
+            protection made behind unclaimed vacant placed;
+        reading = λ alive. moved_reading core b core' jobs n job job' among.there input.ppn input.file to_ppn to
+            protection made behind among.reading;
+        others = λ m other. slot-set_other jobs n m (Some job') other;
+        answered = λ honest' served. done_answered honest';
+        crash = crashes (Ok x) says (λ e. cc e);
+        idle = λ idle. absurd idle;
+        light = λ light. absurd light;
+        kept = λ kept. absurd kept;
+        memory = λ none. cc none;
+        refused = λ code refused. cc refused;
+        unserved = λ y at asked. absurd asked;
+        failed = quiet_failed false failed' replies.Done refl works (λ e. cc e, λ e. cc e);
+        blamed = λ honest' e. cc e;
+        counted = λ e. cc e;
+        served = λ device. says.served (λ e. cc e);
+        same = says.same;
+      }
+
+    -- The device failed.
+    broken : failed' ≡ true → (P : Type 0) → failed' ≡ false → P
+    broken is P alive = absurd (contrary alive is)
+
+    pub device_serves : Says (Err Device)
+        → IsServing state disk disk' core b failed' jobs (slice_set jobs n (Some job)) n (Rename number e) moment
+        replies.Device
+    device_serves says =
+        let is = says.device refl in
+        record {
+          keyed = broken is _;
+          placed = broken is _;
+          reading = broken is _;
+          others = λ m other. slot-set_other jobs n m (Some job) other;
+          answered = λ honest' served. in_state d core false jobs
+              (λ old'. (new' : Service) × Serves d' b failed' (slice_set jobs n (Some job)) new'
+              × Answers (pack_of d) old' (Calls n (Rename number e) moment) replies.Device new') refl
+              (λ s at. (
+                Broken,
+                is,
+                (
+                  refl,
+                  rename_undecided d core jobs s at n job among.there number e moment timely channel is_open input
+                      side free
+                      inside,
+                  refl,
+                ),
+              ));
+          crash = crashes (Err Device) says (λ e. cc e);
+          idle = λ idle. absurd idle;
+          light = λ light. absurd light;
+          kept = λ kept. absurd kept;
+          memory = λ none. cc none;
+          refused = λ code refused. cc refused;
+          unserved = λ y at asked. absurd asked;
+          failed = (λ t. inl refl, λ e. is);
+          blamed = λ honest' e. cc e;
+          counted = λ e. says.counted refl;
+          served = λ device. absurd (device refl);
+          same = says.same;
+        }
+
+    -- Its prime block was damaged, which no honest disk shows.
+    pub failed_serves : Says (Err Failed)
+        → IsServing state disk disk' core b failed' jobs (slice_set jobs n (Some job)) n (Rename number e) moment
+        replies.Failed
+    failed_serves says =
+        let is = says.ended refl in
+        record {
+          keyed = broken is _;
+          placed = broken is _;
+          reading = broken is _;
+          others = λ m other. slot-set_other jobs n m (Some job) other;
+          answered = λ honest' served. absurd (says.given_up refl honest');
+          crash = λ honest'. absurd (says.given_up refl honest');
+          idle = λ idle. absurd idle;
+          light = λ light. absurd light;
+          kept = λ kept. absurd kept;
+          memory = λ none. cc none;
+          refused = λ code refused. cc refused;
+          unserved = λ y at asked. absurd asked;
+          failed = (λ t. inr refl, λ e. is);
+          blamed = λ honest' e. says.given_up refl honest';
+          counted = λ e. cc e;
+          served = λ device. says.served (λ e. cc e);
+          same = says.same;
+        }
+
+  pub move_serves : (answer : Result (Unit {0}) CallError) → Says answer → (core' : VolumeCore)
+      → CloseAfter answer b core' input
+      → ServesAlways state disk disk' core core' failed' job (changed_job answer job number e channel) (Rename number e)
+      (changed_reply answer)
+  move_serves (Ok x) says core' closes = λ moment timely jobs n among.
+      done_serves moment timely jobs n among core' x says closes.0 closes.1
+  move_serves (Err (Refused code)) says core' closes =
+      let same = says.refused code refl in
+      rename_serves state disk disk disk' core core core' false failed' job _ _ (Rename number e) _ _ (sym same.0)
+      (sym same.1 ∙ sym closes) (sym (says.still (λ e. cc e) (λ e. cc e))) refl refl
+      (λ moment timely jobs n among. refusing_serves state only_now disk core false refl job number e channel input
+      is_open side free inside sound placed code
+      (λ honest s at w. moves_refused d core s at sound honest (job_of w job) e input.ppn input.file to_ppn to (place w)
+      moves (changes honest s at w) (comes honest s at w) (Err (Refused code)) says.answers code refl)
+      moment timely jobs n among (with_code job e (number_of code)) (replies.Refused (number_of code)) refl refl)
+  move_serves (Err NoMemory) says core' closes =
+      let same = says.memory refl in
+      rename_serves state disk disk disk' core core core' false failed' job _ _ (Rename number e) _ _ (sym same.0)
+      (sym same.1 ∙ sym closes) (sym (says.still (λ e. cc e) (λ e. cc e))) refl refl
+      (wanting_serves state only_now disk core job number e channel is_open input side free inside sound placed)
+  move_serves (Err Device) says core' closes = λ moment timely jobs n among.
+      subst (λ (c : VolumeCore). IsServing state disk disk' core c failed' jobs (slice_set jobs n (Some job)) n
+      (Rename number e) moment replies.Device) (sym closes) (device_serves moment timely jobs n among says)
+  move_serves (Err Failed) says core' closes = λ moment timely jobs n among.
+      subst (λ (c : VolumeCore). IsServing state disk disk' core c failed' jobs (slice_set jobs n (Some job)) n
+      (Rename number e) moment replies.Failed) (sym closes) (failed_serves moment timely jobs n among says)

@@ -1,0 +1,95 @@
+-- A RENAME of what a channel reads that finds no memory, and when its answer is decided.
+use Rattle.std.proofs.Common.{◌≡◌, ◌≤◌, ℕ, Bool, false, List, Option, Some, None, refl, sym, ap, subst, ◌∙◌, inr}
+use Rattle.std.proofs.Common.{slice_set}
+use Rattle.words36.specs.declared.moment.Moment.{Moment}
+use Rattle.blockdisk.specs.Disk.{Contents, DiskState, MayLeave}
+use Rattle.meaning.specs.Cores.{lies_outside}
+use Rattle.meaning.specs.Jobs.{State, slot}
+use Rattle.meaning.specs.Runs.{Service, Serving, Answers, is_plain}
+use Rattle.meaning.specs.Stands.{place_of}
+use Rattle.meaning.specs.Step.{step}
+use Rattle.meaning.specs.declared.call.Call.{Call}
+use Rattle.meaning.specs.declared.call.Call.TheVariants.{Rename}
+use Rattle.meaning.specs.declared.call.Event.TheVariants.{Call as Calls}
+use Rattle.meaning.specs.declared.call.Reply.{Reply}
+use Rattle.meaning.specs.declared.call.Reply.TheVariants as replies
+use Rattle.meaning.proofs.SlotLaws.{set-slot}
+use Rattle.volume.specs.Live.{VolumeCore}
+use Rattle.volume.specs.Rest.{IsSound}
+use Rattle.monitor.specs.Promises.{IsServing, ServesAlways}
+use Rattle.monitor.specs.Serving.{pack_of, ArePlaced, IsState, Serves}
+use Rattle.monitor.specs.Sides.{job_of, state_of}
+use Rattle.monitor.specs.declared.channel.Channel.{Channel}
+use Rattle.monitor.specs.declared.input.Input.{Input}
+use Rattle.monitor.specs.declared.job.Job.{Job}
+use Rattle.monitor.proofs.Answering.{in_state, state_is}
+use Rattle.monitor.proofs.Calling.{keeps_same, reads_same}
+use Rattle.monitor.proofs.MoveReplies.{rename_late}
+use Rattle.monitor.proofs.Promised.{quiet_serves}
+use Rattle.monitor.proofs.RenameRows.{row_answers}
+use Rattle.monitor.proofs.Serving.{alone_keyed, alone_reading}
+
+-- it is decided only after memory and the disk are needed
+pub rename_undecided : (d : DiskState) (c : VolumeCore) (jobs : List (Option Job)) (s : State)
+    (state : IsState d c jobs s)
+    (n : ℕ) (job : Job) → slot jobs n ≡ Some job → (number e : ℕ) (moment : Moment) → moment.date ≤ 4095
+    → (channel : Channel) → slot job.channels number ≡ Some channel → (input : Input) → channel.input ≡ Some input
+    → channel.output ≡ None → lies_outside job.core e 4 ≡ false
+    → is_plain ((step (pack_of d) 0 s (Calls n (Rename number e) moment)).0) ≡ false
+rename_undecided d c jobs s state n job there number e moment timely channel is_open input side free inside =
+    subst (λ y. is_plain ((step (pack_of d) 0 y (Calls n (Rename number e) moment)).0) ≡ false)
+    (sym (state_is s state.under jobs state.jobs_are))
+    (ap is_plain (row_answers d s.files state.under jobs n job there number e moment timely channel is_open input side
+    free inside)
+    ∙ rename_late (pack_of d) (state_of s.files state.under jobs) (job_of state.under job) e
+    (place_of input.ppn input.file))
+
+-- the same where disk, core and job are these, and this is answered
+pub rename_serves : {D : Type 0} (state : D → DiskState) (disk mid new : D) (core between core' : VolumeCore)
+    (failed failed' : Bool) (job job' left : Job) (call : Call) (reply answer : Reply) → mid ≡ new → between ≡ core'
+    → failed ≡ failed' → left ≡ job' → answer ≡ reply
+    → ServesAlways state disk mid core between failed job left call answer
+    → ServesAlways state disk new core core' failed' job job' call reply
+rename_serves state disk mid new core between core' failed failed' job job' left call reply answer same kept alive
+    set is serves moment timely jobs n among =
+    subst (λ r. IsServing state disk new core core' failed' jobs (slice_set jobs n (Some job')) n call moment r) is
+    (subst (λ j. IsServing state disk new core core' failed' jobs (slice_set jobs n (Some j)) n call moment answer) set
+    (subst (λ b. IsServing state disk new core core' b jobs (slice_set jobs n (Some left)) n call moment answer) alive
+    (subst (λ x. IsServing state disk new core x failed jobs (slice_set jobs n (Some left)) n call moment answer) kept
+    (subst (λ y. IsServing state disk y core between failed jobs (slice_set jobs n (Some left)) n call moment answer)
+    same (serves moment timely jobs n among)))))
+
+module _ {D : Type 0} (state : D → DiskState) (only_now : (disk : D) (contents : Contents) → (state disk).honest
+    → (state disk).left_since (state disk).clock contents → MayLeave (state disk) contents) (disk : D)
+    (core : VolumeCore) (job : Job) (number e : ℕ) (channel : Channel)
+    (is_open : slot job.channels number ≡ Some channel)
+    (input : Input) (side : channel.input ≡ Some input) (free : channel.output ≡ None)
+    (inside : lies_outside job.core e 4 ≡ false) (sound : IsSound (state disk) core false)
+    (placed : ArePlaced core) where
+  abbrev d : DiskState
+  d = state disk
+
+  pub wanting_serves : ServesAlways state disk disk core core false job job (Rename number e) replies.NoMemory
+  wanting_serves moment timely jobs n among =
+      let call = Rename number e in
+      let set = slice_set jobs n (Some job) in
+      let keyed = alone_keyed d core false jobs n call moment refl timely set job job among.keyed among.there refl
+      (keeps_same core.pending job) in
+      let reading = alone_reading d core false jobs n call moment refl timely set job job among.reading among.there refl
+      (reads_same core.live job) in
+      quiet_serves state only_now disk disk core core false false job job call moment replies.NoMemory refl (refl, refl)
+      (λ x. cc x, λ x. cc x) placed (λ light. absurd light) (λ kept. absurd kept) (λ none. (refl, refl))
+      (λ k same. cc same) (λ asked. absurd asked) jobs n among keyed reading
+      (λ honest served. in_state d core false jobs (λ old. (new : Service) × Serves d core false set new
+      × Answers (pack_of d) old (Calls n call moment) replies.NoMemory new) refl
+      (λ s is. (
+        Serving s,
+        (refl, subst (λ js. IsState d core js s) (sym (set-slot jobs n job among.there)) is),
+        inr (
+          refl,
+          refl,
+          rename_undecided d core jobs s is n job among.there number e moment timely channel is_open input side free
+              inside,
+          refl,
+        ),
+      )))

@@ -1,0 +1,61 @@
+use Rattle.std.proofs.Common.{◌≡◌, false, Some, refl, subst, ap, slice_set}
+use Rattle.meaning.proofs.SlotLaws.{slot-set_other}
+use Rattle.volume.specs.Rest.{IsSound}
+use Rattle.monitor.proofs.DeleteDirAnswers.{never_failed, takes_none, refused_so, fails_by, idle_same, still_placed}
+use Rattle.monitor.proofs.DeleteDirAnswers.{crashes_by, delete_dir_answered}
+use Rattle.monitor.proofs.Dropped.{keeps_keyed}
+use Rattle.monitor.proofs.ReadingJobs.{keeps_reading}
+use Rattle.monitor.proofs.deletedir.serve_delete_dir.Goals as goal
+
+pub returns : goal.returns
+returns g c = record {
+  serving = λ moment timely jobs n among.
+      let state = g.D.Disk.state in
+      let old = c.args.volume.now in
+      let new = c.delete_dir.new.volume in
+      let d = state old.disk in
+      let job = c.args.job.now in
+      let job' = c.delete_dir.new.job in
+      let jobs' = slice_set jobs n (Some job') in
+      let is = c.delete_dir.ensures in
+      let reply = c.delete_dir.result in
+      let sound = subst (IsSound d old.core) c.requires.ready.alive c.requires.ready.sound in
+      let keyed = keeps_keyed old.core.pending new.core.pending jobs n job job' among.keyed among.there is.keeps in
+      let reading = keeps_reading old.core.live new.core.live jobs n job job' among.reading among.there is.reads in
+      let fails = fails_by d old.core (new.disk ≡ old.disk) (new.core ≡ old.core) job job' c.args.address reply
+      is.outcome new.failed is.failed in
+      record {
+        keyed = λ serves. keyed;
+        placed = λ serves. still_placed state old.disk new.disk old.core new.core jobs jobs' n job job' c.args.address
+            moment among.there refl timely sound reply is.outcome is.pending is.directories c.requires.ready.placed;
+        reading = λ serves. reading;
+        others = λ m other. slot-set_other jobs n m (Some job') other;
+        answered = λ h served.
+            delete_dir_answered state old.disk new.disk old.core new.core jobs jobs' n job job' c.args.address moment
+            among.there refl timely sound false new.failed refl keyed reading (is.same.was_honest h) is.live is.pending
+            is.primes (is.readers h) (is.writers h) reply is.outcome is.failed (is.done h);
+        crash = crashes_by state old.disk new.disk old.core new.core jobs jobs' n job job' c.args.address moment
+            among.there refl timely sound is.same.was_honest
+            (λ h x left. g.met.D.Disk.only_now old.disk x h left) is.crash reply is.outcome;
+        idle = idle_same d old.core (new.disk ≡ old.disk) (new.core ≡ old.core) job job' c.args.address reply
+            is.outcome;
+        light = λ light. absurd light;
+        kept = λ kept. absurd kept;
+        memory = λ none. absurd (takes_none d old.core (new.disk ≡ old.disk) (new.core ≡ old.core) job job'
+            c.args.address reply is.outcome none);
+        refused = λ code refused. record {
+          job = job;
+          there = among.there;
+          jobs_are = ap (λ j. slice_set jobs n (Some j))
+              (refused_so d old.core (new.disk ≡ old.disk) (new.core ≡ old.core) job job' c.args.address reply
+              is.outcome code refused);
+        };
+        unserved = λ x at asked. absurd asked;
+        failed = fails;
+        blamed = λ h. never_failed d old.core (new.disk ≡ old.disk) (new.core ≡ old.core) job job' c.args.address
+            reply is.outcome;
+        counted = is.counted;
+        served = is.served;
+        same = is.same;
+      };
+}
