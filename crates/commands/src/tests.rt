@@ -49,9 +49,6 @@ fn lines_and_what_they_say(rt: HostRuntime) -> Result<(), Fail> {
         (b"DIRECTORY [10]\n", wrong),
         (b"DIRECTORY\n", stranger),
         (b"DIRECTORY [10,20]\n", stranger),
-        (b"RENAME BAR.TXT=FOO.TXT\n", wrong),
-        (b"DELETE FOO.TXT\n", wrong),
-        (b"PROTECT FOO.TXT<055>\n", wrong),
     ] {
         let got = printed(&rt, input)?;
         assert!(rt; got.as_slice() == text, "of {input:?}: {got:?}");
@@ -85,6 +82,17 @@ fn names_of_files(rt: HostRuntime) -> Result<(), Fail> {
         (b"COPY BAR=FOO=BAZ\n", wrong),
         (b"COPY =FOO\n", wrong),
         (b"COPY BAR\n", wrong),
+        (b"RENAME BAR.TXT=FOO.TXT\n", stranger),
+        (b"rename b[11,5]=f", stranger),
+        (b"RENAME FOO.TXT\n", wrong),
+        (b"RENAME BAR=FOO<055>\n", wrong),
+        (b"RENAME BAR = FOO\n", wrong),
+        (b"REN BAR=FOO\n", wrong),
+        (b"DELETE FOO.TXT\n", stranger),
+        (b"delete  7[10,20]\r\n", stranger),
+        (b"DELETE\n", wrong),
+        (b"DELETE FOO BAR\n", wrong),
+        (b"DELETE [10,20]\n", wrong),
     ] {
         let got = printed(&rt, input)?;
         assert!(rt; got.as_slice() == text, "of {input:?}: {got:?}");
@@ -237,6 +245,32 @@ fn tallies(rt: HostRuntime) -> Result<(), Fail> {
                 }
         );
         assert_eq!(rt; fake.resets, 1);
+    }
+    Ok(())
+}
+
+/// How PROTECT is spelled.
+#[test]
+fn protections_to_give(rt: HostRuntime) -> Result<(), Fail> {
+    let wrong = b"?Command error\n".as_slice();
+    let stranger = b"?Not logged in\n".as_slice();
+    for (input, text) in [
+        (b"PROTECT FOO.TXT<055>\n".as_slice(), stranger),
+        (b"protect  foo[10,20]<7>\r\n", stranger),
+        (b"PROTECT FOO<777>", stranger),
+        (b"PROTECT FOO.TXT\n", wrong),
+        (b"PROTECT FOO<>\n", wrong),
+        (b"PROTECT FOO<0055>\n", wrong),
+        (b"PROTECT FOO<8>\n", wrong),
+        (b"PROTECT FOO <055>\n", wrong),
+        (b"PROTECT FOO<055\n", wrong),
+        (b"PROTECT FOO<055>>\n", wrong),
+        (b"PROTECT FOO<055>[10,20]\n", wrong),
+        (b"PROTECT <055>\n", wrong),
+        (b"PROTECT BAR=FOO<055>\n", wrong),
+    ] {
+        let got = printed(&rt, input)?;
+        assert!(rt; got.as_slice() == text, "of {input:?}: {got:?}");
     }
     Ok(())
 }
