@@ -22,7 +22,7 @@ use Rattle.meaning.specs.Stands.{place_of}
 use Rattle.meaning.specs.declared.call.Reply.{Reply}
 use Rattle.meaning.specs.declared.call.Reply.TheVariants as replies
 use Rattle.retrieval.specs.Modes.{mode_number}
-use Rattle.retrieval.specs.declared.mode.Mode.TheVariants.{Dump}
+use Rattle.retrieval.specs.declared.mode.Mode.{Mode}
 use Rattle.retrieval.specs.declared.prime.Prime.{Prime}
 use Rattle.volume.specs.Claims.{claims}
 use Rattle.volume.specs.Live.{VolumeCore, creates}
@@ -106,11 +106,11 @@ IsAnswer (Err errors.NoMemory) reply = is_plain reply ≡ false
 IsAnswer (Err errors.Failed) reply = ⊥
 
 -- The prime block is that of the place which the words at an address name.
-pub record IsPrimeAt (job : Job) (address : ℕ) (moment : Moment) (prime : Prime) : Type 0 where
+pub record IsPrimeAt (job : Job) (mode : Mode) (address : ℕ) (moment : Moment) (prime : Prime) : Type 0 where
   pub ppn : prime.ppn ≡ own_if_zero (slice_index job.core (address + 3)) job.ppn
   pub name : prime.file.name ≡ slice_index job.core address
   pub ext : prime.file.ext ≡ left (slice_index job.core (address + 1))
-  pub mode : prime.mode ≡ Dump
+  pub mode_is : prime.mode ≡ mode
   pub moment_is : prime.moment ≡ moment
 
 -- what the machine answers to an ENTER that may still begin, on a channel without sides

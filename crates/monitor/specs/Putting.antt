@@ -1,17 +1,23 @@
--- OUT in dump mode: the words that it finds in core, and what it does to the version that is written.
-use Rattle.std.specs.Prelude.{◌≡◌, ◌⊎◌, ℕ, ◌+◌, ◌-◌, ◌*◌, ◌<◌, true, List, length, Option, None, Some, option_map, slice_set}
+-- OUT: the words that it finds in core, and what it does to the version that is written.
+use Rattle.std.specs.Prelude.{◌≡◌, ◌⊎◌, ℕ, ◌+◌, ◌-◌, ◌*◌, ◌<◌, true, false, if◌then◌else◌, List, length, Option, None, Some}
+use Rattle.std.specs.Prelude.{option_map, slice_set}
 use Rattle.blockdisk.specs.Disk.{DiskState}
 use Rattle.meaning.specs.CommandLists.{dump_list}
-use Rattle.meaning.specs.Cores.{joined}
+use Rattle.meaning.specs.Cores.{after_writes, joined}
 use Rattle.meaning.specs.Costs.{blocks_of, version_cost}
+use Rattle.meaning.specs.Inputs.{lacks_header}
 use Rattle.meaning.specs.Jobs.{slot, cleared, block_too_large}
+use Rattle.meaning.specs.Outputs as outputs
 use Rattle.meaning.specs.Outputs.{is_before_end}
 use Rattle.meaning.specs.Retrieval.{HasBody, most_blocks}
+use Rattle.meaning.specs.Rings.{is_buffered, byte_size, out_ready, out_writes, ring_words}
 use Rattle.meaning.specs.Splices.{splice, length_after}
+use Rattle.meaning.specs.declared.area.Area.{Area}
 use Rattle.meaning.specs.declared.call.Reply.{Reply}
 use Rattle.meaning.specs.declared.call.Reply.TheVariants.{Done, Value, Refused, Stopped, NoChannel, AddressCheck, NoJob}
 use Rattle.meaning.specs.declared.call.Reply.TheVariants.{NoMemory, Device, Failed, DateRange}
 use Rattle.alloctab.specs.TableState.{space}
+use Rattle.retrieval.specs.Modes.{mode_number}
 use Rattle.retrieval.specs.Versions.{VersionState}
 use Rattle.volume.specs.Live.{VolumeCore, pending_at}
 use Rattle.volume.specs.declared.pending.PendingVersion.{PendingVersion}
@@ -20,9 +26,23 @@ use Rattle.monitor.specs.declared.channel.Channel.{Channel}
 use Rattle.monitor.specs.declared.output.Output.{Output}
 use Rattle.monitor.specs.declared.job.Job.{Job}
 
--- the words that the command list at an address names; None is AddressCheck
-abbrev pub words_at : List ℕ → ℕ → Option (List ℕ)
-words_at core a = option_map (joined core) (dump_list core a)
+-- What it finds: the words that the command list at an address names, or those of a ring's current buffer; and the core
+-- that it leaves. None is AddressCheck.
+
+abbrev pub words_listed : List ℕ → List Area → outputs.Outgoing
+words_listed core areas = record { words = joined core areas; core = core }
+
+abbrev pub buffer_put : Channel → List ℕ → outputs.Outgoing
+buffer_put c ready = record {
+  words = ring_words ready c.output_header;
+  core = after_writes ready (out_writes ready c.output_header (byte_size (mode_number c.mode)));
+}
+
+abbrev pub outgoing_at : List ℕ → Channel → ℕ → Option outputs.Outgoing
+outgoing_at core c a =
+    if is_buffered (mode_number c.mode)
+    then option_map (buffer_put c) (out_ready core c.output_header (byte_size (mode_number c.mode)))
+    else option_map (words_listed core) (dump_list core a)
 
 -- the channel once so many words are put
 abbrev pub moved : Channel → Output → ℕ → Channel
@@ -36,14 +56,20 @@ FindsNone size c p o count =
     ⊎ (space size < c.known.table.booked + (version_cost (length_after p.version.words o.next count)
     - version_cost p.version.words)) ⊎ (is_before_end (kind_of o.kind) o.next ≡ true))
 
--- An open channel with an output side, and the words that an OUT finds for it.
-pub record Outgoing (job : Job) (number a : ℕ) : Type 0 where
+-- An open channel with an output side, and with a ring's header where it needs one.
+pub record IsAtOutput (job : Job) (number : ℕ) : Type 0 where
   pub channel : Channel
   pub there : slot job.channels number ≡ Some channel
   pub output : Output
   pub side : channel.output ≡ Some output
+  pub has : lacks_header (mode_number channel.mode) channel.output_header ≡ false
+
+-- The same, with the words that an OUT finds for it, and the core that it leaves.
+pub record Outgoing (job : Job) (number a : ℕ) : Type 0 where
+  pub at : IsAtOutput job number
   pub words : List ℕ
-  pub found : words_at job.core a ≡ Some words
+  pub core : List ℕ
+  pub found : outgoing_at job.core at.channel a ≡ Some (record { words = words; core = core })
 
 -- The words are put at the side's next block of its version.
 pub record Puts (d d' : DiskState) (c c' : VolumeCore) (o : Output) (words : List ℕ) (p : PendingVersion) : Type 0 where
@@ -56,11 +82,8 @@ pub record Puts (d d' : DiskState) (c c' : VolumeCore) (o : Output) (words : Lis
 
 -- The same, where the words themselves were not gathered.
 pub record HasOutgoing (job : Job) (number a : ℕ) : Type 0 where
-  pub channel : Channel
-  pub there : slot job.channels number ≡ Some channel
-  pub output : Output
-  pub side : channel.output ≡ Some output
-  pub listed : dump_list job.core a ≡ None → ⊥
+  pub at : IsAtOutput job number
+  pub found : outgoing_at job.core at.channel a ≡ None → ⊥
 
 -- a version is not that of an output side
 abbrev pub IsOtherSide : Option Output → ℕ → Type 0
@@ -75,20 +98,23 @@ IsOther (Some c) key = IsOtherSide c.output key
 -- What an OUT does to its job and to the version, by its answer; `same` says that disk and volume are as they were.
 abbrev pub IsOut : DiskState → DiskState → VolumeCore → VolumeCore → Type 0 → Job → Job → ℕ → ℕ → Reply → Type 0
 IsOut d d' c c' same job job' number a Done =
-    (out : Outgoing job number a) × (job'
-    ≡ record job { channels = slice_set job.channels number (Some (moved out.channel out.output (length out.words))) })
-    × ((p : PendingVersion) → pending_at c.pending out.output.pending.key ≡ Some p
-    → Puts d d' c c' out.output out.words p)
+    (out : Outgoing job number a) × (job' ≡ record job {
+      core = out.core;
+      channels = slice_set job.channels number (Some (moved out.at.channel out.at.output (length out.words)));
+    })
+    × ((p : PendingVersion) → pending_at c.pending out.at.output.pending.key ≡ Some p
+    → Puts d d' c c' out.at.output out.words p)
 IsOut d d' c c' same job job' number a (Stopped status) =
-    (out : Outgoing job number a) × (status ≡ cleared out.channel.status + block_too_large)
-    × (job' ≡ record job { channels = slice_set job.channels number (Some (record out.channel { status = status })) })
-    × ((p : PendingVersion) → pending_at c.pending out.output.pending.key ≡ Some p
-    → FindsNone d.size c p out.output (length out.words)) × same
+    (out : Outgoing job number a) × (status ≡ cleared out.at.channel.status + block_too_large)
+    × (job' ≡ record job { channels = slice_set job.channels number (Some (record out.at.channel { status = status })) })
+    × ((p : PendingVersion) → pending_at c.pending out.at.output.pending.key ≡ Some p
+    → FindsNone d.size c p out.at.output (length out.words)) × same
 IsOut d d' c c' same job job' number a (Refused code) = (code ≡ 5) × (job' ≡ job) × same × (c : Channel)
-    × (slot job.channels number ≡ Some c) × (c.output ≡ None)
+    × (slot job.channels number ≡ Some c)
+    × ((c.output ≡ None) ⊎ (lacks_header (mode_number c.mode) c.output_header ≡ true))
 IsOut d d' c c' same job job' number a NoChannel = (job' ≡ job) × same × (slot job.channels number ≡ None)
-IsOut d d' c c' same job job' number a AddressCheck = (job' ≡ job) × same × (dump_list job.core a ≡ None)
-    × (c : Channel) × (o : Output) × (slot job.channels number ≡ Some c) × (c.output ≡ Some o)
+IsOut d d' c c' same job job' number a AddressCheck = (job' ≡ job) × same × (at : IsAtOutput job number)
+    × (outgoing_at job.core at.channel a ≡ None)
 IsOut d d' c c' same job job' number a NoMemory = (job' ≡ job) × same × HasOutgoing job number a
 IsOut d d' c c' same job job' number a Device = (job' ≡ job) × HasOutgoing job number a
 IsOut d d' c c' same job job' number a Failed = d'.honest → ⊥

@@ -1,16 +1,20 @@
--- IN in dump mode: what it does to a channel, and to the core that its words are moved into.
-use Rattle.std.specs.Prelude.{◌≡◌, ℕ, ◌+◌, List, [], length, min, Option, None, Some, slice_set}
+-- IN: what it does to a channel, and to the core that its words are moved into.
+use Rattle.std.specs.Prelude.{◌≡◌, ◌⊎◌, ℕ, ◌+◌, true, false, if◌then◌else◌, List, [], length, min, Option, None, Some}
+use Rattle.std.specs.Prelude.{option_map, take, slice_set}
 use Rattle.blockdisk.specs.Disk.{DiskState}
 use Rattle.meaning.specs.CommandLists.{dump_list, word_count}
 use Rattle.meaning.specs.Cores.{after_writes, dealt}
 use Rattle.meaning.specs.Costs.{blocks_of}
+use Rattle.meaning.specs.Inputs.{lacks_header}
 use Rattle.meaning.specs.Jobs.{slot, cleared, end_of_file}
 use Rattle.meaning.specs.Retrieval.{HasBody}
+use Rattle.meaning.specs.Rings.{is_buffered, byte_size, data_words, in_ready, in_writes}
 use Rattle.meaning.specs.Splices.{words_from}
 use Rattle.meaning.specs.declared.area.Area.{Area}
 use Rattle.meaning.specs.declared.call.Reply.{Reply}
 use Rattle.meaning.specs.declared.call.Reply.TheVariants.{Done, Value, Refused, Stopped, NoChannel, AddressCheck, NoJob}
 use Rattle.meaning.specs.declared.call.Reply.TheVariants.{NoMemory, Device, Failed, DateRange}
+use Rattle.retrieval.specs.Modes.{mode_number}
 use Rattle.retrieval.specs.Versions.{VersionState}
 use Rattle.volume.specs.Live.{VolumeCore}
 use Rattle.volume.specs.Pins.{version_under}
@@ -25,40 +29,69 @@ use Rattle.monitor.specs.declared.job.Job.{Job}
 abbrev pub read_on : Channel → Input → ℕ → Channel
 read_on c i count = record c { status = cleared c.status; input = Some (record i { next = i.next + blocks_of count }) }
 
--- An open channel with an input side.
+-- What an IN finds in core: how many words it asks for, and the core once the words of a file from some place on, of
+-- which it takes as many as it asks for, are moved in.
+pub record Asked : Type 0 where
+  pub count : ℕ
+  pub filled : List ℕ → List ℕ
+
+-- into areas of core
+abbrev pub areas_asked : List ℕ → List Area → Asked
+areas_asked core areas = record {
+  count = word_count areas;
+  filled = λ words. after_writes core (dealt areas words);
+}
+
+-- into the next buffer of a ring, in the core in which that is ready for it
+abbrev pub buffer_asked : Channel → List ℕ → Asked
+buffer_asked c ready = record {
+  count = data_words;
+  filled = λ words. after_writes ready
+      (in_writes ready c.input_header (byte_size (mode_number c.mode)) (cleared c.status) (take data_words words));
+}
+
+-- By the channel's mode. None is AddressCheck.
+abbrev pub asked_at : List ℕ → Channel → ℕ → Option Asked
+asked_at core c a =
+    if is_buffered (mode_number c.mode)
+    then option_map (buffer_asked c) (in_ready core c.input_header (byte_size (mode_number c.mode)))
+    else option_map (areas_asked core) (dump_list core a)
+
+-- An open channel with an input side, and with a ring's header where it needs one.
 pub record IsAtInput (job : Job) (number : ℕ) : Type 0 where
   pub channel : Channel
   pub there : slot job.channels number ≡ Some channel
   pub input : Input
   pub side : channel.input ≡ Some input
+  pub has : lacks_header (mode_number channel.mode) channel.input_header ≡ false
 
--- The same, with the areas of core that an IN finds for it.
+-- The same, with what an IN finds for it in core.
 pub record Ingoing (job : Job) (number a : ℕ) : Type 0 where
   pub at : IsAtInput job number
-  pub areas : List Area
-  pub listed : dump_list job.core a ≡ Some areas
+  pub asked : Asked
+  pub found : asked_at job.core at.channel a ≡ Some asked
 
 -- the version that a channel reads: while its output side is open what that writes, else the one that is held
 abbrev pub handle_read : Option Output → Input → VersionHandle
 handle_read None i = Pinned i.pin
 handle_read (Some o) i = Pending o.pending
 
--- So many words of a version are moved from a block on into these areas of a core, which is then another one.
-pub record Moves (d d' : DiskState) (c : VolumeCore) (core core' : List ℕ) (handle : VersionHandle) (block : ℕ)
-    (areas : List Area) (count : ℕ) : Type 0 where
-  -- a list that names words moves some
-  pub some : count ≡ 0 → areas ≡ []
+-- So many words of a version are moved from a block on into a core, which is this one then.
+pub record Moves (d d' : DiskState) (c : VolumeCore) (core' : List ℕ) (handle : VersionHandle) (block : ℕ)
+    (asked : Asked) (count : ℕ) : Type 0 where
+  -- who asks for words gets some
+  pub some : count ≡ 0 → asked.count ≡ 0
   pub many : (v : VersionState) → version_under c handle ≡ Some v → (body : List ℕ) → length body ≡ v.words
-      → count ≡ min (word_count areas) (length (words_from body block))
+      → count ≡ min asked.count (length (words_from body block))
   pub words : d'.honest → (v : VersionState) → version_under c handle ≡ Some v → (body : List ℕ)
       → length body ≡ v.words → HasBody d.contents v.blocks body
-      → core' ≡ after_writes core (dealt areas (words_from body block))
+      → core' ≡ asked.filled (words_from body block)
 
--- The version's body ends before the block, and the areas have words.
-abbrev pub EndsBefore : VolumeCore → VersionHandle → ℕ → List Area → Type 0
-EndsBefore c handle block areas =
+-- The version's body ends before the block, and words are asked for.
+abbrev pub EndsBefore : VolumeCore → VersionHandle → ℕ → ℕ → Type 0
+EndsBefore c handle block count =
     (v : VersionState) → version_under c handle ≡ Some v → (body : List ℕ) → length body ≡ v.words
-    → (areas ≡ [] → ⊥) × (words_from body block ≡ [])
+    → (count ≡ 0 → ⊥) × (words_from body block ≡ [])
 
 -- What an IN does to its job, by its answer, and by the disk before it and after it.
 abbrev pub IsIn : DiskState → DiskState → VolumeCore → Job → Job → ℕ → ℕ → Reply → Type 0
@@ -68,18 +101,20 @@ IsIn d d' c job job' number a Done =
       core = core;
       channels = slice_set job.channels number (Some (read_on read.at.channel read.at.input count));
     })
-    × Moves d d' c job.core core (handle_read read.at.channel.output read.at.input) read.at.input.next read.areas count
+    × Moves d d' c core (handle_read read.at.channel.output read.at.input) read.at.input.next read.asked count
 IsIn d d' c job job' number a (Stopped status) =
     (read : Ingoing job number a) × (status ≡ cleared read.at.channel.status + end_of_file)
     × (job' ≡ record job {
       channels = slice_set job.channels number
           (Some (record read.at.channel { status = status }));
     })
-    × EndsBefore c (handle_read read.at.channel.output read.at.input) read.at.input.next read.areas
+    × EndsBefore c (handle_read read.at.channel.output read.at.input) read.at.input.next read.asked.count
 IsIn d d' c job job' number a (Refused code) = (job' ≡ job) × (code ≡ 5) × (c : Channel)
-    × (slot job.channels number ≡ Some c) × (c.input ≡ None)
+    × (slot job.channels number ≡ Some c)
+    × ((c.input ≡ None) ⊎ (lacks_header (mode_number c.mode) c.input_header ≡ true))
 IsIn d d' c job job' number a NoChannel = (job' ≡ job) × (slot job.channels number ≡ None)
-IsIn d d' c job job' number a AddressCheck = (job' ≡ job) × IsAtInput job number × (dump_list job.core a ≡ None)
+IsIn d d' c job job' number a AddressCheck = (job' ≡ job) × (at : IsAtInput job number)
+    × (asked_at job.core at.channel a ≡ None)
 IsIn d d' c job job' number a NoMemory = (job' ≡ job) × Ingoing job number a
 IsIn d d' c job job' number a Device = (job' ≡ job) × Ingoing job number a
 IsIn d d' c job job' number a Failed = (job' ≡ job) × (d'.honest → ⊥)

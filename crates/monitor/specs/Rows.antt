@@ -1,17 +1,21 @@
 -- What a call does to the job that makes it, as the machine's row has it.
-use Rattle.std.specs.Prelude.{◌≡◌, ◌⊎◌, ℕ, ◌+◌, ◌==◌, ◌||◌, ◌&&◌, not, is_some, false, Bool}
+use Rattle.std.specs.Prelude.{◌≡◌, ◌⊎◌, ℕ, ◌+◌, ◌==◌, ◌||◌, ◌&&◌, not, is_some, false, Bool, if◌then◌else◌, ◌++◌}
 use Rattle.std.specs.Prelude.{List, Option, None, Some}
 use Rattle.std.specs.List.{AllByRecursion}
 use Rattle.words36.specs.declared.moment.Moment.{Moment}
 use Rattle.meaning.specs.Closing.{keeps_output, discards}
+use Rattle.meaning.specs.Cores.{after_writes}
 use Rattle.meaning.specs.Jobs as machine
 use Rattle.meaning.specs.Jobs.{State, job_at, with_job, improper_mode}
 use Rattle.meaning.specs.Maps.{times}
-use Rattle.meaning.specs.Opening.{disk, mode_at, device_at, output_header_at, input_header_at, is_mode}
+use Rattle.meaning.specs.Opening.{disk, mode_at, device_at, output_header_at, input_header_at, is_mode, header_opened}
+use Rattle.meaning.specs.Rings.{is_buffered}
 use Rattle.meaning.specs.Room.{Pack}
 use Rattle.meaning.specs.Step.{call_of}
 use Rattle.meaning.specs.declared.call.Call.{Call}
 use Rattle.meaning.specs.declared.call.Reply.{Reply}
+use Rattle.retrieval.specs.Modes.{mode_number}
+use Rattle.retrieval.specs.declared.mode.Mode.{Mode}
 use Rattle.volume.specs.Live.{pending_at, slot, is_creation}
 use Rattle.volume.specs.declared.live.LiveVersion.{LiveVersion}
 use Rattle.volume.specs.declared.pending.PendingVersion.{PendingVersion}
@@ -53,15 +57,24 @@ pub record KeepsReading (live live' : List (Option LiveVersion)) (job job' : Job
 abbrev pub improper_at : List ℕ → ℕ → Bool
 improper_at core a = not (device_at core a == disk) || not (is_mode (mode_at core a))
 
--- the channel that is opened
-abbrev pub opened_at : List ℕ → ℕ → Channel
-opened_at core a = record {
+-- the channel that is opened in a mode
+abbrev pub opened_at : Mode → List ℕ → ℕ → Channel
+opened_at mode core a = record {
+  mode = mode;
   input_header = input_header_at core a;
   output_header = output_header_at core a;
   status = mode_at core a;
   input = None;
   output = None;
 }
+
+-- core, where each header that a mode with buffers asks for has a ring that isn't set up yet, the output's first
+abbrev pub rings_opened : List ℕ → Channel → List ℕ
+rings_opened core c =
+    if is_buffered (mode_number c.mode)
+    then after_writes core (header_opened (mode_number c.mode) c.output_header
+    ++ header_opened (mode_number c.mode) c.input_header)
+    else core
 
 -- CLOSE.
 

@@ -4,9 +4,9 @@ use Rattle.std.specs.Prelude.{slice_set}
 use Rattle.meaning.specs.Cores.{first_free, rings_begin, with_right}
 use Rattle.meaning.specs.Files.{File, Files, Place}
 use Rattle.meaning.specs.Jobs as machine
-use Rattle.meaning.specs.Opening.{dump_mode}
 use Rattle.meaning.specs.Published.{Version, with_protection}
 use Rattle.meaning.specs.Stands.{place_of}
+use Rattle.retrieval.specs.Modes.{mode_number}
 use Rattle.monitor.specs.declared.input.Input.{Input}
 use Rattle.monitor.specs.declared.output.Kind.{Kind}
 use Rattle.monitor.specs.declared.output.Kind.TheVariants.{Create, Supersede, Update, Append}
@@ -87,10 +87,9 @@ input_of under i = record {
   next = i.next;
 }
 
--- each channel is in dump mode
 abbrev pub channel_of : UnderKeys → Channel → machine.Channel
 channel_of under c = record {
-  mode = dump_mode;
+  mode = mode_number c.mode;
   input_header = c.input_header;
   output_header = c.output_header;
   status = c.status;

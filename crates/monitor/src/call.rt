@@ -59,8 +59,8 @@ fn answer<D: Disk>(
 {
     match *call {
         Call::Open(channel, address) => open(job, channel, address),
-        Call::Inbuf(channel, _count) => inbuf(job, channel),
-        Call::Outbuf(channel, _count) => outbuf(job, channel),
+        Call::Inbuf(channel, count) => inbuf(job, channel, count),
+        Call::Outbuf(channel, count) => outbuf(job, channel, count),
         Call::Lookup(channel, address) => serve_lookup(volume, job, channel, address),
         Call::Enter(channel, address) => serve_enter(alloc, volume, job, channel, address, moment),
         Call::Rename(channel, address) => serve_rename(alloc, volume, job, channel, address),

@@ -1,9 +1,19 @@
+ghost use Rattle.std.specs.Prelude.{◌≡◌};
+ghost use Rattle.meaning.specs.Inputs.{lacks_header};
+ghost use Rattle.meaning.specs.Rings.{is_buffered, byte_size};
+ghost use Rattle.retrieval.specs.Modes.{mode_number};
+ghost use Rattle.usercore.specs.ByteSizes.{bits_of};
+
 use crate::input::Input;
 use crate::output::Output;
+use retrieval::Mode;
+use usercore::ByteSize;
 
-/// An open channel, in dump mode. It has no side, one of the two, or both where it updates what it reads.
+/// An open channel. It has no side, one of the two, or both where it updates what it reads.
 #[derive(Clone, Copy, Debug, PartialEq, Eq)]
 pub struct Channel {
+    /// How its words move: in dump mode between the file and areas of core, else by rings of buffers.
+    pub mode: Mode,
     /// The address of the input ring's header that OPEN named, 0 for none. In dump mode there is no ring.
     pub input_header: u32,
     /// The address of the output ring's header that OPEN named, 0 for none.
@@ -14,4 +24,30 @@ pub struct Channel {
     pub input: Option<Input>,
     /// Its output side, which ENTER opens.
     pub output: Option<Output>,
+}
+
+impl Channel {
+    /// Whether its words move by rings of buffers.
+    pub fn is_buffered(&self) -> bool
+        ensures { result ≡ is_buffered (mode_number self.now.mode) }
+    {
+        match self.mode {
+            Mode::Ascii | Mode::AsciiLine | Mode::Image | Mode::ImageBinary | Mode::Binary => true,
+            Mode::Dump => false,
+        }
+    }
+
+    /// Whether its words would move by a ring whose header is the one at an address, and there is none.
+    pub fn lacks_header(&self, header: u32) -> bool
+        ensures { result ≡ lacks_header (mode_number self.now.mode) header }
+    {
+        self.is_buffered() && header == 0
+    }
+
+    /// The bytes of its rings.
+    pub fn bytes(&self) -> ByteSize
+        ensures { bits_of result ≡ byte_size (mode_number self.now.mode) }
+    {
+        ByteSize::of_mode(self.mode.number() as u32)
+    }
 }

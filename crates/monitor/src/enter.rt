@@ -12,7 +12,6 @@ ghost use Rattle.meaning.specs.Rights.{directory_digit, file_digit, may_look, ma
 ghost use Rattle.meaning.specs.Stands.{place_of};
 ghost use Rattle.meaning.specs.declared.call.Reply.TheVariants.{Done, NoMemory, Failed, Device, Refused};
 ghost use Rattle.volume.specs.declared.error.CallError.TheVariants.{Failed as VolumeFailed, Device as VolumeDevice};
-ghost use Rattle.retrieval.specs.declared.mode.Mode.TheVariants.{Dump};
 ghost use Rattle.volume.specs.Beginning.{is_update, IsBegun};
 ghost use Rattle.volume.specs.Live.{pending_at, is_creation};
 ghost use Rattle.volume.specs.Rest.{IsSound, RestsAt};
@@ -211,27 +210,28 @@ fn attributes(prime: &Prime) -> Word
     Word::from_bits(protection + mode + time + u64::from(prime.moment.date))
 }
 
-/// What the prime block says of the version that an ENTER of the words at an address writes.
+/// What the prime block says of the version that an ENTER of the words at an address writes in a mode.
 fn prime_for(
     core: &Core,
     address: u32,
     ppn: Ppn,
     file: FileName,
     found: Found,
+    mode: Mode,
     moment: Moment,
 ) -> Prime
     requires there { address + 4 ≤ 0o400000 }
     requires timely { moment.date ≤ 4095 }
     ensures ppn { result.ppn ≡ ppn }
     ensures file { result.file ≡ file }
-    ensures mode { result.mode ≡ Dump }
+    ensures mode { result.mode ≡ mode }
     ensures moment { result.moment ≡ moment }
     ensures protection { result.protection
         ≡ protection_for found (protection_or (slice_index core.now (address + 2)) 0o057) }
 {
     let asked = protection_or(word_at(core, address + 2), 0o057);
     let protection = protection_for(found, asked);
-    match Prime::new(file, ppn, protection, Mode::Dump, moment) {
+    match Prime::new(file, ppn, protection, mode, moment) {
         Some(prime) => prime,
         None => unreachable!(), // it has three digits, and the date twelve bits
     }
@@ -271,7 +271,7 @@ fn may_begin<D: Disk>(
     }
 }
 
-/// Begins the version that an ENTER of the words at an address writes, at the place that they name.
+/// Begins the version that an ENTER of the words at an address writes in a mode, at the place that they name.
 ///
 /// # Errors
 ///
@@ -280,6 +280,7 @@ fn begin_at<D: Disk>(
     alloc: Global,
     volume: &mut Volume<D>,
     job: &Job,
+    mode: Mode,
     address: u32,
     moment: Moment,
 ) -> Result<(Pending, Prime), CallError>
@@ -293,7 +294,7 @@ fn begin_at<D: Disk>(
         × (claims volume.old.core.pending (place_of begun.1.ppn begun.1.file) ≡ false)) }
     ensures same { OnErr result (volume.new.core ≡ volume.old.core) }
     ensures only { (IsErrOf result VolumeFailed → IsTrue volume.old.failed) × (IsErrOf result VolumeDevice → ⊥) }
-    ensures prime { IfOk result (λ begun. IsPrimeAt job.now address moment begun.1) }
+    ensures prime { IfOk result (λ begun. IsPrimeAt job.now mode address moment begun.1) }
     ensures protection { (D.state volume.new.disk).honest → volume.old.failed ≡ false → (files : Files File)
         → RestsAt (D.state volume.old.disk) files
         → IfOk result (λ begun. begun.1.protection ≡ protection_for (found_in (get files begun.1.ppn) begun.1.file)
@@ -311,7 +312,7 @@ fn begin_at<D: Disk>(
         Ok(found) => found,
         Err(code) => return Err(CallError::Refused(code)),
     };
-    let prime = prime_for(&job.core, address, ppn, file, found, moment);
+    let prime = prime_for(&job.core, address, ppn, file, found, mode, moment);
     let kept = copy_of(&prime);
     match volume.begin(alloc, kind_for(found), prime) {
         Ok(pending) => Ok((pending, kept)),
@@ -373,7 +374,7 @@ fn enter<D: Disk>(
     if channel.output.is_some() {
         return refuse(&mut job.core, address, ErrorCode::Sequence);
     }
-    match begin_at(alloc, volume, job, address, moment) {
+    match begin_at(alloc, volume, job, channel.mode, address, moment) {
         Ok((pending, prime)) => {
             let output = Output {
                 pending,

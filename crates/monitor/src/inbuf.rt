@@ -1,18 +1,24 @@
-ghost use Rattle.std.specs.Prelude.{◌≡◌, ℕ};
+ghost use Rattle.std.specs.Prelude.{◌≡◌, ℕ, List, Option};
 ghost use Rattle.meaning.specs.declared.call.Call.TheVariants.{Inbuf};
-ghost use Rattle.meaning.specs.declared.call.Reply.TheVariants.{NoMemory, Failed, Device};
-ghost use Rattle.monitor.specs.Rows.{IsRow};
+ghost use Rattle.meaning.specs.declared.call.Reply.TheVariants.{NoMemory, Failed, Device, Refused};
+ghost use Rattle.volume.specs.declared.live.LiveVersion.{LiveVersion};
+ghost use Rattle.volume.specs.declared.pending.PendingVersion.{PendingVersion};
+ghost use Rattle.monitor.specs.Rows.{IsRow, Keeps, KeepsReading};
 
 use crate::job::Job;
-use meaning::{ErrorCode, Reply};
+use crate::ring::set_up_ring;
+use meaning::Reply;
 
-/// INBUF: sets up a ring of buffers for input. No channel is in a mode with buffers yet, so it is out of order on each.
-pub fn inbuf(job: &Job, number: u32) -> Reply
-    ensures row { (count : ℕ) → IsRow job.now job.now (Inbuf number count) result }
+/// INBUF: sets up a ring of so many buffers, where 0 means 2, for what a channel reads.
+pub fn inbuf(job: &mut Job, number: u32, count: u32) -> Reply
+    ensures row { IsRow job.old job.new (Inbuf number count) result }
+    ensures keeps { (pending : List (Option PendingVersion)) → Keeps pending pending job.old job.new }
+    ensures reads { (live : List (Option LiveVersion)) → KeepsReading live live job.old job.new }
     ensures only { (result ≡ Failed → ⊥) × (result ≡ Device → ⊥) × (result ≡ NoMemory → ⊥) }
+    ensures refused { (code : ℕ) → result ≡ Refused code → job.new ≡ job.old }
 {
-    match job.channel(number) {
-        Some(_channel) => Reply::Refused(ErrorCode::Sequence.number()),
-        None => Reply::NoChannel,
-    }
+    let Some(channel) = job.channel(number) else {
+        return Reply::NoChannel;
+    };
+    set_up_ring(job, number, channel, channel.input_header, count)
 }

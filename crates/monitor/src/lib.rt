@@ -68,6 +68,7 @@ mod releas;
 mod rename;
 mod reset;
 mod restart;
+mod ring;
 mod serve;
 mod status;
 mod update;

@@ -1,4 +1,4 @@
-ghost use Rattle.std.specs.Prelude.{◌≡◌, ◌<◌, ◌≤◌, ◌+◌, ◌^◌, ℕ, true, false, List, Option, slice_index};
+ghost use Rattle.std.specs.Prelude.{◌≡◌, ◌<◌, ◌≤◌, ◌+◌, ◌^◌, ℕ, true, false, List, Option, None, IfSome, slice_index};
 ghost use Rattle.meaning.specs.Cores.{lies_outside};
 ghost use Rattle.meaning.specs.Opening.{mode_at, output_header_at, input_header_at, misses_header, misses_headers};
 ghost use Rattle.meaning.specs.Rings.{is_buffered};
@@ -6,21 +6,18 @@ ghost use Rattle.meaning.specs.declared.call.Call.TheVariants.{Open};
 ghost use Rattle.meaning.specs.declared.call.Reply.TheVariants.{NoMemory, Failed, Device, Refused};
 ghost use Rattle.volume.specs.declared.live.LiveVersion.{LiveVersion};
 ghost use Rattle.volume.specs.declared.pending.PendingVersion.{PendingVersion};
-ghost use Rattle.monitor.specs.Rows.{IsRow, Keeps, KeepsReading, improper_at, opened_at};
-ghost use Rattle.monitor.specs.Sides.{UnderKeys, job_of};
-ghost use Rattle.monitor.specs.Unserved.{open_unserved};
+ghost use Rattle.retrieval.specs.Modes.{mode_number};
+ghost use Rattle.monitor.specs.Rows.{IsRow, Keeps, KeepsReading, improper_at, opened_at, rings_opened};
 
 use crate::channel::Channel;
 use crate::job::{CHANNELS, Job};
 use meaning::{ErrorCode, Reply};
+use retrieval::Mode;
 use usercore::Core;
 use words36::Word;
 
 /// DSK, in SIXBIT.
 const DISK: u64 = 0o446353000000;
-
-/// The number of the mode without buffers.
-const DUMP_MODE: u32 = 0o17;
 
 /// What OPEN reports of a device or a mode that there isn't.
 const IMPROPER_MODE: u32 = 0o400000;
@@ -83,22 +80,28 @@ fn misses_headers(core: &Core, address: u32) -> bool
         && (misses_header(core, output) || misses_header(core, input))
 }
 
-/// Whether the device isn't the disk, or there is no such mode.
-fn is_improper(core: &Core, address: u32) -> bool
+/// The mode in which the words at an address open the disk; none where they name another device, or there is no such
+/// mode.
+fn proper_mode(core: &Core, address: u32) -> Option<Mode>
     requires { address + 3 ≤ 0o400000 }
-    ensures { result ≡ improper_at core.now address }
+    ensures some { IfSome result (λ mode. (improper_at core.now address ≡ false)
+        × (mode_number mode ≡ mode_at core.now address)) }
+    ensures none { result ≡ None → improper_at core.now address ≡ true }
 {
-    let mode = mode_at(core, address);
-    word_at(core, address + 1).bits() != DISK || !(is_buffered(mode) || mode == DUMP_MODE)
+    if word_at(core, address + 1).bits() != DISK {
+        return None;
+    }
+    Mode::from_number(u64::from(mode_at(core, address)))
 }
 
-/// The channel that the words at an address open.
-fn opened(core: &Core, address: u32) -> Channel
+/// The channel that the words at an address open in a mode.
+fn opened(core: &Core, address: u32, mode: Mode) -> Channel
     requires { address + 3 ≤ 0o400000 }
-    ensures { result ≡ opened_at core.now address }
+    ensures { result ≡ opened_at mode core.now address }
 {
     let (output_header, input_header) = headers_at(core, address);
     Channel {
+        mode,
         input_header,
         output_header,
         status: mode_at(core, address),
@@ -107,14 +110,23 @@ fn opened(core: &Core, address: u32) -> Channel
     }
 }
 
+/// Gives the headers of the rings of a channel that is opened their first words.
+fn open_rings(core: &mut Core, channel: &Channel)
+    ensures { core.new ≡ rings_opened core.old channel.now }
+{
+    if channel.is_buffered() {
+        core.ring_open(
+            channel.output_header,
+            channel.input_header,
+            channel.bytes(),
+        );
+    }
+}
+
 /// OPEN: opens a channel, 0 to 15, by the three words at an address: the mode in the low four bits, the device,
-/// and the addresses of the headers of the two rings. A mode with buffers isn't served: where all else is as it
-/// should be, it is answered as one that there isn't.
+/// and the addresses of the headers of the two rings, which a mode with buffers gives their first words.
 pub fn open(job: &mut Job, number: u32, address: u32) -> Reply
-    ensures row { is_buffered (mode_at job.old.core address) ≡ false
-        → IsRow job.old job.new (Open number address) result }
-    ensures unserved { is_buffered (mode_at job.old.core address) ≡ true → (job.new ≡ job.old)
-        × ((under : UnderKeys) → result ≡ open_unserved (job_of under job.old) number address) }
+    ensures row { IsRow job.old job.new (Open number address) result }
     ensures keeps { (pending : List (Option PendingVersion)) → Keeps pending pending job.old job.new }
     ensures reads { (live : List (Option LiveVersion)) → KeepsReading live live job.old job.new }
     ensures only { (result ≡ Failed → ⊥) × (result ≡ Device → ⊥) × (result ≡ NoMemory → ⊥) }
@@ -132,14 +144,11 @@ pub fn open(job: &mut Job, number: u32, address: u32) -> Reply
     if job.channel(number).is_some() {
         return Reply::Refused(ErrorCode::Sequence.number());
     }
-    let mode = mode_at(&job.core, address);
-    if is_improper(&job.core, address) {
-        return Reply::Stopped(IMPROPER_MODE + mode);
-    }
-    if is_buffered(mode) {
-        return Reply::Stopped(IMPROPER_MODE + mode); // no rings yet
-    }
-    let channel = opened(&job.core, address);
+    let Some(mode) = proper_mode(&job.core, address) else {
+        return Reply::Stopped(IMPROPER_MODE + mode_at(&job.core, address));
+    };
+    let channel = opened(&job.core, address, mode);
+    open_rings(&mut job.core, &channel);
     job.set_channel(number, Some(channel));
     Reply::Done
 }
