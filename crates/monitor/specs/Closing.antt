@@ -1,6 +1,10 @@
 -- What a CLOSE that publishes leaves of its channel.
-use Rattle.std.specs.Prelude.{None, Some}
+use Rattle.std.specs.Prelude.{◌++◌, if◌then◌else◌, ℕ, Bool, List, None, Some}
+use Rattle.meaning.specs.Closing.{header_closed}
+use Rattle.meaning.specs.Cores.{after_writes}
 use Rattle.meaning.specs.Jobs.{cleared}
+use Rattle.meaning.specs.Rings.{is_buffered}
+use Rattle.retrieval.specs.Modes.{mode_number}
 use Rattle.monitor.specs.declared.channel.Channel.{Channel}
 use Rattle.monitor.specs.declared.input.Input.{Input}
 
@@ -11,3 +15,11 @@ both_closed c = record c { status = cleared c.status; input = None; output = Non
 -- the output side is closed, and this is the input side
 abbrev pub output_closed : Channel → Input → Channel
 output_closed c input = record c { status = cleared c.status; input = Some input; output = None }
+
+-- core, where the headers of the rings of the sides that close are marked, the output's first
+abbrev pub rings_closed : List ℕ → Channel → (closes_output closes_input : Bool) → List ℕ
+rings_closed core c closes_output closes_input =
+    if is_buffered (mode_number c.mode)
+    then after_writes core (header_closed core c.output_header closes_output
+    ++ header_closed core c.input_header closes_input)
+    else core

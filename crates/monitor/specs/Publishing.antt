@@ -1,13 +1,16 @@
 -- A CLOSE or RELEAS publishes what an output side has written: the version under its key becomes the file of its name.
-use Rattle.std.specs.Prelude.{◌≡◌, ◌⊎◌, ◌<◌, ◌≤◌, ℕ, Bool, true, false, List, length, Option, Some, None, slice_set}
+use Rattle.std.specs.Prelude.{◌≡◌, ◌⊎◌, ◌<◌, ◌≤◌, ◌+◌, ℕ, Bool, true, false, if◌then◌else◌, List, [], length, Option}
+use Rattle.std.specs.Prelude.{Some, None, slice_set}
 use Rattle.words36.specs.declared.moment.Moment.{Moment}
 use Rattle.blockdisk.specs.Disk.{DiskState, LeavesOnly, SameDisk, one_more}
 use Rattle.meaning.specs.Files.{File, Files}
 use Rattle.meaning.specs.Jobs as machine
-use Rattle.meaning.specs.Jobs.{State}
+use Rattle.meaning.specs.Jobs.{State, cleared, block_too_large}
 use Rattle.meaning.specs.Published.{without_serials}
 use Rattle.meaning.specs.Retrieval.{HasBody}
+use Rattle.meaning.specs.Rings.{is_buffered, last_words}
 use Rattle.meaning.specs.Runs.{Service, Serving, Answers}
+use Rattle.meaning.specs.Splices.{splice, length_after}
 use Rattle.meaning.specs.Stands.{Stands}
 use Rattle.meaning.specs.Step.{step}
 use Rattle.meaning.specs.declared.call.Call.{Call}
@@ -15,61 +18,79 @@ use Rattle.meaning.specs.declared.call.Event.TheVariants.{Call as Calls}
 use Rattle.meaning.specs.declared.call.Reply.{Reply}
 use Rattle.meaning.specs.declared.call.Reply.TheVariants.{Done, Value, Refused, Stopped, NoChannel, AddressCheck, NoJob}
 use Rattle.meaning.specs.declared.call.Reply.TheVariants.{NoMemory, Device, Failed, DateRange}
+use Rattle.retrieval.specs.Modes.{mode_number}
 use Rattle.volume.specs.Live.{VolumeCore, slot, pending_at}
 use Rattle.volume.specs.Publishing.{IsPublishedCore, file_of, files_published}
 use Rattle.volume.specs.Rest.{RestsAt, StandsForEither, KeepsRead, KeepsWritten}
 use Rattle.volume.specs.declared.live.LiveVersion.{LiveVersion}
 use Rattle.volume.specs.declared.pending.PendingVersion.{PendingVersion}
+use Rattle.monitor.specs.Putting.{FindsNone}
 use Rattle.monitor.specs.Serving.{AreKeyed, ArePlaced, AreReading, pack_of, IsState, Serves}
+use Rattle.monitor.specs.declared.channel.Channel.{Channel}
 use Rattle.monitor.specs.declared.job.Job.{Job}
+use Rattle.monitor.specs.declared.output.Output.{Output}
 
--- Whatever the answer.
-pub record MayPublish (d d' : DiskState) (c c' : VolumeCore) (key : ℕ) : Type 0 where
+-- The words of a channel's last buffer, which are put before: none in dump mode. None is AddressCheck.
+abbrev pub last_at : List ℕ → Channel → Option (List ℕ)
+last_at core c = if is_buffered (mode_number c.mode) then last_words core c.output_header else Some []
+
+-- Whatever the answer, where these are the last words.
+pub record MayPublish (d d' : DiskState) (c c' : VolumeCore) (o : Output) (last : List ℕ) : Type 0 where
   -- a crash leaves the files from before, or those with the version whole
-  pub crash : d'.honest → (f : Files File) → RestsAt d f → (p : PendingVersion) → pending_at c.pending key ≡ Some p
+  pub crash : d'.honest → (f : Files File) → RestsAt d f → (p : PendingVersion)
+      → pending_at c.pending o.pending.key ≡ Some p
       → (body : List ℕ) → length body ≡ p.version.words → HasBody d.contents p.version.blocks body
-      → LeavesOnly d d' (StandsForEither d.size f (files_published f p.prime.ppn p.prime.file (file_of p.prime body)))
+      → LeavesOnly d d' (StandsForEither d.size f
+      (files_published f p.prime.ppn p.prime.file (file_of p.prime (splice body o.next last))))
   -- all other versions stay
-  pub others : (k : ℕ) → (k ≡ key → ⊥) → pending_at c'.pending k ≡ pending_at c.pending k
+  pub others : (k : ℕ) → (k ≡ o.pending.key → ⊥) → pending_at c'.pending k ≡ pending_at c.pending k
   pub held : (k : ℕ) (v : LiveVersion) → slot c.live k ≡ Some v → 0 < v.readers
       → (b : Bool) × (slot c'.live k ≡ Some (record v { is_current = b }))
   pub same : SameDisk d d'
 
 -- It is done.
-pub record HasPublished (d d' : DiskState) (c c' : VolumeCore) (key : ℕ) : Type 0 where
-  pub files : d'.honest → (f : Files File) → RestsAt d f → (p : PendingVersion) → pending_at c.pending key ≡ Some p
+pub record HasPublished (d d' : DiskState) (c c' : VolumeCore) (o : Output) (last : List ℕ) : Type 0 where
+  pub fits : (p : PendingVersion) → pending_at c.pending o.pending.key ≡ Some p
+      → FindsNone d.size c p o (length last) → ⊥
+  pub files : d'.honest → (f : Files File) → RestsAt d f → (p : PendingVersion)
+      → pending_at c.pending o.pending.key ≡ Some p
       → (body : List ℕ) → length body ≡ p.version.words → HasBody d.contents p.version.blocks body
-      → RestsAt d' (files_published f p.prime.ppn p.prime.file (file_of p.prime body))
+      → RestsAt d' (files_published f p.prime.ppn p.prime.file (file_of p.prime (splice body o.next last)))
   -- the blocks of all other versions stay
   pub readers : d'.honest → KeepsRead d.contents d'.contents c
-  pub writers : d'.honest → KeepsWritten d.contents d'.contents c key
-  pub core : (p : PendingVersion) → pending_at c.pending key ≡ Some p
-      → IsPublishedCore d.size c c' key p p.version.words
-  pub gone : pending_at c'.pending key ≡ None
+  pub writers : d'.honest → KeepsWritten d.contents d'.contents c o.pending.key
+  pub core : (p : PendingVersion) → pending_at c.pending o.pending.key ≡ Some p
+      → IsPublishedCore d.size c c' o.pending.key p (length_after p.version.words o.next (length last))
+  pub gone : pending_at c'.pending o.pending.key ≡ None
 
 -- What each answer says of the volume, and of how often the disk has failed; it is no other.
-abbrev pub IsPublishing : (d d' : DiskState) (c c' : VolumeCore) (failed failed' : Bool) (key : ℕ) → Reply → Type 0
-IsPublishing d d' c c' failed failed' key Done = HasPublished d d' c c' key × (failed ≡ false) × (failed' ≡ false)
+abbrev pub IsPublishing : (d d' : DiskState) (c c' : VolumeCore) (failed failed' : Bool) (channel : Channel) (o : Output)
+    (last : Option (List ℕ)) → Reply → Type 0
+IsPublishing d d' c c' failed failed' channel o last Done = (words : List ℕ) × (last ≡ Some words)
+    × HasPublished d d' c c' o words × (failed ≡ false) × (failed' ≡ false) × (d'.failures ≡ d.failures)
+IsPublishing d d' c c' failed failed' channel o last (Value word) = ⊥
+IsPublishing d d' c c' failed failed' channel o last (Refused code) = ⊥
+IsPublishing d d' c c' failed failed' channel o last (Stopped status) = (words : List ℕ) × (last ≡ Some words)
+    × (status ≡ cleared channel.status + block_too_large)
+    × ((p : PendingVersion) → pending_at c.pending o.pending.key ≡ Some p → FindsNone d.size c p o (length words))
+    × (failed ≡ false) × (failed' ≡ false)
+IsPublishing d d' c c' failed failed' channel o last NoChannel = ⊥
+IsPublishing d d' c c' failed failed' channel o last AddressCheck = (last ≡ None) × (failed ≡ false) × (failed' ≡ false)
+IsPublishing d d' c c' failed failed' channel o last NoJob = ⊥
+IsPublishing d d' c c' failed failed' channel o last NoMemory = (words : List ℕ) × (last ≡ Some words)
+    × (failed ≡ false) × (failed' ≡ false)
+IsPublishing d d' c c' failed failed' channel o last Device = (words : List ℕ) × (last ≡ Some words)
+    × (failed ≡ false) × (failed' ≡ true) × (d'.failures ≡ one_more d.failures)
+IsPublishing d d' c c' failed failed' channel o last Failed = ((failed ≡ true) ⊎ (d'.honest → ⊥)) × (failed' ≡ true)
     × (d'.failures ≡ d.failures)
-IsPublishing d d' c c' failed failed' key (Value word) = ⊥
-IsPublishing d d' c c' failed failed' key (Refused code) = ⊥
-IsPublishing d d' c c' failed failed' key (Stopped status) = ⊥
-IsPublishing d d' c c' failed failed' key NoChannel = ⊥
-IsPublishing d d' c c' failed failed' key AddressCheck = ⊥
-IsPublishing d d' c c' failed failed' key NoJob = ⊥
-IsPublishing d d' c c' failed failed' key NoMemory = (failed ≡ false) × (failed' ≡ false)
-IsPublishing d d' c c' failed failed' key Device = (failed ≡ false) × (failed' ≡ true)
-    × (d'.failures ≡ one_more d.failures)
-IsPublishing d d' c c' failed failed' key Failed = ((failed ≡ true) ⊎ (d'.honest → ⊥)) × (failed' ≡ true)
-    × (d'.failures ≡ d.failures)
-IsPublishing d d' c c' failed failed' key DateRange = ⊥
+IsPublishing d d' c c' failed failed' channel o last DateRange = ⊥
 
 -- A version is published, after which core is `between`; then, where it is done, versions are let go that were read, or
 -- held once more.
-pub record PublishesBy (d d' : DiskState) (c between : VolumeCore) (failed failed' : Bool) (key : ℕ)
-    (reply : Reply) : Type 0 where
-  pub whatever : MayPublish d d' c between key
-  pub answered : IsPublishing d d' c between failed failed' key reply
+pub record PublishesBy (d d' : DiskState) (c between : VolumeCore) (failed failed' : Bool) (channel : Channel)
+    (o : Output) (last : Option (List ℕ)) (reply : Reply) : Type 0 where
+  pub whatever : (words : List ℕ) → last ≡ Some words → MayPublish d d' c between o words
+  pub answered : IsPublishing d d' c between failed failed' channel o last reply
 
 -- What the caller has become, and what is answered, are of the machine's row; whichever job made the call.
 abbrev pub IsPublishRow : (d d' : DiskState) (c c' : VolumeCore) (failed' : Bool) → Job → Job → Call → Reply → Type 0
