@@ -88,3 +88,16 @@ reads_channel live job number c same reader = record {
       omega arith;
   each = λ has. has_channel job number c (reader has) has;
 }
+
+-- Core doesn't matter to what is written and read.
+
+pub keeps_core : (pending pending' : List (Option PendingVersion)) (job job' : Job) (core : List ℕ)
+    → Keeps pending pending' job job' → Keeps pending pending' job (record job' { core = core })
+keeps_core pending pending' job job' core k = record { once = k.once; known = k.known; each = k.each }
+
+pub reads_core : (live live' : List (Option LiveVersion)) (job job' : Job) (core : List ℕ)
+    → KeepsReading live live' job job' → KeepsReading live live' job (record job' { core = core })
+reads_core live live' job job' core k = record {
+  once = k.once;
+  each = λ has. let after = k.each has in record { each = after.each; sixteen = after.sixteen };
+}

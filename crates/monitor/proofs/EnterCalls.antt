@@ -11,7 +11,6 @@ use Rattle.meaning.specs.Files.{File, Files, Place, map_directory}
 use Rattle.meaning.specs.Jobs.{State, slot, channel_at, with_channel, is_create}
 use Rattle.meaning.specs.Looking.{place_at, digit_at, with_attributes}
 use Rattle.meaning.specs.Maps.{get, times}
-use Rattle.meaning.specs.Opening.{dump_mode}
 use Rattle.meaning.specs.Outcomes.{settled, refused_at}
 use Rattle.meaning.specs.Published.{Version, without_serials, file_in, file_at}
 use Rattle.meaning.specs.Runs.{Service, Serving, Answers}
@@ -65,7 +64,7 @@ creates_new true = refl
 creates_new false = refl
 
 module _ (w : UnderKeys) (job : Job) (c : Channel) (e : ℕ) (moment : Moment) (q : Place) (digit : ℕ) (kind : Kind)
-    (prime : Prime) (directory : ℕ) (mode : mode_number prime.mode ≡ dump_mode) (at : prime.moment ≡ moment) where
+    (prime : Prime) (directory : ℕ) (mode : mode_number prime.mode ≡ mode_number c.mode) (at : prime.moment ≡ moment) where
   file_is : (protection : ℕ) → prime.protection ≡ protection → new_file protection (channel_of w c) moment
       ≡ file_begun prime
   file_is protection is =
@@ -190,7 +189,7 @@ module _ (d : DiskState) (map map' : VolumeCore) (jobs jobs' : List (Option Job)
           (digit_at t (job_of w job) (place_of prime.ppn prime.file)) None) found_is
           ∙ opened_is w job c e moment (place_of prime.ppn prime.file)
           (digit_at t (job_of w job) (place_of prime.ppn prime.file)) enters.kind prime directory.directory.protection
-          (ap mode_number enters.at.mode) enters.at.moment_is
+          (ap mode_number enters.at.mode_is) enters.at.moment_is
           (get directory.directory.files prime.file)
           (enters.kind_is ∙ ap entering.entered_kind (named ∙ directory.absent)) directory.few
           (protection (without_serials s.files) state.files

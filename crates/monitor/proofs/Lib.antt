@@ -17,6 +17,7 @@ pub mod Starts
 pub mod CoreWords
 pub mod Calling
 pub mod Opens
+pub mod RingsMade
 pub mod Usetos
 pub mod Usetis
 pub mod Outs

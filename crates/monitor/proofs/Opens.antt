@@ -2,14 +2,12 @@
 use Rattle.std.proofs.Common.{◌≡◌, ◌<◌, ◌≤◌, ◌+◌, ℕ, Bool, true, false, nat_le, List, ◌++◌, Option, None, Some, refl}
 use Rattle.std.proofs.Common.{sym, ap, subst, ◌∙◌, arith, slice_set}
 use Rattle.std.proofs.lemmas.Bool.Decides.{nat_tests}
-use Rattle.std.proofs.lemmas.Bool.{eqb-true}
 use Rattle.std.specs.Prelude.{◌==◌, ◌||◌, not, if◌then◌else◌, is_some, option_map, option_to_list}
 use Rattle.meaning.specs.Cores.{lies_outside, after_writes}
 use Rattle.meaning.specs.Jobs as machine
 use Rattle.meaning.specs.Jobs.{slot, channel_at, improper_mode}
-use Rattle.meaning.specs.Opening.{disk, dump_mode, mode_at, device_at, output_header_at, input_header_at}
-use Rattle.meaning.specs.Opening.{misses_headers, open_answer, open_done, opens, header_opened, core_opened}
-use Rattle.meaning.specs.Opening.{channel_opened}
+use Rattle.meaning.specs.Opening.{mode_at, output_header_at, input_header_at}
+use Rattle.meaning.specs.Opening.{misses_headers, open_answer, open_done, opens, header_opened}
 use Rattle.meaning.specs.Rings.{is_buffered}
 use Rattle.meaning.specs.Outcomes.{settled}
 use Rattle.meaning.specs.Step.{of_job}
@@ -17,8 +15,9 @@ use Rattle.meaning.specs.declared.call.Call.TheVariants.{Open}
 use Rattle.meaning.specs.declared.call.Reply.{Reply}
 use Rattle.meaning.specs.declared.call.Reply.TheVariants.{Done, Refused, Stopped, NoChannel, AddressCheck}
 use Rattle.meaning.proofs.MapLaws.{some_none}
-use Rattle.monitor.specs.Rows.{IsRow, Keeps, KeepsReading, improper_at, opened_at}
-use Rattle.monitor.specs.Unserved.{open_unserved, stopped_where_done}
+use Rattle.retrieval.specs.Modes.{mode_number}
+use Rattle.retrieval.specs.declared.mode.Mode.{Mode}
+use Rattle.monitor.specs.Rows.{IsRow, Keeps, KeepsReading, improper_at, opened_at, rings_opened}
 use Rattle.monitor.specs.Sides.{UnderKeys, side_of, reader_of, channel_of, job_of}
 use Rattle.monitor.specs.declared.channel.Channel.{Channel}
 use Rattle.monitor.specs.declared.job.Job.{Job}
@@ -71,34 +70,28 @@ module _ (job : Job) (number a : ℕ) where
       ∙ ap (of_job s n) (ap (λ r. settled r (open_done (job_of w job) number a) (λ x. job_of w job)) (answer w)
       ∙ settled_other reply (open_done (job_of w job) number a) (job_of w job) other)
 
-  -- neither buffered nor improper: it is the dump mode
-  dump : is_buffered (mode_at job.core a) ≡ false → improper_at job.core a ≡ false → mode_at job.core a ≡ dump_mode
-  dump plain proper = eqb-true (mode_at job.core a) dump_mode (by (device_at job.core a == disk)
-      (is_buffered (mode_at job.core a)) (mode_at job.core a == dump_mode) plain proper)
-    where
-      by : (x b m : Bool) → b ≡ false → (not x || not (b || m)) ≡ false → m ≡ true
-      by false b m e f = cc f
-      by true true m e f = cc e
-      by true false false e f = cc f
-      by true false true e f = refl
-
-  -- the core with the headers of rings
-  abbrev opened_core : List ℕ
-  opened_core = after_writes job.core (header_opened (mode_at job.core a) (output_header_at job.core a)
-      ++ header_opened (mode_at job.core a) (input_header_at job.core a))
+  -- the job with a channel that is opened, its rings' headers given their first words
+  abbrev pub opened_job : Mode → Job
+  opened_job mode = record job {
+    core = rings_opened job.core (opened_at mode job.core a);
+    channels = slice_set job.channels number (Some (opened_at mode job.core a));
+  }
 
   pub done_row : number < 16 → ((w : UnderKeys) → open_answer (job_of w job) number a ≡ Done)
-      → is_buffered (mode_at job.core a) ≡ false → improper_at job.core a ≡ false
-      → IsRow job (record job { channels = slice_set job.channels number (Some (opened_at job.core a)) })
-      (Open number a) Done
-  done_row few answer plain proper pack serial s n w moment there =
+      → (mode : Mode) → mode_number mode ≡ mode_at job.core a → IsRow job (opened_job mode) (Open number a) Done
+  done_row few answer mode is pack serial s n w moment there =
       ap (λ b. if b then of_job s n (opens (job_of w job) number a) else (NoChannel, s)) (fits number few)
       ∙ ap (of_job s n) (ap (λ r. settled r (open_done (job_of w job) number a) (λ x. job_of w job)) (answer w)
-      ∙ ap (λ j. (Done, j)) (ap (λ core. machine.with_channel (record (job_of w job) { core = core }) number
-      (Some (channel_opened job.core a))) unbuffered
-      ∙ ap (λ m. machine.with_channel (job_of w job) number (Some (with_mode m))) (dump plain proper)
-      ∙ channel_set w job number (Some (opened_at job.core a))))
+      ∙ ap (λ j. (Done, j)) (ap (λ m. machine.with_channel (record (job_of w job) { core = core_in m }) number
+      (Some (with_mode m))) (sym is)
+      ∙ channel_set w (record job { core = core_in (mode_number mode) }) number (Some (opened_at mode job.core a))))
     where
+      core_in : ℕ → List ℕ
+      core_in m = if is_buffered m
+          then after_writes job.core (header_opened m (output_header_at job.core a)
+          ++ header_opened m (input_header_at job.core a))
+          else job.core
+
       with_mode : ℕ → machine.Channel
       with_mode m = record {
         mode = m;
@@ -108,15 +101,6 @@ module _ (job : Job) (number a : ℕ) where
         input = None;
         output = None;
       }
-
-      unbuffered : core_opened job.core a ≡ job.core
-      unbuffered = ap (λ b. if b then opened_core else job.core) plain
-
-  pub unserved_is : number < 16 → (w : UnderKeys) (reply : Reply) → open_answer (job_of w job) number a ≡ reply
-      → stopped_where_done (mode_at job.core a) reply ≡ open_unserved (job_of w job) number a
-  unserved_is few w reply answer = ap (stopped_where_done (mode_at job.core a)) (sym answer)
-      ∙ ap (λ b. if b then stopped_where_done (mode_at job.core a) (open_answer (job_of w job) number a)
-      else NoChannel) (sym (fits number few))
 
 -- a channel that is opened writes nothing
 pub keeps_opened : (pending : List (Option PendingVersion)) (job : Job) (number : ℕ) (c : Channel)
@@ -142,9 +126,3 @@ reads_opened live job number c free none =
     by : (key : ℕ) (o : Option Channel) → is_some o ≡ false → 0 ≡ held key (option_to_list (reader_of o))
     by key None e = refl
     by key (Some x) e = cc e
-
-pub opened_back : (job : Job) (number a : ℕ) (c : Channel) (job' : Job) → c ≡ opened_at job.core a
-    → job' ≡ record job { channels = slice_set job.channels number (Some c) }
-    → job' ≡ record job { channels = slice_set job.channels number (Some (opened_at job.core a)) }
-opened_back job number a c job' is set = set
-    ∙ ap (λ x. record job { channels = slice_set job.channels number (Some x) }) is

@@ -1,18 +1,16 @@
--- Calls that are out of order: INBUF and OUTBUF on channels in dump mode, and RENAME on one that reads nothing, answer as
--- the machine does.
+-- RENAME on a channel that reads nothing is out of order, as the machine has it.
 use Rattle.std.proofs.Common.{◌≡◌, ℕ, Bool, true, false, Option, None, Some, refl, ap, ◌∙◌}
 use Rattle.std.specs.Prelude.{if◌then◌else◌, option_map}
 use Rattle.meaning.specs.Cores.{lies_outside}
 use Rattle.meaning.specs.Files.{Files}
 use Rattle.meaning.specs.Jobs as machine
 use Rattle.meaning.specs.Jobs.{State, slot, channel_at, job_at, with_job}
-use Rattle.meaning.specs.Opening.{sets_up}
 use Rattle.meaning.specs.Outcomes.{settled, refused_at}
 use Rattle.meaning.specs.Published.{Version}
 use Rattle.meaning.specs.Renaming.{renames, rename_sides, rename_done, files_renamed}
 use Rattle.meaning.specs.Room.{Pack}
 use Rattle.meaning.specs.Step.{on_channel, of_job, of_files}
-use Rattle.meaning.specs.declared.call.Call.TheVariants.{Inbuf, Outbuf, Rename}
+use Rattle.meaning.specs.declared.call.Call.TheVariants.{Rename}
 use Rattle.meaning.specs.declared.call.Reply.{Reply}
 use Rattle.meaning.specs.declared.call.Reply.TheVariants.{Refused, NoChannel, AddressCheck}
 use Rattle.monitor.specs.Refusals.{with_code}
@@ -21,28 +19,7 @@ use Rattle.monitor.specs.Sides.{UnderKeys, input_of, channel_of, job_of}
 use Rattle.monitor.specs.declared.channel.Channel.{Channel}
 use Rattle.monitor.specs.declared.job.Job.{Job}
 use Rattle.monitor.proofs.Calling.{channel_is}
-use Rattle.monitor.proofs.Usetos.{on_row, on_none}
-
-module _ (job : Job) (number count : ℕ) where
-  pub inbuf_none : slot job.channels number ≡ None → IsRow job job (Inbuf number count) NoChannel
-  inbuf_none none pack serial s n w moment at = on_none s n w job number
-      (λ c. of_job s n (sets_up (job_of w job) number c c.input_header count)) none at
-
-  -- each channel is in dump mode
-  pub inbuf_refused : (c : Channel) → slot job.channels number ≡ Some c → IsRow job job (Inbuf number count) (Refused 5)
-  inbuf_refused c there pack serial s n w moment at = on_row s n w job job number c (Refused 5)
-      (λ x. sets_up (job_of w job) number x x.input_header count) there refl
-
-  pub outbuf_none : slot job.channels number ≡ None → IsRow job job (Outbuf number count) NoChannel
-  outbuf_none none pack serial s n w moment at = on_none s n w job number
-      (λ c. of_job s n (sets_up (job_of w job) number c c.output_header count)) none at
-
-  pub outbuf_refused : (c : Channel) → slot job.channels number ≡ Some c
-      → IsRow job job (Outbuf number count) (Refused 5)
-  outbuf_refused c there pack serial s n w moment at = on_row s n w job job number c (Refused 5)
-      (λ x. sets_up (job_of w job) number x x.output_header count) there refl
-
--- RENAME.
+use Rattle.monitor.proofs.Usetos.{on_none}
 
 module _ (job : Job) (number e : ℕ) where
   pub rename_none : slot job.channels number ≡ None → IsRow job job (Rename number e) NoChannel

@@ -9,7 +9,6 @@ use Rattle.blockdisk.specs.Disk.{DiskState}
 use Rattle.meaning.specs.Files.{Files, Directory, Place}
 use Rattle.meaning.specs.Jobs as machine
 use Rattle.meaning.specs.Maps.{get}
-use Rattle.meaning.specs.Opening.{dump_mode}
 use Rattle.meaning.specs.Published.{Version, file_at, with_protection}
 use Rattle.meaning.specs.Stands.{place_of}
 use Rattle.meaning.proofs.MapLaws.{some_same, some_none}
@@ -71,7 +70,7 @@ module _ (w : UnderKeys) (key protection : ℕ) where
     where
       channel_with : (Input → machine.Input) → Channel → machine.Channel
       channel_with f c = record {
-        mode = dump_mode;
+        mode = mode_number c.mode;
         input_header = c.input_header;
         output_header = c.output_header;
         status = c.status;

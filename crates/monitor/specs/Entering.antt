@@ -41,7 +41,7 @@ pub record IsEntering (c c' : VolumeCore) (job job' : Job) (number address : ℕ
   -- without words
   pub bare : is_update begins ≡ false
   pub begun : IsBegun c c' key begins prime
-  pub at : IsPrimeAt job c.mode address moment prime
+  pub at : IsPrimeAt job channel.mode address moment prime
   pub kind : Kind
   pub kind_is : kind ≡ entered_kind (is_none begun.old)
   pub job_is : job' ≡ record job {

@@ -1,16 +1,17 @@
-use Rattle.std.proofs.Common.{sym, subst, ◌∙◌}
-use Rattle.meaning.specs.declared.call.Call.TheVariants.{Inbuf}
-use Rattle.meaning.specs.declared.call.Reply.TheVariants.{Refused}
-use Rattle.monitor.specs.Rows.{IsRow}
-use Rattle.monitor.proofs.OutOfOrder.{inbuf_none, inbuf_refused}
+use Rattle.std.proofs.Common.{sym, ◌∙◌}
+use Rattle.monitor.proofs.Calling.{keeps_same, reads_same}
+use Rattle.monitor.proofs.RingsMade.{inbuf_none, inbuf_row}
 use Rattle.monitor.proofs.inbuf.inbuf.Goals as goal
 
-pub returns-in-None-clause-row : goal.returns-in-None-clause-row
-returns-in-None-clause-row c count = inbuf_none c.args.job.now c.args.number count (sym c.channel.ensures
-    ∙ c.in-None.is)
+pub returns-else-Some-clause-row : goal.returns-else-Some-clause-row
+returns-else-Some-clause-row c = inbuf_none c.args.job.now c.args.number c.args.count (sym c.channel.ensures ∙ c.else-Some.is)
 
-pub returns-in-Some-clause-row : goal.returns-in-Some-clause-row
-returns-in-Some-clause-row c count =
-    subst (λ code. IsRow c.args.job.now c.args.job.now (Inbuf c.args.number count) (Refused code))
-    (sym c.number.ensures)
-    (inbuf_refused c.args.job.now c.args.number count c.in-Some._channel (sym c.channel.ensures ∙ c.in-Some.is))
+pub returns-else-Some-clause-keeps : goal.returns-else-Some-clause-keeps
+returns-else-Some-clause-keeps c pending = keeps_same pending c.args.job.now
+
+pub returns-else-Some-clause-reads : goal.returns-else-Some-clause-reads
+returns-else-Some-clause-reads c live = reads_same live c.args.job.now
+
+pub returns-clause-row : goal.returns-clause-row
+returns-clause-row c = inbuf_row c.args.job.now c.args.number c.args.count c.in-Some.channel
+    (sym c.channel.ensures ∙ c.in-Some.is) c.set_up_ring.new.job c.set_up_ring.result c.set_up_ring.ensures.row
