@@ -2,7 +2,7 @@
 use Rattle.std.proofs.Common.{◌≡◌, ◌<◌, ◌≤◌, ◌+◌, ℕ, Bool, true, false, nat_le, List, ◌++◌, Option, None, Some, refl}
 use Rattle.std.proofs.Common.{sym, ap, subst, ◌∙◌, arith, slice_set}
 use Rattle.std.proofs.lemmas.Bool.Decides.{nat_tests}
-use Rattle.std.specs.Prelude.{◌==◌, ◌||◌, not, if◌then◌else◌, is_some, option_map, option_to_list}
+use Rattle.std.specs.Prelude.{◌||◌, if◌then◌else◌, is_some, option_map, option_to_list}
 use Rattle.meaning.specs.Cores.{lies_outside, after_writes}
 use Rattle.meaning.specs.Jobs as machine
 use Rattle.meaning.specs.Jobs.{slot, channel_at, improper_mode}

@@ -1,9 +1,9 @@
 -- INBUF and OUTBUF answer as the machine does.
-use Rattle.std.proofs.Common.{◌≡◌, ℕ, Bool, true, false, List, Option, None, Some, refl, sym, ap, ◌∙◌, slice_set}
-use Rattle.std.specs.Prelude.{◌==◌, ◌||◌, not, if◌then◌else◌}
+use Rattle.std.proofs.Common.{◌≡◌, ℕ, Bool, true, false, List, Option, None, Some, sym, ap, ◌∙◌, slice_set}
+use Rattle.std.specs.Prelude.{◌==◌, ◌||◌, not, if◌then◌else◌, Result, Ok, Err, OnOk, is_err}
 use Rattle.meaning.specs.Jobs as machine
 use Rattle.meaning.specs.Jobs.{slot, cleared}
-use Rattle.meaning.specs.Opening.{ring_made, ring_answer, sets_up, found_or_not, core_or, has_no_ring}
+use Rattle.meaning.specs.Opening.{sets_up, found_or_not, core_or, has_no_ring}
 use Rattle.meaning.specs.Outcomes.{settled, clean}
 use Rattle.meaning.specs.Rings.{is_buffered, byte_size, setup, buffers_of}
 use Rattle.meaning.specs.Step.{of_job}
@@ -17,6 +17,15 @@ use Rattle.monitor.specs.declared.job.Job.{Job}
 use Rattle.monitor.specs.Rows.{IsRow}
 use Rattle.monitor.proofs.Calling.{channel_set}
 use Rattle.monitor.proofs.Usetos.{on_row, on_none}
+
+-- what is so at Ok is so where there is no error
+pub ok_gives : {X E P : Type 0} (r : Result X E) → OnOk r P → is_err r ≡ false → P
+ok_gives (Ok x) p e = p
+ok_gives (Err x) p e = cc e
+
+pub ring_there : (mode header : ℕ) (b : Bool) → b ≡ is_buffered mode → b ≡ true → (header == 0) ≡ false
+    → has_no_ring mode header ≡ false
+ring_there mode header b is buffered some = ap (λ x. not x || (header == 0)) (sym is ∙ buffered) ∙ some
 
 module _ (job : Job) (number : ℕ) (c : Channel) (header count : ℕ) (w : UnderKeys) where
   -- by whether there is no ring, and by the core that has it

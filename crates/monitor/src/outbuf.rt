@@ -20,5 +20,6 @@ pub fn outbuf(job: &mut Job, number: u32, count: u32) -> Reply
     let Some(channel) = job.channel(number) else {
         return Reply::NoChannel;
     };
-    set_up_ring(job, number, channel, channel.output_header, count)
+    let header = channel.output_header;
+    set_up_ring(job, number, channel, header, count)
 }
