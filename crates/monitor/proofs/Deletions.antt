@@ -222,7 +222,7 @@ module _ {D : Type 0} (state : D → DiskState) (only_now : (disk : D) (contents
         reading = λ serves. deleted_reading d d' c b c' jobs n job closed among.there input.ppn input.file key v puts
             removes behind among.reading;
         others = λ m other. slot-set_other jobs n m (Some closed) other;
-        answered = λ honest asked. in_state d c false jobs (λ old. (new : Service)
+        answered = λ honest. in_state d c false jobs (λ old. (new : Service)
             × Serves d' c' failed' (slice_set jobs n (Some closed)) new
             × Answers (pack_of d) old (Calls n (Rename number e) moment) replies.Done new) refl
             (λ s state_s.
@@ -242,7 +242,6 @@ module _ {D : Type 0} (state : D → DiskState) (only_now : (disk : D) (contents
         kept = λ kept. absurd kept;
         memory = λ none. cc none;
         refused = λ code none. cc none;
-        unserved = λ x at asked. absurd asked;
         failed = (λ broken. absurd (contrary serves' broken), ⊎_elim (λ error. cc error) (λ error. cc error));
         blamed = λ honest error. cc error;
         counted = λ error. cc error;
@@ -260,7 +259,7 @@ module _ {D : Type 0} (state : D → DiskState) (only_now : (disk : D) (contents
       quiet_serves state only_now disk disk' c c' failed failed' job job' (Rename number e) moment
       (replies.Refused (number_of code)) alive (still.0, is.still fine) (λ x. cc x, λ x. cc x)
       (subst ArePlaced core placed) (λ light. absurd light) (λ kept. absurd kept) (λ none. cc none)
-      (λ k at. ap (with_code job e) (same_code at)) (λ asked. absurd asked) jobs n among
+      (λ k at. ap (with_code job e) (same_code at)) jobs n among
       (subst (λ (x : VolumeCore). AreKeyed x.pending (slice_set jobs n (Some job'))) core
       (job_keyed c.pending jobs n (Some job') among.keyed (ap sides_in (sym among.there))))
       (subst (λ (x : VolumeCore). AreReading x.live (slice_set jobs n (Some job'))) core
@@ -277,7 +276,7 @@ module _ {D : Type 0} (state : D → DiskState) (only_now : (disk : D) (contents
     placed = λ serves. absurd (contrary serves (is.device error));
     reading = λ serves. absurd (contrary serves (is.device error));
     others = λ m other. slot-set_other jobs n m (Some job) other;
-    answered = λ honest asked. in_state d c false jobs (λ old. (new : Service)
+    answered = λ honest. in_state d c false jobs (λ old. (new : Service)
         × Serves d' c' failed' (slice_set jobs n (Some job)) new
         × Answers (pack_of d) old (Calls n (Rename number e) moment) replies.Device new) refl
         (λ s state_s. (Broken, is.device error, (refl, undecided (is.same.was_honest honest) s state_s, refl)));
@@ -287,7 +286,6 @@ module _ {D : Type 0} (state : D → DiskState) (only_now : (disk : D) (contents
     kept = λ kept. absurd kept;
     memory = λ none. cc none;
     refused = λ code at. cc at;
-    unserved = λ x at asked. absurd asked;
     failed = (λ t. inl refl, λ t. is.device error);
     blamed = λ honest at. cc at;
     counted = λ at. is.counted error;

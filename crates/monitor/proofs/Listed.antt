@@ -10,9 +10,9 @@ use Rattle.meaning.specs.Runs.{Service, Serving, Broken, Answers, Run}
 use Rattle.meaning.specs.declared.call.Reply.{Reply}
 use Rattle.meaning.specs.declared.call.Reply.TheVariants.{Done, Value, Refused, Stopped, NoChannel, AddressCheck, NoJob}
 use Rattle.meaning.specs.declared.call.Reply.TheVariants.{NoMemory, Device, Failed, DateRange}
-use Rattle.meaning.proofs.CrashLaws.{is_run, runs_start, runs_served, runs_failed, runs_stay}
+use Rattle.meaning.proofs.CrashLaws.{runs_start, runs_served, runs_failed, runs_stay}
 use Rattle.monitor.specs.Moments.{StandsNow, RunsBy, HoldsStill, last_of}
-use Rattle.monitor.specs.Runs.{IsServedIn, AreServed, TellsFault, FailsOnce}
+use Rattle.monitor.specs.Runs.{TellsFault, FailsOnce}
 use Rattle.monitor.specs.Serving.{pack_of, Serves}
 use Rattle.monitor.specs.States.{MonitorState}
 use Rattle.meaning.specs.declared.call.Event.{Event}
@@ -25,19 +25,6 @@ use Rattle.monitor.proofs.Stills.{holds_still}
 events_more : (events : List Event) (event : Event) → (events ++ event ∷ []) ≡ events ++ event ∷ []
 events_more [] event = refl
 events_more (e ∷ events) event = ap (λ es. e ∷ es) (events_more events event)
-
--- what was served of a list is served of its events but the last, and the last is served after them
-served_parts : (pack : Pack) (old : Service) (events : List Event) (replies : List Reply) (event : Event)
-    (reply : Reply) → length replies ≡ length events → AreServed pack old (events ++ event ∷ []) (replies ++ reply ∷ [])
-    → AreServed pack old events replies × ((mid : Service) → Run pack old events replies mid → IsServedIn mid event)
-served_parts pack old [] [] event reply even served =
-    (tt, λ mid run. subst (λ x. IsServedIn x event) (sym run) served.0)
-served_parts pack old [] (r ∷ replies) event reply even served = absurd (omega (arith, even))
-served_parts pack old (e ∷ events) [] event reply even served = absurd (omega (arith, even))
-served_parts pack old (e ∷ events) (r ∷ replies) event reply even served =
-    let rest = λ (mid : Service) (answers : Answers pack old e r mid). served_parts pack mid events replies event reply
-    (omega (arith, even)) (served.1 mid answers) in
-    ((served.0, λ mid answers. (rest mid answers).0), λ mid run. (rest run.0 run.1).1 mid run.2)
 
 module _ {X : Type 0} (P : X → Type 0) where
   pub all_more : (xs : List X) (x : X) → AllByRecursion P xs → P x → AllByRecursion P (xs ++ x ∷ [])
@@ -100,12 +87,11 @@ module _ {D : Type 0} (state : D → DiskState) where
   abbrev pub Ran : MonitorState D → MonitorState D → List Event → List Reply → Type 0
   Ran first now events replies =
       (state now.disk).honest → (s : State) → Serves (state first.disk) first.map first.failed first.jobs (Serving s)
-      → AreServed (pack_of (state first.disk)) (Serving s) events replies
       → (services : List Service) × Serves (state now.disk) now.map now.failed now.jobs (last_of (Serving s) services)
       × RunsTo first now s events replies services
 
   pub ran_start : (first : MonitorState D) → Ran first first [] []
-  ran_start first h s serves served =
+  ran_start first h s serves =
       let stands = state_stands (state first.disk) first.map first.jobs s serves.1 in (
         [],
         serves,
@@ -119,7 +105,6 @@ module _ {D : Type 0} (state : D → DiskState) where
   abbrev pub RanStill : MonitorState D → MonitorState D → List Event → List Reply → Type 0
   RanStill first now events replies =
       (state now.disk).honest → (s : State) → Serves (state first.disk) first.map first.failed first.jobs (Serving s)
-      → AreServed (pack_of (state first.disk)) (Serving s) events replies
       → (services : List Service) × Serves (state now.disk) now.map now.failed now.jobs (last_of (Serving s) services)
       × RunsOn (pack_of (state first.disk)) (state now.disk) (state first.disk).clock (Serving s) events replies
       (last_of (Serving s) services)
@@ -128,8 +113,8 @@ module _ {D : Type 0} (state : D → DiskState) where
 
   pub ran_still : (first now : MonitorState D) (events : List Event) (replies : List Reply)
       → Ran first now events replies → RanStill first now events replies
-  ran_still first now events replies ran h s serves served =
-      let led = ran h s serves served in (
+  ran_still first now events replies ran h s serves =
+      let led = ran h s serves in (
         led.0,
         led.1,
         led.2.0,
@@ -153,7 +138,7 @@ module _ {D : Type 0} (state : D → DiskState) where
     -- what one event ensures
     abbrev pub IsAnswered : Type 0
     IsAnswered =
-        d'.honest → (s : Service) → Serves d old.map old.failed old.jobs s → IsServedIn s event
+        d'.honest → (s : Service) → Serves d old.map old.failed old.jobs s
         → (t : Service) × Serves d' new.map new.failed new.jobs t × Answers (pack_of d) s event reply t
 
     abbrev pub Crashes : Type 0
@@ -223,25 +208,23 @@ module _ {D : Type 0} (state : D → DiskState) where
               (Serving s) events replies services runs.1 last,
         )
 
-    pub ran_more : length replies ≡ length events → SameDisk (state first.disk) d → SameDisk (state first.disk) d'
+    pub ran_more : SameDisk (state first.disk) d → SameDisk (state first.disk) d'
         → SameDisk d d' → IsAnswered → Crashes → Stays → Ran first old events replies
         → Ran first new (events ++ event ∷ []) (replies ++ reply ∷ [])
-    ran_more even same same' once answered crash stays ran h s serves served =
-        let parts = served_parts pack (Serving s) events replies event reply even served in
-        let led = ran (once.was_honest h) s serves parts.0 in
+    ran_more same same' once answered crash stays ran h s serves =
+        let led = ran (once.was_honest h) s serves in
         let last = last_of (Serving s) led.0 in
-        on led.0 last refl
-        (parts.1 last (is_run pack d (state first.disk).clock (Serving s) last events replies led.2.0)) led.1 led.2
+        on led.0 last refl led.1 led.2
       where
         size : pack_of d ≡ pack
         size = ap pack_with same.size
 
-        on : (services : List Service) (mid : Service) → last_of (Serving s) services ≡ mid → IsServedIn mid event
+        on : (services : List Service) (mid : Service) → last_of (Serving s) services ≡ mid
             → Serves d old.map old.failed old.jobs mid
             → RunsTo first old s events replies services → Goal s
-        on services Broken last is failed runs = stayed s services failed last runs (stays failed)
-        on services (Serving u) last is mid runs =
-            let after = answered h (Serving u) mid is in
+        on services Broken last failed runs = stayed s services failed last runs (stays failed)
+        on services (Serving u) last mid runs =
+            let after = answered h (Serving u) mid in
             went_on s u services same' last runs (subst (λ p. LeavesOnly d d' (StandsForEither p u event reply)) size
             (crash h u mid)) after.0 after.1
             (subst (λ p. Answers p (Serving u) event reply after.0) size after.2)

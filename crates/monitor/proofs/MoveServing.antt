@@ -266,14 +266,13 @@ module _ {D : Type 0} (state : D → DiskState) (only_now : (disk : D) (contents
         reading = λ alive. moved_reading core b core' jobs n job job' among.there input.ppn input.file to_ppn to
             protection made behind among.reading;
         others = λ m other. slot-set_other jobs n m (Some job') other;
-        answered = λ honest' served. done_answered honest';
+        answered = λ honest'. done_answered honest';
         crash = crashes (Ok x) says (λ e. cc e);
         idle = λ idle. absurd idle;
         light = λ light. absurd light;
         kept = λ kept. absurd kept;
         memory = λ none. cc none;
         refused = λ code refused. cc refused;
-        unserved = λ y at asked. absurd asked;
         failed = quiet_failed false failed' replies.Done refl works (λ e. cc e, λ e. cc e);
         blamed = λ honest' e. cc e;
         counted = λ e. cc e;
@@ -295,7 +294,7 @@ module _ {D : Type 0} (state : D → DiskState) (only_now : (disk : D) (contents
           placed = broken is _;
           reading = broken is _;
           others = λ m other. slot-set_other jobs n m (Some job) other;
-          answered = λ honest' served. in_state d core false jobs
+          answered = λ honest'. in_state d core false jobs
               (λ old'. (new' : Service) × Serves d' b failed' (slice_set jobs n (Some job)) new'
               × Answers (pack_of d) old' (Calls n (Rename number e) moment) replies.Device new') refl
               (λ s at. (
@@ -315,7 +314,6 @@ module _ {D : Type 0} (state : D → DiskState) (only_now : (disk : D) (contents
           kept = λ kept. absurd kept;
           memory = λ none. cc none;
           refused = λ code refused. cc refused;
-          unserved = λ y at asked. absurd asked;
           failed = (λ t. inl refl, λ e. is);
           blamed = λ honest' e. cc e;
           counted = λ e. says.counted refl;
@@ -334,14 +332,13 @@ module _ {D : Type 0} (state : D → DiskState) (only_now : (disk : D) (contents
           placed = broken is _;
           reading = broken is _;
           others = λ m other. slot-set_other jobs n m (Some job) other;
-          answered = λ honest' served. absurd (says.given_up refl honest');
+          answered = λ honest'. absurd (says.given_up refl honest');
           crash = λ honest'. absurd (says.given_up refl honest');
           idle = λ idle. absurd idle;
           light = λ light. absurd light;
           kept = λ kept. absurd kept;
           memory = λ none. cc none;
           refused = λ code refused. cc refused;
-          unserved = λ y at asked. absurd asked;
           failed = (λ t. inr refl, λ e. is);
           blamed = λ honest' e. says.given_up refl honest';
           counted = λ e. cc e;

@@ -15,14 +15,13 @@ use Rattle.meaning.proofs.SlotLaws.{none_some, slot-set_other}
 use Rattle.volume.specs.Live.{VolumeCore}
 use Rattle.volume.specs.declared.live.LiveVersion.{LiveVersion}
 use Rattle.volume.specs.declared.pending.PendingVersion.{PendingVersion}
-use Rattle.monitor.specs.Calls.{IsServed, IsLight, KeepsCore}
+use Rattle.monitor.specs.Calls.{IsLight, KeepsCore}
 use Rattle.monitor.specs.Dropping.{Leaves}
 use Rattle.monitor.specs.Publishing.{PublishesBy, IsPublishRow, CrashesAsRow, StillStands}
 use Rattle.monitor.specs.Promises.{IsAmong, IsServing, ServesJob}
 use Rattle.monitor.specs.Refusals.{refused_with}
 use Rattle.monitor.specs.Rows.{IsRow, Keeps, KeepsReading, ClosesSide, publishes_at}
 use Rattle.monitor.specs.Serving.{pack_of, Serves, AreKeyed, ArePlaced, AreReading}
-use Rattle.monitor.specs.Unserved.{IsUnserved, UnservedRow}
 use Rattle.monitor.specs.declared.channel.Channel.{Channel}
 use Rattle.monitor.specs.declared.output.Output.{Output}
 use Rattle.monitor.specs.declared.job.Job.{Job}
@@ -54,14 +53,13 @@ module _ {D : Type 0} (state : D → DiskState) (only_now : (disk : D) (contents
       × (reply ≡ Device → ⊥))
       (placed : ArePlaced core') (room : IsLight call (Some job) → reply ≡ NoMemory → ⊥) (kept : KeepsCore call
       → core' ≡ core) (memory : reply ≡ NoMemory → (core' ≡ core) × (job' ≡ job))
-      (refused : (code : ℕ) → reply ≡ Refused code → job' ≡ refused_with call job code) (unserved : IsUnserved call job
-      → (core' ≡ core) × UnservedRow call job job' reply)
+      (refused : (code : ℕ) → reply ≡ Refused code → job' ≡ refused_with call job code)
       (jobs : List (Option Job)) (n : ℕ) (among : IsAmong core jobs n job) where
     abbrev pub jobs' : List (Option Job)
     jobs' = slice_set jobs n (Some job')
 
     pub quiet_serves : AreKeyed core'.pending jobs' → AreReading core'.live jobs'
-        → ((state disk').honest → IsServed call (Some job) → (old : Service) → Serves (state disk) core false jobs old
+        → ((state disk').honest → (old : Service) → Serves (state disk) core false jobs old
         → (new : Service) × Serves (state disk) core' false jobs' new
         × Answers (pack_of (state disk)) old (Calls n call moment) reply new)
         → IsServing state disk disk' core core' failed' jobs jobs' n call moment reply
@@ -70,10 +68,10 @@ module _ {D : Type 0} (state : D → DiskState) (only_now : (disk : D) (contents
       placed = λ serves. placed;
       reading = λ serves. reading;
       others = λ m other. slot-set_other jobs n m (Some job') other;
-      answered = λ honest served old serves.
+      answered = λ honest old serves.
           on_disk state disk disk' false failed' core' jobs'
           (Answers (pack_of (state disk)) old (Calls n call moment) reply) (untouched.0, untouched.1 ∙ alive)
-          (answered honest (subst (IsServed call) among.there served) old serves);
+          (answered honest old serves);
       crash = untouched_crashes state only_now disk disk' untouched.0 core jobs n call moment;
       idle = λ idle. untouched.0;
       light = λ light. (room (subst (IsLight call) among.there light), untouched.0);
@@ -86,10 +84,6 @@ module _ {D : Type 0} (state : D → DiskState) (only_now : (disk : D) (contents
       );
       refused = λ code is.
           record { job = job; there = among.there; jobs_are = ap (λ j. slice_set jobs n (Some j)) (refused code is) };
-      unserved = λ x at is.
-          let same = some_same (sym among.there ∙ at) in
-          let row = unserved (subst (IsUnserved call) (sym same) is) in
-          (row.0, job', subst (λ j. UnservedRow call j job' reply) same row.1, refl);
       failed = quiet_failed failed failed' reply alive untouched.1 only;
       blamed = λ honest is. absurd (only.0 is);
       counted = λ is. absurd (only.1 is);
@@ -100,24 +94,24 @@ module _ {D : Type 0} (state : D → DiskState) (only_now : (disk : D) (contents
   -- A call that has to do with its job alone.
   pub alone_serves : (disk : D) (core : VolumeCore) (failed : Bool) (job job' : Job) (call : Call) (moment : Moment)
       (reply : Reply) → failed ≡ false → ArePlaced core → moment.date ≤ 4095
-      → (IsServed call (Some job) → IsRow job job' call reply) → (IsUnserved call job → UnservedRow call job job' reply)
+      → IsRow job job' call reply
       → ((pending : List (Option PendingVersion)) → Keeps pending pending job job')
       → ((live : List (Option LiveVersion)) → KeepsReading live live job job') → (reply ≡ Failed → ⊥)
       × (reply ≡ Device → ⊥) × (reply ≡ NoMemory → ⊥)
       → ((code : ℕ) → reply ≡ Refused code → job' ≡ refused_with call job code)
       → ServesJob state disk disk core core failed job job' call moment reply
-  alone_serves disk core failed job job' call moment reply alive placed timely row unserved keeps reads
+  alone_serves disk core failed job job' call moment reply alive placed timely row keeps reads
       only refused jobs n among =
       let set = slice_set jobs n (Some job') in
       quiet_serves disk disk core core failed failed job job' call moment reply alive (refl, refl)
       (only.0, only.1) placed (λ light. only.2) (λ kept. refl) (λ none. absurd (only.2 none)) refused
-      (λ is. (refl, unserved is)) jobs n among
+      jobs n among
       (alone_keyed (state disk) core false jobs n call moment refl timely set job job' among.keyed among.there refl
       (keeps core.pending))
       (alone_reading (state disk) core false jobs n call moment refl timely set job job' among.reading among.there refl
       (reads core.live))
-      (λ honest served. alone (state disk) core false jobs n call moment refl timely set job job' reply
-      among.keyed among.reading among.there refl (keeps core.pending) (reads core.live) (row served))
+      (λ honest. alone (state disk) core false jobs n call moment refl timely set job job' reply
+      among.keyed among.reading among.there refl (keeps core.pending) (reads core.live) row)
 
   -- A call by which versions are dropped or let go, and which asks for nothing else.
   pub dropping_serves : (disk disk' : D) (core core' : VolumeCore) (failed failed' : Bool) (job job' : Job)
@@ -125,19 +119,19 @@ module _ {D : Type 0} (state : D → DiskState) (only_now : (disk : D) (contents
       → ArePlaced core → moment.date ≤ 4095 → IsRow job job' call reply → Keeps core.pending core'.pending job job'
       → KeepsReading core.live core'.live job job'
       → Leaves core core' → (reply ≡ Failed → ⊥) × (reply ≡ Device → ⊥) × (reply ≡ NoMemory → ⊥)
-      → ((code : ℕ) → reply ≡ Refused code → ⊥) → (KeepsCore call → ⊥) → (IsUnserved call job → ⊥)
+      → ((code : ℕ) → reply ≡ Refused code → ⊥) → (KeepsCore call → ⊥)
       → ServesJob state disk disk' core core' failed' job job' call moment reply
   dropping_serves disk disk' core core' failed failed' job job' call moment reply alive untouched placed
-      timely row keeps reads leaves only refused changes served jobs n among =
+      timely row keeps reads leaves only refused changes jobs n among =
       let set = slice_set jobs n (Some job') in
       quiet_serves disk disk' core core' failed failed' job job' call moment reply alive untouched (only.0, only.1)
       (placed_left core core' leaves placed) (λ light. only.2) (λ kept. absurd (changes kept))
-      (λ none. absurd (only.2 none)) (λ code is. absurd (refused code is)) (λ is. absurd (served is)) jobs n among
+      (λ none. absurd (only.2 none)) (λ code is. absurd (refused code is)) jobs n among
       (dropping_keyed (state disk) core core' false jobs set n job job' call moment refl timely among.there
       refl keeps reads among.keyed)
       (dropping_reading (state disk) core core' false jobs set n job job' call moment refl timely among.there
       refl keeps reads among.reading)
-      (λ honest served old serves. dropping_answered (state disk) core core' false jobs set n job job'
+      (λ honest old serves. dropping_answered (state disk) core core' false jobs set n job job'
       call moment refl timely among.there refl keeps reads reply among.keyed among.reading leaves row old serves)
 
   -- Nobody is logged in by that number.
@@ -160,7 +154,6 @@ module _ {D : Type 0} (state : D → DiskState) (only_now : (disk : D) (contents
     kept = λ kept. refl;
     memory = λ e. cc e;
     refused = λ code e. cc e;
-    unserved = λ job at is. absurd (none_some (sym none ∙ at));
     failed = quiet_failed failed failed NoJob alive refl (λ e. cc e, λ e. cc e);
     blamed = λ honest e. cc e;
     counted = λ e. cc e;
@@ -185,10 +178,10 @@ module _ {D : Type 0} (state : D → DiskState) (only_now : (disk : D) (contents
       → StillStands core core' failed' job job'
       → IsPublishRow (state disk) (state disk') core core' failed' job job' call reply
       → CrashesAsRow (state disk) (state disk') core job call
-      → (IsLight call (Some job) → ⊥) → (KeepsCore call → ⊥) → (IsUnserved call job → ⊥)
+      → (IsLight call (Some job) → ⊥) → (KeepsCore call → ⊥)
       → ServesJob state disk disk' core core' failed' job job' call moment reply
   publishing_serves disk disk' core between core' failed failed' key job job' call moment reply alive placed timely
-      publishes memory kept stands row crash heavy changes served jobs n among =
+      publishes memory kept stands row crash heavy changes jobs n among =
       let is = publishes.answered in
       let d = state disk in
       let d' = state disk' in
@@ -200,7 +193,7 @@ module _ {D : Type 0} (state : D → DiskState) (only_now : (disk : D) (contents
         placed = λ works. (still works).1;
         reading = λ works. (still works).2;
         others = λ m other. slot-set_other jobs n m (Some job') other;
-        answered = λ honest asked. row_answered d d' core core' jobs set n job job' moment among.there refl
+        answered = λ honest. row_answered d d' core core' jobs set n job job' moment among.there refl
             timely false failed' call reply refl placed honest row;
         crash = row_crashes d d' core core' jobs set n job job' moment among.there refl timely call crash;
         idle = λ idle. (memory (publishing_idle d d' core between failed failed' key reply is idle)).0;
@@ -215,8 +208,6 @@ module _ {D : Type 0} (state : D → DiskState) (only_now : (disk : D) (contents
             );
         refused = λ code refused.
             absurd (publishing_refused d d' core between failed failed' key code reply is refused);
-        unserved = λ x at asked.
-            absurd (served (subst (IsUnserved call) (sym (some_same (sym among.there ∙ at))) asked));
         failed = fails;
         blamed = publishing_blamed d d' core between failed failed' key reply alive is;
         counted = publishing_counted d d' core between failed failed' key reply is;

@@ -113,9 +113,9 @@ module _ {D : Type 0} (state : D → DiskState) (only_now : (disk : D) (contents
   serves_refused =
       quiet_serves state only_now disk disk c c failed failed job job' (Rename number e) moment
       (Refused (number_of code)) alive (refl, refl) (λ x. cc x, λ x. cc x) placed (λ light. absurd light)
-      (λ kept. absurd kept) (λ none. cc none) (λ k at. ap (with_code job e) (same_code at)) (λ asked. absurd asked)
+      (λ kept. absurd kept) (λ none. cc none) (λ k at. ap (with_code job e) (same_code at))
       jobs n among keyed reading
-      (λ honest asked. in_state d c false jobs (λ old. (new : Service) × Serves d c false jobs' new
+      (λ honest. in_state d c false jobs (λ old. (new : Service) × Serves d c false jobs' new
       × Answers (pack_of d) old (Calls n (Rename number e) moment) (Refused (number_of code)) new) refl
       (λ s state_s. goes_on d c false jobs' (pack_of d) (Calls n (Rename number e) moment) (Refused (number_of code)) s
       (state_of s.files state_s.under jobs') refl state_s.sound (step_refused honest s state_s)
@@ -142,7 +142,7 @@ out_of_order state only_now disk c failed job after number e moment reply alive 
     (subst (λ r. ServesJob state disk disk c c failed job (with_code job e 5) (Rename number e) moment r)
     (sym answer_is)
     (alone_serves state only_now disk c failed job (with_code job e 5) (Rename number e) moment (Refused 5) alive
-    placed timely (λ served. row) (λ asked. absurd asked)
+    placed timely row
     (λ pending. keeps_core pending pending job (with_code job e 5).core refl)
     (λ live. reading_core live job (with_code job e 5).core) (λ x. cc x, λ x. cc x, λ x. cc x)
     (λ k at. ap (with_code job e) (same_code at))))

@@ -1,36 +1,10 @@
--- Which calls are served as the machine serves them, and which take no memory and leave the disk alone.
+-- Which calls take no memory and leave the disk alone.
 use Rattle.std.specs.Prelude.{◌≡◌, ℕ, false, Option, None, Some}
-use Rattle.meaning.specs.Opening.{mode_at}
-use Rattle.meaning.specs.Rings.{is_buffered}
 use Rattle.meaning.specs.declared.call.Call.{Call}
 use Rattle.meaning.specs.declared.call.Call.TheVariants.{Open, Inbuf, Outbuf, Lookup, Enter, Rename, In, Out, Useti}
 use Rattle.meaning.specs.declared.call.Call.TheVariants.{Useto, Close, Releas, Getsts, Reset, MakeDir, DeleteDir}
 use Rattle.monitor.specs.declared.job.Job.{Job}
 use Rattle.monitor.specs.Rows.{publishes_by}
-
--- the mode at the address is none with buffers
-abbrev pub IsUnbuffered : ℕ → Option Job → Type 0
-IsUnbuffered address None = Unit {0}
-IsUnbuffered address (Some job) = is_buffered (mode_at job.core address) ≡ false
-
--- A call that is answered as the machine does: so far no ring is opened.
-abbrev pub IsServed : Call → Option Job → Type 0
-IsServed (Open channel address) job = IsUnbuffered address job
-IsServed (Inbuf channel count) job = Unit {0}
-IsServed (Outbuf channel count) job = Unit {0}
-IsServed (Lookup channel address) job = Unit {0}
-IsServed (Enter channel address) job = Unit {0}
-IsServed (Rename channel address) job = Unit {0}
-IsServed (In channel address) job = Unit {0}
-IsServed (Out channel address) job = Unit {0}
-IsServed (Useti channel block) job = Unit {0}
-IsServed (Useto channel block) job = Unit {0}
-IsServed (Close channel bits) job = Unit {0}
-IsServed (Releas channel) job = Unit {0}
-IsServed (Getsts channel) job = Unit {0}
-IsServed Reset job = Unit {0}
-IsServed (MakeDir address) job = Unit {0}
-IsServed (DeleteDir address) job = Unit {0}
 
 -- a call that takes no memory and leaves the disk alone, by the job that makes it
 abbrev pub IsLight : Call → Option Job → Type 0

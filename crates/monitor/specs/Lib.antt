@@ -19,7 +19,6 @@ pub mod Inputs
 pub mod LookingUp
 pub mod Reading
 pub mod Refusals
-pub mod Unserved
 pub mod Promises
 pub mod Renewing
 pub mod Updating

@@ -10,11 +10,10 @@ use Rattle.meaning.specs.declared.call.Reply.{Reply}
 use Rattle.meaning.specs.declared.call.Reply.TheVariants.{NoMemory, Device, Failed, Refused}
 use Rattle.volume.specs.Live.{VolumeCore}
 use Rattle.volume.specs.Rest.{IsSound}
-use Rattle.monitor.specs.Calls.{IsServed, IsLight, KeepsCore}
+use Rattle.monitor.specs.Calls.{IsLight, KeepsCore}
 use Rattle.monitor.specs.Events.{CallCrashes, IsIdle}
 use Rattle.monitor.specs.Refusals.{IsRefused}
 use Rattle.monitor.specs.Serving.{pack_of, Serves, AreKeyed, ArePlaced, AreReading}
-use Rattle.monitor.specs.Unserved.{IsUnserved, UnservedRow}
 use Rattle.monitor.specs.declared.job.Job.{Job}
 
 -- The job of number n among these is this one, and what they write and read is what the volume has.
@@ -44,8 +43,7 @@ pub record IsServing {D : Type 0} (state : D → DiskState) (disk disk' : D) (co
   pub others : (m : ℕ) → (m ≡ n → ⊥) → slot jobs' m ≡ slot jobs m
   -- It is answered as the machine does, and leaves what the machine leaves; a crash leaves the files from before, or
   -- those.
-  pub answered : (state disk').honest → IsServed call (slot jobs n) → (old : Service)
-      → Serves (state disk) core false jobs old
+  pub answered : (state disk').honest → (old : Service) → Serves (state disk) core false jobs old
       → (new : Service) × Serves (state disk') core' failed' jobs' new
       × Answers (pack_of (state disk)) old (Calls n call moment) reply new
   pub crash : CallCrashes (state disk) (state disk') core jobs n call moment
@@ -55,8 +53,6 @@ pub record IsServing {D : Type 0} (state : D → DiskState) (disk disk' : D) (co
   pub kept : KeepsCore call → core' ≡ core
   pub memory : reply ≡ NoMemory → (disk' ≡ disk) × (core' ≡ core) × (failed' ≡ false) × (jobs' ≡ jobs)
   pub refused : (code : ℕ) → reply ≡ Refused code → IsRefused call n code jobs jobs'
-  pub unserved : (job : Job) → slot jobs n ≡ Some job → IsUnserved call job
-      → (core' ≡ core) × (job' : Job) × UnservedRow call job job' reply × (jobs' ≡ slice_set jobs n (Some job'))
   -- It fails with the volume, and blames the device where that failed.
   pub failed : IsTrue failed' ↔ ((reply ≡ Device) ⊎ (reply ≡ Failed))
   pub blamed : (state disk').honest → reply ≡ Failed → ⊥

@@ -7,13 +7,12 @@ ghost use Rattle.meaning.specs.Runs.{Service, Serving, Answers};
 ghost use Rattle.meaning.specs.declared.call.Call.TheVariants.{In};
 ghost use Rattle.meaning.specs.declared.call.Event.TheVariants.{Call as Calls};
 ghost use Rattle.meaning.specs.declared.call.Reply.TheVariants.{NoMemory, Failed, Device, DateRange, Refused};
-ghost use Rattle.monitor.specs.Calls.{IsServed, IsLight, KeepsCore};
+ghost use Rattle.monitor.specs.Calls.{IsLight, KeepsCore};
 ghost use Rattle.monitor.specs.Events.{IsIdle};
 ghost use Rattle.monitor.specs.Moments.{read_of};
 ghost use Rattle.monitor.specs.Promises.{IsReady, IsServing, ServesJob};
 ghost use Rattle.monitor.specs.Refusals.{IsRefused};
 ghost use Rattle.monitor.specs.Serving.{pack_of, Serves, AreKeyed, ArePlaced, AreReading};
-ghost use Rattle.monitor.specs.Unserved.{IsUnserved, UnservedRow};
 ghost use Rattle.monitor.specs.declared.job.Job.{Job as JobRecord};
 ghost use Rattle.volume.specs.Rest.{IsSound};
 
@@ -110,9 +109,9 @@ impl<D: Disk> Monitor<D> {
     /// `NoJob` where no job of that number is logged in; `NoChannel` where the channel isn't open, or where OPEN
     /// names one above 15; `NoMemory` where core can't grow, with everything as before; `Device` where the device
     /// failed, and then `Failed` to every call. A later start finds the files from before the call or those after
-    /// it. Not served yet is an OPEN in a mode with buffers: it is `Stopped` as one in a mode that there isn't.
+    /// it.
     pub fn call(&mut self, alloc: Global, job: u32, call: &Call, moment: Moment) -> Reply
-        ensures answered { (D.state self.new.disk).honest → IsServed call.now (slot self.old.jobs job) → (old : Service)
+        ensures answered { (D.state self.new.disk).honest → (old : Service)
             → Serves (D.state self.old.disk) self.old.map self.old.failed self.old.jobs old
             → (new : Service) × Serves (D.state self.new.disk) self.new.map self.new.failed self.new.jobs new
             × Answers (pack_of (D.state self.old.disk)) old (Calls job call.now moment) result new }
@@ -125,7 +124,7 @@ impl<D: Disk> Monitor<D> {
             → (after : State)
             × Serves (D.state self.new.disk) self.new.map self.new.failed self.new.jobs (Serving after)
             × (result ≡ (read_of own channel address).0) × (job_at after job ≡ Some (read_of own channel address).1) }
-        ensures apart { (D.state self.new.disk).honest → IsServed call.now (slot self.old.jobs job) → (s : State)
+        ensures apart { (D.state self.new.disk).honest → (s : State)
             → Serves (D.state self.old.disk) self.old.map self.old.failed self.old.jobs (Serving s)
             → (after : Service) × Serves (D.state self.new.disk) self.new.map self.new.failed self.new.jobs after
             × Answers (pack_of (D.state self.old.disk)) (Serving s) (Calls job call.now moment) result after
@@ -155,12 +154,8 @@ impl<D: Disk> Monitor<D> {
         ensures same { SameDisk (D.state self.old.disk) (D.state self.new.disk) }
         // A date that the disk can't hold.
         ensures late { self.old.failed ≡ false → 4095 < moment.date → (result ≡ DateRange) × (self.new ≡ self.old) }
-        // Which calls leave what is known of the disk, and what is answered to the one that isn't served yet.
+        // Which calls leave what is known of the disk.
         ensures kept { KeepsCore call.now → self.new.map ≡ self.old.map }
-        ensures unserved { self.old.failed ≡ false → moment.date ≤ 4095 → (there : JobRecord)
-            → slot self.old.jobs job ≡ Some there → IsUnserved call.now there
-            → (self.new.map ≡ self.old.map) × (after : JobRecord) × UnservedRow call.now there after result
-            × (self.new.jobs ≡ slice_set self.old.jobs job (Some after)) }
     {
         if self.volume.has_failed() {
             return Reply::Failed;

@@ -8,13 +8,12 @@ ghost use Rattle.meaning.specs.Runs.{Service, Serving, Answers};
 ghost use Rattle.meaning.specs.declared.call.Reply.TheVariants.{Refused, Device, Failed, DateRange};
 ghost use Rattle.meaning.specs.declared.call.Reply.TheVariants as replies;
 ghost use Rattle.monitor.specs.Moments.{RunsBy, HoldsStill, last_of, read_of};
-ghost use Rattle.monitor.specs.Runs.{IsServedIn, AreServed, TellsFault, FailsOnce};
+ghost use Rattle.monitor.specs.Runs.{TellsFault, FailsOnce};
 ghost use Rattle.meaning.specs.Step.{job_of};
 ghost use Rattle.monitor.specs.Serving.{pack_of, Serves};
 ghost use Rattle.monitor.specs.Events.{IsIdle, OfCall, IsNoCall, IsLightEvent};
 ghost use Rattle.monitor.specs.Refusals.{IsRefused};
 ghost use Rattle.monitor.specs.Calls.{KeepsCore};
-ghost use Rattle.monitor.specs.Unserved.{IsUnserved, UnservedRow};
 ghost use Rattle.monitor.specs.declared.job.Job.{Job as JobRecord};
 ghost use Rattle.meaning.specs.declared.call.Call.TheVariants.{In};
 
@@ -27,7 +26,7 @@ impl<D: Disk> Monitor<D> {
     /// Serves one event, and gives its reply: that of `login`, `deposit`, `examine` or `call`.
     pub fn event(&mut self, alloc: Global, event: &Event) -> Reply
         ensures answered { (D.state self.new.disk).honest → (old : Service)
-            → Serves (D.state self.old.disk) self.old.map self.old.failed self.old.jobs old → IsServedIn old event.now
+            → Serves (D.state self.old.disk) self.old.map self.old.failed self.old.jobs old
             → (new : Service) × Serves (D.state self.new.disk) self.new.map self.new.failed self.new.jobs new
             × Answers (pack_of (D.state self.old.disk)) old event.now result new }
         // At any moment of it a crash leaves the files from before, or those after it where its answer is one that may
@@ -36,10 +35,9 @@ impl<D: Disk> Monitor<D> {
             → Serves (D.state self.old.disk) self.old.map self.old.failed self.old.jobs (Serving s)
             → LeavesOnly (D.state self.old.disk) (D.state self.new.disk)
             (StandsForEither (pack_of (D.state self.old.disk)) s event.now result) }
-        // The machine's record of another job stays, where it is served as the machine serves it.
+        // The machine's record of another job stays.
         ensures apart { (D.state self.new.disk).honest → (s : State)
             → Serves (D.state self.old.disk) self.old.map self.old.failed self.old.jobs (Serving s)
-            → IsServedIn (Serving s) event.now
             → (after : Service) × Serves (D.state self.new.disk) self.new.map self.new.failed self.new.jobs after
             × Answers (pack_of (D.state self.old.disk)) (Serving s) event.now result after
             × ((t : State) → after ≡ Serving t → (m : ℕ) → (m ≡ job_of event.now → ⊥) → job_at t m ≡ job_at s m) }
@@ -72,10 +70,6 @@ impl<D: Disk> Monitor<D> {
         ensures late { OfCall event.now (λ job call moment. self.old.failed ≡ false → 4095 < moment.date
             → (result ≡ DateRange) × (self.new ≡ self.old)) }
         ensures kept { OfCall event.now (λ job call moment. KeepsCore call → self.new.map ≡ self.old.map) }
-        ensures unserved { OfCall event.now (λ job call moment. self.old.failed ≡ false → moment.date ≤ 4095
-            → (there : JobRecord) → slot self.old.jobs job ≡ Some there → IsUnserved call there
-            → (self.new.map ≡ self.old.map) × (after : JobRecord) × UnservedRow call there after result
-            × (self.new.jobs ≡ slice_set self.old.jobs job (Some after))) }
     {
         match *event {
             Event::Login(job, ppn, words) => self.login(alloc, job, ppn, words),
@@ -101,7 +95,6 @@ impl<D: Disk> Monitor<D> {
         // the words that an IN moves are those of the file that its LOOKUP found, whatever other jobs do.
         ensures runs { IfOk result (λ replies. (D.state self.new.disk).honest → (s : State)
             → Serves (D.state self.old.disk) self.old.map self.old.failed self.old.jobs (Serving s)
-            → AreServed (pack_of (D.state self.old.disk)) (Serving s) events.now replies.items
             → (services : List Service) × Serves (D.state self.new.disk) self.new.map self.new.failed self.new.jobs
             (last_of (Serving s) services)
             × RunsOn (pack_of (D.state self.old.disk)) (D.state self.new.disk) (D.state self.old.disk).clock

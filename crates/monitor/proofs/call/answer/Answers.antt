@@ -17,8 +17,7 @@ returns-in-Open g c = record {
       (alone_serves g.D.Disk.state g.met.D.Disk.only_now volume.disk map volume.failed c.args.job.now c.open.new.job
       (Open c.in-Open.channel c.in-Open.address) c.args.moment c.open.result c.requires.ready.alive
       c.requires.ready.placed c.requires.timely
-      (c.open.ensures.row) (c.open.ensures.unserved) c.open.ensures.keeps c.open.ensures.reads c.open.ensures.only
-      c.open.ensures.refused);
+      c.open.ensures.row c.open.ensures.keeps c.open.ensures.reads c.open.ensures.only c.open.ensures.refused);
 }
 
 pub returns-in-Rename : goal.returns-in-Rename
@@ -41,8 +40,7 @@ returns-in-Useti g c = record {
       (alone_serves g.D.Disk.state g.met.D.Disk.only_now volume.disk map volume.failed c.args.job.now c.useti.new.job
       (Useti c.in-Useti.channel c.in-Useti.block) c.args.moment c.useti.result c.requires.ready.alive
       c.requires.ready.placed c.requires.timely
-      (λ served. c.useti.ensures.row) (λ is. absurd is) c.useti.ensures.keeps c.useti.ensures.reads c.useti.ensures.only
-      c.useti.ensures.refused);
+      c.useti.ensures.row c.useti.ensures.keeps c.useti.ensures.reads c.useti.ensures.only c.useti.ensures.refused);
 }
 
 pub returns-in-Useto : goal.returns-in-Useto
@@ -55,8 +53,7 @@ returns-in-Useto g c = record {
       (alone_serves g.D.Disk.state g.met.D.Disk.only_now volume.disk map volume.failed c.args.job.now c.useto.new.job
       (Useto c.in-Useto.channel c.in-Useto.block) c.args.moment c.useto.result c.requires.ready.alive
       c.requires.ready.placed c.requires.timely
-      (λ served. c.useto.ensures.row) (λ is. absurd is) c.useto.ensures.keeps c.useto.ensures.reads c.useto.ensures.only
-      c.useto.ensures.refused);
+      c.useto.ensures.row c.useto.ensures.keeps c.useto.ensures.reads c.useto.ensures.only c.useto.ensures.refused);
 }
 
 pub returns-in-DeleteDir : goal.returns-in-DeleteDir
@@ -74,14 +71,12 @@ returns-in-Inbuf g c = record {
   serving =
       let volume = c.args.volume.now in
       let map = volume.core in
-      let job = c.args.job.now in
-      subst (λ (call : Call). ServesJob g.D.Disk.state volume.disk volume.disk map map volume.failed job
-      job call c.args.moment c.inbuf.result) (sym c.in-Inbuf.is)
-      (alone_serves g.D.Disk.state g.met.D.Disk.only_now volume.disk map volume.failed job job
-      (Inbuf c.in-Inbuf.channel c.in-Inbuf._count) c.args.moment c.inbuf.result c.requires.ready.alive
+      subst (λ (call : Call). ServesJob g.D.Disk.state volume.disk volume.disk map map volume.failed c.args.job.now
+      c.inbuf.new.job call c.args.moment c.inbuf.result) (sym c.in-Inbuf.is)
+      (alone_serves g.D.Disk.state g.met.D.Disk.only_now volume.disk map volume.failed c.args.job.now c.inbuf.new.job
+      (Inbuf c.in-Inbuf.channel c.in-Inbuf.count) c.args.moment c.inbuf.result c.requires.ready.alive
       c.requires.ready.placed c.requires.timely
-      (λ served. c.inbuf.ensures.row c.in-Inbuf._count) (λ is. absurd is) (λ pending. keeps_same pending job)
-      (λ live. reads_same live job) c.inbuf.ensures.only (λ code is. refl));
+      c.inbuf.ensures.row c.inbuf.ensures.keeps c.inbuf.ensures.reads c.inbuf.ensures.only c.inbuf.ensures.refused);
 }
 
 pub returns-in-Outbuf : goal.returns-in-Outbuf
@@ -89,14 +84,12 @@ returns-in-Outbuf g c = record {
   serving =
       let volume = c.args.volume.now in
       let map = volume.core in
-      let job = c.args.job.now in
-      subst (λ (call : Call). ServesJob g.D.Disk.state volume.disk volume.disk map map volume.failed job
-      job call c.args.moment c.outbuf.result) (sym c.in-Outbuf.is)
-      (alone_serves g.D.Disk.state g.met.D.Disk.only_now volume.disk map volume.failed job job
-      (Outbuf c.in-Outbuf.channel c.in-Outbuf._count) c.args.moment c.outbuf.result c.requires.ready.alive
+      subst (λ (call : Call). ServesJob g.D.Disk.state volume.disk volume.disk map map volume.failed c.args.job.now
+      c.outbuf.new.job call c.args.moment c.outbuf.result) (sym c.in-Outbuf.is)
+      (alone_serves g.D.Disk.state g.met.D.Disk.only_now volume.disk map volume.failed c.args.job.now c.outbuf.new.job
+      (Outbuf c.in-Outbuf.channel c.in-Outbuf.count) c.args.moment c.outbuf.result c.requires.ready.alive
       c.requires.ready.placed c.requires.timely
-      (λ served. c.outbuf.ensures.row c.in-Outbuf._count) (λ is. absurd is) (λ pending. keeps_same pending job)
-      (λ live. reads_same live job) c.outbuf.ensures.only (λ code is. refl));
+      c.outbuf.ensures.row c.outbuf.ensures.keeps c.outbuf.ensures.reads c.outbuf.ensures.only c.outbuf.ensures.refused);
 }
 
 pub returns-in-Getsts : goal.returns-in-Getsts
@@ -110,7 +103,7 @@ returns-in-Getsts g c = record {
       (alone_serves g.D.Disk.state g.met.D.Disk.only_now volume.disk map volume.failed job job
       (Getsts c.in-Getsts.channel) c.args.moment c.getsts.result c.requires.ready.alive c.requires.ready.placed
       c.requires.timely
-      (λ served. c.getsts.ensures.row) (λ is. absurd is) (λ pending. keeps_same pending job)
+      c.getsts.ensures.row (λ pending. keeps_same pending job)
       (λ live. reads_same live job) c.getsts.ensures.only (λ code is. refl));
 }
 

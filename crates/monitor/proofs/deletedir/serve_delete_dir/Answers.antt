@@ -30,7 +30,7 @@ returns g c = record {
             moment among.there refl timely sound reply is.outcome is.pending is.directories c.requires.ready.placed;
         reading = λ serves. reading;
         others = λ m other. slot-set_other jobs n m (Some job') other;
-        answered = λ h served.
+        answered = λ h.
             delete_dir_answered state old.disk new.disk old.core new.core jobs jobs' n job job' c.args.address moment
             among.there refl timely sound false new.failed refl keyed reading (is.same.was_honest h) is.live is.pending
             is.primes (is.readers h) (is.writers h) reply is.outcome is.failed (is.done h);
@@ -50,7 +50,6 @@ returns g c = record {
               (refused_so d old.core (new.disk ≡ old.disk) (new.core ≡ old.core) job job' c.args.address reply
               is.outcome code refused);
         };
-        unserved = λ x at asked. absurd asked;
         failed = fails;
         blamed = λ h. never_failed d old.core (new.disk ≡ old.disk) (new.core ≡ old.core) job job' c.args.address
             reply is.outcome;

@@ -33,14 +33,14 @@ returns-in-Some g c = record {
       c.update.ensures.only (c.update.ensures.placed c.requires.ready.placed) (λ light. absurd light)
       (λ kept. absurd kept)
       (λ none. ((c.update.ensures.kept (λ e. let wrong = sym none ∙ e in cc)).0, c.update.ensures.memory none))
-      c.update.ensures.refused (λ asked. absurd asked) jobs n among
+      c.update.ensures.refused jobs n among
       (updates_keyed (state old.disk) (state new.disk) map map' jobs jobs' n job job' c.args.channel c.args.address
       moment c.in-Some.open c.in-Some.input c.update.result among.there refl among.keyed among.reading
       c.update.ensures.begun c.update.ensures.kept)
       (updates_reading (state old.disk) (state new.disk) map map' jobs jobs' n job job' c.args.channel c.args.address
       moment c.in-Some.open c.in-Some.input c.update.result among.there refl among.keyed among.reading
       c.update.ensures.begun c.update.ensures.kept)
-      (λ h asked s serves.
+      (λ h s serves.
       let was : (state old.disk).honest = subst (λ disk. (state disk).honest) c.update.ensures.untouched.0 h in
       update_answered (state old.disk) (state new.disk) map map' jobs jobs' n job job' c.args.channel c.args.address
       moment c.in-Some.open c.in-Some.input c.update.result among.there refl among.keyed among.reading
@@ -66,12 +66,12 @@ returns-in-None g c = record {
       c.enter.ensures.only (c.enter.ensures.placed c.requires.ready.placed) (λ light. absurd light)
       (λ kept. absurd kept)
       (λ none. ((c.enter.ensures.kept (λ e. let wrong = sym none ∙ e in cc)).0, c.enter.ensures.memory none))
-      c.enter.ensures.refused (λ asked. absurd asked) jobs n among
+      c.enter.ensures.refused jobs n among
       (enters_keyed (state old.disk) (state new.disk) map map' jobs jobs' n job job' c.args.channel c.args.address
       moment c.enter.result among.there refl among.keyed among.reading c.enter.ensures.begun c.enter.ensures.kept)
       (enters_reading (state old.disk) (state new.disk) map map' jobs jobs' n job job' c.args.channel c.args.address
       moment c.enter.result among.there refl among.keyed among.reading c.enter.ensures.begun c.enter.ensures.kept)
-      (λ h asked s serves.
+      (λ h s serves.
       let was : (state old.disk).honest = subst (λ disk. (state disk).honest) c.enter.ensures.untouched.0 h in
       enter_answered (state old.disk) (state new.disk) map map' jobs jobs' n job job' c.args.channel c.args.address
       moment c.enter.result among.there refl among.keyed among.reading c.enter.ensures.begun c.enter.ensures.kept

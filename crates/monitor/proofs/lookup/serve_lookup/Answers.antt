@@ -33,14 +33,14 @@ returns g c = record {
       (c.lookup.ensures.only.0, c.lookup.ensures.only.1)
       (placed_still map map' c.lookup.ensures.pending c.lookup.ensures.known c.requires.ready.placed)
       (λ light. c.lookup.ensures.only.2) (λ kept. absurd kept) (λ none. absurd (c.lookup.ensures.only.2 none))
-      c.lookup.ensures.refused (λ is. absurd is) jobs n among
+      c.lookup.ensures.refused jobs n among
       (lookup_keyed (state old.disk) (state new.disk) map map' jobs jobs' n job job' c.args.channel c.args.address
       moment c.lookup.result among.there refl among.keyed among.reading c.lookup.ensures.pending c.lookup.ensures.reads
       c.lookup.ensures.looked c.lookup.ensures.kept)
       (lookup_reading (state old.disk) (state new.disk) map map' jobs jobs' n job job' c.args.channel c.args.address
       moment c.lookup.result among.there refl among.keyed among.reading c.lookup.ensures.pending c.lookup.ensures.reads
       c.lookup.ensures.looked c.lookup.ensures.kept)
-      (λ h served s serves.
+      (λ h s serves.
       let was : (state old.disk).honest = subst (λ disk. (state disk).honest) c.lookup.ensures.untouched.0 h in
       lookup_answered (state old.disk) (state new.disk) map map' jobs jobs' n job job' c.args.channel c.args.address
       moment c.lookup.result among.there refl among.keyed among.reading c.lookup.ensures.pending c.lookup.ensures.reads

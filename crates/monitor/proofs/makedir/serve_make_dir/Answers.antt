@@ -36,7 +36,7 @@ returns g c = record {
             c.requires.ready.placed;
         reading = λ serves. reading;
         others = λ m other. slot-set_other jobs n m (Some job') other;
-        answered = λ h served.
+        answered = λ h.
             make_dir_answered state old.disk new.disk map map' jobs jobs' n job job' c.args.address moment
             among.there refl timely sound false new.failed refl keyed reading
             (c.make_dir.ensures.same.was_honest h) c.make_dir.ensures.live c.make_dir.ensures.pending
@@ -64,7 +64,6 @@ returns g c = record {
               (make_dir_refused size map same job job' c.args.address code c.make_dir.result c.make_dir.ensures.outcome
               is);
         };
-        unserved = λ x at is. absurd is;
         failed = fails;
         blamed = λ h. never_failed size map same job job' c.args.address c.make_dir.result c.make_dir.ensures.outcome;
         counted = c.make_dir.ensures.counted;

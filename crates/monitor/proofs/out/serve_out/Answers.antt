@@ -44,7 +44,7 @@ returns g c = record {
             c.requires.ready.placed serves c.out.result c.out.ensures.outcome c.out.ensures.failed;
         reading = out_reading state old.disk new.disk map map' false new.failed jobs jobs' n job job' c.args.channel c.args.address moment among.there refl refl timely among.keyed among.reading c.out.ensures.keeps c.out.ensures.reads sound;
         others = λ m other. slot-set_other jobs n m (Some job') other;
-        answered = λ h served.
+        answered = λ h.
             out_answered state old.disk new.disk map map' false new.failed jobs jobs' n job job' c.args.channel c.args.address moment among.there refl refl timely among.keyed among.reading c.out.ensures.keeps c.out.ensures.reads sound
             (c.out.ensures.same.was_honest h) h (c.out.ensures.rests h) c.out.ensures.others c.out.ensures.live c.out.ensures.known (c.out.ensures.readers h) (c.out.ensures.writers h) c.out.result c.out.ensures.outcome c.out.ensures.failed;
         crash = quiet_crashes (state old.disk) (state new.disk) map jobs n (Out c.args.channel c.args.address) moment c.out.ensures.quiet;
@@ -59,7 +59,6 @@ returns g c = record {
           there = among.there;
           jobs_are = ap (λ j. slice_set jobs n (Some j)) (out_refused (state old.disk) (state new.disk) map map' same job job' c.args.channel c.args.address code c.out.result c.out.ensures.outcome is);
         };
-        unserved = λ x at is. absurd is;
         failed = c.out.ensures.failed;
         blamed = out_blamed state old.disk new.disk map map' job job' c.args.channel c.args.address c.out.result c.out.ensures.outcome;
         counted = c.out.ensures.counted;

@@ -44,7 +44,7 @@ returns g c = record {
             (in_reading (state old.disk) (state new.disk) map false jobs n c.args.channel c.args.address moment refl
             timely among.keyed among.reading job job' among.there jobs' refl c.read.result c.read.ensures.outcome);
         others = λ m other. slot-set_other jobs n m (Some job') other;
-        answered = λ h served.
+        answered = λ h.
             in_answered (state old.disk) (state new.disk) map false jobs n c.args.channel c.args.address
             moment refl timely among.keyed among.reading job job' among.there jobs' refl
             h map' new.failed core (c.read.ensures.only_reads h) (c.read.ensures.rests h) c.read.result
@@ -69,7 +69,6 @@ returns g c = record {
               (in_refused (state old.disk) (state new.disk) map job job' c.args.channel c.args.address code
               c.read.result c.read.ensures.outcome is);
         };
-        unserved = λ x at is. absurd is;
         failed = c.read.ensures.failed;
         blamed = c.read.ensures.blamed;
         counted = c.read.ensures.counted;

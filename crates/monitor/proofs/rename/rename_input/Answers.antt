@@ -18,8 +18,8 @@ returns-then-lies_outside g c = record {
       let ready = c.requires.ready in
       alone_serves g.D.Disk.state g.met.D.Disk.only_now volume.disk volume.core volume.failed job job
       (Rename c.args.number c.args.address) moment AddressCheck ready.alive ready.placed timely
-      (λ served. rename_outside job c.args.number c.args.address c.args.channel c.requires.there
-      (sym c.lies_outside.ensures.value ∙ c.if-lies_outside.true)) (λ asked. absurd asked)
+      (rename_outside job c.args.number c.args.address c.args.channel c.requires.there
+      (sym c.lies_outside.ensures.value ∙ c.if-lies_outside.true))
       (λ pending. keeps_same pending job) (λ live. reading_core live job job.core) (λ x. cc x, λ x. cc x, λ x. cc x)
       (λ code x. cc x);
 }

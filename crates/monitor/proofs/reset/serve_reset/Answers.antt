@@ -45,8 +45,8 @@ returns g c = record {
       Reset moment Done c.requires.ready.alive c.close_channels.ensures.untouched
       (λ e. cc e, λ e. cc e) (placed_left map map' c.close_channels.ensures.closed.leaves c.requires.ready.placed)
       (λ light e. cc e) (λ kept. absurd kept) (λ e. cc e)
-      (λ code e. cc e) (λ is. absurd is) jobs n among keyed reading
-      (λ h served s serves.
+      (λ code e. cc e) jobs n among keyed reading
+      (λ h s serves.
       row (state old.disk) map map' false jobs jobs' keyed reading c.close_channels.ensures.closed.leaves
       (pack_of (state old.disk)) (Calls n Reset moment) Done
       (reset_row (state old.disk) jobs jobs' n moment timely (job, among.there, ap (λ j. slice_set jobs n (Some j)) is))

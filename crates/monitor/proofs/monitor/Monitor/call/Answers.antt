@@ -6,8 +6,7 @@ use Rattle.meaning.specs.Runs.{Service, Serving}
 use Rattle.meaning.specs.declared.call.Call.TheVariants.{In}
 use Rattle.monitor.specs.declared.job.Job.{Job}
 use Rattle.meaning.specs.declared.call.Reply.TheVariants.{NoMemory, Device, Failed, DateRange, Refused}
-use Rattle.monitor.specs.Calls.{IsServed, KeepsCore}
-use Rattle.monitor.specs.Unserved.{IsUnserved, UnservedRow}
+use Rattle.monitor.specs.Calls.{KeepsCore}
 use Rattle.blockdisk.specs.Disk.{LeavesOnly}
 use Rattle.meaning.specs.Crashes.{StandsForEither}
 use Rattle.meaning.specs.declared.call.Event.TheVariants.{Call as Calls}
@@ -34,7 +33,7 @@ returns-clause-answered g c =
     → IsCalled (g.D.Disk.state m.disk) m.map m.failed m.jobs (g.D.Disk.state c.serve.new.volume.disk)
     c.serve.new.volume.core c.serve.new.volume.failed c.serve.new.jobs
     c.args.job c.args.moment c.serve.result c.args.call.now) c.self.view_is
-    (λ h served old serves. c.serve.ensures.serving.answered h served old
+    (λ h old serves. c.serve.ensures.serving.answered h old
     (subst (λ b. Serves (g.D.Disk.state c.self.inside.volume.disk) c.self.inside.volume.core b c.self.inside.jobs old)
     (sym c.has_failed.ensures.value ∙ c.if-has_failed.false) serves))
 
@@ -97,8 +96,7 @@ returns-clause-still g c =
     c.serve.result own channel address) c.self.view_is
     (λ h channel address asked timely s serves own there room works.
     let d = g.D.Disk.state c.self.inside.volume.disk in
-    let led = c.serve.ensures.serving.answered h (subst (λ call. IsServed call (slot c.self.inside.jobs c.args.job))
-    (sym asked) tt) (Serving s) (refl, serves.1) in
+    let led = c.serve.ensures.serving.answered h (Serving s) (refl, serves.1) in
     in_still after (pack_of d) s c.args.job c.args.moment c.serve.result own channel address c.args.call.now
     asked there timely room works led.0 led.1 led.2)
 
@@ -106,28 +104,28 @@ pub returns-clause-apart : goal.returns-clause-apart
 returns-clause-apart g c =
     let after = λ (new : Service). Serves (g.D.Disk.state c.serve.new.volume.disk) c.serve.new.volume.core
     c.serve.new.volume.failed c.serve.new.jobs new in
-    subst (λ m. (g.D.Disk.state c.serve.new.volume.disk).honest → IsServed c.args.call.now (slot m.jobs c.args.job)
+    subst (λ m. (g.D.Disk.state c.serve.new.volume.disk).honest
     → (s : State) → Serves (g.D.Disk.state m.disk) m.map m.failed m.jobs (Serving s)
     → IsApart after (pack_of (g.D.Disk.state m.disk)) s c.args.job c.args.moment c.serve.result c.args.call.now)
     c.self.view_is
-    (λ h served s serves.
-    let led = c.serve.ensures.serving.answered h served (Serving s) (refl, serves.1) in
+    (λ h s serves.
+    let led = c.serve.ensures.serving.answered h (Serving s) (refl, serves.1) in
     apart after (pack_of (g.D.Disk.state c.self.inside.volume.disk)) s c.args.job c.args.moment c.serve.result
     c.args.call.now led.0 led.1 led.2)
 
 pub returns-then-moment-gt-LAST_DATE-clause-apart : goal.returns-then-moment-gt-LAST_DATE-clause-apart
 returns-then-moment-gt-LAST_DATE-clause-apart g c =
-    subst (λ m. (g.D.Disk.state m.disk).honest → IsServed c.args.call.now (slot m.jobs c.args.job) → (s : State)
+    subst (λ m. (g.D.Disk.state m.disk).honest → (s : State)
     → Serves (g.D.Disk.state m.disk) m.map m.failed m.jobs (Serving s)
     → IsApart (Serves (g.D.Disk.state m.disk) m.map m.failed m.jobs) (pack_of (g.D.Disk.state m.disk))
     s c.args.job c.args.moment DateRange c.args.call.now) c.self.view_is
-    (λ h served s serves.
+    (λ h s serves.
     let m = c.self.inside in
     let d = g.D.Disk.state m.volume.disk in
     let led = called_late d m.volume.core m.volume.failed m.jobs c.args.job c.args.call.now c.args.moment
     (sym c.has_failed.ensures.value ∙ c.if-has_failed.false) c.if-moment-gt-LAST_DATE.true
     (c.self.invariant (sym c.has_failed.ensures.value ∙ c.if-has_failed.false)).0
-    (c.self.invariant (sym c.has_failed.ensures.value ∙ c.if-has_failed.false)).2 served (Serving s) serves in
+    (c.self.invariant (sym c.has_failed.ensures.value ∙ c.if-has_failed.false)).2 (Serving s) serves in
     apart (Serves d m.volume.core m.volume.failed m.jobs) (pack_of d) s c.args.job c.args.moment DateRange
     c.args.call.now led.0 led.1 led.2)
 
@@ -139,11 +137,3 @@ returns-clause-refused g c =
 pub returns-clause-kept : goal.returns-clause-kept
 returns-clause-kept g c = subst (λ m. KeepsCore c.args.call.now
     → c.serve.new.volume.core ≡ m.map) c.self.view_is c.serve.ensures.serving.kept
-
-pub returns-clause-unserved : goal.returns-clause-unserved
-returns-clause-unserved g c =
-    subst (λ m. m.failed ≡ false → c.args.moment.date ≤ 4095 → (there : Job) → slot m.jobs c.args.job ≡ Some there
-    → IsUnserved c.args.call.now there
-    → (c.serve.new.volume.core ≡ m.map) × (after : Job) × UnservedRow c.args.call.now there after c.serve.result
-    × (c.serve.new.jobs ≡ slice_set m.jobs c.args.job (Some after))) c.self.view_is
-    (λ serves timely. c.serve.ensures.serving.unserved)

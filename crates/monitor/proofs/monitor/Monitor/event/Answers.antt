@@ -2,7 +2,6 @@ use Rattle.std.proofs.Common.{refl, sym, ap, subst}
 use Rattle.blockdisk.specs.Disk.{LeavesOnly}
 use Rattle.meaning.specs.Crashes.{StandsForEither}
 use Rattle.meaning.specs.Runs.{Service, Serving, Answers}
-use Rattle.monitor.specs.Runs.{IsServedIn}
 use Rattle.monitor.specs.Serving.{pack_of, Serves}
 use Rattle.monitor.specs.Events.{IsNoCall, IsLightEvent}
 use Rattle.monitor.proofs.Apart.{leaves_others}
@@ -11,16 +10,16 @@ use Rattle.monitor.proofs.ServedEvents.{call_answered}
 use Rattle.monitor.proofs.monitor.Monitor.event.Goals as goal
 
 pub returns-in-Call-clause-answered : goal.returns-in-Call-clause-answered
-returns-in-Call-clause-answered g c h old serves served =
+returns-in-Call-clause-answered g c h old serves =
     let is = c.in-Call.is in
     subst (λ event. (new : Service) × Serves (g.D.Disk.state c.call.new.self.disk) c.call.new.self.map
     c.call.new.self.failed c.call.new.self.jobs new
     × Answers (pack_of (g.D.Disk.state c.args.self.now.disk)) old event c.call.result new) (sym is)
     (call_answered g.D.Disk.state c.args.self.now c.call.new.self c.in-Call.job c.in-Call.call c.in-Call.moment
-    c.call.result c.call.ensures.answered c.call.ensures.broken h old (subst (IsServedIn old) is served) serves)
+    c.call.result c.call.ensures.answered c.call.ensures.broken h old serves)
 
 pub returns-in-Examine-clause-answered : goal.returns-in-Examine-clause-answered
-returns-in-Examine-clause-answered g c h old serves served =
+returns-in-Examine-clause-answered g c h old serves =
     let m = c.args.self.now in
     subst (λ event. (new : Service) × Serves (g.D.Disk.state m.disk) m.map m.failed m.jobs new
     × Answers (pack_of (g.D.Disk.state m.disk)) old event c.examine.result new) (sym c.in-Examine.is)
@@ -62,9 +61,6 @@ returns-in-Login-clause-late g c = of_other _ c.args.event.now _ c.in-Login.is t
 pub returns-in-Login-clause-kept : goal.returns-in-Login-clause-kept
 returns-in-Login-clause-kept g c = of_other _ c.args.event.now _ c.in-Login.is tt
 
-pub returns-in-Login-clause-unserved : goal.returns-in-Login-clause-unserved
-returns-in-Login-clause-unserved g c = of_other _ c.args.event.now _ c.in-Login.is tt
-
 pub returns-in-Deposit-clause-still : goal.returns-in-Deposit-clause-still
 returns-in-Deposit-clause-still g c = of_other _ c.args.event.now _ c.in-Deposit.is tt
 
@@ -76,9 +72,6 @@ returns-in-Deposit-clause-late g c = of_other _ c.args.event.now _ c.in-Deposit.
 
 pub returns-in-Deposit-clause-kept : goal.returns-in-Deposit-clause-kept
 returns-in-Deposit-clause-kept g c = of_other _ c.args.event.now _ c.in-Deposit.is tt
-
-pub returns-in-Deposit-clause-unserved : goal.returns-in-Deposit-clause-unserved
-returns-in-Deposit-clause-unserved g c = of_other _ c.args.event.now _ c.in-Deposit.is tt
 
 pub returns-in-Examine-clause-still : goal.returns-in-Examine-clause-still
 returns-in-Examine-clause-still g c = of_other _ c.args.event.now _ c.in-Examine.is tt
@@ -92,9 +85,6 @@ returns-in-Examine-clause-late g c = of_other _ c.args.event.now _ c.in-Examine.
 pub returns-in-Examine-clause-kept : goal.returns-in-Examine-clause-kept
 returns-in-Examine-clause-kept g c = of_other _ c.args.event.now _ c.in-Examine.is tt
 
-pub returns-in-Examine-clause-unserved : goal.returns-in-Examine-clause-unserved
-returns-in-Examine-clause-unserved g c = of_other _ c.args.event.now _ c.in-Examine.is tt
-
 pub returns-in-Call-clause-still : goal.returns-in-Call-clause-still
 returns-in-Call-clause-still g c = of_other _ c.args.event.now _ c.in-Call.is c.call.ensures.still
 
@@ -106,9 +96,6 @@ returns-in-Call-clause-late g c = of_other _ c.args.event.now _ c.in-Call.is c.c
 
 pub returns-in-Call-clause-kept : goal.returns-in-Call-clause-kept
 returns-in-Call-clause-kept g c = of_other _ c.args.event.now _ c.in-Call.is c.call.ensures.kept
-
-pub returns-in-Call-clause-unserved : goal.returns-in-Call-clause-unserved
-returns-in-Call-clause-unserved g c = of_other _ c.args.event.now _ c.in-Call.is c.call.ensures.unserved
 
 pub returns-in-Login-clause-idle : goal.returns-in-Login-clause-idle
 returns-in-Login-clause-idle g c idle = ap (λ m. m.disk) c.login.ensures.kept
@@ -133,43 +120,43 @@ pub returns-in-Call-clause-apart_from_disk : goal.returns-in-Call-clause-apart_f
 returns-in-Call-clause-apart_from_disk g c none = absurd (subst IsNoCall c.in-Call.is none)
 
 pub returns-in-Login-clause-answered : goal.returns-in-Login-clause-answered
-returns-in-Login-clause-answered g c h old serves served =
+returns-in-Login-clause-answered g c h old serves =
     let m = c.login.new.self in
     subst (λ event. (new : Service) × Serves (g.D.Disk.state m.disk) m.map m.failed m.jobs new
     × Answers (pack_of (g.D.Disk.state c.args.self.now.disk)) old event c.login.result new) (sym c.in-Login.is)
     (c.login.ensures.answered old serves)
 
 pub returns-in-Deposit-clause-answered : goal.returns-in-Deposit-clause-answered
-returns-in-Deposit-clause-answered g c h old serves served =
+returns-in-Deposit-clause-answered g c h old serves =
     let m = c.deposit.new.self in
     subst (λ event. (new : Service) × Serves (g.D.Disk.state m.disk) m.map m.failed m.jobs new
     × Answers (pack_of (g.D.Disk.state c.args.self.now.disk)) old event c.deposit.result new) (sym c.in-Deposit.is)
     (c.deposit.ensures.answered old serves)
 
 pub returns-in-Login-clause-apart : goal.returns-in-Login-clause-apart
-returns-in-Login-clause-apart g c h s serves served =
+returns-in-Login-clause-apart g c h s serves =
     let m = c.login.new.self in
     leaves_others (λ (new : Service). Serves (g.D.Disk.state m.disk) m.map m.failed m.jobs new)
     (pack_of (g.D.Disk.state c.args.self.now.disk)) s c.args.event.now c.login.result
-    (returns-in-Login-clause-answered g c h (Serving s) serves served)
+    (returns-in-Login-clause-answered g c h (Serving s) serves)
 
 pub returns-in-Deposit-clause-apart : goal.returns-in-Deposit-clause-apart
-returns-in-Deposit-clause-apart g c h s serves served =
+returns-in-Deposit-clause-apart g c h s serves =
     let m = c.deposit.new.self in
     leaves_others (λ (new : Service). Serves (g.D.Disk.state m.disk) m.map m.failed m.jobs new)
     (pack_of (g.D.Disk.state c.args.self.now.disk)) s c.args.event.now c.deposit.result
-    (returns-in-Deposit-clause-answered g c h (Serving s) serves served)
+    (returns-in-Deposit-clause-answered g c h (Serving s) serves)
 
 pub returns-in-Examine-clause-apart : goal.returns-in-Examine-clause-apart
-returns-in-Examine-clause-apart g c h s serves served =
+returns-in-Examine-clause-apart g c h s serves =
     let m = c.args.self.now in
     leaves_others (λ (new : Service). Serves (g.D.Disk.state m.disk) m.map m.failed m.jobs new)
     (pack_of (g.D.Disk.state c.args.self.now.disk)) s c.args.event.now c.examine.result
-    (returns-in-Examine-clause-answered g c h (Serving s) serves served)
+    (returns-in-Examine-clause-answered g c h (Serving s) serves)
 
 pub returns-in-Call-clause-apart : goal.returns-in-Call-clause-apart
-returns-in-Call-clause-apart g c h s serves served =
+returns-in-Call-clause-apart g c h s serves =
     let m = c.call.new.self in
     leaves_others (λ (new : Service). Serves (g.D.Disk.state m.disk) m.map m.failed m.jobs new)
     (pack_of (g.D.Disk.state c.args.self.now.disk)) s c.args.event.now c.call.result
-    (returns-in-Call-clause-answered g c h (Serving s) serves served)
+    (returns-in-Call-clause-answered g c h (Serving s) serves)

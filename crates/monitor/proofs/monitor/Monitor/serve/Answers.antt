@@ -44,13 +44,11 @@ loop-event-preserved g c =
     let took : take (c.loop-event.event-index + 1) c.args.events.now
     ≡ so_far ++ event ∷ [] = take_more c.args.events.now c.loop-event.event-index event c.loop-event-test.true
     ∙ ap (λ e. so_far ++ e ∷ []) (sym c.event-item.is) in
-    let even : length replies ≡ length so_far = is.count
-    ∙ sym (length-take-le c.loop-event.event-index c.args.events.now c.loop-event.auto.event-index-end) in
     let same = same_disk_on (state first.disk) (state old.disk) (state new.disk) is.same does.same in
     record {
       runs = subst (λ es. Ran state first new es c.push.new.self.items) (sym took)
           (subst (Ran state first new (so_far ++ event ∷ [])) (sym grown)
-          (ran_more state first old new so_far replies event reply even is.same same does.same does.answered
+          (ran_more state first old new so_far replies event reply is.same same does.same does.answered
           does.crash stays is.runs));
       count = ap length grown ∙ length-append replies (reply ∷ []) ∙ ap (λ n. n + 1) is.count;
       room = omega (arith, is.room, c.push.ensures.capacity);
