@@ -264,7 +264,7 @@ module _ {D : Type 0} (state : D → DiskState) (only_now : (disk : D) (contents
       (job_keyed c.pending jobs n (Some job') among.keyed (ap sides_in (sym among.there))))
       (subst (λ (x : VolumeCore). AreReading x.live (slice_set jobs n (Some job'))) core
       (keeps_reading c.live c.live jobs n job job' among.reading among.there (reading_same c c job job' refl refl)))
-      (λ honest asked. in_state d c false jobs (λ old. (new : Service)
+      (λ honest. in_state d c false jobs (λ old. (new : Service)
       × Serves d c' false (slice_set jobs n (Some job')) new
       × Answers (pack_of d) old (Calls n (Rename number e) moment) (replies.Refused (number_of code)) new) refl
       (λ s state_s. absurd (never_refused (is.same.was_honest honest) s state_s code error)))

@@ -144,7 +144,7 @@ module _ {D : Type 0} (state : D → DiskState) (only_now : (disk : D) (contents
     placed = λ serves. placed;
     reading = λ serves. subst (AreReading core.live) (sym same) reading;
     others = λ m other. ap (λ js. slot js m) same;
-    answered = λ honest served old serves.
+    answered = λ honest old serves.
         on_disk state disk disk false failed core jobs' (Answers (pack_of (state disk)) old (Calls n call moment) NoJob)
         (refl, alive)
         (nobody (state disk) core false jobs n call moment refl timely jobs' keyed reading none same old serves);
