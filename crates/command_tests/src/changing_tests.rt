@@ -105,7 +105,7 @@ fn a_session_of_many_files(rt: HostRuntime) -> Result<(), Fail> {
 }
 
 /// A call script, played at a moment, has to be answered with these lines; the room afterwards is handed on.
-fn expect_replies(
+pub fn expect_replies(
     rt: &impl Abort,
     alloc: Global,
     moment: Moment,

@@ -10,4 +10,6 @@ mod copy_tests;
 #[cfg(test)]
 mod script_tests;
 #[cfg(test)]
+mod ring_tests;
+#[cfg(test)]
 mod session_tests;

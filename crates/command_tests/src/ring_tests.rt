@@ -1,0 +1,594 @@
+use crate::changing_tests::expect_replies;
+use crate::copy_tests::volume_with;
+use crate::session_tests::{expect_text, image, play, room, started};
+use std::test::Fail;
+use words36::Moment;
+
+/// BAR.TXT of two words is written by a ring that OUT sets up.
+const WRITTEN: &[u8] = b"1 LOGIN 10,20 2000
+1 DEP 200 0
+1 DEP 201 446353000000
+1 DEP 202 001000000000
+1 OPEN 1 200
+1 DEP 300 424162000000
+1 DEP 301 647064000000
+1 ENTER 1 300
+1 EXA 1000
+1 EXA 1001
+1 EXA 1002
+1 OUT 1 0
+1 EXA 1000
+1 EXA 1001
+1 EXA 1002
+1 EXA 121
+1 DEP 143 442131446236
+1 DEP 144 064240000000
+1 DEP 1001 260700000144
+1 CLOSE 1 0
+1 EXA 1000
+1 EXA 1002
+1 DEP 303 0
+1 LOOKUP 1 300
+1 EXA 302
+1 EXA 303
+";
+
+const WRITTEN_REPLIES: &[u8] = b"DONE
+DONE
+DONE
+DONE
+DONE
+DONE
+DONE
+DONE
+VALUE 400000000000
+VALUE 000700000000
+VALUE 000000000000
+DONE
+VALUE 000000000141
+VALUE 000700000142
+VALUE 000000001200
+VALUE 000000000546
+DONE
+DONE
+DONE
+DONE
+VALUE 400000000141
+VALUE 000000000000
+DONE
+DONE
+VALUE 057000000000
+VALUE 777776000000
+";
+
+/// What a ring has written is typed, once the job is logged in anew.
+#[test]
+fn a_ring_is_written(rt: HostRuntime) -> Result<(), Fail> {
+    let mut monitor = started(&rt, rt.alloc(), image(&rt, rt.alloc())?);
+    let mut writer = Vec::new(rt.alloc());
+    play(rt.alloc(), &mut monitor, Moment::new(0, 0)?, WRITTEN, &mut writer)?;
+    assert!(rt; writer.as_slice() == WRITTEN_REPLIES, "{writer:?}");
+    let lines = b"LOGIN [10,20]\nTYPE BAR.TXT\n";
+    let text = b"Job 1 [10,20]\nHELLO\r\n";
+    expect_text(&rt, rt.alloc(), &mut monitor, 0, lines, text)?;
+    assert_eq!(rt; room(&monitor), 43);
+    Ok(())
+}
+
+/// The last buffer finds no room: the channel stays open, until what it wrote is dropped.
+const CROWDED: &[u8] = b"1 LOGIN 10,20 2000
+1 DEP 200 0
+1 DEP 201 446353000000
+1 DEP 202 001000000000
+1 OPEN 1 200
+1 DEP 300 424162000000
+1 DEP 301 647064000000
+1 ENTER 1 300
+1 OUT 1 0
+1 DEP 143 1
+1 DEP 1001 000700000143
+1 CLOSE 1 0
+1 GETSTS 1
+1 EXA 1000
+1 RELEAS 1
+1 CLOSE 1 40
+1 EXA 1000
+1 CLOSE 1 0
+";
+
+const CROWDED_REPLIES: &[u8] = b"DONE
+DONE
+DONE
+DONE
+DONE
+DONE
+DONE
+DONE
+DONE
+DONE
+DONE
+STOPPED 040000
+VALUE 000000040000
+VALUE 000000000141
+STOPPED 040000
+DONE
+VALUE 000000000141
+DONE
+";
+
+#[test]
+fn a_last_buffer_finds_no_room(rt: HostRuntime) -> Result<(), Fail> {
+    let mut monitor = volume_with(&rt, rt.alloc(), 64, 5760)?;
+    assert_eq!(rt; room(&monitor), 1);
+    let mut writer = Vec::new(rt.alloc());
+    play(rt.alloc(), &mut monitor, Moment::new(0, 0)?, CROWDED, &mut writer)?;
+    assert!(rt; writer.as_slice() == CROWDED_REPLIES, "{writer:?}");
+    assert_eq!(rt; room(&monitor), 1);
+    Ok(())
+}
+
+/// FOO.TXT is read by a ring that IN sets up, to its end; a buffer of another size is none.
+const READ: &[u8] = b"1 LOGIN 10,20 2000
+1 DEP 200 0
+1 DEP 201 446353000000
+1 DEP 202 000000001000
+1 OPEN 1 200
+1 DEP 300 465757000000
+1 DEP 301 647064000000
+1 LOOKUP 1 300
+1 IN 1 0
+1 EXA 121
+1 EXA 140
+1 EXA 141
+1 EXA 142
+1 EXA 143
+1 EXA 144
+1 EXA 145
+1 EXA 1000
+1 EXA 1001
+1 EXA 1002
+1 IN 1 0
+1 EXA 141
+1 EXA 140
+1 EXA 1000
+1 EXA 1002
+1 DEP 141 000200000344
+1 IN 1 0
+1 EXA 1000
+";
+
+const READ_REPLIES: &[u8] = b"DONE
+DONE
+DONE
+DONE
+DONE
+DONE
+DONE
+DONE
+DONE
+VALUE 000000000546
+VALUE 000000000000
+VALUE 400201000344
+VALUE 000000000002
+VALUE 442131446236
+VALUE 064240000000
+VALUE 000000000000
+VALUE 000000000141
+VALUE 000700000142
+VALUE 000000000012
+STOPPED 020000
+VALUE 400201000344
+VALUE 000000000000
+VALUE 000000000141
+VALUE 000000000012
+DONE
+ADDRESS
+VALUE 000000000141
+";
+
+/// A ring of eight buffers does not fit into the core, one of seven does.
+const SET_UP: &[u8] = b"1 LOGIN 10,20 2000
+1 DEP 200 0
+1 DEP 201 446353000000
+1 DEP 202 000020000000
+1 OPEN 1 200
+1 INBUF 1 2
+1 OUTBUF 1 10
+1 EXA 121
+1 OUTBUF 1 7
+1 EXA 121
+1 EXA 20
+1 EXA 21
+1 EXA 22
+1 EXA 141
+1 EXA 1563
+";
+
+const SET_UP_REPLIES: &[u8] = b"DONE
+DONE
+DONE
+DONE
+DONE
+REFUSED 5
+ADDRESS
+VALUE 000000000140
+DONE
+VALUE 000000001765
+VALUE 400000000141
+VALUE 000700000000
+VALUE 000000000000
+VALUE 000201000344
+VALUE 000201000141
+";
+
+/// What is out of order: a side that isn't open, no header, dump mode; a mode that there isn't; headers outside.
+const DISORDER: &[u8] = b"1 LOGIN 10,20 2000
+1 DEP 200 0
+1 DEP 201 446353000000
+1 DEP 202 001000000000
+1 OPEN 1 200
+1 DEP 300 465757000000
+1 DEP 301 647064000000
+1 IN 1 0
+1 OUT 1 0
+1 LOOKUP 1 300
+1 IN 1 0
+1 CLOSE 1 0
+1 DEP 300 424162000000
+1 DEP 301 647064000000
+1 DEP 202 0
+1 OPEN 2 200
+1 OUTBUF 2 2
+1 ENTER 2 300
+1 OUT 2 0
+1 CLOSE 2 0
+1 DEP 200 17
+1 OPEN 3 200
+1 OUTBUF 3 2
+1 DEP 200 2
+1 OPEN 4 200
+1 DEP 200 0
+1 DEP 202 001776000000
+1 OPEN 4 200
+1 DEP 202 000000001775
+1 OPEN 4 200
+1 INBUF 5 2
+";
+
+const DISORDER_REPLIES: &[u8] = b"DONE
+DONE
+DONE
+DONE
+DONE
+DONE
+DONE
+REFUSED 5
+REFUSED 5
+DONE
+REFUSED 5
+DONE
+DONE
+DONE
+DONE
+DONE
+REFUSED 5
+DONE
+REFUSED 5
+DONE
+DONE
+DONE
+REFUSED 5
+DONE
+STOPPED 400002
+DONE
+DONE
+ADDRESS
+DONE
+DONE
+NOCHANNEL
+";
+
+/// A header lies in the ring's own first buffer.
+const OVERLAPPING: &[u8] = b"1 LOGIN 10,20 2000
+1 DEP 200 0
+1 DEP 201 446353000000
+1 DEP 202 000150000000
+1 OPEN 1 200
+1 DEP 300 424162000000
+1 DEP 301 647064000000
+1 OUTBUF 1 0
+1 EXA 150
+1 ENTER 1 300
+1 OUT 1 0
+1 EXA 150
+1 EXA 151
+1 EXA 152
+1 EXA 143
+1 DEP 151 000700000143
+1 DEP 143 777
+1 CLOSE 1 0
+1 EXA 150
+1 EXA 152
+1 DEP 303 0
+1 LOOKUP 1 300
+1 EXA 303
+";
+
+const OVERLAPPING_REPLIES: &[u8] = b"DONE
+DONE
+DONE
+DONE
+DONE
+DONE
+DONE
+DONE
+VALUE 400000000141
+DONE
+DONE
+VALUE 000000000141
+VALUE 000700000142
+VALUE 000000001200
+VALUE 000000000000
+DONE
+DONE
+DONE
+VALUE 400000000141
+VALUE 000000000000
+DONE
+DONE
+VALUE 777777000000
+";
+
+/// A full buffer, a block that is left out, and a byte pointer before its buffer.
+const STEPS: &[u8] = b"1 LOGIN 10,20 4000
+1 DEP 200 0
+1 DEP 201 446353000000
+1 DEP 202 001000000000
+1 OPEN 1 200
+1 DEP 300 424162000000
+1 DEP 301 647064000000
+1 OUTBUF 1 3
+1 ENTER 1 300
+1 OUT 1 0
+1 DEP 143 1
+1 DEP 1001 000700000342
+1 OUT 1 0
+1 EXA 141
+1 EXA 142
+1 EXA 1000
+1 EXA 1001
+1 EXA 1002
+1 USETO 1 3
+1 DEP 346 3
+1 DEP 1001 000700000347
+1 OUT 1 0
+1 EXA 1000
+1 DEP 1001 000700000545
+1 OUT 1 0
+1 CLOSE 1 0
+1 DEP 1001 000700000550
+1 CLOSE 1 0
+1 DEP 303 0
+1 LOOKUP 1 300
+1 EXA 303
+";
+
+const STEPS_REPLIES: &[u8] = b"DONE
+DONE
+DONE
+DONE
+DONE
+DONE
+DONE
+DONE
+DONE
+DONE
+DONE
+DONE
+DONE
+VALUE 000201000344
+VALUE 000000000200
+VALUE 000000000344
+VALUE 000700000345
+VALUE 000000001200
+DONE
+DONE
+DONE
+DONE
+VALUE 000000000547
+DONE
+ADDRESS
+ADDRESS
+DONE
+DONE
+DONE
+DONE
+VALUE 777377000000
+";
+
+#[test]
+fn rings_by_scripts(rt: HostRuntime) -> Result<(), Fail> {
+    for (lines, replies, left) in [
+        (READ, READ_REPLIES, 45),
+        (SET_UP, SET_UP_REPLIES, 45),
+        (DISORDER, DISORDER_REPLIES, 44),
+        (OVERLAPPING, OVERLAPPING_REPLIES, 43),
+        (STEPS, STEPS_REPLIES, 41),
+    ] {
+        let found = expect_replies(&rt, rt.alloc(), Moment::new(0, 0)?, lines, replies)?;
+        assert_eq!(rt; found, left);
+    }
+    Ok(())
+}
+
+/// FOO.TXT is copied by a ring of three buffers and one of five, in mode 00.
+const COPIED: &[u8; 487] = b"1 LOGIN 10,20 4000
+1 DEP 200 00
+1 DEP 201 446353000000
+1 DEP 202 003003003000
+1 OPEN 1 200
+1 OPEN 2 200
+1 DEP 300 465757000000
+1 DEP 301 647064000000
+1 LOOKUP 1 300
+1 DEP 300 424162000000
+1 DEP 301 647064000000
+1 DEP 302 0
+1 DEP 303 0
+1 ENTER 2 300
+1 INBUF 1 3
+1 OUTBUF 2 5
+1 IN 1 0
+1 OUT 2 0
+1 EXA 143
+1 EXA 144
+1 DEP 754 442131446236
+1 DEP 755 064240000000
+1 DEP 3004 755
+1 IN 1 0
+1 OUT 2 0
+1 RELEAS 1
+1 RELEAS 2
+1 EXA 3000
+1 EXA 3003
+1 OPEN 1 200
+1 DEP 303 0
+1 LOOKUP 1 300
+1 EXA 303
+";
+
+const COPIED_REPLIES: &[u8; 245] = b"DONE
+DONE
+DONE
+DONE
+DONE
+DONE
+DONE
+DONE
+DONE
+DONE
+DONE
+DONE
+DONE
+DONE
+DONE
+DONE
+DONE
+DONE
+VALUE 442131446236
+VALUE 064240000000
+DONE
+DONE
+DONE
+STOPPED 020000
+DONE
+DONE
+DONE
+VALUE 400000000141
+VALUE 400000001155
+DONE
+DONE
+DONE
+VALUE 777776000000
+";
+
+/// A file is copied by two rings in each mode with buffers.
+#[test]
+fn a_copy_by_rings_in_each_mode(rt: HostRuntime) -> Result<(), Fail> {
+    for mode in [b"00", b"01", b"10", b"13", b"14"] {
+        let mut lines = *COPIED;
+        let mut replies = *COPIED_REPLIES;
+        lines[29] = mode[0];
+        lines[30] = mode[1];
+        replies[155] = mode[0];
+        replies[156] = mode[1];
+        let found = expect_replies(&rt, rt.alloc(), Moment::new(0, 0)?, &lines, &replies)?;
+        assert_eq!(rt; found, 43);
+    }
+    Ok(())
+}
+
+/// Job 2 reads FOO.TXT of 130 words by a ring; job 1 supersedes it by a ring meanwhile.
+const SUPERSEDED: &[u8] = b"1 LOGIN 10,20 2000
+2 LOGIN 10,20 2000
+1 DEP 200 10
+1 DEP 201 446353000000
+1 DEP 202 001000000000
+1 OPEN 1 200
+1 DEP 300 465757000000
+1 DEP 301 647064000000
+2 DEP 200 10
+2 DEP 201 446353000000
+2 DEP 202 000000001000
+2 OPEN 1 200
+2 DEP 300 465757000000
+2 DEP 301 647064000000
+2 LOOKUP 1 300
+2 IN 1 0
+2 EXA 1002
+1 ENTER 1 300
+1 OUT 1 0
+1 DEP 143 5
+1 DEP 1001 004400000143
+1 CLOSE 1 0
+2 IN 1 0
+2 EXA 1000
+2 EXA 1002
+2 EXA 345
+2 IN 1 0
+2 CLOSE 1 0
+2 EXA 1000
+2 DEP 303 0
+2 LOOKUP 1 300
+2 IN 1 0
+2 EXA 1002
+2 EXA 346
+2 RELEAS 1
+";
+
+const SUPERSEDED_REPLIES: &[u8] = b"DONE
+DONE
+DONE
+DONE
+DONE
+DONE
+DONE
+DONE
+DONE
+DONE
+DONE
+DONE
+DONE
+DONE
+DONE
+DONE
+VALUE 000000000200
+DONE
+DONE
+DONE
+DONE
+DONE
+DONE
+VALUE 000000000344
+VALUE 000000000002
+VALUE 000000000002
+STOPPED 020010
+DONE
+VALUE 400000000344
+DONE
+DONE
+DONE
+VALUE 000000000001
+VALUE 000000000005
+DONE
+";
+
+#[test]
+fn a_ring_reads_on_beside_another(rt: HostRuntime) -> Result<(), Fail> {
+    let mut monitor = volume_with(&rt, rt.alloc(), 64, 130)?;
+    let mut writer = Vec::new(rt.alloc());
+    play(rt.alloc(), &mut monitor, Moment::new(0, 0)?, SUPERSEDED, &mut writer)?;
+    assert!(rt; writer.as_slice() == SUPERSEDED_REPLIES, "{writer:?}");
+    assert_eq!(rt; room(&monitor), 45);
+    Ok(())
+}
