@@ -3,6 +3,7 @@ use Rattle.std.proofs.Common.{inr, arith, slice_set}
 use Rattle.meaning.specs.Outputs.{is_before_end}
 use Rattle.meaning.specs.Retrieval.{most_blocks}
 use Rattle.meaning.specs.Splices.{length_after}
+use Rattle.meaning.proofs.SlotLaws.{none_some}
 use Rattle.meaning.specs.declared.code.ErrorCode.TheVariants.{NoRoom}
 use Rattle.volume.specs.declared.error.CallError.TheVariants.{Refused}
 use Rattle.volume.specs.Live.{VolumeCore}
@@ -20,6 +21,70 @@ returns-in_default-clause-keeps g c alive = keeps_same c.args.volume.now.core.pe
 
 pub returns-in_default-output-clause-keeps : goal.returns-in_default-output-clause-keeps
 returns-in_default-output-clause-keeps g c alive = keeps_same c.args.volume.now.core.pending c.args.job.now
+
+pub returns-then-lacks_header-clause-keeps : goal.returns-then-lacks_header-clause-keeps
+returns-then-lacks_header-clause-keeps g c alive = keeps_same c.args.volume.now.core.pending c.args.job.now
+
+pub returns-in-Err-AddressCheck-clause-outcome : goal.returns-in-Err-AddressCheck-clause-outcome
+returns-in-Err-AddressCheck-clause-outcome g c = (
+  refl,
+  (refl, refl),
+  record {
+    channel = c.in-Some.channel;
+    there = sym c.channel.ensures ∙ c.in-Some.is;
+    output = c.in-Some-output.output;
+    side = c.in-Some-output.is;
+    has = sym c.lacks_header.ensures ∙ c.if-lacks_header.false;
+  },
+  c.words_at.ensures.none (c.in-Err-AddressCheck.is ∙ ap Err c.in-Err-AddressCheck.field-0-is),
+)
+
+pub returns-in-Err-NoMemory-clause-outcome : goal.returns-in-Err-NoMemory-clause-outcome
+returns-in-Err-NoMemory-clause-outcome g c = (
+  refl,
+  (refl, refl),
+  record {
+    at = record {
+      channel = c.in-Some.channel;
+      there = sym c.channel.ensures ∙ c.in-Some.is;
+      output = c.in-Some-output.output;
+      side = c.in-Some-output.is;
+      has = sym c.lacks_header.ensures ∙ c.if-lacks_header.false;
+    };
+    found = c.words_at.ensures.some (c.in-Err-NoMemory.is ∙ ap Err c.in-Err-NoMemory.field-0-is);
+  },
+)
+
+pub returns-in-Err-NoMemory-put_words-clause-outcome : goal.returns-in-Err-NoMemory-put_words-clause-outcome
+returns-in-Err-NoMemory-put_words-clause-outcome g c = (
+  refl,
+  c.put_words.ensures.memory (c.in-Err-NoMemory-put_words.is ∙ ap Err c.in-Err-NoMemory-put_words.field-0-is),
+  record {
+    at = record {
+      channel = c.in-Some.channel;
+      there = sym c.channel.ensures ∙ c.in-Some.is;
+      output = c.in-Some-output.output;
+      side = c.in-Some-output.is;
+      has = sym c.lacks_header.ensures ∙ c.if-lacks_header.false;
+    };
+    found = λ none. none_some (sym none ∙ c.in-Ok.ensures.words.1);
+  },
+)
+
+pub returns-in-Err-Device-clause-outcome : goal.returns-in-Err-Device-clause-outcome
+returns-in-Err-Device-clause-outcome g c = (
+  refl,
+  record {
+    at = record {
+      channel = c.in-Some.channel;
+      there = sym c.channel.ensures ∙ c.in-Some.is;
+      output = c.in-Some-output.output;
+      side = c.in-Some-output.is;
+      has = sym c.lacks_header.ensures ∙ c.if-lacks_header.false;
+    };
+    found = λ none. none_some (sym none ∙ c.in-Ok.ensures.words.1);
+  },
+)
 
 pub returns-in-Err-AddressCheck-clause-keeps : goal.returns-in-Err-AddressCheck-clause-keeps
 returns-in-Err-AddressCheck-clause-keeps g c alive = keeps_same c.args.volume.now.core.pending c.args.job.now
@@ -44,12 +109,16 @@ returns-then-is_kept-clause-outcome g c =
     ((c.args.volume.now.disk ≡ c.args.volume.now.disk) × (c.args.volume.now.core ≡ c.args.volume.now.core))
     c.args.job.now c.stop.new.job c.args.number c.args.address) (sym c.stop.ensures.answered) (
       record {
-        channel = c.in-Some.channel;
-        there = sym c.channel.ensures ∙ c.in-Some.is;
-        output = c.in-Some-output.output;
-        side = c.in-Some-output.is;
+        at = record {
+          channel = c.in-Some.channel;
+          there = sym c.channel.ensures ∙ c.in-Some.is;
+          output = c.in-Some-output.output;
+          side = c.in-Some-output.is;
+          has = sym c.lacks_header.ensures ∙ c.if-lacks_header.false;
+        };
         words = c.in-Ok.words.items;
-        found = c.in-Ok.ensures.words;
+        core = c.in-Ok.ensures.words.0;
+        found = c.in-Ok.ensures.words.1;
       },
       refl,
       c.stop.ensures.kept,
@@ -95,20 +164,27 @@ returns-in-Ok-put_words-clause-outcome g c =
     let counted : c.len-in-Ok-put_words.result ≡ length c.as_slice.result.now = omega
     (arith, c.in-Ok.words.ok, c.len-in-Ok-put_words.ensures, ap length c.as_slice.ensures.value) in (
       record {
-        channel = c.in-Some.channel;
-        there = sym c.channel.ensures ∙ c.in-Some.is;
-        output = c.in-Some-output.output;
-        side = c.in-Some-output.is;
+        at = record {
+          channel = c.in-Some.channel;
+          there = sym c.channel.ensures ∙ c.in-Some.is;
+          output = c.in-Some-output.output;
+          side = c.in-Some-output.is;
+          has = sym c.lacks_header.ensures ∙ c.if-lacks_header.false;
+        };
         words = c.as_slice.result.now;
-        found = c.in-Ok.ensures.words ∙ ap Some (sym c.as_slice.ensures.value);
+        core = c.in-Ok.ensures.words.0;
+        found = c.in-Ok.ensures.words.1 ∙ ap (λ ws. Some (record { words = ws; core = c.in-Ok.ensures.words.0 }))
+            (sym c.as_slice.ensures.value);
       },
-      c.set_channel.ensures ∙ ap (λ x.
-          record c.args.job.now { channels = slice_set c.args.job.now.channels c.args.number (Some x) })
-          c.moved-moved.ensures
-          ∙ ap (λ n. record c.args.job.now {
+      c.set_channel.ensures ∙ ap (λ x. record c.args.job.now {
+            core = c.leave_buffer.new.core;
+            channels = slice_set c.args.job.now.channels c.args.number (Some x);
+          }) (c.moved-moved.ensures ∙ ap (moved c.in-Some.channel c.in-Some-output.output) counted)
+          ∙ ap (λ core. record c.args.job.now {
+            core = core;
             channels = slice_set c.args.job.now.channels c.args.number
-                (Some (moved c.in-Some.channel c.in-Some-output.output n));
-          }) counted,
+                (Some (moved c.in-Some.channel c.in-Some-output.output (length c.as_slice.result.now)));
+          }) (c.leave_buffer.ensures.left c.args.address _ c.in-Ok.ensures.words.1),
       λ p at. let put = c.in-Ok-put_words.ensures.put p at in record {
         fits = finds_place (length c.as_slice.result.now) _
             (is_before_end (kind_of c.in-Some-output.output.kind) c.in-Some-output.output.next) c.is_kept.result
@@ -130,19 +206,21 @@ returns-in-Ok-put_words-clause-keeps g c alive =
     let put = c.in-Ok-put_words.ensures.put p.0 p.1 in
     keeps_put c.args.volume.now.core.pending c.put_words.new.self.core.pending c.args.job.now c.set_channel.new.self
     c.args.number c.in-Some.channel (sym c.channel.ensures ∙ c.in-Some.is) c.in-Some-output.output
-    c.in-Some-output.is c.len-in-Ok-put_words.result
-    (c.set_channel.ensures ∙ ap (λ x.
-    record c.args.job.now { channels = slice_set c.args.job.now.channels c.args.number (Some x) })
-    c.moved-moved.ensures) p.0 p.1 put.0 put.1 c.put_words.ensures.others
+    c.in-Some-output.is c.len-in-Ok-put_words.result c.leave_buffer.new.core
+    (c.set_channel.ensures ∙ ap (λ x. record c.args.job.now {
+      core = c.leave_buffer.new.core;
+      channels = slice_set c.args.job.now.channels c.args.number (Some x);
+    }) c.moved-moved.ensures) p.0 p.1 put.0 put.1 c.put_words.ensures.others
 
 pub returns-in-Ok-put_words-clause-reads : goal.returns-in-Ok-put_words-clause-reads
 returns-in-Ok-put_words-clause-reads g c alive =
     reads_moved c.args.volume.now.core.live c.put_words.new.self.core.live c.args.job.now c.put_words.ensures.live
     c.args.number c.in-Some.channel (sym c.channel.ensures ∙ c.in-Some.is) c.in-Some-output.output
-    c.len-in-Ok-put_words.result c.set_channel.new.self
-    (c.set_channel.ensures ∙ ap (λ x.
-    record c.args.job.now { channels = slice_set c.args.job.now.channels c.args.number (Some x) })
-    c.moved-moved.ensures)
+    c.len-in-Ok-put_words.result c.leave_buffer.new.core c.set_channel.new.self
+    (c.set_channel.ensures ∙ ap (λ x. record c.args.job.now {
+      core = c.leave_buffer.new.core;
+      channels = slice_set c.args.job.now.channels c.args.number (Some x);
+    }) c.moved-moved.ensures)
 
 pub returns-in-Err-Refused-clause-outcome : goal.returns-in-Err-Refused-clause-outcome
 returns-in-Err-Refused-clause-outcome g c =
@@ -152,12 +230,17 @@ returns-in-Err-Refused-clause-outcome g c =
     c.args.job.now c.stop-in-Err-Refused.new.job c.args.number c.args.address)
     (sym c.stop-in-Err-Refused.ensures.answered) (
       record {
-        channel = c.in-Some.channel;
-        there = sym c.channel.ensures ∙ c.in-Some.is;
-        output = c.in-Some-output.output;
-        side = c.in-Some-output.is;
+        at = record {
+          channel = c.in-Some.channel;
+          there = sym c.channel.ensures ∙ c.in-Some.is;
+          output = c.in-Some-output.output;
+          side = c.in-Some-output.is;
+          has = sym c.lacks_header.ensures ∙ c.if-lacks_header.false;
+        };
         words = c.as_slice.result.now;
-        found = c.in-Ok.ensures.words ∙ ap Some (sym c.as_slice.ensures.value);
+        core = c.in-Ok.ensures.words.0;
+        found = c.in-Ok.ensures.words.1 ∙ ap (λ ws. Some (record { words = ws; core = c.in-Ok.ensures.words.0 }))
+            (sym c.as_slice.ensures.value);
       },
       refl,
       c.stop-in-Err-Refused.ensures.kept,
