@@ -123,8 +123,10 @@ module _ {D : Type 0} (state_in : D → DiskState) (disk disk' : D) (map map' : 
         × Answers (pack_of d) old (Calls n (Out ch a) moment) Done new) serves
         (λ s state. put_leads d (state_in disk') map map' jobs jobs' n job there ch a moment timely out (set
         ∙ ap (λ j. slice_set jobs n (Some j)) job_is) keyed (out_keyed alive) sound honest later p.0 p.1 (put p.0 p.1)
-        (λ k apart. others k (other_side (slot job.channels ch) out.at.channel out.at.output k out.at.there out.at.side apart))
-        (λ k q apart. writers k q (other_side (slot job.channels ch) out.at.channel out.at.output k out.at.there out.at.side apart))
+        (λ k apart. others k (other_side (slot job.channels ch) out.at.channel out.at.output k out.at.there
+        out.at.side apart))
+        (λ k q apart. writers k q (other_side (slot job.channels ch) out.at.channel out.at.output k out.at.there
+        out.at.side apart))
         rests live knows readers (out_reading alive) s state failed' alive)
     out_answered (Stopped status) (out, is, job_is, none, same) fails =
         let alive = alive_after failed' (Stopped status) fails (λ e. cc e) (λ e. cc e) in

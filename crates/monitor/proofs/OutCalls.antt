@@ -81,7 +81,8 @@ module _ (job : Job) (ch a : ℕ) where
 
   module _ (at : IsAtOutput job ch) where
     -- its row by what it finds
-    pub row_found : (pack : Pack) (s : State) (w : UnderKeys) → puts pack s (job_of w job) ch (channel_of w at.channel) a
+    pub row_found : (pack : Pack) (s : State) (w : UnderKeys)
+        → puts pack s (job_of w job) ch (channel_of w at.channel) a
         ≡ by_header at.channel pack s w at.output false (outgoing_at job.core at.channel a)
     row_found pack s w =
         ap (λ x. by_side at.channel pack s w (option_map (output_of w) x) (outgoing_at job.core at.channel a)) at.side
@@ -156,12 +157,12 @@ module _ (d d' : DiskState) (map map' : VolumeCore) (jobs jobs' : List (Option J
   key = out.at.output.pending.key
 
   abbrev x : Writing
-  x = put_writing map.pending jobs n job there ch out.at.channel out.at.there out.at.output out.at.side keyed state.under
-      out.words out.core
+  x = put_writing map.pending jobs n job there ch out.at.channel out.at.there out.at.output out.at.side keyed
+      state.under out.words out.core
 
   abbrev w : UnderKeys
-  w = writing_put map.pending jobs n job there ch out.at.channel out.at.there out.at.output out.at.side keyed state.under
-      out.words out.core
+  w = writing_put map.pending jobs n job there ch out.at.channel out.at.there out.at.output out.at.side keyed
+      state.under out.words out.core
 
   s_is : s ≡ state_of s.files state.under jobs
   s_is = state_is s state.under jobs state.jobs_are

@@ -40,7 +40,8 @@ module _ {D : Type 0} (state : D → DiskState) (disk disk' : D) (map map' : Vol
         let p = version_there map.pending job ch out.at.channel out.at.there out.at.output out.at.side live in
         let is = put p.0 p.1 in
         placed_put map map' out.at.output.pending.key p.0 is.version p.1 is.here
-        (λ k apart. others k (other_side (slot job.channels ch) out.at.channel out.at.output k out.at.there out.at.side apart))
+        (λ k apart. others k (other_side (slot job.channels ch) out.at.channel out.at.output k out.at.there
+        out.at.side apart))
         known placed
     out_placed (Stopped status) (out, is, job_is, none, same) fails = unmoved same
     out_placed (Refused code) (is, job_is, same, c, at, why) fails = unmoved same

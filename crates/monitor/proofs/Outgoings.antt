@@ -5,6 +5,8 @@ use Rattle.std.proofs.lemmas.Result.{IfOk-weaker}
 use Rattle.std.specs.Prelude.{option_map, slice_range, ◌+◌, [], ◌∷◌}
 use Rattle.meaning.specs.CommandLists.{dump_list}
 use Rattle.meaning.specs.Cores.{joined}
+use Rattle.meaning.specs.Inputs.{lacks_header}
+use Rattle.meaning.specs.Jobs.{slot}
 use Rattle.meaning.specs.Outputs.{Outgoing}
 use Rattle.meaning.specs.Rings.{is_buffered, byte_size, out_ready, ring_words}
 use Rattle.meaning.specs.declared.area.Area.{Area}
@@ -12,12 +14,15 @@ use Rattle.meaning.proofs.SlotLaws.{none_some}
 use Rattle.retrieval.specs.Modes.{mode_number}
 use Rattle.usercore.specs.Steps.{words_put}
 use Rattle.usercore.specs.declared.ring_check.RingStep.TheVariants.{Out}
-use Rattle.monitor.specs.Putting.{words_listed, buffer_put, outgoing_at}
+use Rattle.monitor.specs.Putting.{words_listed, buffer_put, outgoing_at, IsAtOutput}
+use Rattle.monitor.specs.Putting as putting
 use Rattle.monitor.specs.declared.channel.Channel.{Channel}
+use Rattle.monitor.specs.declared.job.Job.{Job}
+use Rattle.monitor.specs.declared.output.Output.{Output}
 
 module _ (core : List ℕ) (c : Channel) (a : ℕ) where
   -- the words are found, and so is what is gathered of them
-  abbrev Found : List ℕ → Type 0
+  abbrev pub Found : List ℕ → Type 0
   Found words = (left : List ℕ) × (outgoing_at core c a ≡ Some (record { words = words; core = left }))
 
   pub gathers : {V E : Type 0} (items : V → List ℕ) (result : Result V E) (words : List ℕ) → Found words
@@ -60,3 +65,17 @@ module _ (core : List ℕ) (c : Channel) (a : ℕ) where
 
     pub list_found : (areas : List Area) → dump_list core a ≡ Some areas → Found (joined core areas)
     list_found areas is = (core, by_list ∙ ap (option_map (words_listed core)) is)
+
+-- The channel of an OUT that isn't refused, and what it finds.
+module _ (job : Job) (number : ℕ) where
+  abbrev pub at_output : (c : Channel) → slot job.channels number ≡ Some c → (o : Output) → c.output ≡ Some o
+      → lacks_header (mode_number c.mode) c.output_header ≡ false → IsAtOutput job number
+  at_output c there o side has = record { channel = c; there = there; output = o; side = side; has = has }
+
+  module _ (a : ℕ) (at : IsAtOutput job number) (words : List ℕ) (found : Found job.core at.channel a words) where
+    abbrev pub goes_out : putting.Outgoing job number a
+    goes_out = record { at = at; words = words; core = found.0; found = found.1 }
+
+    -- where its words find no room
+    pub has_outgoing : putting.HasOutgoing job number a
+    has_outgoing = record { at = at; found = λ none. none_some (sym none ∙ found.1) }

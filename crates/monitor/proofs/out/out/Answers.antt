@@ -3,7 +3,6 @@ use Rattle.std.proofs.Common.{inr, arith, slice_set}
 use Rattle.meaning.specs.Outputs.{is_before_end}
 use Rattle.meaning.specs.Retrieval.{most_blocks}
 use Rattle.meaning.specs.Splices.{length_after}
-use Rattle.meaning.proofs.SlotLaws.{none_some}
 use Rattle.meaning.specs.declared.code.ErrorCode.TheVariants.{NoRoom}
 use Rattle.volume.specs.declared.error.CallError.TheVariants.{Refused}
 use Rattle.volume.specs.Live.{VolumeCore}
@@ -11,6 +10,7 @@ use Rattle.monitor.specs.Putting.{moved, IsOut}
 use Rattle.monitor.specs.Rows.{Keeps}
 use Rattle.monitor.specs.Sides.{kind_of}
 use Rattle.monitor.proofs.Calling.{keeps_same}
+use Rattle.monitor.proofs.Outgoings.{Found, at_output, goes_out, has_outgoing}
 use Rattle.monitor.proofs.Outs.{version_there, version_live, its_side, next_fits, not_refused, keeps_put}
 use Rattle.monitor.proofs.Outs.{put_over, finds_place, lacks_room, reads_status, reads_moved}
 use Rattle.monitor.proofs.Usetos.{keeps_status}
@@ -29,13 +29,9 @@ pub returns-in-Err-AddressCheck-clause-outcome : goal.returns-in-Err-AddressChec
 returns-in-Err-AddressCheck-clause-outcome g c = (
   refl,
   (refl, refl),
-  record {
-    channel = c.in-Some.channel;
-    there = sym c.channel.ensures ∙ c.in-Some.is;
-    output = c.in-Some-output.output;
-    side = c.in-Some-output.is;
-    has = sym c.lacks_header.ensures ∙ c.if-lacks_header.false;
-  },
+  at_output c.args.job.now c.args.number c.in-Some.channel
+      (sym c.channel.ensures ∙ c.in-Some.is) c.in-Some-output.output c.in-Some-output.is
+      (sym c.lacks_header.ensures ∙ c.if-lacks_header.false),
   c.words_at.ensures.none (c.in-Err-AddressCheck.is ∙ ap Err c.in-Err-AddressCheck.field-0-is),
 )
 
@@ -44,13 +40,9 @@ returns-in-Err-NoMemory-clause-outcome g c = (
   refl,
   (refl, refl),
   record {
-    at = record {
-      channel = c.in-Some.channel;
-      there = sym c.channel.ensures ∙ c.in-Some.is;
-      output = c.in-Some-output.output;
-      side = c.in-Some-output.is;
-      has = sym c.lacks_header.ensures ∙ c.if-lacks_header.false;
-    };
+    at = at_output c.args.job.now c.args.number c.in-Some.channel
+        (sym c.channel.ensures ∙ c.in-Some.is) c.in-Some-output.output c.in-Some-output.is
+        (sym c.lacks_header.ensures ∙ c.if-lacks_header.false);
     found = c.words_at.ensures.some (c.in-Err-NoMemory.is ∙ ap Err c.in-Err-NoMemory.field-0-is);
   },
 )
@@ -59,31 +51,19 @@ pub returns-in-Err-NoMemory-put_words-clause-outcome : goal.returns-in-Err-NoMem
 returns-in-Err-NoMemory-put_words-clause-outcome g c = (
   refl,
   c.put_words.ensures.memory (c.in-Err-NoMemory-put_words.is ∙ ap Err c.in-Err-NoMemory-put_words.field-0-is),
-  record {
-    at = record {
-      channel = c.in-Some.channel;
-      there = sym c.channel.ensures ∙ c.in-Some.is;
-      output = c.in-Some-output.output;
-      side = c.in-Some-output.is;
-      has = sym c.lacks_header.ensures ∙ c.if-lacks_header.false;
-    };
-    found = λ none. none_some (sym none ∙ c.in-Ok.ensures.words.1);
-  },
+  has_outgoing c.args.job.now c.args.number c.args.address (at_output c.args.job.now c.args.number c.in-Some.channel
+      (sym c.channel.ensures ∙ c.in-Some.is) c.in-Some-output.output c.in-Some-output.is
+      (sym c.lacks_header.ensures ∙ c.if-lacks_header.false))
+      c.in-Ok.words.items c.in-Ok.ensures.words,
 )
 
 pub returns-in-Err-Device-clause-outcome : goal.returns-in-Err-Device-clause-outcome
 returns-in-Err-Device-clause-outcome g c = (
   refl,
-  record {
-    at = record {
-      channel = c.in-Some.channel;
-      there = sym c.channel.ensures ∙ c.in-Some.is;
-      output = c.in-Some-output.output;
-      side = c.in-Some-output.is;
-      has = sym c.lacks_header.ensures ∙ c.if-lacks_header.false;
-    };
-    found = λ none. none_some (sym none ∙ c.in-Ok.ensures.words.1);
-  },
+  has_outgoing c.args.job.now c.args.number c.args.address (at_output c.args.job.now c.args.number c.in-Some.channel
+      (sym c.channel.ensures ∙ c.in-Some.is) c.in-Some-output.output c.in-Some-output.is
+      (sym c.lacks_header.ensures ∙ c.if-lacks_header.false))
+      c.in-Ok.words.items c.in-Ok.ensures.words,
 )
 
 pub returns-in-Err-AddressCheck-clause-keeps : goal.returns-in-Err-AddressCheck-clause-keeps
@@ -108,18 +88,10 @@ returns-then-is_kept-clause-outcome g c =
     c.args.volume.now.core c.args.volume.now.core
     ((c.args.volume.now.disk ≡ c.args.volume.now.disk) × (c.args.volume.now.core ≡ c.args.volume.now.core))
     c.args.job.now c.stop.new.job c.args.number c.args.address) (sym c.stop.ensures.answered) (
-      record {
-        at = record {
-          channel = c.in-Some.channel;
-          there = sym c.channel.ensures ∙ c.in-Some.is;
-          output = c.in-Some-output.output;
-          side = c.in-Some-output.is;
-          has = sym c.lacks_header.ensures ∙ c.if-lacks_header.false;
-        };
-        words = c.in-Ok.words.items;
-        core = c.in-Ok.ensures.words.0;
-        found = c.in-Ok.ensures.words.1;
-      },
+      goes_out c.args.job.now c.args.number c.args.address (at_output c.args.job.now c.args.number c.in-Some.channel
+          (sym c.channel.ensures ∙ c.in-Some.is) c.in-Some-output.output c.in-Some-output.is
+          (sym c.lacks_header.ensures ∙ c.if-lacks_header.false))
+          c.in-Ok.words.items c.in-Ok.ensures.words,
       refl,
       c.stop.ensures.kept,
       λ p at. let over = put_over (length c.in-Ok.words.items) _
@@ -163,19 +135,11 @@ pub returns-in-Ok-put_words-clause-outcome : goal.returns-in-Ok-put_words-clause
 returns-in-Ok-put_words-clause-outcome g c =
     let counted : c.len-in-Ok-put_words.result ≡ length c.as_slice.result.now = omega
     (arith, c.in-Ok.words.ok, c.len-in-Ok-put_words.ensures, ap length c.as_slice.ensures.value) in (
-      record {
-        at = record {
-          channel = c.in-Some.channel;
-          there = sym c.channel.ensures ∙ c.in-Some.is;
-          output = c.in-Some-output.output;
-          side = c.in-Some-output.is;
-          has = sym c.lacks_header.ensures ∙ c.if-lacks_header.false;
-        };
-        words = c.as_slice.result.now;
-        core = c.in-Ok.ensures.words.0;
-        found = c.in-Ok.ensures.words.1 ∙ ap (λ ws. Some (record { words = ws; core = c.in-Ok.ensures.words.0 }))
-            (sym c.as_slice.ensures.value);
-      },
+      goes_out c.args.job.now c.args.number c.args.address (at_output c.args.job.now c.args.number c.in-Some.channel
+          (sym c.channel.ensures ∙ c.in-Some.is) c.in-Some-output.output c.in-Some-output.is
+          (sym c.lacks_header.ensures ∙ c.if-lacks_header.false))
+          c.as_slice.result.now (subst (Found c.args.job.now.core c.in-Some.channel c.args.address) (sym c.as_slice.ensures.value)
+          c.in-Ok.ensures.words),
       c.set_channel.ensures ∙ ap (λ x. record c.args.job.now {
             core = c.leave_buffer.new.core;
             channels = slice_set c.args.job.now.channels c.args.number (Some x);
@@ -184,7 +148,9 @@ returns-in-Ok-put_words-clause-outcome g c =
             core = core;
             channels = slice_set c.args.job.now.channels c.args.number
                 (Some (moved c.in-Some.channel c.in-Some-output.output (length c.as_slice.result.now)));
-          }) (c.leave_buffer.ensures.left c.args.address _ c.in-Ok.ensures.words.1),
+          }) (c.leave_buffer.ensures.left c.args.address _
+              (subst (Found c.args.job.now.core c.in-Some.channel c.args.address) (sym c.as_slice.ensures.value)
+              c.in-Ok.ensures.words).1),
       λ p at. let put = c.in-Ok-put_words.ensures.put p at in record {
         fits = finds_place (length c.as_slice.result.now) _
             (is_before_end (kind_of c.in-Some-output.output.kind) c.in-Some-output.output.next) c.is_kept.result
@@ -229,19 +195,11 @@ returns-in-Err-Refused-clause-outcome g c =
     ((c.put_words.new.self.disk ≡ c.args.volume.now.disk) × (c.put_words.new.self.core ≡ c.args.volume.now.core))
     c.args.job.now c.stop-in-Err-Refused.new.job c.args.number c.args.address)
     (sym c.stop-in-Err-Refused.ensures.answered) (
-      record {
-        at = record {
-          channel = c.in-Some.channel;
-          there = sym c.channel.ensures ∙ c.in-Some.is;
-          output = c.in-Some-output.output;
-          side = c.in-Some-output.is;
-          has = sym c.lacks_header.ensures ∙ c.if-lacks_header.false;
-        };
-        words = c.as_slice.result.now;
-        core = c.in-Ok.ensures.words.0;
-        found = c.in-Ok.ensures.words.1 ∙ ap (λ ws. Some (record { words = ws; core = c.in-Ok.ensures.words.0 }))
-            (sym c.as_slice.ensures.value);
-      },
+      goes_out c.args.job.now c.args.number c.args.address (at_output c.args.job.now c.args.number c.in-Some.channel
+          (sym c.channel.ensures ∙ c.in-Some.is) c.in-Some-output.output c.in-Some-output.is
+          (sym c.lacks_header.ensures ∙ c.if-lacks_header.false))
+          c.as_slice.result.now (subst (Found c.args.job.now.core c.in-Some.channel c.args.address) (sym c.as_slice.ensures.value)
+          c.in-Ok.ensures.words),
       refl,
       c.stop-in-Err-Refused.ensures.kept,
       (λ p at. lacks_room ((c.put_words.ensures.room c.requires.serves p at).0
