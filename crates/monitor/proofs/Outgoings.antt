@@ -1,5 +1,5 @@
 -- What an OUT finds in core by the mode of its channel: in a mode with buffers by its ring, else by a command list.
-use Rattle.std.proofs.Common.{◌≡◌, ℕ, Bool, true, false, if◌then◌else◌, List, Option, None, Some, refl, sym, ap, subst}
+use Rattle.std.proofs.Common.{◌≡◌, ℕ, Bool, true, false, if◌then◌else◌, List, Option, None, Some, sym, ap, subst}
 use Rattle.std.proofs.Common.{◌∙◌, Result, IfOk, append-nil}
 use Rattle.std.proofs.lemmas.Result.{IfOk-weaker}
 use Rattle.std.specs.Prelude.{option_map, slice_range, ◌+◌, [], ◌∷◌}
@@ -51,8 +51,11 @@ module _ (core : List ℕ) (c : Channel) (a : ℕ) where
         by : (was : Option (List ℕ)) → option_map (λ r. ring_words r c.output_header) was ≡ Some words
             → (left : List ℕ) × (option_map (buffer_put c) was ≡ Some (record { words = words; core = left }))
         by None is = absurd (none_some is)
-        by (Some r) is = ((buffer_put c r).core, ap (option_map {U = Outgoing}
-            (λ ws. record { words = ws; core = (buffer_put c r).core })) is)
+        by (Some r) is = (
+          (buffer_put c r).core,
+          ap (option_map {U = Outgoing}
+              (λ ws. record { words = ws; core = (buffer_put c r).core })) is,
+        )
 
     pub area_found : (area : Area) → words_put Out core c.output_header size
         ≡ Some (slice_range core area.first (area.first + area.count)) → Found (joined core (area ∷ []))

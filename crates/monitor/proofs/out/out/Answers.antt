@@ -141,16 +141,16 @@ returns-in-Ok-put_words-clause-outcome g c =
           c.as_slice.result.now (subst (Found c.args.job.now.core c.in-Some.channel c.args.address) (sym c.as_slice.ensures.value)
           c.in-Ok.ensures.words),
       c.set_channel.ensures ∙ ap (λ x. record c.args.job.now {
-            core = c.leave_buffer.new.core;
-            channels = slice_set c.args.job.now.channels c.args.number (Some x);
-          }) (c.moved-moved.ensures ∙ ap (moved c.in-Some.channel c.in-Some-output.output) counted)
+        core = c.leave_buffer.new.core;
+        channels = slice_set c.args.job.now.channels c.args.number (Some x);
+      }) (c.moved-moved.ensures ∙ ap (moved c.in-Some.channel c.in-Some-output.output) counted)
           ∙ ap (λ core. record c.args.job.now {
             core = core;
             channels = slice_set c.args.job.now.channels c.args.number
                 (Some (moved c.in-Some.channel c.in-Some-output.output (length c.as_slice.result.now)));
           }) (c.leave_buffer.ensures.left c.args.address _
-              (subst (Found c.args.job.now.core c.in-Some.channel c.args.address) (sym c.as_slice.ensures.value)
-              c.in-Ok.ensures.words).1),
+          (subst (Found c.args.job.now.core c.in-Some.channel c.args.address) (sym c.as_slice.ensures.value)
+          c.in-Ok.ensures.words).1),
       λ p at. let put = c.in-Ok-put_words.ensures.put p at in record {
         fits = finds_place (length c.as_slice.result.now) _
             (is_before_end (kind_of c.in-Some-output.output.kind) c.in-Some-output.output.next) c.is_kept.result
