@@ -30,6 +30,7 @@ pub mod Entering
 pub mod Enters
 pub mod Serving
 pub mod EnterServing
+pub mod Outgoings
 pub mod OutServing
 pub mod OutCalls
 pub mod OutAnswers

@@ -96,8 +96,7 @@ module _ {D : Type 0} (state_in : D → DiskState) (disk disk' : D) (map map' : 
   undecided_in out s state =
       ap (λ y. is_plain ((step (pack_of d) 0 y (Calls n (Out ch a) moment)).0))
       (state_is s state.under jobs state.jobs_are)
-      ∙ undecided d map jobs n job there ch a moment timely 0 s.files state.under out.channel out.there
-      out.output out.side out.listed
+      ∙ undecided d map jobs n job there ch a moment timely 0 s.files state.under out.at out.found
 
   module _ (honest : d.honest) (later : (state_in disk').honest) (rests : (f : Files File) → RestsAt d f
       → RestsAt (state_in disk') f)
@@ -111,8 +110,8 @@ module _ {D : Type 0} (state_in : D → DiskState) (disk disk' : D) (map map' : 
     Fails reply = IsTrue failed' ↔ ((reply ≡ Device) ⊎ (reply ≡ Failed))
 
     version_of : (out : putting.Outgoing job ch a) → (p : PendingVersion)
-        × (pending_at map.pending out.output.pending.key ≡ Some p)
-    version_of out = version_there map.pending job ch out.channel out.there out.output out.side
+        × (pending_at map.pending out.at.output.pending.key ≡ Some p)
+    version_of out = version_there map.pending job ch out.at.channel out.at.there out.at.output out.at.side
         (job_live map jobs n job keyed there)
 
     pub out_answered : (reply : Reply) → IsOut d (state_in disk') map map' Same job job' ch a reply → Fails reply
@@ -124,8 +123,10 @@ module _ {D : Type 0} (state_in : D → DiskState) (disk disk' : D) (map map' : 
         × Answers (pack_of d) old (Calls n (Out ch a) moment) Done new) serves
         (λ s state. put_leads d (state_in disk') map map' jobs jobs' n job there ch a moment timely out (set
         ∙ ap (λ j. slice_set jobs n (Some j)) job_is) keyed (out_keyed alive) sound honest later p.0 p.1 (put p.0 p.1)
-        (λ k apart. others k (other_side (slot job.channels ch) out.channel out.output k out.there out.side apart))
-        (λ k q apart. writers k q (other_side (slot job.channels ch) out.channel out.output k out.there out.side apart))
+        (λ k apart. others k (other_side (slot job.channels ch) out.at.channel out.at.output k out.at.there
+        out.at.side apart))
+        (λ k q apart. writers k q (other_side (slot job.channels ch) out.at.channel out.at.output k out.at.there
+        out.at.side apart))
         rests live knows readers (out_reading alive) s state failed' alive)
     out_answered (Stopped status) (out, is, job_is, none, same) fails =
         let alive = alive_after failed' (Stopped status) fails (λ e. cc e) (λ e. cc e) in
@@ -137,15 +138,15 @@ module _ {D : Type 0} (state_in : D → DiskState) (disk disk' : D) (map map' : 
         ∙ ap (λ j. slice_set jobs n (Some j)) job_is) (subst (λ m. AreKeyed m.pending jobs') same.1 (out_keyed alive))
         (subst (λ m. AreReading m.live jobs') same.1 (out_reading alive)) sound honest p.0 p.1
         (none p.0 p.1) s state serves))
-    out_answered (Refused code) (is, job_is, same, c, at, none) fails =
+    out_answered (Refused code) (is, job_is, same, c, at, why) fails =
         plain (Refused code) job_is same (alive_after failed' (Refused code) fails (λ e. cc e) (λ e. cc e))
-        (subst (λ k. IsRow job job (Out ch a) (Refused k)) (sym is) (out_refused job ch a c at none))
+        (subst (λ k. IsRow job job (Out ch a) (Refused k)) (sym is) (out_refused job ch a c at why))
     out_answered NoChannel (job_is, same, none) fails =
         plain NoChannel job_is same (alive_after failed' NoChannel fails (λ e. cc e) (λ e. cc e))
         (out_none job ch a none)
-    out_answered AddressCheck (job_is, same, none, c, o, at, side) fails =
+    out_answered AddressCheck (job_is, same, at, none) fails =
         plain AddressCheck job_is same (alive_after failed' AddressCheck fails (λ e. cc e) (λ e. cc e))
-        (out_unlisted job ch a c at o side none)
+        (out_unlisted job ch a at none)
     out_answered NoMemory (job_is, same, out) fails =
         unmoved NoMemory same (alive_after failed' NoMemory fails (λ e. cc e) (λ e. cc e))
         (in_state d map failed jobs (λ old. (new : Service) × Serves d map failed jobs' new

@@ -1,35 +1,35 @@
 -- OUT by the job of a number is served as the machine serves it.
 use Rattle.std.proofs.Common.{◌≡◌, ◌<◌, ◌≤◌, ◌+◌, ℕ, Bool, true, false, if◌then◌else◌, List, length, Option, None, Some}
-use Rattle.std.proofs.Common.{refl, sym, ap, subst, ◌∙◌, slice_set}
+use Rattle.std.proofs.Common.{refl, sym, ap, subst, ◌∙◌, ◌⊎◌, inl, inr, slice_set}
 use Rattle.std.specs.Prelude.{option_map}
 use Rattle.words36.specs.declared.moment.Moment.{Moment}
 use Rattle.blockdisk.specs.Disk.{DiskState}
-use Rattle.meaning.specs.CommandLists.{dump_list}
-use Rattle.meaning.specs.Cores.{joined}
 use Rattle.meaning.specs.Files.{File, Files}
+use Rattle.meaning.specs.Inputs.{lacks_header}
 use Rattle.meaning.specs.Jobs as machine
 use Rattle.meaning.specs.Jobs.{State, slot, with_channel, with_job, cleared, block_too_large}
 use Rattle.meaning.specs.Maps.{times}
 use Rattle.meaning.specs.Outcomes.{settled, clean, stopped_in}
-use Rattle.meaning.specs.Outputs.{puts, put_answer, put_done, finds_no_place, outgoing, Outgoing, put_on}
+use Rattle.meaning.specs.Outputs.{puts, put_answer, found_answer, put_done, finds_no_place, Outgoing, put_on}
 use Rattle.meaning.specs.Published.{Version, without_serials, file_at}
 use Rattle.meaning.specs.Room.{Pack, booked}
 use Rattle.meaning.specs.Runs.{Service, Serving, Answers, is_plain}
 use Rattle.meaning.specs.Splices.{length_after}
 use Rattle.meaning.specs.Step.{step, on_channel, of_job}
-use Rattle.meaning.specs.declared.area.Area.{Area}
 use Rattle.meaning.specs.declared.call.Call.TheVariants.{Out}
 use Rattle.meaning.specs.declared.call.Event.TheVariants.{Call as Calls}
 use Rattle.meaning.specs.declared.call.Reply.{Reply}
 use Rattle.meaning.specs.declared.call.Reply.TheVariants.{Done, Refused, Stopped, NoChannel, AddressCheck}
 use Rattle.meaning.proofs.MapLaws.{some_same}
+use Rattle.meaning.proofs.SlotLaws.{none_some}
 use Rattle.meaning.proofs.SpliceLaws.{length-splice}
 use Rattle.meaning.proofs.Versions.{body_kept}
+use Rattle.retrieval.specs.Modes.{mode_number}
 use Rattle.volume.specs.Live.{VolumeCore, pending_at, is_creation}
 use Rattle.volume.specs.Places.{prime_at}
 use Rattle.volume.specs.Rest.{IsSound, RestsAt, KeepsRead}
 use Rattle.volume.specs.declared.pending.PendingVersion.{PendingVersion}
-use Rattle.monitor.specs.Putting.{Puts, words_at, moved, FindsNone}
+use Rattle.monitor.specs.Putting.{Puts, outgoing_at, moved, FindsNone, IsAtOutput}
 use Rattle.monitor.specs.Putting as putting
 use Rattle.monitor.specs.Rows.{IsRow}
 use Rattle.monitor.specs.Serving.{pack_of, AreKeyed, AreReading, IsWriting, IsState, Serves}
@@ -42,7 +42,7 @@ use Rattle.monitor.proofs.Calling.{channel_is, channel_set}
 use Rattle.monitor.proofs.Dropped.{same_or_not, leaves_none}
 use Rattle.monitor.proofs.EnterServing.{with_same, with_other}
 use Rattle.monitor.proofs.Knowing.{known}
-use Rattle.monitor.proofs.OutServing.{gathers, none_found, place_found, put_writing, writing_put, state_put}
+use Rattle.monitor.proofs.OutServing.{none_found, place_found, put_writing, writing_put, state_put}
 use Rattle.monitor.proofs.ReadStays.{reads_kept}
 use Rattle.monitor.proofs.Usetos.{on_row, on_none}
 
@@ -52,98 +52,117 @@ module _ (job : Job) (ch a : ℕ) where
   out_none none pack serial s n w moment at = on_none s n w job ch (λ c. of_job s n (puts pack s (job_of w job) ch c a))
       none at
 
-  module _ (c : Channel) (there : slot job.channels ch ≡ Some c) where
-    -- the row, by its side and by what it finds
-    abbrev by_side : Pack → State → (UnderKeys) → Option machine.Output → Option Outgoing → Reply × machine.Job
-    by_side pack s w o found = settled (put_answer pack s (channel_of w c) o found)
-        (put_done (job_of w job) ch (channel_of w c) found) (stopped_in (job_of w job) ch (channel_of w c))
+  -- the row of an open channel, by its side and by what it finds
+  abbrev by_side : Channel → Pack → State → UnderKeys → Option machine.Output → Option Outgoing → Reply × machine.Job
+  by_side c pack s w o found = settled (put_answer pack s (channel_of w c) o found)
+      (put_done (job_of w job) ch (channel_of w c) found) (stopped_in (job_of w job) ch (channel_of w c))
 
-    pub out_refused : c.output ≡ None → IsRow job job (Out ch a) (Refused 5)
-    out_refused none pack serial s n w moment at =
-        on_row s n w job job ch c (Refused 5) (λ x. puts pack s (job_of w job) ch x a) there
-        (ap (λ o. by_side pack s w (option_map (output_of w) o) (outgoing (job_of w job) (channel_of w c) a)) none)
+  -- of one with an output side, by whether it lacks a ring's header
+  abbrev by_header : Channel → Pack → State → UnderKeys → Output → Bool → Option Outgoing → Reply × machine.Job
+  by_header c pack s w o lacks found =
+      settled (if lacks then Refused 5 else found_answer pack s (channel_of w c) (output_of w o) found)
+      (put_done (job_of w job) ch (channel_of w c) found) (stopped_in (job_of w job) ch (channel_of w c))
 
-    pub out_unlisted : (o : Output) → c.output ≡ Some o → dump_list job.core a ≡ None
-        → IsRow job job (Out ch a) AddressCheck
-    out_unlisted o side none pack serial s n w moment at =
-        on_row s n w job job ch c AddressCheck (λ x. puts pack s (job_of w job) ch x a) there
-        (ap (λ x. by_side pack s w (option_map (output_of w) x) (outgoing (job_of w job) (channel_of w c) a)) side
-        ∙ ap (λ found. by_side pack s w (Some (output_of w o))
-        (option_map {U = Outgoing} (λ areas. record { words = joined job.core areas; core = job.core }) found)) none)
+  pub out_refused : (c : Channel) → slot job.channels ch ≡ Some c
+      → (c.output ≡ None) ⊎ (lacks_header (mode_number c.mode) c.output_header ≡ true)
+      → IsRow job job (Out ch a) (Refused 5)
+  out_refused c there why pack serial s n w moment at =
+      on_row s n w job job ch c (Refused 5) (λ x. puts pack s (job_of w job) ch x a) there (by c.output refl why)
+    where
+      by : (o : Option Output) → c.output ≡ o
+          → (c.output ≡ None) ⊎ (lacks_header (mode_number c.mode) c.output_header ≡ true)
+          → by_side c pack s w (option_map (output_of w) c.output) (outgoing_at job.core c a)
+          ≡ (Refused 5, job_of w job)
+      by None is why = ap (λ x. by_side c pack s w (option_map (output_of w) x) (outgoing_at job.core c a)) is
+      by (Some o) is (inl none) = absurd (none_some (sym none ∙ is))
+      by (Some o) is (inr lacks) =
+          ap (λ x. by_side c pack s w (option_map (output_of w) x) (outgoing_at job.core c a)) is
+          ∙ ap (λ b. by_header c pack s w o b (outgoing_at job.core c a)) lacks
+
+  module _ (at : IsAtOutput job ch) where
+    -- its row by what it finds
+    pub row_found : (pack : Pack) (s : State) (w : UnderKeys)
+        → puts pack s (job_of w job) ch (channel_of w at.channel) a
+        ≡ by_header at.channel pack s w at.output false (outgoing_at job.core at.channel a)
+    row_found pack s w =
+        ap (λ x. by_side at.channel pack s w (option_map (output_of w) x) (outgoing_at job.core at.channel a)) at.side
+        ∙ ap (λ b. by_header at.channel pack s w at.output b (outgoing_at job.core at.channel a)) at.has
+
+    pub out_unlisted : outgoing_at job.core at.channel a ≡ None → IsRow job job (Out ch a) AddressCheck
+    out_unlisted none pack serial s n w moment there =
+        on_row s n w job job ch at.channel AddressCheck (λ x. puts pack s (job_of w job) ch x a) at.there
+        (row_found pack s w ∙ ap (by_header at.channel pack s w at.output false) none)
 
 -- An output side, and words for it.
 module _ (d : DiskState) (map : VolumeCore) (jobs : List (Option Job)) (n : ℕ) (job : Job) (there : slot jobs n
     ≡ Some job) (ch a : ℕ) (moment : Moment) (timely : moment.date ≤ 4095) (serial : ℕ) (files : Files Version)
-    (w : UnderKeys)
-    (c : Channel) (open_at : slot job.channels ch ≡ Some c) (o : Output) (side : c.output ≡ Some o) where
+    (w : UnderKeys) (at : IsAtOutput job ch) where
   abbrev t : State
   t = state_of files w jobs
 
   abbrev row_with : Option Outgoing → Reply × State
-  row_with found = of_job t n (by_side job ch a c open_at (pack_of d) t w (Some (output_of w o)) found)
+  row_with found = of_job t n (by_header job ch a at.channel (pack_of d) t w at.output false found)
 
-  finds : step (pack_of d) serial t (Calls n (Out ch a) moment)
-      ≡ row_with (option_map {U = Outgoing} (λ areas. record { words = joined job.core areas; core = job.core })
-      (dump_list job.core a))
+  finds : step (pack_of d) serial t (Calls n (Out ch a) moment) ≡ row_with (outgoing_at job.core at.channel a)
   finds =
       called d jobs n (Out ch a) moment serial files w timely job there
       ∙ ap (λ x. on_channel t x (λ y. of_job t n (puts (pack_of d) t (job_of w job) ch y a)))
-      (channel_is w job ch (Some c) open_at)
-      ∙ ap (λ x. of_job t n (by_side job ch a c open_at (pack_of d) t w (option_map (output_of w) x)
-      (outgoing (job_of w job) (channel_of w c) a))) side
+      (channel_is w job ch (Some at.channel) at.there)
+      ∙ ap (of_job t n) (row_found job ch a at (pack_of d) t w)
 
-  abbrev by_place : List ℕ → Bool → Reply × State
-  by_place words none = of_job t n (settled (if none then Stopped (cleared c.status + block_too_large)
-      else Done) (put_done (job_of w job) ch (channel_of w c) (Some (record { words = words; core = job.core })))
-      (stopped_in (job_of w job) ch (channel_of w c)))
+  abbrev by_place : Outgoing → Bool → Reply × State
+  by_place found none = of_job t n (settled (if none then Stopped (cleared at.channel.status + block_too_large)
+      else Done) (put_done (job_of w job) ch (channel_of w at.channel) (Some found))
+      (stopped_in (job_of w job) ch (channel_of w at.channel)))
 
-  pub row_by_place : (words : List ℕ) → words_at job.core a ≡ Some words → (none : Bool)
-      → finds_no_place (pack_of d) t (output_of w o) (length words) ≡ none
-      → step (pack_of d) serial t (Calls n (Out ch a) moment) ≡ by_place words none
-  row_by_place words found none is = finds ∙ ap row_with (gathers job.core (dump_list job.core a) words found)
-      ∙ ap (by_place words) is
+  pub row_by_place : (found : Outgoing) → outgoing_at job.core at.channel a ≡ Some found → (none : Bool)
+      → finds_no_place (pack_of d) t (output_of w at.output) (length found.words) ≡ none
+      → step (pack_of d) serial t (Calls n (Out ch a) moment) ≡ by_place found none
+  row_by_place found is none full = finds ∙ ap row_with is ∙ ap (by_place found) full
 
   -- it isn't decided before memory and the disk are needed
-  pub undecided : (dump_list job.core a ≡ None → ⊥)
+  pub undecided : (outgoing_at job.core at.channel a ≡ None → ⊥)
       → is_plain ((step (pack_of d) serial t (Calls n (Out ch a) moment)).0) ≡ false
-  undecided listed = ap (λ r. is_plain r.0) finds ∙ by (dump_list job.core a) listed
+  undecided there = ap (λ r. is_plain r.0) finds ∙ by (outgoing_at job.core at.channel a) there
     where
-      stops : (none : Bool) (words : List ℕ) → is_plain ((by_place words none).0) ≡ false
-      stops true words = refl
-      stops false words = refl
+      stops : (none : Bool) (found : Outgoing) → is_plain ((by_place found none).0) ≡ false
+      stops true found = refl
+      stops false found = refl
 
-      by : (was : Option (List Area)) → (was ≡ None → ⊥)
-          → is_plain
-          ((row_with (option_map {U = Outgoing} (λ areas. record { words = joined job.core areas; core = job.core })
-          was)).0) ≡ false
+      by : (was : Option Outgoing) → (was ≡ None → ⊥) → is_plain ((row_with was).0) ≡ false
       by None some = absurd (some refl)
-      by (Some areas) some = stops (finds_no_place (pack_of d) t (output_of w o) (length (joined job.core areas)))
-          (joined job.core areas)
+      by (Some found) some =
+          stops (finds_no_place (pack_of d) t (output_of w at.output) (length found.words)) found
 
 -- The words are put.
 module _ (d d' : DiskState) (map map' : VolumeCore) (jobs jobs' : List (Option Job)) (n : ℕ) (job : Job)
     (there : slot jobs n ≡ Some job) (ch a : ℕ) (moment : Moment) (timely : moment.date
     ≤ 4095) (out : putting.Outgoing job ch a)
     (set : jobs' ≡ slice_set jobs n (Some
-    (record job { channels = slice_set job.channels ch (Some (moved out.channel out.output (length out.words))) })))
+    (record job {
+      core = out.core;
+      channels = slice_set job.channels ch (Some (moved out.at.channel out.at.output (length out.words)));
+    })))
     (keyed : AreKeyed map.pending jobs) (keyed' : AreKeyed map'.pending jobs') (sound : IsSound d map false)
     (honest : d.honest) (later : d'.honest)
-    (p : PendingVersion) (at : pending_at map.pending out.output.pending.key ≡ Some p)
-    (put : Puts d d' map map' out.output out.words p)
-    (others : (k : ℕ) → (k ≡ out.output.pending.key → ⊥) → pending_at map'.pending k ≡ pending_at map.pending k)
-    (writers : (k : ℕ) (q : PendingVersion) → (k ≡ out.output.pending.key → ⊥) → pending_at map.pending k ≡ Some q
+    (p : PendingVersion) (at : pending_at map.pending out.at.output.pending.key ≡ Some p)
+    (put : Puts d d' map map' out.at.output out.words p)
+    (others : (k : ℕ) → (k ≡ out.at.output.pending.key → ⊥) → pending_at map'.pending k ≡ pending_at map.pending k)
+    (writers : (k : ℕ) (q : PendingVersion) → (k ≡ out.at.output.pending.key → ⊥) → pending_at map.pending k ≡ Some q
     → (m : ℕ) → 0 < times m q.version.blocks → d'.contents m ≡ d.contents m)
     (rests : (f : Files File) → RestsAt d f → RestsAt d' f) (live : map'.live ≡ map.live) (knows : map'.known
     ≡ record map.known { table = map'.known.table }) (readers : KeepsRead d.contents d'.contents map)
     (reading' : AreReading map'.live jobs') (s : State) (state : IsState d map jobs s) where
   abbrev key : ℕ
-  key = out.output.pending.key
+  key = out.at.output.pending.key
 
   abbrev x : Writing
-  x = put_writing map.pending jobs n job there ch out.channel out.there out.output out.side keyed state.under out.words
+  x = put_writing map.pending jobs n job there ch out.at.channel out.at.there out.at.output out.at.side keyed
+      state.under out.words out.core
 
   abbrev w : UnderKeys
-  w = writing_put map.pending jobs n job there ch out.channel out.there out.output out.side keyed state.under out.words
+  w = writing_put map.pending jobs n job there ch out.at.channel out.at.there out.at.output out.at.side keyed
+      state.under out.words out.core
 
   s_is : s ≡ state_of s.files state.under jobs
   s_is = state_is s state.under jobs state.jobs_are
@@ -165,8 +184,8 @@ module _ (d d' : DiskState) (map map' : VolumeCore) (jobs jobs' : List (Option J
         mode = was.mode;
         time = was.time;
         date = was.date;
-        words = length-splice (state.under.written key).file.body out.output.next out.words
-            ∙ ap (λ m. length_after m out.output.next (length out.words)) was.words ∙ sym put.length_is;
+        words = length-splice (state.under.written key).file.body out.at.output.next out.words
+            ∙ ap (λ m. length_after m out.at.output.next (length out.words)) was.words ∙ sym put.length_is;
         body = put.body later (state.under.written key).file.body was.words was.body;
       }))
 
@@ -197,22 +216,22 @@ module _ (d d' : DiskState) (map map' : VolumeCore) (jobs jobs' : List (Option J
   row_put : (serial : ℕ) → step (pack_of d) serial (state_of s.files state.under jobs) (Calls n (Out ch a) moment)
       ≡ (Done, state_of s.files w jobs')
   row_put serial =
-      row_by_place d map jobs n job there ch a moment timely serial s.files state.under out.channel out.there
-      out.output out.side out.words out.found false
-      (place_found d map (state_of s.files state.under jobs) state.under out.output p (state.versions key p at)
+      row_by_place d map jobs n job there ch a moment timely serial s.files state.under out.at
+      (record { words = out.words; core = out.core }) out.found false
+      (place_found d map (state_of s.files state.under jobs) state.under out.at.output p (state.versions key p at)
       (subst (λ y. booked y ≡ map.known.table.booked) s_is (known d map jobs s state sound honest).booked_is)
       (length out.words) put.fits)
       ∙ ap (λ y. (
         Done,
         with_job (state_of s.files state.under jobs) n
-            (with_channel (job_of state.under job) ch
-            (Some (record (clean (channel_of state.under out.channel)) {
+            (with_channel (record (job_of state.under job) { core = out.core }) ch
+            (Some (record (clean (channel_of state.under out.at.channel)) {
               output = put_on
                   (option_map (output_of state.under) y) out.words;
             }))),
-      )) out.side
-      ∙ ap (λ y. (Done, y)) (state_put map.pending jobs n job there ch out.channel out.there out.output
-      out.side keyed state.under out.words s.files jobs' set)
+      )) out.at.side
+      ∙ ap (λ y. (Done, y)) (state_put map.pending jobs n job there ch out.at.channel out.at.there out.at.output
+      out.at.side keyed state.under out.words out.core s.files jobs' set)
 
   pub put_leads : (failed' : Bool) → failed' ≡ false → (new : Service) × Serves d' map' failed' jobs' new
       × Answers (pack_of d) (Serving s) (Calls n (Out ch a) moment) Done new
@@ -238,34 +257,34 @@ module _ (d d' : DiskState) (map map' : VolumeCore) (jobs jobs' : List (Option J
 -- They find no place.
 module _ (d : DiskState) (map : VolumeCore) (failed : Bool) (jobs jobs' : List (Option Job)) (n : ℕ) (job : Job)
     (there : slot jobs n ≡ Some job) (ch a : ℕ) (moment : Moment) (timely : moment.date ≤ 4095)
-    (out : putting.Outgoing job ch a) (status : ℕ) (is : status ≡ cleared out.channel.status + block_too_large)
+    (out : putting.Outgoing job ch a) (status : ℕ) (is : status ≡ cleared out.at.channel.status + block_too_large)
     (set : jobs' ≡ slice_set jobs n
-    (Some (record job { channels = slice_set job.channels ch (Some (record out.channel { status = status })) })))
+    (Some (record job { channels = slice_set job.channels ch (Some (record out.at.channel { status = status })) })))
     (keyed' : AreKeyed map.pending jobs') (reading' : AreReading map.live jobs') (sound : IsSound d map false)
     (honest : d.honest)
-    (p : PendingVersion) (at : pending_at map.pending out.output.pending.key ≡ Some p)
-    (none : FindsNone d.size map p out.output (length out.words)) (s : State) (state : IsState d map jobs s) where
+    (p : PendingVersion) (at : pending_at map.pending out.at.output.pending.key ≡ Some p)
+    (none : FindsNone d.size map p out.at.output (length out.words)) (s : State) (state : IsState d map jobs s) where
   before_is : s ≡ state_of s.files state.under jobs
   before_is = state_is s state.under jobs state.jobs_are
 
   row_stopped : (serial : ℕ) → step (pack_of d) serial (state_of s.files state.under jobs) (Calls n (Out ch a) moment)
       ≡ (Stopped status, state_of s.files state.under jobs')
   row_stopped serial =
-      row_by_place d map jobs n job there ch a moment timely serial s.files state.under out.channel out.there
-      out.output out.side out.words out.found true
-      (none_found d map (state_of s.files state.under jobs) state.under out.output p
-      (state.versions out.output.pending.key p at) (subst (λ y. booked y ≡ map.known.table.booked) before_is
+      row_by_place d map jobs n job there ch a moment timely serial s.files state.under out.at
+      (record { words = out.words; core = out.core }) out.found true
+      (none_found d map (state_of s.files state.under jobs) state.under out.at.output p
+      (state.versions out.at.output.pending.key p at) (subst (λ y. booked y ≡ map.known.table.booked) before_is
       (known d map jobs s state sound honest).booked_is) (length out.words) none)
       ∙ ap (λ m. (
         Stopped m,
         with_job (state_of s.files state.under jobs) n
             (with_channel (job_of state.under job) ch
-            (Some (record (channel_of state.under out.channel) { status = m }))),
+            (Some (record (channel_of state.under out.at.channel) { status = m }))),
       )) (sym is)
       ∙ ap (λ j. (Stopped status, with_job (state_of s.files state.under jobs) n j))
-      (channel_set state.under job ch (Some (record out.channel { status = status })))
+      (channel_set state.under job ch (Some (record out.at.channel { status = status })))
       ∙ ap (λ y. (Stopped status, y)) (job_set s.files state.under jobs n
-      (record job { channels = slice_set job.channels ch (Some (record out.channel { status = status })) })
+      (record job { channels = slice_set job.channels ch (Some (record out.at.channel { status = status })) })
       ∙ ap (state_of s.files state.under) (sym set))
 
   pub stopped_leads : failed ≡ false → (new : Service) × Serves d map failed jobs' new

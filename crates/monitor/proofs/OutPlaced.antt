@@ -37,15 +37,16 @@ module _ {D : Type 0} (state : D → DiskState) (disk disk' : D) (map map' : Vol
 
     pub out_placed : (reply : Reply) → Outcome reply → Fails reply → ArePlaced map'
     out_placed Done (out, job_is, put) fails =
-        let p = version_there map.pending job ch out.channel out.there out.output out.side live in
+        let p = version_there map.pending job ch out.at.channel out.at.there out.at.output out.at.side live in
         let is = put p.0 p.1 in
-        placed_put map map' out.output.pending.key p.0 is.version p.1 is.here
-        (λ k apart. others k (other_side (slot job.channels ch) out.channel out.output k out.there out.side apart))
+        placed_put map map' out.at.output.pending.key p.0 is.version p.1 is.here
+        (λ k apart. others k (other_side (slot job.channels ch) out.at.channel out.at.output k out.at.there
+        out.at.side apart))
         known placed
     out_placed (Stopped status) (out, is, job_is, none, same) fails = unmoved same
-    out_placed (Refused code) (is, job_is, same, c, at, none) fails = unmoved same
+    out_placed (Refused code) (is, job_is, same, c, at, why) fails = unmoved same
     out_placed NoChannel (job_is, same, none) fails = unmoved same
-    out_placed AddressCheck (job_is, same, none, c, o, at, side) fails = unmoved same
+    out_placed AddressCheck (job_is, same, at, none) fails = unmoved same
     out_placed NoMemory (job_is, same, out) fails = unmoved same
     out_placed Device (job_is, out) fails = absurd (contrary alive (fails.1 (inl refl)))
     out_placed Failed lies fails = absurd (contrary alive (fails.1 (inr refl)))
@@ -60,9 +61,9 @@ module _ {D : Type 0} (state : D → DiskState) (disk disk' : D) (map map' : Vol
   pub out_idle : (reply : Reply) → Outcome reply → IsIdle reply → disk' ≡ disk
   out_idle Done out idle = absurd idle
   out_idle (Stopped status) (out, is, job_is, none, same) idle = same.0
-  out_idle (Refused code) (is, job_is, same, c, at, none) idle = same.0
+  out_idle (Refused code) (is, job_is, same, c, at, why) idle = same.0
   out_idle NoChannel (job_is, same, none) idle = same.0
-  out_idle AddressCheck (job_is, same, none, c, o, at, side) idle = same.0
+  out_idle AddressCheck (job_is, same, at, none) idle = same.0
   out_idle NoMemory (job_is, same, out) idle = same.0
   out_idle Device out idle = absurd idle
   out_idle Failed lies idle = absurd idle

@@ -5,18 +5,15 @@ use Rattle.std.specs.Prelude.{◌==◌, ◌&&◌, ◌||◌, not, nat_lt, option_
 use Rattle.std.proofs.lemmas.Bool.Decides.{nat_tests}
 use Rattle.blockdisk.specs.Disk.{DiskState}
 use Rattle.meaning.specs.Costs.{blocks_of, version_cost}
-use Rattle.meaning.specs.Cores.{joined}
 use Rattle.meaning.specs.Files.{Files}
 use Rattle.meaning.specs.Jobs as machine
 use Rattle.meaning.specs.Jobs.{State, slot, with_channel, with_job}
 use Rattle.meaning.specs.Outcomes.{clean}
-use Rattle.meaning.specs.Outputs.{longest, is_before_end, finds_no_place, Outgoing, put_on}
+use Rattle.meaning.specs.Outputs.{longest, is_before_end, finds_no_place, put_on}
 use Rattle.meaning.specs.Published.{Version}
 use Rattle.meaning.specs.Room.{booked}
 use Rattle.meaning.specs.Splices.{splice, length_after}
-use Rattle.meaning.specs.declared.area.Area.{Area}
 use Rattle.meaning.proofs.MapSums.{times_head}
-use Rattle.meaning.proofs.SlotLaws.{none_some}
 use Rattle.alloctab.specs.TableState.{space}
 use Rattle.volume.specs.Live.{VolumeCore, pending_at}
 use Rattle.volume.specs.declared.pending.PendingVersion.{PendingVersion}
@@ -30,13 +27,6 @@ use Rattle.monitor.specs.declared.job.Job.{Job}
 use Rattle.monitor.proofs.EnterServing.{with_writing, with_same, jobs_same}
 use Rattle.monitor.proofs.SideLists.{count, count-append, count-channel, count-set, map-set}
 use Rattle.monitor.proofs.Slots.{set-twice}
-
--- What is found in core.
-pub gathers : (core : List ℕ) (was : Option (List Area)) (words : List ℕ) → option_map (joined core) was ≡ Some words
-    → option_map {U = Outgoing} (λ areas. record { words = joined core areas; core = core }) was
-    ≡ Some (record { words = words; core = core })
-gathers core None words is = absurd (none_some is)
-gathers core (Some areas) words is = ap (option_map {U = Outgoing} (λ ws. record { words = ws; core = core })) is
 
 -- Whether so many words find a place.
 
@@ -120,7 +110,7 @@ set_alike f g xs n y z same =
 
 module _ (pending : List (Option PendingVersion)) (jobs : List (Option Job)) (n : ℕ) (job : Job) (there : slot jobs n
     ≡ Some job) (ch : ℕ) (c : Channel) (open_at : slot job.channels ch ≡ Some c) (o : Output) (side : c.output ≡ Some o)
-    (keyed : AreKeyed pending jobs) (w : UnderKeys) (words : List ℕ) where
+    (keyed : AreKeyed pending jobs) (w : UnderKeys) (words left : List ℕ) where
   abbrev pub put_writing : Writing
   put_writing = record (w.written o.pending.key) {
     file =
@@ -131,7 +121,12 @@ module _ (pending : List (Option PendingVersion)) (jobs : List (Option Job)) (n 
   writing_put = with_writing w o.pending.key put_writing
 
   abbrev job_put : Job
-  job_put = record job { channels = slice_set job.channels ch (Some (moved c o (length words))) }
+  job_put = record job { core = left; channels = slice_set job.channels ch (Some (moved c o (length words))) }
+
+  -- the same as the machine has it
+  abbrev machine_put : machine.Job
+  machine_put = with_channel (record (job_of w job) { core = left }) ch
+      (Some (record (clean (channel_of w c)) { output = put_on (Some (output_of w o)) words }))
 
   -- nobody else writes this version
   few : count o.pending.key (sides jobs) ≤ 1
@@ -179,9 +174,7 @@ module _ (pending : List (Option PendingVersion)) (jobs : List (Option Job)) (n 
             });
       }
 
-  job_is : with_channel (job_of w job) ch
-      (Some (record (clean (channel_of w c)) { output = put_on (Some (output_of w o)) words }))
-      ≡ job_of writing_put job_put
+  job_is : machine_put ≡ job_of writing_put job_put
   job_is =
       let alike = jobs_same w o.pending.key put_writing (Some (record job { channels = slice_set job.channels ch None })
       ∷ []) (omega (
@@ -194,7 +187,7 @@ module _ (pending : List (Option PendingVersion)) (jobs : List (Option Job)) (n 
       (sym (ap channels_of alike))
       ∙ ap (λ x. slice_set (map (option_map (channel_of writing_put)) job.channels) ch (Some x)) channel_is
       ∙ sym (map-set (option_map (channel_of writing_put)) job.channels ch (Some (moved c o (length words)))) in
-      λ i. record { ppn = job.ppn; core = job.core; channels = channels i }
+      λ i. record { ppn = job.ppn; core = left; channels = channels i }
     where
       channels_of : List (Option machine.Job) → List (Option machine.Channel)
       channels_of [] = []
@@ -202,15 +195,11 @@ module _ (pending : List (Option PendingVersion)) (jobs : List (Option Job)) (n 
       channels_of (Some j ∷ js) = j.channels
 
   pub state_put : (files : Files Version) (jobs' : List (Option Job)) → jobs' ≡ slice_set jobs n (Some job_put)
-      → with_job (state_of files w jobs) n
-      (with_channel (job_of w job) ch (Some
-      (record (clean (channel_of w c)) { output = put_on (Some (output_of w o)) words })))
-      ≡ state_of files writing_put jobs'
+      → with_job (state_of files w jobs) n machine_put ≡ state_of files writing_put jobs'
   state_put files jobs' set =
       let alike = jobs_same w o.pending.key put_writing (slice_set jobs n None) other_jobs in
       let slots = set_alike (option_map (job_of w)) (option_map (job_of writing_put)) jobs n None
-      (Some (with_channel (job_of w job) ch
-      (Some (record (clean (channel_of w c)) { output = put_on (Some (output_of w o)) words })))) (sym alike)
+      (Some machine_put) (sym alike)
       ∙ ap (λ j. slice_set (jobs_of writing_put jobs) n (Some j)) job_is
       ∙ sym (map-set (option_map (job_of writing_put)) jobs n (Some job_put)) ∙ ap (jobs_of writing_put) (sym set) in
       λ i. record { files = files; jobs = slots i }

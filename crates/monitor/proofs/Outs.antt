@@ -25,6 +25,7 @@ use Rattle.monitor.specs.Sides.{side_of, sides_in, keys_of, reader_of}
 use Rattle.monitor.specs.declared.channel.Channel.{Channel}
 use Rattle.monitor.specs.declared.output.Output.{Output}
 use Rattle.monitor.specs.declared.job.Job.{Job}
+use Rattle.monitor.proofs.Calling.{reads_core as in_core}
 use Rattle.monitor.proofs.Dropped.{same_or_not}
 use Rattle.monitor.proofs.ReaderLists.{held, held-channel}
 use Rattle.monitor.proofs.ReadingJobs.{slot_set, length-slice_set}
@@ -103,8 +104,8 @@ lacks_room (some, inr many) = (some, inr (inl many))
 
 -- The words are put into the version of an output side, and it moves on.
 module _ (pending pending' : List (Option PendingVersion)) (job job' : Job) (number : ℕ) (c : Channel)
-    (there : slot job.channels number ≡ Some c) (o : Output) (side : c.output ≡ Some o) (count_is : ℕ)
-    (set : job' ≡ record job { channels = slice_set job.channels number (Some (moved c o count_is)) })
+    (there : slot job.channels number ≡ Some c) (o : Output) (side : c.output ≡ Some o) (count_is : ℕ) (core : List ℕ)
+    (set : job' ≡ record job { core = core; channels = slice_set job.channels number (Some (moved c o count_is)) })
     (p : PendingVersion) (at : pending_at pending o.pending.key ≡ Some p) (v : VersionState)
     (here : pending_at pending' o.pending.key ≡ Some (record p { version = v }))
     (others : (k : ℕ) → (k ≡ o.pending.key → ⊥) → pending_at pending' k ≡ pending_at pending k) where
@@ -180,7 +181,10 @@ module _ (live live' : List (Option LiveVersion)) (job : Job) (stays : live' ≡
     reads_status status job' set = reads_channel (record c { status = status }) refl (λ is. is) job' set
 
     -- an output side that moves on leaves the input side alone
-    pub reads_moved : (o : Output) (n : ℕ) (job' : Job)
-        → job' ≡ record job { channels = slice_set job.channels number (Some (moved c o n)) }
+    pub reads_moved : (o : Output) (n : ℕ) (core : List ℕ) (job' : Job)
+        → job' ≡ record job { core = core; channels = slice_set job.channels number (Some (moved c o n)) }
         → KeepsReading live live' job job'
-    reads_moved o n job' set = reads_channel (moved c o n) refl (λ is. is) job' set
+    reads_moved o n core job' set =
+        let on = record job { channels = slice_set job.channels number (Some (moved c o n)) } in
+        subst (KeepsReading live live' job) (sym set)
+        (in_core live live' job on core (reads_channel (moved c o n) refl (λ is. is) on refl))

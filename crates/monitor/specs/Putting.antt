@@ -1,6 +1,6 @@
 -- OUT: the words that it finds in core, and what it does to the version that is written.
-use Rattle.std.specs.Prelude.{◌≡◌, ◌⊎◌, ℕ, ◌+◌, ◌-◌, ◌*◌, ◌<◌, true, false, if◌then◌else◌, List, length, Option, None, Some}
-use Rattle.std.specs.Prelude.{option_map, slice_set}
+use Rattle.std.specs.Prelude.{◌≡◌, ◌⊎◌, ℕ, ◌+◌, ◌-◌, ◌*◌, ◌<◌, true, false, if◌then◌else◌, List, length, Option}
+use Rattle.std.specs.Prelude.{None, Some, option_map, slice_set}
 use Rattle.blockdisk.specs.Disk.{DiskState}
 use Rattle.meaning.specs.CommandLists.{dump_list}
 use Rattle.meaning.specs.Cores.{after_writes, joined}
@@ -106,7 +106,9 @@ IsOut d d' c c' same job job' number a Done =
     → Puts d d' c c' out.at.output out.words p)
 IsOut d d' c c' same job job' number a (Stopped status) =
     (out : Outgoing job number a) × (status ≡ cleared out.at.channel.status + block_too_large)
-    × (job' ≡ record job { channels = slice_set job.channels number (Some (record out.at.channel { status = status })) })
+    × (job' ≡ record job {
+      channels = slice_set job.channels number (Some (record out.at.channel { status = status }));
+    })
     × ((p : PendingVersion) → pending_at c.pending out.at.output.pending.key ≡ Some p
     → FindsNone d.size c p out.at.output (length out.words)) × same
 IsOut d d' c c' same job job' number a (Refused code) = (code ≡ 5) × (job' ≡ job) × same × (c : Channel)

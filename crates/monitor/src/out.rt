@@ -1,21 +1,21 @@
 ghost use Rattle.std.specs.Prelude.{◌≡◌, ◌⊎◌, ◌↔◌, ◌<◌, ◌≤◌, ◌+◌, ◌^◌, ℕ, false, IsTrue, All, IfOk, IfErr, IsErrOf};
-ghost use Rattle.std.specs.Prelude.{length, None, Some, not, ◌&&◌, ◌==◌};
+ghost use Rattle.std.specs.Prelude.{List, length, None, Some, not, ◌&&◌, ◌==◌};
 ghost use Rattle.std.specs.List.{AllByRecursion};
 ghost use Rattle.blockdisk.specs.Disk.{LeavesOnly, SameDisk, one_more};
-ghost use Rattle.meaning.specs.CommandLists.{dump_list, word_count};
+ghost use Rattle.meaning.specs.CommandLists.{word_count};
 ghost use Rattle.meaning.specs.Cores.{joined};
 ghost use Rattle.meaning.specs.Costs.{blocks_of};
 ghost use Rattle.meaning.specs.Files.{File, Files};
 ghost use Rattle.meaning.specs.Jobs.{slot};
 ghost use Rattle.meaning.specs.Maps.{times};
-ghost use Rattle.meaning.specs.Outputs.{is_before_end};
+ghost use Rattle.meaning.specs.Outputs.{Outgoing, is_before_end};
 ghost use Rattle.meaning.specs.Stands.{Stands};
 ghost use Rattle.usercore.specs.declared.error.CoreError.TheVariants.{AddressCheck, NoMemory};
 ghost use Rattle.meaning.specs.declared.call.Reply.TheVariants.{Device, Failed};
 ghost use Rattle.volume.specs.Live.{pending_at};
 ghost use Rattle.volume.specs.Rest.{RestsAt, KeepsRead};
 ghost use Rattle.volume.specs.declared.pending.PendingVersion.{PendingVersion};
-ghost use Rattle.monitor.specs.Putting.{words_at, moved, IsOther, IsOut};
+ghost use Rattle.monitor.specs.Putting.{outgoing_at, moved, IsOther, IsOut};
 ghost use Rattle.monitor.specs.Rows.{Keeps, KeepsReading};
 ghost use Rattle.monitor.specs.Serving.{present, IsSide};
 ghost use Rattle.monitor.specs.Sides.{kind_of, sides_in, keys_of};
@@ -29,12 +29,12 @@ use crate::status::{BLOCK_TOO_LARGE, cleared, stop};
 use blockdisk::Disk;
 use meaning::{ErrorCode, Reply};
 use std::alloc::Global;
-use usercore::{Area, Core, CoreError, word_count};
+use usercore::{Area, Core, CoreError, RingStep, word_count};
 use volume::{CallError, Volume};
 use words36::{BLOCK_WORDS, Word};
 
-/// OUT: puts the words that the command list at an address names at the block that a channel writes next, and moves on
-/// behind them. Its row is `out`.
+/// OUT: puts the words that the command list at an address names, or those of the ring's current buffer, at the block
+/// that a channel writes next, and moves on behind them. Its row is `out`.
 pub fn serve_out<D: Disk>(
     alloc: Global,
     volume: &mut Volume<D>,
@@ -66,19 +66,43 @@ fn gathered(alloc: Global, core: &Core, areas: &[Area]) -> Result<Vec<Word>, Cor
     Ok(words)
 }
 
-/// The words that the command list at an address names, joined.
+/// The words that an OUT of a channel puts: those of its ring's current buffer, or those that the command list at an
+/// address names, joined.
 ///
 /// # Errors
 ///
-/// `AddressCheck` where the list isn't as it should be; `NoMemory` where the words find no room.
-fn words_at(alloc: Global, core: &Core, address: u32) -> Result<Vec<Word>, CoreError>
-    ensures words { IfOk result (λ words. words_at core.now address ≡ Some words.items) }
+/// `AddressCheck` where the ring or the list isn't as it should be; `NoMemory` where the words find no room.
+fn words_at(
+    alloc: Global,
+    core: &Core,
+    channel: &Channel,
+    address: u32,
+) -> Result<Vec<Word>, CoreError>
+    ensures words { IfOk result (λ words. (left : List ℕ) × (outgoing_at core.now channel.now address
+        ≡ Some (record { words = words.items; core = left }))) }
     ensures few { IfOk result (λ words. length words.items ≤ 0o400000) }
-    ensures none { IsErrOf result AddressCheck → dump_list core.now address ≡ None }
-    ensures some { IsErrOf result NoMemory → dump_list core.now address ≡ None → ⊥ }
+    ensures none { IsErrOf result AddressCheck → outgoing_at core.now channel.now address ≡ None }
+    ensures some { IsErrOf result NoMemory → outgoing_at core.now channel.now address ≡ None → ⊥ }
 {
+    if channel.is_buffered() {
+        let area = core.ring_check(RingStep::Out, channel.output_header, channel.bytes())?;
+        return gathered(alloc, core, &[area]);
+    }
     let areas = core.dump_list(address)?;
     gathered(alloc, core, areas.as_slice())
+}
+
+/// Takes the buffer whose words were put away from the ring of a channel, and gives the next one to be filled. In dump
+/// mode there is none.
+fn leave_buffer(core: &mut Core, channel: &Channel)
+    ensures left { (address : ℕ) (found : Outgoing) → outgoing_at core.old channel.now address ≡ Some found
+        → core.new ≡ found.core }
+    ensures length { length core.new ≡ length core.old }
+{
+    if channel.is_buffered() {
+        // It can be done: the words were found in the same core.
+        let _ = core.ring_out(channel.output_header, channel.bytes());
+    }
 }
 
 /// A channel once so many words are put at the next block of its output side.
@@ -109,8 +133,9 @@ fn is_kept(output: Output, count: usize) -> bool
     }
 }
 
-/// OUT: puts the words that the command list at an address names at the block that a channel writes next, and
-/// moves on behind them. Where they find no room, or would be put over what an append began with, it is stopped.
+/// OUT: puts the words that the command list at an address names, or those of the ring's current buffer, at the block
+/// that a channel writes next, and moves on behind them. Where they find no room, or would be put over what an append
+/// began with, it is stopped.
 fn out<D: Disk>(
     alloc: Global,
     volume: &mut Volume<D>,
@@ -160,7 +185,10 @@ fn out<D: Disk>(
     let Some(output) = channel.output else {
         return Reply::Refused(ErrorCode::Sequence.number());
     };
-    let words = match words_at(alloc, &job.core, address) {
+    if channel.lacks_header(channel.output_header) {
+        return Reply::Refused(ErrorCode::Sequence.number());
+    }
+    let words = match words_at(alloc, &job.core, &channel, address) {
         Ok(words) => words,
         Err(CoreError::AddressCheck) => return Reply::AddressCheck,
         Err(CoreError::NoMemory) => return Reply::NoMemory,
@@ -170,6 +198,7 @@ fn out<D: Disk>(
     }
     match volume.put_words(output.pending, output.next, words.as_slice()) {
         Ok(()) => {
+            leave_buffer(&mut job.core, &channel);
             let moved = moved(channel, output, words.len());
             job.set_channel(number, Some(moved));
             Reply::Done

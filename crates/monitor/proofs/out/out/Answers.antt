@@ -10,6 +10,7 @@ use Rattle.monitor.specs.Putting.{moved, IsOut}
 use Rattle.monitor.specs.Rows.{Keeps}
 use Rattle.monitor.specs.Sides.{kind_of}
 use Rattle.monitor.proofs.Calling.{keeps_same}
+use Rattle.monitor.proofs.Outgoings.{Found, at_output, goes_out, has_outgoing}
 use Rattle.monitor.proofs.Outs.{version_there, version_live, its_side, next_fits, not_refused, keeps_put}
 use Rattle.monitor.proofs.Outs.{put_over, finds_place, lacks_room, reads_status, reads_moved}
 use Rattle.monitor.proofs.Usetos.{keeps_status}
@@ -20,6 +21,50 @@ returns-in_default-clause-keeps g c alive = keeps_same c.args.volume.now.core.pe
 
 pub returns-in_default-output-clause-keeps : goal.returns-in_default-output-clause-keeps
 returns-in_default-output-clause-keeps g c alive = keeps_same c.args.volume.now.core.pending c.args.job.now
+
+pub returns-then-lacks_header-clause-keeps : goal.returns-then-lacks_header-clause-keeps
+returns-then-lacks_header-clause-keeps g c alive = keeps_same c.args.volume.now.core.pending c.args.job.now
+
+pub returns-in-Err-AddressCheck-clause-outcome : goal.returns-in-Err-AddressCheck-clause-outcome
+returns-in-Err-AddressCheck-clause-outcome g c = (
+  refl,
+  (refl, refl),
+  at_output c.args.job.now c.args.number c.in-Some.channel
+      (sym c.channel.ensures ∙ c.in-Some.is) c.in-Some-output.output c.in-Some-output.is
+      (sym c.lacks_header.ensures ∙ c.if-lacks_header.false),
+  c.words_at.ensures.none (c.in-Err-AddressCheck.is ∙ ap Err c.in-Err-AddressCheck.field-0-is),
+)
+
+pub returns-in-Err-NoMemory-clause-outcome : goal.returns-in-Err-NoMemory-clause-outcome
+returns-in-Err-NoMemory-clause-outcome g c = (
+  refl,
+  (refl, refl),
+  record {
+    at = at_output c.args.job.now c.args.number c.in-Some.channel
+        (sym c.channel.ensures ∙ c.in-Some.is) c.in-Some-output.output c.in-Some-output.is
+        (sym c.lacks_header.ensures ∙ c.if-lacks_header.false);
+    found = c.words_at.ensures.some (c.in-Err-NoMemory.is ∙ ap Err c.in-Err-NoMemory.field-0-is);
+  },
+)
+
+pub returns-in-Err-NoMemory-put_words-clause-outcome : goal.returns-in-Err-NoMemory-put_words-clause-outcome
+returns-in-Err-NoMemory-put_words-clause-outcome g c = (
+  refl,
+  c.put_words.ensures.memory (c.in-Err-NoMemory-put_words.is ∙ ap Err c.in-Err-NoMemory-put_words.field-0-is),
+  has_outgoing c.args.job.now c.args.number c.args.address (at_output c.args.job.now c.args.number c.in-Some.channel
+      (sym c.channel.ensures ∙ c.in-Some.is) c.in-Some-output.output c.in-Some-output.is
+      (sym c.lacks_header.ensures ∙ c.if-lacks_header.false))
+      c.in-Ok.words.items c.in-Ok.ensures.words,
+)
+
+pub returns-in-Err-Device-clause-outcome : goal.returns-in-Err-Device-clause-outcome
+returns-in-Err-Device-clause-outcome g c = (
+  refl,
+  has_outgoing c.args.job.now c.args.number c.args.address (at_output c.args.job.now c.args.number c.in-Some.channel
+      (sym c.channel.ensures ∙ c.in-Some.is) c.in-Some-output.output c.in-Some-output.is
+      (sym c.lacks_header.ensures ∙ c.if-lacks_header.false))
+      c.in-Ok.words.items c.in-Ok.ensures.words,
+)
 
 pub returns-in-Err-AddressCheck-clause-keeps : goal.returns-in-Err-AddressCheck-clause-keeps
 returns-in-Err-AddressCheck-clause-keeps g c alive = keeps_same c.args.volume.now.core.pending c.args.job.now
@@ -43,14 +88,10 @@ returns-then-is_kept-clause-outcome g c =
     c.args.volume.now.core c.args.volume.now.core
     ((c.args.volume.now.disk ≡ c.args.volume.now.disk) × (c.args.volume.now.core ≡ c.args.volume.now.core))
     c.args.job.now c.stop.new.job c.args.number c.args.address) (sym c.stop.ensures.answered) (
-      record {
-        channel = c.in-Some.channel;
-        there = sym c.channel.ensures ∙ c.in-Some.is;
-        output = c.in-Some-output.output;
-        side = c.in-Some-output.is;
-        words = c.in-Ok.words.items;
-        found = c.in-Ok.ensures.words;
-      },
+      goes_out c.args.job.now c.args.number c.args.address (at_output c.args.job.now c.args.number c.in-Some.channel
+          (sym c.channel.ensures ∙ c.in-Some.is) c.in-Some-output.output c.in-Some-output.is
+          (sym c.lacks_header.ensures ∙ c.if-lacks_header.false))
+          c.in-Ok.words.items c.in-Ok.ensures.words,
       refl,
       c.stop.ensures.kept,
       λ p at. let over = put_over (length c.in-Ok.words.items) _
@@ -94,21 +135,22 @@ pub returns-in-Ok-put_words-clause-outcome : goal.returns-in-Ok-put_words-clause
 returns-in-Ok-put_words-clause-outcome g c =
     let counted : c.len-in-Ok-put_words.result ≡ length c.as_slice.result.now = omega
     (arith, c.in-Ok.words.ok, c.len-in-Ok-put_words.ensures, ap length c.as_slice.ensures.value) in (
-      record {
-        channel = c.in-Some.channel;
-        there = sym c.channel.ensures ∙ c.in-Some.is;
-        output = c.in-Some-output.output;
-        side = c.in-Some-output.is;
-        words = c.as_slice.result.now;
-        found = c.in-Ok.ensures.words ∙ ap Some (sym c.as_slice.ensures.value);
-      },
-      c.set_channel.ensures ∙ ap (λ x.
-          record c.args.job.now { channels = slice_set c.args.job.now.channels c.args.number (Some x) })
-          c.moved-moved.ensures
-          ∙ ap (λ n. record c.args.job.now {
+      goes_out c.args.job.now c.args.number c.args.address (at_output c.args.job.now c.args.number c.in-Some.channel
+          (sym c.channel.ensures ∙ c.in-Some.is) c.in-Some-output.output c.in-Some-output.is
+          (sym c.lacks_header.ensures ∙ c.if-lacks_header.false))
+          c.as_slice.result.now (subst (Found c.args.job.now.core c.in-Some.channel c.args.address) (sym c.as_slice.ensures.value)
+          c.in-Ok.ensures.words),
+      c.set_channel.ensures ∙ ap (λ x. record c.args.job.now {
+        core = c.leave_buffer.new.core;
+        channels = slice_set c.args.job.now.channels c.args.number (Some x);
+      }) (c.moved-moved.ensures ∙ ap (moved c.in-Some.channel c.in-Some-output.output) counted)
+          ∙ ap (λ core. record c.args.job.now {
+            core = core;
             channels = slice_set c.args.job.now.channels c.args.number
-                (Some (moved c.in-Some.channel c.in-Some-output.output n));
-          }) counted,
+                (Some (moved c.in-Some.channel c.in-Some-output.output (length c.as_slice.result.now)));
+          }) (c.leave_buffer.ensures.left c.args.address _
+          (subst (Found c.args.job.now.core c.in-Some.channel c.args.address) (sym c.as_slice.ensures.value)
+          c.in-Ok.ensures.words).1),
       λ p at. let put = c.in-Ok-put_words.ensures.put p at in record {
         fits = finds_place (length c.as_slice.result.now) _
             (is_before_end (kind_of c.in-Some-output.output.kind) c.in-Some-output.output.next) c.is_kept.result
@@ -130,19 +172,21 @@ returns-in-Ok-put_words-clause-keeps g c alive =
     let put = c.in-Ok-put_words.ensures.put p.0 p.1 in
     keeps_put c.args.volume.now.core.pending c.put_words.new.self.core.pending c.args.job.now c.set_channel.new.self
     c.args.number c.in-Some.channel (sym c.channel.ensures ∙ c.in-Some.is) c.in-Some-output.output
-    c.in-Some-output.is c.len-in-Ok-put_words.result
-    (c.set_channel.ensures ∙ ap (λ x.
-    record c.args.job.now { channels = slice_set c.args.job.now.channels c.args.number (Some x) })
-    c.moved-moved.ensures) p.0 p.1 put.0 put.1 c.put_words.ensures.others
+    c.in-Some-output.is c.len-in-Ok-put_words.result c.leave_buffer.new.core
+    (c.set_channel.ensures ∙ ap (λ x. record c.args.job.now {
+      core = c.leave_buffer.new.core;
+      channels = slice_set c.args.job.now.channels c.args.number (Some x);
+    }) c.moved-moved.ensures) p.0 p.1 put.0 put.1 c.put_words.ensures.others
 
 pub returns-in-Ok-put_words-clause-reads : goal.returns-in-Ok-put_words-clause-reads
 returns-in-Ok-put_words-clause-reads g c alive =
     reads_moved c.args.volume.now.core.live c.put_words.new.self.core.live c.args.job.now c.put_words.ensures.live
     c.args.number c.in-Some.channel (sym c.channel.ensures ∙ c.in-Some.is) c.in-Some-output.output
-    c.len-in-Ok-put_words.result c.set_channel.new.self
-    (c.set_channel.ensures ∙ ap (λ x.
-    record c.args.job.now { channels = slice_set c.args.job.now.channels c.args.number (Some x) })
-    c.moved-moved.ensures)
+    c.len-in-Ok-put_words.result c.leave_buffer.new.core c.set_channel.new.self
+    (c.set_channel.ensures ∙ ap (λ x. record c.args.job.now {
+      core = c.leave_buffer.new.core;
+      channels = slice_set c.args.job.now.channels c.args.number (Some x);
+    }) c.moved-moved.ensures)
 
 pub returns-in-Err-Refused-clause-outcome : goal.returns-in-Err-Refused-clause-outcome
 returns-in-Err-Refused-clause-outcome g c =
@@ -151,14 +195,11 @@ returns-in-Err-Refused-clause-outcome g c =
     ((c.put_words.new.self.disk ≡ c.args.volume.now.disk) × (c.put_words.new.self.core ≡ c.args.volume.now.core))
     c.args.job.now c.stop-in-Err-Refused.new.job c.args.number c.args.address)
     (sym c.stop-in-Err-Refused.ensures.answered) (
-      record {
-        channel = c.in-Some.channel;
-        there = sym c.channel.ensures ∙ c.in-Some.is;
-        output = c.in-Some-output.output;
-        side = c.in-Some-output.is;
-        words = c.as_slice.result.now;
-        found = c.in-Ok.ensures.words ∙ ap Some (sym c.as_slice.ensures.value);
-      },
+      goes_out c.args.job.now c.args.number c.args.address (at_output c.args.job.now c.args.number c.in-Some.channel
+          (sym c.channel.ensures ∙ c.in-Some.is) c.in-Some-output.output c.in-Some-output.is
+          (sym c.lacks_header.ensures ∙ c.if-lacks_header.false))
+          c.as_slice.result.now (subst (Found c.args.job.now.core c.in-Some.channel c.args.address) (sym c.as_slice.ensures.value)
+          c.in-Ok.ensures.words),
       refl,
       c.stop-in-Err-Refused.ensures.kept,
       (λ p at. lacks_room ((c.put_words.ensures.room c.requires.serves p at).0
