@@ -17,7 +17,7 @@ use Rattle.commands.specs.Machines.{Machine, AlwaysStands, IsAnswered, IsListed,
 use Rattle.commands.specs.Asking.{Led, Concludes}
 use Rattle.commands.specs.Sessions.{Spoke}
 use Rattle.commands.specs.declared.answer.Tally.{Tally}
-use Rattle.commands.proofs.GoingLaws.{goes_nowhere, goes_answered, goes_listed, served_always}
+use Rattle.commands.proofs.GoingLaws.{goes_nowhere, goes_answered, goes_listed}
 use Rattle.commands.proofs.LedLaws.{led_on}
 use Rattle.commands.proofs.TranscriptLaws.{or-false}
 
@@ -101,7 +101,7 @@ module _ {V E S : Type 0} (machine : S → Machine) (stands : AlwaysStands machi
   spoke_login_refused old new who owner reply words broken h answered same_words same_broken refused broke text =
       spoke_refusal old new who (Some (LoginLine owner)) (Asks (Login 1 owner core_words) reply ∷ []) reply words broken
       (login_refused who owner reply h) (goes_answered machine stands old new (LogsIn 1 owner core_words) reply
-      (served_always (LogsIn 1 owner core_words) (λ s. tt)) answered)
+      answered)
       same_words same_broken refused broke text
 
   -- DIRECTORY.
@@ -162,7 +162,6 @@ module _ {V E S : Type 0} (machine : S → Machine) (stands : AlwaysStands machi
         said = prints (greeting owner);
         speaks = (Done, refl, refl, refl);
         goes = goes_answered machine stands old new (LogsIn 1 owner core_words) Done
-            (served_always (LogsIn 1 owner core_words) (λ s. tt))
             (subst (IsAnswered (machine old) (machine new) (LogsIn 1 owner core_words)) e answered);
         refused = or-false tally.refused;
         broke = or-false tally.broke;

@@ -92,45 +92,6 @@ module _ {S : Type 0} (machine : S → Machine) where
         );
   }
 
-  -- The same where the acts are of events that are served.
-
-  served_before : (pack : Pack) (first : Service) (acts more : List Act) → AreServedActs pack first (acts ++ more)
-      → AreServedActs pack first acts
-  served_before pack first [] more p = tt
-  served_before pack first (Asks event reply ∷ acts) more p =
-      (p.0, λ mid a. served_before pack mid acts more (p.1 mid a))
-  served_before pack first (Looks owner answer ∷ acts) more p = λ mid a. served_before pack mid acts more (p mid a)
-
-  served_behind : (pack : Pack) (first : Service) (acts more : List Act) (mid : Service) → Went pack first acts mid
-      → AreServedActs pack first (acts ++ more) → AreServedActs pack mid more
-  served_behind pack first [] more mid w p = subst (λ (s : Service). AreServedActs pack s more) (sym w) p
-  served_behind pack first (Asks event reply ∷ acts) more mid w p = served_behind pack w.0 acts more mid w.2
-      (p.1 w.0 w.1)
-  served_behind pack first (Looks owner answer ∷ acts) more mid w p = served_behind pack w.0 acts more mid w.2
-      (p w.0 w.1)
-
-  goes_served_on : (a b c : S) (acts more : List Act) → GoesServed machine a b acts → GoesServed machine b c more
-      → GoesServed machine a c (acts ++ more)
-  goes_served_on a b c acts more p q = record {
-    pack = q.pack ∙ p.pack;
-    was_honest = λ h. p.was_honest (q.was_honest h);
-    went = λ h first s served.
-        let one = p.went (q.was_honest h) first s (served_before (machine a).pack first acts more served) in
-        let rest = served_behind (machine a).pack first acts more one.0
-        (acts_went (machine a).pack a first acts b one.0 one.2) served in
-        let next = q.went h one.0 one.1 (subst (λ (k : Pack). AreServedActs k one.0 more) (sym p.pack) rest) in (
-          next.0,
-          next.1,
-          acts_on (machine a).pack a b c first one.0 next.0 acts more one.2
-              (subst (λ (k : Pack). ActsBy machine k b one.0 more c next.0) p.pack next.2),
-        );
-  }
-
-  pub goes_further : (language : Language) (a b c : S) (acts more : List Act) → Goes language machine a b acts
-      → Goes language machine b c more → Goes language machine a c (acts ++ more)
-  goes_further Commands a b c acts more p q = goes_on a b c acts more p q
-  goes_further Events a b c acts more p q = goes_served_on a b c acts more p q
-
   module _ (stands : AlwaysStands machine) where
     acts_none : (a : S) (first : Service) → (machine a).honest → (machine a).serves first
         → ActsBy machine (machine a).pack a first [] a first
@@ -142,14 +103,6 @@ module _ {S : Type 0} (machine : S → Machine) where
       pack = refl;
       was_honest = λ h. h;
       went = λ h first serves. (first, serves, acts_none a first h serves);
-    }
-
-    pub goes_still : (language : Language) (a : S) → Goes language machine a a []
-    goes_still Commands a = goes_nowhere a
-    goes_still Events a = record {
-      pack = refl;
-      was_honest = λ h. h;
-      went = λ h first serves served. (first, serves, acts_none a first h serves);
     }
 
     -- Nothing more was done behind an act.
@@ -174,44 +127,13 @@ module _ {S : Type 0} (machine : S → Machine) where
             acts_end a b last p.pack h then,
           )
 
-    -- an event that every service serves
-    pub goes_answered : (a b : S) (event : Event) (reply : Reply) → ((first : Service) → IsServedIn first event)
+    pub goes_answered : (a b : S) (event : Event) (reply : Reply)
         → IsAnswered (machine a) (machine b) event reply → GoesBy machine a b (Asks event reply ∷ [])
-    goes_answered a b event reply served p = record {
+    goes_answered a b event reply p = record {
       pack = p.pack;
       was_honest = p.was_honest;
       went = λ h first serves.
-          let one = p.answers h first serves (served first) in
-          (one.0, one.1, answered_acts a b event reply p h first one.0 serves one.1 one.2);
-    }
-
-    -- an event that is served where the acts before it lead
-    pub goes_then : (a b c : S) (acts : List Act) (event : Event) (reply : Reply) → GoesBy machine a b acts
-        → ((pack : Pack) (first last : Service) → Went pack first acts last → IsServedIn last event)
-        → IsAnswered (machine b) (machine c) event reply → GoesBy machine a c (acts ++ Asks event reply ∷ [])
-    goes_then a b c acts event reply before served p = record {
-      pack = p.pack ∙ before.pack;
-      was_honest = λ h. before.was_honest (p.was_honest h);
-      went = λ h first serves.
-          let one = before.went (p.was_honest h) first serves in
-          let then = p.answers h one.0 one.1
-          (served (machine a).pack first one.0 (acts_went (machine a).pack a first acts b one.0 one.2)) in
-          let act = answered_acts b c event reply p h one.0 then.0 one.1 then.1 then.2 in (
-            then.0,
-            then.1,
-            acts_on (machine a).pack a b c first one.0 then.0 acts (Asks event reply ∷ []) one.2
-                (subst (λ (k : Pack). ActsBy machine k b one.0 (Asks event reply ∷ []) c then.0) before.pack act),
-          );
-    }
-
-    -- any event
-    pub goes_ordered : (a b : S) (event : Event) (reply : Reply) → IsAnswered (machine a) (machine b) event reply
-        → GoesServed machine a b (Asks event reply ∷ [])
-    goes_ordered a b event reply p = record {
-      pack = p.pack;
-      was_honest = p.was_honest;
-      went = λ h first serves served.
-          let one = p.answers h first serves served.0 in
+          let one = p.answers h first serves in
           (one.0, one.1, answered_acts a b event reply p h first one.0 serves one.1 one.2);
     }
 
@@ -232,8 +154,3 @@ module _ {S : Type 0} (machine : S → Machine) where
           let one = p.lists h first serves in
           (one.0, one.1, listed_acts a b owner answer p h first one.0 serves one.1 one.2);
     }
-
--- each service serves an event that is served in each state
-pub served_always : (event : Event) → ((s : State) → IsServedAt s event) → (first : Service) → IsServedIn first event
-served_always event served Broken = tt
-served_always event served (Serving s) = served s

@@ -15,9 +15,9 @@ use Rattle.meaning.specs.declared.call.Reply.TheVariants.{NoMemory, Device, Fail
 use Rattle.meaning.specs.declared.call.Call.TheVariants.{Reset}
 use Rattle.meaning.specs.declared.call.Event.{Event}
 use Rattle.meaning.specs.declared.call.Event.TheVariants.{Examine, Call as Calls}
-use Rattle.commands.specs.Asking.{IsAlwaysServed, ServedAlong, AreServedFrom, Led, HasDone}
+use Rattle.commands.specs.Asking.{Led, HasDone}
 use Rattle.commands.specs.Machines.{Machine, AlwaysStands, IsAnswered, GoesBy}
-use Rattle.commands.proofs.GoingLaws.{goes_nowhere, goes_on, goes_answered, goes_then, served_always, went_apart}
+use Rattle.commands.proofs.GoingLaws.{goes_nowhere, goes_on, goes_answered}
 
 pub leads_on : (plan mid rest : Plan) (acts more : List Act) → Leads plan acts mid → Leads mid more rest
     → Leads plan (acts ++ more) rest
@@ -36,14 +36,6 @@ unfolding each
 each_append moment [] more next = refl
 each_append moment (event ∷ events) more next = ap (λ (p : Plan). Ask event (if_done moment p))
     (each_append moment events more next)
-
--- Events that are served in each state are served from any service.
-pub always_along : (events : List Event) → AllByRecursion IsAlwaysServed events → AreServedFrom events
-always_along [] all pack service = tt
-always_along (event ∷ events) all pack service = (
-  served_always event all.0 service,
-  λ mid answers. always_along events all.1 pack mid,
-)
 
 -- what comes behind a reply that is not Done, and behind one that is no word
 if_other : (moment : Moment) (next : Plan) (reply : Reply) → reply ≢ Done
@@ -113,13 +105,12 @@ module _ {S : Type 0} (machine : S → Machine) where
     pub led_still : (a : S) (plan : Plan) → Led machine a a plan plan
     led_still a plan = record { acts = []; goes = goes_nowhere machine stands a; leads = refl }
 
-    -- an event that is served in each state
-    pub led_asked : (a b : S) (event : Event) (reply : Reply) (next : Reply → Plan) → IsAlwaysServed event
+    pub led_asked : (a b : S) (event : Event) (reply : Reply) (next : Reply → Plan)
         → IsAnswered (machine a) (machine b) event reply → Led machine a b (Ask event next) (next reply)
-    led_asked a b event reply next served answered =
+    led_asked a b event reply next answered =
         record {
           acts = Asks event reply ∷ [];
-          goes = goes_answered machine stands a b event reply (served_always event served) answered;
+          goes = goes_answered machine stands a b event reply answered;
           leads = (refl, refl);
         }
 
@@ -127,35 +118,22 @@ module _ {S : Type 0} (machine : S → Machine) where
     done_none a = record {
       acts = [];
       goes = goes_nowhere machine stands a;
-      along = λ pack first last rest went served. subst (λ (s : Service). ServedAlong pack s rest) (sym went) served;
       leads = λ moment rest next. refl;
     }
 
     module _ (a b c : S) (events : List Event) (i : ℕ) (item : Event) (reply : Reply) (h : i < length events)
-        (is_item : item ≡ get_or events i item) (all : AreServedFrom events) (p : HasDone machine a b (take i events))
+        (is_item : item ≡ get_or events i item) (p : HasDone machine a b (take i events))
         (answered : IsAnswered (machine b) (machine c) item reply) where
       abbrev behind : List Event
       behind = drop (i + 1) events
 
-      from_all : (pack : Pack) (first : Service) → ServedAlong pack first (take i events ++ item ∷ behind)
-      from_all pack first = subst (λ (l : List Event). ServedAlong pack first l)
-          (sym (events_split events i item h is_item)) (all pack first)
-
       goes : GoesBy machine a c (p.acts ++ Asks item reply ∷ [])
-      goes = goes_then machine stands a b c p.acts item reply p.goes
-          (λ pack first last went. (p.along pack first last (item ∷ behind) went (from_all pack first)).0) answered
+      goes = goes_on machine a b c p.acts (Asks item reply ∷ []) p.goes (goes_answered machine stands b c item reply answered)
 
       pub done_more : reply ≡ Done → HasDone machine a c (take (i + 1) events)
       done_more is = record {
         acts = p.acts ++ Asks item reply ∷ [];
         goes = goes;
-        along = λ pack first last rest went served.
-            let apart = went_apart pack first p.acts (Asks item reply ∷ []) last went in
-            let before = p.along pack first apart.0 (item ∷ rest) apart.1
-            (subst (λ (l : List Event). ServedAlong pack first l) (ap (λ (l : List Event). l ++ rest)
-            (events_more events i item h is_item) ∙ append_assoc (take i events) (item ∷ []) rest) served) in
-            let answers = subst (λ (r : Reply). Answers pack apart.0 item r apart.2.0) is apart.2.1 in
-            subst (λ (s : Service). ServedAlong pack s rest) (sym apart.2.2) (before.1 apart.2.0 answers);
         leads = λ moment rest next.
             let spelled : take (i + 1) events ++ rest ≡ take i events ++ item ∷ rest
             = ap (λ (l : List Event). l ++ rest) (events_more events i item h is_item)
@@ -200,18 +178,18 @@ module _ {S : Type 0} (machine : S → Machine) where
         → Led machine a b (examines moment address next) (next word)
     led_told a b address reply word moment next is answered =
         subst (λ (p : Plan). Led machine a b (examines moment address next) p) (ap (if_told moment next) is)
-        (led_asked a b (Examine 1 address) reply (if_told moment next) (λ s. tt) answered)
+        (led_asked a b (Examine 1 address) reply (if_told moment next) answered)
 
     pub led_untold : (a b : S) (address : ℕ) (reply : Reply) (moment : Moment) (next : ℕ → Plan)
         → ((word : ℕ) → reply ≡ Value word → ⊥) → IsAnswered (machine a) (machine b) (Examine 1 address) reply
         → Led machine a b (examines moment address next) (fails moment reply)
     led_untold a b address reply moment next other answered =
         subst (λ (p : Plan). Led machine a b (examines moment address next) p) (if_untold moment next reply other)
-        (led_asked a b (Examine 1 address) reply (if_told moment next) (λ s. tt) answered)
+        (led_asked a b (Examine 1 address) reply (if_told moment next) answered)
 
     -- all channels are closed
     pub led_reset : (a b : S) (moment : Moment) (answer : Reply) (said : Spoken)
         → IsAnswered (machine a) (machine b) (Calls 1 Reset moment) answer
         → Led machine a b (ends moment said) (Say said)
     led_reset a b moment answer said answered = led_asked a b (Calls 1 Reset moment) answer (λ reply. Say said)
-        (λ s. tt) answered
+        answered

@@ -16,7 +16,6 @@ pub mod CopyingLaws
 pub mod MadeLaws
 pub mod OrderLaws
 pub mod ObeyLaws
-pub mod ServedLaws
 pub mod ReadingLaws
 pub mod TypingLaws
 pub mod SpecLaws

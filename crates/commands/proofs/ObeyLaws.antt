@@ -33,7 +33,7 @@ module _ {V E S : Type 0} (machine : S → Machine) (stands : AlwaysStands machi
         acts = [];
         said = complains wrong;
         hears = ((refl, refl), refl);
-        goes = λ language in_it. goes_still machine stands language m;
+        goes = goes_nowhere machine stands m;
         refused = refused ∙ or-true tally.refused;
         broke = broke ∙ or-false tally.broke;
         text = text;
@@ -50,8 +50,7 @@ module _ {V E S : Type 0} (machine : S → Machine) (stands : AlwaysStands machi
         acts = Asks event reply ∷ [];
         said = reports reply;
         hears = ((reply, refl, refl), refl);
-        goes = λ language in_it. subst (λ (l : Language). Goes l machine a b (Asks event reply ∷ [])) (sym in_it)
-            (goes_ordered machine stands a b event reply answered);
+        goes = goes_answered machine stands a b event reply answered;
         refused = refused;
         broke = broke;
         text = text;

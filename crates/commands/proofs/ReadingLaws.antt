@@ -14,19 +14,19 @@ use Rattle.meaning.specs.declared.call.Reply.{Reply}
 use Rattle.meaning.specs.declared.call.Reply.TheVariants.{Done, Value, Refused, Stopped, NoChannel, AddressCheck, NoJob}
 use Rattle.meaning.specs.declared.call.Reply.TheVariants.{NoMemory, Device, Failed, DateRange}
 use Rattle.meaning.specs.declared.call.Event.{Event}
-use Rattle.commands.specs.Asking.{IsAlwaysServed, Led, followed}
+use Rattle.commands.specs.Asking.{Led, followed}
 use Rattle.commands.specs.Machines.{Machine, AlwaysStands, IsAnswered}
-use Rattle.commands.proofs.GoingLaws.{goes_answered, served_always}
+use Rattle.commands.proofs.GoingLaws.{goes_answered}
 use Rattle.commands.proofs.LedLaws.{led_on, led_still, each_append}
 
 module _ {S : Type 0} (machine : S → Machine) where
-  -- one event, which every service serves
+  -- one event
   led_event : AlwaysStands machine → (a b : S) (event : Event) (asked : Event) (reply : Reply) (next : Reply → Plan)
-      → event ≡ asked → IsAlwaysServed event → IsAnswered (machine a) (machine b) event reply
+      → event ≡ asked → IsAnswered (machine a) (machine b) event reply
       → Led machine a b (Ask asked next) (next reply)
-  led_event stands a b event asked reply next is served answered = record {
+  led_event stands a b event asked reply next is answered = record {
     acts = Asks event reply ∷ [];
-    goes = goes_answered machine stands a b event reply (served_always event served) answered;
+    goes = goes_answered machine stands a b event reply answered;
     leads = (is, refl);
   }
 
@@ -383,11 +383,11 @@ if_other moment next Failed h = refl
 if_other moment next DateRange h = refl
 
 module _ {S : Type 0} (machine : S → Machine) (stands : AlwaysStands machine) (a b : S) (moment : Moment)
-    (event : Event) (made : event ≡ takes moment) (served : IsAlwaysServed event) (reply : Reply)
+    (event : Event) (made : event ≡ takes moment) (reply : Reply)
     (answered : IsAnswered (machine a) (machine b) event reply) where
   end_told : (next rest : Plan) → if_end moment next reply ≡ rest → Led machine a b (until_end moment next) rest
   end_told next rest is = subst (λ (p : Plan). Led machine a b (until_end moment next) p) is
-      (led_event machine stands a b event (takes moment) reply (if_end moment next) made served answered)
+      (led_event machine stands a b event (takes moment) reply (if_end moment next) made answered)
 
   pub end_found : (status : ℕ) → reply ≡ Stopped status → (bit_and status 8192 ≡ 0 → ⊥) → (next : Plan)
       → Led machine a b (until_end moment next) next

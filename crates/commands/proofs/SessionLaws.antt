@@ -21,7 +21,7 @@ use Rattle.commands.specs.declared.answer.Tally.{Tally}
 use Rattle.commands.specs.declared.language.Language.{Language}
 use Rattle.commands.specs.declared.language.Language.TheVariants.{Commands, Events}
 use Rattle.commands.specs.declared.run.Talk.{Talk}
-use Rattle.commands.proofs.GoingLaws.{goes_still, goes_further, went_apart, acts_went}
+use Rattle.commands.proofs.GoingLaws.{goes_nowhere, goes_on, went_apart, acts_went}
 use Rattle.commands.proofs.TranscriptLaws.{events_who}
 
 -- how far it is with its reader, its writer and its service
@@ -32,7 +32,7 @@ pub record Streams {S : Type 0} (language : Language) (source left sink full : O
   pub acts : List Act
   pub consumed : Consumes source left read
   pub appended : Appends sink full written
-  pub goes : Goes language machine old now acts
+  pub goes : GoesBy machine old now acts
   pub so : SoFar language moment talk read written acts
 
 pub stream_starts : {S : Type 0} (language : Language) (machine : S
@@ -45,7 +45,7 @@ stream_starts language machine stands source sink m moment talk held who refused
   acts = [];
   consumed = Consumes-nil source;
   appended = Appends-nil sink;
-  goes = goes_still machine stands language m;
+  goes = goes_nowhere machine stands m;
   so = record {
     front = [];
     seen = [];
@@ -68,7 +68,7 @@ stream_more language machine source left rest sink full over old now new moment 
   acts = s.acts ++ t.acts;
   consumed = Consumes-trans source left rest s.read bytes s.consumed c;
   appended = Appends-trans sink full over s.written t.written s.appended t.appended;
-  goes = goes_further machine language old now new s.acts t.acts s.goes t.goes;
+  goes = goes_on machine old now new s.acts t.acts s.goes t.goes;
   so = t.steps s.read s.written s.acts s.so;
 }
 
@@ -145,7 +145,7 @@ stream_breaks language machine at_end source left rest sink full over old now ne
       acts = s.acts ++ t.acts;
       consumed = Consumes-trans source left rest s.read bytes s.consumed c;
       appended = Appends-trans sink full over s.written t.written s.appended t.appended;
-      goes = goes_further machine language old now new s.acts t.acts s.goes t.goes;
+      goes = goes_on machine old now new s.acts t.acts s.goes t.goes;
       ends = ends_unfinished language (IsAtEnd rest) moment error (s.read ++ bytes) (s.written ++ t.written)
           (s.acts ++ t.acts)
           (unfinished_at language at_end (IsAtEnd rest) moment error (s.read ++ bytes) (s.written ++ t.written)
@@ -167,7 +167,7 @@ stream_ends language machine source left rest sink full over old now new moment 
       consumed = subst (λ (l : List ℕ). Consumes source rest l) (append-nil s.read)
           (Consumes-trans source left rest s.read [] s.consumed c);
       appended = Appends-trans sink full over s.written t.written s.appended t.appended;
-      goes = goes_further machine language old now new s.acts t.acts s.goes t.goes;
+      goes = goes_on machine old now new s.acts t.acts s.goes t.goes;
       ends = (end, t.ends s.read s.written s.acts s.so);
     }
 stream_ends language machine source left rest sink full over old now new moment talk
@@ -255,8 +255,8 @@ module _ {S : Type 0} (machine : S → Machine) (source left sink full : Option 
     appended = t.appended;
     goes = t.goes;
     ends = t.ends;
-    served = λ h first at served.
-        let w = t.goes.went h first at served in
+    served = λ h first at.
+        let w = t.goes.went h first at in
         was_script result t first w.0 (acts_went machine (machine old).pack old first t.acts new w.0 w.2) w.1;
   }
 

@@ -32,7 +32,7 @@ use Rattle.commands.specs.declared.run.Heard.TheVariants.{Nothing, Said, Ordered
 use Rattle.commands.specs.declared.run.Talk.{Talk}
 use Rattle.meaning.proofs.SpellingLaws.{are_append}
 use Rattle.commands.proofs.FieldLaws.{is_other}
-use Rattle.commands.proofs.GoingLaws.{goes_still, goes_further, goes_answered, served_always}
+use Rattle.commands.proofs.GoingLaws.{goes_nowhere, goes_on, goes_answered}
 use Rattle.commands.proofs.SplitLaws.{lines_fed, lines_ended}
 use Rattle.commands.proofs.TranscriptLaws.{transcript_on, transcript_heard, heard_line, spoken_more, or-false}
 
@@ -43,7 +43,7 @@ pub steps_none : {S : Type 0} (language : Language) (machine : S
     → StepsOn language machine m m sink sink moment talk talk []
 steps_none language machine stands m sink moment talk = record {
   acts = [];
-  goes = goes_still machine stands language m;
+  goes = goes_nowhere machine stands m;
   written = [];
   appended = Appends-nil sink;
   steps = λ read past done so. subst (λ (l : List Act). SoFar language moment talk (read ++ []) (past ++ []) l)
@@ -58,7 +58,7 @@ steps_more : {S : Type 0} (language : Language) (machine : S
     → StepsOn language machine a c p r moment x z (bytes ++ more)
 steps_more language machine a b c p q r moment x y z bytes more s t = record {
   acts = s.acts ++ t.acts;
-  goes = goes_further machine language a b c s.acts t.acts s.goes t.goes;
+  goes = goes_on machine a b c s.acts t.acts s.goes t.goes;
   written = s.written ++ t.written;
   appended = Appends-trans p q r s.written t.written s.appended t.appended;
   steps = λ read past done so.
@@ -105,7 +105,7 @@ breaks_more : {S : Type 0} (language : Language) (machine : S
     → BreaksOff language ⊥ machine a c p r moment x error ((bytes ++ more) ++ rest)
 breaks_more language machine a b c p q r moment x y error bytes more rest s t = record {
   acts = s.acts ++ t.acts;
-  goes = goes_further machine language a b c s.acts t.acts s.goes t.goes;
+  goes = goes_on machine a b c s.acts t.acts s.goes t.goes;
   written = s.written ++ t.written;
   appended = Appends-trans p q r s.written t.written s.appended t.appended;
   breaks = λ read past done so.
@@ -157,7 +157,7 @@ pub step_byte : {S : Type 0} (language : Language) (machine : S
     → StepsOn language machine m m sink sink moment talk (record talk { held = held }) (b ∷ [])
 step_byte language machine stands m sink moment talk held b other keeps = record {
   acts = [];
-  goes = goes_still machine stands language m;
+  goes = goes_nowhere machine stands m;
   written = [];
   appended = Appends-nil sink;
   steps = λ read past done so. record {
@@ -177,15 +177,15 @@ step_byte language machine stands m sink moment talk held b other keeps = record
 -- A line feed.
 pub step_feed : {S : Type 0} (language : Language) (machine : S
     → Machine) (result : Result (Unit {0}) SessionError) (a b : S) (p q : Option (List ℕ)) (moment : Moment)
-    (talk after : Talk) (heard : Heard) (byte : ℕ) → byte ≡ 10 → IsPartialLine after.held [] → IsHeardIn language heard
+    (talk after : Talk) (heard : Heard) (byte : ℕ) → byte ≡ 10 → IsPartialLine after.held []
     → ((seen : List ℕ) → IsPartialLine talk.held seen
     → HeardIn language moment (fitting seen (without_return seen)) heard)
     → Told result machine a b p q moment talk.who after.who talk.tally after.tally heard
     → OnOk result (StepsOn language machine a b p q moment talk after (byte ∷ []))
-step_feed language machine (Err error) a b p q moment talk after heard byte feed none in_it hears t = tt
-step_feed language machine (Ok v) a b p q moment talk after heard byte feed none in_it hears t = record {
+step_feed language machine (Err error) a b p q moment talk after heard byte feed none hears t = tt
+step_feed language machine (Ok v) a b p q moment talk after heard byte feed none hears t = record {
   acts = t.acts;
-  goes = t.goes language in_it;
+  goes = t.goes;
   written = t.written;
   appended = t.appended;
   steps = λ read past done so. record {
@@ -249,15 +249,15 @@ unfinished language machine at_end error a b p q moment talk after heard here re
 
 pub break_feed : {S : Type 0} (language : Language) (machine : S
     → Machine) (result : Result (Unit {0}) SessionError) (a b : S) (p q : Option (List ℕ)) (moment : Moment)
-    (talk after : Talk) (heard : Heard) (byte : ℕ) → byte ≡ 10 → IsHeardIn language heard
+    (talk after : Talk) (heard : Heard) (byte : ℕ) → byte ≡ 10
     → ((seen : List ℕ) → IsPartialLine talk.held seen
     → HeardIn language moment (fitting seen (without_return seen)) heard)
     → Told result machine a b p q moment talk.who after.who talk.tally after.tally heard
     → IfErr result (λ error. BreaksOff language ⊥ machine a b p q moment talk error (byte ∷ []))
-break_feed language machine (Ok v) a b p q moment talk after heard byte feed in_it hears t = tt
-break_feed language machine (Err error) a b p q moment talk after heard byte feed in_it hears t = record {
+break_feed language machine (Ok v) a b p q moment talk after heard byte feed hears t = tt
+break_feed language machine (Err error) a b p q moment talk after heard byte feed hears t = record {
   acts = t.acts;
-  goes = t.goes language in_it;
+  goes = t.goes;
   written = t.written;
   appended = t.appended;
   breaks = λ read past done so. unfinished language machine ⊥ error a b p q moment talk after heard
@@ -268,13 +268,13 @@ break_feed language machine (Err error) a b p q moment talk after heard byte fee
 
 -- The end of the input.
 pub break_end : {S : Type 0} (language : Language) (machine : S → Machine) (error : SessionError) (a b : S)
-    (p q : Option (List ℕ)) (moment : Moment) (talk after : Talk) (heard : Heard) → IsHeardIn language heard
+    (p q : Option (List ℕ)) (moment : Moment) (talk after : Talk) (heard : Heard)
     → ((seen : List ℕ) → IsPartialLine talk.held seen → HeardIn language moment (fitting seen seen) heard)
     → Told (Err error) machine a b p q moment talk.who after.who talk.tally after.tally heard
     → BreaksOff language (Unit {0}) machine a b p q moment talk error []
-break_end language machine error a b p q moment talk after heard in_it hears t = record {
+break_end language machine error a b p q moment talk after heard hears t = record {
   acts = t.acts;
-  goes = t.goes language in_it;
+  goes = t.goes;
   written = t.written;
   appended = t.appended;
   breaks = λ read past done so. unfinished language machine (Unit {0}) error a b p q moment talk after heard
@@ -284,14 +284,14 @@ break_end language machine error a b p q moment talk after heard in_it hears t =
 }
 
 pub end_well : {S : Type 0} (language : Language) (machine : S → Machine) (v : Unit {0}) (a b c : S)
-    (p q : Option (List ℕ)) (moment : Moment) (talk after : Talk) (heard : Heard) → IsHeardIn language heard
+    (p q : Option (List ℕ)) (moment : Moment) (talk after : Talk) (heard : Heard)
     → ((seen : List ℕ) → IsPartialLine talk.held seen → HeardIn language moment (fitting seen seen) heard)
     → Told (Ok v) machine a b p q moment talk.who after.who talk.tally after.tally heard
     → Closed language machine b c moment
     → EndsWell language machine a c p q moment talk after.tally
-end_well language machine v a b c p q moment talk after heard in_it hears t end = record {
+end_well language machine v a b c p q moment talk after heard hears t end = record {
   acts = t.acts ++ end.acts;
-  goes = goes_further machine language a b c t.acts end.acts (t.goes language in_it) end.goes;
+  goes = goes_on machine a b c t.acts end.acts t.goes end.goes;
   written = t.written;
   appended = t.appended;
   ends = λ read past done so. record {
@@ -322,23 +322,15 @@ closed_reset machine stands language a b moment reply e answered = subst (λ (l 
     (sym e) (record {
       acts = Asks (calls moment played.Reset) reply ∷ [];
       closes = (reply, refl);
-      goes = goes_answered machine stands a b (Calls 1 Reset moment) reply
-          (served_always (Calls 1 Reset moment) (λ s. tt)) answered;
+      goes = goes_answered machine stands a b (Calls 1 Reset moment) reply answered;
     })
 
 pub closed_still : {S : Type 0} (machine : S → Machine) (stands : AlwaysStands machine) (language : Language)
     (a : S) (moment : Moment) → language ≡ Events → Closed language machine a a moment
 closed_still machine stands language a moment e = subst (λ (l : Language). Closed l machine a a moment)
-    (sym e) (record { acts = []; closes = refl; goes = goes_still machine stands Events a })
+    (sym e) (record { acts = []; closes = refl; goes = goes_nowhere machine stands a })
 
 -- What was heard is told.
-
-pub is_heard_in : (language : Language) (moment : Moment) (lines : List Line) (heard : Heard)
-    → HeardIn language moment lines heard → IsHeardIn language heard
-is_heard_in language moment [] heard h = subst (IsHeardIn language) (sym h) tt
-is_heard_in language moment (line ∷ lines) Nothing h = tt
-is_heard_in language moment (line ∷ lines) (Said meant) h = h.0
-is_heard_in language moment (line ∷ lines) (Ordered order) h = h.0
 
 pub told_nothing : {S : Type 0} (machine : S → Machine) (stands : AlwaysStands machine) (m : S) (sink : Option (List ℕ))
     (moment : Moment) (who : Option ℕ) (tally : Tally) (heard : Heard) → heard ≡ Nothing
@@ -347,7 +339,7 @@ told_nothing machine stands m sink moment who tally heard e = record {
   acts = [];
   said = silent;
   hears = subst (λ (h : Heard). Hears moment who h [] silent who) (sym e) (refl, refl, refl);
-  goes = λ language in_it. goes_still machine stands language m;
+  goes = goes_nowhere machine stands m;
   refused = or-false tally.refused;
   broke = or-false tally.broke;
   written = [];
@@ -429,7 +421,7 @@ module _ {V E S : Type 0} (machine : S → Machine) (bytes : V
         acts = s.acts;
         said = s.said;
         hears = s.speaks;
-        goes = λ language in_it. subst (λ (l : Language). Goes l machine a b s.acts) (sym in_it) s.goes;
+        goes = s.goes;
         refused = s.refused;
         broke = s.broke;
         text = s.text;

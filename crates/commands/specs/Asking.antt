@@ -1,33 +1,13 @@
 -- What a line asks of a service, event by event, and how far its plan has come.
-use Rattle.std.specs.Prelude.{◌≡◌, ℕ, ◌||◌, Bool, true, List, [], ◌∷◌, ◌++◌, Result, Ok, Err, IfOk}
+use Rattle.std.specs.Prelude.{◌≡◌, ℕ, ◌||◌, Bool, true, List, ◌++◌, Result, Ok, Err, IfOk}
 use Rattle.words36.specs.declared.moment.Moment.{Moment}
 use Rattle.meaning.specs.Plans.{Act, Plan, Leads, Say, each, fails}
-use Rattle.meaning.specs.Jobs.{State}
-use Rattle.meaning.specs.Room.{Pack}
-use Rattle.meaning.specs.Runs.{Service, Answers}
-use Rattle.meaning.specs.Transcripts.{Went}
 use Rattle.meaning.specs.Texts.{Spoken, typed}
 use Rattle.meaning.specs.declared.call.Reply.{Reply}
-use Rattle.meaning.specs.declared.call.Reply.TheVariants.{Done}
-use Rattle.monitor.specs.Runs.{IsServedAt, IsServedIn}
 use Rattle.meaning.specs.declared.call.Event.{Event}
 use Rattle.commands.specs.Machines.{Machine, GoesBy}
 use Rattle.commands.specs.declared.answer.Tally.{Tally}
 use Rattle.commands.specs.declared.typing.Typed.{Typed}
-
--- an event that is served in each state
-abbrev pub IsAlwaysServed : Event → Type 0
-IsAlwaysServed event = (s : State) → IsServedAt s event
-
--- Events that are served one after the other, as long as each is done: from a service, and from any.
-
-abbrev pub ServedAlong : Pack → Service → List Event → Type 0
-ServedAlong pack service [] = Unit {0}
-ServedAlong pack service (event ∷ events) = IsServedIn service event
-    × ((mid : Service) → Answers pack service event Done mid → ServedAlong pack mid events)
-
-abbrev pub AreServedFrom : List Event → Type 0
-AreServedFrom events = (pack : Pack) (service : Service) → ServedAlong pack service events
 
 -- The service went by acts that bring a plan to what is left of it.
 pub record Led {S : Type 0} (machine : S → Machine) (old new : S) (plan : Plan) (rest : Plan) : Type 0 where
@@ -44,8 +24,6 @@ followed moment (Err reply) next = fails moment reply
 pub record HasDone {S : Type 0} (machine : S → Machine) (old new : S) (events : List Event) : Type 0 where
   pub acts : List Act
   pub goes : GoesBy machine old new acts
-  pub along : (pack : Pack) (first last : Service) (rest : List Event) → Went pack first acts last
-      → ServedAlong pack first (events ++ rest) → ServedAlong pack last rest
   pub leads : (moment : Moment) (rest : List Event) (next : Plan)
       → Leads (each moment (events ++ rest) next) acts (each moment rest next)
 

@@ -11,7 +11,6 @@ use Rattle.meaning.specs.declared.command.Command.{Command}
 use Rattle.meaning.specs.declared.call.Call.TheVariants.{Reset}
 use Rattle.meaning.specs.declared.call.Event.{Event}
 use Rattle.meaning.specs.declared.call.Reply.{Reply}
-use Rattle.commands.specs.Machines.{Machine, GoesBy, GoesServed}
 use Rattle.commands.specs.declared.language.Language.{Language}
 use Rattle.commands.specs.declared.language.Language.TheVariants.{Commands, Events}
 
@@ -26,8 +25,3 @@ Says Events moment who line acts said then_who = (meant : Option Event) × Means
 abbrev pub Closes : Language → Moment → List Act → Type 0
 Closes Commands moment acts = (answer : Reply) × (acts ≡ Asks (calls moment Reset) answer ∷ [])
 Closes Events moment acts = acts ≡ []
-
--- Commands ask for nothing but what is served.
-abbrev pub Goes : {S : Type 0} → Language → (S → Machine) → S → S → List Act → Type 0
-Goes Commands machine old new acts = GoesBy machine old new acts
-Goes Events machine old new acts = GoesServed machine old new acts

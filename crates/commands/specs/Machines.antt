@@ -12,7 +12,6 @@ use Rattle.meaning.specs.Transcripts.{Went}
 use Rattle.meaning.specs.declared.entry.Entry.{Entry}
 use Rattle.meaning.specs.declared.call.Reply.{Reply}
 use Rattle.monitor.specs.Moments.{StandsNow}
-use Rattle.monitor.specs.Runs.{IsServedIn}
 use Rattle.meaning.specs.declared.call.Event.{Event}
 
 pub record Machine : Type 1 where
@@ -29,7 +28,7 @@ pub record IsAnswered (old new : Machine) (event : Event) (reply : Reply) : Type
   pub crash : new.honest → (s : State) → old.serves (Serving s)
       → LeavesOnly old.disk new.disk (StandsForEither old.pack s event reply)
   pub broken : new.honest → old.serves Broken → Still old.disk new.disk
-  pub answers : new.honest → (first : Service) → old.serves first → IsServedIn first event
+  pub answers : new.honest → (first : Service) → old.serves first
       → (last : Service) × new.serves last × Answers old.pack first event reply last
 
 -- It listed a directory for a job, for which it asks the disk for nothing.
@@ -82,23 +81,6 @@ pub record GoesBy {S : Type 0} (machine : S → Machine) (old new : S) (acts : L
   pub pack : (machine new).pack ≡ (machine old).pack
   pub was_honest : (machine new).honest → (machine old).honest
   pub went : (machine new).honest → (first : Service) → (machine old).serves first
-      → (last : Service) × (machine new).serves last × ActsBy machine (machine old).pack old first acts new last
-
--- Acts of events that are served, in whichever state the machine may have been at each.
-
-abbrev pub AreServedActs : Pack → Service → List Act → Type 0
-AreServedActs pack service [] = Unit {0}
-AreServedActs pack service (Asks event reply ∷ acts) = IsServedIn service event
-    × ((mid : Service) → Answers pack service event reply mid → AreServedActs pack mid acts)
-AreServedActs pack service (Looks owner answer ∷ acts) = (mid : Service) → Lists service 1 owner answer mid
-    → AreServedActs pack mid acts
-
--- It went by these acts, moment by moment, where they are of events that are served.
-pub record GoesServed {S : Type 0} (machine : S → Machine) (old new : S) (acts : List Act) : Type 0 where
-  pub pack : (machine new).pack ≡ (machine old).pack
-  pub was_honest : (machine new).honest → (machine old).honest
-  pub went : (machine new).honest → (first : Service) → (machine old).serves first
-      → AreServedActs (machine old).pack first acts
       → (last : Service) × (machine new).serves last × ActsBy machine (machine old).pack old first acts new last
 
 -- a disk of which nothing is known

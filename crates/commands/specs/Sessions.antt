@@ -12,8 +12,8 @@ use Rattle.meaning.specs.Runs.{Service}
 use Rattle.meaning.specs.declared.command.Command.{Command}
 use Rattle.commands.specs.PartialLines.{IsPartialLine}
 use Rattle.commands.specs.Fitting.{Fits}
-use Rattle.commands.specs.Languages.{Closes, Goes}
-use Rattle.commands.specs.Machines.{Machine, GoesBy, GoesServed, AreServedActs}
+use Rattle.commands.specs.Languages.{Closes}
+use Rattle.commands.specs.Machines.{Machine, GoesBy}
 use Rattle.meaning.specs.Scripts.{MeansEvent}
 use Rattle.commands.specs.Streams.{IsServedTranscript, IsServedSession, IsServedScript, spoken, HasNoFeed}
 use Rattle.commands.specs.Streams.{AreWholeLines, Finished, CutShort, IsCut, Unfinished}
@@ -48,11 +48,6 @@ HeardIn language moment (line ∷ lines) (Said meant) = (language ≡ Commands) 
 HeardIn language moment (line ∷ lines) (Ordered order) = (language ≡ Events) × MeansEvent line moment order
     × (lines ≡ [])
 
-abbrev pub IsHeardIn : Language → Heard → Type 0
-IsHeardIn language Nothing = Unit {0}
-IsHeardIn language (Said meant) = language ≡ Commands
-IsHeardIn language (Ordered order) = language ≡ Events
-
 -- what was heard has a protection of nine bits, where it has one
 abbrev pub FitsIn : Heard → Type 0
 FitsIn Nothing = Unit {0}
@@ -71,7 +66,7 @@ pub record Replied {V E S : Type 0} (bytes : V → List ℕ) (result : Result V 
   pub acts : List Act
   pub said : Spoken
   pub hears : Hears moment who heard acts said after
-  pub goes : (language : Language) → IsHeardIn language heard → Goes language machine old new acts
+  pub goes : GoesBy machine old new acts
   pub refused : counted.refused ≡ tally.refused || said.refused
   pub broke : counted.broke ≡ tally.broke || said.broke
   pub text : IfOk result (λ v. bytes v ≡ said.text)
@@ -92,7 +87,7 @@ pub record Told {S : Type 0} (result : Result (Unit {0}) SessionError) (machine 
   pub acts : List Act
   pub said : Spoken
   pub hears : Hears moment who heard acts said after
-  pub goes : (language : Language) → IsHeardIn language heard → Goes language machine old new acts
+  pub goes : GoesBy machine old new acts
   pub refused : counted.refused ≡ tally.refused || said.refused
   pub broke : counted.broke ≡ tally.broke || said.broke
   pub written : List ℕ
@@ -108,7 +103,7 @@ pub record Closed {S : Type 0} (language : Language) (machine : S
     → Machine) (old new : S) (moment : Moment) : Type 0 where
   pub acts : List Act
   pub closes : Closes language moment acts
-  pub goes : Goes language machine old new acts
+  pub goes : GoesBy machine old new acts
 
 -- Bytes of the input.
 
@@ -127,7 +122,7 @@ pub record SoFar (language : Language) (moment : Moment) (talk : Talk) (read wri
 pub record StepsOn {S : Type 0} (language : Language) (machine : S → Machine) (old new : S)
     (sink full : Option (List ℕ)) (moment : Moment) (talk after : Talk) (bytes : List ℕ) : Type 0 where
   pub acts : List Act
-  pub goes : Goes language machine old new acts
+  pub goes : GoesBy machine old new acts
   pub written : List ℕ
   pub appended : Appends sink full written
   pub steps : (read past : List ℕ) (done : List Act) → SoFar language moment talk read past done
@@ -138,7 +133,7 @@ pub record BreaksOff {S : Type 0} (language : Language) (at_end : Type 0) (machi
     → Machine) (old new : S) (sink full : Option (List ℕ)) (moment : Moment) (talk : Talk) (error : SessionError)
     (bytes : List ℕ) : Type 0 where
   pub acts : List Act
-  pub goes : Goes language machine old new acts
+  pub goes : GoesBy machine old new acts
   pub written : List ℕ
   pub appended : Appends sink full written
   pub breaks : (read past : List ℕ) (done : List Act) → SoFar language moment talk read past done
@@ -148,7 +143,7 @@ pub record BreaksOff {S : Type 0} (language : Language) (at_end : Type 0) (machi
 pub record EndsWell {S : Type 0} (language : Language) (machine : S → Machine) (old new : S)
     (sink full : Option (List ℕ)) (moment : Moment) (talk : Talk) (tally : Tally) : Type 0 where
   pub acts : List Act
-  pub goes : Goes language machine old new acts
+  pub goes : GoesBy machine old new acts
   pub written : List ℕ
   pub appended : Appends sink full written
   pub ends : (read past : List ℕ) (done : List Act) → SoFar language moment talk read past done
@@ -171,7 +166,7 @@ pub record Talked {S : Type 0} (language : Language) (source left sink full : Op
   pub acts : List Act
   pub consumed : Consumes source left read
   pub appended : Appends sink full written
-  pub goes : Goes language machine old new acts
+  pub goes : GoesBy machine old new acts
   pub ends : Ends language (IsAtEnd left) moment read written acts result
 
 -- The same of a session: at Ok it is a session of all that the reader had.
@@ -188,7 +183,7 @@ pub record Session {S : Type 0} (source left sink full : Option (List ℕ)) (mac
       → IfOk result (λ tally. (last : Service) × (machine new).serves last
       × IsServedSession (machine old).pack moment read first last (spoken written tally))
 
--- And of a call script, where its events are served.
+-- And of a call script.
 pub record Script {S : Type 0} (source left sink full : Option (List ℕ)) (machine : S
     → Machine) (old new : S) (moment : Moment) (result : Result Tally SessionError) : Type 0 where
   pub read : List ℕ
@@ -196,9 +191,8 @@ pub record Script {S : Type 0} (source left sink full : Option (List ℕ)) (mach
   pub acts : List Act
   pub consumed : Consumes source left read
   pub appended : Appends sink full written
-  pub goes : GoesServed machine old new acts
+  pub goes : GoesBy machine old new acts
   pub ends : Ends Events (IsAtEnd left) moment read written acts result
   pub served : (machine new).honest → (first : Service) → (machine old).serves first
-      → AreServedActs (machine old).pack first acts
       → IfOk result (λ tally. (last : Service) × (machine new).serves last
       × IsServedScript (machine old).pack moment read first last (spoken written tally))

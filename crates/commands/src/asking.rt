@@ -2,7 +2,7 @@ ghost use Rattle.std.specs.Prelude.{◌≡◌, ℕ, map};
 ghost use Rattle.words36.specs.declared.moment.Moment as moments;
 ghost use Rattle.meaning.specs.Plans.{Plan, Say, each, examines, ends, until_end};
 ghost use Rattle.meaning.specs.Texts.{Spoken};
-ghost use Rattle.commands.specs.Asking.{AreServedFrom, Led, followed};
+ghost use Rattle.commands.specs.Asking.{Led, followed};
 
 use crate::answer::SESSION_JOB;
 use crate::service::FileService;
@@ -16,7 +16,6 @@ pub fn ask_all<S: FileService>(
     service: &mut S,
     events: &[Event],
 ) -> Result<(), Reply>
-    requires { AreServedFrom events.now }
     ensures { (moment : moments.Moment) (next : Plan) → Led S.machine service.old service.new
         (each moment events.now next) (followed moment result (λ unit. next)) }
 {

@@ -2,7 +2,7 @@ ghost use Rattle.std.specs.Prelude.{◌<◌, ◌++◌, Some};
 ghost use Rattle.meaning.specs.Plans.{Plan, each, finds as found};
 ghost use Rattle.meaning.specs.declared.command.Command.TheVariants.{Rename as RenameLine, Delete as DeleteLine};
 ghost use Rattle.meaning.specs.declared.command.Command.TheVariants.{Protect as ProtectLine};
-ghost use Rattle.commands.specs.Asking.{AreServedFrom, Led, followed};
+ghost use Rattle.commands.specs.Asking.{Led, followed};
 ghost use Rattle.commands.specs.Sessions.{Spoke};
 
 use crate::answer::Tally;
@@ -22,7 +22,6 @@ fn change<S: FileService>(
     spec: Spec,
     changes: &[Event],
 ) -> Result<(), Reply>
-    requires { AreServedFrom changes.now }
     ensures { (next : Plan) → Led S.machine service.old service.new
         (each moment (found moment spec ++ changes.now) next) (followed moment result (λ unit. next)) }
 {

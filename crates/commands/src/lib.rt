@@ -24,8 +24,7 @@
 //! 8. `order_of` answers an event exactly where a text is a line of a call script, and none exactly where it
 //!    is none; a line has one reading. `reply_line` writes the line of a reply. (`orders_have_one_reading`)
 //! 9. `script` reads to the end of the input, serves the event of each line, and writes the line of its reply:
-//!    what is said of a session is said of it, where its events are served in the states that they meet. No job is
-//!    reset. (`Script`)
+//!    what is said of a session is said of it. No job is reset. (`Script`)
 //! 10. A start over what a crash left in the course of a session or a script, or of starts after it that were stopped
 //!    themselves, finds the files after some of its acts, or after these and the one that was running.
 //! (`start_after_acts`)

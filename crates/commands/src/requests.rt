@@ -1,11 +1,9 @@
 ghost use Rattle.std.specs.Prelude.{◌≡◌, ◌<◌, ◌≤◌, ◌+◌, ◌-◌, ◌*◌, ◌%◌, ◌^◌, ◌++◌, ◌∷◌, [], map, unwrap_or};
-ghost use Rattle.std.specs.List.{AllByRecursion};
 ghost use Rattle.words36.specs.Words.{join};
 ghost use Rattle.meaning.specs.Plans as plans;
 ghost use Rattle.meaning.specs.Plans.{block_address, file_words};
 ghost use Rattle.meaning.specs.declared.call.Call.TheVariants.{Close, Rename};
 ghost use Rattle.meaning.specs.declared.call.Event.TheVariants.{Deposit};
-ghost use Rattle.commands.specs.Asking.{AreServedFrom, IsAlwaysServed};
 
 use crate::answer::SESSION_JOB;
 use meaning::{Call, Event, Spec};
@@ -69,8 +67,7 @@ fn extension_word(name: &FileName) -> Word
 
 /// What looks a file up, on channel 1.
 pub fn finds(moment: Moment, spec: Spec) -> [Event; 9]
-    ensures made { result ≡ plans.finds moment spec }
-    ensures served { AreServedFrom result }
+    ensures { result ≡ plans.finds moment spec }
 {
     let Spec { name, owner } = spec;
     let extension = extension_word(&name);
@@ -90,8 +87,7 @@ pub fn finds(moment: Moment, spec: Spec) -> [Event; 9]
 
 /// What enters a file, on channel 2.
 pub fn writes(moment: Moment, spec: Spec) -> [Event; 9]
-    ensures made { result ≡ plans.writes moment spec }
-    ensures served { AreServedFrom result }
+    ensures { result ≡ plans.writes moment spec }
 {
     let Spec { name, owner } = spec;
     let extension = extension_word(&name);
@@ -123,8 +119,7 @@ fn block_command(count: u32) -> Word
 /// What makes the command list name so many words of the block.
 pub fn lists(count: u32) -> [Event; 2]
     requires { count ≤ 128 }
-    ensures made { result ≡ plans.lists count }
-    ensures served { AllByRecursion IsAlwaysServed result }
+    ensures { result ≡ plans.lists count }
 {
     [
         Event::Deposit(SESSION_JOB, LIST_WORDS, block_command(count)),
@@ -134,32 +129,28 @@ pub fn lists(count: u32) -> [Event; 2]
 
 /// An IN of what the command list names.
 pub fn takes(moment: Moment) -> Event
-    ensures made { result ≡ plans.takes moment }
-    ensures served { IsAlwaysServed result }
+    ensures { result ≡ plans.takes moment }
 {
     Event::Call(SESSION_JOB, Call::In(READER, LIST_WORDS), moment)
 }
 
 /// An OUT of what the command list names.
 pub fn puts(moment: Moment) -> Event
-    ensures made { result ≡ plans.puts moment }
-    ensures served { IsAlwaysServed result }
+    ensures { result ≡ plans.puts moment }
 {
     Event::Call(SESSION_JOB, Call::Out(WRITER, LIST_WORDS), moment)
 }
 
 /// What makes block n the next that is taken.
 pub fn goes_to(moment: Moment, n: u32) -> Event
-    ensures made { result ≡ plans.goes_to moment n }
-    ensures served { IsAlwaysServed result }
+    ensures { result ≡ plans.goes_to moment n }
 {
     Event::Call(SESSION_JOB, Call::Useti(READER, n), moment)
 }
 
 /// What makes the file that was entered the file of its name.
 pub fn closes(moment: Moment) -> Event
-    ensures made { result ≡ plans.calls moment (Close 2 0) }
-    ensures served { IsAlwaysServed result }
+    ensures { result ≡ plans.calls moment (Close 2 0) }
 {
     Event::Call(SESSION_JOB, Call::Close(WRITER, 0), moment)
 }
@@ -167,8 +158,7 @@ pub fn closes(moment: Moment) -> Event
 /// A word of the block becomes this one.
 pub fn fills(place: u32, word: Word) -> Event
     requires { place < 128 }
-    ensures made { result ≡ Deposit 1 (block_address + place) word }
-    ensures served { IsAlwaysServed result }
+    ensures { result ≡ Deposit 1 (block_address + place) word }
 {
     Event::Deposit(SESSION_JOB, BLOCK_AREA + place, word)
 }
@@ -176,8 +166,7 @@ pub fn fills(place: u32, word: Word) -> Event
 /// What makes a directory.
 pub fn makes(moment: Moment, owner: Ppn, protection: u32) -> [Event; 3]
     requires { protection < 512 }
-    ensures made { result ≡ plans.makes moment owner protection }
-    ensures served { AllByRecursion IsAlwaysServed result }
+    ensures { result ≡ plans.makes moment owner protection }
 {
     [
         Event::Deposit(SESSION_JOB, FILE_WORDS, owner.word()),
@@ -188,9 +177,8 @@ pub fn makes(moment: Moment, owner: Ppn, protection: u32) -> [Event; 3]
 
 /// What gives the file that was looked up another name and place; its protection stands where LOOKUP has put it.
 pub fn moves(moment: Moment, to: Spec) -> [Event; 4]
-    ensures made { result ≡ Deposit 1 file_words to.name.name ∷ Deposit 1 (file_words + 1) (join to.name.ext 0)
+    ensures { result ≡ Deposit 1 file_words to.name.name ∷ Deposit 1 (file_words + 1) (join to.name.ext 0)
         ∷ Deposit 1 (file_words + 3) (unwrap_or to.owner 0) ∷ plans.calls moment (Rename 1 file_words) ∷ [] }
-    ensures served { AllByRecursion IsAlwaysServed result }
 {
     let Spec { name, owner } = to;
     [
@@ -203,8 +191,7 @@ pub fn moves(moment: Moment, to: Spec) -> [Event; 4]
 
 /// What deletes the file that was looked up: it gets the name 0.
 pub fn removes(moment: Moment) -> [Event; 2]
-    ensures made { result ≡ Deposit 1 file_words 0 ∷ plans.calls moment (Rename 1 file_words) ∷ [] }
-    ensures served { AllByRecursion IsAlwaysServed result }
+    ensures { result ≡ Deposit 1 file_words 0 ∷ plans.calls moment (Rename 1 file_words) ∷ [] }
 {
     [
         Event::Deposit(SESSION_JOB, FILE_WORDS, Word::ZERO),
@@ -215,8 +202,7 @@ pub fn removes(moment: Moment) -> [Event; 2]
 /// What gives the file that was looked up another protection: it gets its own place once more.
 pub fn protects(moment: Moment, spec: &Spec, protection: u32) -> [Event; 5]
     requires { protection < 512 }
-    ensures made { result ≡ plans.names file_words spec.now protection ++ plans.calls moment (Rename 1 file_words) ∷ [] }
-    ensures served { AllByRecursion IsAlwaysServed result }
+    ensures { result ≡ plans.names file_words spec.now protection ++ plans.calls moment (Rename 1 file_words) ∷ [] }
 {
     [
         Event::Deposit(SESSION_JOB, FILE_WORDS, spec.name.name),

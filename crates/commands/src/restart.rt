@@ -6,7 +6,7 @@ ghost use Rattle.meaning.specs.Runs.{Serving};
 ghost use Rattle.monitor.specs.Runs.{ServesFiles, AreStopped};
 ghost use Rattle.monitor.specs.Serving.{pack_of, Serves};
 ghost use Rattle.monitor.specs.States.{MonitorState};
-ghost use Rattle.commands.specs.Machines.{GoesBy, GoesServed, AreServedActs, IsAlongActs};
+ghost use Rattle.commands.specs.Machines.{GoesBy, IsAlongActs};
 ghost use Rattle.commands.specs.Monitors.{machine_of};
 ghost use Rattle.volume.specs.declared.error.VolumeError.TheVariants.{NoMemory, Device};
 
@@ -19,8 +19,7 @@ use std::alloc::Global;
 ///
 /// At whichever moment the crash came, the files are those after some of the acts of the session or the script, none of
 /// them left out, or those after these and the next one, which was running, where its answer is one that may change
-/// files; and no third. So it is of a script whose events are served. At whichever moments the starts before were
-/// stopped, the files are the same.
+/// files; and no third. At whichever moments the starts before were stopped, the files are the same.
 ///
 /// # Errors
 ///
@@ -31,21 +30,10 @@ pub fn start_after_acts<D: Disk, E: Disk>(
     stopped: &Monitor<D>,
     left: E,
 ) -> Result<Monitor<E>, (StartError, E)>
-    ensures session { (D.state stopped.now.disk).honest → (begun : MonitorState D) (acts : List Act)
+    ensures { (D.state stopped.now.disk).honest → (begun : MonitorState D) (acts : List Act)
         → GoesBy (λ (m : MonitorState D). machine_of (D.state m.disk) m.map m.failed m.jobs) begun stopped.now acts
         → (E.state left).size ≡ (D.state begun.disk).size → (s : State)
         → Serves (D.state begun.disk) begun.map begun.failed begun.jobs (Serving s)
-        → (starts : List (E × E))
-        → AreStopped E.state (D.state stopped.now.disk) (D.state begun.disk).clock starts (E.state left).contents
-        → (found : State) × IsAlongActs (pack_of (D.state begun.disk)) (Serving s) acts found
-        × IfOk result (λ m. (E.state m.disk).honest
-        → ServesFiles (E.state m.disk) m.map m.failed m.jobs (without_serials found.files))
-        × IfErr result (λ refused. (E.state refused.1).honest → (refused.0 ≡ NoMemory) ⊎ (refused.0 ≡ Device)) }
-    ensures script { (D.state stopped.now.disk).honest → (begun : MonitorState D) (acts : List Act)
-        → GoesServed (λ (m : MonitorState D). machine_of (D.state m.disk) m.map m.failed m.jobs) begun stopped.now acts
-        → (E.state left).size ≡ (D.state begun.disk).size → (s : State)
-        → Serves (D.state begun.disk) begun.map begun.failed begun.jobs (Serving s)
-        → AreServedActs (pack_of (D.state begun.disk)) (Serving s) acts
         → (starts : List (E × E))
         → AreStopped E.state (D.state stopped.now.disk) (D.state begun.disk).clock starts (E.state left).contents
         → (found : State) × IsAlongActs (pack_of (D.state begun.disk)) (Serving s) acts found

@@ -1,6 +1,6 @@
 ghost use Rattle.std.specs.Prelude.{◌≡◌, ◌∷◌, [], ℕ, OnOk, IfOk, IfErr, MatchResult};
 ghost use Rattle.commands.specs.PartialLines.{line_list};
-ghost use Rattle.commands.specs.Sessions.{HeardIn, IsHeardIn, FitsIn, Puts, Told, Closed, StepsOn, BreaksOff, EndsWell};
+ghost use Rattle.commands.specs.Sessions.{HeardIn, FitsIn, Puts, Told, Closed, StepsOn, BreaksOff, EndsWell};
 ghost use Rattle.commands.specs.Sessions.{Talked, Session, Script};
 
 use crate::SessionError;
@@ -25,9 +25,9 @@ const PIECE_BYTES: usize = 256;
 pub enum Heard {
     /// No line.
     Nothing,
-    /// A line with a command, and what it says that is served.
+    /// A line with a command, and what it says.
     Said(Option<Command>),
-    /// A line with an event, and what it orders that is served.
+    /// A line with an event, and what it orders.
     Ordered(Option<Event>),
 }
 
@@ -41,8 +41,7 @@ pub struct Talk {
 
 /// What is heard of the line that there is, or of none.
 fn heard_of(language: Language, moment: Moment, line: Option<InputLine<'_>>) -> Heard
-    ensures line { HeardIn language moment (line_list line.entry) result }
-    ensures language { IsHeardIn language result }
+    ensures { HeardIn language moment (line_list line.entry) result }
 {
     let Some(line) = line else {
         return Heard::Nothing;

@@ -1,13 +1,10 @@
 use Rattle.std.proofs.Common.{◌++◌, refl, ap, subst}
 use Rattle.meaning.specs.Plans.{ends, ok, finds}
 use Rattle.meaning.specs.declared.command.Command.TheVariants.{Protect as ProtectLine}
-use Rattle.commands.proofs.LedLaws.{always_along}
 use Rattle.commands.proofs.CopyingLaws.{led_each}
 use Rattle.commands.proofs.AnswerLaws.{spoke_concluded}
 use Rattle.commands.proofs.changing.protect.Goals as goal
 
-pub change-protected-requires : goal.change-protected-requires
-change-protected-requires g c = always_along _ c.protects-changes.ensures.served
 
 pub returns : goal.returns
 returns g c = spoke_concluded g.S.FileService.machine g.met.S.FileService.stands

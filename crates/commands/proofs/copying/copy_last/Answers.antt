@@ -1,12 +1,10 @@
 use Rattle.std.proofs.Common.{◌∷◌, [], ◌++◌}
 use Rattle.std.proofs.lemmas.Result.{err_from_is_err_and}
 use Rattle.meaning.specs.Plans.{each, sizes, lists, goes_to, takes, puts}
-use Rattle.commands.proofs.LedLaws.{led_on, always_along}
+use Rattle.commands.proofs.LedLaws.{led_on}
 use Rattle.commands.proofs.CopyingLaws.{led_each, led_first}
 use Rattle.commands.proofs.copying.copy_last.Goals as goal
 
-pub ask_all-requires : goal.ask_all-requires
-ask_all-requires g c = always_along _ c.lists.ensures.served
 
 pub returns-in_err-ask_all : goal.returns-in_err-ask_all
 returns-in_err-ask_all g c =

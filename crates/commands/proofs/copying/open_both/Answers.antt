@@ -1,7 +1,7 @@
 use Rattle.std.proofs.Common.{◌++◌, ◌+◌}
 use Rattle.std.proofs.lemmas.Result.{err_from_is_err_and}
 use Rattle.meaning.specs.Plans.{each, examines, finds, writes, lists, file_words}
-use Rattle.commands.proofs.LedLaws.{led_on, always_along}
+use Rattle.commands.proofs.LedLaws.{led_on}
 use Rattle.commands.proofs.CopyingLaws.{led_first, second_led, third_led}
 use Rattle.commands.proofs.copying.open_both.Goals as goal
 
@@ -23,8 +23,6 @@ returns-in_err-ask_all-2 g c =
     (c.in_err-ask_all-2.ensures c.args.moment
     (each c.args.moment (lists 128) (examines c.args.moment (file_words + 3) next))))
 
-pub ask_all-requires-3 : goal.ask_all-requires-3
-ask_all-requires-3 g c = always_along _ c.lists.ensures.served
 
 pub returns-in_err-ask_all-3 : goal.returns-in_err-ask_all-3
 returns-in_err-ask_all-3 g c =

@@ -1,13 +1,10 @@
 use Rattle.std.proofs.Common.{refl}
 use Rattle.meaning.specs.Plans.{ends, ok}
 use Rattle.meaning.specs.declared.command.Command.TheVariants.{MakeDir as MakeLine}
-use Rattle.commands.proofs.LedLaws.{always_along}
 use Rattle.commands.proofs.CopyingLaws.{led_each}
 use Rattle.commands.proofs.AnswerLaws.{spoke_concluded}
 use Rattle.commands.proofs.makdir.make_dir.Goals as goal
 
-pub ask_all-made-requires : goal.ask_all-made-requires
-ask_all-made-requires g c = always_along _ c.makes.ensures.served
 
 pub returns : goal.returns
 returns g c = spoke_concluded g.S.FileService.machine g.met.S.FileService.stands

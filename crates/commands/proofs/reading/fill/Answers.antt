@@ -1,7 +1,6 @@
 use Rattle.std.proofs.Common.{[], ◌∷◌}
 use Rattle.std.proofs.lemmas.Result.{err_from_is_err_and}
 use Rattle.meaning.specs.Plans.{block_address}
-use Rattle.commands.proofs.LedLaws.{always_along}
 use Rattle.commands.proofs.ReadingLaws.{fills_none, fills_more, fills_broken, fills_all}
 use Rattle.commands.proofs.reading.fill.Goals as goal
 
@@ -15,8 +14,6 @@ loop-place-preserved g c =
     c.ask_all.new.service c.loop-place.place c.loop-place-test.true c.loop-place.invariant
     c.fills.result c.fills.ensures.made c.ask_all.result c.ask_all.ensures c.in_ok-ask_all.field-0 c.in_ok-ask_all.was
 
-pub ask_all-requires : goal.ask_all-requires
-ask_all-requires g c = always_along (c.fills.result ∷ []) (c.fills.ensures.served, tt)
 
 pub returns : goal.returns
 returns g c = fills_all g.S.FileService.machine block_address 128 c.args.word c.args.service.now c.loop-place.service

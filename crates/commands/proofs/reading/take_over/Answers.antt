@@ -1,13 +1,9 @@
 use Rattle.std.proofs.Common.{◌≡◌, ℕ, List, length, Ok, [], ◌∷◌}
 use Rattle.std.proofs.lemmas.Result.{err_from_is_err_and}
 use Rattle.meaning.specs.Plans.{block_address, goes_to, takes}
-use Rattle.commands.proofs.LedLaws.{always_along}
 use Rattle.commands.proofs.ReadingLaws.{over_unfilled, over_unasked, over_all}
 use Rattle.commands.proofs.reading.take_over.Goals as goal
 
-pub ask_all-requires : goal.ask_all-requires
-ask_all-requires g c = always_along (c.goes_to.result ∷ c.takes.result ∷ [])
-    (c.goes_to.ensures.served, (c.takes.ensures.served, tt))
 
 pub returns-in_err-fill : goal.returns-in_err-fill
 returns-in_err-fill g c =

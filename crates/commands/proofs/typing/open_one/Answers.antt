@@ -1,4 +1,3 @@
-use Rattle.commands.proofs.LedLaws.{always_along}
 use Rattle.std.proofs.lemmas.Result.{err_from_is_err_and}
 use Rattle.commands.proofs.TypingLaws.{handed_on, asked_done, asked_failed, not_found, not_listed, opened}
 use Rattle.commands.proofs.typing.open_one.Goals as goal
@@ -11,8 +10,6 @@ returns-in_err-ask_all g c = λ next.
     (asked_failed g.S.FileService.machine c.args.moment c.in_err-ask_all.field-0.0 c.finds.ensures.made
     c.in_err-ask_all.ensures) next next
 
-pub ask_all-requires-2 : goal.ask_all-requires-2
-ask_all-requires-2 g c = always_along c.lists.result c.lists.ensures.served
 
 pub returns-in_err-ask_all-2 : goal.returns-in_err-ask_all-2
 returns-in_err-ask_all-2 g c = λ next.

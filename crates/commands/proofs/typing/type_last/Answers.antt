@@ -1,4 +1,3 @@
-use Rattle.commands.proofs.LedLaws.{always_along}
 use Rattle.std.proofs.Common.{take}
 use Rattle.std.proofs.lemmas.Result.{err_from_is_err_and}
 use Rattle.commands.proofs.TypingLaws.{handed_on, two_made, asked_done, asked_failed, not_counted, no_list, no_last}
@@ -11,8 +10,6 @@ returns-in_err-count g c =
     not_counted g.S.FileService.machine _ _ c.args.moment c.args.n c.args.size _ _ c.in_err-count.field-0.0
     (handed_on p.1 p.2) c.in_err-count.ensures.led
 
-pub ask_all-requires : goal.ask_all-requires
-ask_all-requires g c = always_along c.lists.result c.lists.ensures.served
 
 pub returns-in_err-ask_all : goal.returns-in_err-ask_all
 returns-in_err-ask_all g c =
