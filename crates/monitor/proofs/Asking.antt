@@ -25,7 +25,7 @@ module _ {X : Type 0} (f : X → Asked) (found : Option X) (asked : Option Asked
       by None none = absurd (some_none (sym at ∙ is ∙ ap (option_map f) none))
       by (Some x) some = (x, some, some_same (sym (is ∙ ap (option_map f) some) ∙ at))
 
-  none_of : asked ≡ None → found ≡ None
+  pub none_of : asked ≡ None → found ≡ None
   none_of none = by found refl
     where
       by : (o : Option X) → found ≡ o → found ≡ None
