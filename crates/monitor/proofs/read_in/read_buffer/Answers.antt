@@ -27,7 +27,7 @@ pub returns-in-Ok-clause-few : goal.returns-in-Ok-clause-few
 returns-in-Ok-clause-few g c n is =
     let found = version_there c.args.volume.now.core c.args.handle c.requires.live in
     let many : length c.in-Ok.words.items ≡ min data_words (found.0.words - block_start c.args.block) =
-        c.in-Ok.ensures.few found.0 found.1 in
+    c.in-Ok.ensures.few found.0 found.1 in
     let same : length c.as_slice.result.now ≡ length c.in-Ok.words.items = ap length c.as_slice.ensures.value in
     omega (arith, c.fill_buffer.ensures.moved n is, same, many)
 
