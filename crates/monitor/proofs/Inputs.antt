@@ -22,7 +22,8 @@ pub version_there : (c : VolumeCore) (handle : VersionHandle) → IsReadable c h
 version_there c (Pinned pin) (v, there, some) = (v.version, ap (option_map (λ x. x.version)) there)
 version_there c (Pending pending) (p, there) = (p.version, ap (option_map (λ x. x.version)) there)
 
-take_front : (c m : ℕ) (xs : List ℕ) → c ≤ m → take c (take m xs) ≡ take c xs
+-- the first ones of the first ones
+pub take_front : (c m : ℕ) (xs : List ℕ) → c ≤ m → take c (take m xs) ≡ take c xs
 take_front zero m xs less = refl
 take_front (suc c) zero xs less = absurd (omega arith)
 take_front (suc c) (suc m) [] less = refl

@@ -58,6 +58,7 @@ pub mod Untouched
 pub mod OutPlaced
 pub mod Inputs
 pub mod ReadWords
+pub mod Asking
 pub mod ReadCalls
 pub mod ReadAnswers
 pub mod Statuses

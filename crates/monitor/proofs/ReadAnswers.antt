@@ -163,8 +163,8 @@ module _ (d d' : DiskState) (map : VolumeCore) (failed : Bool) (jobs : List (Opt
       undecided_in read s state =
           ap (λ y. is_plain ((step (pack_of d) 0 y (Calls n (In ch a) moment)).0))
           (state_is s state.under jobs state.jobs_are)
-          ∙ undecided job ch a read.at.channel read.at.there read.at.input read.at.side
-          read.areas read.listed state.under d jobs n there moment timely 0 s.files
+          ∙ undecided job ch a read.at.channel read.at.there read.at.input read.at.side read.at.has
+          read.asked read.found state.under d jobs n there moment timely 0 s.files
 
       -- what leaves the service serving
       in_leads : (reply : Reply) → IsIn d d' map job job' ch a reply → (reply ≡ Device → ⊥) → (reply ≡ Failed → ⊥)
@@ -177,9 +177,9 @@ module _ (d d' : DiskState) (map : VolumeCore) (failed : Bool) (jobs : List (Opt
           let body = body_of at s state at.channel.output in
           let has = has_words at s state in
           goes Done is s state (λ serial.
-          row_goes job ch a at.channel at.there at.input at.side read.areas read.listed state.under
+          row_goes job ch a at.channel at.there at.input at.side at.has read.asked read.found state.under
           d jobs n there moment timely serial s.files job' Done jobs' set
-          (row_read job ch a at.channel at.there at.input at.side read.areas read.listed state.under
+          (row_read job ch a at.channel at.there at.input at.side at.has read.asked read.found state.under
           is.1 is.2 moves.some (moves.many has.0 has.1 body has.2) (moves.words honest has.0 has.1 body has.2 has.3)
           ∙ ap (λ j. (Done, job_of state.under j)) (sym is.3))))
       in_leads (Stopped status) is device lies = in_state d map failed jobs (λ old. (new : Service)
@@ -191,9 +191,9 @@ module _ (d d' : DiskState) (map : VolumeCore) (failed : Bool) (jobs : List (Opt
           let has = has_words at s state in
           let ends = is.3 has.0 has.1 body has.2 in
           goes (Stopped status) is s state (λ serial.
-          row_goes job ch a at.channel at.there at.input at.side read.areas read.listed state.under
+          row_goes job ch a at.channel at.there at.input at.side at.has read.asked read.found state.under
           d jobs n there moment timely serial s.files job' (Stopped status) jobs' set
-          (row_ended job ch a at.channel at.there at.input at.side read.areas read.listed state.under
+          (row_ended job ch a at.channel at.there at.input at.side at.has read.asked read.found state.under
           ends.0 ends.1 status is.1
           ∙ ap (λ j. (Stopped status, job_of state.under j)) (sym is.2))))
       in_leads (Refused code) is device lies =
@@ -201,7 +201,7 @@ module _ (d d' : DiskState) (map : VolumeCore) (failed : Bool) (jobs : List (Opt
           (in_refused job ch a is.2 is.3 is.4))
       in_leads NoChannel is device lies = plain NoChannel is is.0 (in_none job ch a is.1)
       in_leads AddressCheck is device lies = plain AddressCheck is is.0
-          (in_unlisted job ch a is.1.channel is.1.there is.1.input is.1.side is.2)
+          (in_unlisted job ch a is.1.channel is.1.there is.1.input is.1.side is.1.has is.2)
       in_leads NoMemory is device lies = in_state d map failed jobs (λ old. (new : Service)
           × Serves d map failed jobs' new × Answers (pack_of d) old (Calls n (In ch a) moment) NoMemory new) serves
           (λ s state. (

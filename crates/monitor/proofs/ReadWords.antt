@@ -1,6 +1,6 @@
 -- IN: the input side of a channel, and what the call leaves of its job.
 use Rattle.std.proofs.Common.{◌≡◌, ◌<◌, ◌≤◌, ◌+◌, ◌-◌, ◌*◌, ◌^◌, ℕ, zero, suc, Bool, true, false, nat_lt, if◌then◌else◌}
-use Rattle.std.proofs.Common.{List, [], length, replicate, Option, None, Some, refl, sym, ap, subst, ◌∙◌, arith}
+use Rattle.std.proofs.Common.{List, length, replicate, Option, None, Some, refl, sym, ap, subst, ◌∙◌, arith}
 use Rattle.std.proofs.Common.{slice_set}
 use Rattle.std.proofs.lemmas.Bool.Decides.{nat_tests}
 use Rattle.std.specs.List.{AllByRecursion}
@@ -28,7 +28,7 @@ use Rattle.volume.specs.declared.handles.VersionHandle.{VersionHandle}
 use Rattle.volume.specs.declared.handles.VersionHandle.TheVariants.{Pinned, Pending}
 use Rattle.volume.specs.declared.live.LiveVersion.{LiveVersion}
 use Rattle.volume.specs.declared.pending.PendingVersion.{PendingVersion}
-use Rattle.monitor.specs.Reading.{handle_read, read_on, IsIn}
+use Rattle.monitor.specs.Reading.{Asked, handle_read, read_on, IsIn}
 use Rattle.monitor.specs.Readers.{readers_of}
 use Rattle.monitor.specs.Rows.{Keeps, KeepsReading}
 use Rattle.monitor.specs.Serving.{present, HasReaders, IsReader, IsSide}
@@ -128,15 +128,12 @@ few_named core a areas listed = by (areas_from core 512 a) listed
     by None listed = absurd (some_none (sym listed))
     by (Some found) listed = below found areas (nat_lt 131072 (word_count found)) refl listed
 
--- the list is as it should be, where that isn't what is answered
-pub is_listed : (result other : ReadIn) (listed : Option (List Area)) → result ≡ other
-    → (other ≡ read_in.AddressCheck → ⊥) → (result ≡ read_in.AddressCheck) ↔ (listed ≡ None)
-    → (areas : List Area) × (listed ≡ Some areas)
-is_listed result other None is differs exact = absurd (differs (sym is ∙ exact.1 refl))
-is_listed result other (Some areas) is differs exact = (areas, refl)
-
-pub has_area : (areas : List Area) → 0 < word_count areas → areas ≡ [] → ⊥
-has_area areas some none = let same = ap word_count none in omega (arith, some, same)
+-- core has what is asked for, where that isn't what is answered
+pub is_asked : (result other : ReadIn) (asked : Option Asked) → result ≡ other
+    → (other ≡ read_in.AddressCheck → ⊥) → (result ≡ read_in.AddressCheck) ↔ (asked ≡ None)
+    → (k : Asked) × (asked ≡ Some k)
+is_asked result other None is differs exact = absurd (differs (sym is ∙ exact.1 refl))
+is_asked result other (Some k) is differs exact = (k, refl)
 
 -- What the call leaves of its job.
 

@@ -1,6 +1,6 @@
 -- IN: what it does to a channel, and to the core that its words are moved into.
-use Rattle.std.specs.Prelude.{◌≡◌, ◌⊎◌, ℕ, ◌+◌, true, false, if◌then◌else◌, List, [], length, min, Option, None, Some}
-use Rattle.std.specs.Prelude.{option_map, take, slice_set}
+use Rattle.std.specs.Prelude.{◌≡◌, ◌⊎◌, ℕ, ◌+◌, Bool, true, false, if◌then◌else◌, List, [], ◌∷◌, length, min, Option}
+use Rattle.std.specs.Prelude.{None, Some, option_map, take, slice_set}
 use Rattle.blockdisk.specs.Disk.{DiskState}
 use Rattle.meaning.specs.CommandLists.{dump_list, word_count}
 use Rattle.meaning.specs.Cores.{after_writes, dealt}
@@ -33,12 +33,20 @@ read_on c i count = record c { status = cleared c.status; input = Some (record i
 -- which it takes as many as it asks for, are moved in.
 pub record Asked : Type 0 where
   pub count : ℕ
+  -- nothing is asked for, which is done even where the body has no words
+  pub none : Bool
   pub filled : List ℕ → List ℕ
+
+-- a command list that names nothing
+abbrev pub names_none : List Area → Bool
+names_none [] = true
+names_none (area ∷ areas) = false
 
 -- into areas of core
 abbrev pub areas_asked : List ℕ → List Area → Asked
 areas_asked core areas = record {
   count = word_count areas;
+  none = names_none areas;
   filled = λ words. after_writes core (dealt areas words);
 }
 
@@ -46,6 +54,7 @@ areas_asked core areas = record {
 abbrev pub buffer_asked : Channel → List ℕ → Asked
 buffer_asked c ready = record {
   count = data_words;
+  none = false;
   filled = λ words. after_writes ready
       (in_writes ready c.input_header (byte_size (mode_number c.mode)) (cleared c.status) (take data_words words));
 }
@@ -80,18 +89,18 @@ handle_read (Some o) i = Pending o.pending
 pub record Moves (d d' : DiskState) (c : VolumeCore) (core' : List ℕ) (handle : VersionHandle) (block : ℕ)
     (asked : Asked) (count : ℕ) : Type 0 where
   -- who asks for words gets some
-  pub some : count ≡ 0 → asked.count ≡ 0
+  pub some : count ≡ 0 → asked.none ≡ true
   pub many : (v : VersionState) → version_under c handle ≡ Some v → (body : List ℕ) → length body ≡ v.words
       → count ≡ min asked.count (length (words_from body block))
   pub words : d'.honest → (v : VersionState) → version_under c handle ≡ Some v → (body : List ℕ)
       → length body ≡ v.words → HasBody d.contents v.blocks body
       → core' ≡ asked.filled (words_from body block)
 
--- The version's body ends before the block, and words are asked for.
-abbrev pub EndsBefore : VolumeCore → VersionHandle → ℕ → ℕ → Type 0
-EndsBefore c handle block count =
+-- The version's body ends before the block, and something is asked for.
+abbrev pub EndsBefore : VolumeCore → VersionHandle → ℕ → Asked → Type 0
+EndsBefore c handle block asked =
     (v : VersionState) → version_under c handle ≡ Some v → (body : List ℕ) → length body ≡ v.words
-    → (count ≡ 0 → ⊥) × (words_from body block ≡ [])
+    → (asked.none ≡ false) × (words_from body block ≡ [])
 
 -- What an IN does to its job, by its answer, and by the disk before it and after it.
 abbrev pub IsIn : DiskState → DiskState → VolumeCore → Job → Job → ℕ → ℕ → Reply → Type 0
@@ -108,7 +117,7 @@ IsIn d d' c job job' number a (Stopped status) =
       channels = slice_set job.channels number
           (Some (record read.at.channel { status = status }));
     })
-    × EndsBefore c (handle_read read.at.channel.output read.at.input) read.at.input.next read.asked.count
+    × EndsBefore c (handle_read read.at.channel.output read.at.input) read.at.input.next read.asked
 IsIn d d' c job job' number a (Refused code) = (job' ≡ job) × (code ≡ 5) × (c : Channel)
     × (slot job.channels number ≡ Some c)
     × ((c.input ≡ None) ⊎ (lacks_header (mode_number c.mode) c.input_header ≡ true))

@@ -31,8 +31,8 @@ use words36::BLOCK_WORDS;
 /// What a channel reports of a body that has no more words.
 const END_OF_FILE: u32 = 0o20000;
 
-/// IN: moves words of the version that a channel reads into the areas of core that the command list at an address
-/// names. Its row is `read`.
+/// IN: moves words of the version that a channel reads into core: into the next buffer of its ring, or in dump mode
+/// into the areas that the command list at an address names. Its row is `read`.
 pub fn serve_in<D: Disk>(
     alloc: Global,
     volume: &mut Volume<D>,
@@ -76,8 +76,9 @@ fn handle_read(output: Option<Output>, input: &Input) -> VersionHandle
     }
 }
 
-/// IN: moves the words of the version that a channel reads, from its next block on, into the areas of core that the
-/// command list at an address names, and moves on behind them. Where the body has no more words it is stopped.
+/// IN: moves the words of the version that a channel reads, from its next block on, into the next buffer of its ring,
+/// or in dump mode into the areas of core that the command list at an address names, and moves on behind them. Where
+/// the body has no more words it is stopped.
 fn read<D: Disk>(
     alloc: Global,
     volume: &mut Volume<D>,
@@ -122,8 +123,19 @@ fn read<D: Disk>(
     let Some(input) = side else {
         return Reply::Refused(ErrorCode::Sequence.number());
     };
+    if channel.lacks_header(channel.input_header) {
+        return Reply::Refused(ErrorCode::Sequence.number());
+    }
     let handle = handle_read(channel.output, &input);
-    match read_in(alloc, volume, &mut job.core, handle, input.next, address) {
+    match read_in(
+        alloc,
+        volume,
+        &mut job.core,
+        &channel,
+        handle,
+        input.next,
+        address,
+    ) {
         ReadIn::Moved(count) => {
             job.set_channel(number, Some(read_on(channel, input, count)));
             Reply::Done

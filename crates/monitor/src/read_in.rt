@@ -1,31 +1,40 @@
-ghost use Rattle.std.specs.Prelude.{◌≡◌, ◌⊎◌, ◌↔◌, ◌+◌, ◌<◌, ◌≤◌, ℕ, List, [], false, IsTrue, All, length, min, None};
-ghost use Rattle.std.specs.Prelude.{Some};
+ghost use Rattle.std.specs.Prelude.{◌≡◌, ◌⊎◌, ◌↔◌, ◌+◌, ◌<◌, ◌≤◌, ℕ, List, [], true, false, IsTrue, All, length, min};
+ghost use Rattle.std.specs.Prelude.{None, Some};
 ghost use Rattle.blockdisk.specs.Disk.{SameDisk, one_more};
 ghost use Rattle.changeset.specs.Reads.{OnlyReads};
 ghost use Rattle.meaning.specs.CommandLists.{dump_list, word_count};
 ghost use Rattle.meaning.specs.Cores.{after_writes, dealt};
 ghost use Rattle.meaning.specs.Files.{File, Files};
 ghost use Rattle.meaning.specs.Retrieval.{HasBody};
+ghost use Rattle.meaning.specs.Rings.{byte_size, data_words, in_ready};
 ghost use Rattle.meaning.specs.Splices.{words_from};
 ghost use Rattle.meaning.specs.declared.area.Area.{Area as Words};
+ghost use Rattle.retrieval.specs.Modes.{mode_number};
 ghost use Rattle.retrieval.specs.Versions.{VersionState};
 ghost use Rattle.volume.specs.Pins.{IsReadable, version_under};
 ghost use Rattle.volume.specs.Rest.{RestsAt};
+ghost use Rattle.monitor.specs.Reading.{Asked, asked_at, buffer_asked};
 ghost use Rattle.monitor.specs.declared.read_in.ReadIn.TheVariants.{Moved, AddressCheck, AtEnd, NoMemory, Device};
 ghost use Rattle.monitor.specs.declared.read_in.ReadIn.TheVariants.{Failed};
 
+use crate::channel::Channel;
+use crate::status::cleared;
 use blockdisk::Disk;
+use meaning::IoStatus;
 use std::alloc::Global;
-use usercore::{Area, Core, word_count};
+use usercore::{Area, Core, RingStep, word_count};
 use volume::{CallError, VersionHandle, Volume};
 use words36::Word;
+
+/// How many words of data a disk buffer has.
+const DATA_WORDS: u32 = 0o200;
 
 /// How an IN ends.
 #[derive(Clone, Copy, Debug, PartialEq, Eq)]
 pub enum ReadIn {
-    /// So many words were moved: none where the list names none.
+    /// So many words were moved: none where a command list names none.
     Moved(usize),
-    /// The command list isn't as it should be, or names words outside the core.
+    /// The command list isn't as it should be, or names words outside the core; or the ring isn't as it should be.
     AddressCheck,
     /// The body has no words from that block on.
     AtEnd,
@@ -54,10 +63,33 @@ fn fill(core: &mut Core, areas: &[Area], words: &[Word]) -> ReadIn
     ReadIn::Moved(words.len())
 }
 
+/// Fills the next buffer of a channel's input ring with the words that were found, where there are any.
+fn fill_buffer(core: &mut Core, channel: &Channel, words: &[Word]) -> ReadIn
+    requires { (ready : List ℕ)
+        × (in_ready core.old channel.now.input_header (byte_size (mode_number channel.now.mode)) ≡ Some ready) }
+    ensures at_end { result ≡ AtEnd ↔ (words.now ≡ []) }
+    ensures moved { (n : ℕ) → result ≡ Moved n → n ≡ length words.now }
+    ensures filled { (n : ℕ) → result ≡ Moved n → (ready : List ℕ)
+        → in_ready core.old channel.now.input_header (byte_size (mode_number channel.now.mode)) ≡ Some ready
+        → core.new ≡ (buffer_asked channel.now ready).filled words.now }
+    ensures kept { result ≡ AtEnd → core.new ≡ core.old }
+    ensures length { length core.new ≡ length core.old }
+    ensures either { (result ≡ AtEnd) ⊎ ((n : ℕ) × (0 < n) × (result ≡ Moved n)) }
+{
+    if words.is_empty() {
+        return ReadIn::AtEnd;
+    }
+    let status = IoStatus(cleared(channel.status));
+    match core.ring_in(channel.input_header, channel.bytes(), status, words) {
+        Ok(()) => ReadIn::Moved(words.len()),
+        Err(_) => unreachable!(),
+    }
+}
+
 /// Moves the words of a version's body from a block on into the areas of core that the command list at an
 /// address names. The whole list is read before anything is moved, and a list that names no words asks neither
 /// for memory nor for the disk.
-pub fn read_in<D: Disk>(
+fn read_areas<D: Disk>(
     alloc: Global,
     volume: &mut Volume<D>,
     core: &mut Core,
@@ -117,5 +149,124 @@ pub fn read_in<D: Disk>(
         Err(CallError::Device) => ReadIn::Device,
         Err(CallError::Failed) => ReadIn::Failed,
         Err(CallError::Refused(_)) => unreachable!(),
+    }
+}
+
+/// Moves the words of a version's body from a block on into the next buffer of a channel's input ring. The ring is
+/// looked at before anything is read.
+fn read_buffer<D: Disk>(
+    alloc: Global,
+    volume: &mut Volume<D>,
+    core: &mut Core,
+    channel: &Channel,
+    handle: VersionHandle,
+    block: u32,
+) -> ReadIn
+    requires alive { volume.old.failed ≡ false }
+    requires live { IsReadable volume.old.core handle }
+    requires first { 0 < block }
+    // The ring decides on every disk.
+    ensures checked { result ≡ AddressCheck
+        ↔ (in_ready core.old channel.now.input_header (byte_size (mode_number channel.now.mode)) ≡ None) }
+    ensures some { result ≡ Moved 0 → ⊥ }
+    // The words are those of the version's body,
+    ensures moved { (D.state volume.new.disk).honest → (v : VersionState)
+        → version_under volume.old.core handle ≡ Some v → (body : List ℕ) → length body ≡ v.words
+        → HasBody (D.state volume.old.disk).contents v.blocks body → (ready : List ℕ)
+        → in_ready core.old channel.now.input_header (byte_size (mode_number channel.now.mode)) ≡ Some ready
+        → (n : ℕ) → result ≡ Moved n → core.new ≡ (buffer_asked channel.now ready).filled (words_from body block) }
+    // and, on every disk, as many as a buffer takes and the body has.
+    ensures number { (v : VersionState) → version_under volume.old.core handle ≡ Some v → (body : List ℕ)
+        → length body ≡ v.words → (n : ℕ) → result ≡ Moved n
+        → n ≡ min data_words (length (words_from body block)) }
+    ensures few { (n : ℕ) → result ≡ Moved n → n ≤ data_words }
+    ensures at_end { (v : VersionState) → version_under volume.old.core handle ≡ Some v → (body : List ℕ)
+        → length body ≡ v.words → result ≡ AtEnd → words_from body block ≡ [] }
+    ensures kept { ((n : ℕ) → 0 < n → result ≡ Moved n → ⊥) → core.new ≡ core.old }
+    ensures length { length core.new ≡ length core.old }
+
+    // Nothing is written, and the volume stays.
+    ensures reads { (D.state volume.new.disk).honest → OnlyReads (D.state volume.old.disk) (D.state volume.new.disk) }
+    ensures rests { (D.state volume.new.disk).honest → (files : Files File) → RestsAt (D.state volume.old.disk) files
+        → RestsAt (D.state volume.new.disk) files }
+    ensures core { volume.new.core ≡ volume.old.core }
+    ensures idle { (result ≡ AddressCheck) ⊎ (result ≡ AtEnd) ⊎ (result ≡ Moved 0) ⊎ (result ≡ NoMemory)
+        → volume.new.disk ≡ volume.old.disk }
+    // It fails with the volume, and blames the device where that failed.
+    ensures failed { IsTrue volume.new.failed ↔ ((result ≡ Device) ⊎ (result ≡ Failed)) }
+    ensures blamed { result ≡ Failed → (D.state volume.new.disk).honest → ⊥ }
+    ensures counted { result ≡ Device → (D.state volume.new.disk).failures
+        ≡ one_more (D.state volume.old.disk).failures }
+    ensures served { (result ≡ Device → ⊥) → (D.state volume.new.disk).failures ≡ (D.state volume.old.disk).failures }
+    ensures same { SameDisk (D.state volume.old.disk) (D.state volume.new.disk) }
+{
+    let (header, bytes) = (channel.input_header, channel.bytes());
+    if core.ring_check(RingStep::In, header, bytes).is_err() {
+        return ReadIn::AddressCheck;
+    }
+    match volume.get_words(alloc, handle, block, DATA_WORDS) {
+        Ok(words) => fill_buffer(core, channel, words.as_slice()),
+        Err(CallError::NoMemory) => ReadIn::NoMemory,
+        Err(CallError::Device) => ReadIn::Device,
+        Err(CallError::Failed) => ReadIn::Failed,
+        Err(CallError::Refused(_)) => unreachable!(),
+    }
+}
+
+/// Moves the words of a version's body from a block on into core: into the next buffer of a channel's input ring, or in
+/// dump mode into the areas that the command list at an address names.
+pub fn read_in<D: Disk>(
+    alloc: Global,
+    volume: &mut Volume<D>,
+    core: &mut Core,
+    channel: &Channel,
+    handle: VersionHandle,
+    block: u32,
+    address: u32,
+) -> ReadIn
+    requires alive { volume.old.failed ≡ false }
+    requires live { IsReadable volume.old.core handle }
+    requires first { 0 < block }
+    // What core has decides on every disk.
+    ensures checked { result ≡ AddressCheck ↔ (asked_at core.old channel.now address ≡ None) }
+    ensures named { result ≡ Moved 0 → (k : Asked) → asked_at core.old channel.now address ≡ Some k
+        → k.none ≡ true }
+    // The words are those of the version's body,
+    ensures moved { (D.state volume.new.disk).honest → (v : VersionState)
+        → version_under volume.old.core handle ≡ Some v → (body : List ℕ) → length body ≡ v.words
+        → HasBody (D.state volume.old.disk).contents v.blocks body → (k : Asked)
+        → asked_at core.old channel.now address ≡ Some k
+        → (n : ℕ) → result ≡ Moved n → core.new ≡ k.filled (words_from body block) }
+    // and, on every disk, as many as are asked for and the body has.
+    ensures number { (v : VersionState) → version_under volume.old.core handle ≡ Some v → (body : List ℕ)
+        → length body ≡ v.words → (k : Asked) → asked_at core.old channel.now address ≡ Some k
+        → (n : ℕ) → result ≡ Moved n → n ≡ min k.count (length (words_from body block)) }
+    ensures few { (k : Asked) → asked_at core.old channel.now address ≡ Some k → (n : ℕ) → result ≡ Moved n
+        → n ≤ k.count }
+    ensures at_end { (v : VersionState) → version_under volume.old.core handle ≡ Some v → (body : List ℕ)
+        → length body ≡ v.words → (k : Asked) → asked_at core.old channel.now address ≡ Some k
+        → result ≡ AtEnd → (k.none ≡ false) × (words_from body block ≡ []) }
+    ensures kept { ((n : ℕ) → 0 < n → result ≡ Moved n → ⊥) → core.new ≡ core.old }
+    ensures length { length core.new ≡ length core.old }
+
+    // Nothing is written, and the volume stays.
+    ensures reads { (D.state volume.new.disk).honest → OnlyReads (D.state volume.old.disk) (D.state volume.new.disk) }
+    ensures rests { (D.state volume.new.disk).honest → (files : Files File) → RestsAt (D.state volume.old.disk) files
+        → RestsAt (D.state volume.new.disk) files }
+    ensures core { volume.new.core ≡ volume.old.core }
+    ensures idle { (result ≡ AddressCheck) ⊎ (result ≡ AtEnd) ⊎ (result ≡ Moved 0) ⊎ (result ≡ NoMemory)
+        → volume.new.disk ≡ volume.old.disk }
+    // It fails with the volume, and blames the device where that failed.
+    ensures failed { IsTrue volume.new.failed ↔ ((result ≡ Device) ⊎ (result ≡ Failed)) }
+    ensures blamed { result ≡ Failed → (D.state volume.new.disk).honest → ⊥ }
+    ensures counted { result ≡ Device → (D.state volume.new.disk).failures
+        ≡ one_more (D.state volume.old.disk).failures }
+    ensures served { (result ≡ Device → ⊥) → (D.state volume.new.disk).failures ≡ (D.state volume.old.disk).failures }
+    ensures same { SameDisk (D.state volume.old.disk) (D.state volume.new.disk) }
+{
+    if channel.is_buffered() {
+        read_buffer(alloc, volume, core, channel, handle, block)
+    } else {
+        read_areas(alloc, volume, core, handle, block, address)
     }
 }

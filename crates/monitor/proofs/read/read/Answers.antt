@@ -1,17 +1,16 @@
 use Rattle.std.proofs.Common.{rules, ◌≡◌, ◌<◌, ◌+◌, ◌-◌, ◌^◌, length, min, replicate, Some, refl, sym, ap, subst, ◌∙◌}
 use Rattle.std.proofs.Common.{arith, slice_set}
 use Rattle.std.proofs.lemmas.List.{length-replicate}
-use Rattle.meaning.specs.CommandLists.{dump_list, word_count}
 use Rattle.meaning.specs.Jobs.{cleared, end_of_file}
 use Rattle.meaning.specs.Splices.{block_start, words_from}
-use Rattle.meaning.proofs.MapLaws.{some_same}
 use Rattle.meaning.specs.declared.call.Reply.TheVariants.{Done}
 use Rattle.volume.specs.Pins.{version_under, IsReadable}
-use Rattle.monitor.specs.Reading.{handle_read, IsIn}
+use Rattle.monitor.specs.Reading.{handle_read, asked_at, IsIn}
 use Rattle.monitor.specs.Rows.{KeepsReading}
-use Rattle.monitor.specs.declared.read_in.ReadIn.TheVariants.{Moved, AtEnd}
+use Rattle.monitor.specs.declared.read_in.ReadIn.TheVariants.{Moved, AtEnd, NoMemory, Device}
+use Rattle.monitor.proofs.Asking.{few_asked}
 use Rattle.monitor.proofs.Inputs.{version_there}
-use Rattle.monitor.proofs.ReadWords.{is_readable, few_words, words_left, read_fits, few_named, is_listed, has_area}
+use Rattle.monitor.proofs.ReadWords.{is_readable, few_words, words_left, read_fits, is_asked}
 use Rattle.monitor.proofs.ReadWords.{in_reads}
 use Rattle.monitor.proofs.read.read.Goals as goal
 
@@ -29,11 +28,12 @@ read_on-requires-clause-fits g c =
     (is_readable c.args.volume.now.core c.args.job.now c.args.number c.in-Some.channel (sym c.channel.ensures
     ∙ c.in-Some.is) i c.in-Some-side.is c.requires.held c.requires.live) in
     let at = ap (version_under c.args.volume.now.core) c.handle_read-handle.ensures ∙ found.1 in
-    let list = is_listed c.read_in.result (Moved n) (dump_list c.args.job.now.core c.args.address) c.in-Moved.is
-    (λ e. cc e) c.read_in.ensures.checked in
+    let asked = is_asked c.read_in.result (Moved n)
+    (asked_at c.args.job.now.core c.in-Some.channel c.args.address) c.in-Moved.is (λ e. cc e)
+    c.read_in.ensures.checked in
     let words = found.0.words in
-    let many : n ≡ min (word_count list.0) (length (words_from (replicate words 0) i.next)) = c.read_in.ensures.number
-    found.0 at (replicate words 0) (length-replicate words 0) list.0 list.1 n c.in-Moved.is in
+    let many : n ≡ min asked.0.count (length (words_from (replicate words 0) i.next)) = c.read_in.ensures.number
+    found.0 at (replicate words 0) (length-replicate words 0) asked.0 asked.1 n c.in-Moved.is in
     let left : length (words_from (replicate words 0) i.next) ≡ words - block_start i.next = words_left words i.next in
     let first : 0 < i.next = search rules in
     let small : i.next < 2 ^ 32 = search rules in
@@ -45,28 +45,31 @@ read_on-requires-clause-fits g c =
 pub read_on-requires-clause-few : goal.read_on-requires-clause-few
 read_on-requires-clause-few g c =
     let n = c.in-Moved.count in
-    let list = is_listed c.read_in.result (Moved n) (dump_list c.args.job.now.core c.args.address) c.in-Moved.is
-    (λ e. cc e) c.read_in.ensures.checked in
+    let asked = is_asked c.read_in.result (Moved n)
+    (asked_at c.args.job.now.core c.in-Some.channel c.args.address) c.in-Moved.is (λ e. cc e)
+    c.read_in.ensures.checked in
     omega (
       arith,
-      c.read_in.ensures.few list.0 list.1 n c.in-Moved.is,
-      few_named c.args.job.now.core c.args.address list.0 list.1,
+      c.read_in.ensures.few asked.0 asked.1 n c.in-Moved.is,
+      few_asked c.args.job.now.core c.in-Some.channel c.args.address asked.0 asked.1,
     )
 
 pub returns-in-Moved-clause-outcome : goal.returns-in-Moved-clause-outcome
 returns-in-Moved-clause-outcome g c =
     let n = c.in-Moved.count in
-    let list = is_listed c.read_in.result (Moved n) (dump_list c.args.job.now.core c.args.address) c.in-Moved.is
-    (λ e. cc e) c.read_in.ensures.checked in (
+    let asked = is_asked c.read_in.result (Moved n)
+    (asked_at c.args.job.now.core c.in-Some.channel c.args.address) c.in-Moved.is (λ e. cc e)
+    c.read_in.ensures.checked in (
       record {
         at = record {
           channel = c.in-Some.channel;
           there = sym c.channel.ensures ∙ c.in-Some.is;
           input = c.in-Some-side.input;
           side = c.in-Some-side.is;
+          has = sym c.lacks_header.ensures ∙ c.if-lacks_header.false;
         };
-        areas = list.0;
-        listed = list.1;
+        asked = asked.0;
+        found = asked.1;
       },
       n,
       c.read_in.new.core,
@@ -75,11 +78,11 @@ returns-in-Moved-clause-outcome g c =
         channels = slice_set c.args.job.now.channels c.args.number (Some x);
       }) c.read_on.ensures,
       record {
-        some = λ none. some_same (sym list.1 ∙ c.read_in.ensures.named.0 (c.in-Moved.is ∙ ap Moved none));
+        some = λ none. c.read_in.ensures.named (c.in-Moved.is ∙ ap Moved none) asked.0 asked.1;
         many = λ v at body long. c.read_in.ensures.number v (ap (version_under c.args.volume.now.core)
-            c.handle_read-handle.ensures ∙ at) body long list.0 list.1 n c.in-Moved.is;
+            c.handle_read-handle.ensures ∙ at) body long asked.0 asked.1 n c.in-Moved.is;
         words = λ honest v at body long has. c.read_in.ensures.moved honest v (ap (version_under c.args.volume.now.core)
-            c.handle_read-handle.ensures ∙ at) body long has list.0 list.1 n c.in-Moved.is;
+            c.handle_read-handle.ensures ∙ at) body long has asked.0 asked.1 n c.in-Moved.is;
       },
     )
 
@@ -93,8 +96,8 @@ returns-in-Moved-clause-reads g c =
 
 pub returns-in-AtEnd-clause-outcome : goal.returns-in-AtEnd-clause-outcome
 returns-in-AtEnd-clause-outcome g c =
-    let list = is_listed c.read_in.result AtEnd (dump_list c.args.job.now.core c.args.address) c.in-AtEnd.is
-    (λ e. cc e) c.read_in.ensures.checked in
+    let asked = is_asked c.read_in.result AtEnd (asked_at c.args.job.now.core c.in-Some.channel c.args.address)
+    c.in-AtEnd.is (λ e. cc e) c.read_in.ensures.checked in
     let status = cleared c.in-Some.channel.status + end_of_file in
     subst (IsIn (g.D.Disk.state c.args.volume.now.disk) (g.D.Disk.state c.read_in.new.volume.disk)
     c.args.volume.now.core c.args.job.now c.stop.new.job c.args.number c.args.address) (sym c.stop.ensures.answered) (
@@ -104,9 +107,10 @@ returns-in-AtEnd-clause-outcome g c =
           there = sym c.channel.ensures ∙ c.in-Some.is;
           input = c.in-Some-side.input;
           side = c.in-Some-side.is;
+          has = sym c.lacks_header.ensures ∙ c.if-lacks_header.false;
         };
-        areas = list.0;
-        listed = list.1;
+        asked = asked.0;
+        found = asked.1;
       },
       refl,
       c.stop.ensures.kept
@@ -115,9 +119,8 @@ returns-in-AtEnd-clause-outcome g c =
             channels = slice_set c.args.job.now.channels c.args.number
                 (Some (record c.in-Some.channel { status = status }));
           }) (c.read_in.ensures.kept (λ n some is. let wrong = sym c.in-AtEnd.is ∙ is in cc wrong)),
-      λ v at body long. let ends = c.read_in.ensures.at_end v (ap (version_under c.args.volume.now.core)
-          c.handle_read-handle.ensures ∙ at) body long list.0 list.1 c.in-AtEnd.is in
-          (has_area list.0 ends.0, ends.1),
+      λ v at body long. c.read_in.ensures.at_end v (ap (version_under c.args.volume.now.core)
+          c.handle_read-handle.ensures ∙ at) body long asked.0 asked.1 c.in-AtEnd.is,
     )
 
 pub returns-in-AtEnd-clause-reads : goal.returns-in-AtEnd-clause-reads
@@ -127,3 +130,55 @@ returns-in-AtEnd-clause-reads g c =
     (in_reads (g.D.Disk.state c.args.volume.now.disk) (g.D.Disk.state c.read_in.new.volume.disk) c.args.volume.now.core
     c.args.job.now c.stop.new.job c.args.number c.args.address c.stop.result
     (returns-in-AtEnd-clause-outcome g c) c.args.volume.now.core.live)
+
+pub returns-in-AddressCheck-clause-outcome : goal.returns-in-AddressCheck-clause-outcome
+returns-in-AddressCheck-clause-outcome g c = (
+  ap (λ ws. record c.args.job.now { core = ws }) (c.read_in.ensures.kept (λ n some is.
+      let wrong = sym c.in-AddressCheck.is ∙ is in cc wrong)),
+  record {
+    channel = c.in-Some.channel;
+    there = sym c.channel.ensures ∙ c.in-Some.is;
+    input = c.in-Some-side.input;
+    side = c.in-Some-side.is;
+    has = sym c.lacks_header.ensures ∙ c.if-lacks_header.false;
+  },
+  c.read_in.ensures.checked.0 c.in-AddressCheck.is,
+)
+
+pub returns-in-NoMemory-clause-outcome : goal.returns-in-NoMemory-clause-outcome
+returns-in-NoMemory-clause-outcome g c =
+    let asked = is_asked c.read_in.result NoMemory (asked_at c.args.job.now.core c.in-Some.channel c.args.address)
+    c.in-NoMemory.is (λ e. cc e) c.read_in.ensures.checked in (
+      ap (λ ws. record c.args.job.now { core = ws }) (c.read_in.ensures.kept (λ n some is.
+          let wrong = sym c.in-NoMemory.is ∙ is in cc wrong)),
+      record {
+        at = record {
+          channel = c.in-Some.channel;
+          there = sym c.channel.ensures ∙ c.in-Some.is;
+          input = c.in-Some-side.input;
+          side = c.in-Some-side.is;
+          has = sym c.lacks_header.ensures ∙ c.if-lacks_header.false;
+        };
+        asked = asked.0;
+        found = asked.1;
+      },
+    )
+
+pub returns-in-Device-clause-outcome : goal.returns-in-Device-clause-outcome
+returns-in-Device-clause-outcome g c =
+    let asked = is_asked c.read_in.result Device (asked_at c.args.job.now.core c.in-Some.channel c.args.address)
+    c.in-Device.is (λ e. cc e) c.read_in.ensures.checked in (
+      ap (λ ws. record c.args.job.now { core = ws }) (c.read_in.ensures.kept (λ n some is.
+          let wrong = sym c.in-Device.is ∙ is in cc wrong)),
+      record {
+        at = record {
+          channel = c.in-Some.channel;
+          there = sym c.channel.ensures ∙ c.in-Some.is;
+          input = c.in-Some-side.input;
+          side = c.in-Some-side.is;
+          has = sym c.lacks_header.ensures ∙ c.if-lacks_header.false;
+        };
+        asked = asked.0;
+        found = asked.1;
+      },
+    )

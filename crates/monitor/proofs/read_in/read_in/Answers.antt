@@ -1,52 +1,28 @@
-use Rattle.std.proofs.Common.{rules, ◌≡◌, ◌<◌, ◌-◌, min, take, refl, ap, ◌∙◌}
-use Rattle.meaning.specs.Splices.{block_start, words_from}
-use Rattle.meaning.specs.Cores.{after_writes, dealt}
-use Rattle.meaning.specs.CommandLists.{dump_list, word_count}
-use Rattle.monitor.proofs.Inputs.{names_none, none_dealt, all_dealt, as_many, no_more, ends_before, version_there}
+use Rattle.std.proofs.Common.{sym, ap, ◌∙◌}
+use Rattle.meaning.specs.CommandLists.{dump_list}
+use Rattle.meaning.specs.Rings.{byte_size, in_ready}
+use Rattle.meaning.specs.Splices.{words_from}
+use Rattle.retrieval.specs.Modes.{mode_number}
+use Rattle.monitor.specs.Reading.{Asked, areas_asked, buffer_asked, asked_at}
+use Rattle.monitor.proofs.Asking.{asked_of, asks_areas, asks_buffer}
 use Rattle.monitor.proofs.read_in.read_in.Goals as goal
 
-pub returns-then-count-eq0-clause-named : goal.returns-then-count-eq0-clause-named
-returns-then-count-eq0-clause-named g c =
-    let none : word_count c.in-Ok.areas.items ≡ 0 = search rules in (
-      λ moved. names_none (dump_list c.args.core.now c.args.address) c.in-Ok.areas.items c.in-Ok.ensures.areas
-          c.in-Ok.ensures.some none,
-      λ listed. refl,
-    )
+pub returns-then-is_buffered-clause-moved : goal.returns-then-is_buffered-clause-moved
+returns-then-is_buffered-clause-moved g c honest v there body long has k asks n is =
+    let core = c.args.core.now in
+    let channel = c.args.channel.now in
+    let from = asked_of (buffer_asked channel)
+    (in_ready core channel.input_header (byte_size (mode_number channel.mode)))
+    (asked_at core channel c.args.address)
+    (asks_buffer core channel c.args.address (sym c.is_buffered.ensures ∙ c.if-is_buffered.true)) k asks in
+    c.read_buffer.ensures.moved honest v there body long has from.0 from.1 n is
+    ∙ ap (λ (x : Asked). x.filled (words_from body c.args.block)) from.2
 
-pub returns-then-count-eq0-clause-moved : goal.returns-then-count-eq0-clause-moved
-returns-then-count-eq0-clause-moved g c honest v there body long has areas listed n is =
-    let none : word_count c.in-Ok.areas.items ≡ 0 = search rules in
-    none_dealt (dump_list c.args.core.now c.args.address) c.in-Ok.areas.items c.in-Ok.ensures.areas areas
-    listed c.args.core.now (words_from body c.args.block) c.in-Ok.ensures.some none
-
-pub returns-in-Ok-get_words-clause-moved : goal.returns-in-Ok-get_words-clause-moved
-returns-in-Ok-get_words-clause-moved g c honest v there body long has areas listed n is =
-    let words = words_from body c.args.block in
-    let read = c.in-Ok-get_words.ensures.words honest v there body long has in
-    let found = c.as_slice-in-Ok-get_words-2.result.now in
-    all_dealt (dump_list c.args.core.now c.args.address) c.in-Ok.areas.items c.in-Ok.ensures.areas areas
-    listed c.args.core.now c.fill.new.core words found
-    (c.as_slice-in-Ok-get_words-2.ensures.value ∙ read
-    ∙ ap (λ count. take count words) (c.word_count-count.ensures ∙ ap word_count c.as_slice.ensures.value))
-    ((c.fill.ensures.moved n is).1
-    ∙ ap (λ named. after_writes c.args.core.now (dealt named found)) c.as_slice-in-Ok-get_words.ensures.value)
-
-pub returns-in-Ok-get_words-clause-number : goal.returns-in-Ok-get_words-clause-number
-returns-in-Ok-get_words-clause-number g c v there body long areas listed n is =
-    let many : n ≡ min (word_count c.in-Ok.areas.items) (v.words - block_start c.args.block) = search rules in
-    as_many (dump_list c.args.core.now c.args.address) c.in-Ok.areas.items c.in-Ok.ensures.areas areas
-    listed body v.words c.args.block n long many
-
-pub returns-in-Ok-get_words-clause-few : goal.returns-in-Ok-get_words-clause-few
-returns-in-Ok-get_words-clause-few g c areas listed n is =
-    let v = (version_there c.args.volume.now.core c.args.handle c.requires.live).0 in
-    let many : n ≡ min (word_count c.in-Ok.areas.items) (v.words - block_start c.args.block) = search rules in
-    no_more (dump_list c.args.core.now c.args.address) c.in-Ok.areas.items c.in-Ok.ensures.areas areas
-    listed v.words c.args.block n many
-
-pub returns-in-Ok-get_words-clause-at_end : goal.returns-in-Ok-get_words-clause-at_end
-returns-in-Ok-get_words-clause-at_end g c v there body long areas listed is =
-    let some : 0 < word_count c.in-Ok.areas.items = search rules in
-    let none : min (word_count c.in-Ok.areas.items) (v.words - block_start c.args.block) ≡ 0 = search rules in
-    ends_before (dump_list c.args.core.now c.args.address) c.in-Ok.areas.items c.in-Ok.ensures.areas areas
-    listed body v.words c.args.block long some none
+pub returns-else-is_buffered-clause-moved : goal.returns-else-is_buffered-clause-moved
+returns-else-is_buffered-clause-moved g c honest v there body long has k asks n is =
+    let core = c.args.core.now in
+    let channel = c.args.channel.now in
+    let from = asked_of (areas_asked core) (dump_list core c.args.address) (asked_at core channel c.args.address)
+    (asks_areas core channel c.args.address (sym c.is_buffered.ensures ∙ c.if-is_buffered.false)) k asks in
+    c.read_areas.ensures.moved honest v there body long has from.0 from.1 n is
+    ∙ ap (λ (x : Asked). x.filled (words_from body c.args.block)) from.2
