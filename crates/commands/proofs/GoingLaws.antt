@@ -8,11 +8,8 @@ use Rattle.meaning.specs.Plans.{Act, Asks, Looks}
 use Rattle.meaning.specs.Transcripts.{Went}
 use Rattle.meaning.specs.declared.entry.Entry.{Entry}
 use Rattle.meaning.specs.declared.call.Reply.{Reply}
-use Rattle.monitor.specs.Runs.{IsServedIn, IsServedAt}
 use Rattle.meaning.specs.declared.call.Event.{Event}
-use Rattle.commands.specs.Languages.{Goes}
-use Rattle.commands.specs.Machines.{Machine, IsAnswered, IsListed, AlwaysStands, ActsBy, GoesBy, AreServedActs}
-use Rattle.commands.specs.Machines.{GoesServed}
+use Rattle.commands.specs.Machines.{Machine, IsAnswered, IsListed, AlwaysStands, ActsBy, GoesBy}
 use Rattle.commands.specs.declared.language.Language.{Language}
 use Rattle.commands.specs.declared.language.Language.TheVariants.{Commands, Events}
 

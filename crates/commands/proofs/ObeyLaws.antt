@@ -8,13 +8,12 @@ use Rattle.meaning.specs.Texts.{complains, is_broken, line}
 use Rattle.meaning.specs.Plans.{Asks}
 use Rattle.meaning.specs.declared.call.Reply.{Reply}
 use Rattle.meaning.specs.declared.call.Event.{Event}
-use Rattle.commands.specs.Languages.{Goes}
 use Rattle.commands.specs.Machines.{Machine, AlwaysStands, IsAnswered}
 use Rattle.commands.specs.Sessions.{Replied}
 use Rattle.commands.specs.declared.answer.Tally.{Tally}
 use Rattle.commands.specs.declared.language.Language.{Language}
 use Rattle.commands.specs.declared.run.Heard.TheVariants.{Ordered}
-use Rattle.commands.proofs.GoingLaws.{goes_still, goes_ordered}
+use Rattle.commands.proofs.GoingLaws.{goes_nowhere, goes_answered}
 use Rattle.commands.proofs.TranscriptLaws.{or-false}
 
 or-true : (b : Bool) → true ≡ b || true

@@ -11,8 +11,7 @@ use Rattle.meaning.specs.Room.{Pack}
 use Rattle.meaning.specs.Runs.{Service, Answers}
 use Rattle.meaning.specs.declared.call.Call.TheVariants.{Reset}
 use Rattle.commands.specs.PartialLines.{IsPartialLine}
-use Rattle.commands.specs.Languages.{Goes}
-use Rattle.commands.specs.Machines.{Machine, AlwaysStands}
+use Rattle.commands.specs.Machines.{Machine, AlwaysStands, GoesBy}
 use Rattle.commands.specs.Streams.{IsServedTranscript, IsServedSession, IsServedScript, spoken, Finished, Unfinished}
 use Rattle.commands.specs.Sessions.{SoFar, StepsOn, BreaksOff, EndsWell, Ends, Talked, Session, Script}
 use Rattle.commands.specs.declared.error.SessionError.{SessionError}

@@ -17,10 +17,9 @@ use Rattle.commands.specs.Characters.{is_other_than}
 use Rattle.meaning.specs.declared.call.Call.TheVariants.{Reset}
 use Rattle.meaning.specs.declared.call.Event.{Event}
 use Rattle.meaning.specs.declared.call.Event.TheVariants.{Call as Calls}
-use Rattle.commands.specs.Languages.{Goes}
 use Rattle.commands.specs.Machines.{Machine, AlwaysStands, IsAnswered}
 use Rattle.commands.specs.Streams.{IsServedTranscript, spoken, AreWholeLines, Unfinished, IsCut}
-use Rattle.commands.specs.Sessions.{HeardIn, IsHeardIn, Hears, Replied, Puts, Told, Closed, SoFar, StepsOn, BreaksOff}
+use Rattle.commands.specs.Sessions.{HeardIn, Hears, Replied, Puts, Told, Closed, SoFar, StepsOn, BreaksOff}
 use Rattle.commands.specs.Sessions.{EndsWell, Spoke}
 use Rattle.commands.specs.declared.error.SessionError.{SessionError}
 use Rattle.commands.specs.declared.answer.Tally.{Tally}

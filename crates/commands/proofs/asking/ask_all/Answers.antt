@@ -8,12 +8,12 @@ loop-event-init g c = done_none g.S.FileService.machine g.met.S.FileService.stan
 pub loop-event-preserved : goal.loop-event-preserved
 loop-event-preserved g c = done_more g.S.FileService.machine g.met.S.FileService.stands _ _ _ c.args.events.now
     c.loop-event.event-index c.event-item.result c.event-reply.result c.loop-event-test.true c.event-item.is
-    c.requires c.loop-event.invariant c.event-reply.ensures c.in-Done.is
+    c.loop-event.invariant c.event-reply.ensures c.in-Done.is
 
 pub returns-in_default : goal.returns-in_default
 returns-in_default g c = asked_until g.S.FileService.machine g.met.S.FileService.stands _ _ _ c.args.events.now
     c.loop-event.event-index c.event-item.result c.event-reply.result c.loop-event-test.true c.event-item.is
-    c.requires c.loop-event.invariant c.event-reply.ensures c.in_default.not-Done
+    c.loop-event.invariant c.event-reply.ensures c.in_default.not-Done
 
 pub returns : goal.returns
 returns g c = asked_all g.S.FileService.machine g.met.S.FileService.stands _ _ c.args.events.now

@@ -9,7 +9,7 @@ pub returns-in_err-ask_all : goal.returns-in_err-ask_all
 returns-in_err-ask_all g c =
     let p = err_from_is_err_and c.from_residual.result c.from_residual.ensures.1 in
     rw (p.1, p.2) (λ next. led_first g.S.FileService.machine _ _ c.args.moment c.finds.result
-    (finds c.args.moment c.args.spec) c.args.changes.now next _ c.finds.ensures.made
+    (finds c.args.moment c.args.spec) c.args.changes.now next _ c.finds.ensures
     (c.in_err-ask_all.ensures c.args.moment (each c.args.moment c.args.changes.now next)))
 
 pub returns : goal.returns
@@ -18,5 +18,5 @@ returns g c next =
     led_on g.S.FileService.machine _ _ _
     (each c.args.moment (finds c.args.moment c.args.spec ++ c.args.changes.now) next) behind _
     (led_first g.S.FileService.machine _ _ c.args.moment c.finds.result (finds c.args.moment c.args.spec)
-    c.args.changes.now next _ c.finds.ensures.made (c.in_ok-ask_all.ensures c.args.moment behind))
+    c.args.changes.now next _ c.finds.ensures (c.in_ok-ask_all.ensures c.args.moment behind))
     (c.ask_all-2.ensures c.args.moment next)

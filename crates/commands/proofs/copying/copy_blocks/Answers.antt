@@ -8,7 +8,7 @@ loop-init g c next = blocks_none g.S.FileService.machine g.met.S.FileService.sta
 
 pub loop-preserved : goal.loop-preserved
 loop-preserved g c = blocks_more g.S.FileService.machine _ _ _ c.args.moment c.args.count c.loop.counter
-    (c.takes.result ∷ c.puts.result ∷ []) (λ i. c.takes.ensures.made i ∷ c.puts.ensures.made i
+    (c.takes.result ∷ c.puts.result ∷ []) (λ i. c.takes.ensures i ∷ c.puts.ensures i
     ∷ []) c.loop-test.true c.loop.invariant
     (c.in_ok-ask_all.ensures c.args.moment)
 
@@ -16,7 +16,7 @@ pub returns-in_err-ask_all : goal.returns-in_err-ask_all
 returns-in_err-ask_all g c =
     let p = err_from_is_err_and c.from_residual.result c.from_residual.ensures.1 in
     rw (p.1, p.2) (blocks_fail g.S.FileService.machine _ _ _ c.args.moment c.args.count c.loop.counter
-    (c.takes.result ∷ c.puts.result ∷ []) (λ i. c.takes.ensures.made i ∷ c.puts.ensures.made i
+    (c.takes.result ∷ c.puts.result ∷ []) (λ i. c.takes.ensures i ∷ c.puts.ensures i
     ∷ []) c.loop-test.true c.loop.invariant
     c.in_err-ask_all.field-0.0 (c.in_err-ask_all.ensures c.args.moment))
 

@@ -15,7 +15,7 @@ returns-in_err-ask_all g c =
     (each c.args.moment (lists c.in_ok-count.count ++ behind) next) _
     (c.in_ok-count.ensures.led (λ count. each c.args.moment (lists count ++ behind) next))
     (led_first g.S.FileService.machine _ _ c.args.moment c.lists.result (lists c.in_ok-count.count) behind
-    next _ c.lists.ensures.made (c.in_err-ask_all.ensures c.args.moment (each c.args.moment behind next))))
+    next _ c.lists.ensures (c.in_err-ask_all.ensures c.args.moment (each c.args.moment behind next))))
 
 pub returns : goal.returns
 returns g c next =
@@ -27,7 +27,7 @@ returns g c next =
     (led_on g.S.FileService.machine _ _ _ (each c.args.moment (lists c.in_ok-count.count ++ behind) next)
     (each c.args.moment behind next) _
     (led_first g.S.FileService.machine _ _ c.args.moment c.lists.result (lists c.in_ok-count.count) behind
-    next _ c.lists.ensures.made (c.in_ok-ask_all.ensures c.args.moment (each c.args.moment behind next)))
+    next _ c.lists.ensures (c.in_ok-ask_all.ensures c.args.moment (each c.args.moment behind next)))
     (led_each g.S.FileService.machine _ _ c.args.moment (c.goes_to.result ∷ c.takes.result ∷ c.puts.result
-    ∷ []) behind next _ (λ i. c.goes_to.ensures.made i ∷ c.takes.ensures.made i ∷ c.puts.ensures.made i ∷ [])
+    ∷ []) behind next _ (λ i. c.goes_to.ensures i ∷ c.takes.ensures i ∷ c.puts.ensures i ∷ [])
     (c.ask_all-2.ensures c.args.moment next)))

@@ -10,7 +10,7 @@ returns-in_err-ask_all g c =
     let p = err_from_is_err_and c.from_residual.result c.from_residual.ensures.1 in
     let events = writes c.args.moment c.args.to ++ lists 128 in
     rw (p.1, p.2) (λ next. led_first g.S.FileService.machine _ _ c.args.moment c.finds.result
-    (finds c.args.moment c.args.from) events (examines c.args.moment (file_words + 3) next) _ c.finds.ensures.made
+    (finds c.args.moment c.args.from) events (examines c.args.moment (file_words + 3) next) _ c.finds.ensures
     (c.in_err-ask_all.ensures c.args.moment (each c.args.moment events (examines c.args.moment (file_words + 3) next))))
 
 pub returns-in_err-ask_all-2 : goal.returns-in_err-ask_all-2
@@ -19,7 +19,7 @@ returns-in_err-ask_all-2 g c =
     rw (p.1, p.2) (λ next. second_led g.S.FileService.machine c.args.moment _ _ _ c.finds.result c.writes.result
     (finds c.args.moment c.args.from) (writes c.args.moment c.args.to) (lists 128)
     (examines c.args.moment (file_words + 3) next) _
-    c.finds.ensures.made c.writes.ensures.made (c.in_ok-ask_all.ensures c.args.moment)
+    c.finds.ensures c.writes.ensures (c.in_ok-ask_all.ensures c.args.moment)
     (c.in_err-ask_all-2.ensures c.args.moment
     (each c.args.moment (lists 128) (examines c.args.moment (file_words + 3) next))))
 
@@ -30,7 +30,7 @@ returns-in_err-ask_all-3 g c =
     rw (p.1, p.2) (λ next. third_led g.S.FileService.machine c.args.moment _ _ _ _ c.finds.result c.writes.result
     c.lists.result (finds c.args.moment c.args.from) (writes c.args.moment c.args.to) (lists 128)
     (examines c.args.moment (file_words + 3) next) _
-    c.finds.ensures.made c.writes.ensures.made c.lists.ensures.made (c.in_ok-ask_all.ensures c.args.moment)
+    c.finds.ensures c.writes.ensures c.lists.ensures (c.in_ok-ask_all.ensures c.args.moment)
     (c.in_ok-ask_all-2.ensures c.args.moment)
     (c.in_err-ask_all-3.ensures c.args.moment (examines c.args.moment (file_words + 3) next)))
 
@@ -41,6 +41,6 @@ returns g c next =
     ++ (writes c.args.moment c.args.to ++ lists 128)) then) then _
     (third_led g.S.FileService.machine c.args.moment _ _ _ _ c.finds.result c.writes.result c.lists.result
     (finds c.args.moment c.args.from) (writes c.args.moment c.args.to) (lists 128) then then
-    c.finds.ensures.made c.writes.ensures.made c.lists.ensures.made (c.in_ok-ask_all.ensures c.args.moment)
+    c.finds.ensures c.writes.ensures c.lists.ensures (c.in_ok-ask_all.ensures c.args.moment)
     (c.in_ok-ask_all-2.ensures c.args.moment) (c.in_ok-ask_all-3.ensures c.args.moment then))
     (c.examine.ensures c.args.moment next)

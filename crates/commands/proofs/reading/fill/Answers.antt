@@ -12,7 +12,7 @@ pub loop-place-preserved : goal.loop-place-preserved
 loop-place-preserved g c =
     fills_more g.S.FileService.machine block_address 128 c.args.word c.args.service.now c.loop-place.service
     c.ask_all.new.service c.loop-place.place c.loop-place-test.true c.loop-place.invariant
-    c.fills.result c.fills.ensures.made c.ask_all.result c.ask_all.ensures c.in_ok-ask_all.field-0 c.in_ok-ask_all.was
+    c.fills.result c.fills.ensures c.ask_all.result c.ask_all.ensures c.in_ok-ask_all.field-0 c.in_ok-ask_all.was
 
 
 pub returns : goal.returns
@@ -25,5 +25,5 @@ returns-in_err-ask_all g c =
     rw (p.1, p.2)
     (fills_broken g.S.FileService.machine block_address 128 c.args.word c.args.service.now c.loop-place.service
     c.ask_all.new.service c.loop-place.place c.loop-place-test.true c.loop-place.invariant
-    c.fills.result c.fills.ensures.made c.ask_all.result c.ask_all.ensures c.in_err-ask_all.field-0.0
+    c.fills.result c.fills.ensures c.ask_all.result c.ask_all.ensures c.in_err-ask_all.field-0.0
     c.in_err-ask_all.was)

@@ -18,7 +18,7 @@ pub returns-in_err-ask_all : goal.returns-in_err-ask_all
 returns-in_err-ask_all g c =
     let p = err_from_is_err_and c.from_residual-in_err-ask_all.result c.from_residual-in_err-ask_all.ensures.1 in
     let is : c.goes_to.result ∷ c.takes.result ∷ [] ≡ goes_to c.args.moment c.args.n ∷ takes c.args.moment
-    ∷ [] = λ i. c.goes_to.ensures.made i ∷ c.takes.ensures.made i ∷ [] in
+    ∷ [] = λ i. c.goes_to.ensures i ∷ c.takes.ensures i ∷ [] in
     rw (p.1, p.2)
     (over_unasked g.S.FileService.machine c.args.moment block_address 128 c.args.n c.args.word
     (goes_to c.args.moment c.args.n) (takes c.args.moment) c.args.service.now c.fill.new.service c.fill.result
@@ -29,7 +29,7 @@ returns-in_err-ask_all g c =
 pub returns : goal.returns
 returns g c =
     let is : c.goes_to.result ∷ c.takes.result ∷ [] ≡ goes_to c.args.moment c.args.n ∷ takes c.args.moment
-    ∷ [] = λ i. c.goes_to.ensures.made i ∷ c.takes.ensures.made i ∷ [] in
+    ∷ [] = λ i. c.goes_to.ensures i ∷ c.takes.ensures i ∷ [] in
     let long : (block : List ℕ) → c.fetch.result ≡ Ok block
     → length block ≡ 128 = λ block e. (let known = rw e at c.fetch.type_inv in assumption known) in
     over_all g.S.FileService.machine c.args.moment block_address 128 c.args.n c.args.word

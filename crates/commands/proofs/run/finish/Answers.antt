@@ -8,17 +8,17 @@ use Rattle.commands.proofs.run.finish.Goals as goal
 
 pub returns-clause-ok : goal.returns-clause-ok
 returns-clause-ok g c = end_well c.args.language g.S.FileService.machine tt _ _ _ _ _ c.args.moment c.args.talk.now
-    c.tell.new.talk c.heard_of-heard.result c.heard_of-heard.ensures.language
+    c.tell.new.talk c.heard_of-heard.result
     (λ seen h. subst (λ (l : List Line). HeardIn c.args.language c.args.moment l c.heard_of-heard.result)
-    (c.last.ensures seen h) c.heard_of-heard.ensures.line) c.in_ok-tell.ensures.told c.close.ensures
+    (c.last.ensures seen h) c.heard_of-heard.ensures) c.in_ok-tell.ensures.told c.close.ensures
 
 pub returns-in_err-tell-clause-err : goal.returns-in_err-tell-clause-err
 returns-in_err-tell-clause-err g c =
     let p = err_from_is_err_and c.from_residual.result c.from_residual.ensures.1 in
     rw (p.1, p.2) (break_end c.args.language g.S.FileService.machine _ _ _ _ _ c.args.moment c.args.talk.now
-    c.tell.new.talk c.heard_of-heard.result c.heard_of-heard.ensures.language
+    c.tell.new.talk c.heard_of-heard.result
     (λ seen h. subst (λ (l : List Line). HeardIn c.args.language c.args.moment l c.heard_of-heard.result)
-    (c.last.ensures seen h) c.heard_of-heard.ensures.line) c.in_err-tell.ensures.told)
+    (c.last.ensures seen h) c.heard_of-heard.ensures) c.in_err-tell.ensures.told)
 
 pub tell-requires : goal.tell-requires
-tell-requires g c = heard_fits _ _ _ c.heard_of-heard.result c.heard_of-heard.ensures.line
+tell-requires g c = heard_fits _ _ _ c.heard_of-heard.result c.heard_of-heard.ensures

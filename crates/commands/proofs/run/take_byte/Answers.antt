@@ -15,16 +15,14 @@ pub returns-clause-ok : goal.returns-clause-ok
 returns-clause-ok g c = step_feed c.args.language g.S.FileService.machine c.tell.result _ _ _ _ c.args.moment
     c.args.talk.now c.tell.new.talk c.heard_of-heard.result c.args.byte c.if-byte-ne10.false
     (subst (λ (h : PartialLine). IsPartialLine h []) (sym c.tell.ensures.held) c.new-talk.ensures)
-    c.heard_of-heard.ensures.language
     (λ seen h. subst (λ (l : List Line). HeardIn c.args.language c.args.moment l c.heard_of-heard.result)
-    (c.ended.ensures seen h) c.heard_of-heard.ensures.line) c.tell.ensures.told
+    (c.ended.ensures seen h) c.heard_of-heard.ensures) c.tell.ensures.told
 
 pub returns-clause-err : goal.returns-clause-err
 returns-clause-err g c = break_feed c.args.language g.S.FileService.machine c.tell.result _ _ _ _ c.args.moment
     c.args.talk.now c.tell.new.talk c.heard_of-heard.result c.args.byte c.if-byte-ne10.false
-    c.heard_of-heard.ensures.language
     (λ seen h. subst (λ (l : List Line). HeardIn c.args.language c.args.moment l c.heard_of-heard.result)
-    (c.ended.ensures seen h) c.heard_of-heard.ensures.line) c.tell.ensures.told
+    (c.ended.ensures seen h) c.heard_of-heard.ensures) c.tell.ensures.told
 
 pub tell-requires : goal.tell-requires
-tell-requires g c = heard_fits _ _ _ c.heard_of-heard.result c.heard_of-heard.ensures.line
+tell-requires g c = heard_fits _ _ _ c.heard_of-heard.result c.heard_of-heard.ensures

@@ -7,7 +7,7 @@ returns-in_err-ask_all g c = λ next.
     let p = err_from_is_err_and c.from_residual.result c.from_residual.ensures.1 in
     not_found g.S.FileService.machine _ _ c.args.moment c.args.spec c.from_residual.result c.in_err-ask_all.field-0.0
     (handed_on p.1 p.2)
-    (asked_failed g.S.FileService.machine c.args.moment c.in_err-ask_all.field-0.0 c.finds.ensures.made
+    (asked_failed g.S.FileService.machine c.args.moment c.in_err-ask_all.field-0.0 c.finds.ensures
     c.in_err-ask_all.ensures) next next
 
 
@@ -15,14 +15,14 @@ pub returns-in_err-ask_all-2 : goal.returns-in_err-ask_all-2
 returns-in_err-ask_all-2 g c = λ next.
     let p = err_from_is_err_and c.from_residual-in_err-ask_all-2.result c.from_residual-in_err-ask_all-2.ensures.1 in
     not_listed g.S.FileService.machine _ _ c.args.moment c.args.spec
-    (asked_done g.S.FileService.machine c.args.moment c.finds.ensures.made c.in_ok-ask_all.ensures) _
+    (asked_done g.S.FileService.machine c.args.moment c.finds.ensures c.in_ok-ask_all.ensures) _
     c.from_residual-in_err-ask_all-2.result c.in_err-ask_all-2.field-0.0 (handed_on p.1 p.2)
-    (asked_failed g.S.FileService.machine c.args.moment c.in_err-ask_all-2.field-0.0 c.lists.ensures.made
+    (asked_failed g.S.FileService.machine c.args.moment c.in_err-ask_all-2.field-0.0 c.lists.ensures
     c.in_err-ask_all-2.ensures) next next
 
 pub returns : goal.returns
 returns g c = λ next.
     opened g.S.FileService.machine _ _ c.args.moment c.args.spec
-    (asked_done g.S.FileService.machine c.args.moment c.finds.ensures.made c.in_ok-ask_all.ensures) _
-    (asked_done g.S.FileService.machine c.args.moment c.lists.ensures.made c.in_ok-ask_all-2.ensures) _ c.examine.result
+    (asked_done g.S.FileService.machine c.args.moment c.finds.ensures c.in_ok-ask_all.ensures) _
+    (asked_done g.S.FileService.machine c.args.moment c.lists.ensures c.in_ok-ask_all-2.ensures) _ c.examine.result
     (λ then. c.examine.ensures c.args.moment then) next

@@ -22,7 +22,7 @@ returns-in_err-ask_all g c =
     no_block g.S.FileService.machine _ _ c.ask_all.new.service c.ask_all.new.service c.args.moment c.args.count _
     (c.args.count - (c.loop.counter + 1)) _ _ c.loop.typed more c.loop.invariant _ _ (handed_on p.1 p.2)
     (asked_failed g.S.FileService.machine c.args.moment c.in_err-ask_all.field-0.0
-    (one_made c.takes.ensures.made) c.in_err-ask_all.ensures)
+    (one_made c.takes.ensures) c.in_err-ask_all.ensures)
 
 pub returns-in_err-block : goal.returns-in_err-block
 returns-in_err-block g c =
@@ -30,7 +30,7 @@ returns-in_err-block g c =
     let more : c.args.count - c.loop.counter ≡ suc (c.args.count - (c.loop.counter + 1)) = omega arith in
     no_words g.S.FileService.machine _ _ c.ask_all.new.service _ c.args.moment c.args.count _
     (c.args.count - (c.loop.counter + 1)) _ _ c.loop.typed more c.loop.invariant
-    (asked_done g.S.FileService.machine c.args.moment (one_made c.takes.ensures.made) c.in_ok-ask_all.ensures) _ _
+    (asked_done g.S.FileService.machine c.args.moment (one_made c.takes.ensures) c.in_ok-ask_all.ensures) _ _
     (handed_on p.1 p.2) (λ next. c.in_err-block.ensures c.args.moment next)
 
 pub loop-preserved : goal.loop-preserved
@@ -41,7 +41,7 @@ loop-preserved g c =
     let whole : take 128 c.in_ok-block.block ≡ c.in_ok-block.block = take_all 128 c.in_ok-block.block (omega arith) in
     read_block g.S.FileService.machine _ _ c.ask_all.new.service _ c.args.moment c.args.count _
     (c.args.count - (c.loop.counter + 1)) _ _ _ more c.loop.invariant
-    (asked_done g.S.FileService.machine c.args.moment (one_made c.takes.ensures.made) c.in_ok-ask_all.ensures)
+    (asked_done g.S.FileService.machine c.args.moment (one_made c.takes.ensures) c.in_ok-ask_all.ensures)
     c.in_ok-block.block
     (λ next. subst (λ (l : List ℕ). Led g.S.FileService.machine c.ask_all.new.service c.fetch.new.service
     (fetches c.args.moment 128 block_address next) (next l)) whole (c.in_ok-block.ensures c.args.moment next))

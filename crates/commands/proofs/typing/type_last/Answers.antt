@@ -16,7 +16,7 @@ returns-in_err-ask_all g c =
     let p = err_from_is_err_and c.from_residual-in_err-ask_all.result c.from_residual-in_err-ask_all.ensures.1 in
     no_list g.S.FileService.machine _ _ c.args.moment c.args.n c.args.size c.in_ok-count.count c.in_ok-count.ensures.led
     _ _ _ _ (handed_on p.1 p.2)
-    (asked_failed g.S.FileService.machine c.args.moment c.in_err-ask_all.field-0.0 c.lists.ensures.made
+    (asked_failed g.S.FileService.machine c.args.moment c.in_err-ask_all.field-0.0 c.lists.ensures
     c.in_err-ask_all.ensures)
 
 pub returns-in_err-ask_all-2 : goal.returns-in_err-ask_all-2
@@ -24,25 +24,25 @@ returns-in_err-ask_all-2 g c =
     let p = err_from_is_err_and c.from_residual-in_err-ask_all-2.result c.from_residual-in_err-ask_all-2.ensures.1 in
     no_last g.S.FileService.machine _ _ c.args.moment c.args.n c.args.size c.in_ok-count.count c.in_ok-count.ensures.led
     _ _
-    (asked_done g.S.FileService.machine c.args.moment c.lists.ensures.made c.in_ok-ask_all.ensures) _ _ _
+    (asked_done g.S.FileService.machine c.args.moment c.lists.ensures c.in_ok-ask_all.ensures) _ _ _
     (handed_on p.1 p.2)
     (asked_failed g.S.FileService.machine c.args.moment c.in_err-ask_all-2.field-0.0
-    (two_made c.goes_to.ensures.made c.takes.ensures.made) c.in_err-ask_all-2.ensures)
+    (two_made c.goes_to.ensures c.takes.ensures) c.in_err-ask_all-2.ensures)
 
 pub returns-in_err-block : goal.returns-in_err-block
 returns-in_err-block g c =
     let p = err_from_is_err_and c.from_residual-in_err-block.result c.from_residual-in_err-block.ensures.1 in
     no_last_words g.S.FileService.machine _ _ c.args.moment c.args.n c.args.size c.in_ok-count.count
     c.in_ok-count.ensures.led _ _
-    (asked_done g.S.FileService.machine c.args.moment c.lists.ensures.made c.in_ok-ask_all.ensures) _
-    (asked_done g.S.FileService.machine c.args.moment (two_made c.goes_to.ensures.made c.takes.ensures.made)
+    (asked_done g.S.FileService.machine c.args.moment c.lists.ensures c.in_ok-ask_all.ensures) _
+    (asked_done g.S.FileService.machine c.args.moment (two_made c.goes_to.ensures c.takes.ensures)
     c.in_ok-ask_all-2.ensures) _ _ _ (handed_on p.1 p.2) (λ next. c.in_err-block.ensures c.args.moment next)
 
 pub returns : goal.returns
 returns g c =
     read_last g.S.FileService.machine _ _ c.args.moment c.args.n c.args.size c.in_ok-count.count
     c.in_ok-count.ensures.led _ _
-    (asked_done g.S.FileService.machine c.args.moment c.lists.ensures.made c.in_ok-ask_all.ensures) _
-    (asked_done g.S.FileService.machine c.args.moment (two_made c.goes_to.ensures.made c.takes.ensures.made)
+    (asked_done g.S.FileService.machine c.args.moment c.lists.ensures c.in_ok-ask_all.ensures) _
+    (asked_done g.S.FileService.machine c.args.moment (two_made c.goes_to.ensures c.takes.ensures)
     c.in_ok-ask_all-2.ensures) _ tt (take c.in_ok-count.count c.in_ok-block.block) _
     (λ next. c.in_ok-block.ensures c.args.moment next) c.push.ensures
