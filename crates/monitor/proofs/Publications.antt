@@ -23,7 +23,6 @@ use Rattle.volume.specs.declared.live.LiveVersion.{LiveVersion}
 use Rattle.volume.specs.declared.pending.PendingVersion.{PendingVersion}
 use Rattle.volume.proofs.PublishedPlaces.{published_named}
 use Rattle.monitor.specs.Dropping.{Closes}
-use Rattle.monitor.specs.Events.{IsIdle}
 use Rattle.monitor.specs.Lists.{unpublished_by}
 use Rattle.monitor.specs.Publishing.{MayPublish, HasPublished, IsPublishing}
 use Rattle.monitor.specs.Putting.{FindsNone}
@@ -91,18 +90,6 @@ module _ (d d' : DiskState) (c c' : VolumeCore) (failed failed' : Bool) (channel
     pub answered_error : (e : CallError) (reply : Reply) → r ≡ Err e → reply ≡ unpublished_by channel e
         → Answered reply
     answered_error e reply is same = subst Answered (sym same) (by_error e is)
-
--- an error with which nothing is touched
-pub idle_error : {Same T : Type 0} (channel : Channel) (r : Result T CallError) (e : CallError) (reply : Reply)
-    → r ≡ Err e → reply ≡ unpublished_by channel e → ((code : ErrorCode) → IsErrOf r (Refused code) → Same)
-    → (IsErrOf r NoMemory → Same) → IsIdle reply → Same
-idle_error {Same} channel r e reply is same refused memory idle = by e is (subst IsIdle same idle)
-  where
-    by : (e : CallError) → r ≡ Err e → IsIdle (unpublished_by channel e) → Same
-    by (Refused code) is idle = refused code is
-    by NoMemory is idle = memory is
-    by Device is idle = absurd idle
-    by Failed is idle = absurd idle
 
 -- Output sides.
 
