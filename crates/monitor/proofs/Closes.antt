@@ -228,6 +228,19 @@ module _ (c c' : VolumeCore) (job job' : Job) (number : ℕ) (open_as : Channel)
     };
   })
 
+-- the ring of an input side that is let go
+pub ends_is : (c : Channel) (bits : ℕ) (released : Option Input) → released ≡ input_released c.input bits → (ends : Bool)
+    → ends ≡ (is_some released && not (discards bits))
+    → ends ≡ (is_some c.input && not (keeps_input bits) && not (discards bits))
+ends_is c bits released is ends marks =
+    marks ∙ ap (λ r. is_some r && not (discards bits)) is ∙ by c.input (keeps_input bits) (not (discards bits))
+  where
+    by : (i : Option Input) (k b : Bool) → (is_some (if k then None else i) && b) ≡ (is_some i && not k && b)
+    by None true b = refl
+    by None false b = refl
+    by (Some i) true b = refl
+    by (Some i) false b = refl
+
 pub closed_back : (job job' : Job) (number bits : ℕ) (c : Channel) (core : List ℕ) (status : ℕ) (input : Option Input)
     (output : Option Output) → status ≡ cleared c.status → input ≡ input_left c.input bits
     → output ≡ output_left c.output bits

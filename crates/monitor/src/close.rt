@@ -1,5 +1,5 @@
 ghost use Rattle.std.specs.Prelude.{if◌then◌else◌, IfSome, ◌≡◌, ◌≤◌, ℕ, Some, None, true, false, ◌<◌, ◌+◌, ◌^◌, IsSome};
-ghost use Rattle.std.specs.Prelude.{is_some};
+ghost use Rattle.std.specs.Prelude.{◌&&◌, not, is_some};
 ghost use Rattle.meaning.specs.Jobs.{slot};
 ghost use Rattle.meaning.specs.Maps.{times};
 ghost use Rattle.meaning.specs.declared.call.Call.TheVariants.{Close};
@@ -99,6 +99,14 @@ fn header_if(closes: bool, header: u32) -> u32
     if closes { header } else { 0 }
 }
 
+/// Whether a CLOSE with these bits marks the ring of an input side that it lets go, if any.
+fn ends_ring(released: Option<Input>, bits: u32) -> bool
+    ensures { result ≡ (is_some released && not (discards bits)) }
+{
+    let discards = bits / 0o40 % 2 == 1;
+    released.is_some() && !discards
+}
+
 /// Marks the headers of a channel's rings where their sides close. In dump mode there is no ring.
 pub fn close_rings(core: &mut Core, channel: &Channel, closes_output: bool, closes_input: bool)
     ensures { core.new ≡ rings_closed core.old channel.now closes_output closes_input }
@@ -143,8 +151,7 @@ fn close<D: Disk>(volume: &mut Volume<D>, job: &mut Job, number: u32, bits: u32)
     let (input, released) = parted(channel.input, bits / 2 % 2 == 1);
     drop_output(volume, dropped);
     release_input(volume, released);
-    let discards = bits / 0o40 % 2 == 1;
-    close_rings(&mut job.core, &channel, false, released.is_some() && !discards);
+    close_rings(&mut job.core, &channel, false, ends_ring(released, bits));
     let closed = Channel {
         status: cleared(channel.status),
         input,
