@@ -100,8 +100,8 @@ fn header_if(closes: bool, header: u32) -> u32
 }
 
 /// Whether a CLOSE with these bits marks the ring of an input side that it lets go, if any.
-fn ends_ring(released: Option<Input>, bits: u32) -> bool
-    ensures { result ≡ (is_some released && not (discards bits)) }
+fn ends_ring(released: &Option<Input>, bits: u32) -> bool
+    ensures { result ≡ (is_some released.now && not (discards bits)) }
 {
     let discards = bits / 0o40 % 2 == 1;
     released.is_some() && !discards
@@ -149,9 +149,10 @@ fn close<D: Disk>(volume: &mut Volume<D>, job: &mut Job, number: u32, bits: u32)
     };
     let (output, dropped) = parted(channel.output, bits % 2 == 1);
     let (input, released) = parted(channel.input, bits / 2 % 2 == 1);
+    let ends = ends_ring(&released, bits);
     drop_output(volume, dropped);
     release_input(volume, released);
-    close_rings(&mut job.core, &channel, false, ends_ring(released, bits));
+    close_rings(&mut job.core, &channel, false, ends);
     let closed = Channel {
         status: cleared(channel.status),
         input,

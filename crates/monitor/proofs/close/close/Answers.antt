@@ -37,9 +37,9 @@ release_input-requires g c = record {
 pub returns-clause-row : goal.returns-clause-row
 returns-clause-row g c =
     let ends = ends_is c.in-Some.channel c.args.bits c.parted.result.1 c.parted.ensures.closed
-    c.ends_ring.result c.ends_ring.ensures in
+    c.ends_ring-ends.result c.ends_ring-ends.ensures in
     close_row c.args.job.now c.set_channel.new.self c.args.number c.args.bits c.in-Some.channel (sym c.channel.ensures
-    ∙ c.in-Some.is) c.requires.unpublished c.ends_ring.result ends
+    ∙ c.in-Some.is) c.requires.unpublished c.ends_ring-ends.result ends
     (closed_back c.args.job.now c.set_channel.new.self c.args.number c.args.bits c.in-Some.channel
     c.close_rings.new.core c.cleared.result
     c.parted.result.0 c.parted-output.result.0 c.cleared.ensures.value c.parted.ensures.kept
