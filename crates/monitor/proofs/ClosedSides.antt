@@ -1,23 +1,24 @@
 -- What a CLOSE or RELEAS promises that publishes: the sides let go or held behind it, and the machine's row.
-use Rattle.std.proofs.Common.{◌≡◌, ◌≤◌, ℕ, Bool, true, false, List, Option, Some, None, Ok, refl, sym, ap, subst, ◌∙◌}
-use Rattle.std.proofs.Common.{slice_set}
-use Rattle.std.specs.Prelude.{if◌then◌else◌, option_map, IsSome}
+use Rattle.std.proofs.Common.{◌≡◌, ◌≤◌, ℕ, Bool, true, false, List, length, Option, Some, None, Ok, refl, sym, ap, subst}
+use Rattle.std.proofs.Common.{◌∙◌, slice_set}
+use Rattle.std.specs.Prelude.{◌&&◌, not, if◌then◌else◌, is_some, option_map, IsSome}
 use Rattle.std.specs.Cmp.{nat_cmp_total}
 use Rattle.words36.specs.declared.moment.Moment.{Moment}
 use Rattle.words36.specs.declared.names.FileName.{FileName}
-use Rattle.blockdisk.specs.Disk.{Contents, DiskState}
+use Rattle.blockdisk.specs.Disk.{Contents, DiskState, LeavesOnly}
 use Rattle.meaning.specs.Closing.{keeps_output, keeps_input, discards}
 use Rattle.meaning.specs.Files.{File, Files, Directory, Place, map_directory}
 use Rattle.meaning.specs.Jobs.{State, slot}
 use Rattle.meaning.specs.Maps.{get, insert}
+use Rattle.meaning.specs.Outputs.{finds_no_place}
 use Rattle.meaning.specs.Published.{Version, without_serials, file_in, file_at, with_file, with_file_in}
 use Rattle.meaning.specs.Runs.{AreDistinct}
-use Rattle.meaning.specs.Stands.{place_of}
+use Rattle.meaning.specs.Stands.{Stands, place_of}
 use Rattle.meaning.specs.Step.{step}
 use Rattle.meaning.specs.declared.call.Call.TheVariants.{Close, Releas}
 use Rattle.meaning.specs.declared.call.Event.TheVariants.{Call as Calls}
 use Rattle.meaning.specs.declared.call.Reply.{Reply}
-use Rattle.meaning.specs.declared.call.Reply.TheVariants.{Done, NoMemory}
+use Rattle.meaning.specs.declared.call.Reply.TheVariants.{Done}
 use Rattle.meaning.proofs.MapLaws.{some_none, get-insert_same}
 use Rattle.meaning.proofs.Names.{name_total}
 use Rattle.meaning.proofs.PlaceLaws.{some_is}
@@ -28,13 +29,15 @@ use Rattle.volume.specs.Rest.{RestsAt, IsSound}
 use Rattle.volume.specs.declared.handles.Pin.{Pin}
 use Rattle.volume.specs.declared.live.LiveVersion.{LiveVersion}
 use Rattle.volume.specs.declared.pending.PendingVersion.{PendingVersion}
-use Rattle.monitor.specs.Closing.{both_closed, output_closed}
+use Rattle.monitor.specs.Closing.{both_closed, output_closed, rings_closed, closed_in, left_open}
 use Rattle.monitor.specs.Dropping.{Leaves}
-use Rattle.monitor.specs.Publishing.{HasPublished, IsPublishing, PublishesBy, IsPublishRow, CrashesAsRow, StillStands}
+use Rattle.monitor.specs.Events.{IsIdle}
+use Rattle.monitor.specs.Publishing.{last_at, HasPublished, IsPublishing, PublishesBy, IsPublishRow, CrashesAsRow}
+use Rattle.monitor.specs.Publishing.{StillStands}
 use Rattle.monitor.specs.Readers.{ArePinned, AreRead}
 use Rattle.monitor.specs.Renewing.{Renews}
 use Rattle.monitor.specs.Serving.{pack_of, IsState}
-use Rattle.monitor.specs.Sides.{UnderKeys, readers, pins_of, jobs_of, state_of}
+use Rattle.monitor.specs.Sides.{UnderKeys, readers, pins_of, input_of, output_of, jobs_of, state_of}
 use Rattle.monitor.specs.declared.channel.Channel.{Channel}
 use Rattle.monitor.specs.declared.input.Input.{Input}
 use Rattle.monitor.specs.declared.output.Output.{Output}
@@ -45,17 +48,19 @@ use Rattle.monitor.proofs.LookupCalls.{with_version}
 use Rattle.monitor.proofs.Publications.{IsBehind, readers_behind, renewed_behind}
 use Rattle.monitor.proofs.PublishedAnswers.{GoesOn, still_stand, crashes_as, published_answered}
 use Rattle.monitor.proofs.PublishedFiles.{versions_in}
-use Rattle.monitor.proofs.PublishedRows.{version_with, channel_both, channel_renewed, close_weighs, close_reply}
-use Rattle.monitor.proofs.PublishedRows.{close_files, close_step, release_weighs, release_step}
+use Rattle.monitor.proofs.PublishedRows.{version_with, channel_both, channel_renewed, close_rows, close_step}
+use Rattle.monitor.proofs.PublishedRows.{release_rows, release_step}
 use Rattle.monitor.proofs.ReadingJobs.{reads_left}
 use Rattle.monitor.proofs.ReadsPinned.{with_read, with_read_same}
 use Rattle.monitor.proofs.Renewals.{renewed_pending, renewed_jobs, renewed_reads}
+use Rattle.monitor.proofs.RingsClosed.{is_mapped, rings_marked, input_ends, input_stays}
 
 -- what is said of an answer that is Done
-pub has_published : {d d' : DiskState} {c b : VolumeCore} {failed failed' : Bool} {key : ℕ} {reply : Reply}
-    → PublishesBy d d' c b failed failed' key reply → reply ≡ Done → HasPublished d d' c b key
-has_published {d} {d'} {c} {b} {failed} {failed'} {key} {reply} by done =
-    (subst (IsPublishing d d' c b failed failed' key) done by.answered).0
+pub has_published : {d d' : DiskState} {c b : VolumeCore} {failed failed' : Bool} {channel : Channel} {o : Output}
+    {last : Option (List ℕ)} {reply : Reply} → PublishesBy d d' c b failed failed' channel o last reply → reply ≡ Done
+    → IsPublishing d d' c b failed failed' channel o last Done
+has_published {d} {d'} {c} {b} {failed} {failed'} {channel} {o} {last} by done =
+    subst (IsPublishing d d' c b failed failed' channel o last) done by.answered
 
 -- A version is held of a directory that there is, and a version that is put there is the file of its place.
 
@@ -97,8 +102,7 @@ pub record HoldsPublished (d' : DiskState) (c b c' : VolumeCore) (key : ℕ) (jo
   pub whole : IsWholeCore d'.size b
   pub pinned : d'.honest → (files : Files File) → RestsAt d' files
       → IsPinAnswer d'.contents renews.between.live file (Ok renewed.pin) (get files ppn)
-  pub job_is : job'
-      ≡ record job { channels = slice_set job.channels number (Some (output_closed channel renewed)) }
+  pub job_is : job' ≡ closed_in job number channel true false (Some (output_closed channel renewed))
 
 -- so it is where a side was renewed, and the disk left alone
 pub holds_published : {D : Type 0} (state : D → DiskState) (mid new : D) (c b c' : VolumeCore) (failed : Bool) (key : ℕ)
@@ -107,7 +111,7 @@ pub holds_published : {D : Type 0} (state : D → DiskState) (mid new : D) (c b 
     × ((state new).honest → (files : Files File) → RestsAt (state mid) files
     → IsPinAnswer (state mid).contents is.between.live prime.file (Ok is.held.pin) (get files prime.ppn)))
     → ((p : PendingVersion) → pending_at c.pending key ≡ Some p → prime ≡ p.prime)
-    → job' ≡ record job { channels = slice_set job.channels number (Some (output_closed channel renewed)) }
+    → job' ≡ closed_in job number channel true false (Some (output_closed channel renewed))
     → HoldsPublished (state new) c b c' key job job' number channel input
 holds_published state mid new c b c' failed key job job' number channel input renewed prime same sound renews of set =
     record {
@@ -128,90 +132,103 @@ holds_published state mid new c b c' failed key job job' number channel input re
       job_is = set;
     }
 
+-- An input side ends with the output side but where it is kept.
+
+ends_output : (w : UnderKeys) (channel : Channel) (o : Output) (bits : ℕ) → channel.output ≡ Some o
+    → keeps_output bits ≡ false → (is_some (option_map (output_of w) channel.output) && not (keeps_output bits)) ≡ true
+ends_output w channel o bits side drops = λ i. is_some (option_map (output_of w) (side i)) && not (drops i)
+
+ends_input : (w : UnderKeys) (channel : Channel) (bits : ℕ) → (if keeps_input bits then channel.input else None) ≡ None
+    → (is_some (option_map (input_of w) channel.input) && not (keeps_input bits)) ≡ is_some channel.input
+ends_input w channel bits none = ap (λ b. b && not (keeps_input bits)) (is_mapped (input_of w) channel.input)
+    ∙ input_ends channel.input (keeps_input bits) none
+
 module _ {d d' : DiskState} {c b : VolumeCore} {failed failed' : Bool} {reply : Reply} (c' : VolumeCore) (o : Output)
-    (by : PublishesBy d d' c b failed failed' o.pending.key reply) (live : IsSome (pending_at c.pending o.pending.key))
     (job job' : Job) (number : ℕ) (channel : Channel) (there : slot job.channels number ≡ Some channel)
-    (side : channel.output ≡ Some o) where
+    (side : channel.output ≡ Some o)
+    (by : PublishesBy d d' c b failed failed' channel o (last_at job.core channel) reply)
+    (live : IsSome (pending_at c.pending o.pending.key)) where
   abbrev key : ℕ
   key = o.pending.key
 
   -- A crash.
+  module _ (sound : IsSound d c failed) (alive : failed ≡ false) (idle : IsIdle reply → d'.honest
+      → (f : Files File) → RestsAt d f → LeavesOnly d d' (λ contents. Stands d.size contents f)) where
+    pub close_crashes : (bits : ℕ) → keeps_output bits ≡ false → discards bits ≡ false
+        → CrashesAsRow d d' c job (Close number bits)
+    close_crashes bits drops publishes_it honest jobs n moment at timely s state =
+        crashes_as (Close number bits) moment jobs n job number channel o at there
+        (close_rows d jobs n moment timely job at number channel there o side bits drops publishes_it) by live sound
+        alive honest s state (λ idles. idle idles honest (without_serials s.files) state.files)
 
-  pub close_crashes : (bits : ℕ) → keeps_output bits ≡ false → discards bits ≡ false
-      → CrashesAsRow d d' c job (Close number bits)
-  close_crashes bits drops publishes_it honest jobs n moment at timely s state =
-      crashes_as d c key (Close number bits) jobs n moment s state d' b by.whatever live honest
-      (λ files u. close_files d jobs n moment timely files u job at number channel there o side bits drops
-      publishes_it 0)
+    pub release_crashes : CrashesAsRow d d' c job (Releas number)
+    release_crashes honest jobs n moment at timely s state =
+        crashes_as (Releas number) moment jobs n job number channel o at there
+        (release_rows d jobs n moment timely job at number channel there o side) by live sound alive honest s state
+        (λ idles. idle idles honest (without_serials s.files) state.files)
 
-  pub release_crashes : CrashesAsRow d d' c job (Releas number)
-  release_crashes honest jobs n moment at timely s state =
-      crashes_as d c key (Releas number) jobs n moment s state d' b by.whatever live honest
-      (λ files u. ap (λ (r : Reply × State). r.1.files)
-      (release_step d jobs n moment timely files u job at number channel there o side _ refl 0))
-
-  module _ (kept : (reply ≡ Done → ⊥) → job' ≡ job) (behind : reply ≡ Done → IsBehind c b c' job job') where
+  module _ (kept : (reply ≡ Done → ⊥) → job' ≡ left_open job number channel reply)
+      (behind : reply ≡ Done → IsBehind c b c' job job') where
     -- What is written and read is what the jobs have.
-    pub sides_stand : (reply ≡ NoMemory → c' ≡ c) → StillStands c c' failed' job job'
+    pub sides_stand : (IsIdle reply → c' ≡ c) → StillStands c c' failed' job job'
     sides_stand same jobs n at keyed placed reading serves =
-        still_stand d d' c b c' failed failed' key jobs n job job' at by.whatever live reply kept behind same keyed
-        placed reading serves by.answered
+        still_stand c' jobs n job job' number channel o at there (last_at job.core channel) by live kept behind same
+        keyed placed reading serves
 
     -- The machine's row.
-    module _ (unchanged : reply ≡ NoMemory → (jobs : List (Option Job)) (s : State) → IsState d c jobs s
-        → IsState d' c' jobs s) (alive : failed ≡ false) (whole : IsWholeCore d.size c) where
+    module _ (unchanged : IsIdle reply → (jobs : List (Option Job)) (s : State) → IsState d c jobs s
+        → IsState d' c' jobs s) (sound : IsSound d c failed) (alive : failed ≡ false) where
       -- where versions are let go
       module _ (leaves : reply ≡ Done → Leaves b c') where
         pub closed_row : (bits : ℕ) → keeps_output bits ≡ false → discards bits ≡ false
             → (if keeps_input bits then channel.input else None) ≡ None
             → (reply ≡ Done
-            → job' ≡ record job { channels = slice_set job.channels number (Some (both_closed channel)) })
+            → job' ≡ closed_in job number channel true (is_some channel.input) (Some (both_closed channel)))
             → IsPublishRow d d' c c' failed' job job' (Close number bits) reply
         closed_row bits drops publishes_it none set honest placed jobs n moment at timely s state =
-            published_answered d c key (Close number bits) jobs n moment s state d' b by.whatever live honest c' failed
-            failed' job job' at alive placed whole
-            (λ files u. close_weighs d jobs n moment timely files u job at number channel there o side bits drops
-            publishes_it)
-            (λ files u. close_reply d jobs n moment timely files u job at number channel there o side bits drops
-            publishes_it 0)
-            reply kept behind
-            (λ done has serial fresh rests distinct reads. (
+            published_answered (Close number bits) moment jobs n job number channel o at there
+            (close_rows d jobs n moment timely job at number channel there o side bits drops publishes_it) by live sound
+            alive honest s state c' job' placed kept behind
+            (λ done last found place has serial fresh rests distinct reads. (
               state.under.read,
               reads_left d' b c' _ state.under.read (leaves done) reads,
               subst (λ t. step (pack_of d) serial t (Calls n (Close number bits) moment)
                   ≡ (
                     Done,
                     state_of (with_file s.files (state.under.written key).place
-                        (version_with (state.under.written key) serial)) state.under (slice_set jobs n (Some job')),
+                        (version_with (state.under.written key) o.next last serial)) state.under
+                        (slice_set jobs n (Some job')),
                   )) (sym (state_is s state.under jobs state.jobs_are))
-                  (close_step d jobs n moment timely s.files state.under job at number channel there o side bits drops
-                  publishes_it serial (both_closed channel)
-                  (channel_both state.under channel o bits side drops publishes_it serial job none) job' (set done)),
-            ))
-            (λ short. unchanged short jobs s) by.answered
+                  (close_step d jobs n moment timely job at number channel there o side bits drops publishes_it s.files
+                  state.under serial last found place (both_closed channel) true (is_some channel.input)
+                  (channel_both state.under channel o bits side drops publishes_it serial job none)
+                  (rings_marked job.core state.under channel bits true (is_some channel.input)
+                  (ends_output state.under channel o bits side drops) (ends_input state.under channel bits none)
+                  publishes_it) job' (set done)),
+            )) unchanged
 
-        pub released_row : (reply ≡ Done → job' ≡ record job { channels = slice_set job.channels number None })
+        pub released_row : (reply ≡ Done → job' ≡ closed_in job number channel true (is_some channel.input) None)
             → IsPublishRow d d' c c' failed' job job' (Releas number) reply
         released_row set honest placed jobs n moment at timely s state =
-            published_answered d c key (Releas number) jobs n moment s state d' b by.whatever live honest c' failed
-            failed' job job' at alive placed whole
-            (λ files u. release_weighs d jobs n moment timely files u job at number channel there o side)
-            (λ files u. ap (λ (r : Reply × State). r.0)
-            (release_step d jobs n moment timely files u job at number channel there o side _ refl 0))
-            reply kept behind
-            (λ done has serial fresh rests distinct reads. (
+            published_answered (Releas number) moment jobs n job number channel o at there
+            (release_rows d jobs n moment timely job at number channel there o side) by live sound alive honest s state
+            c' job' placed kept behind
+            (λ done last found place has serial fresh rests distinct reads. (
               state.under.read,
               reads_left d' b c' _ state.under.read (leaves done) reads,
               subst (λ t. step (pack_of d) serial t (Calls n (Releas number) moment)
                   ≡ (
                     Done,
                     state_of (with_file s.files (state.under.written key).place
-                        (version_with (state.under.written key) serial)) state.under (slice_set jobs n (Some job')),
+                        (version_with (state.under.written key) o.next last serial)) state.under
+                        (slice_set jobs n (Some job')),
                   )) (sym (state_is s state.under jobs state.jobs_are))
-                  (release_step d jobs n moment timely s.files state.under job at number channel there o side job'
-                  (set done) serial),
-            ))
-            (λ short. unchanged short jobs s) by.answered
+                  (release_step d jobs n moment timely job at number channel there o side s.files state.under serial
+                  last found place true (is_some channel.input)
+                  (rings_marked job.core state.under channel 0 true (is_some channel.input)
+                  (ends_output state.under channel o 0 side refl) (ends_input state.under channel 0 refl) refl) job'
+                  (set done)),
+            )) unchanged
 
       -- where what is published is held
       module _ (input : Input) (reads_it : channel.input ≡ Some input)
@@ -219,14 +236,16 @@ module _ {d d' : DiskState} {c b : VolumeCore} {failed failed' : Bool} {reply : 
           (drops : keeps_output bits ≡ false) (publishes_it : discards bits ≡ false)
           (keeps : keeps_input bits ≡ true) where
         module _ (jobs : List (Option Job)) (n : ℕ) (moment : Moment) (at : slot jobs n ≡ Some job)
-            (timely : moment.date ≤ 4095) (s : State) (state : IsState d c jobs s) (honest : d'.honest) (serial : ℕ)
-            (has : HasPublished d d' c b key)
+            (timely : moment.date ≤ 4095) (s : State) (state : IsState d c jobs s) (honest : d'.honest) (last : List ℕ)
+            (found : last_at job.core channel ≡ Some last)
+            (finds : finds_no_place (pack_of d) (state_of s.files state.under jobs) (output_of state.under o)
+            (length last) ≡ false) (serial : ℕ) (has : HasPublished d d' c b o last)
             (h : HoldsPublished d' c b c' key job job' number channel input) where
           abbrev w : UnderKeys
           w = state.under
 
           abbrev x : Version
-          x = version_with (w.written key) serial
+          x = version_with (w.written key) o.next last serial
 
           abbrev files' : Files Version
           files' = with_file s.files (w.written key).place x
@@ -255,7 +274,7 @@ module _ {d d' : DiskState} {c b : VolumeCore} {failed failed' : Bool} {reply : 
                 (get (without_serials files') h.ppn) answer))
 
             pinned : ArePinned b.live (pins_of (readers jobs))
-            pinned k = state.reading.pinned k ∙ sym (readers_behind o by.whatever has live k)
+            pinned k = state.reading.pinned k ∙ sym (readers_behind o (by.whatever last found) has live k)
 
             jobs_same : jobs_of u jobs ≡ jobs_of w jobs
             jobs_same = renewed_jobs b c' input h.renewed h.ppn h.file h.protection h.renews d' files' w.read reads h.whole x it_is
@@ -272,39 +291,43 @@ module _ {d d' : DiskState} {c b : VolumeCore} {failed failed' : Bool} {reply : 
                 ap (λ (i : Input). i.protection) h.renews.renewed_is ∙ (h.place p.0 p.1).2
                 ∙ sym (state.versions key p.0 p.1).protection
 
-            renewed_goes : GoesOn d c key (Close number bits) jobs n moment s state d' b by.whatever live honest c' job'
-                serial
+            finds_still : finds_no_place (pack_of d) (state_of s.files u jobs) (output_of u o) (length last) ≡ false
+            finds_still = ap (λ js. finds_no_place (pack_of d) (record { files = s.files; jobs = js }) (output_of w o)
+                (length last)) jobs_same ∙ finds
+
+            renewed_goes : GoesOn (Close number bits) moment jobs n job number channel o at there
+                (close_rows d jobs n moment timely job at number channel there o side bits drops publishes_it) by live
+                sound alive honest s state c' job' last serial
             renewed_goes = (
               with_read w.read h.renewed.pin.key x,
-              renewed_reads b c' input h.renewed h.ppn h.file h.protection h.renews d' files' w.read reads h.whole x it_is distinct
-                  answer,
+              renewed_reads b c' input h.renewed h.ppn h.file h.protection h.renews d' files' w.read reads h.whole x
+                  it_is distinct answer,
               subst (λ t. step (pack_of d) serial t (Calls n (Close number bits) moment)
                   ≡ (Done, state_of files' u (slice_set jobs n (Some job'))))
                   (sym (state_is s u jobs (state.jobs_are ∙ sym jobs_same)))
-                  (close_step d jobs n moment timely s.files u job at number channel there o side bits drops
-                  publishes_it serial (output_closed channel h.renewed)
-                  (channel_renewed u channel o bits side drops publishes_it serial job input h.renewed reads_it keeps
-                  pin_only protected (with_read_same w.read h.renewed.pin.key x h.renewed.pin.key refl)) job' h.job_is),
+                  (close_step d jobs n moment timely job at number channel there o side bits drops publishes_it s.files
+                  u serial last found finds_still (output_closed channel h.renewed) true false
+                  (channel_renewed u channel o bits side drops publishes_it serial job last found input h.renewed
+                  reads_it keeps pin_only protected
+                  (with_read_same w.read h.renewed.pin.key x h.renewed.pin.key refl))
+                  (rings_marked job.core u channel bits true false (ends_output u channel o bits side drops)
+                  (input_stays (is_some (option_map (input_of u) channel.input)) (keeps_input bits) keeps)
+                  publishes_it) job' h.job_is),
             )
 
         pub renewed_row : IsPublishRow d d' c c' failed' job job' (Close number bits) reply
         renewed_row honest placed jobs n moment at timely s state =
-            published_answered d c key (Close number bits) jobs n moment s state d' b by.whatever live honest c' failed
-            failed' job job' at alive placed whole
-            (λ files u. close_weighs d jobs n moment timely files u job at number channel there o side bits drops
-            publishes_it)
-            (λ files u. close_reply d jobs n moment timely files u job at number channel there o side bits drops
-            publishes_it 0)
-            reply kept behind
-            (λ done has serial fresh rests distinct reads. renewed_goes jobs n moment at timely s state honest serial
-            has (holds done) rests distinct reads)
-            (λ short. unchanged short jobs s) by.answered
+            published_answered (Close number bits) moment jobs n job number channel o at there
+            (close_rows d jobs n moment timely job at number channel there o side bits drops publishes_it) by live sound
+            alive honest s state c' job' placed kept behind
+            (λ done last found place has serial fresh rests distinct reads. renewed_goes jobs n moment at timely s state
+            honest last found place serial has (holds done) rests distinct reads) unchanged
 
   -- what is held is all that is behind it
   pub holds_behind : (input : Input) → channel.input ≡ Some input
-      → HoldsPublished d' c b c' key job job' number channel input → HasPublished d d' c b key
-      → IsBehind c b c' job job'
-  holds_behind input reads h has =
-      renewed_behind o by.whatever has live c' job job' number channel there side
+      → HoldsPublished d' c b c' key job job' number channel input → reply ≡ Done → IsBehind c b c' job job'
+  holds_behind input reads h done =
+      let is = has_published by done in
+      renewed_behind o (by.whatever is.0 is.1) is.2 live c' job job' number channel there side
       (renewed_pending b c' input h.renewed h.ppn h.file h.protection h.renews) input h.renewed h.ppn h.file h.protection
-      (output_closed channel h.renewed) reads refl refl h.job_is h.renews
+      (output_closed channel h.renewed) (rings_closed job.core channel true false) reads refl refl h.job_is h.renews

@@ -5,7 +5,7 @@ use Rattle.std.specs.List.{AllByRecursion}
 use Rattle.std.specs.Prelude.{◌&&◌, ◌≤◌, not, if◌then◌else◌, is_some, option_map, option_to_list}
 use Rattle.meaning.specs.Closing.{keeps_output, keeps_input, discards, publishes, close_answer, close_done, closes}
 use Rattle.meaning.specs.Closing.{releases, last_answer, last_buffer, files_closed, files_with, output_put}
-use Rattle.meaning.specs.Closing.{channel_closed, holding, published}
+use Rattle.meaning.specs.Closing.{channel_closed, core_closed, holding, published}
 use Rattle.meaning.specs.Jobs as machine
 use Rattle.meaning.specs.Jobs.{State, slot, with_channel, cleared}
 use Rattle.meaning.specs.Maps.{times}
@@ -19,6 +19,7 @@ use Rattle.meaning.specs.declared.call.Reply.TheVariants.{Done, NoChannel}
 use Rattle.volume.specs.Live.{VolumeCore, pending_at}
 use Rattle.volume.specs.Live.{slot as version_at}
 use Rattle.volume.specs.declared.pending.PendingVersion.{PendingVersion}
+use Rattle.monitor.specs.Closing.{rings_closed, closed_in}
 use Rattle.monitor.specs.Dropping.{Closes}
 use Rattle.monitor.specs.Readers.{readers_of}
 use Rattle.monitor.specs.Rows.{IsRow, Keeps, KeepsReading, publishes_at}
@@ -33,6 +34,7 @@ use Rattle.monitor.proofs.Calling.{channel_is, channel_set}
 use Rattle.monitor.proofs.Dropped.{closes_on, same_or_not}
 use Rattle.monitor.proofs.ReaderLists.{held, held-channel}
 use Rattle.monitor.proofs.ReadingJobs.{length-slice_set}
+use Rattle.monitor.proofs.RingsClosed.{is_mapped, rings_unpublished}
 use Rattle.monitor.proofs.SideLists.{count, count-channel, each-channel, each-side}
 use Rattle.monitor.proofs.Usetos.{on_none}
 
@@ -58,12 +60,8 @@ closed_as c bits = record c {
 }
 
 module _ (w : UnderKeys) (c : Channel) (bits : ℕ) (unpublished : publishes_at (Some c) bits ≡ false) where
-  some_output : (o : Option Output) → is_some (option_map (output_of w) o) ≡ is_some o
-  some_output None = refl
-  some_output (Some o) = refl
-
   machine_unpublished : publishes (channel_of w c) bits ≡ false
-  machine_unpublished = ap (λ b. b && not (keeps_output bits) && not (discards bits)) (some_output c.output)
+  machine_unpublished = ap (λ b. b && not (keeps_output bits) && not (discards bits)) (is_mapped (output_of w) c.output)
       ∙ unpublished
 
   input_is : (k p : Bool) (held : Option machine.Input) → p ≡ false
@@ -100,18 +98,25 @@ module _ (w : UnderKeys) (c : Channel) (bits : ℕ) (unpublished : publishes_at 
           output = output_is (keeps_output bits) i;
         }
 
-    pub closes_is : closes pack serial s (job_of w job) number (channel_of w c) bits
-        ≡ (
-          Done,
-          (job_of w (record job { channels = slice_set job.channels number (Some (closed_as c bits)) }), s.files),
-        )
-    closes_is =
+    -- its rings are left alone, but for an input side's that closes
+    pub closes_is : (ends : Bool) → ends ≡ (is_some c.input && not (keeps_input bits) && not (discards bits))
+        → closes pack serial s (job_of w job) number (channel_of w c) bits
+        ≡ (Done, (job_of w (closed_in job number c false ends (Some (closed_as c bits))), s.files))
+    closes_is ends is =
         ap (λ r. settled r (
           close_done serial (job_of w job) number (channel_of w c) bits,
           files_closed serial s.files (job_of w job) (channel_of w c) bits,
         ) (λ reply. (stopped_in (job_of w job) number (channel_of w c) reply, s.files))) answer_done
-        ∙ (λ i. (Done, (with_channel (job_of w job) number (Some (channel_same i)), files_same i)))
-        ∙ ap (λ j. (Done, (j, s.files))) (channel_set w job number (Some (closed_as c bits)))
+        ∙ (λ i. (
+          Done,
+          (
+            with_channel (record (job_of w job) { core = rings_unpublished job.core w c bits unpublished ends is i })
+                number (Some (channel_same i)),
+            files_same i,
+          ),
+        ))
+        ∙ ap (λ j. (Done, (j, s.files)))
+        (channel_set w (record job { core = rings_closed job.core c false ends }) number (Some (closed_as c bits)))
 
 pub close_none : (job : Job) (number bits : ℕ) → slot job.channels number ≡ None
     → IsRow job job (Close number bits) NoChannel
@@ -119,14 +124,14 @@ close_none job number bits none pack serial s n w moment at = on_none s n w job 
     (λ c. of_files s n (closes pack serial s (job_of w job) number c bits)) none at
 
 pub close_row : (job job' : Job) (number bits : ℕ) (c : Channel) → slot job.channels number ≡ Some c
-    → publishes_at (slot job.channels number) bits ≡ false
-    → job' ≡ record job { channels = slice_set job.channels number (Some (closed_as c bits)) }
-    → IsRow job job' (Close number bits) Done
-close_row job job' number bits c there unpublished set pack serial s n w moment at =
+    → publishes_at (slot job.channels number) bits ≡ false → (ends : Bool)
+    → ends ≡ (is_some c.input && not (keeps_input bits) && not (discards bits))
+    → job' ≡ closed_in job number c false ends (Some (closed_as c bits)) → IsRow job job' (Close number bits) Done
+close_row job job' number bits c there unpublished ends is set pack serial s n w moment at =
     ap (λ o. on_channel s o (λ x. of_files s n (closes pack serial s (job_of w job) number x bits)))
     (channel_is w job number (Some c) there)
     ∙ ap (of_files s n) (closes_is w c bits (sym (ap (λ o. publishes_at o bits) there)
-    ∙ unpublished) pack serial s job number ∙ ap (λ j. (Done, (job_of w j, s.files))) (sym set))
+    ∙ unpublished) pack serial s job number ends is ∙ ap (λ j. (Done, (job_of w j, s.files))) (sym set))
 
 -- RELEAS
 
@@ -136,19 +141,35 @@ release_none job number none pack serial s n w moment at = on_none s n w job num
 
 pub release_row : (job job' : Job) (number : ℕ) (c : Channel) → slot job.channels number ≡ Some c
     → publishes_at (slot job.channels number) 0 ≡ false
-    → job' ≡ record job { channels = slice_set job.channels number None } → IsRow job job' (Releas number) Done
+    → job' ≡ closed_in job number c false (is_some c.input) None → IsRow job job' (Releas number) Done
 release_row job job' number c there unpublished set pack serial s n w moment at =
-    let not = sym (ap (λ o. publishes_at o 0) there) ∙ unpublished in
+    let none = sym (ap (λ o. publishes_at o 0) there) ∙ unpublished in
     ap (λ o. on_channel s o (λ x. of_files s n (releases pack serial s (job_of w job) number x)))
     (channel_is w job number (Some c) there)
     ∙ ap (of_files s n)
     (ap (λ r. settled r (
-      with_channel (job_of w job) number None,
+      with_channel (record (job_of w job) { core = core_closed job.core (channel_of w c) 0 }) number None,
       files_closed serial s.files (job_of w job) (channel_of w c) 0,
     ) (λ reply. (stopped_in (job_of w job) number (channel_of w c) reply, s.files)))
-    (answer_done w c 0 not pack serial s job number)
-    ∙ ap (λ f. (Done, (with_channel (job_of w job) number None, f))) (files_same w c 0 not pack serial s job number)
-    ∙ ap (λ j. (Done, (j, s.files))) (channel_set w job number None ∙ ap (job_of w) (sym set)))
+    (answer_done w c 0 none pack serial s job number)
+    ∙ (λ i. (
+      Done,
+      (
+        with_channel (record (job_of w job) { core = rings_unpublished job.core w c 0 none (is_some c.input) ends i })
+            number None,
+        files_same w c 0 none pack serial s job number i,
+      ),
+    ))
+    ∙ ap (λ j. (Done, (j, s.files)))
+    (channel_set w (record job { core = rings_closed job.core c false (is_some c.input) }) number None
+    ∙ ap (job_of w) (sym set)))
+  where
+    ends_by : (reads : Bool) → reads ≡ (reads && true && true)
+    ends_by true = refl
+    ends_by false = refl
+
+    ends : is_some c.input ≡ (is_some c.input && true && true)
+    ends = ends_by (is_some c.input)
 
 -- What they keep.
 
@@ -170,8 +191,8 @@ closed_both a b c keys pins first second = closes_on a b c keys [] keys [] pins 
 
 -- The channel of a number is another one, or none, and what its sides had is dropped and let go.
 module _ (c c' : VolumeCore) (job job' : Job) (number : ℕ) (open_as : Channel) (there : slot job.channels number
-    ≡ Some open_as) (x : Option Channel) (set : job' ≡ record job { channels = slice_set job.channels number x })
-    (keys pins : List ℕ) (closed : Closes c c' keys pins) where
+    ≡ Some open_as) (x : Option Channel) (core : List ℕ)
+    (set : job' ≡ record job { core = core; channels = slice_set job.channels number x }) (keys pins : List ℕ) (closed : Closes c c' keys pins) where
   pub keeps_closed : ((key : ℕ) → count key (option_to_list (side_of x)) + times key keys
       ≡ count key (option_to_list open_as.output))
       → (AllByRecursion (IsSide c'.pending) (option_to_list open_as.output)
@@ -207,15 +228,30 @@ module _ (c c' : VolumeCore) (job job' : Job) (number : ℕ) (open_as : Channel)
     };
   })
 
-pub closed_back : (job job' : Job) (number bits : ℕ) (c : Channel) (status : ℕ) (input : Option Input)
+-- the ring of an input side that is let go
+pub ends_is : (c : Channel) (bits : ℕ) (released : Option Input) → released ≡ input_released c.input bits → (ends : Bool)
+    → ends ≡ (is_some released && not (discards bits))
+    → ends ≡ (is_some c.input && not (keeps_input bits) && not (discards bits))
+ends_is c bits released is ends marks =
+    marks ∙ ap (λ r. is_some r && not (discards bits)) is ∙ by c.input (keeps_input bits) (not (discards bits))
+  where
+    by : (i : Option Input) (k b : Bool) → (is_some (if k then None else i) && b) ≡ (is_some i && not k && b)
+    by None true b = refl
+    by None false b = refl
+    by (Some i) true b = refl
+    by (Some i) false b = refl
+
+pub closed_back : (job job' : Job) (number bits : ℕ) (c : Channel) (core : List ℕ) (status : ℕ) (input : Option Input)
     (output : Option Output) → status ≡ cleared c.status → input ≡ input_left c.input bits
     → output ≡ output_left c.output bits
     → job' ≡ record job {
+      core = core;
       channels = slice_set job.channels number
           (Some (record c { status = status; input = input; output = output }));
-    } → job' ≡ record job { channels = slice_set job.channels number (Some (closed_as c bits)) }
-closed_back job job' number bits c status input output p r q set = set
+    } → job' ≡ record job { core = core; channels = slice_set job.channels number (Some (closed_as c bits)) }
+closed_back job job' number bits c core status input output p r q set = set
     ∙ (λ i. record job {
+      core = core;
       channels = slice_set job.channels number
           (Some (record c { status = p i; input = r i; output = q i }));
     })
@@ -264,13 +300,13 @@ module _ (job : Job) (number : ℕ) (c : Channel) (there : slot job.channels num
         few key true r = omega arith
         few key false r = omega arith
 
-    module _ (a b : VolumeCore) (job' : Job) (o : Option Output) (i : Option Input) (drops : o
+    module _ (a b : VolumeCore) (job' : Job) (core : List ℕ) (o : Option Output) (i : Option Input) (drops : o
         ≡ output_dropped c.output bits) (releases : i ≡ input_released c.input bits)
-        (set : job' ≡ record job { channels = slice_set job.channels number (Some (closed_as c bits)) })
+        (set : job' ≡ record job { core = core; channels = slice_set job.channels number (Some (closed_as c bits)) })
         (closed : Closes a b (keys_of (option_to_list o)) (pins_of (option_to_list i))) where
       pub close_keeps : Keeps a.pending b.pending job job'
       close_keeps =
-          keeps_closed a b job job' number c there (Some (closed_as c bits)) set (keys_of (option_to_list o))
+          keeps_closed a b job job' number c there (Some (closed_as c bits)) core set (keys_of (option_to_list o))
           (pins_of (option_to_list i)) closed
           (λ key. ap (λ p. count key (option_to_list (output_left c.output bits)) + count key (option_to_list p)) drops
           ∙ parts key (keeps_output bits) c.output) (side (keeps_output bits) c.output)
@@ -287,7 +323,7 @@ module _ (job : Job) (number : ℕ) (c : Channel) (there : slot job.channels num
 
       pub close_reads : KeepsReading a.live b.live job job'
       close_reads =
-          reads_closed a b job job' number c there (Some (closed_as c bits)) set (keys_of (option_to_list o))
+          reads_closed a b job job' number c there (Some (closed_as c bits)) core set (keys_of (option_to_list o))
           (pins_of (option_to_list i)) closed
           (λ key. ap (λ p. held key (option_to_list (input_left c.input bits)) + held key (option_to_list p)) releases
           ∙ parts key (keeps_input bits) c.input)
@@ -312,11 +348,11 @@ module _ (job : Job) (number : ℕ) (c : Channel) (there : slot job.channels num
 -- a channel without an output side goes, and what it reads is let go
 module _ (a b : VolumeCore) (job job' : Job) (number : ℕ) (c : Channel) (there : slot job.channels number
     ≡ Some c) (unpublished : publishes_at (slot job.channels number) 0 ≡ false)
-    (set : job' ≡ record job { channels = slice_set job.channels number None })
+    (core : List ℕ) (set : job' ≡ record job { core = core; channels = slice_set job.channels number None })
     (closed : Closes a b [] (pins_of (option_to_list c.input))) where
   pub release_keeps : Keeps a.pending b.pending job job'
   release_keeps =
-      keeps_closed a b job job' number c there None set [] (pins_of (option_to_list c.input)) closed
+      keeps_closed a b job job' number c there None core set [] (pins_of (option_to_list c.input)) closed
       (λ key. by key c.output (sym (ap (λ o. publishes_at o 0) there) ∙ unpublished)) (λ all. tt)
     where
       by : (key : ℕ) (o : Option Output) → (is_some o && true && true) ≡ false → 0 ≡ count key (option_to_list o)
@@ -325,5 +361,5 @@ module _ (a b : VolumeCore) (job job' : Job) (number : ℕ) (c : Channel) (there
 
   pub release_reads : KeepsReading a.live b.live job job'
   release_reads =
-      reads_closed a b job job' number c there None set [] (pins_of (option_to_list c.input)) closed
+      reads_closed a b job job' number c there None core set [] (pins_of (option_to_list c.input)) closed
       (λ key. omega arith) (λ reader y wrong. absurd (some_none (sym wrong)))

@@ -57,57 +57,50 @@ module _ (d d' : DiskState) (c c' : VolumeCore) (jobs jobs' : List (Option Job))
       (subst (AreKeyed c'.pending) (sym set) is.0, is.1, subst (AreReading c'.live) (sym set) is.2)
 
 -- what is said of each answer
-module _ (d d' : DiskState) (c c' : VolumeCore) (failed failed' : Bool) (key : ℕ) where
-  pub publishing_failed : (reply : Reply) → IsPublishing d d' c c' failed failed' key reply → IsTrue failed'
-      ↔ ((reply ≡ Device) ⊎ (reply ≡ Failed))
-  publishing_failed Done is = (λ t. absurd (contrary is.2 t), λ e. ⊎_elim (λ x. cc x) (λ x. cc x) e)
-  publishing_failed NoMemory is = (λ t. absurd (contrary is.1 t), λ e. ⊎_elim (λ x. cc x) (λ x. cc x) e)
-  publishing_failed Device is = (λ t. inl refl, λ e. is.1)
+module _ (d d' : DiskState) (c c' : VolumeCore) (failed failed' : Bool) (channel : Channel) (o : Output)
+    (last : Option (List ℕ)) where
+  abbrev Answered : Reply → Type 0
+  Answered reply = IsPublishing d d' c c' failed failed' channel o last reply
+
+  -- an answer other than these is none of a volume that fails
+  serves_on : (reply : Reply) → failed' ≡ false → (reply ≡ Device → ⊥) → (reply ≡ Failed → ⊥)
+      → IsTrue failed' ↔ ((reply ≡ Device) ⊎ (reply ≡ Failed))
+  serves_on reply serves device failure =
+      (λ t. absurd (contrary serves t), λ e. ⊎_elim (λ x. absurd (device x)) (λ x. absurd (failure x)) e)
+
+  pub publishing_failed : (reply : Reply) → Answered reply → IsTrue failed' ↔ ((reply ≡ Device) ⊎ (reply ≡ Failed))
+  publishing_failed Done is = serves_on Done is.4 (λ x. cc x) (λ x. cc x)
+  publishing_failed (Stopped status) is = serves_on (Stopped status) is.5 (λ x. cc x) (λ x. cc x)
+  publishing_failed AddressCheck is = serves_on AddressCheck is.2 (λ x. cc x) (λ x. cc x)
+  publishing_failed NoMemory is = serves_on NoMemory is.3 (λ x. cc x) (λ x. cc x)
+  publishing_failed Device is = (λ t. inl refl, λ e. is.4)
   publishing_failed Failed is = (λ t. inr refl, λ e. is.1)
   publishing_failed (Value word) is = absurd is
   publishing_failed (Refused code) is = absurd is
-  publishing_failed (Stopped status) is = absurd is
   publishing_failed NoChannel is = absurd is
-  publishing_failed AddressCheck is = absurd is
   publishing_failed NoJob is = absurd is
   publishing_failed DateRange is = absurd is
 
-  pub publishing_blamed : (reply : Reply) → failed ≡ false → IsPublishing d d' c c' failed failed' key reply
-      → d'.honest → reply ≡ Failed → ⊥
+  pub publishing_blamed : (reply : Reply) → failed ≡ false → Answered reply → d'.honest → reply ≡ Failed → ⊥
   publishing_blamed reply alive is honest failure = ⊎_elim (λ t. contrary alive t) (λ never. never honest)
-      (subst (IsPublishing d d' c c' failed failed' key) failure is).0
+      (subst Answered failure is).0
 
-  pub publishing_counted : (reply : Reply) → IsPublishing d d' c c' failed failed' key reply → reply ≡ Device
-      → d'.failures ≡ one_more d.failures
-  publishing_counted reply is device = (subst (IsPublishing d d' c c' failed failed' key) device is).2
+  pub publishing_counted : (reply : Reply) → Answered reply → reply ≡ Device → d'.failures ≡ one_more d.failures
+  publishing_counted reply is device = (subst Answered device is).5
 
-  pub publishing_served : (reply : Reply) → IsPublishing d d' c c' failed failed' key reply
-      → (reply ≡ NoMemory → d'.failures ≡ d.failures) → (reply ≡ Device → ⊥) → d'.failures ≡ d.failures
-  publishing_served Done is none other = is.3
-  publishing_served NoMemory is none other = none refl
-  publishing_served Device is none other = absurd (other refl)
-  publishing_served Failed is none other = is.2
-  publishing_served (Value word) is none other = absurd is
-  publishing_served (Refused code) is none other = absurd is
-  publishing_served (Stopped status) is none other = absurd is
-  publishing_served NoChannel is none other = absurd is
-  publishing_served AddressCheck is none other = absurd is
-  publishing_served NoJob is none other = absurd is
-  publishing_served DateRange is none other = absurd is
-
-  pub publishing_idle : (reply : Reply) → IsPublishing d d' c c' failed failed' key reply → IsIdle reply
-      → reply ≡ NoMemory
-  publishing_idle Done is idle = absurd idle
-  publishing_idle NoMemory is idle = refl
-  publishing_idle Device is idle = absurd idle
-  publishing_idle Failed is idle = absurd idle
-  publishing_idle (Value word) is idle = absurd is
-  publishing_idle (Refused code) is idle = absurd is
-  publishing_idle (Stopped status) is idle = absurd is
-  publishing_idle NoChannel is idle = absurd is
-  publishing_idle AddressCheck is idle = absurd is
-  publishing_idle NoJob is idle = absurd is
-  publishing_idle DateRange is idle = absurd is
+  pub publishing_served : (reply : Reply) → Answered reply → (IsIdle reply → d'.failures ≡ d.failures)
+      → (reply ≡ Device → ⊥) → d'.failures ≡ d.failures
+  publishing_served Done is idle other = is.5
+  publishing_served (Stopped status) is idle other = idle tt
+  publishing_served AddressCheck is idle other = idle tt
+  publishing_served NoMemory is idle other = idle tt
+  publishing_served Device is idle other = absurd (other refl)
+  publishing_served Failed is idle other = is.2
+  publishing_served (Value word) is idle other = absurd is
+  publishing_served (Refused code) is idle other = absurd is
+  publishing_served NoChannel is idle other = absurd is
+  publishing_served NoJob is idle other = absurd is
+  publishing_served DateRange is idle other = absurd is
 
 -- Where what was written is dropped, and what was read is let go, if anything.
 module _ (d : DiskState) (c c' : VolumeCore) (failed : Bool) (jobs jobs' : List (Option Job)) (n : ℕ)

@@ -42,11 +42,11 @@ module _ (job : Job) (number : ℕ) (channel : Channel) (there : slot job.channe
       (closed : Closes between c' [] pins) (pending : c'.pending ≡ between.pending) where
     keeps : Keeps between.pending c'.pending job (with_input_closed job number channel)
     keeps = keeps_closed between c' job (with_input_closed job number channel) number channel there
-        (Some (input_closed channel)) refl [] pins closed (λ key. omega arith) (λ all. all)
+        (Some (input_closed channel)) job.core refl [] pins closed (λ key. omega arith) (λ all. all)
 
     reads : KeepsReading between.live c'.live job (with_input_closed job number channel)
     reads = reads_closed between c' job (with_input_closed job number channel) number channel there
-        (Some (input_closed channel)) refl [] pins closed
+        (Some (input_closed channel)) job.core refl [] pins closed
         (λ key. let is = ap (λ i. held key (option_to_list i)) side in omega arith)
         (λ reader y is i at. absurd (some_none (sym at ∙ ap (λ (z : Channel). z.input) (sym (some_same is)))))
 

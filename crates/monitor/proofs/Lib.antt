@@ -18,6 +18,7 @@ pub mod CoreWords
 pub mod Calling
 pub mod Opens
 pub mod RingsMade
+pub mod RingsClosed
 pub mod Usetos
 pub mod Usetis
 pub mod Outs

@@ -16,7 +16,9 @@ use Rattle.volume.specs.Live.{VolumeCore}
 use Rattle.volume.specs.declared.live.LiveVersion.{LiveVersion}
 use Rattle.volume.specs.declared.pending.PendingVersion.{PendingVersion}
 use Rattle.monitor.specs.Calls.{IsLight, KeepsCore}
+use Rattle.monitor.specs.Closing.{left_open}
 use Rattle.monitor.specs.Dropping.{Leaves}
+use Rattle.monitor.specs.Events.{IsIdle}
 use Rattle.monitor.specs.Publishing.{PublishesBy, IsPublishRow, CrashesAsRow, StillStands}
 use Rattle.monitor.specs.Promises.{IsAmong, IsServing, ServesJob}
 use Rattle.monitor.specs.Refusals.{refused_with}
@@ -29,7 +31,6 @@ use Rattle.monitor.proofs.Answering.{on_disk}
 use Rattle.monitor.proofs.Called.{quiet_failed, quiet_same, still_serves}
 use Rattle.monitor.proofs.Closings.{dropping_keyed, dropping_reading, dropping_answered, row_answered, row_crashes}
 use Rattle.monitor.proofs.Closings.{publishing_failed, publishing_blamed, publishing_counted, publishing_served}
-use Rattle.monitor.proofs.Closings.{publishing_idle}
 use Rattle.monitor.proofs.Placing.{placed_left}
 use Rattle.monitor.proofs.Refusals.{publishing_refused}
 use Rattle.monitor.proofs.Serving.{nobody, alone, alone_keyed, alone_reading}
@@ -170,24 +171,25 @@ module _ {D : Type 0} (state : D → DiskState) (only_now : (disk : D) (contents
   set_serves disk disk' core core' failed' jobs jobs' n job job' call moment reply set serving = subst
       (λ js. IsServing state disk disk' core core' failed' jobs js n call moment reply) (sym set) serving
 
-  -- A call that publishes what an output side has written.
-  pub publishing_serves : (disk disk' : D) (core between core' : VolumeCore) (failed failed' : Bool) (key : ℕ)
-      (job job' : Job) (call : Call) (moment : Moment) (reply : Reply) → failed ≡ false → ArePlaced core
-      → moment.date ≤ 4095 → PublishesBy (state disk) (state disk') core between failed failed' key reply
-      → (reply ≡ NoMemory → (disk' ≡ disk) × (core' ≡ core)) → ((reply ≡ Done → ⊥) → job' ≡ job)
-      → StillStands core core' failed' job job'
+  -- A call that publishes what the output side of a channel has written.
+  pub publishing_serves : (disk disk' : D) (core between core' : VolumeCore) (failed failed' : Bool)
+      (channel : Channel) (o : Output) (last : Option (List ℕ)) (job job' : Job) (number : ℕ) (call : Call)
+      (moment : Moment) (reply : Reply) → failed ≡ false → ArePlaced core → moment.date ≤ 4095
+      → PublishesBy (state disk) (state disk') core between failed failed' channel o last reply
+      → (IsIdle reply → (disk' ≡ disk) × (core' ≡ core) × (failed' ≡ failed))
+      → ((reply ≡ Done → ⊥) → job' ≡ left_open job number channel reply) → StillStands core core' failed' job job'
       → IsPublishRow (state disk) (state disk') core core' failed' job job' call reply
       → CrashesAsRow (state disk) (state disk') core job call
       → (IsLight call (Some job) → ⊥) → (KeepsCore call → ⊥)
       → ServesJob state disk disk' core core' failed' job job' call moment reply
-  publishing_serves disk disk' core between core' failed failed' key job job' call moment reply alive placed timely
-      publishes memory kept stands row crash heavy changes jobs n among =
+  publishing_serves disk disk' core between core' failed failed' channel o last job job' number call moment reply alive
+      placed timely publishes idle kept stands row crash heavy changes jobs n among =
       let is = publishes.answered in
       let d = state disk in
       let d' = state disk' in
       let set = slice_set jobs n (Some job') in
       let still = λ (works : failed' ≡ false). stands jobs n among.there among.keyed placed among.reading works in
-      let fails = publishing_failed d d' core between failed failed' key reply is in
+      let fails = publishing_failed d d' core between failed failed' channel o last reply is in
       record {
         keyed = λ works. (still works).0;
         placed = λ works. (still works).1;
@@ -196,22 +198,23 @@ module _ {D : Type 0} (state : D → DiskState) (only_now : (disk : D) (contents
         answered = λ honest. row_answered d d' core core' jobs set n job job' moment among.there refl
             timely false failed' call reply refl placed honest row;
         crash = row_crashes d d' core core' jobs set n job job' moment among.there refl timely call crash;
-        idle = λ idle. (memory (publishing_idle d d' core between failed failed' key reply is idle)).0;
+        idle = λ idles. (idle idles).0;
         light = λ light. absurd (heavy (subst (IsLight call) among.there light));
         kept = λ kept. absurd (changes kept);
         memory = λ none.
-            let same = memory none in (
+            let same = idle (subst IsIdle (sym none) tt) in
+            let left = kept (λ e. let wrong = sym none ∙ e in cc) ∙ ap (left_open job number channel) none in (
               same.0,
               same.1,
               still_serves false failed' reply refl fails none,
-              unchanged jobs set n job job' among.there refl (kept (λ e. let wrong = sym none ∙ e in cc)),
+              unchanged jobs set n job job' among.there refl left,
             );
         refused = λ code refused.
-            absurd (publishing_refused d d' core between failed failed' key code reply is refused);
+            absurd (publishing_refused d d' core between failed failed' channel o last code reply is refused);
         failed = fails;
-        blamed = publishing_blamed d d' core between failed failed' key reply alive is;
-        counted = publishing_counted d d' core between failed failed' key reply is;
-        served = publishing_served d d' core between failed failed' key reply is
-            (λ none i. (state ((memory none).0 i)).failures);
-        same = publishes.whatever.same;
+        blamed = publishing_blamed d d' core between failed failed' channel o last reply alive is;
+        counted = publishing_counted d d' core between failed failed' channel o last reply is;
+        served = publishing_served d d' core between failed failed' channel o last reply is
+            (λ idles i. (state ((idle idles).0 i)).failures);
+        same = publishes.same;
       }

@@ -1,5 +1,6 @@
 -- What is answered where an output side is published, and which output sides there are then.
-use Rattle.std.proofs.Common.{◌≡◌, ℕ, ◌+◌, ◌<◌, ◌≤◌, ◌^◌, Bool, true, false, [], Option, Some, None, Result, Ok, Err}
+use Rattle.std.proofs.Common.{◌≡◌, ℕ, ◌+◌, ◌<◌, ◌≤◌, ◌^◌, Bool, true, false, List, [], length, Option, Some, None}
+use Rattle.std.proofs.Common.{Result, Ok, Err}
 use Rattle.std.proofs.Common.{refl, sym, ap, subst, ◌∙◌, ◌⊎◌, inr, arith, slice_set}
 use Rattle.std.specs.Prelude.{IsErrOf, IsSome, option_to_list}
 use Rattle.std.specs.List.{AllByRecursion}
@@ -7,6 +8,7 @@ use Rattle.words36.specs.declared.names.FileName.{FileName}
 use Rattle.blockdisk.specs.Disk.{DiskState, one_more}
 use Rattle.meaning.specs.Jobs as machine
 use Rattle.meaning.specs.Maps.{times}
+use Rattle.meaning.specs.Splices.{length_after}
 use Rattle.meaning.specs.declared.call.Reply.{Reply}
 use Rattle.meaning.specs.declared.call.Reply.TheVariants.{Done}
 use Rattle.meaning.specs.declared.code.ErrorCode.{ErrorCode}
@@ -21,8 +23,9 @@ use Rattle.volume.specs.declared.live.LiveVersion.{LiveVersion}
 use Rattle.volume.specs.declared.pending.PendingVersion.{PendingVersion}
 use Rattle.volume.proofs.PublishedPlaces.{published_named}
 use Rattle.monitor.specs.Dropping.{Closes}
-use Rattle.monitor.specs.Lists.{reply_of}
+use Rattle.monitor.specs.Lists.{unpublished_by}
 use Rattle.monitor.specs.Publishing.{MayPublish, HasPublished, IsPublishing}
+use Rattle.monitor.specs.Putting.{FindsNone}
 use Rattle.monitor.specs.Readers.{readers_of}
 use Rattle.monitor.specs.Renewing.{Renews}
 use Rattle.monitor.specs.Rows.{Keeps, KeepsReading}
@@ -41,38 +44,52 @@ use Rattle.monitor.proofs.SideLists.{count, count-channel, each-channel}
 
 -- Answers.
 
-not_true : (b : Bool) → (b ≡ true → ⊥) → b ≡ false
-not_true true = λ no. absurd (no refl)
-not_true false = λ no. refl
-
 no_error : {T E : Type 0} (r : Result T E) (x : T) (e : E) → r ≡ Ok x → r ≡ Err e → ⊥
 no_error r x e is error = cc
 
-module _ (d d' : DiskState) (c c' : VolumeCore) (failed failed' : Bool) (key : ℕ) {T : Type 0} (r : Result T CallError)
-    (dead : failed ≡ true → IsErrOf r Failed) (still : (IsErrOf r Device → ⊥) → (IsErrOf r Failed → ⊥)
-    → failed' ≡ failed) (served : (IsErrOf r Device → ⊥) → d'.failures ≡ d.failures) where
-  pub answered_done : (x : T) → r ≡ Ok x → HasPublished d d' c c' key → IsPublishing d d' c c' failed failed' key Done
-  answered_done x is has =
-      let alive = not_true failed (λ t. no_error r x Failed is (dead t)) in
-      (has, alive, still (no_error r x Device is) (no_error r x Failed is) ∙ alive, served (no_error r x Device is))
+module _ (d d' : DiskState) (c c' : VolumeCore) (failed failed' : Bool) (channel : Channel) (o : Output)
+    (last : Option (List ℕ)) (words : List ℕ) (found : last ≡ Some words) {T : Type 0} (r : Result T CallError)
+    (alive : failed ≡ false) (still : (IsErrOf r Device → ⊥) → (IsErrOf r Failed → ⊥) → failed' ≡ failed)
+    (served : (IsErrOf r Device → ⊥) → d'.failures ≡ d.failures) where
+  abbrev Answered : Reply → Type 0
+  Answered reply = IsPublishing d d' c c' failed failed' channel o last reply
 
-  module _ (refuses : failed ≡ false → IsErrOf r (Refused NoRoom) → ⊥) (codes : (code : ErrorCode)
-      → IsErrOf r (Refused code) → code ≡ NoRoom) (given_up : IsErrOf r Failed → (failed ≡ true) ⊎ (d'.honest → ⊥))
-      (device : IsErrOf r Device → failed' ≡ true) (ended : IsErrOf r Failed
-      → failed' ≡ true) (counted : IsErrOf r Device → d'.failures ≡ one_more d.failures) where
-    by_error : (e : CallError) → r ≡ Err e → IsPublishing d d' c c' failed failed' key (reply_of e)
+  pub answered_done : (x : T) → r ≡ Ok x → HasPublished d d' c c' o words → Answered Done
+  answered_done x is has = (
+    words,
+    found,
+    has,
+    alive,
+    still (no_error r x Device is) (no_error r x Failed is) ∙ alive,
+    served (no_error r x Device is),
+  )
+
+  module _ (lacks : (p : PendingVersion) → pending_at c.pending o.pending.key ≡ Some p → IsErrOf r (Refused NoRoom)
+      → FindsNone d.size c p o (length words)) (fits : (p : PendingVersion) → pending_at c.pending o.pending.key
+      ≡ Some p → (IsErrOf r (Refused NoRoom) → ⊥) → FindsNone d.size c p o (length words) → ⊥)
+      (codes : (code : ErrorCode) → IsErrOf r (Refused code) → code ≡ NoRoom)
+      (given_up : IsErrOf r Failed → (failed ≡ true) ⊎ (d'.honest → ⊥)) (device : IsErrOf r Device → failed' ≡ true)
+      (ended : IsErrOf r Failed → failed' ≡ true)
+      (counted : IsErrOf r Device → d'.failures ≡ one_more d.failures) where
+    by_error : (e : CallError) → r ≡ Err e → Answered (unpublished_by channel e)
     by_error (Refused code) is =
-        let room : IsErrOf r (Refused NoRoom) = is ∙ ap (λ x. Err (Refused x)) (codes code is) in
-        absurd (refuses (not_true failed (λ t. let wrong = sym is ∙ dead t in cc)) room)
-    by_error Device is = (not_true failed (λ t. let wrong = sym is ∙ dead t in cc), device is, counted is)
+        let room : IsErrOf r (Refused NoRoom) = is ∙ ap (λ x. Err (Refused x)) (codes code is) in (
+          words,
+          found,
+          refl,
+          (λ p at. lacks p at room),
+          alive,
+          still (λ e. let wrong = sym is ∙ e in cc) (λ e. let wrong = sym is ∙ e in cc) ∙ alive,
+        )
+    by_error Device is =
+        (words, found, (λ p at. fits p at (λ e. let wrong = sym is ∙ e in cc)), alive, device is, counted is)
     by_error NoMemory is =
-        let alive = not_true failed (λ t. let wrong = sym is ∙ dead t in cc) in
-        (alive, still (λ e. let wrong = sym is ∙ e in cc) (λ e. let wrong = sym is ∙ e in cc) ∙ alive)
+        (words, found, alive, still (λ e. let wrong = sym is ∙ e in cc) (λ e. let wrong = sym is ∙ e in cc) ∙ alive)
     by_error Failed is = (given_up is, ended is, served (λ e. let wrong = sym is ∙ e in cc))
 
-    pub answered_error : (e : CallError) (reply : Reply) → r ≡ Err e → reply ≡ reply_of e
-        → IsPublishing d d' c c' failed failed' key reply
-    answered_error e reply is same = subst (IsPublishing d d' c c' failed failed' key) (sym same) (by_error e is)
+    pub answered_error : (e : CallError) (reply : Reply) → r ≡ Err e → reply ≡ unpublished_by channel e
+        → Answered reply
+    answered_error e reply is same = subst Answered (sym same) (by_error e is)
 
 -- Output sides.
 
@@ -82,12 +99,12 @@ there_is (Some x) f one is = one x
 
 -- A channel's output side is gone, with its version.
 pub published_keeps : (c c' : VolumeCore) (job job' : Job) (number : ℕ) (o : Output) (x : Option Channel)
-    → side_of (machine.slot job.channels number) ≡ Some o → side_of x ≡ None
-    → job' ≡ record job { channels = slice_set job.channels number x }
+    (core : List ℕ) → side_of (machine.slot job.channels number) ≡ Some o → side_of x ≡ None
+    → job' ≡ record job { core = core; channels = slice_set job.channels number x }
     → IsSome (pending_at c.pending o.pending.key) → pending_at c'.pending o.pending.key ≡ None
     → ((k : ℕ) → (k ≡ o.pending.key → ⊥) → pending_at c'.pending k ≡ pending_at c.pending k)
     → Keeps c.pending c'.pending job job'
-published_keeps c c' job job' number o x side none set live gone others =
+published_keeps c c' job job' number o x core side none set live gone others =
     let one = there_is (pending_at c.pending o.pending.key) present (λ p. refl) live in
     let drops = drops_one c (record c { pending = c'.pending }) o.pending.key (omega arith) gone others refl refl in
     subst (Keeps c.pending c'.pending job) (sym set) (record {
@@ -111,12 +128,12 @@ pub record IsBehind (c between c' : VolumeCore) (job job' : Job) : Type 0 where
   pub keeps : Keeps c.pending c'.pending job job'
   pub reads : KeepsReading c.live c'.live job job'
 
-module _ {d d' : DiskState} {c b : VolumeCore} (o : Output) (whatever : MayPublish d d' c b o.pending.key)
-    (has : HasPublished d d' c b o.pending.key) (live : IsSome (pending_at c.pending o.pending.key)) where
+module _ {d d' : DiskState} {c b : VolumeCore} (o : Output) {last : List ℕ} (whatever : MayPublish d d' c b o last)
+    (has : HasPublished d d' c b o last) (live : IsSome (pending_at c.pending o.pending.key)) where
   -- each version has as many readers as before
   pub readers_behind : (k : ℕ) → readers_of (slot b.live k) ≡ readers_of (slot c.live k)
   readers_behind = let p = some_is (pending_at c.pending o.pending.key) live in
-      readers_stay d.size c b o.pending.key p.0 p.0.version.words (has.core p.0 p.1)
+      readers_stay d.size c b o.pending.key p.0 (length_after p.0.version.words o.next (length last)) (has.core p.0 p.1)
 
   -- What is asked of core where versions are let go, or a side comes to hold what is published.
 
@@ -144,7 +161,8 @@ module _ {d d' : DiskState} {c b : VolumeCore} (o : Output) (whatever : MayPubli
       let p = some_is (pending_at c.pending o.pending.key) live in
       let owner = sym (is p.0 p.1).0 in
       let name = sym (is p.0 p.1).1 in
-      published_named d.size c b o.pending.key p.0 p.0.version.words (has.core p.0 p.1)
+      published_named d.size c b o.pending.key p.0 (length_after p.0.version.words o.next (length last))
+      (has.core p.0 p.1)
       ((λ i. prime_at b (owner i) (name i)) ∙ none)
 
   -- What becomes of the caller's channel.
@@ -152,10 +170,11 @@ module _ {d d' : DiskState} {c b : VolumeCore} (o : Output) (whatever : MayPubli
   module _ (c' : VolumeCore) (job job' : Job) (number : ℕ) (channel : Channel)
       (there : machine.slot job.channels number ≡ Some channel) (side : channel.output ≡ Some o)
       (pending : c'.pending ≡ b.pending) where
-    keeps_behind : (x : Option Channel) → side_of x ≡ None
-        → job' ≡ record job { channels = slice_set job.channels number x } → Keeps c.pending c'.pending job job'
-    keeps_behind x none set = subst (λ ps. Keeps c.pending ps job job') (sym pending)
-        (published_keeps c b job job' number o x (ap side_of there ∙ side) none set live has.gone whatever.others)
+    keeps_behind : (x : Option Channel) (core : List ℕ) → side_of x ≡ None
+        → job' ≡ record job { core = core; channels = slice_set job.channels number x }
+        → Keeps c.pending c'.pending job job'
+    keeps_behind x core none set = subst (λ ps. Keeps c.pending ps job job') (sym pending)
+        (published_keeps c b job job' number o x core (ap side_of there ∙ side) none set live has.gone whatever.others)
 
     -- as many readers stay as there were
     reads_behind : KeepsReading b.live c'.live job job' → KeepsReading c.live c'.live job job'
@@ -165,14 +184,14 @@ module _ {d d' : DiskState} {c b : VolumeCore} (o : Output) (whatever : MayPubli
     }
 
     -- what the channel reads is let go
-    pub released_behind : (x : Option Channel) → side_of x ≡ None → reader_of x ≡ None
-        → job' ≡ record job { channels = slice_set job.channels number x }
+    pub released_behind : (x : Option Channel) (core : List ℕ) → side_of x ≡ None → reader_of x ≡ None
+        → job' ≡ record job { core = core; channels = slice_set job.channels number x }
         → Closes b c' [] (pins_of (option_to_list channel.input)) → IsBehind c b c' job job'
-    released_behind x none bare set closed = record {
+    released_behind x core none bare set closed = record {
       pending = pending;
       known = closed.leaves.known;
-      keeps = keeps_behind x none set;
-      reads = reads_behind (reads_closed b c' job job' number channel there x set []
+      keeps = keeps_behind x core none set;
+      reads = reads_behind (reads_closed b c' job job' number channel there x core set []
           (pins_of (option_to_list channel.input)) closed
           (λ key. let none = ap (λ i. held key (option_to_list i)) bare in omega arith)
           (λ reader y is i reads. absurd (some_none (sym reads ∙ ap reader_of (sym is) ∙ bare))));
@@ -180,14 +199,14 @@ module _ {d d' : DiskState} {c b : VolumeCore} (o : Output) (whatever : MayPubli
 
     -- or it comes to hold another version
     pub renewed_behind : (input renewed : Input) (ppn : ℕ) (file : FileName) (protection : ℕ) (x : Channel)
-        → channel.input ≡ Some input
+        (core : List ℕ) → channel.input ≡ Some input
         → x.input ≡ Some renewed → x.output ≡ None
-        → job' ≡ record job { channels = slice_set job.channels number (Some x) }
+        → job' ≡ record job { core = core; channels = slice_set job.channels number (Some x) }
         → Renews b c' input renewed ppn file protection → IsBehind c b c' job job'
-    renewed_behind input renewed ppn file protection x reads now none set is = record {
+    renewed_behind input renewed ppn file protection x core reads now none set is = record {
       pending = pending;
       known = renewed_known b c' input renewed ppn file protection is;
-      keeps = keeps_behind (Some x) none set;
+      keeps = keeps_behind (Some x) core none set;
       reads = reads_behind (subst (KeepsReading b.live c'.live job) (sym set)
-          (renewed_reading b c' input renewed ppn file protection is job number x channel job.core there reads now));
+          (renewed_reading b c' input renewed ppn file protection is job number x channel core there reads now));
     }

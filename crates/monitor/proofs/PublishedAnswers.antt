@@ -1,15 +1,19 @@
 -- What a CLOSE or RELEAS that publishes answers, over services.
-use Rattle.std.proofs.Common.{◌≡◌, ℕ, Bool, true, false, List, Option, Some, refl, sym, ap, subst, ◌∙◌, ◌⊎◌, inl}
+use Rattle.std.proofs.Common.{◌≡◌, ℕ, Bool, true, false, List, length, Option, Some, refl, sym, ap, subst, ◌∙◌, ◌⊎◌, inl}
 use Rattle.std.proofs.Common.{inr, ⊎_elim, slice_set}
-use Rattle.std.specs.Prelude.{not, IsSome}
+use Rattle.std.specs.List.{AllByRecursion}
+use Rattle.std.specs.Prelude.{◌+◌, not, IsSome, option_to_list}
 use Rattle.words36.specs.declared.moment.Moment.{Moment}
-use Rattle.blockdisk.specs.Disk.{DiskState, LeavesOnly}
+use Rattle.blockdisk.specs.Disk.{DiskState, LeavesOnly, SameDisk}
 use Rattle.blockdisk.specs.Laws.{leaves_weaker}
 use Rattle.meaning.specs.Files.{Files}
-use Rattle.meaning.specs.Jobs.{State, slot}
+use Rattle.meaning.specs.Jobs.{State, slot, cleared, block_too_large}
+use Rattle.meaning.specs.Outputs.{finds_no_place}
 use Rattle.meaning.specs.Published.{Version, without_serials, with_file}
+use Rattle.meaning.specs.Room.{booked}
 use Rattle.meaning.specs.Runs.{Service, Serving, Broken, Answers, IsFresh, AreDistinct, is_plain, is_light}
 use Rattle.meaning.specs.Sound.{IsSound}
+use Rattle.meaning.specs.Splices.{length_after}
 use Rattle.meaning.specs.Stands.{Stands}
 use Rattle.meaning.specs.Step.{step}
 use Rattle.meaning.specs.declared.call.Call.{Call}
@@ -20,22 +24,37 @@ use Rattle.meaning.specs.declared.call.Reply.TheVariants.{NoMemory, Device, Fail
 use Rattle.meaning.proofs.PlaceLaws.{some_is}
 use Rattle.meaning.proofs.SlotLaws.{set-slot}
 use Rattle.meaning.proofs.SoundEvents.{sound_step}
-use Rattle.volume.specs.Live.{VolumeCore, pending_at, IsWholeCore}
+use Rattle.volume.specs.Live.{VolumeCore, pending_at}
+use Rattle.volume.specs.Rest as rest
 use Rattle.volume.specs.Rest.{RestsAt, StandsForEither}
-use Rattle.monitor.specs.Publishing.{MayPublish, HasPublished, IsPublishing, PublishesBy}
+use Rattle.volume.specs.declared.live.LiveVersion.{LiveVersion}
+use Rattle.volume.specs.declared.pending.PendingVersion.{PendingVersion}
+use Rattle.monitor.specs.Closing.{left_open}
+use Rattle.monitor.specs.Events.{IsIdle}
+use Rattle.monitor.specs.Publishing.{last_at, MayPublish, HasPublished, IsPublishing, PublishesBy}
+use Rattle.monitor.specs.Putting.{FindsNone}
 use Rattle.monitor.specs.Readers.{AreRead}
-use Rattle.monitor.specs.Serving.{AreKeyed, ArePlaced, AreReading, pack_of, IsState, Serves}
-use Rattle.monitor.specs.Sides.{UnderKeys, state_of}
+use Rattle.monitor.specs.Rows.{Keeps, KeepsReading}
+use Rattle.monitor.specs.Serving.{IsSide, AreKeyed, ArePlaced, AreReading, pack_of, IsState, Serves}
+use Rattle.monitor.specs.Sides.{UnderKeys, side_of, reader_of, output_of, state_of}
+use Rattle.monitor.specs.declared.channel.Channel.{Channel}
 use Rattle.monitor.specs.declared.job.Job.{Job}
-use Rattle.monitor.proofs.Answering.{next_serial, is_fresh, state_is, contrary}
+use Rattle.monitor.specs.declared.output.Output.{Output}
+use Rattle.monitor.proofs.Answering.{next_serial, is_fresh, state_is, contrary, goes_on, steps_on, same_files}
+use Rattle.monitor.proofs.Calling.{keeps_same, keeps_channel, reads_same, reads_channel}
+use Rattle.monitor.proofs.Dropped.{leaves_none, keeps_keyed}
+use Rattle.monitor.proofs.Knowing.{known}
 use Rattle.monitor.proofs.Lookups.{placed_still}
+use Rattle.monitor.proofs.OutServing.{none_found, place_found}
 use Rattle.monitor.proofs.Placing.{placed_published}
 use Rattle.monitor.proofs.Publications.{IsBehind}
 use Rattle.monitor.proofs.PublishedFiles.{versions_in}
-use Rattle.monitor.proofs.PublishedRows.{version_with}
-use Rattle.monitor.proofs.ReadingJobs.{keeps_reading}
+use Rattle.monitor.proofs.PublishedRows.{version_with, PublishRows, undecided}
 use Rattle.monitor.proofs.PublishedStates.{published_state, published_are, keyed_published, rests, distinct}
 use Rattle.monitor.proofs.PublishedStates.{reads_between}
+use Rattle.monitor.proofs.ReaderLists.{held}
+use Rattle.monitor.proofs.ReadingJobs.{keeps_reading}
+use Rattle.monitor.proofs.SideLists.{count, each-side}
 
 -- a disk and core that are what they were
 pub same_state : {D : Type 0} (state : D → DiskState) (old new : D) (c c' : VolumeCore) (jobs : List (Option Job))
@@ -45,155 +64,308 @@ same_state state old new c c' jobs s same was = subst (λ disk. IsState (state d
 
 -- What was published stays so where the disk is left alone behind it.
 pub publishes_by : {D : Type 0} (state : D → DiskState) (old published new : D) (c b : VolumeCore)
-    (failed after failed' : Bool) (key : ℕ) (reply : Reply) → (new ≡ published) × (failed' ≡ after)
-    → MayPublish (state old) (state published) c b key
-    → IsPublishing (state old) (state published) c b failed after key reply
-    → PublishesBy (state old) (state new) c b failed failed' key reply
-publishes_by state old published new c b failed after failed' key reply same whatever answered = record {
-  whatever = subst (λ disk. MayPublish (state old) (state disk) c b key) (sym same.0) whatever;
-  answered = subst (λ disk. IsPublishing (state old) (state disk) c b failed failed' key reply) (sym same.0)
-      (subst (λ f. IsPublishing (state old) (state published) c b failed f key reply) (sym same.1) answered);
-}
+    (failed after failed' : Bool) (channel : Channel) (o : Output) (last : Option (List ℕ)) (reply : Reply)
+    → (new ≡ published) × (failed' ≡ after)
+    → ((words : List ℕ) → last ≡ Some words → MayPublish (state old) (state published) c b o words)
+    → IsPublishing (state old) (state published) c b failed after channel o last reply
+    → SameDisk (state old) (state published)
+    → PublishesBy (state old) (state new) c b failed failed' channel o last reply
+publishes_by state old published new c b failed after failed' channel o last reply same whatever answered same_disk =
+    record {
+      whatever = λ words found. subst (λ disk. MayPublish (state old) (state disk) c b o words) (sym same.0)
+          (whatever words found);
+      answered = subst (λ disk. IsPublishing (state old) (state disk) c b failed failed' channel o last reply)
+          (sym same.0)
+          (subst (λ f. IsPublishing (state old) (state published) c b failed f channel o last reply) (sym same.1)
+          answered);
+      same = subst (λ disk. SameDisk (state old) (state disk)) (sym same.0) same_disk;
+    }
 
-module _ (d : DiskState) (c : VolumeCore) (key : ℕ) (call : Call) (jobs : List (Option Job)) (n : ℕ) (moment : Moment)
-    (s : State) (state : IsState d c jobs s) where
+-- A channel that stays open writes and reads what it did.
+
+module _ (job : Job) (number : ℕ) (c : Channel) (is_open : slot job.channels number ≡ Some c) where
+  pub left_keeps : (pending : List (Option PendingVersion)) (reply : Reply)
+      → Keeps pending pending job (left_open job number c reply)
+  left_keeps pending (Stopped status) =
+      keeps_channel pending job number (Some (record c { status = status }))
+      (λ key. ap (λ o. count key (option_to_list (side_of o))) (sym is_open))
+      (λ all. subst (λ o. AllByRecursion (IsSide pending) (option_to_list (side_of o))) is_open
+      (each-side (IsSide pending) job.channels number all))
+  left_keeps pending Done = keeps_same pending job
+  left_keeps pending (Value word) = keeps_same pending job
+  left_keeps pending (Refused code) = keeps_same pending job
+  left_keeps pending NoChannel = keeps_same pending job
+  left_keeps pending AddressCheck = keeps_same pending job
+  left_keeps pending NoJob = keeps_same pending job
+  left_keeps pending NoMemory = keeps_same pending job
+  left_keeps pending Device = keeps_same pending job
+  left_keeps pending Failed = keeps_same pending job
+  left_keeps pending DateRange = keeps_same pending job
+
+  pub left_reads : (live : List (Option LiveVersion)) (reply : Reply)
+      → KeepsReading live live job (left_open job number c reply)
+  left_reads live (Stopped status) =
+      reads_channel live job number (record c { status = status })
+      (λ key. ap (λ o. held key (option_to_list (reader_of o))) (sym is_open))
+      (λ has i at. has.each number c is_open i at)
+  left_reads live Done = reads_same live job
+  left_reads live (Value word) = reads_same live job
+  left_reads live (Refused code) = reads_same live job
+  left_reads live NoChannel = reads_same live job
+  left_reads live AddressCheck = reads_same live job
+  left_reads live NoJob = reads_same live job
+  left_reads live NoMemory = reads_same live job
+  left_reads live Device = reads_same live job
+  left_reads live Failed = reads_same live job
+  left_reads live DateRange = reads_same live job
+
+module _ {d d' : DiskState} {c b : VolumeCore} {failed failed' : Bool} {reply : Reply} (call : Call) (moment : Moment)
+    (jobs : List (Option Job)) (n : ℕ) (job : Job) (number : ℕ) (channel : Channel) (o : Output)
+    (there : slot jobs n ≡ Some job) (is_open : slot job.channels number ≡ Some channel)
+    (rows : PublishRows d call jobs n moment job number channel o)
+    (by : PublishesBy d d' c b failed failed' channel o (last_at job.core channel) reply)
+    (live : IsSome (pending_at c.pending o.pending.key)) (sound : rest.IsSound d c failed) (alive : failed ≡ false)
+    (honest : d'.honest) (s : State) (state : IsState d c jobs s) where
+  abbrev key : ℕ
+  key = o.pending.key
+
   abbrev w : UnderKeys
   w = state.under
 
+  -- the state, by what the jobs stand for
+  abbrev before : State
+  before = state_of s.files w jobs
+
   -- the files with the version
-  abbrev files' : ℕ → Files Version
-  files' serial = with_file s.files (w.written key).place (version_with (w.written key) serial)
+  abbrev files' : List ℕ → ℕ → Files Version
+  files' last serial = with_file s.files (w.written key).place (version_with (w.written key) o.next last serial)
 
   abbrev same : s ≡ state_of s.files state.under jobs
   same = state_is s state.under jobs state.jobs_are
 
-  -- Where the machine's row leaves these files.
-  module _ (d' : DiskState) (b : VolumeCore) (whatever : MayPublish d d' c b key)
-      (live : IsSome (pending_at c.pending key)) (honest : d'.honest) where
-    pub crashes_as : ((files : Files Version) (u : UnderKeys)
-        → (step (pack_of d) 0 (state_of files u jobs) (Calls n call moment)).1.files
-        ≡ with_file files (u.written key).place (version_with (u.written key) 0))
-        → LeavesOnly d d' (λ contents. Stands d.size contents (without_serials s.files)
-        ⊎ ((serial : ℕ)
-        × Stands d.size contents (without_serials ((step (pack_of d) serial s (Calls n call moment)).1.files))))
-    crashes_as left =
-        let p = some_is (pending_at c.pending key) live in
-        let is = state.versions key p.0 p.1 in
-        let stepped : (step (pack_of d) 0 s (Calls n call moment)).1.files ≡ files' 0 =
-        subst (λ t. (step (pack_of d) 0 t (Calls n call moment)).1.files ≡ files' 0) (sym same) (left s.files w) in
-        leaves_weaker d d' (StandsForEither d.size (without_serials s.files) _) _
-        (whatever.crash honest (without_serials s.files) state.files p.0 p.1 (w.written key).file.body is.words is.body)
-        (λ contents. ⊎_elim (λ was. inl was)
-        (λ new. inr (
-          0,
-          subst (Stands d.size contents) (published_are d c jobs s state key 0 p.0 is
-              ∙ ap without_serials (sym stepped)) new,
-        )))
+  -- Whether the last words find a place.
 
-    -- What a call leaves that is done: the machine goes on to this state, with whichever serial.
-    abbrev pub GoesOn : VolumeCore → Job → ℕ → Type 0
-    GoesOn c' job' serial = (read : ℕ → Version) × AreRead d' c' (files' serial) read
-        × (step (pack_of d) serial s (Calls n call moment)
-        ≡ (Done, state_of (files' serial) (record w { read = read }) (slice_set jobs n (Some job'))))
+  books : booked before ≡ c.known.table.booked
+  books = subst (λ t. booked t ≡ c.known.table.booked) same
+      (known d c jobs s state (subst (rest.IsSound d c) alive sound) (by.same.was_honest honest)).booked_is
 
-    module _ (c' : VolumeCore) (failed failed' : Bool) (job job' : Job) (there : slot jobs n ≡ Some job)
-        (alive : failed ≡ false) (placed : ArePlaced c) (whole : IsWholeCore d.size c)
-        (heavy : (files : Files Version) (u : UnderKeys) → is_light (state_of files u jobs) n call ≡ false)
-        (quits : (files : Files Version) (u : UnderKeys)
-        → (step (pack_of d) 0 (state_of files u jobs) (Calls n call moment)).0 ≡ Done) (reply : Reply)
-        (kept : (reply ≡ Done → ⊥) → job' ≡ job) (behind : reply ≡ Done → IsBehind c b c' job job')
-        (goes : reply ≡ Done → HasPublished d d' c b key → (serial : ℕ) → IsFresh s serial
-        → RestsAt d' (without_serials (files' serial)) → AreDistinct (versions_in (files' serial))
-        → AreRead d' b (files' serial) w.read → GoesOn c' job' serial)
-        (unchanged : reply ≡ NoMemory → IsState d c jobs s → IsState d' c' jobs s) where
-      plainly : is_plain ((step (pack_of d) 0 s (Calls n call moment)).0) ≡ false
-      plainly = ap (λ t. is_plain ((step (pack_of d) 0 t (Calls n call moment)).0)) same ∙ ap is_plain (quits s.files w)
+  pub has_place : (last : List ℕ) → ((p : PendingVersion) → pending_at c.pending key ≡ Some p
+      → FindsNone d.size c p o (length last) → ⊥)
+      → finds_no_place (pack_of d) before (output_of w o) (length last) ≡ false
+  has_place last fits = let p = some_is (pending_at c.pending key) live in
+      place_found d c before w o p.0 (state.versions key p.0 p.1) books (length last) (fits p.0 p.1)
 
-      weighs : not (is_light s n call) ≡ true
-      weighs = ap (λ t. not (is_light t n call)) same ∙ ap not (heavy s.files w)
+  has_none : (last : List ℕ) → ((p : PendingVersion) → pending_at c.pending key ≡ Some p
+      → FindsNone d.size c p o (length last))
+      → finds_no_place (pack_of d) before (output_of w o) (length last) ≡ true
+  has_none last lacks = let p = some_is (pending_at c.pending key) live in
+      none_found d c before w o p.0 (state.versions key p.0 p.1) books (length last) (lacks p.0 p.1)
 
-      abbrev Leads : Type 0
-      Leads = (new : Service) × Serves d' c' failed' (slice_set jobs n (Some job')) new
-          × Answers (pack_of d) (Serving s) (Calls n call moment) reply new
+  -- A crash leaves the files from before, or those of the machine's row.
 
-      by_reply : (r : Reply) → reply ≡ r → IsPublishing d d' c b failed failed' key r → Leads
-      by_reply Done is answer =
-          let serial = next_serial s in
-          let fresh = is_fresh s in
-          let left = goes is answer.0 serial fresh
-          (rests d d' c b c' jobs n job job' key there whatever answer.0 (behind is) live honest s state placed serial
-          fresh)
-          (distinct d d' c b c' jobs n job job' key there whatever answer.0 (behind is) live honest s state placed
-          serial fresh)
-          (reads_between d d' c b c' jobs n job job' key there whatever answer.0 (behind is) live honest s state placed
-          serial fresh whole) in
-          let after : State = state_of (files' serial) (record w { read = left.0 }) (slice_set jobs n (Some job')) in
-          let sound = subst (λ (r : Reply × State). IsSound r.1) left.2
-          (sound_step (pack_of d) serial s (Calls n call moment) fresh state.sound) in
-          let published = published_state d d' c b c' jobs n job job' key there whatever answer.0 (behind is) live
-          honest s state placed serial fresh left.0 left.1 sound in
-          (Serving after, (answer.2, published), inl (serial, fresh, left.2 ∙ ap (λ (r : Reply). (r, after)) (sym is)))
-      by_reply NoMemory is answer =
-          let same_job = kept (λ e. let wrong = sym is ∙ e in cc) in
-          let back = ap (λ j. slice_set jobs n (Some j)) same_job ∙ set-slot jobs n job there in (
-            Serving s,
-            (answer.1, subst (λ js. IsState d' c' js s) (sym back) (unchanged is state)),
-            inr (is, refl, plainly, weighs),
-          )
-      by_reply Device is answer = (Broken, answer.1, (is, plainly, weighs))
-      by_reply Failed is answer = absurd (⊎_elim (λ broken. contrary alive broken) (λ never. never honest) answer.0)
-      by_reply (Value word) is answer = absurd answer
-      by_reply (Refused code) is answer = absurd answer
-      by_reply (Stopped status) is answer = absurd answer
-      by_reply NoChannel is answer = absurd answer
-      by_reply AddressCheck is answer = absurd answer
-      by_reply NoJob is answer = absurd answer
-      by_reply DateRange is answer = absurd answer
+  abbrev Crashes : Type 0
+  Crashes = LeavesOnly d d' (λ contents. Stands d.size contents (without_serials s.files)
+      ⊎ ((serial : ℕ)
+      × Stands d.size contents (without_serials ((step (pack_of d) serial s (Calls n call moment)).1.files))))
 
-      pub published_answered : IsPublishing d d' c b failed failed' key reply → Leads
-      published_answered answer = by_reply reply refl answer
+  crash_put : (last : List ℕ) → last_at job.core channel ≡ Some last
+      → finds_no_place (pack_of d) before (output_of w o) (length last) ≡ false → Crashes
+  crash_put last found place =
+      let p = some_is (pending_at c.pending key) live in
+      let is = state.versions key p.0 p.1 in
+      let stepped : (step (pack_of d) 0 s (Calls n call moment)).1.files ≡ files' last 0 =
+      subst (λ t. (step (pack_of d) 0 t (Calls n call moment)).1.files ≡ files' last 0) (sym same)
+      ((rows.done s.files w 0 last found place).1) in
+      leaves_weaker d d' (StandsForEither d.size (without_serials s.files) _) _
+      ((by.whatever last found).crash honest (without_serials s.files) state.files p.0 p.1 (w.written key).file.body
+      is.words is.body)
+      (λ contents. ⊎_elim (λ was. inl was)
+      (λ new. inr (
+        0,
+        subst (Stands d.size contents) (published_are d c jobs s state key o.next last 0 p.0 is
+            ∙ ap without_serials (sym stepped)) new,
+      )))
+
+  module _ (idle : IsIdle reply → LeavesOnly d d' (λ contents. Stands d.size contents (without_serials s.files))) where
+    crash_idle : (r : Reply) → reply ≡ r → IsIdle r → Crashes
+    crash_idle r is idles = leaves_weaker d d' (λ contents. Stands d.size contents (without_serials s.files)) _
+        (idle (subst IsIdle (sym is) idles)) (λ contents was. inl was)
+
+    crash_by : (r : Reply) → reply ≡ r
+        → IsPublishing d d' c b failed failed' channel o (last_at job.core channel) r → Crashes
+    crash_by Done is answer = crash_put answer.0 answer.1 (has_place answer.0 answer.2.fits)
+    crash_by (Stopped status) is answer = crash_idle (Stopped status) is tt
+    crash_by AddressCheck is answer = crash_idle AddressCheck is tt
+    crash_by NoMemory is answer = crash_idle NoMemory is tt
+    crash_by Device is answer = crash_put answer.0 answer.1 (has_place answer.0 answer.2)
+    crash_by Failed is answer = absurd (⊎_elim (λ broken. contrary alive broken) (λ never. never honest) answer.0)
+    crash_by (Value word) is answer = absurd answer
+    crash_by (Refused code) is answer = absurd answer
+    crash_by NoChannel is answer = absurd answer
+    crash_by NoJob is answer = absurd answer
+    crash_by DateRange is answer = absurd answer
+
+    pub crashes_as : Crashes
+    crashes_as = crash_by reply refl by.answered
+
+  -- What a call leaves that is done: the machine goes on to this state, with whichever serial.
+  abbrev pub GoesOn : VolumeCore → Job → List ℕ → ℕ → Type 0
+  GoesOn c' job' last serial = (read : ℕ → Version) × AreRead d' c' (files' last serial) read
+      × (step (pack_of d) serial s (Calls n call moment)
+      ≡ (Done, state_of (files' last serial) (record w { read = read }) (slice_set jobs n (Some job'))))
+
+  module _ (c' : VolumeCore) (job' : Job) (placed : ArePlaced c)
+      (kept : (reply ≡ Done → ⊥) → job' ≡ left_open job number channel reply)
+      (behind : reply ≡ Done → IsBehind c b c' job job')
+      (goes : reply ≡ Done → (last : List ℕ) → last_at job.core channel ≡ Some last
+      → finds_no_place (pack_of d) before (output_of w o) (length last) ≡ false → HasPublished d d' c b o last
+      → (serial : ℕ) → IsFresh s serial
+      → RestsAt d' (without_serials (files' last serial)) → AreDistinct (versions_in (files' last serial))
+      → AreRead d' b (files' last serial) w.read → GoesOn c' job' last serial)
+      (unchanged : IsIdle reply → (js : List (Option Job)) (t : State) → IsState d c js t → IsState d' c' js t) where
+    abbrev jobs' : List (Option Job)
+    jobs' = slice_set jobs n (Some job')
+
+    plainly : (last : List ℕ) → last_at job.core channel ≡ Some last
+        → is_plain ((step (pack_of d) 0 s (Calls n call moment)).0) ≡ false
+    plainly last found = ap (λ t. is_plain ((step (pack_of d) 0 t (Calls n call moment)).0)) same
+        ∙ undecided rows s.files w last found
+
+    weighs : not (is_light s n call) ≡ true
+    weighs = ap (λ t. not (is_light t n call)) same ∙ ap not (rows.heavy s.files w)
+
+    abbrev Leads : Type 0
+    Leads = (new : Service) × Serves d' c' failed' jobs' new
+        × Answers (pack_of d) (Serving s) (Calls n call moment) reply new
+
+    -- It is done.
+    leads_done : reply ≡ Done → (last : List ℕ) → last_at job.core channel ≡ Some last → HasPublished d d' c b o last
+        → failed' ≡ false → Leads
+    leads_done is last found has serves =
+        let serial = next_serial s in
+        let fresh = is_fresh s in
+        let whatever = by.whatever last found in
+        let left = goes is last found (has_place last has.fits) has serial fresh
+        (rests d d' c b c' jobs n job job' o last there whatever has (behind is) live honest s state placed serial fresh)
+        (distinct d d' c b c' jobs n job job' o last there whatever has (behind is) live honest s state placed serial
+        fresh)
+        (reads_between d d' c b c' jobs n job job' o last there whatever has (behind is) live honest s state placed
+        serial fresh sound.whole) in
+        let after : State = state_of (files' last serial) (record w { read = left.0 }) jobs' in
+        let still = subst (λ (r : Reply × State). IsSound r.1) left.2
+        (sound_step (pack_of d) serial s (Calls n call moment) fresh state.sound) in
+        let published = published_state d d' c b c' jobs n job job' o last there whatever has (behind is) live
+        honest s state placed serial fresh left.0 left.1 still in
+        (Serving after, (serves, published), inl (serial, fresh, left.2 ∙ ap (λ (r : Reply). (r, after)) (sym is)))
+
+    -- The last words find no place, and the channel says so.
+    leads_stopped : (status : ℕ) → reply ≡ Stopped status → (last : List ℕ) → last_at job.core channel ≡ Some last
+        → status ≡ cleared channel.status + block_too_large → ((p : PendingVersion) → pending_at c.pending key ≡ Some p
+        → FindsNone d.size c p o (length last)) → failed' ≡ false → Leads
+    leads_stopped status is last found status_is lacks serves =
+        let stopped : reply ≡ Stopped (cleared channel.status + block_too_large) = is ∙ ap Stopped status_is in
+        let left : job' ≡ left_open job number channel reply = kept (λ e. let wrong = sym is ∙ e in cc) in
+        let job_is : job' ≡ left_open job number channel (Stopped (cleared channel.status + block_too_large)) =
+        left ∙ ap (left_open job number channel) stopped in
+        let after : State = state_of s.files w jobs' in
+        goes_on d' c' failed' jobs' (pack_of d) (Calls n call moment) reply s after serves state.sound
+        (λ serial. subst (λ t. step (pack_of d) serial t (Calls n call moment) ≡ (reply, after)) (sym same)
+        (rows.crowded s.files w serial last found (has_none last lacks)
+        ∙ (λ i. (sym stopped i, state_of s.files w (slice_set jobs n (Some (sym job_is i)))))))
+        (λ still. unchanged (subst IsIdle (sym is) tt) jobs' after
+        (same_files d c c failed jobs jobs'
+        (keeps_keyed c.pending c.pending jobs n job job' state.keyed there
+        (subst (Keeps c.pending c.pending job) (sym left) (left_keeps job number channel is_open c.pending reply)))
+        (keeps_reading c.live c.live jobs n job job' state.reading there
+        (subst (KeepsReading c.live c.live job) (sym left) (left_reads job number channel is_open c.live reply)))
+        (leaves_none c) s state still))
+
+    -- All is as it was.
+    stays : (r : Reply) → reply ≡ r → IsIdle r → (r ≡ Done → ⊥) → left_open job number channel r ≡ job
+        → IsState d' c' jobs' s
+    stays r is idle other left =
+        let same_job : job' ≡ job = kept (λ e. other (sym is ∙ e)) ∙ ap (left_open job number channel) is ∙ left in
+        let back = ap (λ j. slice_set jobs n (Some j)) same_job ∙ set-slot jobs n job there in
+        subst (λ js. IsState d' c' js s) (sym back) (unchanged (subst IsIdle (sym is) idle) jobs s state)
+
+    by_reply : (r : Reply) → reply ≡ r
+        → IsPublishing d d' c b failed failed' channel o (last_at job.core channel) r → Leads
+    by_reply Done is answer = leads_done is answer.0 answer.1 answer.2 answer.4
+    by_reply (Stopped status) is answer = leads_stopped status is answer.0 answer.1 answer.2 answer.3 answer.5
+    by_reply AddressCheck is answer = (
+      Serving s,
+      (answer.2, stays AddressCheck is tt (λ e. cc e) refl),
+      inl (steps_on (pack_of d) s (Calls n call moment) reply s
+          (λ serial. subst (λ t. step (pack_of d) serial t (Calls n call moment) ≡ (reply, t)) (sym same)
+          (rows.unread s.files w serial answer.0 ∙ ap (λ (r : Reply). (r, before)) (sym is)))),
+    )
+    by_reply NoMemory is answer = (
+      Serving s,
+      (answer.3, stays NoMemory is tt (λ e. cc e) refl),
+      inr (is, refl, plainly answer.0 answer.1, weighs),
+    )
+    by_reply Device is answer = (Broken, answer.4, (is, plainly answer.0 answer.1, weighs))
+    by_reply Failed is answer = absurd (⊎_elim (λ broken. contrary alive broken) (λ never. never honest) answer.0)
+    by_reply (Value word) is answer = absurd answer
+    by_reply (Refused code) is answer = absurd answer
+    by_reply NoChannel is answer = absurd answer
+    by_reply NoJob is answer = absurd answer
+    by_reply DateRange is answer = absurd answer
+
+    pub published_answered : Leads
+    published_answered = by_reply reply refl by.answered
 
 -- Where the volume hasn't failed the sides are those of the versions that are being written and read, and each that is
 -- written may be published.
-module _ (d d' : DiskState) (c b c' : VolumeCore) (failed failed' : Bool) (key : ℕ) (jobs : List (Option Job))
-    (n : ℕ) (job job' : Job) (there : slot jobs n ≡ Some job) (whatever : MayPublish d d' c b key)
-    (live : IsSome (pending_at c.pending key))
-    (reply : Reply) (kept : (reply ≡ Done → ⊥) → job' ≡ job) (behind : reply ≡ Done → IsBehind c b c' job job')
-    (unchanged : reply ≡ NoMemory → c' ≡ c) (keyed : AreKeyed c.pending jobs) (placed : ArePlaced c)
-    (reading : AreReading c.live jobs) (serves : failed' ≡ false) where
+module _ {d d' : DiskState} {c b : VolumeCore} {failed failed' : Bool} {reply : Reply} (c' : VolumeCore)
+    (jobs : List (Option Job)) (n : ℕ) (job job' : Job) (number : ℕ) (channel : Channel) (o : Output)
+    (there : slot jobs n ≡ Some job) (is_open : slot job.channels number ≡ Some channel) (last : Option (List ℕ))
+    (by : PublishesBy d d' c b failed failed' channel o last reply)
+    (live : IsSome (pending_at c.pending o.pending.key))
+    (kept : (reply ≡ Done → ⊥) → job' ≡ left_open job number channel reply)
+    (behind : reply ≡ Done → IsBehind c b c' job job') (unchanged : IsIdle reply → c' ≡ c)
+    (keyed : AreKeyed c.pending jobs) (placed : ArePlaced c) (reading : AreReading c.live jobs)
+    (serves : failed' ≡ false) where
   abbrev Stand : Type 0
   Stand = AreKeyed c'.pending (slice_set jobs n (Some job')) × ArePlaced c'
       × AreReading c'.live (slice_set jobs n (Some job'))
 
-  stand_by : (r : Reply) → reply ≡ r → IsPublishing d d' c b failed failed' key r → Stand
+  -- the channel stays open
+  stand_idle : (r : Reply) → reply ≡ r → IsIdle r → (r ≡ Done → ⊥) → Stand
+  stand_idle r is idle other =
+      let left : job' ≡ left_open job number channel reply = kept (λ e. other (sym is ∙ e)) in
+      let same = sym (unchanged (subst IsIdle (sym is) idle)) in (
+        subst (λ (x : VolumeCore). AreKeyed x.pending (slice_set jobs n (Some job'))) same
+            (keeps_keyed c.pending c.pending jobs n job job' keyed there
+            (subst (Keeps c.pending c.pending job) (sym left) (left_keeps job number channel is_open c.pending reply))),
+        subst ArePlaced same placed,
+        subst (λ (x : VolumeCore). AreReading x.live (slice_set jobs n (Some job'))) same
+            (keeps_reading c.live c.live jobs n job job' reading there
+            (subst (KeepsReading c.live c.live job) (sym left) (left_reads job number channel is_open c.live reply))),
+      )
+
+  stand_by : (r : Reply) → reply ≡ r → IsPublishing d d' c b failed failed' channel o last r → Stand
   stand_by Done is answer =
-      let p = some_is (pending_at c.pending key) live in
-      let is_behind = behind is in (
-        keyed_published d d' c b c' jobs n job job' key there whatever answer.0 is_behind live keyed,
+      let p = some_is (pending_at c.pending o.pending.key) live in
+      let is_behind = behind is in
+      let whatever = by.whatever answer.0 answer.1 in (
+        keyed_published d d' c b c' jobs n job job' o answer.0 there whatever answer.2 is_behind live keyed,
         placed_still b c' is_behind.pending is_behind.known
-            (placed_published d.size c b key p.0 p.0.version.words (answer.0.core p.0 p.1) p.1 answer.0.gone
+            (placed_published d.size c b o.pending.key p.0
+            (length_after p.0.version.words o.next (length answer.0)) (answer.2.core p.0 p.1) p.1 answer.2.gone
             whatever.others placed),
         keeps_reading c.live c'.live jobs n job job' reading there is_behind.reads,
       )
-  stand_by NoMemory is answer =
-      let same_job = kept (λ e. let wrong = sym is ∙ e in cc) in
-      let back = ap (λ j. slice_set jobs n (Some j)) same_job ∙ set-slot jobs n job there in
-      let same = sym (unchanged is) in (
-        subst (λ js. AreKeyed c'.pending js) (sym back)
-            (subst (λ (x : VolumeCore). AreKeyed x.pending jobs) same keyed),
-        subst ArePlaced same placed,
-        subst (λ js. AreReading c'.live js) (sym back)
-            (subst (λ (x : VolumeCore). AreReading x.live jobs) same reading),
-      )
-  stand_by Device is answer = absurd (contrary serves answer.1)
+  stand_by (Stopped status) is answer = stand_idle (Stopped status) is tt (λ e. cc e)
+  stand_by AddressCheck is answer = stand_idle AddressCheck is tt (λ e. cc e)
+  stand_by NoMemory is answer = stand_idle NoMemory is tt (λ e. cc e)
+  stand_by Device is answer = absurd (contrary serves answer.4)
   stand_by Failed is answer = absurd (contrary serves answer.1)
   stand_by (Value word) is answer = absurd answer
   stand_by (Refused code) is answer = absurd answer
-  stand_by (Stopped status) is answer = absurd answer
   stand_by NoChannel is answer = absurd answer
-  stand_by AddressCheck is answer = absurd answer
   stand_by NoJob is answer = absurd answer
   stand_by DateRange is answer = absurd answer
 
-  pub still_stand : IsPublishing d d' c b failed failed' key reply → Stand
-  still_stand answer = stand_by reply refl answer
+  pub still_stand : Stand
+  still_stand = stand_by reply refl by.answered

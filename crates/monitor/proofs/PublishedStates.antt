@@ -1,5 +1,5 @@
 -- A CLOSE or RELEAS that publishes is the machine's row.
-use Rattle.std.proofs.Common.{◌≡◌, ◌<◌, ℕ, Bool, true, false, List, [], ◌∷◌, ◌++◌, Option, Some, refl, sym, ap, subst}
+use Rattle.std.proofs.Common.{◌≡◌, ◌<◌, ℕ, Bool, true, false, List, [], ◌∷◌, ◌++◌, length, Option, Some, refl, sym, ap, subst}
 use Rattle.std.proofs.Common.{◌∙◌, slice_set, arith}
 use Rattle.std.specs.Prelude.{◌==◌, ◌||◌, IsSome}
 use Rattle.std.specs.List.{AllByRecursion}
@@ -10,6 +10,7 @@ use Rattle.meaning.specs.Published.{Version, without_serials, with_file}
 use Rattle.meaning.specs.Room.{current, held, has_serial}
 use Rattle.meaning.specs.Runs.{IsFresh, AreDistinct}
 use Rattle.meaning.specs.Sound.{IsSound}
+use Rattle.meaning.specs.Splices.{splice, length_after}
 use Rattle.meaning.proofs.MapLaws.{some_none}
 use Rattle.meaning.proofs.PlaceLaws.{some_is}
 use Rattle.meaning.proofs.Versions.{body_kept}
@@ -25,6 +26,7 @@ use Rattle.monitor.specs.Rows.{Keeps}
 use Rattle.monitor.specs.Serving.{ArePlaced, AreKeyed, IsSide, IsWriting, IsState}
 use Rattle.monitor.specs.Sides.{Writing, UnderKeys, state_of, sides_in}
 use Rattle.monitor.specs.declared.job.Job.{Job}
+use Rattle.monitor.specs.declared.output.Output.{Output}
 use Rattle.monitor.proofs.Dropped.{side_stays}
 use Rattle.monitor.proofs.HeldReaders.{fresh_read}
 use Rattle.monitor.proofs.Publications.{IsBehind}
@@ -63,30 +65,35 @@ none_first k (v ∷ vs) ws none = by (v.serial == k) (none_first k vs ws) none
     by false rest e = rest e
 
 -- the file that the volume publishes
-file_is : (d : DiskState) (p : PendingVersion) (w : Writing) → IsWriting d p w → w.file ≡ file_of p.prime w.file.body
-file_is d p w is = λ i. record {
+file_is : (d : DiskState) (p : PendingVersion) (w : Writing) (body : List ℕ) → IsWriting d p w
+    → record w.file { body = body } ≡ file_of p.prime body
+file_is d p w body is = λ i. record {
   protection = is.protection i;
   mode = is.mode i;
   time = is.time i;
   date = is.date i;
-  body = w.file.body;
+  body = body;
 }
 
 -- the files that the volume publishes are the machine's
 pub published_are : (d : DiskState) (c : VolumeCore) (jobs : List (Option Job)) (s : State) (state : IsState d c jobs s)
-    (key serial : ℕ) (p : PendingVersion) → IsWriting d p (state.under.written key)
+    (key next : ℕ) (last : List ℕ) (serial : ℕ) (p : PendingVersion) → IsWriting d p (state.under.written key)
     → files_published (without_serials s.files) p.prime.ppn p.prime.file
-    (file_of p.prime (state.under.written key).file.body)
+    (file_of p.prime (splice (state.under.written key).file.body next last))
     ≡ without_serials
-    (with_file s.files (state.under.written key).place (version_with (state.under.written key) serial))
-published_are d c jobs s state key serial p is =
-    sym (files_with s.files (state.under.written key).place (version_with (state.under.written key) serial)
+    (with_file s.files (state.under.written key).place (version_with (state.under.written key) next last serial))
+published_are d c jobs s state key next last serial p is =
+    sym (files_with s.files (state.under.written key).place (version_with (state.under.written key) next last serial)
     ∙ (λ i. files_published (without_serials s.files) (is.place i).ppn (is.place i).name
-    (file_is d p (state.under.written key) is i)))
+    (file_is d p (state.under.written key) (splice (state.under.written key).file.body next last) is i)))
 
-module _ (d d' : DiskState) (c b c' : VolumeCore) (jobs : List (Option Job)) (n : ℕ) (job job' : Job) (key : ℕ)
-    (there : slot jobs n ≡ Some job) (whatever : MayPublish d d' c b key) (has : HasPublished d d' c b key)
-    (behind : IsBehind c b c' job job') (live : IsSome (pending_at c.pending key)) where
+module _ (d d' : DiskState) (c b c' : VolumeCore) (jobs : List (Option Job)) (n : ℕ) (job job' : Job)
+    (o : Output) (last : List ℕ) (there : slot jobs n ≡ Some job) (whatever : MayPublish d d' c b o last)
+    (has : HasPublished d d' c b o last) (behind : IsBehind c b c' job job')
+    (live : IsSome (pending_at c.pending o.pending.key)) where
+  abbrev key : ℕ
+  key = o.pending.key
+
   -- a version that is still being written
   still_there : (k : ℕ) (q : PendingVersion) → pending_at c'.pending k ≡ Some q
       → (k ≡ key → ⊥) × (pending_at c.pending k ≡ Some q)
@@ -105,17 +112,17 @@ module _ (d d' : DiskState) (c b c' : VolumeCore) (jobs : List (Option Job)) (n 
     w = state.under
 
     abbrev files' : Files Version
-    files' = with_file s.files (w.written key).place (version_with (w.written key) serial)
+    files' = with_file s.files (w.written key).place (version_with (w.written key) o.next last serial)
 
     pub rests : RestsAt d' (without_serials files')
     rests =
         let p = some_is (pending_at c.pending key) live in
         let is = state.versions key p.0 p.1 in
-        subst (RestsAt d') (published_are d c jobs s state key serial p.0 is)
+        subst (RestsAt d') (published_are d c jobs s state key o.next last serial p.0 is)
         (has.files honest (without_serials s.files) state.files p.0 p.1 (w.written key).file.body is.words is.body)
 
     pub distinct : AreDistinct (versions_in files')
-    distinct = distinct_put s.files (w.written key).place (version_with (w.written key) serial) state.serials
+    distinct = distinct_put s.files (w.written key).place (version_with (w.written key) o.next last serial) state.serials
         (none_first serial (current s) (held s) fresh)
 
     -- another version has another place
@@ -134,8 +141,8 @@ module _ (d d' : DiskState) (c b c' : VolumeCore) (jobs : List (Option Job)) (n 
     pub reads_between : IsWholeCore d.size c → AreRead d' b files' w.read
     reads_between whole =
         let p = some_is (pending_at c.pending key) live in
-        reads_published d d' c b s.files w.read key p.0 p.0.version.words (w.written key).place
-        (version_with (w.written key) serial) state.read whole (has.core p.0 p.1) state.serials
+        reads_published d d' c b s.files w.read key p.0 (length_after p.0.version.words o.next (length last)) (w.written key).place
+        (version_with (w.written key) o.next last serial) state.read whole (has.core p.0 p.1) state.serials
         (state.versions key p.0 p.1).place unlike (has.readers honest)
 
     -- where the versions that are read are these
@@ -164,7 +171,7 @@ module _ (d d' : DiskState) (c b c' : VolumeCore) (jobs : List (Option Job)) (n 
               };
           absent = λ k q at new.
               let was = still_there k q at in
-              put_elsewhere s.files (w.written key).place (version_with (w.written key) serial) (w.written k).place
+              put_elsewhere s.files (w.written key).place (version_with (w.written key) o.next last serial) (w.written k).place
               (elsewhere p.0 p.1 k q was.0 was.1) ∙ state.absent k q was.1 new;
           keyed = keyed_published state.keyed;
           read = reads;

@@ -12,6 +12,8 @@ use Rattle.monitor.specs.Putting.{IsOut}
 use Rattle.monitor.specs.Reading.{IsIn}
 use Rattle.monitor.specs.Refusals.{with_code, refused_with, IsRefused}
 use Rattle.meaning.specs.declared.call.Call.{Call}
+use Rattle.monitor.specs.declared.channel.Channel.{Channel}
+use Rattle.monitor.specs.declared.output.Output.{Output}
 use Rattle.monitor.specs.declared.job.Job.{Job}
 use Rattle.monitor.proofs.Slots.{put_back}
 
@@ -39,7 +41,8 @@ pub make_dir_refused : (size : ℕ) (c : VolumeCore) (same : Type 0) (job job' :
     → IsMakeDir size c same job job' e reply → reply ≡ Refused code → job' ≡ with_code job e code
 make_dir_refused size c same job job' e code reply is refused = (subst (IsMakeDir size c same job job' e) refused is).0
 
-pub publishing_refused : (d d' : DiskState) (c c' : VolumeCore) (failed failed' : Bool) (key code : ℕ) (reply : Reply)
-    → IsPublishing d d' c c' failed failed' key reply → reply ≡ Refused code → ⊥
-publishing_refused d d' c c' failed failed' key code reply is refused = subst
-    (IsPublishing d d' c c' failed failed' key) refused is
+pub publishing_refused : (d d' : DiskState) (c c' : VolumeCore) (failed failed' : Bool) (channel : Channel) (o : Output)
+    (last : Option (List ℕ)) (code : ℕ) (reply : Reply) → IsPublishing d d' c c' failed failed' channel o last reply
+    → reply ≡ Refused code → ⊥
+publishing_refused d d' c c' failed failed' channel o last code reply is refused = subst
+    (IsPublishing d d' c c' failed failed' channel o last) refused is

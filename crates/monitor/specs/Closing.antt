@@ -1,12 +1,15 @@
--- What a CLOSE that publishes leaves of its channel.
-use Rattle.std.specs.Prelude.{◌++◌, if◌then◌else◌, ℕ, Bool, List, None, Some}
+-- What a CLOSE or RELEAS leaves of its channel and of its job.
+use Rattle.std.specs.Prelude.{◌++◌, if◌then◌else◌, ℕ, Bool, List, Option, None, Some, slice_set}
 use Rattle.meaning.specs.Closing.{header_closed}
 use Rattle.meaning.specs.Cores.{after_writes}
 use Rattle.meaning.specs.Jobs.{cleared}
 use Rattle.meaning.specs.Rings.{is_buffered}
+use Rattle.meaning.specs.declared.call.Reply.{Reply}
+use Rattle.meaning.specs.declared.call.Reply.TheVariants.{Stopped}
 use Rattle.retrieval.specs.Modes.{mode_number}
 use Rattle.monitor.specs.declared.channel.Channel.{Channel}
 use Rattle.monitor.specs.declared.input.Input.{Input}
+use Rattle.monitor.specs.declared.job.Job.{Job}
 
 -- both sides are closed
 abbrev pub both_closed : Channel → Channel
@@ -23,3 +26,16 @@ rings_closed core c closes_output closes_input =
     then after_writes core (header_closed core c.output_header closes_output
     ++ header_closed core c.input_header closes_input)
     else core
+
+-- the job where it is done: the channel is this one, or none
+abbrev pub closed_in : Job → ℕ → Channel → (closes_output closes_input : Bool) → Option Channel → Job
+closed_in job number c closes_output closes_input x = record job {
+  core = rings_closed job.core c closes_output closes_input;
+  channels = slice_set job.channels number x;
+}
+
+-- and where it isn't: the channel keeps the status that stopped the call
+abbrev pub left_open : Job → ℕ → Channel → Reply → Job
+left_open job number c (Stopped status) =
+    record job { channels = slice_set job.channels number (Some (record c { status = status })) }
+left_open job number c reply = job

@@ -1,11 +1,13 @@
--- What the monitor answers to who asks for a list.
-use Rattle.std.specs.Prelude.{◌≡◌, List, Result, Ok, Err}
+-- What the monitor answers to who asks for a list, and where the volume refuses a call.
+use Rattle.std.specs.Prelude.{◌≡◌, ◌+◌, List, Result, Ok, Err}
 use Rattle.meaning.specs.Codes.{number_of}
+use Rattle.meaning.specs.Jobs.{cleared, block_too_large}
 use Rattle.meaning.specs.declared.entry.Entry.{Entry}
 use Rattle.meaning.specs.declared.call.Reply.{Reply}
 use Rattle.meaning.specs.declared.call.Reply.TheVariants as replies
 use Rattle.volume.specs.declared.error.CallError.{CallError}
 use Rattle.volume.specs.declared.error.CallError.TheVariants.{Refused, Device, NoMemory, Failed}
+use Rattle.monitor.specs.declared.channel.Channel.{Channel}
 
 -- the answer to a call that the volume refused
 abbrev pub reply_of : CallError → Reply
@@ -13,6 +15,13 @@ reply_of (Refused code) = replies.Refused (number_of code)
 reply_of Device = replies.Device
 reply_of NoMemory = replies.NoMemory
 reply_of Failed = replies.Failed
+
+-- the answer where it refuses to publish what a channel has written, which it does for want of room alone
+abbrev pub unpublished_by : Channel → CallError → Reply
+unpublished_by c (Refused code) = replies.Stopped (cleared c.status + block_too_large)
+unpublished_by c Device = replies.Device
+unpublished_by c NoMemory = replies.NoMemory
+unpublished_by c Failed = replies.Failed
 
 -- a list, seen by `view`, as the machine gives it
 abbrev pub IsListed : {L : Type 0} → (L → List Entry) → Result L Reply → Result (List Entry) Reply → Type 0

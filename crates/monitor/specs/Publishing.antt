@@ -46,7 +46,6 @@ pub record MayPublish (d d' : DiskState) (c c' : VolumeCore) (o : Output) (last 
   pub others : (k : ℕ) → (k ≡ o.pending.key → ⊥) → pending_at c'.pending k ≡ pending_at c.pending k
   pub held : (k : ℕ) (v : LiveVersion) → slot c.live k ≡ Some v → 0 < v.readers
       → (b : Bool) × (slot c'.live k ≡ Some (record v { is_current = b }))
-  pub same : SameDisk d d'
 
 -- It is done.
 pub record HasPublished (d d' : DiskState) (c c' : VolumeCore) (o : Output) (last : List ℕ) : Type 0 where
@@ -80,6 +79,7 @@ IsPublishing d d' c c' failed failed' channel o last NoJob = ⊥
 IsPublishing d d' c c' failed failed' channel o last NoMemory = (words : List ℕ) × (last ≡ Some words)
     × (failed ≡ false) × (failed' ≡ false)
 IsPublishing d d' c c' failed failed' channel o last Device = (words : List ℕ) × (last ≡ Some words)
+    × ((p : PendingVersion) → pending_at c.pending o.pending.key ≡ Some p → FindsNone d.size c p o (length words) → ⊥)
     × (failed ≡ false) × (failed' ≡ true) × (d'.failures ≡ one_more d.failures)
 IsPublishing d d' c c' failed failed' channel o last Failed = ((failed ≡ true) ⊎ (d'.honest → ⊥)) × (failed' ≡ true)
     × (d'.failures ≡ d.failures)
@@ -91,6 +91,7 @@ pub record PublishesBy (d d' : DiskState) (c between : VolumeCore) (failed faile
     (o : Output) (last : Option (List ℕ)) (reply : Reply) : Type 0 where
   pub whatever : (words : List ℕ) → last ≡ Some words → MayPublish d d' c between o words
   pub answered : IsPublishing d d' c between failed failed' channel o last reply
+  pub same : SameDisk d d'
 
 -- What the caller has become, and what is answered, are of the machine's row; whichever job made the call.
 abbrev pub IsPublishRow : (d d' : DiskState) (c c' : VolumeCore) (failed' : Bool) → Job → Job → Call → Reply → Type 0

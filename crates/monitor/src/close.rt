@@ -1,6 +1,6 @@
 ghost use Rattle.std.specs.Prelude.{if◌then◌else◌, IfSome, ◌≡◌, ◌≤◌, ℕ, Some, None, true, false, ◌<◌, ◌+◌, ◌^◌, IsSome};
-ghost use Rattle.std.specs.Prelude.{slice_set};
-ghost use Rattle.meaning.specs.Jobs.{slot, cleared};
+ghost use Rattle.std.specs.Prelude.{◌&&◌, not, is_some};
+ghost use Rattle.meaning.specs.Jobs.{slot};
 ghost use Rattle.meaning.specs.Maps.{times};
 ghost use Rattle.meaning.specs.declared.call.Call.TheVariants.{Close};
 ghost use Rattle.meaning.specs.declared.call.Reply.TheVariants.{NoMemory, Device, Failed, Refused, Done};
@@ -14,8 +14,9 @@ ghost use Rattle.monitor.specs.Sides.{sides_in, keys_of, readers_in, pins_of};
 ghost use Rattle.meaning.specs.Closing.{keeps_output, keeps_input, discards};
 ghost use Rattle.volume.specs.Publishing.{IsPlaced};
 ghost use Rattle.volume.specs.declared.pending.PendingVersion.{PendingVersion};
-ghost use Rattle.monitor.specs.Publishing.{PublishesBy, IsPublishRow, CrashesAsRow, StillStands};
-ghost use Rattle.monitor.specs.Closing.{both_closed, output_closed};
+ghost use Rattle.monitor.specs.Publishing.{last_at, PublishesBy, IsPublishRow, CrashesAsRow, StillStands};
+ghost use Rattle.monitor.specs.Closing.{both_closed, output_closed, rings_closed, closed_in, left_open};
+ghost use Rattle.monitor.specs.Events.{IsIdle};
 ghost use Rattle.monitor.specs.Promises.{IsReady, ServesAlways};
 ghost use Rattle.volume.specs.Rest.{IsSound};
 
@@ -31,6 +32,7 @@ use crate::update::prime_of;
 use blockdisk::Disk;
 use meaning::Reply;
 use std::alloc::Global;
+use usercore::Core;
 use volume::Volume;
 
 /// CLOSE: without bit 1 the output side closes, and becomes the file of its name, or with bit 40 (octal) is dropped;
@@ -90,8 +92,44 @@ fn parted<T>(side: Option<T>, keeps: bool) -> (Option<T>, Option<T>)
     if keeps { (side, None) } else { (None, side) }
 }
 
+/// The address of a ring's header where its side closes, else 0, which names none.
+fn header_if(closes: bool, header: u32) -> u32
+    ensures { result ≡ (if closes then header else 0) }
+{
+    if closes { header } else { 0 }
+}
+
+/// Whether a CLOSE with these bits marks the ring of an input side that it lets go, if any.
+fn ends_ring(released: &Option<Input>, bits: u32) -> bool
+    ensures { result ≡ (is_some released.now && not (discards bits)) }
+{
+    let discards = bits / 0o40 % 2 == 1;
+    released.is_some() && !discards
+}
+
+/// Marks the headers of a channel's rings where their sides close. In dump mode there is no ring.
+pub fn close_rings(core: &mut Core, channel: &Channel, closes_output: bool, closes_input: bool)
+    ensures { core.new ≡ rings_closed core.old channel.now closes_output closes_input }
+{
+    if channel.is_buffered() {
+        let output = header_if(closes_output, channel.output_header);
+        let input = header_if(closes_input, channel.input_header);
+        core.ring_close(output, input);
+    }
+}
+
+/// What a CLOSE or RELEAS that isn't done leaves of its channel: where it is stopped, the status that says so.
+pub fn leave_open(job: &mut Job, number: u32, channel: Channel, reply: Reply)
+    ensures { job.new ≡ left_open job.old number channel reply }
+{
+    if let Reply::Stopped(status) = reply {
+        job.set_channel(number, Some(Channel { status, ..channel }));
+    }
+}
+
 /// CLOSE, where it publishes nothing: without bit 1 the output side closes, and what it has written, if
-/// anything, is dropped; without bit 2 the input side closes, and what it reads is let go.
+/// anything, is dropped; without bit 2 the input side closes, and what it reads is let go. Bit 40 (octal) leaves the
+/// rings alone.
 fn close<D: Disk>(volume: &mut Volume<D>, job: &mut Job, number: u32, bits: u32) -> Reply
     requires live { (key : ℕ) → times key (keys_of (sides_in (Some job.old)))
         ≤ present (pending_at volume.old.core.pending key) }
@@ -111,8 +149,10 @@ fn close<D: Disk>(volume: &mut Volume<D>, job: &mut Job, number: u32, bits: u32)
     };
     let (output, dropped) = parted(channel.output, bits % 2 == 1);
     let (input, released) = parted(channel.input, bits / 2 % 2 == 1);
+    let ends = ends_ring(&released, bits);
     drop_output(volume, dropped);
     release_input(volume, released);
+    close_rings(&mut job.core, &channel, false, ends);
     let closed = Channel {
         status: cleared(channel.status),
         input,
@@ -124,7 +164,7 @@ fn close<D: Disk>(volume: &mut Volume<D>, job: &mut Job, number: u32, bits: u32)
 }
 
 /// CLOSE of a channel with an output side, with neither bit 1 nor bit 40 (octal), that keeps no input side: publishes
-/// what the channel has written, and closes both sides. Where that isn't done they stay as they are.
+/// what the channel has written, and closes both sides and their rings. Where that isn't done they stay as they are.
 fn close_output<D: Disk>(
     alloc: Global,
     volume: &mut Volume<D>,
@@ -134,6 +174,7 @@ fn close_output<D: Disk>(
     output: Output,
 ) -> Reply
     requires sound { IsSound (D.state volume.old.disk) volume.old.core volume.old.failed }
+    requires serves { volume.old.failed ≡ false }
     // The channel has this side, of a version that may be published.
     requires there { slot job.old.channels number ≡ Some channel }
     requires side { channel.output ≡ Some output }
@@ -146,24 +187,27 @@ fn close_output<D: Disk>(
         ≤ readers_of (version_at volume.old.core.live key) }
     // The volume, whatever is answered.
     ensures published { (between : VolumeCore) × PublishesBy (D.state volume.old.disk) (D.state volume.new.disk)
-        volume.old.core between volume.old.failed volume.new.failed output.pending.key result }
-    ensures memory { result ≡ NoMemory → (volume.new.disk ≡ volume.old.disk) × (volume.new.core ≡ volume.old.core) }
-    // The job: the sides close where it is done.
+        volume.old.core between volume.old.failed volume.new.failed channel output (last_at job.old.core channel)
+        result }
+    ensures idle { IsIdle result → (volume.new.disk ≡ volume.old.disk) × (volume.new.core ≡ volume.old.core)
+        × (volume.new.failed ≡ volume.old.failed) }
+    // The job: the sides and their rings close where it is done.
     ensures closed { result ≡ Done → job.new
-        ≡ record job.old { channels = slice_set job.old.channels number (Some (both_closed channel)) } }
-    ensures kept { (result ≡ Done → ⊥) → job.new ≡ job.old }
+        ≡ closed_in job.old number channel true (is_some channel.input) (Some (both_closed channel)) }
+    ensures kept { (result ≡ Done → ⊥) → job.new ≡ left_open job.old number channel result }
     ensures stands { StillStands volume.old.core volume.new.core volume.new.failed job.old job.new }
     // The machine's row, for whichever bits publish and keep no input side.
-    ensures row { volume.old.failed ≡ false → (bits : ℕ) → keeps_output bits ≡ false → discards bits ≡ false
+    ensures row { (bits : ℕ) → keeps_output bits ≡ false → discards bits ≡ false
         → (if keeps_input bits then channel.input else None) ≡ None
         → IsPublishRow (D.state volume.old.disk) (D.state volume.new.disk) volume.old.core volume.new.core
         volume.new.failed job.old job.new (Close number bits) result }
     ensures crash { (bits : ℕ) → keeps_output bits ≡ false → discards bits ≡ false
         → CrashesAsRow (D.state volume.old.disk) (D.state volume.new.disk) volume.old.core job.old (Close number bits) }
 {
-    let reply = publish_output(alloc, volume, output);
+    let reply = publish_output(alloc, volume, &job.core, &channel, output);
     if reply == Reply::Done {
         release_input(volume, channel.input);
+        close_rings(&mut job.core, &channel, true, channel.input.is_some());
         let closed = Channel {
             status: cleared(channel.status),
             input: None,
@@ -171,13 +215,15 @@ fn close_output<D: Disk>(
             ..channel
         };
         job.set_channel(number, Some(closed));
+    } else {
+        leave_open(job, number, channel, reply);
     }
     reply
 }
 
 /// CLOSE of a channel with both sides, with neither bit 1 nor bit 40 (octal), that keeps the input side: publishes what
-/// the channel has written, and closes the output side; the input side comes to hold the version that is published.
-/// Where that isn't done both stay as they are.
+/// the channel has written, and closes the output side and its ring; the input side comes to hold the version that is
+/// published. Where that isn't done both stay as they are.
 fn close_and_hold<D: Disk>(
     alloc: Global,
     volume: &mut Volume<D>,
@@ -188,6 +234,7 @@ fn close_and_hold<D: Disk>(
     input: Input,
 ) -> Reply
     requires sound { IsSound (D.state volume.old.disk) volume.old.core volume.old.failed }
+    requires serves { volume.old.failed ≡ false }
     // The channel has these sides, of a version that may be published.
     requires there { slot job.old.channels number ≡ Some channel }
     requires side { channel.output ≡ Some output }
@@ -203,18 +250,18 @@ fn close_and_hold<D: Disk>(
         → v.readers + 1 < 2 ^ 32 }
     // The volume, whatever is answered.
     ensures published { (between : VolumeCore) × PublishesBy (D.state volume.old.disk) (D.state volume.new.disk)
-        volume.old.core between volume.old.failed volume.new.failed output.pending.key result }
-    ensures memory { result ≡ NoMemory → (volume.new.disk ≡ volume.old.disk) × (volume.new.core ≡ volume.old.core) }
-    // The job: the output side closes where it is done.
+        volume.old.core between volume.old.failed volume.new.failed channel output (last_at job.old.core channel)
+        result }
+    ensures idle { IsIdle result → (volume.new.disk ≡ volume.old.disk) × (volume.new.core ≡ volume.old.core)
+        × (volume.new.failed ≡ volume.old.failed) }
+    // The job: the output side and its ring close where it is done.
     ensures closed { result ≡ Done → (renewed : Input) × (renewed
         ≡ record input { pin = renewed.pin; protection = renewed.protection })
-        × (job.new ≡ record job.old {
-          channels = slice_set job.old.channels number (Some (output_closed channel renewed));
-        }) }
-    ensures kept { (result ≡ Done → ⊥) → job.new ≡ job.old }
+        × (job.new ≡ closed_in job.old number channel true false (Some (output_closed channel renewed))) }
+    ensures kept { (result ≡ Done → ⊥) → job.new ≡ left_open job.old number channel result }
     ensures stands { StillStands volume.old.core volume.new.core volume.new.failed job.old job.new }
     // The machine's row, for whichever bits publish and keep the input side.
-    ensures row { volume.old.failed ≡ false → (bits : ℕ) → keeps_output bits ≡ false → discards bits ≡ false
+    ensures row { (bits : ℕ) → keeps_output bits ≡ false → discards bits ≡ false
         → keeps_input bits ≡ true
         → IsPublishRow (D.state volume.old.disk) (D.state volume.new.disk) volume.old.core volume.new.core
         volume.new.failed job.old job.new (Close number bits) result }
@@ -222,10 +269,11 @@ fn close_and_hold<D: Disk>(
         → CrashesAsRow (D.state volume.old.disk) (D.state volume.new.disk) volume.old.core job.old (Close number bits) }
 {
     let prime = prime_of(volume, output.pending);
-    let reply = publish_output(alloc, volume, output);
+    let reply = publish_output(alloc, volume, &job.core, &channel, output);
     if reply == Reply::Done {
         let _failed = volume.has_failed(); // which says what holds of a volume between two calls
         let renewed = renew(volume, input, prime.ppn, prime.file, prime.protection);
+        close_rings(&mut job.core, &channel, true, false);
         let closed = Channel {
             status: cleared(channel.status),
             input: Some(renewed),
@@ -233,6 +281,8 @@ fn close_and_hold<D: Disk>(
             ..channel
         };
         job.set_channel(number, Some(closed));
+    } else {
+        leave_open(job, number, channel, reply);
     }
     reply
 }

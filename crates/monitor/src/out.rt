@@ -124,7 +124,7 @@ fn moved(channel: Channel, output: Output, count: usize) -> Channel
 }
 
 /// Whether so many words would be put over blocks that an append began with.
-fn is_kept(output: Output, count: usize) -> bool
+pub fn is_kept(output: Output, count: usize) -> bool
     ensures { result ≡ (not (count == 0) && is_before_end (kind_of output.kind) output.next) }
 {
     match output.kind {

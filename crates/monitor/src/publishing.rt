@@ -1,31 +1,94 @@
-ghost use Rattle.std.specs.Prelude.{◌≡◌, ◌<◌, Some, IsSome};
-ghost use Rattle.meaning.specs.declared.call.Reply.TheVariants.{Done, NoMemory};
+ghost use Rattle.std.specs.Prelude.{◌≡◌, ◌<◌, ◌≤◌, ◌+◌, ℕ, List, length, Some, None, IsSome, IfOk, IfErr, OnErr, false};
+ghost use Rattle.blockdisk.specs.Disk.{SameDisk};
+ghost use Rattle.meaning.specs.Jobs.{cleared, block_too_large};
+ghost use Rattle.meaning.specs.declared.call.Reply.TheVariants.{Stopped};
+ghost use Rattle.usercore.specs.declared.error.CoreError.TheVariants.{AddressCheck};
 ghost use Rattle.volume.specs.Live.{pending_at};
 ghost use Rattle.volume.specs.Publishing.{IsPlaced};
 ghost use Rattle.volume.specs.declared.pending.PendingVersion.{PendingVersion};
-ghost use Rattle.monitor.specs.Publishing.{MayPublish, IsPublishing};
+ghost use Rattle.monitor.specs.Events.{IsIdle};
+ghost use Rattle.monitor.specs.Lists.{unpublished_by};
+ghost use Rattle.monitor.specs.Publishing.{last_at, MayPublish, IsPublishing};
 
-use crate::list::reply_of;
+use crate::channel::Channel;
+use crate::out::is_kept;
 use crate::output::Output;
+use crate::status::{BLOCK_TOO_LARGE, cleared};
 use blockdisk::Disk;
 use meaning::Reply;
 use std::alloc::Global;
-use volume::Volume;
+use usercore::{Core, CoreError, RingStep};
+use volume::{CallError, Volume};
+use words36::Word;
 
-/// Publishes what an output side has written. In dump mode no words are left in a last buffer.
-pub fn publish_output<D: Disk>(alloc: Global, volume: &mut Volume<D>, output: Output) -> Reply
+/// The words of a channel's last buffer, at most 128, which are put before its output side is published: none in dump
+/// mode.
+///
+/// # Errors
+///
+/// `AddressCheck` where the buffer isn't as it should be.
+fn last_words<'a>(core: &'a Core, channel: &Channel) -> Result<&'a [Word], CoreError>
+    ensures words { IfOk result (λ words. last_at core.now channel.now ≡ Some words.now) }
+    ensures few { IfOk result (λ words. length words.now ≤ 128) }
+    ensures none { OnErr result (last_at core.now channel.now ≡ None) }
+    ensures refused { IfErr result (λ error. error ≡ AddressCheck) }
+{
+    if !channel.is_buffered() {
+        return Ok(&[]);
+    }
+    let area = core.ring_check(RingStep::Close, channel.output_header, channel.bytes())?;
+    core.words(area)
+}
+
+/// The answer where the last words of a channel find no place.
+fn too_large(channel: &Channel) -> Reply
+    ensures { result ≡ Stopped (cleared channel.now.status + block_too_large) }
+{
+    Reply::Stopped(cleared(channel.status) + BLOCK_TOO_LARGE)
+}
+
+/// The answer where the volume did not publish what a channel has written.
+fn unpublished_by(channel: &Channel, error: CallError) -> Reply
+    ensures { result ≡ unpublished_by channel.now error }
+{
+    match error {
+        CallError::Refused(_) => too_large(channel), // it is only for want of room
+        CallError::Device => Reply::Device,
+        CallError::NoMemory => Reply::NoMemory,
+        CallError::Failed => Reply::Failed,
+    }
+}
+
+/// Publishes what the output side of a channel has written, with the words of its last buffer. Where these find no
+/// place, or there is no such buffer as the ring's header says, nothing is touched.
+pub fn publish_output<D: Disk>(
+    alloc: Global,
+    volume: &mut Volume<D>,
+    core: &Core,
+    channel: &Channel,
+    output: Output,
+) -> Reply
+    requires serves { volume.old.failed ≡ false }
     requires live { IsSome (pending_at volume.old.core.pending output.pending.key) }
     requires starts { 0 < output.next }
     requires placed { (p : PendingVersion) → pending_at volume.old.core.pending output.pending.key ≡ Some p
         → IsPlaced volume.old.core p }
-    ensures whatever { MayPublish (D.state volume.old.disk) (D.state volume.new.disk) volume.old.core volume.new.core
-        output.pending.key }
+    ensures whatever { (words : List ℕ) → last_at core.now channel.now ≡ Some words
+        → MayPublish (D.state volume.old.disk) (D.state volume.new.disk) volume.old.core volume.new.core output words }
     ensures answered { IsPublishing (D.state volume.old.disk) (D.state volume.new.disk) volume.old.core
-        volume.new.core volume.old.failed volume.new.failed output.pending.key result }
-    ensures memory { result ≡ NoMemory → (volume.new.disk ≡ volume.old.disk) × (volume.new.core ≡ volume.old.core) }
+        volume.new.core volume.old.failed volume.new.failed channel.now output (last_at core.now channel.now) result }
+    ensures idle { IsIdle result → (volume.new.disk ≡ volume.old.disk) × (volume.new.core ≡ volume.old.core)
+        × (volume.new.failed ≡ volume.old.failed) }
+    ensures same { SameDisk (D.state volume.old.disk) (D.state volume.new.disk) }
 {
-    match volume.publish(alloc, output.pending, output.next, &[]) {
+    let Ok(words) = last_words(core, channel) else {
+        return Reply::AddressCheck; // the only error
+    };
+    if is_kept(output, words.len()) {
+        return too_large(channel);
+    }
+    match volume.publish(alloc, output.pending, output.next, words) {
         Ok(()) => Reply::Done,
-        Err(error) => reply_of(error),
+        Err(error) => unpublished_by(channel, error),
     }
 }

@@ -1,4 +1,4 @@
-ghost use Rattle.std.specs.Prelude.{◌≡◌, ◌≤◌, ℕ, Some, None, false, ◌<◌, IsSome, slice_set};
+ghost use Rattle.std.specs.Prelude.{◌≡◌, ◌≤◌, ℕ, Some, None, true, false, ◌<◌, is_some, IsSome};
 ghost use Rattle.meaning.specs.Jobs.{slot};
 ghost use Rattle.meaning.specs.Maps.{times};
 ghost use Rattle.meaning.specs.declared.call.Call.TheVariants.{Releas};
@@ -10,12 +10,14 @@ ghost use Rattle.monitor.specs.Rows.{IsRow, Keeps, KeepsReading, publishes_at};
 ghost use Rattle.monitor.specs.Sides.{readers_in, pins_of};
 ghost use Rattle.volume.specs.Publishing.{IsPlaced};
 ghost use Rattle.volume.specs.declared.pending.PendingVersion.{PendingVersion};
-ghost use Rattle.monitor.specs.Publishing.{PublishesBy, IsPublishRow, CrashesAsRow, StillStands};
+ghost use Rattle.monitor.specs.Closing.{closed_in, left_open};
+ghost use Rattle.monitor.specs.Events.{IsIdle};
+ghost use Rattle.monitor.specs.Publishing.{last_at, PublishesBy, IsPublishRow, CrashesAsRow, StillStands};
 ghost use Rattle.monitor.specs.Promises.{IsReady, ServesAlways};
 ghost use Rattle.volume.specs.Rest.{IsSound};
 
 use crate::channel::Channel;
-use crate::close::closed_side;
+use crate::close::{close_rings, closed_side, leave_open};
 use crate::dropping::release_input;
 use crate::job::Job;
 use crate::output::Output;
@@ -43,7 +45,7 @@ pub fn serve_release<D: Disk>(
     }
 }
 
-/// RELEAS of a channel without an output side: what it reads is let go, and the channel closes.
+/// RELEAS of a channel without an output side: what it reads is let go, and the channel closes with its ring.
 fn release<D: Disk>(volume: &mut Volume<D>, job: &mut Job, number: u32) -> Reply
     requires held { (key : ℕ) → times key (pins_of (readers_in (Some job.old)))
         ≤ readers_of (version_at volume.old.core.live key) }
@@ -60,12 +62,13 @@ fn release<D: Disk>(volume: &mut Volume<D>, job: &mut Job, number: u32) -> Reply
         return Reply::NoChannel;
     };
     release_input(volume, channel.input); // if it reads
+    close_rings(&mut job.core, &channel, false, channel.input.is_some());
     job.set_channel(number, None);
     Reply::Done
 }
 
 /// RELEAS of a channel with an output side: publishes what it has written, lets go what it reads, and closes the
-/// channel. Where that isn't done the channel stays as it is.
+/// channel with its rings. Where that isn't done the channel stays as it is.
 fn release_output<D: Disk>(
     alloc: Global,
     volume: &mut Volume<D>,
@@ -75,6 +78,7 @@ fn release_output<D: Disk>(
     output: Output,
 ) -> Reply
     requires sound { IsSound (D.state volume.old.disk) volume.old.core volume.old.failed }
+    requires serves { volume.old.failed ≡ false }
     // The channel has this side, of a version that may be published.
     requires there { slot job.old.channels number ≡ Some channel }
     requires side { channel.output ≡ Some output }
@@ -87,23 +91,27 @@ fn release_output<D: Disk>(
         ≤ readers_of (version_at volume.old.core.live key) }
     // The volume, whatever is answered.
     ensures published { (between : VolumeCore) × PublishesBy (D.state volume.old.disk) (D.state volume.new.disk)
-        volume.old.core between volume.old.failed volume.new.failed output.pending.key result }
-    ensures memory { result ≡ NoMemory → (volume.new.disk ≡ volume.old.disk) × (volume.new.core ≡ volume.old.core) }
-    // The job: the channel closes where it is done.
-    ensures closed { result ≡ Done → job.new ≡ record job.old { channels = slice_set job.old.channels number None } }
-    ensures kept { (result ≡ Done → ⊥) → job.new ≡ job.old }
+        volume.old.core between volume.old.failed volume.new.failed channel output (last_at job.old.core channel)
+        result }
+    ensures idle { IsIdle result → (volume.new.disk ≡ volume.old.disk) × (volume.new.core ≡ volume.old.core)
+        × (volume.new.failed ≡ volume.old.failed) }
+    // The job: the channel and its rings close where it is done.
+    ensures closed { result ≡ Done → job.new ≡ closed_in job.old number channel true (is_some channel.input) None }
+    ensures kept { (result ≡ Done → ⊥) → job.new ≡ left_open job.old number channel result }
     ensures stands { StillStands volume.old.core volume.new.core volume.new.failed job.old job.new }
     // The machine's row.
-    ensures row { volume.old.failed ≡ false
-        → IsPublishRow (D.state volume.old.disk) (D.state volume.new.disk) volume.old.core volume.new.core
+    ensures row { IsPublishRow (D.state volume.old.disk) (D.state volume.new.disk) volume.old.core volume.new.core
         volume.new.failed job.old job.new (Releas number) result }
     ensures crash { CrashesAsRow (D.state volume.old.disk) (D.state volume.new.disk) volume.old.core job.old
         (Releas number) }
 {
-    let reply = publish_output(alloc, volume, output);
+    let reply = publish_output(alloc, volume, &job.core, &channel, output);
     if reply == Reply::Done {
         release_input(volume, channel.input);
+        close_rings(&mut job.core, &channel, true, channel.input.is_some());
         job.set_channel(number, None);
+    } else {
+        leave_open(job, number, channel, reply);
     }
     reply
 }

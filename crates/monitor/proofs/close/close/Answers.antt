@@ -1,7 +1,7 @@
-use Rattle.std.proofs.Common.{sym, ◌∙◌}
+use Rattle.std.proofs.Common.{sym, ap, Some, slice_set, ◌∙◌}
 use Rattle.monitor.proofs.Calling.{keeps_same, reads_same}
 use Rattle.monitor.proofs.Closes.{close_none, close_row, closed_back, closed_both, dropped_live, released_held}
-use Rattle.monitor.proofs.Closes.{close_keeps, close_reads}
+use Rattle.monitor.proofs.Closes.{closed_as, close_keeps, close_reads, ends_is}
 use Rattle.monitor.proofs.Dropped.{leaves_none, leaves_on}
 use Rattle.monitor.proofs.close.close.Goals as goal
 
@@ -31,24 +31,33 @@ release_input-requires g c = record {
   held =
       released_held c.args.job.now c.args.number c.in-Some.channel (sym c.channel.ensures
       ∙ c.in-Some.is) c.args.bits c.args.volume.now.core c.drop_output.new.volume.core _ c.drop_output.ensures.closed
-      c.requires.held c.parted-input.result.1 c.parted-input.ensures.closed;
+      c.requires.held c.parted.result.1 c.parted.ensures.closed;
 }
 
 pub returns-clause-row : goal.returns-clause-row
 returns-clause-row g c =
+    let ends = ends_is c.in-Some.channel c.args.bits c.parted.result.1 c.parted.ensures.closed
+    c.ends_ring-ends.result c.ends_ring-ends.ensures in
     close_row c.args.job.now c.set_channel.new.self c.args.number c.args.bits c.in-Some.channel (sym c.channel.ensures
-    ∙ c.in-Some.is) c.requires.unpublished
-    (closed_back c.args.job.now c.set_channel.new.self c.args.number c.args.bits c.in-Some.channel c.cleared.result
-    c.parted-input.result.0 c.parted-output.result.0 c.cleared.ensures.value c.parted-input.ensures.kept
-    c.parted-output.ensures.kept c.set_channel.ensures)
+    ∙ c.in-Some.is) c.requires.unpublished c.ends_ring-ends.result ends
+    (closed_back c.args.job.now c.set_channel.new.self c.args.number c.args.bits c.in-Some.channel
+    c.close_rings.new.core c.cleared.result
+    c.parted.result.0 c.parted-output.result.0 c.cleared.ensures.value c.parted.ensures.kept
+    c.parted-output.ensures.kept c.set_channel.ensures
+    ∙ ap (λ core. record c.args.job.now {
+      core = core;
+      channels = slice_set c.args.job.now.channels c.args.number (Some (closed_as c.in-Some.channel c.args.bits));
+    }) c.close_rings.ensures)
 
 pub returns-clause-keeps : goal.returns-clause-keeps
 returns-clause-keeps g c =
     close_keeps c.args.job.now c.args.number c.in-Some.channel (sym c.channel.ensures
     ∙ c.in-Some.is) c.args.bits c.args.volume.now.core c.release_input.new.volume.core c.set_channel.new.self
-    c.parted-output.result.1 c.parted-input.result.1 c.parted-output.ensures.closed c.parted-input.ensures.closed
-    (closed_back c.args.job.now c.set_channel.new.self c.args.number c.args.bits c.in-Some.channel c.cleared.result
-    c.parted-input.result.0 c.parted-output.result.0 c.cleared.ensures.value c.parted-input.ensures.kept
+    c.close_rings.new.core
+    c.parted-output.result.1 c.parted.result.1 c.parted-output.ensures.closed c.parted.ensures.closed
+    (closed_back c.args.job.now c.set_channel.new.self c.args.number c.args.bits c.in-Some.channel
+    c.close_rings.new.core c.cleared.result
+    c.parted.result.0 c.parted-output.result.0 c.cleared.ensures.value c.parted.ensures.kept
     c.parted-output.ensures.kept c.set_channel.ensures)
     (closed_both c.args.volume.now.core c.drop_output.new.volume.core c.release_input.new.volume.core _
     _ c.drop_output.ensures.closed c.release_input.ensures.closed)
@@ -57,9 +66,11 @@ pub returns-clause-reads : goal.returns-clause-reads
 returns-clause-reads g c =
     close_reads c.args.job.now c.args.number c.in-Some.channel (sym c.channel.ensures
     ∙ c.in-Some.is) c.args.bits c.args.volume.now.core c.release_input.new.volume.core c.set_channel.new.self
-    c.parted-output.result.1 c.parted-input.result.1 c.parted-output.ensures.closed c.parted-input.ensures.closed
-    (closed_back c.args.job.now c.set_channel.new.self c.args.number c.args.bits c.in-Some.channel c.cleared.result
-    c.parted-input.result.0 c.parted-output.result.0 c.cleared.ensures.value c.parted-input.ensures.kept
+    c.close_rings.new.core
+    c.parted-output.result.1 c.parted.result.1 c.parted-output.ensures.closed c.parted.ensures.closed
+    (closed_back c.args.job.now c.set_channel.new.self c.args.number c.args.bits c.in-Some.channel
+    c.close_rings.new.core c.cleared.result
+    c.parted.result.0 c.parted-output.result.0 c.cleared.ensures.value c.parted.ensures.kept
     c.parted-output.ensures.kept c.set_channel.ensures)
     (closed_both c.args.volume.now.core c.drop_output.new.volume.core c.release_input.new.volume.core _
     _ c.drop_output.ensures.closed c.release_input.ensures.closed)

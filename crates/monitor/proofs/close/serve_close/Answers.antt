@@ -85,15 +85,15 @@ returns-in-None g c = record {
       let here = c.in-Some.ensures.some in
       let published = c.close_output.ensures.published in
       publishing_serves g.D.Disk.state g.met.D.Disk.only_now old.disk new.disk old.core published.0 new.core old.failed
-      new.failed c.in-Some.output.pending.key c.args.job.now c.close_output.new.job
+      new.failed c.in-Some.open c.in-Some.output _ c.args.job.now c.close_output.new.job c.args.channel
       (Close c.args.channel c.args.bits) moment c.close_output.result
       ready.alive ready.placed timely published.1
-      c.close_output.ensures.memory c.close_output.ensures.kept c.close_output.ensures.stands
-      (c.close_output.ensures.row ready.alive c.args.bits here.closes here.keeps
+      c.close_output.ensures.idle c.close_output.ensures.kept c.close_output.ensures.stands
+      (c.close_output.ensures.row c.args.bits here.closes here.keeps
       (sym c.input_kept.ensures ∙ c.in-None.is))
       (c.close_output.ensures.crash c.args.bits here.closes here.keeps)
       (λ quiet. publishes_here c.args.job.now c.args.channel c.args.bits c.in-Some.open c.in-Some.output here quiet)
-      (λ kept. kept) (λ asked. asked);
+      (λ kept. kept);
 }
 
 pub returns-in-Some-input_kept : goal.returns-in-Some-input_kept
@@ -105,16 +105,16 @@ returns-in-Some-input_kept g c = record {
       let here = c.in-Some.ensures.some in
       let published = c.close_and_hold.ensures.published in
       publishing_serves g.D.Disk.state g.met.D.Disk.only_now old.disk new.disk old.core published.0 new.core old.failed
-      new.failed c.in-Some.output.pending.key c.args.job.now c.close_and_hold.new.job
+      new.failed c.in-Some.open c.in-Some.output _ c.args.job.now c.close_and_hold.new.job c.args.channel
       (Close c.args.channel c.args.bits) moment c.close_and_hold.result
       ready.alive ready.placed timely published.1
-      c.close_and_hold.ensures.memory c.close_and_hold.ensures.kept c.close_and_hold.ensures.stands
-      (c.close_and_hold.ensures.row ready.alive c.args.bits here.closes here.keeps
+      c.close_and_hold.ensures.idle c.close_and_hold.ensures.kept c.close_and_hold.ensures.stands
+      (c.close_and_hold.ensures.row c.args.bits here.closes here.keeps
       (kept_by (keeps_input c.args.bits) c.in-Some.open.input c.in-Some-input_kept.input
       (sym c.input_kept.ensures ∙ c.in-Some-input_kept.is)))
       (c.close_and_hold.ensures.crash c.args.bits here.closes here.keeps)
       (λ quiet. publishes_here c.args.job.now c.args.channel c.args.bits c.in-Some.open c.in-Some.output here quiet)
-      (λ kept. kept) (λ asked. asked);
+      (λ kept. kept);
 }
 
 pub returns-in_default : goal.returns-in_default
@@ -127,5 +127,5 @@ returns-in_default g c = record {
       new.failed c.args.job.now c.close.new.job (Close c.args.channel c.args.bits) moment c.close.result
       ready.alive c.close.ensures.untouched ready.placed timely c.close.ensures.row c.close.ensures.keeps
       c.close.ensures.reads c.close.ensures.leaves c.close.ensures.only
-      c.close.ensures.refused (λ kept. kept) (λ asked. asked);
+      c.close.ensures.refused (λ kept. kept);
 }

@@ -1,31 +1,56 @@
-use Rattle.std.proofs.Common.{arith}
-use Rattle.meaning.proofs.PlaceLaws.{some_is}
-use Rattle.volume.specs.Live.{pending_at}
+use Rattle.std.proofs.Common.{◌≡◌, List, length, ℕ, sym, subst, ◌∙◌, refl}
+use Rattle.meaning.specs.Outputs.{is_before_end}
+use Rattle.meaning.proofs.MapLaws.{some_same}
+use Rattle.volume.specs.declared.pending.PendingVersion.{PendingVersion}
+use Rattle.monitor.specs.Publishing.{MayPublish}
+use Rattle.monitor.specs.Sides.{kind_of}
+use Rattle.monitor.proofs.Outs.{finds_place, lacks_room, ok_is_none}
 use Rattle.monitor.proofs.Publications.{answered_done, answered_error}
 use Rattle.monitor.proofs.publishing.publish_output.Goals as goal
 
-pub returns-in-Ok-clause-answered : goal.returns-in-Ok-clause-answered
-returns-in-Ok-clause-answered g c =
+pub returns-in-Ok-publish-clause-whatever : goal.returns-in-Ok-publish-clause-whatever
+returns-in-Ok-publish-clause-whatever g c words found =
+    let state = g.D.Disk.state in
+    subst (λ ws. MayPublish (state c.args.volume.now.disk) (state c.publish.new.self.disk) c.args.volume.now.core
+    c.publish.new.self.core c.args.output ws) (some_same (sym c.in-Ok.ensures.words ∙ found))
+    (record { crash = c.publish.ensures.crash; others = c.publish.ensures.others; held = c.publish.ensures.held })
+
+pub returns-in-Err-clause-whatever : goal.returns-in-Err-clause-whatever
+returns-in-Err-clause-whatever g c words found =
+    let state = g.D.Disk.state in
+    subst (λ ws. MayPublish (state c.args.volume.now.disk) (state c.publish.new.self.disk) c.args.volume.now.core
+    c.publish.new.self.core c.args.output ws) (some_same (sym c.in-Ok.ensures.words ∙ found))
+    (record { crash = c.publish.ensures.crash; others = c.publish.ensures.others; held = c.publish.ensures.held })
+
+pub returns-in-Ok-publish-clause-answered : goal.returns-in-Ok-publish-clause-answered
+returns-in-Ok-publish-clause-answered g c =
+    let before = is_before_end (kind_of c.args.output.kind) c.args.output.next in
     answered_done (g.D.Disk.state c.args.volume.now.disk) (g.D.Disk.state c.publish.new.self.disk)
     c.args.volume.now.core c.publish.new.self.core c.args.volume.now.failed c.publish.new.self.failed
-    c.args.output.pending.key
-    c.publish.result c.publish.ensures.failed c.publish.ensures.still c.publish.ensures.served _ c.in-Ok.is
+    c.args.channel.now c.args.output _ c.in-Ok.words.now c.in-Ok.ensures.words c.publish.result c.requires.serves
+    c.publish.ensures.still c.publish.ensures.served _ c.in-Ok-publish.is
     (record {
-      files = c.in-Ok.ensures.done;
-      readers = λ h. c.publish.ensures.readers h (λ e. let ok = c.in-Ok.is in cc);
-      writers = λ h. c.publish.ensures.writers h (λ e. let ok = c.in-Ok.is in cc);
-      core = c.in-Ok.ensures.published;
-      gone = c.in-Ok.ensures.gone;
+      fits = λ p at. finds_place (length c.in-Ok.words.now) (length c.in-Ok.words.now) before c.is_kept.result
+          c.is_kept.ensures refl
+          (λ lacks. let none = (c.publish.ensures.room c.requires.serves p at).1 lacks in
+          let ok = c.in-Ok-publish.is in cc) c.if-is_kept.false;
+      files = c.in-Ok-publish.ensures.done;
+      readers = λ h. c.publish.ensures.readers h (λ e. let ok = c.in-Ok-publish.is in cc);
+      writers = λ h. c.publish.ensures.writers h (λ e. let ok = c.in-Ok-publish.is in cc);
+      core = c.in-Ok-publish.ensures.published;
+      gone = c.in-Ok-publish.ensures.gone;
     })
 
 pub returns-in-Err-clause-answered : goal.returns-in-Err-clause-answered
 returns-in-Err-clause-answered g c =
+    let before = is_before_end (kind_of c.args.output.kind) c.args.output.next in
     answered_error (g.D.Disk.state c.args.volume.now.disk) (g.D.Disk.state c.publish.new.self.disk)
     c.args.volume.now.core c.publish.new.self.core c.args.volume.now.failed c.publish.new.self.failed
-    c.args.output.pending.key
-    c.publish.result c.publish.ensures.failed c.publish.ensures.still c.publish.ensures.served
-    (λ alive full. let p = some_is (pending_at c.args.volume.now.core.pending c.args.output.pending.key)
-    c.requires.live in let more = ((c.publish.ensures.room alive p.0 p.1).0 full).0 in
-    absurd (omega arith)) c.publish.ensures.codes c.publish.ensures.given_up c.publish.ensures.device
-    c.publish.ensures.ended c.publish.ensures.counted
-    c.in-Err.error c.reply_of.result c.in-Err.is c.reply_of.ensures
+    c.args.channel.now c.args.output _ c.in-Ok.words.now c.in-Ok.ensures.words c.publish.result c.requires.serves
+    c.publish.ensures.still c.publish.ensures.served
+    (λ p at is. lacks_room ((c.publish.ensures.room c.requires.serves p at).0 is))
+    (λ p at other. finds_place (length c.in-Ok.words.now) (length c.in-Ok.words.now) before c.is_kept.result
+    c.is_kept.ensures refl
+    (λ lacks. other ((c.publish.ensures.room c.requires.serves p at).1 lacks)) c.if-is_kept.false)
+    c.publish.ensures.codes c.publish.ensures.given_up c.publish.ensures.device c.publish.ensures.ended
+    c.publish.ensures.counted c.in-Err.error c.unpublished_by.result c.in-Err.is c.unpublished_by.ensures

@@ -1,4 +1,5 @@
-use Rattle.std.proofs.Common.{sym, ◌∙◌, arith}
+use Rattle.std.proofs.Common.{sym, ap, false, None, slice_set, ◌∙◌, arith}
+use Rattle.monitor.specs.Closing.{rings_closed}
 use Rattle.monitor.proofs.Calling.{keeps_same, reads_same}
 use Rattle.monitor.proofs.Closes.{release_none, release_row, release_keeps, release_reads, input_held}
 use Rattle.monitor.proofs.Dropped.{closes_none, leaves_none}
@@ -26,19 +27,24 @@ release_input-requires g c = record {
 
 pub returns-clause-row : goal.returns-clause-row
 returns-clause-row g c = release_row c.args.job.now c.set_channel.new.self c.args.number c.in-Some.channel
-    (sym c.channel.ensures ∙ c.in-Some.is) c.requires.unpublished c.set_channel.ensures
+    (sym c.channel.ensures ∙ c.in-Some.is) c.requires.unpublished (c.set_channel.ensures
+    ∙ ap (λ core. record c.args.job.now {
+      core = core;
+      channels = slice_set c.args.job.now.channels c.args.number None;
+    }) (c.close_rings.ensures
+    ∙ ap (rings_closed c.args.job.now.core c.in-Some.channel false) c.is_some.ensures))
 
 pub returns-clause-keeps : goal.returns-clause-keeps
 returns-clause-keeps g c =
     release_keeps c.args.volume.now.core c.release_input.new.volume.core c.args.job.now c.set_channel.new.self
     c.args.number c.in-Some.channel (sym c.channel.ensures
-    ∙ c.in-Some.is) c.requires.unpublished c.set_channel.ensures c.release_input.ensures.closed
+    ∙ c.in-Some.is) c.requires.unpublished _ c.set_channel.ensures c.release_input.ensures.closed
 
 pub returns-clause-reads : goal.returns-clause-reads
 returns-clause-reads g c =
     release_reads c.args.volume.now.core c.release_input.new.volume.core c.args.job.now c.set_channel.new.self
     c.args.number c.in-Some.channel (sym c.channel.ensures
-    ∙ c.in-Some.is) c.requires.unpublished c.set_channel.ensures c.release_input.ensures.closed
+    ∙ c.in-Some.is) c.requires.unpublished _ c.set_channel.ensures c.release_input.ensures.closed
 
 pub returns-clause-leaves : goal.returns-clause-leaves
 returns-clause-leaves g c = c.release_input.ensures.closed.leaves

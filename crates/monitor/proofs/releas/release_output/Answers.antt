@@ -1,8 +1,11 @@
-use Rattle.std.proofs.Common.{◌≡◌, rules, refl, None}
+use Rattle.std.proofs.Common.{◌≡◌, rules, refl, true, None, is_some}
 use Rattle.meaning.specs.declared.call.Reply.TheVariants.{Done}
+use Rattle.monitor.specs.Closing.{rings_closed}
+use Rattle.monitor.specs.Publishing.{last_at}
 use Rattle.monitor.proofs.ClosedSides.{has_published, release_crashes, sides_stand, released_row}
 use Rattle.monitor.proofs.Publications.{held_behind, released_behind}
 use Rattle.monitor.proofs.PublishedAnswers.{publishes_by, same_state}
+use Rattle.monitor.proofs.Untouched.{untouched_quiet}
 use Rattle.monitor.proofs.releas.release_output.Goals as goal
 
 pub release_input-requires : goal.release_input-requires
@@ -11,12 +14,13 @@ release_input-requires g c =
     let old = c.args.volume.now in
     let mid = c.publish_output-reply.new.volume in
     let by = publishes_by state old.disk mid.disk mid.disk old.core mid.core old.failed mid.failed mid.failed
-    c.args.output.pending.key c.publish_output-reply.result (refl, refl) c.publish_output-reply.ensures.whatever
-    c.publish_output-reply.ensures.answered in
+    c.args.channel c.args.output (last_at c.args.job.now.core c.args.channel) c.publish_output-reply.result
+    (refl, refl) c.publish_output-reply.ensures.whatever
+    c.publish_output-reply.ensures.answered c.publish_output-reply.ensures.same in
     let done : c.publish_output-reply.result ≡ Done = search rules in
+    let has = has_published by done in
     record {
-      held =
-          held_behind c.args.output by.whatever (has_published by done) c.requires.live c.args.job.now c.args.number
+      held = held_behind c.args.output (by.whatever has.0 has.1) has.2 c.requires.live c.args.job.now c.args.number
           c.args.channel c.requires.there c.requires.held c.args.channel.input refl;
     }
 
@@ -26,8 +30,8 @@ returns-then-eq-clause-closed g c = search rules
 pub returns-then-eq-clause-kept : goal.returns-then-eq-clause-kept
 returns-then-eq-clause-kept g c = search rules
 
-pub returns-then-eq-clause-memory : goal.returns-then-eq-clause-memory
-returns-then-eq-clause-memory g c = search rules
+pub returns-then-eq-clause-idle : goal.returns-then-eq-clause-idle
+returns-then-eq-clause-idle g c = search rules
 
 pub returns-else-eq-clause-closed : goal.returns-else-eq-clause-closed
 returns-else-eq-clause-closed g c = search rules
@@ -35,8 +39,20 @@ returns-else-eq-clause-closed g c = search rules
 pub returns-else-eq-clause-kept : goal.returns-else-eq-clause-kept
 returns-else-eq-clause-kept g c = search rules
 
-pub returns-else-eq-clause-memory : goal.returns-else-eq-clause-memory
-returns-else-eq-clause-memory g c = search rules
+pub returns-else-eq-clause-idle : goal.returns-else-eq-clause-idle
+returns-else-eq-clause-idle g c = search rules
+
+pub returns-then-eq-clause-published : goal.returns-then-eq-clause-published
+returns-then-eq-clause-published g c =
+    let state = g.D.Disk.state in
+    let old = c.args.volume.now in
+    let mid = c.publish_output-reply.new.volume in
+    let new = c.release_input.new.volume in
+    let by = publishes_by state old.disk mid.disk new.disk old.core mid.core old.failed mid.failed new.failed
+    c.args.channel c.args.output (last_at c.args.job.now.core c.args.channel) c.publish_output-reply.result
+    c.release_input.ensures.untouched c.publish_output-reply.ensures.whatever
+    c.publish_output-reply.ensures.answered c.publish_output-reply.ensures.same in
+    (mid.core, by)
 
 pub returns-then-eq-clause-stands : goal.returns-then-eq-clause-stands
 returns-then-eq-clause-stands g c =
@@ -45,38 +61,43 @@ returns-then-eq-clause-stands g c =
     let mid = c.publish_output-reply.new.volume in
     let new = c.release_input.new.volume in
     let by = publishes_by state old.disk mid.disk new.disk old.core mid.core old.failed mid.failed new.failed
-    c.args.output.pending.key c.publish_output-reply.result c.release_input.ensures.untouched
-    c.publish_output-reply.ensures.whatever
-    c.publish_output-reply.ensures.answered in
-    let behind = λ (is : c.publish_output-reply.result ≡ Done). released_behind c.args.output by.whatever
-    (has_published by is) c.requires.live new.core c.args.job.now c.set_channel.new.self c.args.number
-    c.args.channel c.requires.there c.requires.side c.release_input.ensures.pending None refl refl
-    (returns-then-eq-clause-closed g c is) c.release_input.ensures.closed in
-    sides_stand new.core c.args.output by c.requires.live c.args.job.now c.set_channel.new.self c.args.number
-    c.args.channel c.requires.there c.requires.side
-    (returns-then-eq-clause-kept g c) behind (λ short. (returns-then-eq-clause-memory g c short).1)
+    c.args.channel c.args.output (last_at c.args.job.now.core c.args.channel) c.publish_output-reply.result
+    c.release_input.ensures.untouched c.publish_output-reply.ensures.whatever
+    c.publish_output-reply.ensures.answered c.publish_output-reply.ensures.same in
+    let behind = λ (is : c.publish_output-reply.result ≡ Done).
+        let has = has_published by is in
+        released_behind c.args.output (by.whatever has.0 has.1) has.2 c.requires.live new.core c.args.job.now
+        c.set_channel.new.self c.args.number c.args.channel c.requires.there c.requires.side
+        c.release_input.ensures.pending None
+        (rings_closed c.args.job.now.core c.args.channel true (is_some c.args.channel.input)) refl refl
+        (returns-then-eq-clause-closed g c is) c.release_input.ensures.closed in
+    sides_stand new.core c.args.output c.args.job.now c.set_channel.new.self c.args.number
+    c.args.channel c.requires.there c.requires.side by c.requires.live
+    (returns-then-eq-clause-kept g c) behind (λ idles. (returns-then-eq-clause-idle g c idles).1)
 
 pub returns-then-eq-clause-row : goal.returns-then-eq-clause-row
-returns-then-eq-clause-row g c alive =
+returns-then-eq-clause-row g c =
     let state = g.D.Disk.state in
     let old = c.args.volume.now in
     let mid = c.publish_output-reply.new.volume in
     let new = c.release_input.new.volume in
     let by = publishes_by state old.disk mid.disk new.disk old.core mid.core old.failed mid.failed new.failed
-    c.args.output.pending.key c.publish_output-reply.result c.release_input.ensures.untouched
-    c.publish_output-reply.ensures.whatever
-    c.publish_output-reply.ensures.answered in
-    let behind = λ (is : c.publish_output-reply.result ≡ Done). released_behind c.args.output by.whatever
-    (has_published by is) c.requires.live new.core c.args.job.now c.set_channel.new.self c.args.number
-    c.args.channel c.requires.there c.requires.side c.release_input.ensures.pending None refl refl
-    (returns-then-eq-clause-closed g c is) c.release_input.ensures.closed in
-    released_row new.core c.args.output by c.requires.live c.args.job.now c.set_channel.new.self c.args.number
-    c.args.channel c.requires.there c.requires.side
+    c.args.channel c.args.output (last_at c.args.job.now.core c.args.channel) c.publish_output-reply.result
+    c.release_input.ensures.untouched c.publish_output-reply.ensures.whatever
+    c.publish_output-reply.ensures.answered c.publish_output-reply.ensures.same in
+    let behind = λ (is : c.publish_output-reply.result ≡ Done).
+        let has = has_published by is in
+        released_behind c.args.output (by.whatever has.0 has.1) has.2 c.requires.live new.core c.args.job.now
+        c.set_channel.new.self c.args.number c.args.channel c.requires.there c.requires.side
+        c.release_input.ensures.pending None
+        (rings_closed c.args.job.now.core c.args.channel true (is_some c.args.channel.input)) refl refl
+        (returns-then-eq-clause-closed g c is) c.release_input.ensures.closed in
+    released_row new.core c.args.output c.args.job.now c.set_channel.new.self c.args.number
+    c.args.channel c.requires.there c.requires.side by c.requires.live
     (returns-then-eq-clause-kept g c) behind
-    (λ short jobs s. same_state state old.disk new.disk old.core new.core jobs s
-    (returns-then-eq-clause-memory g c short)) alive c.requires.sound.whole (λ is.
-    c.release_input.ensures.closed.leaves)
-    (returns-then-eq-clause-closed g c)
+    (λ idles jobs s. let same = returns-then-eq-clause-idle g c idles in
+    same_state state old.disk new.disk old.core new.core jobs s (same.0, same.1)) c.requires.sound c.requires.serves
+    (λ is. c.release_input.ensures.closed.leaves) (returns-then-eq-clause-closed g c)
 
 pub returns-then-eq-clause-crash : goal.returns-then-eq-clause-crash
 returns-then-eq-clause-crash g c =
@@ -85,11 +106,25 @@ returns-then-eq-clause-crash g c =
     let mid = c.publish_output-reply.new.volume in
     let new = c.release_input.new.volume in
     let by = publishes_by state old.disk mid.disk new.disk old.core mid.core old.failed mid.failed new.failed
-    c.args.output.pending.key c.publish_output-reply.result c.release_input.ensures.untouched
-    c.publish_output-reply.ensures.whatever
-    c.publish_output-reply.ensures.answered in
-    release_crashes new.core c.args.output by c.requires.live c.args.job.now c.set_channel.new.self c.args.number
-    c.args.channel c.requires.there c.requires.side
+    c.args.channel c.args.output (last_at c.args.job.now.core c.args.channel) c.publish_output-reply.result
+    c.release_input.ensures.untouched c.publish_output-reply.ensures.whatever
+    c.publish_output-reply.ensures.answered c.publish_output-reply.ensures.same in
+    release_crashes new.core c.args.output c.args.job.now c.set_channel.new.self c.args.number
+    c.args.channel c.requires.there c.requires.side by c.requires.live
+    c.requires.sound c.requires.serves
+    (λ idles honest f rests. untouched_quiet state g.met.D.Disk.only_now old.disk new.disk
+    (returns-then-eq-clause-idle g c idles).0 honest f rests)
+
+pub returns-else-eq-clause-published : goal.returns-else-eq-clause-published
+returns-else-eq-clause-published g c =
+    let state = g.D.Disk.state in
+    let old = c.args.volume.now in
+    let mid = c.publish_output-reply.new.volume in
+    let by = publishes_by state old.disk mid.disk mid.disk old.core mid.core old.failed mid.failed mid.failed
+    c.args.channel c.args.output (last_at c.args.job.now.core c.args.channel) c.publish_output-reply.result
+    (refl, refl) c.publish_output-reply.ensures.whatever
+    c.publish_output-reply.ensures.answered c.publish_output-reply.ensures.same in
+    (mid.core, by)
 
 pub returns-else-eq-clause-stands : goal.returns-else-eq-clause-stands
 returns-else-eq-clause-stands g c =
@@ -97,28 +132,30 @@ returns-else-eq-clause-stands g c =
     let old = c.args.volume.now in
     let mid = c.publish_output-reply.new.volume in
     let by = publishes_by state old.disk mid.disk mid.disk old.core mid.core old.failed mid.failed mid.failed
-    c.args.output.pending.key c.publish_output-reply.result (refl, refl) c.publish_output-reply.ensures.whatever
-    c.publish_output-reply.ensures.answered in
+    c.args.channel c.args.output (last_at c.args.job.now.core c.args.channel) c.publish_output-reply.result
+    (refl, refl) c.publish_output-reply.ensures.whatever
+    c.publish_output-reply.ensures.answered c.publish_output-reply.ensures.same in
     let not : c.publish_output-reply.result ≡ Done → ⊥ = search rules in
-    sides_stand mid.core c.args.output by c.requires.live c.args.job.now c.args.job.now c.args.number
-    c.args.channel c.requires.there c.requires.side
-    (returns-else-eq-clause-kept g c) (λ is. absurd (not is)) (λ short. (returns-else-eq-clause-memory g c short).1)
+    sides_stand mid.core c.args.output c.args.job.now c.leave_open.new.job c.args.number
+    c.args.channel c.requires.there c.requires.side by c.requires.live
+    (returns-else-eq-clause-kept g c) (λ is. absurd (not is)) (λ idles. (returns-else-eq-clause-idle g c idles).1)
 
 pub returns-else-eq-clause-row : goal.returns-else-eq-clause-row
-returns-else-eq-clause-row g c alive =
+returns-else-eq-clause-row g c =
     let state = g.D.Disk.state in
     let old = c.args.volume.now in
     let mid = c.publish_output-reply.new.volume in
     let by = publishes_by state old.disk mid.disk mid.disk old.core mid.core old.failed mid.failed mid.failed
-    c.args.output.pending.key c.publish_output-reply.result (refl, refl) c.publish_output-reply.ensures.whatever
-    c.publish_output-reply.ensures.answered in
+    c.args.channel c.args.output (last_at c.args.job.now.core c.args.channel) c.publish_output-reply.result
+    (refl, refl) c.publish_output-reply.ensures.whatever
+    c.publish_output-reply.ensures.answered c.publish_output-reply.ensures.same in
     let not : c.publish_output-reply.result ≡ Done → ⊥ = search rules in
-    released_row mid.core c.args.output by c.requires.live c.args.job.now c.args.job.now c.args.number
-    c.args.channel c.requires.there c.requires.side
+    released_row mid.core c.args.output c.args.job.now c.leave_open.new.job c.args.number
+    c.args.channel c.requires.there c.requires.side by c.requires.live
     (returns-else-eq-clause-kept g c) (λ is. absurd (not is))
-    (λ short jobs s. same_state state old.disk mid.disk old.core mid.core jobs s
-    (returns-else-eq-clause-memory g c short)) alive c.requires.sound.whole (λ is. absurd (not is))
-    (returns-else-eq-clause-closed g c)
+    (λ idles jobs s. let same = returns-else-eq-clause-idle g c idles in
+    same_state state old.disk mid.disk old.core mid.core jobs s (same.0, same.1)) c.requires.sound c.requires.serves
+    (λ is. absurd (not is)) (returns-else-eq-clause-closed g c)
 
 pub returns-else-eq-clause-crash : goal.returns-else-eq-clause-crash
 returns-else-eq-clause-crash g c =
@@ -126,7 +163,11 @@ returns-else-eq-clause-crash g c =
     let old = c.args.volume.now in
     let mid = c.publish_output-reply.new.volume in
     let by = publishes_by state old.disk mid.disk mid.disk old.core mid.core old.failed mid.failed mid.failed
-    c.args.output.pending.key c.publish_output-reply.result (refl, refl) c.publish_output-reply.ensures.whatever
-    c.publish_output-reply.ensures.answered in
-    release_crashes mid.core c.args.output by c.requires.live c.args.job.now c.args.job.now c.args.number
-    c.args.channel c.requires.there c.requires.side
+    c.args.channel c.args.output (last_at c.args.job.now.core c.args.channel) c.publish_output-reply.result
+    (refl, refl) c.publish_output-reply.ensures.whatever
+    c.publish_output-reply.ensures.answered c.publish_output-reply.ensures.same in
+    release_crashes mid.core c.args.output c.args.job.now c.leave_open.new.job c.args.number
+    c.args.channel c.requires.there c.requires.side by c.requires.live
+    c.requires.sound c.requires.serves
+    (λ idles honest f rests. untouched_quiet state g.met.D.Disk.only_now old.disk mid.disk
+    (returns-else-eq-clause-idle g c idles).0 honest f rests)

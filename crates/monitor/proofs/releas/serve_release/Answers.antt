@@ -49,13 +49,13 @@ returns-in-Some g c = record {
       let here = c.in-Some.ensures.some in
       let published = c.release_output.ensures.published in
       publishing_serves g.D.Disk.state g.met.D.Disk.only_now old.disk new.disk old.core published.0 new.core old.failed
-      new.failed c.in-Some.output.pending.key c.args.job.now c.release_output.new.job
+      new.failed c.in-Some.open c.in-Some.output _ c.args.job.now c.release_output.new.job c.args.channel
       (Releas c.args.channel) moment c.release_output.result
       ready.alive ready.placed timely published.1
-      c.release_output.ensures.memory c.release_output.ensures.kept c.release_output.ensures.stands
-      (c.release_output.ensures.row ready.alive) c.release_output.ensures.crash
+      c.release_output.ensures.idle c.release_output.ensures.kept c.release_output.ensures.stands
+      c.release_output.ensures.row c.release_output.ensures.crash
       (λ quiet. publishes_here c.args.job.now c.args.channel 0 c.in-Some.open c.in-Some.output here quiet)
-      (λ kept. kept) (λ asked. asked);
+      (λ kept. kept);
 }
 
 pub returns-in-None : goal.returns-in-None
@@ -68,5 +68,5 @@ returns-in-None g c = record {
       new.failed c.args.job.now c.release.new.job (Releas c.args.channel) moment c.release.result
       ready.alive c.release.ensures.untouched ready.placed timely c.release.ensures.row c.release.ensures.keeps
       c.release.ensures.reads c.release.ensures.leaves c.release.ensures.only
-      c.release.ensures.refused (λ kept. kept) (λ asked. asked);
+      c.release.ensures.refused (λ kept. kept);
 }
