@@ -6,13 +6,13 @@ use words36::Moment;
 
 /// BAR.TXT of two words is written by a ring that OUT sets up.
 const WRITTEN: &[u8] = b"1 LOGIN 10,20 2000
-1 DEP 200 0
-1 DEP 201 446353000000
-1 DEP 202 001000000000
-1 OPEN 1 200
-1 DEP 300 424162000000
-1 DEP 301 647064000000
-1 ENTER 1 300
+1 DEP 1710 0
+1 DEP 1711 446353000000
+1 DEP 1712 001000000000
+1 OPEN 1 1710
+1 DEP 1700 424162000000
+1 DEP 1701 647064000000
+1 ENTER 1 1700
 1 EXA 1000
 1 EXA 1001
 1 EXA 1002
@@ -27,10 +27,10 @@ const WRITTEN: &[u8] = b"1 LOGIN 10,20 2000
 1 CLOSE 1 0
 1 EXA 1000
 1 EXA 1002
-1 DEP 303 0
-1 LOOKUP 1 300
-1 EXA 302
-1 EXA 303
+1 DEP 1703 0
+1 LOOKUP 1 1700
+1 EXA 1702
+1 EXA 1703
 ";
 
 const WRITTEN_REPLIES: &[u8] = b"DONE
@@ -66,7 +66,13 @@ VALUE 777776000000
 fn a_ring_is_written(rt: HostRuntime) -> Result<(), Fail> {
     let mut monitor = started(&rt, rt.alloc(), image(&rt, rt.alloc())?);
     let mut writer = Vec::new(rt.alloc());
-    play(rt.alloc(), &mut monitor, Moment::new(0, 0)?, WRITTEN, &mut writer)?;
+    play(
+        rt.alloc(),
+        &mut monitor,
+        Moment::new(0, 0)?,
+        WRITTEN,
+        &mut writer,
+    )?;
     assert!(rt; writer.as_slice() == WRITTEN_REPLIES, "{writer:?}");
     let lines = b"LOGIN [10,20]\nTYPE BAR.TXT\n";
     let text = b"Job 1 [10,20]\nHELLO\r\n";
@@ -77,13 +83,13 @@ fn a_ring_is_written(rt: HostRuntime) -> Result<(), Fail> {
 
 /// The last buffer finds no room: the channel stays open, until what it wrote is dropped.
 const CROWDED: &[u8] = b"1 LOGIN 10,20 2000
-1 DEP 200 0
-1 DEP 201 446353000000
-1 DEP 202 001000000000
-1 OPEN 1 200
-1 DEP 300 424162000000
-1 DEP 301 647064000000
-1 ENTER 1 300
+1 DEP 1710 0
+1 DEP 1711 446353000000
+1 DEP 1712 001000000000
+1 OPEN 1 1710
+1 DEP 1700 424162000000
+1 DEP 1701 647064000000
+1 ENTER 1 1700
 1 OUT 1 0
 1 DEP 143 1
 1 DEP 1001 000700000143
@@ -121,7 +127,13 @@ fn a_last_buffer_finds_no_room(rt: HostRuntime) -> Result<(), Fail> {
     let mut monitor = volume_with(&rt, rt.alloc(), 64, 5760)?;
     assert_eq!(rt; room(&monitor), 1);
     let mut writer = Vec::new(rt.alloc());
-    play(rt.alloc(), &mut monitor, Moment::new(0, 0)?, CROWDED, &mut writer)?;
+    play(
+        rt.alloc(),
+        &mut monitor,
+        Moment::new(0, 0)?,
+        CROWDED,
+        &mut writer,
+    )?;
     assert!(rt; writer.as_slice() == CROWDED_REPLIES, "{writer:?}");
     assert_eq!(rt; room(&monitor), 1);
     Ok(())
@@ -129,13 +141,13 @@ fn a_last_buffer_finds_no_room(rt: HostRuntime) -> Result<(), Fail> {
 
 /// FOO.TXT is read by a ring that IN sets up, to its end; a buffer of another size is none.
 const READ: &[u8] = b"1 LOGIN 10,20 2000
-1 DEP 200 0
-1 DEP 201 446353000000
-1 DEP 202 000000001000
-1 OPEN 1 200
-1 DEP 300 465757000000
-1 DEP 301 647064000000
-1 LOOKUP 1 300
+1 DEP 1710 0
+1 DEP 1711 446353000000
+1 DEP 1712 000000001000
+1 OPEN 1 1710
+1 DEP 1700 465757000000
+1 DEP 1701 647064000000
+1 LOOKUP 1 1700
 1 IN 1 0
 1 EXA 121
 1 EXA 140
@@ -188,10 +200,10 @@ VALUE 000000000141
 
 /// A ring of eight buffers does not fit into the core, one of seven does.
 const SET_UP: &[u8] = b"1 LOGIN 10,20 2000
-1 DEP 200 0
-1 DEP 201 446353000000
-1 DEP 202 000020000000
-1 OPEN 1 200
+1 DEP 1710 0
+1 DEP 1711 446353000000
+1 DEP 1712 000020000000
+1 OPEN 1 1710
 1 INBUF 1 2
 1 OUTBUF 1 10
 1 EXA 121
@@ -223,35 +235,37 @@ VALUE 000201000141
 
 /// What is out of order: a side that isn't open, no header, dump mode; a mode that there isn't; headers outside.
 const DISORDER: &[u8] = b"1 LOGIN 10,20 2000
-1 DEP 200 0
-1 DEP 201 446353000000
-1 DEP 202 001000000000
-1 OPEN 1 200
-1 DEP 300 465757000000
-1 DEP 301 647064000000
+1 DEP 1710 0
+1 DEP 1711 446353000000
+1 DEP 1712 001000000000
+1 OPEN 1 1710
+1 DEP 1700 465757000000
+1 DEP 1701 647064000000
 1 IN 1 0
 1 OUT 1 0
-1 LOOKUP 1 300
+1 LOOKUP 1 1700
 1 IN 1 0
 1 CLOSE 1 0
-1 DEP 300 424162000000
-1 DEP 301 647064000000
-1 DEP 202 0
-1 OPEN 2 200
+1 DEP 1700 424162000000
+1 DEP 1701 647064000000
+1 DEP 1702 0
+1 DEP 1703 0
+1 DEP 1712 0
+1 OPEN 2 1710
 1 OUTBUF 2 2
-1 ENTER 2 300
+1 ENTER 2 1700
 1 OUT 2 0
 1 CLOSE 2 0
-1 DEP 200 17
-1 OPEN 3 200
+1 DEP 1710 17
+1 OPEN 3 1710
 1 OUTBUF 3 2
-1 DEP 200 2
-1 OPEN 4 200
-1 DEP 200 0
-1 DEP 202 001776000000
-1 OPEN 4 200
-1 DEP 202 000000001775
-1 OPEN 4 200
+1 DEP 1710 2
+1 OPEN 4 1710
+1 DEP 1710 0
+1 DEP 1712 001776000000
+1 OPEN 4 1710
+1 DEP 1712 000000001775
+1 OPEN 4 1710
 1 INBUF 5 2
 ";
 
@@ -266,6 +280,8 @@ REFUSED 5
 REFUSED 5
 DONE
 REFUSED 5
+DONE
+DONE
 DONE
 DONE
 DONE
@@ -290,15 +306,15 @@ NOCHANNEL
 
 /// A header lies in the ring's own first buffer.
 const OVERLAPPING: &[u8] = b"1 LOGIN 10,20 2000
-1 DEP 200 0
-1 DEP 201 446353000000
-1 DEP 202 000150000000
-1 OPEN 1 200
-1 DEP 300 424162000000
-1 DEP 301 647064000000
+1 DEP 1710 0
+1 DEP 1711 446353000000
+1 DEP 1712 000150000000
+1 OPEN 1 1710
+1 DEP 1700 424162000000
+1 DEP 1701 647064000000
 1 OUTBUF 1 0
 1 EXA 150
-1 ENTER 1 300
+1 ENTER 1 1700
 1 OUT 1 0
 1 EXA 150
 1 EXA 151
@@ -309,9 +325,9 @@ const OVERLAPPING: &[u8] = b"1 LOGIN 10,20 2000
 1 CLOSE 1 0
 1 EXA 150
 1 EXA 152
-1 DEP 303 0
-1 LOOKUP 1 300
-1 EXA 303
+1 DEP 1703 0
+1 LOOKUP 1 1700
+1 EXA 1703
 ";
 
 const OVERLAPPING_REPLIES: &[u8] = b"DONE
@@ -341,14 +357,14 @@ VALUE 777777000000
 
 /// A full buffer, a block that is left out, and a byte pointer before its buffer.
 const STEPS: &[u8] = b"1 LOGIN 10,20 4000
-1 DEP 200 0
-1 DEP 201 446353000000
-1 DEP 202 001000000000
-1 OPEN 1 200
-1 DEP 300 424162000000
-1 DEP 301 647064000000
+1 DEP 1710 0
+1 DEP 1711 446353000000
+1 DEP 1712 001000000000
+1 OPEN 1 1710
+1 DEP 1700 424162000000
+1 DEP 1701 647064000000
 1 OUTBUF 1 3
-1 ENTER 1 300
+1 ENTER 1 1700
 1 OUT 1 0
 1 DEP 143 1
 1 DEP 1001 000700000342
@@ -368,9 +384,9 @@ const STEPS: &[u8] = b"1 LOGIN 10,20 4000
 1 CLOSE 1 0
 1 DEP 1001 000700000550
 1 CLOSE 1 0
-1 DEP 303 0
-1 LOOKUP 1 300
-1 EXA 303
+1 DEP 1703 0
+1 LOOKUP 1 1700
+1 EXA 1703
 ";
 
 const STEPS_REPLIES: &[u8] = b"DONE
@@ -511,22 +527,22 @@ fn a_copy_by_rings_in_each_mode(rt: HostRuntime) -> Result<(), Fail> {
 /// Job 2 reads FOO.TXT of 130 words by a ring; job 1 supersedes it by a ring meanwhile.
 const SUPERSEDED: &[u8] = b"1 LOGIN 10,20 2000
 2 LOGIN 10,20 2000
-1 DEP 200 10
-1 DEP 201 446353000000
-1 DEP 202 001000000000
-1 OPEN 1 200
-1 DEP 300 465757000000
-1 DEP 301 647064000000
-2 DEP 200 10
-2 DEP 201 446353000000
-2 DEP 202 000000001000
-2 OPEN 1 200
-2 DEP 300 465757000000
-2 DEP 301 647064000000
-2 LOOKUP 1 300
+1 DEP 1710 10
+1 DEP 1711 446353000000
+1 DEP 1712 001000000000
+1 OPEN 1 1710
+1 DEP 1700 465757000000
+1 DEP 1701 647064000000
+2 DEP 1710 10
+2 DEP 1711 446353000000
+2 DEP 1712 000000001000
+2 OPEN 1 1710
+2 DEP 1700 465757000000
+2 DEP 1701 647064000000
+2 LOOKUP 1 1700
 2 IN 1 0
 2 EXA 1002
-1 ENTER 1 300
+1 ENTER 1 1700
 1 OUT 1 0
 1 DEP 143 5
 1 DEP 1001 004400000143
@@ -538,8 +554,8 @@ const SUPERSEDED: &[u8] = b"1 LOGIN 10,20 2000
 2 IN 1 0
 2 CLOSE 1 0
 2 EXA 1000
-2 DEP 303 0
-2 LOOKUP 1 300
+2 DEP 1703 0
+2 LOOKUP 1 1700
 2 IN 1 0
 2 EXA 1002
 2 EXA 346
@@ -587,7 +603,13 @@ DONE
 fn a_ring_reads_on_beside_another(rt: HostRuntime) -> Result<(), Fail> {
     let mut monitor = volume_with(&rt, rt.alloc(), 64, 130)?;
     let mut writer = Vec::new(rt.alloc());
-    play(rt.alloc(), &mut monitor, Moment::new(0, 0)?, SUPERSEDED, &mut writer)?;
+    play(
+        rt.alloc(),
+        &mut monitor,
+        Moment::new(0, 0)?,
+        SUPERSEDED,
+        &mut writer,
+    )?;
     assert!(rt; writer.as_slice() == SUPERSEDED_REPLIES, "{writer:?}");
     assert_eq!(rt; room(&monitor), 45);
     Ok(())
