@@ -15,7 +15,7 @@ ghost use Rattle.meaning.specs.declared.call.Reply.TheVariants.{Device, Failed};
 ghost use Rattle.volume.specs.Live.{pending_at};
 ghost use Rattle.volume.specs.Rest.{RestsAt, KeepsRead};
 ghost use Rattle.volume.specs.declared.pending.PendingVersion.{PendingVersion};
-ghost use Rattle.monitor.specs.Putting.{moved, IsOther, IsOut};
+ghost use Rattle.monitor.specs.Putting.{words_at, moved, IsOther, IsOut};
 ghost use Rattle.monitor.specs.Rows.{Keeps, KeepsReading};
 ghost use Rattle.monitor.specs.Serving.{present, IsSide};
 ghost use Rattle.monitor.specs.Sides.{kind_of, sides_in, keys_of};
