@@ -1,5 +1,6 @@
 -- What a CLOSE or RELEAS promises that publishes: the sides let go or held behind it, and the machine's row.
-use Rattle.std.proofs.Common.{◌≡◌, ◌≤◌, ℕ, Bool, true, false, List, length, Option, Some, None, Ok, refl, sym, ap, subst}
+use Rattle.std.proofs.Common.{◌≡◌, ◌≤◌, ℕ, Bool, true, false, List, length, Option, Some, None, Ok, refl, sym, ap}
+use Rattle.std.proofs.Common.{subst}
 use Rattle.std.proofs.Common.{◌∙◌, slice_set}
 use Rattle.std.specs.Prelude.{◌&&◌, not, if◌then◌else◌, is_some, option_map, IsSome}
 use Rattle.std.specs.Cmp.{nat_cmp_total}
@@ -277,7 +278,8 @@ module _ {d d' : DiskState} {c b : VolumeCore} {failed failed' : Bool} {reply : 
             pinned k = state.reading.pinned k ∙ sym (readers_behind o (by.whatever last found) has live k)
 
             jobs_same : jobs_of u jobs ≡ jobs_of w jobs
-            jobs_same = renewed_jobs b c' input h.renewed h.ppn h.file h.protection h.renews d' files' w.read reads h.whole x it_is
+            jobs_same = renewed_jobs b c' input h.renewed h.ppn h.file h.protection h.renews d' files' w.read reads
+                h.whole x it_is
                 w jobs refl pinned
 
             pin_only : h.renewed ≡ record input { pin = h.renewed.pin; protection = h.renewed.protection }
@@ -329,5 +331,6 @@ module _ {d d' : DiskState} {c b : VolumeCore} {failed failed' : Bool} {reply : 
   holds_behind input reads h done =
       let is = has_published by done in
       renewed_behind o (by.whatever is.0 is.1) is.2 live c' job job' number channel there side
-      (renewed_pending b c' input h.renewed h.ppn h.file h.protection h.renews) input h.renewed h.ppn h.file h.protection
+      (renewed_pending b c' input h.renewed h.ppn h.file h.protection h.renews) input h.renewed h.ppn h.file
+      h.protection
       (output_closed channel h.renewed) (rings_closed job.core channel true false) reads refl refl h.job_is h.renews

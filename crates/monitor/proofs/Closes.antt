@@ -192,7 +192,8 @@ closed_both a b c keys pins first second = closes_on a b c keys [] keys [] pins 
 -- The channel of a number is another one, or none, and what its sides had is dropped and let go.
 module _ (c c' : VolumeCore) (job job' : Job) (number : ℕ) (open_as : Channel) (there : slot job.channels number
     ≡ Some open_as) (x : Option Channel) (core : List ℕ)
-    (set : job' ≡ record job { core = core; channels = slice_set job.channels number x }) (keys pins : List ℕ) (closed : Closes c c' keys pins) where
+    (set : job' ≡ record job { core = core; channels = slice_set job.channels number x }) (keys pins : List ℕ)
+    (closed : Closes c c' keys pins) where
   pub keeps_closed : ((key : ℕ) → count key (option_to_list (side_of x)) + times key keys
       ≡ count key (option_to_list open_as.output))
       → (AllByRecursion (IsSide c'.pending) (option_to_list open_as.output)
@@ -229,7 +230,8 @@ module _ (c c' : VolumeCore) (job job' : Job) (number : ℕ) (open_as : Channel)
   })
 
 -- the ring of an input side that is let go
-pub ends_is : (c : Channel) (bits : ℕ) (released : Option Input) → released ≡ input_released c.input bits → (ends : Bool)
+pub ends_is : (c : Channel) (bits : ℕ) (released : Option Input) → released ≡ input_released c.input bits →
+    (ends : Bool)
     → ends ≡ (is_some released && not (discards bits))
     → ends ≡ (is_some c.input && not (keeps_input bits) && not (discards bits))
 ends_is c bits released is ends marks =

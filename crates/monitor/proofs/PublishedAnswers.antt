@@ -1,5 +1,6 @@
 -- What a CLOSE or RELEAS that publishes answers, over services.
-use Rattle.std.proofs.Common.{◌≡◌, ℕ, Bool, true, false, List, length, Option, Some, refl, sym, ap, subst, ◌∙◌, ◌⊎◌, inl}
+use Rattle.std.proofs.Common.{◌≡◌, ℕ, Bool, true, false, List, length, Option, Some, refl, sym, ap, subst, ◌∙◌, ◌⊎◌}
+use Rattle.std.proofs.Common.{inl}
 use Rattle.std.proofs.Common.{inr, ⊎_elim, slice_set}
 use Rattle.std.specs.List.{AllByRecursion}
 use Rattle.std.specs.Prelude.{◌+◌, not, IsSome, option_to_list}
@@ -246,7 +247,8 @@ module _ {d d' : DiskState} {c b : VolumeCore} {failed failed' : Bool} {reply : 
         let fresh = is_fresh s in
         let whatever = by.whatever last found in
         let left = goes is last found (has_place last has.fits) has serial fresh
-        (rests d d' c b c' jobs n job job' o last there whatever has (behind is) live honest s state placed serial fresh)
+        (rests d d' c b c' jobs n job job' o last there whatever has (behind is) live honest s state placed serial
+        fresh)
         (distinct d d' c b c' jobs n job job' o last there whatever has (behind is) live honest s state placed serial
         fresh)
         (reads_between d d' c b c' jobs n job job' o last there whatever has (behind is) live honest s state placed

@@ -5,7 +5,7 @@ use Rattle.std.specs.Prelude.{◌&&◌, ◌+◌, not, if◌then◌else◌, is_so
 use Rattle.words36.specs.declared.moment.Moment.{Moment}
 use Rattle.blockdisk.specs.Disk.{DiskState}
 use Rattle.meaning.specs.Closing.{keeps_output, keeps_input, discards, publishes, close_answer, close_done, closes}
-use Rattle.meaning.specs.Closing.{releases, last_answer, last_buffer, words_or_none, files_closed, files_with}
+use Rattle.meaning.specs.Closing.{releases, last_answer, words_or_none, files_closed, files_with}
 use Rattle.meaning.specs.Closing.{output_put, input_closed, channel_closed, core_closed, holding, published}
 use Rattle.meaning.specs.Files.{Files, Place}
 use Rattle.meaning.specs.Jobs as machine
@@ -218,7 +218,8 @@ module _ (d : DiskState) (jobs : List (Option Job)) (n : ℕ) (moment : Moment) 
     }
 
     -- what is done leaves this job
-    module _ (files : Files Version) (w : UnderKeys) (serial : ℕ) (last : List ℕ) (found : last_at job.core c ≡ Some last)
+    module _ (files : Files Version) (w : UnderKeys) (serial : ℕ) (last : List ℕ)
+        (found : last_at job.core c ≡ Some last)
         (place : finds_no_place (pack_of d) (state_of files w jobs) (output_of w o) (length last) ≡ false) where
       abbrev files' : Files Version
       files' = with_file files (w.written o.pending.key).place
@@ -285,7 +286,8 @@ module _ (d : DiskState) (jobs : List (Option Job)) (n : ℕ) (moment : Moment) 
               (version_with (w.written o.pending.key) o.next last serial)) w (slice_set jobs n (Some job')),
         )
     close_step files w serial last found place x closes_output closes_input same marks job' set =
-        row_done (Close number bits) bits drops publishes_it close_after close_heavy close_row_is files w serial last found place job'
+        row_done (Close number bits) bits drops publishes_it close_after close_heavy close_row_is files w serial last
+        found place job'
         (closed_in job number c closes_output closes_input (Some x))
         ((λ i. with_channel (record (job_of w job) { core = marks i }) number (Some (same i)))
         ∙ channel_set w (record job { core = rings_closed job.core c closes_output closes_input }) number (Some x)) set

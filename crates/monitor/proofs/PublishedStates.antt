@@ -1,5 +1,6 @@
 -- A CLOSE or RELEAS that publishes is the machine's row.
-use Rattle.std.proofs.Common.{◌≡◌, ◌<◌, ℕ, Bool, true, false, List, [], ◌∷◌, ◌++◌, length, Option, Some, refl, sym, ap, subst}
+use Rattle.std.proofs.Common.{◌≡◌, ◌<◌, ℕ, Bool, true, false, List, [], ◌∷◌, ◌++◌, length, Option, Some, refl, sym, ap}
+use Rattle.std.proofs.Common.{subst}
 use Rattle.std.proofs.Common.{◌∙◌, slice_set, arith}
 use Rattle.std.specs.Prelude.{◌==◌, ◌||◌, IsSome}
 use Rattle.std.specs.List.{AllByRecursion}
@@ -122,7 +123,8 @@ module _ (d d' : DiskState) (c b c' : VolumeCore) (jobs : List (Option Job)) (n 
         (has.files honest (without_serials s.files) state.files p.0 p.1 (w.written key).file.body is.words is.body)
 
     pub distinct : AreDistinct (versions_in files')
-    distinct = distinct_put s.files (w.written key).place (version_with (w.written key) o.next last serial) state.serials
+    distinct = distinct_put s.files (w.written key).place (version_with (w.written key) o.next last serial)
+        state.serials
         (none_first serial (current s) (held s) fresh)
 
     -- another version has another place
@@ -141,7 +143,8 @@ module _ (d d' : DiskState) (c b c' : VolumeCore) (jobs : List (Option Job)) (n 
     pub reads_between : IsWholeCore d.size c → AreRead d' b files' w.read
     reads_between whole =
         let p = some_is (pending_at c.pending key) live in
-        reads_published d d' c b s.files w.read key p.0 (length_after p.0.version.words o.next (length last)) (w.written key).place
+        reads_published d d' c b s.files w.read key p.0 (length_after p.0.version.words o.next (length last))
+        (w.written key).place
         (version_with (w.written key) o.next last serial) state.read whole (has.core p.0 p.1) state.serials
         (state.versions key p.0 p.1).place unlike (has.readers honest)
 
@@ -171,7 +174,8 @@ module _ (d d' : DiskState) (c b c' : VolumeCore) (jobs : List (Option Job)) (n 
               };
           absent = λ k q at new.
               let was = still_there k q at in
-              put_elsewhere s.files (w.written key).place (version_with (w.written key) o.next last serial) (w.written k).place
+              put_elsewhere s.files (w.written key).place (version_with (w.written key) o.next last serial)
+              (w.written k).place
               (elsewhere p.0 p.1 k q was.0 was.1) ∙ state.absent k q was.1 new;
           keyed = keyed_published state.keyed;
           read = reads;

@@ -46,10 +46,13 @@ module _ (job : Job) (number : ℕ) (c : Channel) (header count : ℕ) (w : Unde
   ring_outside some none = ap (λ b. made b asked) some ∙ ap (made false) none
 
   pub ring_done : has_no_ring (mode_number c.mode) header ≡ false → (core : List ℕ) → asked ≡ Some core
-      → sets_up (job_of w job) number (channel_of w c) header count ≡ (Done, job_of w (record job {
-        core = core;
-        channels = slice_set job.channels number (Some (record c { status = cleared c.status }));
-      }))
+      → sets_up (job_of w job) number (channel_of w c) header count ≡ (
+        Done,
+        job_of w (record job {
+          core = core;
+          channels = slice_set job.channels number (Some (record c { status = cleared c.status }));
+        }),
+      )
   ring_done some core found = ap (λ b. made b asked) some ∙ ap (made false) found
       ∙ ap (λ j. (Done, j)) (channel_set w (record job { core = core }) number (Some (record c { status = cleared c.status })))
 

@@ -63,7 +63,8 @@ pub record HasPublished (d d' : DiskState) (c c' : VolumeCore) (o : Output) (las
   pub gone : pending_at c'.pending o.pending.key ≡ None
 
 -- What each answer says of the volume, and of how often the disk has failed; it is no other.
-abbrev pub IsPublishing : (d d' : DiskState) (c c' : VolumeCore) (failed failed' : Bool) (channel : Channel) (o : Output)
+abbrev pub IsPublishing : (d d' : DiskState) (c c' : VolumeCore) (failed failed' : Bool) (channel : Channel)
+    (o : Output)
     (last : Option (List ℕ)) → Reply → Type 0
 IsPublishing d d' c c' failed failed' channel o last Done = (words : List ℕ) × (last ≡ Some words)
     × HasPublished d d' c c' o words × (failed ≡ false) × (failed' ≡ false) × (d'.failures ≡ d.failures)

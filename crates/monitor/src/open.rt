@@ -115,11 +115,7 @@ fn open_rings(core: &mut Core, channel: &Channel)
     ensures { core.new ≡ rings_opened core.old channel.now }
 {
     if channel.is_buffered() {
-        core.ring_open(
-            channel.output_header,
-            channel.input_header,
-            channel.bytes(),
-        );
+        core.ring_open(channel.output_header, channel.input_header, channel.bytes());
     }
 }
 

@@ -13,13 +13,7 @@ use crate::status::cleared;
 use meaning::{ErrorCode, Reply};
 
 /// Sets up a ring of so many buffers, where 0 means 2, with the header at an address, for a channel of a job.
-pub fn set_up_ring(
-    job: &mut Job,
-    number: u32,
-    channel: Channel,
-    header: u32,
-    count: u32,
-) -> Reply
+pub fn set_up_ring(job: &mut Job, number: u32, channel: Channel, header: u32, count: u32) -> Reply
     requires there { slot job.old.channels number ≡ Some channel }
     ensures row { (under : UnderKeys) → sets_up (job_of under job.old) number (channel_of under channel) header count
         ≡ (result, job_of under job.new) }
@@ -31,11 +25,7 @@ pub fn set_up_ring(
     if !channel.is_buffered() || header == 0 {
         return Reply::Refused(ErrorCode::Sequence.number());
     }
-    if job
-        .core
-        .ring_setup(header, channel.bytes(), count)
-        .is_err()
-    {
+    if job.core.ring_setup(header, channel.bytes(), count).is_err() {
         return Reply::AddressCheck;
     }
     let status = cleared(channel.status);

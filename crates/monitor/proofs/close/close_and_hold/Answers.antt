@@ -1,7 +1,6 @@
 use Rattle.std.proofs.Common.{◌≡◌, ◌∙◌, rules, refl, sym, ap, Some, None, slice_set}
 use Rattle.meaning.specs.declared.call.Reply.TheVariants.{Done}
 use Rattle.retrieval.specs.declared.prime.Prime.{Prime}
-use Rattle.monitor.specs.Closing.{rings_closed}
 use Rattle.monitor.specs.Publishing.{last_at}
 use Rattle.monitor.proofs.ClosedSides.{has_published, holds_published, close_crashes, sides_stand, renewed_row}
 use Rattle.monitor.proofs.ClosedSides.{holds_behind}
@@ -21,7 +20,8 @@ renew-renewed-requires-clause-there g c =
     c.publish_output-reply.ensures.answered c.publish_output-reply.ensures.same in
     let done : c.publish_output-reply.result ≡ Done = search rules in
     let has = has_published by done in
-    named_behind c.args.output (by.whatever has.0 has.1) has.2 c.requires.live c.prime_of-prime.result.ppn
+    named_behind c.args.output {last = has.0} (by.whatever has.0 has.1) has.2 c.requires.live
+    c.prime_of-prime.result.ppn
     c.prime_of-prime.result.file (λ p at. let is = c.prime_of-prime.ensures p at in
     (ap (λ (q : Prime). q.ppn) is, ap (λ (q : Prime). q.file) is))
 
@@ -36,7 +36,7 @@ renew-renewed-requires-clause-few g c =
     c.publish_output-reply.ensures.answered c.publish_output-reply.ensures.same in
     let done : c.publish_output-reply.result ≡ Done = search rules in
     let has = has_published by done in
-    few_behind c.args.output (by.whatever has.0 has.1) has.2 c.requires.live c.requires.few
+    few_behind c.args.output {last = has.0} (by.whatever has.0 has.1) has.2 c.requires.live c.requires.few
 
 pub renew-renewed-requires-clause-held : goal.renew-renewed-requires-clause-held
 renew-renewed-requires-clause-held g c =
@@ -49,7 +49,8 @@ renew-renewed-requires-clause-held g c =
     c.publish_output-reply.ensures.answered c.publish_output-reply.ensures.same in
     let done : c.publish_output-reply.result ≡ Done = search rules in
     let has = has_published by done in
-    held_behind c.args.output (by.whatever has.0 has.1) has.2 c.requires.live c.args.job.now c.args.number
+    held_behind c.args.output {last = has.0} (by.whatever has.0 has.1) has.2 c.requires.live c.args.job.now
+    c.args.number
     c.args.channel c.requires.there c.requires.held (Some c.args.input) (sym c.requires.reads)
 
 pub returns-then-eq-clause-kept : goal.returns-then-eq-clause-kept
@@ -98,7 +99,8 @@ returns-then-eq-clause-stands g c =
       channels = slice_set c.args.job.now.channels c.args.number
           (Some (record c.args.channel { status = status i; input = Some c.renew-renewed.result; output = None }));
     })) in
-    let behind = λ (is : c.publish_output-reply.result ≡ Done). holds_behind new.core c.args.output c.args.job.now c.set_channel.new.self c.args.number
+    let behind = λ (is : c.publish_output-reply.result ≡ Done). holds_behind new.core c.args.output c.args.job.now
+    c.set_channel.new.self c.args.number
     c.args.channel c.requires.there c.requires.side by c.requires.live
     c.args.input c.requires.reads holds is in
     sides_stand new.core c.args.output c.args.job.now c.set_channel.new.self c.args.number
@@ -127,7 +129,8 @@ returns-then-eq-clause-row g c bits drops publishes_it keeps =
       channels = slice_set c.args.job.now.channels c.args.number
           (Some (record c.args.channel { status = status i; input = Some c.renew-renewed.result; output = None }));
     })) in
-    let behind = λ (is : c.publish_output-reply.result ≡ Done). holds_behind new.core c.args.output c.args.job.now c.set_channel.new.self c.args.number
+    let behind = λ (is : c.publish_output-reply.result ≡ Done). holds_behind new.core c.args.output c.args.job.now
+    c.set_channel.new.self c.args.number
     c.args.channel c.requires.there c.requires.side by c.requires.live
     c.args.input c.requires.reads holds is in
     renewed_row new.core c.args.output c.args.job.now c.set_channel.new.self c.args.number

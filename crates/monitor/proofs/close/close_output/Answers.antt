@@ -20,7 +20,8 @@ release_input-requires g c =
     let done : c.publish_output-reply.result ≡ Done = search rules in
     let has = has_published by done in
     record {
-      held = held_behind c.args.output (by.whatever has.0 has.1) has.2 c.requires.live c.args.job.now c.args.number
+      held = held_behind c.args.output {last = has.0} (by.whatever has.0 has.1) has.2 c.requires.live c.args.job.now
+          c.args.number
           c.args.channel c.requires.there c.requires.held c.args.channel.input refl;
     }
 
@@ -65,12 +66,12 @@ returns-then-eq-clause-stands g c =
     c.release_input.ensures.untouched c.publish_output-reply.ensures.whatever
     c.publish_output-reply.ensures.answered c.publish_output-reply.ensures.same in
     let behind = λ (is : c.publish_output-reply.result ≡ Done).
-        let has = has_published by is in
-        released_behind c.args.output (by.whatever has.0 has.1) has.2 c.requires.live new.core c.args.job.now
-        c.set_channel.new.self c.args.number c.args.channel c.requires.there c.requires.side
-        c.release_input.ensures.pending (Some (both_closed c.args.channel))
-        (rings_closed c.args.job.now.core c.args.channel true (is_some c.args.channel.input)) refl refl
-        (returns-then-eq-clause-closed g c is) c.release_input.ensures.closed in
+    let has = has_published by is in
+    released_behind c.args.output {last = has.0} (by.whatever has.0 has.1) has.2 c.requires.live new.core c.args.job.now
+    c.set_channel.new.self c.args.number c.args.channel c.requires.there c.requires.side
+    c.release_input.ensures.pending (Some (both_closed c.args.channel))
+    (rings_closed c.args.job.now.core c.args.channel true (is_some c.args.channel.input)) refl refl
+    (returns-then-eq-clause-closed g c is) c.release_input.ensures.closed in
     sides_stand new.core c.args.output c.args.job.now c.set_channel.new.self c.args.number
     c.args.channel c.requires.there c.requires.side by c.requires.live
     (returns-then-eq-clause-kept g c) behind (λ idles. (returns-then-eq-clause-idle g c idles).1)
@@ -86,12 +87,12 @@ returns-then-eq-clause-row g c bits drops publishes_it none =
     c.release_input.ensures.untouched c.publish_output-reply.ensures.whatever
     c.publish_output-reply.ensures.answered c.publish_output-reply.ensures.same in
     let behind = λ (is : c.publish_output-reply.result ≡ Done).
-        let has = has_published by is in
-        released_behind c.args.output (by.whatever has.0 has.1) has.2 c.requires.live new.core c.args.job.now
-        c.set_channel.new.self c.args.number c.args.channel c.requires.there c.requires.side
-        c.release_input.ensures.pending (Some (both_closed c.args.channel))
-        (rings_closed c.args.job.now.core c.args.channel true (is_some c.args.channel.input)) refl refl
-        (returns-then-eq-clause-closed g c is) c.release_input.ensures.closed in
+    let has = has_published by is in
+    released_behind c.args.output {last = has.0} (by.whatever has.0 has.1) has.2 c.requires.live new.core c.args.job.now
+    c.set_channel.new.self c.args.number c.args.channel c.requires.there c.requires.side
+    c.release_input.ensures.pending (Some (both_closed c.args.channel))
+    (rings_closed c.args.job.now.core c.args.channel true (is_some c.args.channel.input)) refl refl
+    (returns-then-eq-clause-closed g c is) c.release_input.ensures.closed in
     closed_row new.core c.args.output c.args.job.now c.set_channel.new.self c.args.number
     c.args.channel c.requires.there c.requires.side by c.requires.live
     (returns-then-eq-clause-kept g c) behind

@@ -1,10 +1,9 @@
-use Rattle.std.proofs.Common.{◌≡◌, List, length, ℕ, sym, subst, ◌∙◌, refl}
+use Rattle.std.proofs.Common.{length, sym, subst, ◌∙◌, refl}
 use Rattle.meaning.specs.Outputs.{is_before_end}
 use Rattle.meaning.proofs.MapLaws.{some_same}
-use Rattle.volume.specs.declared.pending.PendingVersion.{PendingVersion}
 use Rattle.monitor.specs.Publishing.{MayPublish}
 use Rattle.monitor.specs.Sides.{kind_of}
-use Rattle.monitor.proofs.Outs.{finds_place, lacks_room, ok_is_none}
+use Rattle.monitor.proofs.Outs.{finds_place, lacks_room}
 use Rattle.monitor.proofs.Publications.{answered_done, answered_error}
 use Rattle.monitor.proofs.publishing.publish_output.Goals as goal
 
