@@ -13,11 +13,12 @@
 //!    (`listed`) On every disk it is refused by few replies, and never by the device. (`nobody`, `only`)
 //! 5. `deposit` and `examine` put and show a word of a job's core as the machine does. (`answered`, `value`)
 //! 6. `call` is the table of the calls, and each call is the file of its name. It answers OPEN, INBUF, OUTBUF, LOOKUP,
-//!    ENTER, RENAME, IN, OUT, USETI, USETO, CLOSE, RELEAS, GETSTS, RESET, MakeDir and DeleteDir, in dump mode, as the
-//!    machine's rows do, or wants memory where the machine may, or blames the device; and leaves the state of that row. (`answered`) What
-//!    every call promises is one record. (`IsServing`) At any moment of it a crash leaves the files from before, or
-//!    those of that row where it is Done or met a fault of the device. (`crash`) Which answers, and which calls, leave
-//!    the disk alone is said beside. (`idle`, `light`) A refusal leaves its code, and nothing else. (`refused`)
+//!    ENTER, RENAME, IN, OUT, USETI, USETO, CLOSE, RELEAS, GETSTS, RESET, MakeDir and DeleteDir, in dump mode and over
+//!    rings of buffers, as the machine's rows do, or wants memory where the machine may, or blames the device; and leaves
+//!    the state of that row. (`answered`) What every call promises is one record. (`IsServing`) At any moment of it a
+//!    crash leaves the files from before, or those of that row where it is Done or met a fault of the device. (`crash`)
+//!    Which answers, and which calls, leave the disk alone is said beside. (`idle`, `light`) A refusal leaves its code,
+//!    and nothing else. (`refused`)
 //! 7. Each version that the volume writes belongs to one output side of a job, and may be published under its
 //!    name; each version that is held is held once for each input side that reads it. (`AreKeyed`, `ArePlaced`,
 //!    `AreReading`) What an IN answers and leaves is told by its own job's record, which no other job changes.
@@ -30,8 +31,7 @@
 //!    leaves the files before that event or those after it. A Device counts as one failure of the disk, and all later
 //!    replies are Failed. (`runs`, `counted`, `once`; `none` where there was no memory) Along the same run the words
 //!    that an IN moves are those of the version that its LOOKUP found, and on a channel that writes those that it has
-//!    written. (`runs`) A run is said of lists with no OPEN in a mode with buffers. `event` serves one event, and says of
-//!    it what `call` says.
+//!    written. (`runs`) `event` serves one event, and says of it what `call` says.
 //! 11. `start_after_crash` finds the files of a moment along such a list, and never a third, also where any number of
 //!    starts before it were stopped; and it refuses the disk for want of memory or a fault of the device alone.
 //!    (`found`, `refused`, `between`, `again`)

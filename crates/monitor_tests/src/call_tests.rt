@@ -180,7 +180,7 @@ fn expect_open(
     expect_call(rt, monitor, alloc, (1, Call::Open(0, 0o200)), wanted);
 }
 
-/// An OPEN of another device, of a mode that there isn't, and of buffers outside the core and inside it.
+/// An OPEN of another device, of a mode that there isn't, and of rings whose header is outside the core and inside it.
 fn open_others(rt: &impl Abort, monitor: &mut Monitor<MemDisk>, alloc: Global) {
     let device = [0o17, 0o446353000001, 0, 0];
     expect_open(rt, monitor, alloc, device, Reply::Stopped(0o400017));
@@ -189,7 +189,9 @@ fn open_others(rt: &impl Abort, monitor: &mut Monitor<MemDisk>, alloc: Global) {
     let outside = [0o10, 0o446353000000, 0o000776000000, 0];
     expect_open(rt, monitor, alloc, outside, Reply::AddressCheck);
     let buffers = [0o10, 0o446353000000, 0o000300000000, 0];
-    expect_open(rt, monitor, alloc, buffers, Reply::Stopped(0o400010));
+    expect_open(rt, monitor, alloc, buffers, Reply::Done);
+    expect_number(rt, monitor, (1, 0o300), 0o400000000000);
+    expect_number(rt, monitor, (1, 0o301), 0o004400000000);
 }
 
 #[test]
