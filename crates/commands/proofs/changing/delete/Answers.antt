@@ -5,7 +5,6 @@ use Rattle.commands.proofs.CopyingLaws.{led_each}
 use Rattle.commands.proofs.AnswerLaws.{spoke_concluded}
 use Rattle.commands.proofs.changing.delete.Goals as goal
 
-
 pub returns : goal.returns
 returns g c = spoke_concluded g.S.FileService.machine g.met.S.FileService.stands
     (λ bytes. bytes.items) c.conclude.result c.args.moment c.args.tally.now c.conclude.new.tally _ _ _ c.args.me

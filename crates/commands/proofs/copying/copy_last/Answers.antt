@@ -5,7 +5,6 @@ use Rattle.commands.proofs.LedLaws.{led_on}
 use Rattle.commands.proofs.CopyingLaws.{led_each, led_first}
 use Rattle.commands.proofs.copying.copy_last.Goals as goal
 
-
 pub returns-in_err-ask_all : goal.returns-in_err-ask_all
 returns-in_err-ask_all g c =
     let p = err_from_is_err_and c.from_residual-in_err-ask_all.result c.from_residual-in_err-ask_all.ensures.1 in

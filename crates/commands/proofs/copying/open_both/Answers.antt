@@ -23,7 +23,6 @@ returns-in_err-ask_all-2 g c =
     (c.in_err-ask_all-2.ensures c.args.moment
     (each c.args.moment (lists 128) (examines c.args.moment (file_words + 3) next))))
 
-
 pub returns-in_err-ask_all-3 : goal.returns-in_err-ask_all-3
 returns-in_err-ask_all-3 g c =
     let p = err_from_is_err_and c.from_residual-in_err-ask_all-3.result c.from_residual-in_err-ask_all-3.ensures.1 in

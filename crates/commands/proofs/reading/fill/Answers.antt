@@ -14,7 +14,6 @@ loop-place-preserved g c =
     c.ask_all.new.service c.loop-place.place c.loop-place-test.true c.loop-place.invariant
     c.fills.result c.fills.ensures c.ask_all.result c.ask_all.ensures c.in_ok-ask_all.field-0 c.in_ok-ask_all.was
 
-
 pub returns : goal.returns
 returns g c = fills_all g.S.FileService.machine block_address 128 c.args.word c.args.service.now c.loop-place.service
     c.loop-place.place c.loop-place-test.false c.loop-place.invariant

@@ -4,7 +4,6 @@ use Rattle.meaning.specs.Plans.{block_address, goes_to, takes}
 use Rattle.commands.proofs.ReadingLaws.{over_unfilled, over_unasked, over_all}
 use Rattle.commands.proofs.reading.take_over.Goals as goal
 
-
 pub returns-in_err-fill : goal.returns-in_err-fill
 returns-in_err-fill g c =
     let p = err_from_is_err_and c.from_residual.result c.from_residual.ensures.1 in

@@ -10,7 +10,6 @@ returns-in_err-ask_all g c = λ next.
     (asked_failed g.S.FileService.machine c.args.moment c.in_err-ask_all.field-0.0 c.finds.ensures
     c.in_err-ask_all.ensures) next next
 
-
 pub returns-in_err-ask_all-2 : goal.returns-in_err-ask_all-2
 returns-in_err-ask_all-2 g c = λ next.
     let p = err_from_is_err_and c.from_residual-in_err-ask_all-2.result c.from_residual-in_err-ask_all-2.ensures.1 in

@@ -10,7 +10,6 @@ returns-in_err-count g c =
     not_counted g.S.FileService.machine _ _ c.args.moment c.args.n c.args.size _ _ c.in_err-count.field-0.0
     (handed_on p.1 p.2) c.in_err-count.ensures.led
 
-
 pub returns-in_err-ask_all : goal.returns-in_err-ask_all
 returns-in_err-ask_all g c =
     let p = err_from_is_err_and c.from_residual-in_err-ask_all.result c.from_residual-in_err-ask_all.ensures.1 in
