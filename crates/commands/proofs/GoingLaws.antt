@@ -1,7 +1,6 @@
 -- Acts that follow one another.
-use Rattle.std.proofs.Common.{◌≡◌, ℕ, List, [], ◌∷◌, ◌++◌, refl, subst, ◌∙◌, Result, sym}
+use Rattle.std.proofs.Common.{◌≡◌, ℕ, List, [], ◌∷◌, ◌++◌, refl, subst, ◌∙◌, Result}
 use Rattle.blockdisk.specs.Laws.{still_start, still_on}
-use Rattle.meaning.specs.Jobs.{State}
 use Rattle.meaning.specs.Room.{Pack}
 use Rattle.meaning.specs.Runs.{Service, Serving, Broken, Answers, Lists}
 use Rattle.meaning.specs.Plans.{Act, Asks, Looks}
@@ -10,8 +9,6 @@ use Rattle.meaning.specs.declared.entry.Entry.{Entry}
 use Rattle.meaning.specs.declared.call.Reply.{Reply}
 use Rattle.meaning.specs.declared.call.Event.{Event}
 use Rattle.commands.specs.Machines.{Machine, IsAnswered, IsListed, AlwaysStands, ActsBy, GoesBy}
-use Rattle.commands.specs.declared.language.Language.{Language}
-use Rattle.commands.specs.declared.language.Language.TheVariants.{Commands, Events}
 
 went-append : (pack : Pack) (first : Service) (acts more : List Act) (mid last : Service) → Went pack first acts mid
     → Went pack mid more last → Went pack first (acts ++ more) last

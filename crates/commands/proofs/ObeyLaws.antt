@@ -11,7 +11,6 @@ use Rattle.meaning.specs.declared.call.Event.{Event}
 use Rattle.commands.specs.Machines.{Machine, AlwaysStands, IsAnswered}
 use Rattle.commands.specs.Sessions.{Replied}
 use Rattle.commands.specs.declared.answer.Tally.{Tally}
-use Rattle.commands.specs.declared.language.Language.{Language}
 use Rattle.commands.specs.declared.run.Heard.TheVariants.{Ordered}
 use Rattle.commands.proofs.GoingLaws.{goes_nowhere, goes_answered}
 use Rattle.commands.proofs.TranscriptLaws.{or-false}

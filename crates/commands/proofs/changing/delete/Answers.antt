@@ -1,4 +1,4 @@
-use Rattle.std.proofs.Common.{◌++◌, refl, ap, subst}
+use Rattle.std.proofs.Common.{◌++◌, refl, ap}
 use Rattle.meaning.specs.Plans.{ends, ok, finds}
 use Rattle.meaning.specs.declared.command.Command.TheVariants.{Delete as DeleteLine}
 use Rattle.commands.proofs.CopyingLaws.{led_each}

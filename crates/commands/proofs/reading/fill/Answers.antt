@@ -1,4 +1,3 @@
-use Rattle.std.proofs.Common.{[], ◌∷◌}
 use Rattle.std.proofs.lemmas.Result.{err_from_is_err_and}
 use Rattle.meaning.specs.Plans.{block_address}
 use Rattle.commands.proofs.ReadingLaws.{fills_none, fills_more, fills_broken, fills_all}
