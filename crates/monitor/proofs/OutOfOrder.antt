@@ -1,5 +1,5 @@
 -- RENAME on a channel that reads nothing is out of order, as the machine has it.
-use Rattle.std.proofs.Common.{◌≡◌, ℕ, Bool, true, false, Option, None, Some, refl, ap, ◌∙◌}
+use Rattle.std.proofs.Common.{◌≡◌, ℕ, Bool, true, false, Option, None, Some, ap, ◌∙◌}
 use Rattle.std.specs.Prelude.{if◌then◌else◌, option_map}
 use Rattle.meaning.specs.Cores.{lies_outside}
 use Rattle.meaning.specs.Files.{Files}
@@ -9,7 +9,7 @@ use Rattle.meaning.specs.Outcomes.{settled, refused_at}
 use Rattle.meaning.specs.Published.{Version}
 use Rattle.meaning.specs.Renaming.{renames, rename_sides, rename_done, files_renamed}
 use Rattle.meaning.specs.Room.{Pack}
-use Rattle.meaning.specs.Step.{on_channel, of_job, of_files}
+use Rattle.meaning.specs.Step.{on_channel, of_files}
 use Rattle.meaning.specs.declared.call.Call.TheVariants.{Rename}
 use Rattle.meaning.specs.declared.call.Reply.{Reply}
 use Rattle.meaning.specs.declared.call.Reply.TheVariants.{Refused, NoChannel, AddressCheck}

@@ -10,8 +10,7 @@ use Rattle.meaning.specs.declared.call.Call.{Call}
 use Rattle.meaning.specs.declared.call.Event.TheVariants.{Call as Calls}
 use Rattle.meaning.specs.declared.call.Reply.{Reply}
 use Rattle.meaning.specs.declared.call.Reply.TheVariants.{Done, NoJob, NoMemory, Device, Failed, Refused}
-use Rattle.meaning.proofs.MapLaws.{some_same}
-use Rattle.meaning.proofs.SlotLaws.{none_some, slot-set_other}
+use Rattle.meaning.proofs.SlotLaws.{slot-set_other}
 use Rattle.volume.specs.Live.{VolumeCore}
 use Rattle.volume.specs.declared.live.LiveVersion.{LiveVersion}
 use Rattle.volume.specs.declared.pending.PendingVersion.{PendingVersion}

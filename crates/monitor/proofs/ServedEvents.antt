@@ -1,18 +1,14 @@
 -- A call, as an event.
-use Rattle.std.proofs.Common.{◌≡◌, ℕ, true, Option, None, Some, refl, ap, subst, ◌∙◌}
-use Rattle.std.specs.Prelude.{option_map}
+use Rattle.std.proofs.Common.{◌≡◌, ℕ, true, ap, ◌∙◌}
 use Rattle.words36.specs.declared.moment.Moment.{Moment}
 use Rattle.blockdisk.specs.Disk.{DiskState}
-use Rattle.meaning.specs.Jobs.{slot}
 use Rattle.meaning.specs.Runs.{Service, Serving, Broken, Answers}
 use Rattle.meaning.specs.declared.call.Event.TheVariants.{Call as Calls}
 use Rattle.meaning.specs.declared.call.Reply.{Reply}
 use Rattle.meaning.specs.declared.call.Reply.TheVariants.{Failed}
 use Rattle.monitor.specs.Serving.{pack_of, Serves}
-use Rattle.monitor.specs.Sides.{UnderKeys, job_of}
 use Rattle.monitor.specs.States.{MonitorState}
 use Rattle.meaning.specs.declared.call.Call.{Call}
-use Rattle.monitor.specs.declared.job.Job.{Job}
 
 -- A call, by what it ensures.
 module _ {D : Type 0} (state : D → DiskState) (old new : MonitorState D) (n : ℕ) (call : Call) (moment : Moment)

@@ -1,10 +1,8 @@
-use Rattle.std.proofs.Common.{◌≡◌, ◌≤◌, ℕ, false, Some, refl, subst, ◌∙◌, sym}
-use Rattle.std.specs.Prelude.{slice_set}
+use Rattle.std.proofs.Common.{◌≡◌, ◌≤◌, ℕ, Some, refl, subst, ◌∙◌, sym}
 use Rattle.meaning.specs.Jobs as machine
 use Rattle.meaning.specs.Jobs.{State, slot, job_at}
 use Rattle.meaning.specs.Runs.{Service, Serving}
 use Rattle.meaning.specs.declared.call.Call.TheVariants.{In}
-use Rattle.monitor.specs.declared.job.Job.{Job}
 use Rattle.meaning.specs.declared.call.Reply.TheVariants.{NoMemory, Device, Failed, DateRange, Refused}
 use Rattle.monitor.specs.Calls.{KeepsCore}
 use Rattle.blockdisk.specs.Disk.{LeavesOnly}
