@@ -31,9 +31,9 @@ impl<D: Disk> FileService for Monitor<D> {
 }
 
 /// Serves the lines of a reader until its end, as job 1 at a moment, and writes what they print; at the end
-/// of the input the job is reset. The lines are those of this project's profile; so far LOGIN, DIRECTORY
-/// and MAKDIR are served. All that a crash may leave, at any moment of it, stands for the files after some of
-/// the calls that its lines make, in their order, or for those after one call more.
+/// of the input the job is reset. The lines are those of this project's profile. All that a crash may leave,
+/// at any moment of it, stands for the files after some of the calls that its lines make, in their order, or
+/// for those after one call more.
 ///
 /// # Errors
 ///
