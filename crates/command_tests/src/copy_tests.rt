@@ -132,7 +132,7 @@ fn expect_bar(
 }
 
 /// A new volume of so many blocks, with the directory [10,20] and FOO.TXT of so many words.
-fn volume_with(
+pub fn volume_with(
     rt: &impl Abort,
     alloc: Global,
     blocks: u32,
@@ -228,7 +228,7 @@ fn printed_with(
 
 /// Each write and sync fails in turn, from the first on that a start leaves: this is printed, and that once all
 /// are served.
-fn expect_broken(
+pub fn expect_broken(
     rt: &impl Abort,
     alloc: Global,
     is_script: bool,

@@ -4,6 +4,8 @@
 #![tactic(auto)]
 
 #[cfg(test)]
+mod changing_tests;
+#[cfg(test)]
 mod copy_tests;
 #[cfg(test)]
 mod script_tests;
