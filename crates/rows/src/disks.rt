@@ -1,0 +1,187 @@
+
+use crate::row::{Row, step};
+use crate::steps::play_steps;
+use crate::desk::Desk;
+use crate::fields::{number, number_or};
+use anyhow::{Result, ensure};
+use blockdisk::{Disk, MemDisk};
+use commands::{Monitor, StartError, Volume};
+use std::alloc::Global;
+use words36::{BLOCK_WORDS, Block, Word};
+
+/// How many writes and syncs a disk takes where a row doesn't say it.
+const CALLS: u64 = 4000;
+
+/// The image that is written out by hand: [10,20] with FOO.TXT of two words.
+const WRITTEN: [(u32, &[u64]); 7] = [
+    (1, &[0o465154634562, 1, 0o100, 1, 0o11, 0o17]),
+    (2, &[0o465154634562, 1, 0o100, 1, 0o11, 0o17]),
+    (14, &[0o777777400000]),
+    (15, &[0, 1, 0o000010000020, 0o775000000000, 0o20]),
+    (16, &[0, 1, 0o465757000000, 0o647064000000, 0o21]),
+    (
+        17,
+        &[
+            0o625142000000,
+            0o465757000000,
+            0o647064000000,
+            0o057000007777,
+            0o000010000020,
+            2,
+            1,
+            0,
+            0,
+            0,
+            0,
+            0,
+            0,
+            0,
+            0,
+            0,
+            0o000001000022,
+        ],
+    ),
+    (18, &[0o442131446236, 0o064240000000]),
+];
+
+/// Puts these words into a block, and zeros behind them.
+fn put_words(disk: &mut MemDisk, n: u32, words: &[u64]) -> Result<()> {
+    let mut block: Block = [Word::ZERO; BLOCK_WORDS];
+    for (place, &number) in block.iter_mut().zip(words) {
+        *place = Word::new(number).unwrap_or(Word::ZERO);
+    }
+    ensure!(n < disk.blocks(), "there is no block {n}");
+    disk.load(n, &block);
+    Ok(())
+}
+
+/// A disk of zeros, of so many blocks, with room to record so many writes and syncs.
+fn zeros(alloc: Global, fields: &[&str]) -> Result<MemDisk> {
+    let blocks = number(fields, 1, 10)? as u32;
+    let calls = number_or(fields, 2, 10, CALLS)? as usize;
+    Ok(MemDisk::new(alloc, blocks, calls)?)
+}
+
+
+/// `BLOCK N WORD ..`: a block has these words, in octal, and zeros behind them.
+fn put_block(disk: &mut MemDisk, fields: &[&str]) -> Result<()> {
+    let mut words = [0; BLOCK_WORDS];
+    for (place, word) in words.iter_mut().enumerate() {
+        *word = number_or(fields, place + 2, 8, 0)?;
+    }
+    put_words(disk, number(fields, 1, 10)? as u32, &words)
+}
+
+/// `DAMAGE N`: a block has no words.
+fn damage(disk: &mut MemDisk, fields: &[&str]) -> Result<()> {
+    let n = number(fields, 1, 10)? as u32;
+    ensure!(n < disk.blocks(), "there is no block {n}");
+    disk.damage(n);
+    Ok(())
+}
+
+/// The image that is written out by hand.
+fn write_image(disk: &mut MemDisk) -> Result<()> {
+    for (n, words) in WRITTEN {
+        put_words(disk, n, words)?;
+    }
+    Ok(())
+}
+
+/// A volume in which there is no directory.
+fn make_volume(disk: &mut MemDisk) -> Result<()> {
+    ensure!(Volume::init(disk).is_ok(), "no volume is made");
+    Ok(())
+}
+
+/// Does what a line says of the disk that a row begins with.
+fn prepare(alloc: Global, disk: &mut MemDisk, fields: &[&str]) -> Result<()> {
+    match fields.first().copied() {
+        Some("RAW") => {
+            *disk = zeros(alloc, fields)?;
+            Ok(())
+        }
+        Some("VOLUME") => {
+            *disk = zeros(alloc, fields)?;
+            make_volume(disk)
+        }
+        Some("WRITTEN") => {
+            *disk = zeros(alloc, fields)?;
+            write_image(disk)
+        }
+        Some("BLOCK") => put_block(disk, fields),
+        Some("DAMAGE") => damage(disk, fields),
+        _ => Ok(()),
+    }
+}
+
+/// The disk that a row begins with.
+fn disk_of(alloc: Global, row: &Row, alternative: usize) -> Result<MemDisk> {
+    let mut disk = MemDisk::new(alloc, 0, 0)?;
+    for line in row.lines() {
+        let fields: Vec<&str> = step(line, alternative).split_whitespace().collect(alloc)?;
+        prepare(alloc, &mut disk, &fields)?;
+    }
+    Ok(disk)
+}
+
+/// A monitor over a disk, or why that is refused. What `start` promises stays behind this function: the proofs of its
+/// callers are short without it.
+fn start_over<D: Disk>(alloc: Global, disk: D) -> Result<Monitor<D>, (StartError, D)> {
+    Monitor::start(alloc, disk)
+}
+
+/// Plays the lines of a row from one start to the next, over a disk; gives the disk back.
+fn play_over<D: Disk + Drop>(
+    rt: &impl Print,
+    desk: &mut Desk,
+    disk: D,
+    lines: &[String],
+) -> Result<D> {
+    match start_over(desk.alloc, disk) {
+        Ok(mut monitor) => {
+            let played = play_steps(rt, &mut monitor, desk, lines);
+            let disk = monitor.finish();
+            played?;
+            Ok(disk)
+        }
+        Err((error, disk)) => {
+            let found = format!(in desk.alloc; "REFUSED {error}")?;
+            expect_refusal(rt, desk, found.as_str(), lines)?;
+            Ok(disk)
+        }
+    }
+}
+
+/// The start is refused so.
+fn expect_refusal(rt: &impl Print, desk: &mut Desk, found: &str, lines: &[String]) -> Result<()> {
+    let mut wanted = "";
+    for line in lines {
+        let line = step(line, desk.alternative);
+        if line.starts_with("REFUSED") {
+            wanted = line;
+        }
+    }
+    desk.expect(rt, "a start", wanted, found)?;
+    Ok(())
+}
+
+/// Empties the record of a disk: what is there now was there from the beginning.
+fn forget_record(disk: &mut MemDisk) {
+    if disk.blocks() > 0
+        && let Ok(words) = disk.read(0)
+    {
+        disk.load(0, &words);
+    }
+}
+
+/// Plays a row with one of its alternatives.
+pub fn play_once(rt: &impl Print, alloc: Global, row: &Row, alternative: usize) -> Result<u64> {
+    let mut disk = disk_of(alloc, row, alternative)?;
+    let mut desk = Desk::new(alloc, alternative)?;
+    for lines in row.lines().split(|line| line.as_str() == "RESTART") {
+        forget_record(&mut disk);
+        disk = play_over(rt, &mut desk, disk, lines)?;
+    }
+    Ok(desk.mistakes)
+}

@@ -1,0 +1,230 @@
+use crate::desk::Desk;
+use crate::fields::{number, number_or};
+use crate::row::step;
+use anyhow::Result;
+use blockdisk::Disk;
+use commands::{Monitor, script, session};
+use std::alloc::Global;
+use std::str;
+use words36::Moment;
+
+/// The most words that a line puts into a core or looks at, and the most that it repeats an event.
+const MOST: u64 = 0o200000;
+
+/// Plays the lines of a row.
+pub fn play_steps<D: Disk>(
+    rt: &impl Print,
+    monitor: &mut Monitor<D>,
+    desk: &mut Desk,
+    lines: &[String],
+) -> Result<()> {
+    for line in lines {
+        let line = step(line, desk.alternative);
+        if let Some(asked) = line.strip_prefix('>') {
+            if !desk.wanted.is_empty() {
+                end_session(rt, monitor, desk)?;
+            }
+            desk.ask(asked.trim())?;
+        } else if let Some(wanted) = line.strip_prefix('|') {
+            desk.want(wanted.trim())?;
+        } else {
+            end_session(rt, monitor, desk)?;
+            play_step(rt, monitor, desk, line)?;
+        }
+    }
+    end_session(rt, monitor, desk)
+}
+
+/// Plays the session whose lines were read, where there is one: it prints what is wanted.
+fn end_session<D: Disk>(
+    rt: &impl Print,
+    monitor: &mut Monitor<D>,
+    desk: &mut Desk,
+) -> Result<()> {
+    if desk.asked.is_empty() {
+        return Ok(());
+    }
+    let printed = talk(desk.alloc, monitor, desk.moment, desk.asked.as_bytes())?;
+    let wanted = desk.wanted.clone()?;
+    desk.expect(rt, "a session", wanted.as_str(), str::from_utf8(&printed)?)?;
+    desk.asked.clear();
+    desk.wanted.clear();
+    Ok(())
+}
+
+/// What a session prints.
+fn talk<D: Disk>(
+    alloc: Global,
+    monitor: &mut Monitor<D>,
+    moment: Moment,
+    lines: &[u8],
+) -> Result<Vec<u8>> {
+    let mut reader = lines;
+    let mut writer = Vec::new(alloc);
+    session(alloc, &mut reader, &mut writer, monitor, moment)?;
+    Ok(writer)
+}
+
+/// What a line of a call script is answered with.
+fn answer<D: Disk>(
+    alloc: Global,
+    monitor: &mut Monitor<D>,
+    moment: Moment,
+    line: &[u8],
+) -> Result<Vec<u8>> {
+    let mut reader = line;
+    let mut writer = Vec::new(alloc);
+    script(alloc, &mut reader, &mut writer, monitor, moment)?;
+    Ok(writer)
+}
+
+/// An event is answered so.
+fn expect_answer<D: Disk>(
+    rt: &impl Print,
+    monitor: &mut Monitor<D>,
+    desk: &mut Desk,
+    event: &str,
+    wanted: &str,
+) -> Result<()> {
+    let reply = answer(desk.alloc, monitor, desk.moment, event.as_bytes())?;
+    desk.expect(rt, event, wanted, str::from_utf8(&reply)?.trim())?;
+    Ok(())
+}
+
+/// Plays a line that is no session's.
+fn play_step<D: Disk>(
+    rt: &impl Print,
+    monitor: &mut Monitor<D>,
+    desk: &mut Desk,
+    line: &str,
+) -> Result<()> {
+    let Some((times, events)) = line.split_once(" TIMES ") else {
+        return play_event(rt, monitor, desk, line);
+    };
+    for turn in 1..=times.parse::<u32>()? {
+        let turn = format!(in desk.alloc; "{turn:o}")?;
+        let events = events.replace(desk.alloc, "%", &turn)?;
+        for event in events.split(" ; ") {
+            play_event(rt, monitor, desk, event)?;
+        }
+    }
+    Ok(())
+}
+
+/// Plays a step of a line.
+fn play_event<D: Disk>(
+    rt: &impl Print,
+    monitor: &mut Monitor<D>,
+    desk: &mut Desk,
+    line: &str,
+) -> Result<()> {
+    let (event, wanted) = line.split_once(" = ").unwrap_or((line, "DONE"));
+    let fields: Vec<&str> = event.split_whitespace().collect(desk.alloc)?;
+    match fields.first().copied() {
+        None | Some("RAW" | "VOLUME" | "WRITTEN" | "BLOCK" | "DAMAGE") => Ok(()),
+        Some("AT") => {
+            let (date, minute) = (number(&fields, 1, 10)?, number(&fields, 2, 10)?);
+            desk.moment = Moment::new(date as u32, minute as u32)?;
+            Ok(())
+        }
+        Some("ROOM") => {
+            let room = format!(in desk.alloc; "ROOM {}", monitor.room())?;
+            desk.expect(rt, line, line, room.as_str())?;
+            Ok(())
+        }
+        Some("BLOCKS") => {
+            let blocks = format!(in desk.alloc; "BLOCKS {}", monitor.blocks())?;
+            desk.expect(rt, line, line, blocks.as_str())?;
+            Ok(())
+        }
+        Some(_) => play_words(rt, monitor, desk, &fields, (event, wanted)),
+    }
+}
+
+/// Plays a step about several words, or one event.
+fn play_words<D: Disk>(
+    rt: &impl Print,
+    monitor: &mut Monitor<D>,
+    desk: &mut Desk,
+    fields: &[&str],
+    (event, wanted): (&str, &str),
+) -> Result<()> {
+    match fields.get(1).copied() {
+        Some("DEPS") => deposit_words(rt, monitor, desk, fields),
+        Some("EXAS") => examine_words(rt, monitor, desk, fields),
+        Some("FILL") => fill(rt, monitor, desk, fields),
+        Some("HAS") => expect_words(rt, monitor, desk, fields),
+        _ => expect_answer(rt, monitor, desk, event, wanted),
+    }
+}
+
+/// `J DEPS ADDR WORD ..`: these words stand in a core from an address on.
+fn deposit_words<D: Disk>(
+    rt: &impl Print,
+    monitor: &mut Monitor<D>,
+    desk: &mut Desk,
+    fields: &[&str],
+) -> Result<()> {
+    let mut address = number(fields, 2, 8)?;
+    for word in fields.iter().skip(3) {
+        let event = format!(in desk.alloc; "{} DEP {address:o} {word}", fields[0])?;
+        expect_answer(rt, monitor, desk, event.as_str(), "DONE")?;
+        address = address.saturating_add(1);
+    }
+    Ok(())
+}
+
+/// `J EXAS ADDR WORD ..`: these words are looked at.
+fn examine_words<D: Disk>(
+    rt: &impl Print,
+    monitor: &mut Monitor<D>,
+    desk: &mut Desk,
+    fields: &[&str],
+) -> Result<()> {
+    let mut address = number(fields, 2, 8)?;
+    for place in 3..fields.len() {
+        let event = format!(in desk.alloc; "{} EXA {address:o}", fields[0])?;
+        let wanted = format!(in desk.alloc; "VALUE {:012o}", number(fields, place, 8)?)?;
+        expect_answer(rt, monitor, desk, event.as_str(), wanted.as_str())?;
+        address = address.saturating_add(1);
+    }
+    Ok(())
+}
+
+/// `J FILL ADDR COUNT FIRST STEP`: so many words, each by so much more than the one before it, in decimal. A step that
+/// isn't said is 1.
+fn fill<D: Disk>(
+    rt: &impl Print,
+    monitor: &mut Monitor<D>,
+    desk: &mut Desk,
+    fields: &[&str],
+) -> Result<()> {
+    let (address, first) = (number(fields, 2, 8)?, number(fields, 4, 10)?);
+    let step = number_or(fields, 5, 10, 1)?;
+    for place in 0..number(fields, 3, 10)?.min(MOST) {
+        let address = address.wrapping_add(place);
+        let word = first.wrapping_add(place.wrapping_mul(step));
+        let event = format!(in desk.alloc; "{} DEP {address:o} {word:o}", fields[0])?;
+        expect_answer(rt, monitor, desk, event.as_str(), "DONE")?;
+    }
+    Ok(())
+}
+
+/// `J HAS ADDR COUNT FIRST STEP`: these words stand in a core from an address on.
+fn expect_words<D: Disk>(
+    rt: &impl Print,
+    monitor: &mut Monitor<D>,
+    desk: &mut Desk,
+    fields: &[&str],
+) -> Result<()> {
+    let (address, first) = (number(fields, 2, 8)?, number(fields, 4, 10)?);
+    let step = number_or(fields, 5, 10, 1)?;
+    for place in 0..number(fields, 3, 10)?.min(MOST) {
+        let address = address.wrapping_add(place);
+        let word = first.wrapping_add(place.wrapping_mul(step));
+        let event = format!(in desk.alloc; "{} EXA {address:o}", fields[0])?;
+        let wanted = format!(in desk.alloc; "VALUE {word:012o}")?;
+        expect_answer(rt, monitor, desk, event.as_str(), wanted.as_str())?;
+    }
+    Ok(())
+}
