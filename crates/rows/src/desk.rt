@@ -35,22 +35,12 @@ impl Desk {
 
     /// A line of a session.
     pub fn ask(&mut self, line: &str) -> Result<(), AllocError> {
-        self.asked.push_str(line)?;
-        self.asked.push('\n')?;
-        Ok(())
+        push_line(&mut self.asked, line)
     }
 
-    /// A line that it is to print. A `\r` at its end stands for a carriage return.
+    /// A line that it is to print.
     pub fn want(&mut self, line: &str) -> Result<(), AllocError> {
-        match line.strip_suffix("\\r") {
-            Some(line) => {
-                self.wanted.push_str(line)?;
-                self.wanted.push('\r')?;
-            }
-            None => self.wanted.push_str(line)?,
-        }
-        self.wanted.push('\n')?;
-        Ok(())
+        push_line(&mut self.wanted, line)
     }
 
     /// Says where something isn't as a line wants it.
@@ -68,4 +58,20 @@ impl Desk {
         let alternative = self.alternative;
         println!(rt; "? {line}: {found} in place of {wanted} (alternative {alternative})")
     }
+}
+
+/// Puts a line behind a text. At its end `\r` stands for a carriage return, and `\c` says that no line feed follows.
+fn push_line(text: &mut String, line: &str) -> Result<(), AllocError> {
+    if let Some(line) = line.strip_suffix("\\c") {
+        return text.push_str(line);
+    }
+    match line.strip_suffix("\\r") {
+        Some(line) => {
+            text.push_str(line)?;
+            text.push('\r')?;
+        }
+        None => text.push_str(line)?,
+    }
+    text.push('\n')?;
+    Ok(())
 }

@@ -1,5 +1,5 @@
 
-use crate::row::{Row, step};
+use crate::row::{Row, step, without_remark};
 use crate::steps::play_steps;
 use crate::desk::Desk;
 use crate::fields::{number, number_or};
@@ -119,7 +119,7 @@ fn prepare(alloc: Global, disk: &mut MemDisk, fields: &[&str]) -> Result<()> {
 fn disk_of(alloc: Global, row: &Row, alternative: usize) -> Result<MemDisk> {
     let mut disk = MemDisk::new(alloc, 0, 0)?;
     for line in row.lines() {
-        let fields: Vec<&str> = step(line, alternative).split_whitespace().collect(alloc)?;
+        let fields: Vec<&str> = without_remark(step(line, alternative)).split_whitespace().collect(alloc)?;
         prepare(alloc, &mut disk, &fields)?;
     }
     Ok(disk)
@@ -157,7 +157,7 @@ fn play_over<D: Disk + Drop>(
 fn expect_refusal(rt: &impl Print, desk: &mut Desk, found: &str, lines: &[String]) -> Result<()> {
     let mut wanted = "";
     for line in lines {
-        let line = step(line, desk.alternative);
+        let line = without_remark(step(line, desk.alternative));
         if line.starts_with("REFUSED") {
             wanted = line;
         }

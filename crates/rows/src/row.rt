@@ -72,12 +72,8 @@ fn number_of(other: &str) -> usize {
     number.parse::<usize>().unwrap_or(0)
 }
 
-/// The step of a line: of several alternatives the last one with a number up to this. Behind a `#` stands a remark.
+/// The step of a line: of several alternatives the last one with a number up to this.
 pub fn step(line: &str, alternative: usize) -> &str {
-    let line = match line.split_once('#') {
-        Some((step, _remark)) => step,
-        None => line,
-    };
     let mut chosen = line.split(" ~").next().unwrap_or("");
     for other in line.split(" ~").skip(1) {
         if number_of(other) <= alternative {
@@ -87,5 +83,13 @@ pub fn step(line: &str, alternative: usize) -> &str {
             };
         }
     }
-    chosen.trim()
+    chosen
+}
+
+/// A step without a remark, which stands behind a `#`.
+pub fn without_remark(step: &str) -> &str {
+    match step.split_once('#') {
+        Some((step, _remark)) => step.trim(),
+        None => step.trim(),
+    }
 }

@@ -1,6 +1,6 @@
 use crate::desk::Desk;
 use crate::fields::{number, number_or};
-use crate::row::step;
+use crate::row::{step, without_remark};
 use anyhow::Result;
 use blockdisk::Disk;
 use commands::{Monitor, script, session};
@@ -20,16 +20,16 @@ pub fn play_steps<D: Disk>(
 ) -> Result<()> {
     for line in lines {
         let line = step(line, desk.alternative);
-        if let Some(asked) = line.strip_prefix('>') {
+        if let Some(asked) = line.strip_prefix("> ") {
             if !desk.wanted.is_empty() {
                 end_session(rt, monitor, desk)?;
             }
-            desk.ask(asked.trim())?;
-        } else if let Some(wanted) = line.strip_prefix('|') {
-            desk.want(wanted.trim())?;
+            desk.ask(asked)?;
+        } else if let Some(wanted) = line.strip_prefix("| ") {
+            desk.want(wanted)?;
         } else {
             end_session(rt, monitor, desk)?;
-            play_step(rt, monitor, desk, line)?;
+            play_step(rt, monitor, desk, without_remark(line))?;
         }
     }
     end_session(rt, monitor, desk)
@@ -119,6 +119,9 @@ fn play_event<D: Disk>(
     line: &str,
 ) -> Result<()> {
     let (event, wanted) = line.split_once(" = ").unwrap_or((line, "DONE"));
+    if let Some((event, _)) = event.strip_prefix('"').and_then(|event| event.split_once('"')) {
+        return expect_answer(rt, monitor, desk, event, wanted);
+    }
     let fields: Vec<&str> = event.split_whitespace().collect(desk.alloc)?;
     match fields.first().copied() {
         None | Some("RAW" | "VOLUME" | "WRITTEN" | "BLOCK" | "DAMAGE") => Ok(()),
