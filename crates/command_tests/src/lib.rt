@@ -1,15 +1,13 @@
-//! Tests of sessions and call scripts over a monitor: what they print of images that are written out by hand, and what
-//! they leave of them. They stand apart from the crate that they test so that its proof needs no monitor that is
-//! started. There is no code here beside them.
+//! Tests of sessions and call scripts over a monitor and a disk in memory that no text of lines can play: readers and
+//! writers that fail or go in small pieces, refused allocations, long lines, and what is counted. What lines and events
+//! come to is played by the program `rows`. There is no code here beside them.
 #![tactic(auto)]
 
 #[cfg(test)]
-mod changing_tests;
+mod line_tests;
 #[cfg(test)]
-mod copy_tests;
+mod memory_tests;
 #[cfg(test)]
-mod ring_tests;
+mod service;
 #[cfg(test)]
-mod script_tests;
-#[cfg(test)]
-mod session_tests;
+mod stream_tests;

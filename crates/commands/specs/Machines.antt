@@ -82,24 +82,3 @@ pub record GoesBy {S : Type 0} (machine : S → Machine) (old new : S) (acts : L
   pub was_honest : (machine new).honest → (machine old).honest
   pub went : (machine new).honest → (first : Service) → (machine old).serves first
       → (last : Service) × (machine new).serves last × ActsBy machine (machine old).pack old first acts new last
-
--- a disk of which nothing is known
-abbrev pub unknown_disk : DiskState
-unknown_disk = record {
-  size = 64;
-  honest = ⊥;
-  failures = 0;
-  contents = λ n. None;
-  is_open = λ n. false;
-  clock = 0;
-  left_since = λ t c. ⊥;
-}
-
--- a service of which nothing is known
-abbrev pub unknown_machine : Machine
-unknown_machine = record {
-  pack = record { layout = 1; blocks = 64 };
-  honest = ⊥;
-  disk = unknown_disk;
-  serves = λ service. ⊥;
-}

@@ -36,10 +36,6 @@ mod changing;
 mod concluding;
 mod copying;
 mod error;
-#[cfg(test)]
-mod fake;
-#[cfg(test)]
-mod fault_tests;
 mod fields;
 mod grammar;
 mod input;
@@ -48,20 +44,14 @@ mod laws;
 mod makdir;
 mod monitored;
 mod obeying;
-#[cfg(test)]
-mod order_tests;
 mod orders;
 mod reading;
 mod requests;
 mod restart;
 mod run;
-#[cfg(test)]
-mod script_tests;
 mod service;
 mod specs;
 mod stream;
-#[cfg(test)]
-mod tests;
 mod text;
 mod typing;
 

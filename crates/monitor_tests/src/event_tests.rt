@@ -1,4 +1,4 @@
-use crate::job_tests::{drop_monitor, expect_room, image, room, start, started, word};
+use crate::service::{drop_monitor, expect_room, image, room, start, word};
 use blockdisk::{MemDisk, NoMemory};
 use meaning::{Call, Event, Reply};
 use monitor::{Monitor, start_after_crash};
@@ -99,7 +99,8 @@ fn write_bar(rt: &impl Abort, monitor: &mut Monitor<MemDisk>, alloc: Global) {
 /// BAR.TXT is written and closed: what a start finds of the disk has it.
 #[test]
 fn a_file_is_written_by_a_list(rt: HostRuntime) -> Result<(), Fail> {
-    let mut monitor = start(&rt, rt.alloc(), 0o775000000000)?;
+    let disk = image(&rt, rt.alloc(), 32)?;
+    let mut monitor = start(&rt, rt.alloc(), disk);
     expect_nobody(&rt, &mut monitor, rt.alloc());
     fill_core(&rt, &mut monitor, rt.alloc());
     write_bar(&rt, &mut monitor, rt.alloc());
@@ -134,7 +135,7 @@ fn fail_to_write(rt: &impl Abort, monitor: &mut Monitor<MemDisk>, alloc: Global)
 #[test]
 fn a_failed_device_ends_a_list(rt: HostRuntime) -> Result<(), Fail> {
     let disk = image(&rt, rt.alloc(), 1)?;
-    let mut monitor = started(&rt, rt.alloc(), disk);
+    let mut monitor = start(&rt, rt.alloc(), disk);
     expect_served(&rt, &mut monitor, rt.alloc(), &[login(&rt)], &[Reply::Done]);
     fill_core(&rt, &mut monitor, rt.alloc());
     fail_to_write(&rt, &mut monitor, rt.alloc());

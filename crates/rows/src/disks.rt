@@ -72,6 +72,12 @@ fn put_block(disk: &mut MemDisk, fields: &[&str]) -> Result<()> {
     put_words(disk, number(fields, 1, 10)? as u32, &words)
 }
 
+/// `ALL N WORD`: each word of a block is this one, in octal.
+fn put_all(disk: &mut MemDisk, fields: &[&str]) -> Result<()> {
+    let words = [number(fields, 2, 8)?; BLOCK_WORDS];
+    put_words(disk, number(fields, 1, 10)? as u32, &words)
+}
+
 /// `DAMAGE N`: a block has no words.
 fn damage(disk: &mut MemDisk, fields: &[&str]) -> Result<()> {
     let n = number(fields, 1, 10)? as u32;
@@ -110,6 +116,7 @@ fn prepare(alloc: Global, disk: &mut MemDisk, fields: &[&str]) -> Result<()> {
             write_image(disk)
         }
         Some("BLOCK") => put_block(disk, fields),
+        Some("ALL") => put_all(disk, fields),
         Some("DAMAGE") => damage(disk, fields),
         _ => Ok(()),
     }
@@ -175,6 +182,45 @@ fn forget_record(disk: &mut MemDisk) {
     }
 }
 
+/// `LEFT N WORD ..`: a block has these words, and zeros behind them, in octal.
+fn expect_block(
+    rt: &impl Print,
+    disk: &mut MemDisk,
+    desk: &mut Desk,
+    line: &str,
+    fields: &[&str],
+) -> Result<()> {
+    let n = number(fields, 1, 10)? as u32;
+    ensure!(n < disk.blocks(), "there is no block {n}");
+    let Ok(block) = disk.read(n) else {
+        desk.expect(rt, line, "words", "damage")?;
+        return Ok(());
+    };
+    for (place, word) in block.iter().enumerate() {
+        let wanted = format!(in desk.alloc; "{:o}", number_or(fields, place + 2, 8, 0)?)?;
+        let found = format!(in desk.alloc; "{:o}", word.bits())?;
+        desk.expect(rt, line, wanted.as_str(), found.as_str())?;
+    }
+    Ok(())
+}
+
+/// The blocks that lines speak of are left so.
+fn expect_left(
+    rt: &impl Print,
+    disk: &mut MemDisk,
+    desk: &mut Desk,
+    lines: &[String],
+) -> Result<()> {
+    for line in lines {
+        let line = without_remark(step(line, desk.alternative));
+        let fields: Vec<&str> = line.split_whitespace().collect(desk.alloc)?;
+        if fields.first().copied() == Some("LEFT") {
+            expect_block(rt, disk, desk, line, &fields)?;
+        }
+    }
+    Ok(())
+}
+
 /// Plays a row with one of its alternatives.
 pub fn play_once(rt: &impl Print, alloc: Global, row: &Row, alternative: usize) -> Result<u64> {
     let mut disk = disk_of(alloc, row, alternative)?;
@@ -182,6 +228,7 @@ pub fn play_once(rt: &impl Print, alloc: Global, row: &Row, alternative: usize) 
     for lines in row.lines().split(|line| line.as_str() == "RESTART") {
         forget_record(&mut disk);
         disk = play_over(rt, &mut desk, disk, lines)?;
+        expect_left(rt, &mut disk, &mut desk, lines)?;
     }
     Ok(desk.mistakes)
 }

@@ -124,7 +124,12 @@ fn play_event<D: Disk>(
     }
     let fields: Vec<&str> = event.split_whitespace().collect(desk.alloc)?;
     match fields.first().copied() {
-        None | Some("RAW" | "VOLUME" | "WRITTEN" | "BLOCK" | "DAMAGE") => Ok(()),
+        None
+        | Some("RAW" | "VOLUME" | "WRITTEN" | "BLOCK" | "ALL" | "DAMAGE" | "LEFT") => Ok(()),
+        Some("REFUSED") => {
+            desk.expect(rt, "a start", line, "an accepted disk")?;
+            Ok(())
+        }
         Some("AT") => {
             let (date, minute) = (number(&fields, 1, 10)?, number(&fields, 2, 10)?);
             desk.moment = Moment::new(date as u32, minute as u32)?;

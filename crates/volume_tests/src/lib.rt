@@ -13,6 +13,8 @@ mod fault_tests;
 #[cfg(test)]
 mod home_tests;
 #[cfg(test)]
+mod image_tests;
+#[cfg(test)]
 mod init_tests;
 #[cfg(test)]
 mod make_tests;

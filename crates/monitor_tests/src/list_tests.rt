@@ -1,4 +1,4 @@
-use crate::monitor_rows::{
+use crate::service::{
     BLOCK, LIST, TXT, WORDS, drop_monitor, expect_room, expect_word, fill, login, open, put_word,
     ready,
 };

@@ -1,4 +1,4 @@
-use crate::monitor_rows::{BLOCK, FOO, LIST, TXT, image};
+use crate::service::{BLOCK, FOO, LIST, TXT, image};
 use blockdisk::{Disk, Fault, MemDisk, NoMemory};
 use meaning::{Call, Reply};
 use monitor::{Monitor, StartError};

@@ -1,0 +1,133 @@
+use crate::service::{Language, printed};
+use commands::{Tally, refusal};
+use meaning::Reply;
+use std::alloc::Global;
+use std::process::Abort;
+use std::test::Fail;
+use words36::Word;
+
+/// `LOGIN` with so many blanks before the number, and this behind it, prints so.
+fn expect_long_line(
+    rt: &impl Abort,
+    alloc: Global,
+    blanks: usize,
+    end: &[u8],
+    text: &[u8],
+) -> Result<(), Fail> {
+    let mut lines = Vec::new(alloc);
+    lines.extend_from_slice(b"LOGIN")?;
+    for _ in 0..blanks {
+        lines.push(b' ')?;
+    }
+    lines.extend_from_slice(b"[10,20]")?;
+    lines.extend_from_slice(end)?;
+    let (found, _tally) = printed(rt, alloc, 64, Language::Session, lines.as_slice())?;
+    assert!(rt; found.as_slice() == text, "of {blanks} blanks: {found:?}");
+    Ok(())
+}
+
+/// A line has at most 255 bytes, a carriage return counted.
+#[test]
+fn long_lines(rt: HostRuntime) -> Result<(), Fail> {
+    let job = b"Job 1 [10,20]\n".as_slice();
+    let wrong = b"?Command error\n".as_slice();
+    for (blanks, end, text) in [
+        (243, b"\n".as_slice(), job),
+        (242, b"\r\n", job),
+        (243, b"", job),
+        (244, b"\n", wrong),
+        (243, b"\r\n", wrong),
+        (
+            600,
+            b"\nLOGIN [10,20]\n",
+            b"?Command error\nJob 1 [10,20]\n",
+        ),
+    ] {
+        expect_long_line(&rt, rt.alloc(), blanks, end, text)?;
+    }
+    Ok(())
+}
+
+/// These lines print so, and are counted so: whether one was refused, and whether one met a fault.
+fn expect_counted(
+    rt: &impl Abort,
+    alloc: Global,
+    (calls, language): (usize, Language),
+    (lines, text): (&[u8], &[u8]),
+    (refused, broke): (bool, bool),
+) -> Result<(), Fail> {
+    let (found, tally) = printed(rt, alloc, calls, language, lines)?;
+    assert!(rt; found.as_slice() == text, "{found:?}");
+    assert!(rt; tally == Tally { refused, broke });
+    Ok(())
+}
+
+/// Nothing is counted for the RESET at the end of a session.
+#[test]
+fn tallies(rt: HostRuntime) -> Result<(), Fail> {
+    for (calls, language, lines, text, tally) in [
+        (
+            64,
+            Language::Session,
+            b"LOGIN [10,20]\nTYPE FOO.TXT\n".as_slice(),
+            b"Job 1 [10,20]\nHELLO\r\n".as_slice(),
+            (false, false),
+        ),
+        (
+            64,
+            Language::Session,
+            b"LOGIN [10,20]\nTYPE FOO\nDIR",
+            b"Job 1 [10,20]\n?File not found\n?Command error\n",
+            (true, false),
+        ),
+        (
+            1,
+            Language::Session,
+            b"LOGIN [10,20]\nDELETE FOO.TXT\nDIRECTORY\n",
+            b"Job 1 [10,20]\n?Device fault\n?Service stopped\n",
+            (true, true),
+        ),
+        (
+            64,
+            Language::Script,
+            b"1 login 10,20 1000\r\n\n1 DEP 200 17\n1 EXA 200",
+            b"DONE\nDONE\nVALUE 000000000017\n",
+            (false, false),
+        ),
+        (64, Language::Script, b"1 RESET\n", b"NOJOB\n", (true, false)),
+        (
+            1,
+            Language::Script,
+            b"1 LOGIN 1,2 1000\n1 DEP 300 000011000005\n1 MAKDIR 300\n1 RESET\n",
+            b"DONE\nDONE\nDEVICE\nFAILED\n",
+            (true, true),
+        ),
+    ] {
+        expect_counted(&rt, rt.alloc(), (calls, language), (lines, text), tally)?;
+    }
+    Ok(())
+}
+
+/// What a refused call prints.
+#[test]
+fn refusals(rt: HostRuntime) {
+    for (reply, text) in [
+        (Reply::Refused(0), "?File not found"),
+        (Reply::Refused(1), "?No such directory"),
+        (Reply::Refused(2), "?Protection failure"),
+        (Reply::Refused(3), "?File being modified"),
+        (Reply::Refused(4), "?File name already exists"),
+        (Reply::Refused(5), "?Illegal sequence"),
+        (Reply::Refused(0o14), "?No room"),
+        (Reply::Refused(0o22), "?Directory not empty"),
+        (Reply::Stopped(0o040017), "?No room"),
+        (Reply::NoJob, "?Not logged in"),
+        (Reply::NoMemory, "?No memory"),
+        (Reply::Device, "?Device fault"),
+        (Reply::Failed, "?Service stopped"),
+        (Reply::DateRange, "?Date out of range"),
+        (Reply::Value(Word::ZERO), "?Illegal sequence"),
+    ] {
+        assert_eq!(rt; refusal(&reply), text);
+    }
+}
