@@ -1,60 +1,12 @@
-//! Plays worked rows, and prints which of them come out as they should. The rows are a text on standard input, which is
-//! the file `stdin` beside this crate's sources: what its lines mean stands at its top. Each row is played over a disk in
-//! memory; lines of calls go through `script`, and lines of commands through `session`. There is nothing here to be
-//! promised: the program tests those below.
+//! Plays the worked rows of its standard input, which is the file `stdin` beside its sources, and prints which of them come
+//! out as they should. The status is 1 where a line comes out otherwise.
 #![tactic(auto)]
 
-mod desk;
-mod disks;
-mod row;
-mod fields;
-mod steps;
-
 use anyhow::Result;
-use row::Row;
-use std::alloc::Global;
-use std::mem;
+use player::play_all;
 use std::process::ExitCode;
 
-/// Prints what differs, and at the end how much was played; the status is 1 where something differs.
 fn main(rt: HostRuntime) -> Result<ExitCode> {
     let mistakes = play_all(&rt, rt.alloc())?;
     Ok(ExitCode::from(u8::from(mistakes > 0)))
-}
-
-/// Plays each row of the input; gives how many lines of them came out otherwise.
-fn play_all(rt: &(impl Print + Input), alloc: Global) -> Result<u64> {
-    let mut parts = Vec::new(alloc);
-    let mut row = Row::new(alloc);
-    let mut mistakes = 0u64;
-    for line in rt.lines(alloc) {
-        let line = line?;
-        if line.starts_with("ROW ") || line.starts_with("PART ") {
-            let begun = mem::replace(&mut row, Row::titled(alloc, &line)?);
-            mistakes = mistakes.saturating_add(play(rt, alloc, &begun)?);
-            parts.push(begun)?;
-        } else if let Some(name) = line.strip_prefix('@') {
-            row.push_part(&parts, name)?;
-        } else {
-            row.push(line)?;
-        }
-    }
-    Ok(mistakes.saturating_add(play(rt, alloc, &row)?))
-}
-
-/// Plays a row with each of its alternatives, and prints its title. A part is played in rows alone.
-fn play(rt: &impl Print, alloc: Global, row: &Row) -> Result<u64> {
-    let Some(title) = row.title().strip_prefix("ROW ") else {
-        return Ok(0);
-    };
-    let mut mistakes = 0u64;
-    let times = row.alternatives();
-    for alternative in 0..times {
-        mistakes = mistakes.saturating_add(disks::play_once(rt, alloc, row, alternative)?);
-    }
-    match mistakes {
-        0 => println!(rt; "{title}: {times} played")?,
-        _ => println!(rt; "{title}: {mistakes} lines came out otherwise")?,
-    }
-    Ok(mistakes)
 }

@@ -1,4 +1,4 @@
-ghost use Rattle.std.specs.Prelude.{◌≡◌, ◌-◌};
+ghost use Rattle.std.specs.Prelude.{◌≡◌};
 
 use blockdisk::{Disk, Fault};
 use words36::Block;
@@ -21,19 +21,6 @@ impl Calls {
         writes: 0,
         syncs: 0,
     };
-
-    /// The calls since these earlier ones.
-    pub fn since(self, earlier: Calls) -> Calls
-        ensures reads { result.reads ≡ self.reads - earlier.reads }
-        ensures writes { result.writes ≡ self.writes - earlier.writes }
-        ensures syncs { result.syncs ≡ self.syncs - earlier.syncs }
-    {
-        Calls {
-            reads: self.reads.saturating_sub(earlier.reads),
-            writes: self.writes.saturating_sub(earlier.writes),
-            syncs: self.syncs.saturating_sub(earlier.syncs),
-        }
-    }
 }
 
 /// A disk that hands each call on to another disk, and counts them.
@@ -60,6 +47,13 @@ impl<D: Disk> CountingDisk<D> {
         ensures { result ≡ self.now.calls }
     {
         self.calls
+    }
+
+    /// The disk below.
+    pub fn into_inner(self) -> D
+        ensures { result ≡ self.inner }
+    {
+        self.inner
     }
 }
 

@@ -1,6 +1,7 @@
 
 use crate::row::{Row, step, without_remark};
 use crate::steps::play_steps;
+use crate::counting::{Calls, CountingDisk};
 use crate::desk::Desk;
 use crate::fields::{number, number_or};
 use anyhow::{Result, ensure};
@@ -221,13 +222,31 @@ fn expect_left(
     Ok(())
 }
 
+/// Prints what the disk was asked for, for each line that asks for it.
+fn print_costs(rt: &impl Print, calls: Calls, desk: &Desk, lines: &[String]) -> Result<()> {
+    let Calls {
+        reads,
+        writes,
+        syncs,
+    } = calls;
+    for line in lines {
+        let line = without_remark(step(line, desk.alternative));
+        if let Some(label) = line.strip_prefix("COST ") {
+            println!(rt; "  {label}: {reads} read, {writes} written, {syncs} syncs")?;
+        }
+    }
+    Ok(())
+}
+
 /// Plays a row with one of its alternatives.
 pub fn play_once(rt: &impl Print, alloc: Global, row: &Row, alternative: usize) -> Result<u64> {
     let mut disk = disk_of(alloc, row, alternative)?;
     let mut desk = Desk::new(alloc, alternative)?;
     for lines in row.lines().split(|line| line.as_str() == "RESTART") {
         forget_record(&mut disk);
-        disk = play_over(rt, &mut desk, disk, lines)?;
+        let counted = play_over(rt, &mut desk, CountingDisk::new(disk), lines)?;
+        print_costs(rt, counted.calls(), &desk, lines)?;
+        disk = counted.into_inner();
         expect_left(rt, &mut disk, &mut desk, lines)?;
     }
     Ok(desk.mistakes)

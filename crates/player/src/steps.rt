@@ -125,7 +125,7 @@ fn play_event<D: Disk>(
     let fields: Vec<&str> = event.split_whitespace().collect(desk.alloc)?;
     match fields.first().copied() {
         None
-        | Some("RAW" | "VOLUME" | "WRITTEN" | "BLOCK" | "ALL" | "DAMAGE" | "LEFT") => Ok(()),
+        | Some("RAW" | "VOLUME" | "WRITTEN" | "BLOCK" | "ALL" | "DAMAGE" | "LEFT" | "COST") => Ok(()),
         Some("REFUSED") => {
             desk.expect(rt, "a start", line, "an accepted disk")?;
             Ok(())

@@ -1,0 +1,53 @@
+//! Plays texts of worked rows: each is played over a disk in memory, from a start to the next; lines of calls go through
+//! `script`, and lines of commands through `session`. What a line means stands at the top of the text that the program
+//! `rows` plays, beside its sources. There is nothing here to be promised: it tests and measures the crates below.
+#![tactic(auto)]
+
+mod counting;
+mod desk;
+mod disks;
+mod fields;
+mod row;
+mod steps;
+
+use anyhow::Result;
+use row::Row;
+use std::alloc::Global;
+use std::mem;
+
+/// Plays each row of the input, and prints what comes out otherwise; gives how many lines did.
+pub fn play_all(rt: &(impl Print + Input), alloc: Global) -> Result<u64> {
+    let mut parts = Vec::new(alloc);
+    let mut row = Row::new(alloc);
+    let mut mistakes = 0u64;
+    for line in rt.lines(alloc) {
+        let line = line?;
+        if line.starts_with("ROW ") || line.starts_with("PART ") {
+            let begun = mem::replace(&mut row, Row::titled(alloc, &line)?);
+            mistakes = mistakes.saturating_add(play(rt, alloc, &begun)?);
+            parts.push(begun)?;
+        } else if let Some(name) = line.strip_prefix('@') {
+            row.push_part(&parts, name)?;
+        } else {
+            row.push(line)?;
+        }
+    }
+    Ok(mistakes.saturating_add(play(rt, alloc, &row)?))
+}
+
+/// Plays a row with each of its alternatives, and prints its title. A part is played in rows alone.
+fn play(rt: &impl Print, alloc: Global, row: &Row) -> Result<u64> {
+    let Some(title) = row.title().strip_prefix("ROW ") else {
+        return Ok(0);
+    };
+    let mut mistakes = 0u64;
+    let times = row.alternatives();
+    for alternative in 0..times {
+        mistakes = mistakes.saturating_add(disks::play_once(rt, alloc, row, alternative)?);
+    }
+    match mistakes {
+        0 => println!(rt; "{title}: {times} played")?,
+        _ => println!(rt; "{title}: {mistakes} lines came out otherwise")?,
+    }
+    Ok(mistakes)
+}
