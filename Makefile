@@ -18,6 +18,8 @@ test:
 	tools/timed rt ci
 	sh examples/run crates/filser/out/filser
 	sh examples/starts crates/filser/out/filser
+	sh examples/emulate crates/filser/out/filser
+	tools/check-docs crates/filser/out/filser
 	tools/test-wrong-bodies
 
 # Many by one check, over what earlier checks kept: the first time every crate is proved too.
@@ -29,6 +31,8 @@ examples:
 	@test -x crates/filser/out/filser || $(MAKE) build
 	sh examples/run crates/filser/out/filser
 	sh examples/starts crates/filser/out/filser
+	sh examples/emulate crates/filser/out/filser
+	tools/check-docs crates/filser/out/filser
 
 # The first time every crate below the program is proved too; what was proved is kept below crates/*/out.
 build:

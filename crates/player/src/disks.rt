@@ -1,9 +1,8 @@
-
-use crate::row::{Row, step, without_remark};
-use crate::steps::play_steps;
 use crate::counting::{Calls, CountingDisk};
 use crate::desk::Desk;
-use crate::fields::{number, number_or};
+use crate::fields::{decimal, decimal_or, octal, octal_or_zero};
+use crate::row::{Row, step, without_remark};
+use crate::steps::play_steps;
 use anyhow::{Result, ensure};
 use blockdisk::{Disk, MemDisk};
 use commands::{Monitor, StartError, Volume};
@@ -11,7 +10,7 @@ use std::alloc::Global;
 use words36::{BLOCK_WORDS, Block, Word};
 
 /// How many writes and syncs a disk takes where a row doesn't say it.
-const CALLS: u64 = 4000;
+const CALLS: u32 = 4000;
 
 /// The image that is written out by hand: [10,20] with FOO.TXT of two words.
 const WRITTEN: [(u32, &[u64]); 7] = [
@@ -58,30 +57,29 @@ fn put_words(disk: &mut MemDisk, n: u32, words: &[u64]) -> Result<()> {
 
 /// A disk of zeros, of so many blocks, with room to record so many writes and syncs.
 fn zeros(alloc: Global, fields: &[&str]) -> Result<MemDisk> {
-    let blocks = number(fields, 1, 10)? as u32;
-    let calls = number_or(fields, 2, 10, CALLS)? as usize;
-    Ok(MemDisk::new(alloc, blocks, calls)?)
+    let blocks = decimal(fields, 1)?;
+    let calls = decimal_or(fields, 2, CALLS)?;
+    Ok(MemDisk::new(alloc, blocks, calls as usize)?)
 }
-
 
 /// `BLOCK N WORD ..`: a block has these words, in octal, and zeros behind them.
 fn put_block(disk: &mut MemDisk, fields: &[&str]) -> Result<()> {
     let mut words = [0; BLOCK_WORDS];
     for (place, word) in words.iter_mut().enumerate() {
-        *word = number_or(fields, place + 2, 8, 0)?;
+        *word = octal_or_zero(fields, place + 2)?;
     }
-    put_words(disk, number(fields, 1, 10)? as u32, &words)
+    put_words(disk, decimal(fields, 1)?, &words)
 }
 
 /// `ALL N WORD`: each word of a block is this one, in octal.
 fn put_all(disk: &mut MemDisk, fields: &[&str]) -> Result<()> {
-    let words = [number(fields, 2, 8)?; BLOCK_WORDS];
-    put_words(disk, number(fields, 1, 10)? as u32, &words)
+    let words = [octal(fields, 2)?; BLOCK_WORDS];
+    put_words(disk, decimal(fields, 1)?, &words)
 }
 
 /// `DAMAGE N`: a block has no words.
 fn damage(disk: &mut MemDisk, fields: &[&str]) -> Result<()> {
-    let n = number(fields, 1, 10)? as u32;
+    let n = decimal(fields, 1)?;
     ensure!(n < disk.blocks(), "there is no block {n}");
     disk.damage(n);
     Ok(())
@@ -127,7 +125,9 @@ fn prepare(alloc: Global, disk: &mut MemDisk, fields: &[&str]) -> Result<()> {
 fn disk_of(alloc: Global, row: &Row, alternative: usize) -> Result<MemDisk> {
     let mut disk = MemDisk::new(alloc, 0, 0)?;
     for line in row.lines() {
-        let fields: Vec<&str> = without_remark(step(line, alternative)).split_whitespace().collect(alloc)?;
+        let fields: Vec<&str> = without_remark(step(line, alternative))
+            .split_whitespace()
+            .collect(alloc)?;
         prepare(alloc, &mut disk, &fields)?;
     }
     Ok(disk)
@@ -191,14 +191,14 @@ fn expect_block(
     line: &str,
     fields: &[&str],
 ) -> Result<()> {
-    let n = number(fields, 1, 10)? as u32;
+    let n = decimal(fields, 1)?;
     ensure!(n < disk.blocks(), "there is no block {n}");
     let Ok(block) = disk.read(n) else {
         desk.expect(rt, line, "words", "damage")?;
         return Ok(());
     };
     for (place, word) in block.iter().enumerate() {
-        let wanted = format!(in desk.alloc; "{:o}", number_or(fields, place + 2, 8, 0)?)?;
+        let wanted = format!(in desk.alloc; "{:o}", octal_or_zero(fields, place + 2)?)?;
         let found = format!(in desk.alloc; "{:o}", word.bits())?;
         desk.expect(rt, line, wanted.as_str(), found.as_str())?;
     }

@@ -1,23 +1,38 @@
 use anyhow::{Context, Result};
-use words36::Word;
 
-/// The number that stands at a place of a line, to a base.
-pub fn number(fields: &[&str], place: usize, radix: u32) -> Result<u64> {
-    let field = fields.get(place).copied().unwrap_or("");
-    u64::from_str_radix(field, radix).context(format_args!("not a number: {field:?}"))
+/// What stands at a place of a line, or nothing where it doesn't go that far.
+pub fn field<'a>(fields: &[&'a str], place: usize) -> &'a str {
+    fields.get(place).copied().unwrap_or("")
+}
+
+/// The number, in decimal, that stands at a place of a line.
+pub fn decimal(fields: &[&str], place: usize) -> Result<u32> {
+    let field = field(fields, place);
+    field
+        .parse::<u32>()
+        .context(format_args!("not a number: {field:?}"))
 }
 
 /// The same, where the line goes that far.
-pub fn number_or(fields: &[&str], place: usize, radix: u32, other: u64) -> Result<u64> {
+pub fn decimal_or(fields: &[&str], place: usize, other: u32) -> Result<u32> {
     if place < fields.len() {
-        number(fields, place, radix)
+        decimal(fields, place)
     } else {
         Ok(other)
     }
 }
 
-/// The word that stands at a place of a line, in octal.
-pub fn word(fields: &[&str], place: usize) -> Result<Word> {
-    let bits = number(fields, place, 8)?;
-    Word::new(bits).context(format_args!("not a word: {bits:o}"))
+/// The number, in octal, that stands at a place of a line.
+pub fn octal(fields: &[&str], place: usize) -> Result<u64> {
+    let field = field(fields, place);
+    u64::from_str_radix(field, 8).context(format_args!("not a number: {field:?}"))
+}
+
+/// The same, or zero behind the line's end.
+pub fn octal_or_zero(fields: &[&str], place: usize) -> Result<u64> {
+    if place < fields.len() {
+        octal(fields, place)
+    } else {
+        Ok(0)
+    }
 }

@@ -1,5 +1,5 @@
 use crate::desk::Desk;
-use crate::fields::{number, number_or};
+use crate::fields::{decimal, decimal_or, field, octal};
 use crate::row::{step, without_remark};
 use anyhow::Result;
 use blockdisk::Disk;
@@ -7,9 +7,6 @@ use commands::{Monitor, script, session};
 use std::alloc::Global;
 use std::str;
 use words36::Moment;
-
-/// The most words that a line puts into a core or looks at, and the most that it repeats an event.
-const MOST: u64 = 0o200000;
 
 /// Plays the lines of a row.
 pub fn play_steps<D: Disk>(
@@ -36,11 +33,7 @@ pub fn play_steps<D: Disk>(
 }
 
 /// Plays the session whose lines were read, where there is one: it prints what is wanted.
-fn end_session<D: Disk>(
-    rt: &impl Print,
-    monitor: &mut Monitor<D>,
-    desk: &mut Desk,
-) -> Result<()> {
+fn end_session<D: Disk>(rt: &impl Print, monitor: &mut Monitor<D>, desk: &mut Desk) -> Result<()> {
     if desk.asked.is_empty() {
         return Ok(());
     }
@@ -119,20 +112,22 @@ fn play_event<D: Disk>(
     line: &str,
 ) -> Result<()> {
     let (event, wanted) = line.split_once(" = ").unwrap_or((line, "DONE"));
-    if let Some((event, _)) = event.strip_prefix('"').and_then(|event| event.split_once('"')) {
+    if let Some((event, _)) = event
+        .strip_prefix('"')
+        .and_then(|event| event.split_once('"'))
+    {
         return expect_answer(rt, monitor, desk, event, wanted);
     }
     let fields: Vec<&str> = event.split_whitespace().collect(desk.alloc)?;
     match fields.first().copied() {
-        None
-        | Some("RAW" | "VOLUME" | "WRITTEN" | "BLOCK" | "ALL" | "DAMAGE" | "LEFT" | "COST") => Ok(()),
+        None | Some("RAW" | "VOLUME" | "WRITTEN" | "BLOCK" | "ALL" | "DAMAGE" | "LEFT" | "COST") =>
+            Ok(()),
         Some("REFUSED") => {
             desk.expect(rt, "a start", line, "an accepted disk")?;
             Ok(())
         }
         Some("AT") => {
-            let (date, minute) = (number(&fields, 1, 10)?, number(&fields, 2, 10)?);
-            desk.moment = Moment::new(date as u32, minute as u32)?;
+            desk.moment = Moment::new(decimal(&fields, 1)?, decimal(&fields, 2)?)?;
             Ok(())
         }
         Some("ROOM") => {
@@ -173,9 +168,9 @@ fn deposit_words<D: Disk>(
     desk: &mut Desk,
     fields: &[&str],
 ) -> Result<()> {
-    let mut address = number(fields, 2, 8)?;
+    let mut address = octal(fields, 2)?;
     for word in fields.iter().skip(3) {
-        let event = format!(in desk.alloc; "{} DEP {address:o} {word}", fields[0])?;
+        let event = format!(in desk.alloc; "{} DEP {address:o} {word}", field(fields, 0))?;
         expect_answer(rt, monitor, desk, event.as_str(), "DONE")?;
         address = address.saturating_add(1);
     }
@@ -189,10 +184,10 @@ fn examine_words<D: Disk>(
     desk: &mut Desk,
     fields: &[&str],
 ) -> Result<()> {
-    let mut address = number(fields, 2, 8)?;
+    let mut address = octal(fields, 2)?;
     for place in 3..fields.len() {
-        let event = format!(in desk.alloc; "{} EXA {address:o}", fields[0])?;
-        let wanted = format!(in desk.alloc; "VALUE {:012o}", number(fields, place, 8)?)?;
+        let event = format!(in desk.alloc; "{} EXA {address:o}", field(fields, 0))?;
+        let wanted = format!(in desk.alloc; "VALUE {:012o}", octal(fields, place)?)?;
         expect_answer(rt, monitor, desk, event.as_str(), wanted.as_str())?;
         address = address.saturating_add(1);
     }
@@ -207,12 +202,12 @@ fn fill<D: Disk>(
     desk: &mut Desk,
     fields: &[&str],
 ) -> Result<()> {
-    let (address, first) = (number(fields, 2, 8)?, number(fields, 4, 10)?);
-    let step = number_or(fields, 5, 10, 1)?;
-    for place in 0..number(fields, 3, 10)?.min(MOST) {
-        let address = address.wrapping_add(place);
+    let (address, first) = (octal(fields, 2)?, decimal(fields, 4)?);
+    let step = decimal_or(fields, 5, 1)?;
+    for place in 0..decimal(fields, 3)? {
+        let address = address.wrapping_add(u64::from(place));
         let word = first.wrapping_add(place.wrapping_mul(step));
-        let event = format!(in desk.alloc; "{} DEP {address:o} {word:o}", fields[0])?;
+        let event = format!(in desk.alloc; "{} DEP {address:o} {word:o}", field(fields, 0))?;
         expect_answer(rt, monitor, desk, event.as_str(), "DONE")?;
     }
     Ok(())
@@ -225,12 +220,12 @@ fn expect_words<D: Disk>(
     desk: &mut Desk,
     fields: &[&str],
 ) -> Result<()> {
-    let (address, first) = (number(fields, 2, 8)?, number(fields, 4, 10)?);
-    let step = number_or(fields, 5, 10, 1)?;
-    for place in 0..number(fields, 3, 10)?.min(MOST) {
-        let address = address.wrapping_add(place);
+    let (address, first) = (octal(fields, 2)?, decimal(fields, 4)?);
+    let step = decimal_or(fields, 5, 1)?;
+    for place in 0..decimal(fields, 3)? {
+        let address = address.wrapping_add(u64::from(place));
         let word = first.wrapping_add(place.wrapping_mul(step));
-        let event = format!(in desk.alloc; "{} EXA {address:o}", fields[0])?;
+        let event = format!(in desk.alloc; "{} EXA {address:o}", field(fields, 0))?;
         let wanted = format!(in desk.alloc; "VALUE {word:012o}")?;
         expect_answer(rt, monitor, desk, event.as_str(), wanted.as_str())?;
     }
