@@ -1,4 +1,8 @@
 pub mod WordLaws
+pub mod LaneLaws
+pub mod LowestLaws
+pub mod BitPuts
+pub mod KeptLaws
 pub mod ChangedPuts
 pub mod SpaceLaws
 pub mod TableReading
