@@ -42,7 +42,7 @@ bit_at_clear a b i below =
     ∙ ap (λ (n : ℕ). (1 + n) % 2) (bit_at_or a b i)
     ∙ either (bit_at a i) (bit_at b i) (bit_at-lt a i) (bit_at-lt b i)
 
-zero_from_one : (n : ℕ) → cond {A = ℕ} (eqb n 0) 1 0 ≡ 1 → n ≡ 0
+pub zero_from_one : (n : ℕ) → cond {A = ℕ} (eqb n 0) 1 0 ≡ 1 → n ≡ 0
 zero_from_one n is = grind (arith, nat_tests)
 
 one_from_zero : (n : ℕ) → cond {A = ℕ} (eqb n 0) 1 0 ≡ 0 → n ≡ 0 → ⊥

@@ -2,6 +2,7 @@ pub mod WordLaws
 pub mod LaneLaws
 pub mod LowestLaws
 pub mod BitPuts
+pub mod FlagLaws
 pub mod KeptLaws
 pub mod ChangedPuts
 pub mod SpaceLaws

@@ -5,10 +5,9 @@ use Rattle.std.proofs.Common.{eq-eqb, ne_eqb}
 use Rattle.std.specs.Int.{bit_at}
 use Rattle.std.proofs.lemmas.Bool.{cases_eq, cases_lt}
 use Rattle.std.proofs.lemmas.List.{get_or_read}
-use Rattle.std.proofs.lemmas.Bool.Decides.{nat_tests}
 use Rattle.alloctab.specs.Words.{word_bit}
 use Rattle.alloctab.specs.Clear.{clear_bit, clear_at, lowest_one, or_else, first_clear, IsFirstPlace}
-use Rattle.alloctab.proofs.LaneLaws.{none_in_word}
+use Rattle.alloctab.proofs.LaneLaws.{zero_from_one, none_in_word}
 
 abbrev one_at : (ℕ → ℕ) → ℕ → Option ℕ
 one_at bits k = cond (eqb (bits k) 1) (Some k) None
@@ -61,13 +60,10 @@ lowest_of bits k o is = subst (IsLowest bits k) (sym is) (lowest_stands bits k)
 
 -- The first clear bit of two lists of words.
 
-both_set : (n : ℕ) → cond {A = ℕ} (eqb n 0) 1 0 ≡ 1 → n ≡ 0
-both_set n is = grind (arith, nat_tests)
-
 pub none_in_words : (set held : List ℕ) (places : ℕ) → ((w : ℕ) → w < places → clear_at set held w ≡ 0) → (m : ℕ)
     → m < 36 * places → clear_bit set held m ≡ 1 → ⊥
 none_in_words set held places full m below is = none_in_word (get_or set (m / 36) 0) (get_or held (m / 36) 0) (35 - m % 36)
-    (omega arith) (full (m / 36) (omega arith)) (both_set (word_bit set m + word_bit held m) is)
+    (omega arith) (full (m / 36) (omega arith)) (zero_from_one (word_bit set m + word_bit held m) is)
 
 pub first_in_words : (set held : List ℕ) (place first a b : ℕ) → length set ≡ length held → place < length set
     → a ≡ get_or set place a → b ≡ get_or held place b → ((w : ℕ) → w < place → clear_at set held w ≡ 0)
@@ -91,5 +87,5 @@ first_in_words set held place first a b same inside p q full is =
     (λ early. none_in_words set held place full m (omega arith) at)
     (λ late. is.first (m - place * 36) (omega arith)
     (let e = bits m (m - place * 36) (omega arith) (omega arith) in
-    let z = both_set (word_bit set m + word_bit held m) at in omega arith))
+    let z = zero_from_one (word_bit set m + word_bit held m) at in omega arith))
     (cases_lt m (place * 36))))

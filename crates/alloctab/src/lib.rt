@@ -16,6 +16,7 @@
 mod bits;
 mod blocks;
 mod error;
+mod hint;
 mod lanes;
 mod load;
 mod reached;

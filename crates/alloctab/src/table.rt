@@ -17,6 +17,7 @@ ghost use Rattle.alloctab.specs.Reached.{IsWrongBlock, wanted_bit};
 ghost use Rattle.alloctab.specs.declared.error.TableError.TheVariants.{TableWrong, NoMemory, Device};
 
 use crate::blocks::put_changed;
+use crate::hint::lowered;
 use crate::lanes::first_clear;
 use crate::load::read_table;
 use crate::words::{has_bit, put_bit};
@@ -31,8 +32,8 @@ use words36::{BLOCK_WORDS, Word};
 /// The allocation table of a disk in core: which blocks are in use on the disk, which are held in
 /// core, how many are booked, and which table blocks changed.
 ///
-/// Bits stand in words of 36, as many as all table blocks have, so that a free block is looked for some
-/// hundred blocks at a time and a table block is put as it stands. Past the end of the disk no bit is set:
+/// Bits stand in words of 36, as many as all table blocks have, so that a free block is looked for 288
+/// blocks at a time and a table block is put as it stands. Past the end of the disk no bit is set:
 /// `take` compares what it finds with the size.
 #[derive(Drop)]
 pub struct Table {
@@ -291,18 +292,5 @@ impl Table {
             }
         }
         None
-    }
-}
-
-/// The hint behind a call that gave a block up, which is held so often now, and set or not: where the block
-/// is free it is not below the hint.
-fn lowered(hint: u32, n: u32, count: u32, is_set: bool) -> u32
-    ensures lower { result ≤ hint }
-    ensures free { count ≡ 0 → is_set ≡ false → result ≤ n }
-{
-    if is_set || count > 0 {
-        hint
-    } else {
-        hint.min(n)
     }
 }

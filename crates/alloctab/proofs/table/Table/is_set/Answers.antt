@@ -1,7 +1,7 @@
 use Rattle.std.proofs.Common.{ℕ, List, sym, ◌∙◌, ap}
 use Rattle.alloctab.specs.TableState.{TableState, bit}
 use Rattle.alloctab.specs.Words.{word_bit}
-use Rattle.alloctab.proofs.KeptLaws.{bit_is}
+use Rattle.alloctab.proofs.FlagLaws.{bit_is}
 use Rattle.alloctab.proofs.table.Table.is_set.Goals as goal
 
 pub returns : goal.returns
