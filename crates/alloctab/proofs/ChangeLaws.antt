@@ -24,13 +24,12 @@ use Rattle.alloctab.proofs.ChangedPuts.{after_in}
 abbrev pub table_changes : TableState → List Put → List Put
 table_changes t puts = with_changed (table_start t.size) (bit t) (flag_at t.changed) (length t.changed) puts
 
-pub table_changes_are : (t : TableState) (puts new : List Put) (start : ℕ) (bits changed : List Bool)
-    → start ≡ table_start t.size → bits ≡ t.bits → changed ≡ t.changed
-    → new ≡ with_changed start (digit_at bits) (flag_at changed) (length changed) puts → new ≡ table_changes t puts
+pub table_changes_are : (t : TableState) (puts new : List Put) (start : ℕ) (bits : ℕ → ℕ) (changed : List Bool)
+    → start ≡ table_start t.size → bits ≡ bit t → changed ≡ t.changed
+    → new ≡ with_changed start bits (flag_at changed) (length changed) puts → new ≡ table_changes t puts
 table_changes_are t puts new start bits changed start_is bits_are changed_are is =
-    is ∙ ap (λ (n : ℕ). with_changed n (digit_at bits) (flag_at changed) (length changed) puts) start_is
-    ∙ ap (λ (l : List Bool). with_changed (table_start t.size) (digit_at l) (flag_at changed) (length changed) puts)
-    bits_are
+    is ∙ ap (λ (n : ℕ). with_changed n bits (flag_at changed) (length changed) puts) start_is
+    ∙ ap (λ (f : ℕ → ℕ). with_changed (table_start t.size) f (flag_at changed) (length changed) puts) bits_are
     ∙ ap (λ (l : List Bool). with_changed (table_start t.size) (bit t) (flag_at l) (length l) puts) changed_are
 
 pub flag_inside : (flags : List Bool) (i : ℕ) → flag_at flags i ≡ true → i < length flags

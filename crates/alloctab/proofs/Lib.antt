@@ -1,4 +1,9 @@
 pub mod WordLaws
+pub mod LaneLaws
+pub mod LowestLaws
+pub mod BitPuts
+pub mod FlagLaws
+pub mod KeptLaws
 pub mod ChangedPuts
 pub mod SpaceLaws
 pub mod TableReading

@@ -8,7 +8,8 @@ use Rattle.blockdisk.specs.Disk.{Contents}
 use Rattle.meaning.specs.Regions.{table_blocks, table_start}
 use Rattle.meaning.specs.Table.{table_bit, bit_in, bit_of}
 use Rattle.alloctab.specs.Lists.{digit, digit_at}
-use Rattle.alloctab.specs.Reading.{IsTableOf, IsBadTableBlock, ReadsBits}
+use Rattle.alloctab.specs.Words.{word_bit, IsClearFrom}
+use Rattle.alloctab.specs.Reading.{IsTableOf, IsBadTableBlock, CopiesWords, ReadsBits}
 
 pub table_bit_in : (size : ℕ) (c : Contents) (n : ℕ) → n / 4608 < table_blocks size
     → table_bit size c n ≡ bit_in (c (table_start size + n / 4608)) n
@@ -42,8 +43,8 @@ read_none size c bits = record {
   undamaged = λ i below. absurd (omega arith);
 }
 
-pub read_more : (size : ℕ) (c : Contents) (i : ℕ) (old new : List Bool) → ReadsBits size c i old new
-    → IsTableBelow i size c (digit_at old) → IsTableBelow (i + 1) size c (digit_at new)
+pub read_more : (size : ℕ) (c : Contents) (i : ℕ) (old new : List ℕ) → ReadsBits size c i old new
+    → IsTableBelow i size c (word_bit old) → IsTableBelow (i + 1) size c (word_bit new)
 read_more size c i old new reads so_far = record {
   bits_are = λ n below. ⊎_elim (λ same. reads.read n same) (λ other. reads.others n other
       ∙ so_far.bits_are n (omega arith)) (cases_eq (n / 4608) i);
@@ -51,13 +52,20 @@ read_more size c i old new reads so_far = record {
       (sym same) reads.undamaged) (λ other. so_far.undamaged j (omega arith)) (cases_eq j i);
 }
 
-pub read_all : (size : ℕ) (c : Contents) (i : ℕ) (bits : List Bool) → length bits ≡ size → table_blocks size ≤ i
-    → i ≤ table_blocks size → IsTableBelow i size c (digit_at bits) → IsTableOf size c (digit_at bits)
-read_all size c i bits long enough few so_far = record {
-  bits_are = λ n. ⊎_elim (λ below. so_far.bits_are n (omega arith)) (λ past. past_the_end bits size n long past
+pub read_all : (size : ℕ) (c : Contents) (i : ℕ) (words : List ℕ) → IsClearFrom size words → table_blocks size ≤ i
+    → i ≤ table_blocks size → IsTableBelow i size c (word_bit words) → IsTableOf size c (word_bit words)
+read_all size c i words none enough few so_far = record {
+  bits_are = λ n. ⊎_elim (λ below. so_far.bits_are n (omega arith)) (λ past. none n (omega arith)
       ∙ sym (table_bit_past size c n past)) (in_or_past (n / 4608) (table_blocks size));
   undamaged = λ j below. so_far.undamaged j (omega arith);
 }
+
+-- the bits past the end of the disk stay clear
+pub still_past : (size i : ℕ) (words old new : List ℕ) → CopiesWords words i old new
+    → ((k : ℕ) → k / 4608 ≡ i → size ≤ k → bit_of words k ≡ 0) → IsClearFrom size old → IsClearFrom size new
+still_past size i words old new copies none clear n past = ⊎_elim
+    (λ here. copies.copied n here ∙ none n here past) (λ other. copies.others n other ∙ clear n past)
+    (cases_eq (n / 4608) i)
 
 -- the same of a disk that holds the same
 
@@ -66,7 +74,11 @@ pub bad_moved : (size size' : ℕ) (c c' : Contents) (n : ℕ) → size ≡ size
 bad_moved size size' c c' n same_size same bad = subst (λ (k : ℕ). IsBadTableBlock k c' n) same_size
     (subst (λ (d : Contents). IsBadTableBlock size d n) same bad)
 
-pub reads_moved : (size size' : ℕ) (c c' : Contents) (i : ℕ) (old new : List Bool) → size ≡ size' → c ≡ c'
+pub reads_moved : (size size' : ℕ) (c c' : Contents) (i : ℕ) (old new : List ℕ) → size ≡ size' → c ≡ c'
     → ReadsBits size c i old new → ReadsBits size' c' i old new
 reads_moved size size' c c' i old new same_size same reads = subst (λ (k : ℕ). ReadsBits k c' i old new) same_size
     (subst (λ (d : Contents). ReadsBits size d i old new) same reads)
+
+pub past_moved : (size size' : ℕ) (old new : List ℕ) → size ≡ size' → (IsClearFrom size old → IsClearFrom size new)
+    → IsClearFrom size' old → IsClearFrom size' new
+past_moved size size' old new same keeps = subst (λ (k : ℕ). IsClearFrom k old → IsClearFrom k new) same keeps

@@ -4,8 +4,11 @@ use Rattle.std.proofs.Common.{List, [], ◌∷◌, ◌++◌, length, get_or, add
 use Rattle.std.proofs.lemmas.List.{length_push, get_or_append_left, get_or_push}
 use Rattle.std.proofs.lemmas.Nat.{div-mul-add}
 use Rattle.std.proofs.Math.Nat.{pow-succ', two-pow-succ, div-div-eq-div-mul}
+use Rattle.std.specs.Int.{bit_at}
+use Rattle.std.proofs.lemmas.Nat.Bits.{bit_at-suc, bit_at_lowest}
 use Rattle.meaning.specs.Table.{bit_of}
 use Rattle.alloctab.specs.Lists.{digit}
+use Rattle.alloctab.specs.Words.{word_bit}
 use Rattle.alloctab.specs.TableBlocks.{number_of, words_of, table_words}
 
 pub digit_few : (b : Bool) → digit b ≤ 1
@@ -97,3 +100,26 @@ table_words_spell bits few i n here =
     let place : 4608 * i + 36 * w + n % 36 ≡ n = omega arith in
     ap (λ (v : ℕ). (v / 2 ^ (35 - n % 36)) % 2) word
     ∙ number_spells bits few (4608 * i + 36 * w) 36 (n % 36) (35 - n % 36) (omega arith) ∙ ap bits place
+
+-- the number that the bits of a word make is the word
+number_of_bits : (bits : ℕ → ℕ) (from r v : ℕ) → v < 2 ^ r → ((j k : ℕ) → j + k + 1 ≡ r → bits (from + j) ≡ bit_at v k)
+    → number_of bits from r ≡ v
+number_of_bits bits from zero v few each = sym (number_none bits from) ∙ omega arith
+number_of_bits bits from (suc r) v few each =
+    let e = two-pow-succ r in
+    let more = ap (number_of bits from) (sym (add-one r)) ∙ number_more bits from r in
+    let rest = number_of_bits bits from r (v / 2) (omega arith)
+    (λ j k place. each j (suc k) (omega arith) ∙ bit_at-suc v k) in
+    let last = each r 0 (omega arith) ∙ bit_at_lowest v in
+    omega arith
+
+pub number_of_word : (words : List ℕ) (from w k : ℕ) → k ≡ 36 → from ≡ 36 * w → get_or words w 0 < 2 ^ k
+    → number_of (word_bit words) from k ≡ get_or words w 0
+number_of_word words from w k is at few = number_of_bits (word_bit words) from k (get_or words w 0) few
+    (λ j p place. (λ i. bit_at (get_or words (word j p place i) 0) (bit j p place i)))
+  where
+    word : (j p : ℕ) → j + p + 1 ≡ k → (from + j) / 36 ≡ w
+    word j p place = omega arith
+
+    bit : (j p : ℕ) → j + p + 1 ≡ k → 35 - (from + j) % 36 ≡ p
+    bit j p place = omega arith

@@ -1,5 +1,8 @@
 pub mod Lists
+pub mod Words
+pub mod Clear
 pub mod TableState
+pub mod Kept
 pub mod TableBlocks
 pub mod Reading
 pub mod Changes

@@ -1,9 +1,9 @@
 -- What reading a table finds.
-use Rattle.std.specs.Prelude.{◌≡◌, ◌⊎◌, ℕ, ◌+◌, ◌/◌, ◌<◌, ◌≤◌, Bool, List, None, IsSome}
+use Rattle.std.specs.Prelude.{◌≡◌, ◌⊎◌, ℕ, ◌+◌, ◌/◌, ◌<◌, ◌≤◌, List, length, None, IsSome}
 use Rattle.blockdisk.specs.Disk.{Contents}
 use Rattle.meaning.specs.Regions.{table_blocks, table_start}
 use Rattle.meaning.specs.Table.{table_bit, bit_of}
-use Rattle.alloctab.specs.Lists.{digit_at}
+use Rattle.alloctab.specs.Words.{word_bit}
 
 -- These are the bits on the disk, and none of their blocks is damaged.
 pub record IsTableOf (size : ℕ) (contents : Contents) (bits : ℕ → ℕ) : Type 0 where
@@ -17,16 +17,17 @@ pub record IsBadTableBlock (size : ℕ) (contents : Contents) (n : ℕ) : Type 0
   pub block : n ≡ table_start size + i
   pub wrong : (contents n ≡ None) ⊎ ((k : ℕ) × (size ≤ k) × (k / 4608 ≡ i) × (table_bit size contents k ≡ 1))
 
--- The bits of table block i are those of these words, and the others stay.
-pub record CopiesBits (words : List ℕ) (i : ℕ) (old new : List Bool) : Type 0 where
-  pub copied : (n : ℕ) → n / 4608 ≡ i → digit_at new n ≡ bit_of words n
-  pub others : (n : ℕ) → (n / 4608 ≡ i → ⊥) → digit_at new n ≡ digit_at old n
+-- The words of table block i are these, and the others stay.
+pub record CopiesWords (words : List ℕ) (i : ℕ) (old new : List ℕ) : Type 0 where
+  pub long : length new ≡ length old
+  pub copied : (n : ℕ) → n / 4608 ≡ i → word_bit new n ≡ bit_of words n
+  pub others : (n : ℕ) → (n / 4608 ≡ i → ⊥) → word_bit new n ≡ word_bit old n
 
 -- Table block i is read: it isn't damaged, its bits are those of the disk, and the others stay.
-pub record ReadsBits (size : ℕ) (contents : Contents) (i : ℕ) (old new : List Bool) : Type 0 where
+pub record ReadsBits (size : ℕ) (contents : Contents) (i : ℕ) (old new : List ℕ) : Type 0 where
   pub undamaged : IsSome (contents (table_start size + i))
-  pub read : (n : ℕ) → n / 4608 ≡ i → digit_at new n ≡ table_bit size contents n
-  pub others : (n : ℕ) → (n / 4608 ≡ i → ⊥) → digit_at new n ≡ digit_at old n
+  pub read : (n : ℕ) → n / 4608 ≡ i → word_bit new n ≡ table_bit size contents n
+  pub others : (n : ℕ) → (n / 4608 ≡ i → ⊥) → word_bit new n ≡ word_bit old n
 
 -- Bit k of table block i is set, and is past the end of the disk.
 pub record IsSetPast (words : List ℕ) (i size k : ℕ) : Type 0 where

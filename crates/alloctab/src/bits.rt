@@ -1,24 +1,17 @@
-ghost use Rattle.std.specs.Prelude.{◌≡◌, ◌<◌, ◌≤◌, ◌/◌, ℕ, IsTrue, false, length};
+ghost use Rattle.std.specs.Prelude.{◌≡◌, ◌+◌, ◌*◌, ◌≤◌, ◌<◌, ◌/◌, ℕ, IsTrue, false, length};
 ghost use Rattle.meaning.specs.Table.{bit_of};
-ghost use Rattle.alloctab.specs.Lists.{digit, flag_at};
-ghost use Rattle.alloctab.specs.Reading.{CopiesBits, IsSetPast};
+ghost use Rattle.alloctab.specs.Lists.{digit};
+ghost use Rattle.alloctab.specs.Reading.{CopiesWords, IsSetPast};
 
-use meaning::layout::{TABLE_BLOCK_BITS, WORD_BITS};
-use words36::{BLOCK_WORDS, Block};
-
-/// A truth value of a list, false past its end.
-pub fn flag_at(flags: &[bool], n: usize) -> bool
-    ensures { result ≡ flag_at flags.now n }
-{
-    n < flags.len() && flags[n]
-}
+use crate::words::has_bit;
+use meaning::layout::TABLE_BLOCK_BITS;
+use words36::{BLOCK_WORDS, Block, Word};
 
 /// Whether the bit of a block is set in the words of its table block.
 pub fn is_set(words: &Block, n: usize) -> bool
     ensures { digit result ≡ bit_of words.now n }
 {
-    let word = words[n / WORD_BITS % BLOCK_WORDS];
-    (word.bits() >> (WORD_BITS - 1 - n % WORD_BITS)) % 2 == 1
+    has_bit(words, n % TABLE_BLOCK_BITS)
 }
 
 /// Whether table block `i` has a bit set for a block past the end of the disk.
@@ -37,14 +30,12 @@ pub fn has_bit_past(words: &Block, i: usize, size: usize) -> bool
     false
 }
 
-/// Gives the blocks of which table block `i` speaks the bits that it has for them.
-pub fn copy_bits(words: &Block, i: usize, bits: &mut [bool])
+/// Copies the words of table block `i` to their place among those of all table blocks.
+pub fn copy_words(words: &Block, i: usize, all: &mut [Word])
     requires low { i < 32 }
-    requires none_past { (k : ℕ) → k / 4608 ≡ i → length bits.old ≤ k → bit_of words.now k ≡ 0 }
-    ensures { CopiesBits words.now i bits.old bits.new }
+    requires inside { 128 * (i + 1) ≤ length all.old }
+    ensures { CopiesWords words.now i all.old all.new }
 {
-    let first = i * TABLE_BLOCK_BITS;
-    for n in first..bits.len().min(first + TABLE_BLOCK_BITS) {
-        bits[n] = is_set(words, n);
-    }
+    let first = i * BLOCK_WORDS;
+    all[first..first + BLOCK_WORDS].copy_from_slice(words);
 }

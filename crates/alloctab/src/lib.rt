@@ -16,10 +16,14 @@
 mod bits;
 mod blocks;
 mod error;
+mod hint;
+mod lanes;
 mod load;
 mod reached;
 mod table;
+mod words;
 
 pub use error::TableError;
+pub use lanes::{count_clear, first_clear};
 pub use reached::Reached;
 pub use table::Table;

@@ -1,52 +1,58 @@
-ghost use Rattle.std.specs.Prelude.{◌≡◌, ◌<◌, ℕ, OnOk, IsErrOf, length};
+ghost use Rattle.std.specs.Prelude.{◌≡◌, ◌<◌, ◌*◌, ℕ, OnOk, IsErrOf, length};
 ghost use Rattle.blockdisk.specs.Disk.{SameDisk, one_more};
 ghost use Rattle.changeset.specs.Reads.{OnlyReads};
 ghost use Rattle.meaning.specs.Regions.{IsVolumeSize, table_blocks};
-ghost use Rattle.alloctab.specs.Lists.{digit_at};
+ghost use Rattle.alloctab.specs.Words.{word_bit, IsClearFrom};
 ghost use Rattle.alloctab.specs.Reading.{IsTableOf, IsBadTableBlock, ReadsBits};
 ghost use Rattle.alloctab.specs.declared.error.TableError.TheVariants.{TableWrong, NoMemory, Device};
 
 use crate::TableError;
-use crate::bits::{copy_bits, has_bit_past};
+use crate::bits::{copy_words, has_bit_past};
 use blockdisk::{Disk, Fault};
 use meaning::layout::{table_blocks, table_start};
+use words36::Word;
 
-/// Reads table block `i`, and gives the blocks of which it speaks their bits.
-fn read_bits<D: Disk>(disk: &mut D, i: u32, bits: &mut [bool]) -> Result<(), TableError>
+/// Reads table block `i`, and copies its words to their place among those of all table blocks.
+fn read_bits<D: Disk>(disk: &mut D, i: u32, set: &mut [Word]) -> Result<(), TableError>
     requires volume { IsVolumeSize (D.state disk.old).size }
-    requires long { length bits.old ≡ (D.state disk.old).size }
+    requires long { length set.old ≡ 128 * table_blocks (D.state disk.old).size }
     requires in_table { i < table_blocks (D.state disk.old).size }
     ensures read { (D.state disk.new).honest
-        → OnOk result (ReadsBits (D.state disk.old).size (D.state disk.old).contents i bits.old bits.new) }
+        → OnOk result (ReadsBits (D.state disk.old).size (D.state disk.old).contents i set.old set.new) }
     ensures wrong { (D.state disk.new).honest → (n : ℕ) → IsErrOf result (TableWrong n)
         → IsBadTableBlock (D.state disk.old).size (D.state disk.old).contents n }
+    ensures long { length set.new ≡ length set.old }
+    ensures past { IsClearFrom (D.state disk.old).size set.old → IsClearFrom (D.state disk.old).size set.new }
     ensures reads { (D.state disk.new).honest → OnlyReads (D.state disk.old) (D.state disk.new) }
     ensures same { SameDisk (D.state disk.old) (D.state disk.new) }
     ensures memory { IsErrOf result NoMemory → ⊥ }
     ensures failed { IsErrOf result Device → (D.state disk.new).failures ≡ one_more (D.state disk.old).failures }
     ensures served { (IsErrOf result Device → ⊥) → (D.state disk.new).failures ≡ (D.state disk.old).failures }
 {
-    let block = table_start(disk.blocks()) + i;
+    let size = disk.blocks();
+    let block = table_start(size) + i;
     let words = match disk.read(block) {
         Ok(words) => words,
         Err(Fault::Damaged) => return Err(TableError::TableWrong(block)),
         Err(Fault::Device) => return Err(TableError::Device),
     };
-    if has_bit_past(&words, i as usize, bits.len()) {
+    if has_bit_past(&words, i as usize, size as usize) {
         return Err(TableError::TableWrong(block));
     }
-    copy_bits(&words, i as usize, bits);
+    copy_words(&words, i as usize, set);
     Ok(())
 }
 
-/// Reads the table of a disk: each block gets its bit.
-pub fn read_table<D: Disk>(disk: &mut D, bits: &mut [bool]) -> Result<(), TableError>
+/// Reads the words of all table blocks of a disk.
+pub fn read_table<D: Disk>(disk: &mut D, set: &mut [Word]) -> Result<(), TableError>
     requires volume { IsVolumeSize (D.state disk.old).size }
-    requires long { length bits.old ≡ (D.state disk.old).size }
+    requires long { length set.old ≡ 128 * table_blocks (D.state disk.old).size }
     ensures read { (D.state disk.new).honest
-        → OnOk result (IsTableOf (D.state disk.old).size (D.state disk.old).contents (digit_at bits.new)) }
+        → OnOk result (IsTableOf (D.state disk.old).size (D.state disk.old).contents (word_bit set.new)) }
     ensures wrong { (D.state disk.new).honest → (n : ℕ) → IsErrOf result (TableWrong n)
         → IsBadTableBlock (D.state disk.old).size (D.state disk.old).contents n }
+    ensures long { length set.new ≡ length set.old }
+    ensures past { IsClearFrom (D.state disk.old).size set.old → IsClearFrom (D.state disk.old).size set.new }
     ensures reads { (D.state disk.new).honest → OnlyReads (D.state disk.old) (D.state disk.new) }
     ensures same { SameDisk (D.state disk.old) (D.state disk.new) }
     ensures memory { IsErrOf result NoMemory → ⊥ }
@@ -54,7 +60,7 @@ pub fn read_table<D: Disk>(disk: &mut D, bits: &mut [bool]) -> Result<(), TableE
     ensures served { (IsErrOf result Device → ⊥) → (D.state disk.new).failures ≡ (D.state disk.old).failures }
 {
     for i in 0..table_blocks(disk.blocks()) {
-        read_bits(disk, i, bits)?;
+        read_bits(disk, i, set)?;
     }
     Ok(())
 }

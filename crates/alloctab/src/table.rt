@@ -9,6 +9,7 @@ ghost use Rattle.changeset.specs.Puts.{IsPutIn};
 ghost use Rattle.changeset.specs.Reads.{OnlyReads};
 ghost use Rattle.alloctab.specs.TableState.{IsTable, IsFree, bit, holds, IsChanged, space, used_in_space};
 ghost use Rattle.alloctab.specs.TableState.{changed_blocks, with_bit, with_held};
+ghost use Rattle.alloctab.specs.Lists.{digit};
 ghost use Rattle.alloctab.specs.TableBlocks.{table_words};
 ghost use Rattle.alloctab.specs.Reading.{IsTableOf, IsBadTableBlock};
 ghost use Rattle.alloctab.specs.Changes.{IsChangedBlock, SpellsTable};
@@ -16,45 +17,48 @@ ghost use Rattle.alloctab.specs.Reached.{IsWrongBlock, wanted_bit};
 ghost use Rattle.alloctab.specs.declared.error.TableError.TheVariants.{TableWrong, NoMemory, Device};
 
 use crate::blocks::put_changed;
+use crate::hint::lowered;
+use crate::lanes::first_clear;
 use crate::load::read_table;
+use crate::words::{has_bit, put_bit};
 use crate::{Reached, TableError};
 use blockdisk::Disk;
 use changeset::{ChangeSet, MAX_PUTS};
-use meaning::layout::{TABLE_BLOCK_BITS, space_start, table_blocks, table_start};
+use meaning::layout::{TABLE_BLOCK_BITS, WORD_BITS, space_start, table_blocks, table_start};
 use std::alloc::Global;
 use std::marker::Model;
+use words36::{BLOCK_WORDS, Word};
 
 /// The allocation table of a disk in core: which blocks are in use on the disk, which are held in
 /// core, how many are booked, and which table blocks changed.
+///
+/// Bits stand in words of 36, as many as all table blocks have, so that a free block is looked for 288
+/// blocks at a time and a table block is put as it stands. Past the end of the disk no bit is set:
+/// `take` compares what it finds with the size.
 #[derive(Drop)]
 pub struct Table {
     size: u32,
-    bits: Vec<bool>,
-    held: Vec<u32>,
+    /// A bit for each block that is in use on the disk.
+    set: Vec<Word>,
+    /// A bit for each block whose count is above 0.
+    held: Vec<Word>,
+    /// How often each block is held.
+    counts: Vec<u32>,
     booked: u64,
     changed: Vec<bool>,
+    /// No block below is free: `take` begins here.
+    hint: u32,
 }
 
 impl Model for Table {
-    ghost use Rattle.alloctab.specs.TableState.{TableState, IsTable};
+    ghost use Rattle.alloctab.specs.TableState.{TableState};
+    ghost use Rattle.alloctab.specs.Kept.{table_of, IsKept};
 
     ghost Value = { TableState };
 
-    ghost view = { λ t. record {
-      size = t.size;
-      bits = t.bits.items;
-      held = t.held.items;
-      booked = t.booked;
-      changed = t.changed.items;
-    } };
+    ghost view = { λ t. table_of t.size t.set.items t.counts.items t.booked t.changed.items };
 
-    ghost invariant = { λ t. IsTable (record {
-      size = t.size;
-      bits = t.bits.items;
-      held = t.held.items;
-      booked = t.booked;
-      changed = t.changed.items;
-    }) };
+    ghost invariant = { λ t. IsKept t.size t.set.items t.held.items t.counts.items t.changed.items t.hint };
 }
 
 impl Table {
@@ -87,16 +91,20 @@ impl Table {
     {
         let size = disk.blocks();
         // Memory first, so that a refused growth leaves the disk alone.
-        let mut bits = vec![in alloc; false; size as usize]?;
-        let held = vec![in alloc; 0; size as usize]?;
+        let words = table_blocks(size) as usize * BLOCK_WORDS;
+        let mut set = vec![in alloc; Word::ZERO; words]?;
+        let held = vec![in alloc; Word::ZERO; words]?;
+        let counts = vec![in alloc; 0; size as usize]?;
         let changed = vec![in alloc; false; table_blocks(size) as usize]?;
-        read_table(disk, bits.as_mut_slice())?;
+        read_table(disk, set.as_mut_slice())?;
         Ok(Table {
             size,
-            bits,
+            set,
             held,
+            counts,
             booked: 0,
             changed,
+            hint: 0,
         })
     }
 
@@ -106,7 +114,7 @@ impl Table {
         ensures free { IsTrue result ↔ IsFree self.now n }
         ensures sound { IsTable self.now }
     {
-        !self.bits[n as usize] && self.held[n as usize] == 0
+        !self.is_set(n) && self.counts[n as usize] == 0
     }
 
     /// Whether a block is held once and its bit is clear, so that no other version has it.
@@ -114,7 +122,7 @@ impl Table {
         requires { n < self.now.size }
         ensures { IsTrue result ↔ ((bit self.now n ≡ 0) × (holds self.now n ≡ 1)) }
     {
-        !self.bits[n as usize] && self.held[n as usize] == 1
+        !self.is_set(n) && self.counts[n as usize] == 1
     }
 
     /// Whether there is room to book so many blocks more.
@@ -163,6 +171,7 @@ impl Table {
     {
         let n = self.lowest_free()?;
         self.hold(n);
+        self.hint = n + 1;
         Some(n)
     }
 
@@ -186,12 +195,13 @@ impl Table {
         ensures none { IfNone result ((m : ℕ) → m < self.now.size → IsFree self.now m → ⊥) }
         ensures sound { IsTable self.now }
     {
-        for n in 0..self.size {
-            if self.is_free(n) {
-                return Some(n);
-            }
+        let first = self.hint as usize / WORD_BITS;
+        let n = first * WORD_BITS + first_clear(&self.set[first..], &self.held[first..])?;
+        if n < self.size as usize {
+            Some(n as u32)
+        } else {
+            None
         }
-        None
     }
 
     /// Holds a block once more.
@@ -200,7 +210,8 @@ impl Table {
         requires fits { holds self.old n + 1 < 2 ^ 32 }
         ensures { self.new ≡ with_held self.old n (holds self.old n + 1) }
     {
-        self.held[n as usize] += 1;
+        self.counts[n as usize] += 1;
+        put_bit(&mut self.held, n as usize, true);
     }
 
     /// Holds a block once less.
@@ -209,7 +220,11 @@ impl Table {
         requires held { 0 < holds self.old n }
         ensures { self.new ≡ with_held self.old n (holds self.old n - 1) }
     {
-        self.held[n as usize] -= 1;
+        let left = self.counts[n as usize] - 1;
+        self.counts[n as usize] = left;
+        put_bit(&mut self.held, n as usize, left > 0);
+        let is_set = has_bit(&self.set, n as usize);
+        self.hint = lowered(self.hint, n, left, is_set);
     }
 
     /// Sets the bit of a block. Its table block counts as changed.
@@ -218,7 +233,8 @@ impl Table {
         ensures bits { self.new ≡ with_bit self.old n true }
         ensures taken { bit self.old n ≡ 0 → (m : ℕ) → bit self.new m ≡ bit self.old m + times m (n ∷ []) }
     {
-        self.put_bit(n, true);
+        put_bit(&mut self.set, n as usize, true);
+        self.changed[n as usize / TABLE_BLOCK_BITS] = true;
     }
 
     /// Clears the bit of a block. Its table block counts as changed.
@@ -227,17 +243,17 @@ impl Table {
         ensures bits { self.new ≡ with_bit self.old n false }
         ensures freed { bit self.old n ≡ 1 → (m : ℕ) → bit self.new m + times m (n ∷ []) ≡ bit self.old m }
     {
-        self.put_bit(n, false);
+        put_bit(&mut self.set, n as usize, false);
+        self.changed[n as usize / TABLE_BLOCK_BITS] = true;
+        self.hint = lowered(self.hint, n, self.counts[n as usize], false);
     }
 
-    /// Gives a block this bit, whether it was so before or not.
-    fn put_bit(&mut self, n: u32, is_set: bool)
-        requires { n < self.old.size }
-        ensures bits { self.new ≡ with_bit self.old n is_set }
-        ensures sound { IsTable self.old }
+    /// Whether the bit of a block is set.
+    fn is_set(&self, n: u32) -> bool
+        requires { n < self.now.size }
+        ensures { digit result ≡ bit self.now n }
     {
-        self.bits[n as usize] = is_set;
-        self.changed[n as usize / TABLE_BLOCK_BITS] = true;
+        has_bit(&self.set, n as usize)
     }
 
     /// Puts each table block of which a bit was set or cleared since the last call. Where a disk with
@@ -257,7 +273,7 @@ impl Table {
 
         ensures spells { (c : Contents) → SpellsTable self.old (with_puts set.old c) (with_puts set.new c) }
     {
-        put_changed(&self.bits, &self.changed, table_start(self.size), set);
+        put_changed(&self.set, &self.changed, table_start(self.size), set);
         self.changed.fill(false);
     }
 
@@ -271,7 +287,7 @@ impl Table {
     {
         for k in 0..self.size {
             let wanted = u32::from(k < space_start(self.size)) + u32::from(reached.is_marked(k));
-            if u32::from(self.bits[k as usize]) != wanted {
+            if u32::from(self.is_set(k)) != wanted {
                 return Some(table_start(self.size) + k / TABLE_BLOCK_BITS as u32);
             }
         }

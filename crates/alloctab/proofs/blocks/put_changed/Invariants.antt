@@ -1,7 +1,8 @@
 use Rattle.std.proofs.Common.{◌≡◌}
-use Rattle.alloctab.specs.Lists.{digit_at, flag_at}
+use Rattle.alloctab.specs.Lists.{flag_at}
+use Rattle.alloctab.specs.Words.{word_bit}
 use Rattle.alloctab.specs.Changes.{with_changed}
 use Rattle.alloctab.proofs.blocks.put_changed.Given as goal
 
 abbrev pub invariant-loop-i : goal.invariant-loop-i
-invariant-loop-i l = l.set ≡ with_changed l.start (digit_at l.bits) (flag_at l.changed) l.i l.fn.set
+invariant-loop-i l = l.set ≡ with_changed l.start (word_bit l.words) (flag_at l.changed) l.i l.fn.set

@@ -1,7 +1,7 @@
 use Rattle.std.proofs.Common.{◌∙◌, rules}
 use Rattle.std.proofs.lemmas.Result.{err_from_is_err_and}
 use Rattle.blockdisk.specs.Laws.{same_contents, same_disk_on}
-use Rattle.alloctab.proofs.TableReading.{read_more, bad_moved, reads_moved}
+use Rattle.alloctab.proofs.TableReading.{read_more, bad_moved, reads_moved, past_moved}
 use Rattle.changeset.proofs.Reading.{only_reads_on}
 use Rattle.alloctab.proofs.load.read_table.Goals as goal
 
@@ -30,8 +30,11 @@ loop-i-preserved g c =
       served = c.in_ok-read_bits.ensures.served (λ is. search rules) ∙ c.loop-i.invariant.served;
       reads = λ h. only_reads_on old now new (c.loop-i.invariant.reads (c.read_bits.ensures.same.was_honest h))
           (c.read_bits.ensures.reads h);
-      read = λ h. read_more old.size old.contents c.loop-i.i c.loop-i.bits c.read_bits.new.bits
-          (reads_moved now.size old.size now.contents old.contents c.loop-i.i c.loop-i.bits c.read_bits.new.bits
+      long = c.read_bits.ensures.long ∙ c.loop-i.invariant.long;
+      past = λ clear. past_moved now.size old.size c.loop-i.set c.read_bits.new.set c.loop-i.invariant.same.size
+          c.read_bits.ensures.past (c.loop-i.invariant.past clear);
+      read = λ h. read_more old.size old.contents c.loop-i.i c.loop-i.set c.read_bits.new.set
+          (reads_moved now.size old.size now.contents old.contents c.loop-i.i c.loop-i.set c.read_bits.new.set
           c.loop-i.invariant.same.size (same_contents old.contents now.contents
           (c.loop-i.invariant.reads (c.read_bits.ensures.same.was_honest h)).still.contents)
           (c.in_ok-read_bits.ensures.read h))

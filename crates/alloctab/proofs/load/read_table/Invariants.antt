@@ -1,7 +1,7 @@
-use Rattle.std.proofs.Common.{◌≡◌}
+use Rattle.std.proofs.Common.{◌≡◌, length}
 use Rattle.blockdisk.specs.Disk.{SameDisk}
 use Rattle.changeset.specs.Reads.{OnlyReads}
-use Rattle.alloctab.specs.Lists.{digit_at}
+use Rattle.alloctab.specs.Words.{word_bit, IsClearFrom}
 use Rattle.alloctab.proofs.TableReading.{IsTableBelow}
 use Rattle.alloctab.proofs.load.read_table.Given as goal
 
@@ -10,6 +10,8 @@ invariant-loop-i g l = record {
   same : SameDisk (g.D.Disk.state l.fn.disk) (g.D.Disk.state l.disk);
   served : (g.D.Disk.state l.disk).failures ≡ (g.D.Disk.state l.fn.disk).failures;
   reads : (g.D.Disk.state l.disk).honest → OnlyReads (g.D.Disk.state l.fn.disk) (g.D.Disk.state l.disk);
+  long : length l.set ≡ length l.fn.set;
+  past : IsClearFrom (g.D.Disk.state l.fn.disk).size l.fn.set → IsClearFrom (g.D.Disk.state l.fn.disk).size l.set;
   read : (g.D.Disk.state l.disk).honest
-      → IsTableBelow l.i (g.D.Disk.state l.fn.disk).size (g.D.Disk.state l.fn.disk).contents (digit_at l.bits);
+      → IsTableBelow l.i (g.D.Disk.state l.fn.disk).size (g.D.Disk.state l.fn.disk).contents (word_bit l.set);
 }

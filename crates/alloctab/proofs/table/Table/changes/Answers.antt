@@ -4,22 +4,25 @@ use Rattle.meaning.specs.declared.put.Put.{Put}
 use Rattle.meaning.specs.Log.{with_puts, targets, IsTarget}
 use Rattle.meaning.specs.Regions.{table_start}
 use Rattle.changeset.specs.Puts.{IsPutIn}
-use Rattle.alloctab.specs.TableState.{TableState, IsTable, changed_blocks}
+use Rattle.alloctab.specs.TableState.{TableState, IsTable, bit, changed_blocks}
+use Rattle.alloctab.specs.Words.{word_bit}
 use Rattle.alloctab.specs.Changes.{SpellsTable, IsChangedBlock}
 use Rattle.alloctab.proofs.ChangeLaws.{table_changes, table_changes_are, put_changes, others_changes, targets_changes}
 use Rattle.alloctab.proofs.ChangeLaws.{few_changes, in_range_changes, spells_changes}
+use Rattle.alloctab.proofs.KeptLaws.{sound as kept_sound, bits_are}
 use Rattle.alloctab.proofs.table.Table.changes.Goals as goal
 
 puts_are : (c : goal.After-fill) → c.put_changed.new.set ≡ table_changes c.args.self.now c.args.set.now
 puts_are c = table_changes_are c.args.self.now c.args.set.now c.put_changed.new.set c.table_start.result
-    c.deref.result.now c.deref-2.result.now
-    (c.table_start.ensures ∙ ap (λ (t : TableState). table_start t.size) c.self.view_is) (c.deref.ensures.value
-    ∙ ap (λ (t : TableState). t.bits) c.self.view_is) (c.deref-2.ensures.value
-    ∙ ap (λ (t : TableState). t.changed) c.self.view_is)
+    (word_bit c.deref.result.now) c.deref-2.result.now
+    (c.table_start.ensures ∙ ap (λ (t : TableState). table_start t.size) c.self.view_is)
+    (ap word_bit c.deref.ensures.value
+    ∙ bits_are _ _ _ _ _ _ c.self.invariant c.self.inside.booked ∙ ap bit c.self.view_is)
+    (c.deref-2.ensures.value ∙ ap (λ (t : TableState). t.changed) c.self.view_is)
     c.put_changed.ensures
 
 sound : (c : goal.After-fill) → IsTable c.args.self.now
-sound c = subst IsTable c.self.view_is c.self.invariant
+sound c = subst IsTable c.self.view_is (kept_sound _ _ _ _ _ _ c.self.invariant c.self.inside.booked)
 
 pub returns-clause-put : goal.returns-clause-put
 returns-clause-put c d i is = ap (λ (l : List Put). with_puts l d (table_start c.args.self.now.size + i)) (puts_are c)
