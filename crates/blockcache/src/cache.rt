@@ -39,6 +39,13 @@ impl<D: Disk> Cached<D> {
         }
     }
 
+    /// The disk under it.
+    pub fn inner(&self) -> &D
+        ensures { result.now ≡ self.now.inner }
+    {
+        &self.inner
+    }
+
     /// The disk under it, as it is: it has all that was written.
     pub fn into_inner(self) -> D
         ensures { result ≡ self.inner }
