@@ -1,10 +1,12 @@
 //! What a volume asks of its disk, counted: the blocks that `open` reads, the writes and syncs of a `make_dir` and
 //! of a `delete_dir`, and for files of 0 to 1024 blocks, created, superseded and deleted, the calls of `put_words`,
-//! of `publish` and of `delete`, beside the fewest writes and syncs that a publication can make, and those of a `rename`.
+//! of `publish` and of `delete`, beside the fewest writes and syncs that a publication can make, and those of a `rename`;
+//! and how many blocks of the device are read with no block kept in memory and with some.
 //! With `--time` also how many times as long `open` takes as a plain read of the same blocks, and the publication of 1024
 //! blocks as a plain copy of its words.
 #![tactic(auto)]
 
+mod caching;
 mod counting;
 mod files;
 mod full;
@@ -12,6 +14,7 @@ mod volumes;
 
 use anyhow::Result;
 use blockdisk::{Disk, MemDisk};
+use caching::{KEPT_BLOCKS, Reads, cached, count_reads};
 use counting::{Calls, CountingDisk};
 use files::{
     FileCalls, LEAST_SYNCS, delete_file, least_writes, prime_of_bar, prime_of_foo, publish_file,
@@ -162,6 +165,27 @@ fn with_names(rt: &impl Print, alloc: Global) -> Result<()> {
     print_changed(rt, "rename to another directory", across)
 }
 
+/// A disk with a volume and a file of so many blocks.
+fn disk_with_file(alloc: Global, blocks: u16) -> Result<MemDisk> {
+    let mut volume = volume_for_files(alloc, 1)?;
+    let words = words_of_file(alloc, blocks)?;
+    publish_file(alloc, &mut volume, prime_of_foo()?, words.as_slice())?;
+    Ok(volume.into_disk().into_inner())
+}
+
+/// Prints how many blocks of the device are read with no block kept, and with as many kept as the program keeps:
+/// when a volume is opened, and when a file of so many blocks on it is read once, and once more.
+fn with_cache(rt: &impl Print, alloc: Global, blocks: u16) -> Result<()> {
+    let plain: Reads = count_reads(alloc, CountingDisk::new(disk_with_file(alloc, blocks)?))?;
+    let counting = CountingDisk::new(disk_with_file(alloc, blocks)?);
+    let kept: Reads = count_reads(alloc, cached(alloc, counting)?)?;
+    println!(rt; "{FILES_VOLUME} blocks, file of {blocks} blocks, none kept; {KEPT_BLOCKS} kept")?;
+    println!(rt; "  open: {} blocks read; {}", plain.start, kept.start)?;
+    println!(rt; "  read: {} blocks read; {}", plain.first, kept.first)?;
+    println!(rt; "  read again: {} blocks read; {}", plain.again, kept.again)?;
+    Ok(())
+}
+
 /// Copies words into the blocks of a disk, each block once.
 fn copy_plainly(disk: &mut MemDisk, words: &[Word]) -> Result<()> {
     let (blocks, _) = words.as_chunks::<BLOCK_WORDS>();
@@ -202,6 +226,9 @@ fn main(rt: HostRuntime) -> Result<()> {
         with_file(&rt, rt.alloc(), blocks)?;
     }
     with_names(&rt, rt.alloc())?;
+    for blocks in [112, MEBIBYTE] {
+        with_cache(&rt, rt.alloc(), blocks)?;
+    }
     if is_timed {
         print_published(&rt, rt.alloc())?;
     }
