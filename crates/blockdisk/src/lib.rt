@@ -4,9 +4,11 @@
 mod copies;
 mod disk;
 mod fault;
+mod fuse;
 mod memory;
 
 pub use copies::{write_copies, write_through};
 pub use disk::Disk;
 pub use fault::{Fault, NoMemory};
+pub use fuse::{Fail, FuseDisk};
 pub use memory::{DiskCall, MemDisk};

@@ -1,7 +1,7 @@
--- Which standard stream stays untouched, since it leads to an image.
+-- Which standard stream stays untouched.
 use Rattle.std.specs.Prelude.{Bool, true, false}
 use Rattle.filser.specs.declared.fault.HostFault.{HostFault}
-use Rattle.filser.specs.declared.fault.HostFault.TheVariants.{System, InUse, Input, Output, Errors}
+use Rattle.filser.specs.declared.fault.HostFault.TheVariants.{System, InUse, Input, Output, Errors, Memory}
 
 -- nothing may be printed
 abbrev pub forbids_output : HostFault → Bool
@@ -10,6 +10,7 @@ forbids_output InUse = false
 forbids_output Input = false
 forbids_output Output = true
 forbids_output Errors = true
+forbids_output Memory = true
 
 -- nothing may be told
 abbrev pub forbids_errors : HostFault → Bool
@@ -18,3 +19,4 @@ forbids_errors InUse = false
 forbids_errors Input = false
 forbids_errors Output = false
 forbids_errors Errors = true
+forbids_errors Memory = false

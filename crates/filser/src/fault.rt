@@ -27,6 +27,9 @@ pub enum HostFault {
     /// What is told would land in the image. So nothing is told or printed.
     #[error("the standard error of this run")]
     Errors,
+    /// There is no memory to serve an image. People are told so, and nothing is printed.
+    #[error("out of memory")]
+    Memory,
 }
 
 impl HostFault {
@@ -35,7 +38,7 @@ impl HostFault {
         ensures { result ≡ forbids_output self.now }
     {
         match self {
-            HostFault::Output | HostFault::Errors => true,
+            HostFault::Output | HostFault::Errors | HostFault::Memory => true,
             HostFault::System(_) | HostFault::InUse | HostFault::Input => false,
         }
     }
@@ -46,7 +49,11 @@ impl HostFault {
     {
         match self {
             HostFault::Errors => true,
-            HostFault::System(_) | HostFault::InUse | HostFault::Input | HostFault::Output => false,
+            HostFault::System(_)
+            | HostFault::InUse
+            | HostFault::Input
+            | HostFault::Output
+            | HostFault::Memory => false,
         }
     }
 }

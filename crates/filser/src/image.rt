@@ -9,17 +9,23 @@ ghost use Rattle.volume.specs.declared.error.VolumeError.TheVariants.{Device};
 use crate::fault::report;
 use crate::streams::stream_of;
 use crate::{HostFault, ImageFault, Refusal};
-use blockdisk::Disk;
+use blockcache::Cached;
+use blockdisk::{Disk, NoMemory};
 use commands::Volume;
 use imagefile::{HostFile, ImageDisk, ImageError, Supposition, apart};
+use std::alloc::Global;
 use std::fs::{self, File, OpenOptions, TryLockError};
 use std::io::{self, ErrorKind, Write};
+use std::num::NonZeroUsize;
 use std::rt::Files;
 use volume::VolumeError;
 use words36::BLOCK_BYTES;
 
-/// An image of the host's, that is worked on in place.
-pub(crate) type Image = ImageDisk<HostFile>;
+/// How many blocks of an image are kept in memory while it is served.
+const KEPT_BLOCKS: usize = 256;
+
+/// An image of the host's, that is served in place.
+pub(crate) type Image = Cached<ImageDisk<HostFile>>;
 
 /// Why the first call failed that did on a file, for people.
 fn failure_of(file: &HostFile) -> Option<HostFault> {
@@ -28,7 +34,7 @@ fn failure_of(file: &HostFile) -> Option<HostFault> {
 
 /// Tells people why the file of an image failed, where it did.
 pub(crate) fn tell_failure<E: Write>(errors: &mut E, path: &str, image: Image) {
-    if let Some(fault) = failure_of(&image.finish()) {
+    if let Some(fault) = failure_of(&image.into_inner().finish()) {
         report(errors, path, &fault);
     }
 }
@@ -71,12 +77,12 @@ fn claim<E: Write>(file: &File, path: &str, errors: &mut E) -> Result<(), ImageF
     }
 }
 
-/// The image in a file that began as is supposed.
+/// The disk in a file that began as is supposed.
 ///
 /// # Errors
 ///
 /// `NotVolume` where its length is not that of an image, `Device` where the device failed.
-pub(crate) fn image_in(file: File, supposed: Supposition) -> Result<Image, ImageFault>
+fn disk_in(file: File, supposed: Supposition) -> Result<ImageDisk<HostFile>, ImageFault>
     requires { IsApart file }
     ensures holds { IfOk result
         (λ image. HoldsFile (unseen_in supposed) (⟦<ImageDisk<HostFile> as Disk>⟧.state image)) }
@@ -92,6 +98,29 @@ pub(crate) fn image_in(file: File, supposed: Supposition) -> Result<Image, Image
             refusal: Refusal::Start(VolumeError::Device),
             host: failure_of(&file),
         }),
+    }
+}
+
+/// The image in a file that began as is supposed, with room to keep blocks of it in memory.
+///
+/// # Errors
+///
+/// As of `disk_in`; `Memory` where that room isn't found.
+pub(crate) fn image_in(
+    alloc: Global,
+    file: File,
+    supposed: Supposition,
+) -> Result<Image, ImageFault>
+    requires { IsApart file }
+    ensures holds { IfOk result
+        (λ image. HoldsFile (unseen_in supposed) (⟦<Cached<ImageDisk<HostFile>> as Disk>⟧.state image)) }
+    ensures refused { IfErr result (λ fault. IsFileRefusal fault.refusal) }
+{
+    let disk = disk_in(file, supposed)?;
+    let room = NonZeroUsize::new(KEPT_BLOCKS).unwrap();
+    match Cached::new(alloc, disk, room) {
+        Ok(image) => Ok(image),
+        Err((NoMemory, _disk)) => Err(ImageFault::from(HostFault::Memory)),
     }
 }
 
@@ -164,12 +193,12 @@ fn fill<E: Write>(file: File, path: &str, blocks: u32, errors: &mut E) -> Result
     if let Err(error) = write_zeros(&file, blocks) {
         return Err(ImageFault::from(HostFault::System(error)));
     }
-    let mut image = image_in(file, Supposition::any())?;
-    match Volume::init(&mut image) {
+    let mut disk = disk_in(file, Supposition::any())?;
+    match Volume::init(&mut disk) {
         Ok(()) => Ok(()),
         Err(error) => Err(ImageFault {
             refusal: Refusal::Start(error),
-            host: failure_of(&image.finish()),
+            host: failure_of(&disk.finish()),
         }),
     }
 }

@@ -15,6 +15,7 @@ ghost use Rattle.filser.specs.declared.status.Status.TheVariants.{BadArguments, 
 
 use crate::image::{Image, image_in};
 use crate::{ImageFault, Refusal, Status};
+use blockcache::Cached;
 use blockdisk::{Disk, MemDisk};
 use commands::{Monitor, SessionError, Tally, Volume, script, session};
 use imagefile::{HostFile, ImageDisk, Supposition};
@@ -141,16 +142,16 @@ pub(crate) fn serve_file<R: Read, W: Write>(
     requires { IsApart file }
     ensures serving { IfOk result (λ done. done.0 ≢ BadArguments) }
     ensures refused { IfErr result (λ fault. IsFileRefusal fault.refusal) }
-    ensures served { IfOk result (λ done. (⟦<ImageDisk<HostFile> as Disk>⟧.state done.1).honest
+    ensures served { IfOk result (λ done. (⟦<Cached<ImageDisk<HostFile>> as Disk>⟧.state done.1).honest
         → (blocks : ℕ) (files : Files StoredFile) → size_of (unseen_in supposed) ≡ 1024 * blocks
         → Stands blocks (image_contents (first_bytes (unseen_in supposed))) files
-        → (image : _) × (IsServed (⟦<ImageDisk<HostFile> as Disk>⟧.state) image done.1 done.0 files
+        → (image : _) × (IsServed (⟦<Cached<ImageDisk<HostFile>> as Disk>⟧.state) image done.1 done.0 files
         (λ first last. Session (R.remaining reader.old) (R.remaining reader.new) (W.contents writer.old)
-        (W.contents writer.new) (machine_over (⟦<ImageDisk<HostFile> as Disk>⟧.state)) first last moment)
-        ⊎ IsUnserved (⟦<ImageDisk<HostFile> as Disk>⟧.state) image done.1 done.0 (W.contents writer.old)
+        (W.contents writer.new) (machine_over (⟦<Cached<ImageDisk<HostFile>> as Disk>⟧.state)) first last moment)
+        ⊎ IsUnserved (⟦<Cached<ImageDisk<HostFile>> as Disk>⟧.state) image done.1 done.0 (W.contents writer.old)
         (W.contents writer.new))) }
 {
-    let image = image_in(file, supposed)?;
+    let image = image_in(alloc, file, supposed)?;
     Ok(serve(alloc, image, moment, reader, writer))
 }
 
@@ -172,16 +173,16 @@ pub(crate) fn serve_calls_in_file<R: Read, W: Write>(
     requires { IsApart file }
     ensures serving { IfOk result (λ done. done.0 ≢ BadArguments) }
     ensures refused { IfErr result (λ fault. IsFileRefusal fault.refusal) }
-    ensures served { IfOk result (λ done. (⟦<ImageDisk<HostFile> as Disk>⟧.state done.1).honest
+    ensures served { IfOk result (λ done. (⟦<Cached<ImageDisk<HostFile>> as Disk>⟧.state done.1).honest
         → (blocks : ℕ) (files : Files StoredFile) → size_of (unseen_in supposed) ≡ 1024 * blocks
         → Stands blocks (image_contents (first_bytes (unseen_in supposed))) files
-        → (image : _) × (IsServed (⟦<ImageDisk<HostFile> as Disk>⟧.state) image done.1 done.0 files
+        → (image : _) × (IsServed (⟦<Cached<ImageDisk<HostFile>> as Disk>⟧.state) image done.1 done.0 files
         (λ first last. Script (R.remaining reader.old) (R.remaining reader.new) (W.contents writer.old)
-        (W.contents writer.new) (machine_over (⟦<ImageDisk<HostFile> as Disk>⟧.state)) first last moment)
-        ⊎ IsUnserved (⟦<ImageDisk<HostFile> as Disk>⟧.state) image done.1 done.0 (W.contents writer.old)
+        (W.contents writer.new) (machine_over (⟦<Cached<ImageDisk<HostFile>> as Disk>⟧.state)) first last moment)
+        ⊎ IsUnserved (⟦<Cached<ImageDisk<HostFile>> as Disk>⟧.state) image done.1 done.0 (W.contents writer.old)
         (W.contents writer.new))) }
 {
-    let image = image_in(file, supposed)?;
+    let image = image_in(alloc, file, supposed)?;
     Ok(serve_calls(alloc, image, moment, reader, writer))
 }
 

@@ -42,6 +42,13 @@ impl<D: Disk> CountingDisk<D> {
         }
     }
 
+    /// The disk under it.
+    pub fn into_inner(self) -> D
+        ensures { result ≡ self.inner }
+    {
+        self.inner
+    }
+
     /// The calls so far.
     pub fn calls(&self) -> Calls
         ensures { result ≡ self.now.calls }

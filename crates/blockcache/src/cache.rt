@@ -1,0 +1,141 @@
+ghost use Rattle.std.specs.Prelude.{◌≡◌, ◌<◌, Some, None, Ok, IfOk, IfErr, OnOk, OnErr, IfSome, [], nat_eq};
+ghost use Rattle.std.specs.NonZero.{non_zero_usize_get};
+ghost use Rattle.std.specs.Map.{lookup};
+ghost use Rattle.lru.specs.LruCache.{lru_cache};
+ghost use Rattle.blockdisk.specs.Calls.{IsRead, IsWrite, IsSync};
+ghost use Rattle.blockcache.specs.Cache.{AreHeld, IsKept, used, without, emptied};
+
+use blockdisk::{Disk, Fault, NoMemory};
+use lru::LruCache;
+use std::alloc::Global;
+use std::num::NonZeroUsize;
+use words36::Block;
+
+/// A disk some of whose blocks are kept in memory: those that were read or written last, as many as it has
+/// room for. Writes go through to the disk under it at once.
+///
+/// A block for which no memory is found is not kept, and nobody is told: it is read again when it is wanted.
+#[derive(Drop)]
+pub struct Cached<D: Disk> {
+    inner: D,
+    cache: LruCache<u32, Block>,
+    ghost coherent: { (D.state inner).honest → AreHeld cache.entries (D.state inner).contents },
+}
+
+impl<D: Disk> Cached<D> {
+    /// The same disk, with room for so many blocks. None is kept yet, and the disk isn't asked.
+    ///
+    /// # Errors
+    ///
+    /// `NoMemory`, with the disk as it was, where so much room isn't found.
+    pub fn new(alloc: Global, disk: D, capacity: NonZeroUsize) -> Result<Self, (NoMemory, D)>
+        ensures inner { IfOk result (λ cached. cached.inner ≡ disk) }
+        ensures empty { IfOk result (λ cached. cached.cache ≡ lru_cache [] (non_zero_usize_get capacity)) }
+        ensures handed_back { IfErr result (λ refused. refused.1 ≡ disk) }
+    {
+        match LruCache::new(alloc, capacity) {
+            Ok(cache) => Ok(Cached { inner: disk, cache }),
+            Err(error) => Err((error.into(), disk)),
+        }
+    }
+
+    /// The disk under it.
+    pub fn inner(&self) -> &D
+        ensures { result.now ≡ self.now.inner }
+    {
+        &self.inner
+    }
+
+    /// The disk under it, as it is: it has all that was written.
+    pub fn into_inner(self) -> D
+        ensures { result ≡ self.inner }
+    {
+        self.inner
+    }
+
+    /// What is kept of a block, which is the one used last then.
+    fn recall(&mut self, n: u32) -> Option<Block>
+        ensures found { result ≡ lookup (nat_eq n) self.old.cache.entries }
+        ensures used { self.new.cache ≡ used n self.old.cache }
+        ensures missed { lookup (nat_eq n) self.old.cache.entries ≡ None → self.new.cache ≡ self.old.cache }
+        ensures inner { self.new.inner ≡ self.old.inner }
+    {
+        self.cache.get(&n).copied()
+    }
+
+    /// Keeps what a block holds, where memory is found.
+    fn keep(&mut self, n: u32, block: &Block)
+        requires { (D.state self.old.inner).honest → (D.state self.old.inner).contents n ≡ Some block.now }
+        ensures kept { IsKept n block.now self.old.cache self.new.cache }
+        ensures inner { self.new.inner ≡ self.old.inner }
+    {
+        let _kept = self.cache.put(n, *block);
+    }
+
+    /// Keeps nothing of a block any more.
+    fn forget(&mut self, n: u32)
+        ensures forgotten { self.new.cache ≡ without n self.old.cache }
+        ensures none { lookup (nat_eq n) self.new.cache.entries ≡ None }
+        ensures inner { self.new.inner ≡ self.old.inner }
+    {
+        let _kept = self.cache.len(); // no block is kept twice
+        let _block = self.cache.pop(&n);
+    }
+}
+
+impl<D: Disk> Disk for Cached<D> {
+    ghost state = { λ cached. D.state cached.inner };
+
+    ghost counts_now = { λ cached t c h le left. D.counts_now cached.inner t c h le left };
+
+    ghost only_now = { λ cached c h left. D.only_now cached.inner c h left };
+
+    ghost reaches_back = { λ cached t u c h le left. D.reaches_back cached.inner t u c h le left };
+
+    fn blocks(&self) -> u32 {
+        self.inner.blocks()
+    }
+
+    fn read(&mut self, n: u32) -> Result<Block, Fault>
+        requires { n < (D.state self.old.inner).size }
+        ensures recalled { IfSome (lookup (nat_eq n) self.old.cache.entries) (λ block. (result ≡ Ok block)
+            × (self.new.inner ≡ self.old.inner) × (self.new.cache ≡ used n self.old.cache)) }
+        ensures reads { IsRead n (D.state self.old.inner) (D.state self.new.inner) result }
+        ensures keeps_block { lookup (nat_eq n) self.old.cache.entries ≡ None
+            → IfOk result (λ block. IsKept n block self.old.cache self.new.cache) }
+        ensures keeps_none { lookup (nat_eq n) self.old.cache.entries ≡ None
+            → OnErr result (self.new.cache ≡ self.old.cache) }
+    {
+        if let Some(block) = self.recall(n) {
+            return Ok(block);
+        }
+        let block = self.inner.read(n)?;
+        self.keep(n, &block);
+        Ok(block)
+    }
+
+    fn write(&mut self, n: u32, block: &Block) -> Result<(), Fault>
+        requires { n < (D.state self.old.inner).size }
+        ensures writes { IsWrite n block.now (D.state self.old.inner) (D.state self.new.inner) result }
+        ensures keeps_block { OnOk result (IsKept n block.now (without n self.old.cache) self.new.cache) }
+        ensures forgets { OnErr result (self.new.cache ≡ without n self.old.cache) }
+        ensures none { OnErr result (lookup (nat_eq n) self.new.cache.entries ≡ None) }
+    {
+        self.forget(n);
+        self.inner.write(n, block)?;
+        self.keep(n, block);
+        Ok(())
+    }
+
+    fn sync(&mut self) -> Result<(), Fault>
+        ensures syncs { IsSync (D.state self.old.inner) (D.state self.new.inner) result }
+        ensures keeps_all { OnOk result (self.new.cache ≡ self.old.cache) }
+        ensures keeps_none { OnErr result (self.new.cache ≡ emptied self.old.cache) }
+    {
+        if let Err(fault) = self.inner.sync() {
+            self.cache.clear(); // what open blocks hold may have changed
+            return Err(fault);
+        }
+        Ok(())
+    }
+}

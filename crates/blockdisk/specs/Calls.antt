@@ -1,0 +1,35 @@
+-- What the trait promises of each call, as one record a call: of the device under another one too,
+-- whose calls no clause can name.
+use Rattle.std.specs.Prelude.{◌≡◌, ◌<◌, ℕ, List, Some, None, Result, IfOk, OnOk, OnErr, IsErrOf}
+use Rattle.blockdisk.specs.Disk.{DiskState, SameDisk, Keeps, Writes, Syncs, Fails, one_more}
+use Rattle.blockdisk.specs.declared.fault.Fault.{Fault}
+use Rattle.blockdisk.specs.declared.fault.Fault.TheVariants.{Device, Damaged}
+
+-- a read of block n that was answered like this
+pub record IsRead (n : ℕ) (s s' : DiskState) (answer : Result (List ℕ) Fault) : Type 0 where
+  pub words : s'.honest → IfOk answer (λ block. s.contents n ≡ Some block)
+  pub damaged : s'.honest → IsErrOf answer Damaged → s.contents n ≡ None
+  pub keeps : s'.honest → Keeps s s'
+  pub same : SameDisk s s'
+  pub failed : IsErrOf answer Device → s'.failures ≡ one_more s.failures
+  pub served : (IsErrOf answer Device → ⊥) → s'.failures ≡ s.failures
+
+-- a write of these words to block n
+pub record IsWrite (n : ℕ) (words : List ℕ) (s s' : DiskState) (answer : Result (Unit {0}) Fault) : Type 0 where
+  pub put : s'.honest → OnOk answer (s'.contents n ≡ Some words)
+  pub moves : s'.honest → OnOk answer (s.clock < s'.clock)
+  pub writes : s'.honest → Writes n s s'
+  pub same : SameDisk s s'
+  pub device : IsErrOf answer Damaged → ⊥
+  pub failed : IsErrOf answer Device → s'.failures ≡ one_more s.failures
+  pub served : OnOk answer (s'.failures ≡ s.failures)
+
+-- a sync
+pub record IsSync (s s' : DiskState) (answer : Result (Unit {0}) Fault) : Type 0 where
+  pub syncs : s'.honest → OnOk answer (Syncs s s')
+  pub moves : s'.honest → OnOk answer (s.clock < s'.clock)
+  pub fails : s'.honest → OnErr answer (Fails s s')
+  pub same : SameDisk s s'
+  pub device : IsErrOf answer Damaged → ⊥
+  pub failed : IsErrOf answer Device → s'.failures ≡ one_more s.failures
+  pub served : OnOk answer (s'.failures ≡ s.failures)

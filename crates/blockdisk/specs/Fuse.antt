@@ -1,0 +1,34 @@
+-- A disk behind a fuse: what it is, by the disk under it and its own failures.
+use Rattle.std.specs.Prelude.{◌+◌, ◌-◌, ◌==◌, ◌^◌, ℕ, Bool, false, Option, Some, None, if◌then◌else◌, min}
+use Rattle.blockdisk.specs.Disk.{DiskState}
+use Rattle.blockdisk.specs.declared.fuse.Fail.{Fail}
+use Rattle.blockdisk.specs.declared.fuse.Fail.TheVariants.{One, All}
+
+-- How many calls pass before the next one that fails; none where no call fails any more.
+
+-- the next call fails
+abbrev pub is_blown : Option ℕ → Bool
+is_blown None = false
+is_blown (Some passing) = passing == 0
+
+-- what is left after a call that failed
+abbrev pub left_behind : Fail → Option ℕ
+left_behind One = None
+left_behind All = Some 0
+
+-- what is left after a call
+abbrev pub burnt : Fail → Option ℕ → Option ℕ
+burnt fail None = None
+burnt fail (Some passing) = if passing == 0 then left_behind fail else Some (passing - 1)
+
+-- the disk under a fuse, of whose own so many calls failed
+abbrev pub fused : DiskState → ℕ → DiskState
+fused s failures = record {
+  size = s.size;
+  honest = s.honest;
+  failures = min (s.failures + failures) (2 ^ 64 - 1);
+  contents = s.contents;
+  is_open = s.is_open;
+  clock = s.clock;
+  left_since = s.left_since;
+}

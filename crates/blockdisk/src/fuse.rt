@@ -1,0 +1,160 @@
+ghost use Rattle.std.specs.Prelude.{◌≡◌, ◌<◌, Some, None, Result, IsErrOf, OnOk, OnErr, true, false};
+ghost use Rattle.blockdisk.specs.Calls.{IsRead, IsWrite, IsSync};
+ghost use Rattle.blockdisk.specs.Disk.{one_more};
+ghost use Rattle.blockdisk.specs.Fuse.{is_blown, burnt, fused};
+ghost use Rattle.blockdisk.specs.declared.fault.Fault.TheVariants.{Device, Damaged};
+
+use crate::{Disk, Fault};
+use words36::Block;
+
+/// Which calls fail once the fuse of a disk is blown.
+#[derive(Clone, Copy)]
+pub enum Fail {
+    /// The next one alone.
+    One,
+    /// The next one and all after it.
+    All,
+}
+
+/// A disk that fails on purpose. So many calls pass, and then one call or every call answers `Device`:
+/// a read, a write and a sync count as one each.
+///
+/// A write that fails is made all the same; a read or a sync that fails never reaches the disk under it.
+#[derive(Drop)]
+pub struct FuseDisk<D: Disk> {
+    inner: D,
+    left: Option<u64>,
+    fail: Fail,
+    failures: u64,
+}
+
+impl<D: Disk> FuseDisk<D> {
+    ghost use Rattle.blockdisk.specs.Fused.{own_failures};
+
+    /// The same disk behind a fuse that lets so many calls pass.
+    pub fn new(disk: D, passing: u64, fail: Fail) -> Self
+        ensures inner { result.inner ≡ disk }
+        ensures left { result.left ≡ Some passing }
+        ensures fail { result.fail ≡ fail }
+        ensures failures { result.failures ≡ 0 }
+    {
+        FuseDisk {
+            inner: disk,
+            left: Some(passing),
+            fail,
+            failures: 0,
+        }
+    }
+
+    /// The disk under it, as it is.
+    pub fn into_inner(self) -> D
+        ensures { result ≡ self.inner }
+    {
+        self.inner
+    }
+
+    /// Counts a call, and says whether it fails.
+    fn blows(&mut self) -> bool
+        ensures blows { result ≡ is_blown self.old.left }
+        ensures burnt { self.new ≡ record self.old { left = burnt self.old.fail self.old.left } }
+    {
+        match self.left {
+            None => false,
+            Some(0) => {
+                self.left = match self.fail {
+                    Fail::One => None,
+                    Fail::All => Some(0),
+                };
+                true
+            }
+            Some(passing) => {
+                self.left = Some(passing - 1);
+                false
+            }
+        }
+    }
+
+    /// Counts a failure that is the fuse's alone.
+    fn count_failure(&mut self)
+        ensures { self.new ≡ record self.old { failures = one_more self.old.failures } }
+    {
+        self.failures = self.failures.saturating_add(1);
+    }
+
+    /// Makes a write that fails all the same. Where the disk under the fuse fails, too, that is one failure
+    /// and in its count.
+    fn write_anyway(&mut self, n: u32, block: &Block) -> Result<(), Fault>
+        requires { n < (D.state self.old.inner).size }
+        ensures writes { IsWrite n block.now (D.state self.old.inner) (D.state self.new.inner) result }
+        ensures counts { self.new ≡ record self.old {
+          inner = self.new.inner;
+          failures = own_failures result self.old.failures;
+        } }
+    {
+        self.inner.write(n, block)?;
+        self.count_failure();
+        Ok(())
+    }
+}
+
+impl<D: Disk> Disk for FuseDisk<D> {
+    ghost use Rattle.blockdisk.specs.Fused.{passed, refused, IsMadeAnyway};
+
+    ghost state = { λ disk. fused (D.state disk.inner) disk.failures };
+
+    ghost counts_now = { λ disk t c h le left. D.counts_now disk.inner t c h le left };
+
+    ghost only_now = { λ disk c h left. D.only_now disk.inner c h left };
+
+    ghost reaches_back = { λ disk t u c h le left. D.reaches_back disk.inner t u c h le left };
+
+    fn blocks(&self) -> u32 {
+        self.inner.blocks()
+    }
+
+    fn read(&mut self, n: u32) -> Result<Block, Fault>
+        requires { n < (D.state self.old.inner).size }
+        ensures blown { is_blown self.old.left ≡ true → IsErrOf result Device × (self.new ≡ refused self.old) }
+        ensures passed { is_blown self.old.left ≡ false
+            → IsRead n (D.state self.old.inner) (D.state self.new.inner) result × (self.new ≡ passed self.old self.new.inner) }
+        ensures reads { IsRead n (fused (D.state self.old.inner) self.old.failures)
+            (fused (D.state self.new.inner) self.new.failures) result }
+    {
+        if self.blows() {
+            self.count_failure();
+            return Err(Fault::Device);
+        }
+        self.inner.read(n)
+    }
+
+    fn write(&mut self, n: u32, block: &Block) -> Result<(), Fault>
+        requires { n < (D.state self.old.inner).size }
+        ensures blown { is_blown self.old.left ≡ true → IsErrOf result Device × IsMadeAnyway
+            (IsWrite n block.now (D.state self.old.inner) (D.state self.new.inner)) self.old self.new }
+        ensures passed { is_blown self.old.left ≡ false
+            → IsWrite n block.now (D.state self.old.inner) (D.state self.new.inner) result
+            × (self.new ≡ passed self.old self.new.inner) }
+        ensures writes { IsWrite n block.now (fused (D.state self.old.inner) self.old.failures)
+            (fused (D.state self.new.inner) self.new.failures) result }
+    {
+        if self.blows() {
+            let _made = self.write_anyway(n, block);
+            return Err(Fault::Device);
+        }
+        self.inner.write(n, block)
+    }
+
+    fn sync(&mut self) -> Result<(), Fault>
+        ensures blown { is_blown self.old.left ≡ true → IsErrOf result Device × (self.new ≡ refused self.old) }
+        ensures passed { is_blown self.old.left ≡ false
+            → IsSync (D.state self.old.inner) (D.state self.new.inner) result × (self.new ≡ passed self.old self.new.inner) }
+        ensures syncs { IsSync (fused (D.state self.old.inner) self.old.failures)
+            (fused (D.state self.new.inner) self.new.failures) result }
+    {
+        if self.blows() {
+            self.count_failure();
+            return Err(Fault::Device);
+        }
+        self.inner.sync()
+    }
+}

@@ -1,0 +1,68 @@
+use blockdisk::{Disk, Fault, MemDisk, NoMemory};
+use std::alloc::Global;
+use std::process::Abort;
+use words36::{BLOCK_WORDS, Block, Word};
+
+/// A call of a disk. A block that is written is filled with one number.
+#[derive(Clone, Copy)]
+pub(crate) enum Asked {
+    Read(u32),
+    Write(u32, u64),
+    Sync,
+}
+
+/// What it answers: the number that fills the block that was read, and 0 for a write or a sync.
+pub(crate) type Answer = Result<u64, Fault>;
+
+/// A block whose words are all this number.
+fn filled(number: u64) -> Block {
+    match Word::new(number) {
+        Some(word) => [word; BLOCK_WORDS],
+        None => [Word::ZERO; BLOCK_WORDS],
+    }
+}
+
+/// A disk in memory: block 20 is filled with 20, block 21 with 21, block 19 is damaged, and the others are zeros.
+pub(crate) fn disk(rt: &impl Abort, alloc: Global) -> Result<MemDisk, NoMemory> {
+    let mut disk = MemDisk::new(alloc, 22, 16)?;
+    for n in [20, 21] {
+        assert!(rt; n < disk.blocks());
+        disk.load(n, &filled(u64::from(n)));
+    }
+    assert!(rt; 19 < disk.blocks());
+    disk.damage(19);
+    Ok(disk)
+}
+
+/// A read of a block is answered so.
+fn expect_read<D: Disk>(rt: &impl Abort, disk: &mut D, n: u32, wanted: Answer) {
+    assert!(rt; n < disk.blocks());
+    match (disk.read(n), wanted) {
+        (Ok(block), Ok(number)) => assert!(rt; block == filled(number)),
+        (Err(fault), Err(other)) => assert_eq!(rt; fault, other),
+        _ => panic!(rt; "another answer"),
+    }
+}
+
+/// A write or a sync was answered so.
+fn expect_done(rt: &impl Abort, answered: Result<(), Fault>, wanted: Answer) {
+    match (answered, wanted) {
+        (Ok(()), Ok(_)) => {}
+        (Err(fault), Err(other)) => assert_eq!(rt; fault, other),
+        _ => panic!(rt; "another answer"),
+    }
+}
+
+/// These calls of a disk, one after the other, are answered so.
+pub(crate) fn expect_calls<D: Disk>(rt: &impl Abort, disk: &mut D, calls: &[(Asked, Answer)]) {
+    for &(asked, wanted) in calls {
+        match asked {
+            Asked::Read(n) => expect_read(rt, disk, n, wanted),
+            Asked::Write(n, number) => {
+                assert!(rt; n < disk.blocks());
+                expect_done(rt, disk.write(n, &filled(number)), wanted);
+            }
+            Asked::Sync => expect_done(rt, disk.sync(), wanted),
+        }
+    }
+}
