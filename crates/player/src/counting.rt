@@ -55,13 +55,6 @@ impl<D: Disk> CountingDisk<D> {
     {
         self.calls
     }
-
-    /// The disk below.
-    pub fn into_inner(self) -> D
-        ensures { result ≡ self.inner }
-    {
-        self.inner
-    }
 }
 
 impl<D: Disk> Disk for CountingDisk<D> {

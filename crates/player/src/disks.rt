@@ -4,10 +4,15 @@ use crate::fields::{decimal, decimal_or, octal, octal_or_zero};
 use crate::row::{Row, step, without_remark};
 use crate::steps::play_steps;
 use anyhow::{Result, ensure};
+use blockcache::Cached;
 use blockdisk::{Disk, MemDisk};
 use commands::{Monitor, StartError, Volume};
 use std::alloc::Global;
-use words36::{BLOCK_WORDS, Block, Word};
+use std::num::NonZeroUsize;
+use words36::{BLOCK_WORDS, Block, Moment, Word};
+
+/// How many blocks the largest cache keeps.
+const MOST_KEPT: usize = 256;
 
 /// How many writes and syncs a disk takes where a row doesn't say it.
 const CALLS: u32 = 4000;
@@ -222,8 +227,14 @@ fn expect_left(
     Ok(())
 }
 
-/// Prints what the disk was asked for, for each line that asks for it.
-fn print_costs(rt: &impl Print, calls: Calls, desk: &Desk, lines: &[String]) -> Result<()> {
+/// Prints what the disk was asked for, for each line that asks for it: without a cache, and with the largest.
+fn print_costs(
+    rt: &impl Print,
+    calls: Calls,
+    desk: &Desk,
+    kept: usize,
+    lines: &[String],
+) -> Result<()> {
     let Calls {
         reads,
         writes,
@@ -232,22 +243,68 @@ fn print_costs(rt: &impl Print, calls: Calls, desk: &Desk, lines: &[String]) -> 
     for line in lines {
         let line = without_remark(step(line, desk.alternative));
         if let Some(label) = line.strip_prefix("COST ") {
-            println!(rt; "  {label}: {reads} read, {writes} written, {syncs} syncs")?;
+            match kept {
+                0 => println!(rt; "  {label}: {reads} read, {writes} written, {syncs} syncs")?,
+                MOST_KEPT => println!(rt; "  {label}, {kept} blocks kept: {reads} read")?,
+                _ => {}
+            }
         }
     }
     Ok(())
 }
 
-/// Plays a row with one of its alternatives.
-pub fn play_once(rt: &impl Print, alloc: Global, row: &Row, alternative: usize) -> Result<u64> {
-    let mut disk = disk_of(alloc, row, alternative)?;
-    let mut desk = Desk::new(alloc, alternative)?;
+/// Plays the lines of a row from one start to the next over a disk, of which so many blocks are kept in memory.
+fn play_kept(
+    rt: &impl Print,
+    desk: &mut Desk,
+    disk: CountingDisk<MemDisk>,
+    kept: usize,
+    lines: &[String],
+) -> Result<CountingDisk<MemDisk>> {
+    let Some(capacity) = NonZeroUsize::new(kept) else {
+        return play_over(rt, desk, disk, lines);
+    };
+    match Cached::new(desk.alloc, disk, capacity) {
+        Ok(cached) => Ok(play_over(rt, desk, cached, lines)?.into_inner()),
+        Err((error, _disk)) => Err(error.into()),
+    }
+}
+
+/// Plays a row with one of its alternatives over a disk of which so many blocks are kept in memory; gives the disk that is
+/// left.
+fn play_row(rt: &impl Print, desk: &mut Desk, row: &Row, kept: usize) -> Result<MemDisk> {
+    let mut disk = disk_of(desk.alloc, row, desk.alternative)?;
+    desk.moment = Moment::new(0, 0)?;
     for lines in row.lines().split(|line| line.as_str() == "RESTART") {
         forget_record(&mut disk);
-        let counted = play_over(rt, &mut desk, CountingDisk::new(disk), lines)?;
-        print_costs(rt, counted.calls(), &desk, lines)?;
+        let counted = play_kept(rt, desk, CountingDisk::new(disk), kept, lines)?;
+        print_costs(rt, counted.calls(), desk, kept, lines)?;
         disk = counted.into_inner();
-        expect_left(rt, &mut disk, &mut desk, lines)?;
+        expect_left(rt, &mut disk, desk, lines)?;
+    }
+    Ok(disk)
+}
+
+/// How many blocks of two disks are not the same.
+fn different_blocks(one: &mut MemDisk, other: &mut MemDisk) -> u32 {
+    let mut count = 0u32;
+    for n in 0..one.blocks().min(other.blocks()) {
+        if one.read(n) != other.read(n) {
+            count = count.saturating_add(1);
+        }
+    }
+    count
+}
+
+/// Plays a row with one of its alternatives, without a cache and with caches of one, two and 256 blocks; the same has to be
+/// left of the disk.
+pub fn play_once(rt: &impl Print, alloc: Global, row: &Row, alternative: usize) -> Result<u64> {
+    let mut desk = Desk::new(alloc, alternative)?;
+    let mut plain = play_row(rt, &mut desk, row, 0)?;
+    for kept in [1, 2, MOST_KEPT] {
+        let mut disk = play_row(rt, &mut desk, row, kept)?;
+        let found = format!(in alloc; "{}", different_blocks(&mut plain, &mut disk))?;
+        desk.expect(rt, "a cache", "0", found.as_str())?;
     }
     Ok(desk.mistakes)
 }
