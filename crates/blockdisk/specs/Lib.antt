@@ -1,5 +1,6 @@
 pub mod Calls
 pub mod Copies
+pub mod Crashing
 pub mod Disk
 pub mod Fuse
 pub mod Fused

@@ -6,9 +6,11 @@ mod disk;
 mod fault;
 mod fuse;
 mod memory;
+mod pick;
 
 pub use copies::{write_copies, write_through};
 pub use disk::Disk;
 pub use fault::{Fault, NoMemory};
 pub use fuse::{Fail, FuseDisk};
 pub use memory::{DiskCall, MemDisk};
+pub use pick::Pick;

@@ -1,12 +1,13 @@
-ghost use Rattle.std.specs.Prelude.{◌≡◌, ◌<◌, ◌≤◌, ◌+◌, ℕ, Some, None, IfOk, IfErr, OnOk, OnErr, IsErrOf, length};
-ghost use Rattle.std.specs.Prelude.{replicate};
+ghost use Rattle.std.specs.Prelude.{◌≡◌, ◌<◌, ◌≤◌, ◌+◌, ◌^◌, ℕ, Some, None, IfOk, IfErr, OnOk, OnErr, IsErrOf, length};
+ghost use Rattle.std.specs.Prelude.{replicate, if◌then◌else◌};
 ghost use Rattle.std.proofs.Common.{inr};
 ghost use Rattle.blockdisk.specs.declared.fault.Fault.TheVariants.{Device, Damaged};
 ghost use Rattle.blockdisk.specs.Disk.{Writes, Syncs};
+ghost use Rattle.blockdisk.specs.Crashing.{at_sync, left_in, picked};
 ghost use Rattle.blockdisk.specs.Memory.{held, memory_state, written, write_refused, synced, sync_refused};
 ghost use Rattle.blockdisk.specs.MemoryLaws.{only_now, reaches_back};
 
-use crate::{Disk, Fault, NoMemory};
+use crate::{Disk, Fault, NoMemory, Pick};
 use std::alloc::{AllocError, Global};
 use std::marker::Model;
 use words36::{BLOCK_WORDS, Block, Word};
@@ -62,7 +63,9 @@ impl Model for MemDisk {
 
 impl MemDisk {
     ghost use Rattle.std.specs.Prelude.{◌≡◌, ◌<◌, Some, None, IfOk, length};
+    ghost use Rattle.blockdisk.specs.Disk.{MayLeave};
     ghost use Rattle.blockdisk.specs.Memory.{zeroed, loaded, begun_anew};
+    ghost use Rattle.blockdisk.specs.Crashing.{left_of};
 
     /// A disk of so many blocks of zeros, with room to record so many writes and syncs.
     ///
@@ -106,6 +109,27 @@ impl MemDisk {
         self.first[n as usize] = None;
     }
 
+    /// Leaves of the open blocks what is picked, as a crash at this moment may, and the closed ones as they are. Nothing
+    /// is recorded then, and no block is open.
+    pub fn crash(&mut self, pick: Pick)
+        ensures left { (n : ℕ) → n < length self.old.blocks → held self.new.blocks n ≡ left_of pick self.old n }
+        ensures allowed { MayLeave (memory_state self.old) (held self.new.blocks) }
+        ensures begun { self.new ≡ begun_anew (record self.old { blocks = self.new.blocks }) }
+        ensures size { length self.new.blocks ≡ length self.old.blocks }
+    {
+        crash_blocks(
+            &mut self.blocks,
+            &self.first,
+            &self.calls,
+            &self.opened,
+            pick,
+        );
+        copy_blocks(&self.blocks, &mut self.first);
+        self.calls.clear();
+        self.opened.fill(false);
+        self.none_open = true;
+    }
+
     /// Takes the blocks as they are for what they were from the beginning.
     fn forget_calls(&mut self)
         ensures { self.new ≡ begun_anew self.old }
@@ -118,6 +142,61 @@ impl MemDisk {
             self.opened.fill(false);
             self.none_open = true;
         }
+    }
+}
+
+/// What a block held at the last sync of these calls, where it held this before the first of them.
+fn at_sync(first: Option<Block>, calls: &[DiskCall], n: u32) -> Option<Block>
+    ensures { result ≡ at_sync n first first calls.now }
+{
+    let mut old = first;
+    let mut now = first;
+    for call in calls {
+        match call {
+            DiskCall::Write(place, block) if *place == n => now = Some(*block),
+            DiskCall::Write(_, _) => {}
+            DiskCall::Sync => old = now,
+        }
+    }
+    old
+}
+
+/// What is left of block n, which held the one before these calls, and holds the other now.
+fn if_open(
+    is_open: bool,
+    pick: Pick,
+    calls: &[DiskCall],
+    n: u32,
+    first: Option<Block>,
+    now: Option<Block>,
+) -> Option<Block>
+    ensures { result ≡ if is_open then picked pick (at_sync n first first calls.now) now else now }
+{
+    if is_open {
+        pick.of(at_sync(first, calls, n), now)
+    } else {
+        now
+    }
+}
+
+/// Leaves of each open block what is picked.
+fn crash_blocks(
+    blocks: &mut Vec<Option<Block>>,
+    first: &Vec<Option<Block>>,
+    calls: &Vec<DiskCall>,
+    opened: &Vec<bool>,
+    pick: Pick,
+)
+    requires firsts { length first.now.items ≡ length blocks.old.items }
+    requires flags { length opened.now.items ≡ length blocks.old.items }
+    requires few { length blocks.old.items < 2 ^ 32 }
+    ensures left { (n : ℕ) → n < length blocks.old.items → held blocks.new.items n
+        ≡ left_in pick blocks.old.items first.now.items calls.now.items opened.now.items n }
+    ensures size { length blocks.new.items ≡ length blocks.old.items }
+{
+    for n in 0..blocks.len() {
+        let left = if_open(opened[n], pick, calls, n as u32, first[n], blocks[n]);
+        blocks[n] = left;
     }
 }
 
