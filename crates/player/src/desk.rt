@@ -18,6 +18,8 @@ pub struct Desk {
     pub wanted: String,
     /// How many lines came out otherwise.
     pub mistakes: u64,
+    /// Whether they are counted and not printed.
+    is_silent: bool,
 }
 
 impl Desk {
@@ -30,7 +32,15 @@ impl Desk {
             asked: String::new(alloc),
             wanted: String::new(alloc),
             mistakes: 0,
+            is_silent: false,
         })
+    }
+
+    /// The same where nothing is printed.
+    pub fn silent(alloc: Global, alternative: usize) -> Result<Desk> {
+        let mut desk = Desk::new(alloc, alternative)?;
+        desk.is_silent = true;
+        Ok(desk)
     }
 
     /// A line of a session.
@@ -55,6 +65,9 @@ impl Desk {
             return Ok(());
         }
         self.mistakes = self.mistakes.saturating_add(1);
+        if self.is_silent {
+            return Ok(());
+        }
         let alternative = self.alternative;
         println!(rt; "? {line}: {found} in place of {wanted} (alternative {alternative})")
     }

@@ -127,7 +127,7 @@ fn prepare(alloc: Global, disk: &mut MemDisk, fields: &[&str]) -> Result<()> {
 }
 
 /// The disk that a row begins with.
-fn disk_of(alloc: Global, row: &Row, alternative: usize) -> Result<MemDisk> {
+pub fn disk_of(alloc: Global, row: &Row, alternative: usize) -> Result<MemDisk> {
     let mut disk = MemDisk::new(alloc, 0, 0)?;
     for line in row.lines() {
         let fields: Vec<&str> = without_remark(step(line, alternative))
@@ -140,12 +140,12 @@ fn disk_of(alloc: Global, row: &Row, alternative: usize) -> Result<MemDisk> {
 
 /// A monitor over a disk, or why that is refused. What `start` promises stays behind this function: the proofs of its
 /// callers are short without it.
-fn start_over<D: Disk>(alloc: Global, disk: D) -> Result<Monitor<D>, (StartError, D)> {
+pub fn start_over<D: Disk>(alloc: Global, disk: D) -> Result<Monitor<D>, (StartError, D)> {
     Monitor::start(alloc, disk)
 }
 
 /// Plays the lines of a row from one start to the next, over a disk; gives the disk back.
-fn play_over<D: Disk + Drop>(
+pub fn play_over<D: Disk + Drop>(
     rt: &impl Print,
     desk: &mut Desk,
     disk: D,
@@ -180,7 +180,7 @@ fn expect_refusal(rt: &impl Print, desk: &mut Desk, found: &str, lines: &[String
 }
 
 /// Empties the record of a disk: what is there now was there from the beginning.
-fn forget_record(disk: &mut MemDisk) {
+pub fn forget_record(disk: &mut MemDisk) {
     if disk.blocks() > 0
         && let Ok(words) = disk.read(0)
     {

@@ -9,11 +9,13 @@ mod disks;
 mod fields;
 mod row;
 mod steps;
+mod stops;
 
 use anyhow::Result;
 use row::Row;
 use std::alloc::Global;
 use std::mem;
+use stops::{Stops, play_stops};
 
 /// Plays each row of the input, and prints what comes out otherwise; gives how many lines did.
 pub fn play_all(rt: &(impl Print + Input), alloc: Global) -> Result<u64> {
@@ -22,7 +24,7 @@ pub fn play_all(rt: &(impl Print + Input), alloc: Global) -> Result<u64> {
     let mut mistakes = 0u64;
     for line in rt.lines(alloc) {
         let line = line?;
-        if line.starts_with("ROW ") || line.starts_with("PART ") {
+        if line.starts_with("ROW ") || line.starts_with("STOPS ") || line.starts_with("PART ") {
             let begun = mem::replace(&mut row, Row::titled(alloc, &line)?);
             mistakes = mistakes.saturating_add(play(rt, alloc, &begun)?);
             parts.push(begun)?;
@@ -37,6 +39,9 @@ pub fn play_all(rt: &(impl Print + Input), alloc: Global) -> Result<u64> {
 
 /// Plays a row with each of its alternatives, and prints its title. A part is played in rows alone.
 fn play(rt: &impl Print, alloc: Global, row: &Row) -> Result<u64> {
+    if let Some(title) = row.title().strip_prefix("STOPS ") {
+        return play_stopped(rt, alloc, row, title);
+    }
     let Some(title) = row.title().strip_prefix("ROW ") else {
         return Ok(0);
     };
@@ -48,6 +53,16 @@ fn play(rt: &impl Print, alloc: Global, row: &Row) -> Result<u64> {
     match mistakes {
         0 => println!(rt; "{title}: {times} played")?,
         _ => println!(rt; "{title}: {mistakes} lines came out otherwise")?,
+    }
+    Ok(mistakes)
+}
+
+/// Plays a row that is stopped at each call of its disk, and prints its title.
+fn play_stopped(rt: &impl Print, alloc: Global, row: &Row, title: &str) -> Result<u64> {
+    let Stops { starts, mistakes } = play_stops(rt, alloc, row)?;
+    match mistakes {
+        0 => println!(rt; "{title}: started {starts} times, as before or after")?,
+        _ => println!(rt; "{title}: {mistakes} of {starts} starts came out otherwise")?,
     }
     Ok(mistakes)
 }
