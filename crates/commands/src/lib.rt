@@ -35,6 +35,7 @@ mod asking;
 mod changing;
 mod concluding;
 mod copying;
+mod errands;
 mod error;
 #[cfg(test)]
 mod fake;
@@ -43,23 +44,28 @@ mod fault_tests;
 mod fields;
 mod grammar;
 mod input;
+mod input_words;
 mod language;
 mod laws;
 mod makdir;
 mod monitored;
+mod names;
 mod obeying;
 #[cfg(test)]
 mod order_tests;
 mod orders;
+mod putting;
 mod reading;
 mod requests;
 mod restart;
+mod ring_requests;
 mod run;
 #[cfg(test)]
 mod script_tests;
 mod service;
 mod specs;
 mod stream;
+mod survey;
 #[cfg(test)]
 mod tests;
 mod text;
@@ -69,7 +75,9 @@ pub use answer::Tally;
 pub use error::SessionError;
 pub use laws::{lines_have_one_meaning, orders_have_one_reading, served_texts_are_functions};
 pub use monitor::{Monitor, StartError};
-pub use monitored::{script, session};
+pub use meaning::Encoding;
+pub use names::{file_named, owner_named};
+pub use monitored::{check, get, list, put, script, session};
 pub use restart::start_after_acts;
 pub use text::refusal;
 pub use volume::Volume;

@@ -12,6 +12,9 @@
 //!    files, and does nothing else.
 //! 6. No file with the number of a standard stream is taken for an image. (`open_file`)
 //!
+//! 7. Whatever is done on an image is done by one function, `serve`: it starts a service on the image's disk, or says why
+//!    there is none, and hands the disk back. (`served`)
+//!
 //! What an image stands for, and what a line does, is not known here.
 #![tactic(auto)]
 
@@ -31,6 +34,7 @@ mod serving;
 mod status;
 mod streams;
 mod table;
+mod task;
 #[cfg(test)]
 mod tests;
 
@@ -42,6 +46,7 @@ pub use program::work;
 pub use reading::request;
 pub use refusal::Refusal;
 pub use status::Status;
+pub use task::{NamedFile, Task};
 use std::env;
 use std::io::{self, ErrorKind};
 use std::process::ExitCode;

@@ -10,7 +10,7 @@ ghost use Rattle.filser.specs.declared.status.Status.TheVariants.{Done, BadArgum
 use crate::fault::report;
 use crate::image::{Image, open_file, tell_failure};
 use crate::lines::LineReader;
-use crate::serving::{say, serve_calls_in_file, serve_file, serve_fresh};
+use crate::serving::{say, serve_file, serve_fresh};
 use crate::streams::stream_at;
 use crate::{ImageFault, MissingStreams, Request, RequestError, Status, make_image, request};
 use clap::Error;
@@ -19,7 +19,6 @@ use std::alloc::Global;
 use std::fs::File;
 use std::io::{Read, Write};
 use std::rt::Files;
-use words36::Moment;
 
 /// A whole run of the program: reads the words, the first of which is its name, does what they ask for over
 /// the files of the host, and answers the exit status, 0 to 4. Texts go to `writer`. To `errors` go those on wrong
@@ -117,30 +116,14 @@ fn perform<F: Files<File = File>, R: Read, W: Write, E: Write>(
     ensures { result ≢ BadArguments }
 {
     match asked {
-        Request::Fresh => serve_fresh(alloc, moment(0, 0), reader, writer),
+        Request::Fresh => serve_fresh(alloc, reader, writer),
         Request::Init(path, blocks) => match make_image(files, path, blocks, errors) {
             Ok(()) => Status::Done,
             Err(fault) => refuse_image(fault, path, writer, errors),
         },
-        Request::Run(path, date, minute) => match open_file(files, path, errors) {
+        Request::Work(path, task) => match open_file(files, path, errors) {
             Ok(file) => {
-                let at = moment(date, minute);
-                let served = serve_file(alloc, file, Supposition::any(), at, reader, writer);
-                conclude(served, path, writer, errors)
-            }
-            Err(fault) => refuse_image(fault, path, writer, errors),
-        },
-        Request::Calls(path, date, minute) => match open_file(files, path, errors) {
-            Ok(file) => {
-                let at = moment(date, minute);
-                let served = serve_calls_in_file(
-                    alloc,
-                    file,
-                    Supposition::any(),
-                    at,
-                    reader,
-                    writer,
-                );
+                let served = serve_file(alloc, file, Supposition::any(), task, reader, writer);
                 conclude(served, path, writer, errors)
             }
             Err(fault) => refuse_image(fault, path, writer, errors),
@@ -191,16 +174,6 @@ fn refuse_image<W: Write, E: Write>(
         return fault.refusal.status();
     }
     say(writer, fault.refusal)
-}
-
-/// A moment of numbers that are in range.
-fn moment(date: u32, minute: u32) -> Moment
-    requires date { date ≤ 32767 }
-    requires minute { minute ≤ 1439 }
-    ensures date { result.date ≡ date }
-    ensures minute { result.minute ≡ minute }
-{
-    Moment::new(date, minute).unwrap()
 }
 
 /// Says why the words ask for nothing that is done.

@@ -1,12 +1,12 @@
 //! The command line as a value of `clap`'s. A subcommand is a function here, and a line of
 //! `with_subcommands`.
 ghost use Rattle.std.specs.Prelude.{◌≡◌, IfOk, codes, false};
-ghost use Rattle.clap.specs.Words.{app_of, rule_of, with_rule, with_subcommand};
+ghost use Rattle.clap.specs.Words.{app_of, new_rule, rule_of, with_rule, with_subcommand};
 ghost use Rattle.clap.specs.declared.builder.command.Command.TheViews.{out-Command as fields_of};
-ghost use Rattle.filser.specs.CommandLine.{calls_app, command_line, dated, init_app, numbered, optional, run_app};
-ghost use Rattle.filser.specs.CommandLine.{served, versioned, wanted};
+ghost use Rattle.filser.specs.CommandLine.{calls_app, check_app, command_line, dated, filed, flag, get_app, init_app};
+ghost use Rattle.filser.specs.CommandLine.{list_app, numbered, optional, put_app, run_app, served, versioned, wanted};
 
-use clap::{Arg, Command};
+use clap::{Arg, ArgAction, Command};
 use std::alloc::{AllocError, Global};
 
 /// What `--version` shows behind the name.
@@ -17,13 +17,13 @@ const NOTES: &str = "\
 Without a command the input is served as by run, on a fresh volume of 64
 blocks in memory, at date 0 and minute 0. It is gone at the end.
 
-Options of run and calls:
+Options of run, calls, put and get:
   --date N    the date of what is written, 0 to 32767 [default: 0]
   --minute N  its minute of the day, 0 to 1439 [default: 0]
 
 Exit status:
   0  all was done
-  1  a line of the input was refused
+  1  a line of the input was refused, or what was asked
   2  the arguments were wrong
   3  the image was refused, or its start found no memory
   4  the device, the input or the output failed, another process has the
@@ -31,7 +31,10 @@ Exit status:
 
 Example:
   filser init DISK.IMG 4096
-  printf 'LOGIN [10,20]\\nDIRECTORY\\n' | filser run DISK.IMG
+  printf 'LOGIN [10,20]\\nMAKDIR [10,20]\\n' | filser run DISK.IMG
+  filser put DISK.IMG 10,20 FOO.TXT < foo.txt
+  filser list DISK.IMG
+  filser get DISK.IMG 10,20 FOO.TXT > foo.txt
 
 Each run pays for one start, which reads the whole image's files, so one run
 over many lines beats many runs. One process serves an image at a time: it
@@ -116,6 +119,14 @@ fn dated<'a>(alloc: Global, command: Command<'a>) -> Result<Command<'a>, AllocEr
     with_argument(command, minute(alloc))
 }
 
+/// A command with one more example of its use below its help.
+fn shown<'a>(command: Command<'a>, example: &'a str) -> Command<'a>
+    ensures app { app_of result ≡ app_of command.entry }
+    ensures local { (fields_of result).has_globals ≡ (fields_of command.entry).has_globals }
+{
+    command.after_help(example)
+}
+
 #[tactic(auto, unfolding(crate::specs::CommandLine::init_app))]
 fn init_command<'a>(alloc: Global) -> Result<Command<'a>, AllocError>
     ensures app { IfOk result (λ c. app_of c ≡ init_app) }
@@ -125,6 +136,7 @@ fn init_command<'a>(alloc: Global) -> Result<Command<'a>, AllocError>
         Command::new(alloc, "init"),
         "Make an image of a volume with no directory",
     );
+    let command = shown(command, "Example:\n  filser init DISK.IMG 4096");
     let command = with_argument(command, wanted(alloc, "IMAGE", "The file to make"))?;
     with_argument(command, blocks(alloc))
 }
@@ -137,6 +149,10 @@ fn run_command<'a>(alloc: Global) -> Result<Command<'a>, AllocError>
     let command = about(
         Command::new(alloc, "run"),
         "Serve the lines of the input on an image",
+    );
+    let command = shown(
+        command,
+        "Example:\n  printf 'LOGIN [10,20]\\nDIRECTORY\\n' | filser run DISK.IMG",
     );
     let command = with_argument(command, wanted(alloc, "IMAGE", "The image to serve"))?;
     dated(alloc, command)
@@ -151,8 +167,100 @@ fn calls_command<'a>(alloc: Global) -> Result<Command<'a>, AllocError>
         Command::new(alloc, "calls"),
         "Serve the calls that the lines of the input spell on an image",
     );
+    let command = shown(
+        command,
+        "Example:\n  printf '1 LOGIN 10,20 1000\\n1 EXA 121\\n' | filser calls DISK.IMG",
+    );
     let command = with_argument(command, wanted(alloc, "IMAGE", "The image to serve"))?;
     dated(alloc, command)
+}
+
+/// An option that says nothing but that it is there.
+fn words<'a>(alloc: Global) -> Arg<'a>
+    ensures rule { rule_of result ≡ flag (codes "words") }
+    ensures local { result.global ≡ false }
+{
+    Arg::new(alloc, "words")
+        .long("words")
+        .action(ArgAction::SetTrue)
+        .help("Any file, as words: eight bytes each, the most significant first")
+}
+
+/// A command with a file of a directory.
+#[tactic(auto, unfolding(crate::specs::CommandLine::filed))]
+fn filed<'a>(alloc: Global, command: Command<'a>) -> Result<Command<'a>, AllocError>
+    ensures app { IfOk result (λ c. app_of c ≡ filed (app_of command.entry)) }
+    ensures local { IfOk result (λ c. (fields_of c).has_globals ≡ (fields_of command.entry).has_globals) }
+{
+    let command = with_argument(command, wanted(alloc, "IMAGE", "The image to work on"))?;
+    let owner = wanted(alloc, "PPN", "Whose directory, in octal, as 10,20");
+    let command = with_argument(command, owner)?;
+    let command = with_argument(command, wanted(alloc, "NAME", "The file, as FOO.TXT"))?;
+    with_argument(command, words(alloc))
+}
+
+#[tactic(auto, unfolding(crate::specs::CommandLine::put_app))]
+fn put_command<'a>(alloc: Global) -> Result<Command<'a>, AllocError>
+    ensures app { IfOk result (λ c. app_of c ≡ put_app) }
+    ensures local { IfOk result (λ c. (fields_of c).has_globals ≡ false) }
+{
+    let command = about(
+        Command::new(alloc, "put"),
+        "Make a file of the input, in the place of one that is there",
+    );
+    let command = shown(
+        command,
+        "Example:\n  filser put DISK.IMG 10,20 FOO.TXT < foo.txt",
+    );
+    dated(alloc, filed(alloc, command)?)
+}
+
+#[tactic(auto, unfolding(crate::specs::CommandLine::get_app))]
+fn get_command<'a>(alloc: Global) -> Result<Command<'a>, AllocError>
+    ensures app { IfOk result (λ c. app_of c ≡ get_app) }
+    ensures local { IfOk result (λ c. (fields_of c).has_globals ≡ false) }
+{
+    let command = about(Command::new(alloc, "get"), "Print a file");
+    let command = shown(
+        command,
+        "Example:\n  filser get DISK.IMG 10,20 FOO.TXT > foo.txt",
+    );
+    dated(alloc, filed(alloc, command)?)
+}
+
+#[tactic(auto, unfolding(crate::specs::CommandLine::list_app))]
+fn list_command<'a>(alloc: Global) -> Result<Command<'a>, AllocError>
+    ensures app { IfOk result (λ c. app_of c ≡ list_app) }
+    ensures local { IfOk result (λ c. (fields_of c).has_globals ≡ false) }
+{
+    let command = about(
+        Command::new(alloc, "list"),
+        "Print the list of a directory, or of all that there are",
+    );
+    let command = shown(command, "Example:\n  filser list DISK.IMG 10,20");
+    let command = with_argument(command, wanted(alloc, "IMAGE", "The image to look at"))?;
+    with_argument(command, place(alloc))
+}
+
+/// A directory that may be left out.
+fn place<'a>(alloc: Global) -> Arg<'a>
+    ensures rule { rule_of result ≡ new_rule (codes "PPN") }
+    ensures local { result.global ≡ false }
+{
+    Arg::new(alloc, "PPN").help("Whose directory, in octal, as 10,20 [default: all]")
+}
+
+#[tactic(auto, unfolding(crate::specs::CommandLine::check_app))]
+fn check_command<'a>(alloc: Global) -> Result<Command<'a>, AllocError>
+    ensures app { IfOk result (λ c. app_of c ≡ check_app) }
+    ensures local { IfOk result (λ c. (fields_of c).has_globals ≡ false) }
+{
+    let command = about(
+        Command::new(alloc, "check"),
+        "End a change that was cut short, read the whole image, and say what it has",
+    );
+    let command = shown(command, "Example:\n  filser check DISK.IMG");
+    with_argument(command, wanted(alloc, "IMAGE", "The image to check"))
 }
 
 #[tactic(auto, unfolding(crate::specs::CommandLine::served))]
@@ -161,7 +269,11 @@ fn with_subcommands<'a>(alloc: Global, command: Command<'a>) -> Result<Command<'
 {
     let command = with_one(command, init_command(alloc)?)?;
     let command = with_one(command, run_command(alloc)?)?;
-    with_one(command, calls_command(alloc)?)
+    let command = with_one(command, calls_command(alloc)?)?;
+    let command = with_one(command, put_command(alloc)?)?;
+    let command = with_one(command, get_command(alloc)?)?;
+    let command = with_one(command, list_command(alloc)?)?;
+    with_one(command, check_command(alloc)?)
 }
 
 /// The program's name, with what help and version say of it.
