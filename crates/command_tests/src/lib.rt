@@ -8,6 +8,8 @@ mod changing_tests;
 #[cfg(test)]
 mod copy_tests;
 #[cfg(test)]
+mod put_tests;
+#[cfg(test)]
 mod ring_tests;
 #[cfg(test)]
 mod script_tests;

@@ -1,5 +1,5 @@
 -- From what `clap` matched to what is asked for.
-use Rattle.std.proofs.Common.{◌≡◌, ◌+◌, ◌*◌, ◌≤◌, ◌<◌, ◌^◌, ◌∙◌, sym, ap, subst, refl, List, ℕ, length, codes, Option, Some, None}
+use Rattle.std.proofs.Common.{◌≡◌, ◌+◌, ◌*◌, ◌≤◌, ◌<◌, ◌^◌, ◌∙◌, sym, ap, subst, refl, List, ℕ, length, map, codes, Option, Some, None}
 use Rattle.std.proofs.Common.{Err, arith, true, inl, inr}
 use Rattle.std.specs.Prelude.{[], slice_index, option_map, MatchOption, IsErrOf}
 use Rattle.std.specs.Str.Parse.{IsNumeral, digits_value, without_leading_plus}
@@ -12,8 +12,11 @@ use Rattle.clap.specs.declared.error.kind.ErrorKind.TheVariants.{OutOfMemory}
 use Rattle.clap.proofs.OnLiterals.{clap_on_literals}
 use Rattle.clap.proofs.WalkLemmas.{first_value-rows, one_text-rows}
 use Rattle.words36.specs.declared.moment.Moment.{Moment}
-use Rattle.filser.specs.CommandLine.{command_line, served, init_app, run_app, calls_app, put_app, get_app, list_app}
-use Rattle.filser.specs.CommandLine.{check_app, dated, filed}
+use Rattle.meaning.specs.Lines.{upper}
+use Rattle.meaning.specs.Spellings.{IsPair}
+use Rattle.commands.specs.Files.{IsFileName}
+use Rattle.filser.specs.CommandLine.{command_line, serving, filing, looking, init_app, run_app, calls_app, put_app}
+use Rattle.filser.specs.CommandLine.{get_app, list_app, check_app, dated, filed}
 use Rattle.filser.specs.Requests.{Asks, IsAsked, IsTask, IsAt, IsNamed, IsPlace, HasText, HasNumber, Spells, task_name}
 use Rattle.filser.specs.declared.task.NamedFile.{NamedFile}
 use Rattle.filser.specs.declared.task.Task.{Task}
@@ -26,11 +29,11 @@ use Rattle.filser.specs.declared.asked.Request.TheVariants.{Fresh, Init, Work}
 -- The command line is one of those whose matches `clap` computes.
 
 pub line-simple : is_simple command_line ≡ true
-unfolding clap_on_literals command_line served init_app dated filed run_app calls_app put_app get_app list_app check_app
+unfolding clap_on_literals command_line serving filing looking init_app dated filed run_app calls_app put_app get_app list_app check_app
 line-simple = refl
 
 pub line-free : is_simple_and_free command_line ≡ true
-unfolding clap_on_literals command_line served init_app dated filed run_app calls_app put_app get_app list_app check_app
+unfolding clap_on_literals command_line serving filing looking init_app dated filed run_app calls_app put_app get_app list_app check_app
 line-free = refl
 
 -- Texts and numbers.
@@ -100,6 +103,35 @@ out_of_range rows id least most m parsed outside n has =
     let above : least ≤ m = (let P : ℕ → Type 0 = λ k. least ≤ k in subst P same has.1) in
     let below : m ≤ most = (let P : ℕ → Type 0 = λ k. k ≤ most in subst P same has.2) in
     outside above below
+
+-- Arguments that name a file, a directory or a moment, and don't.
+
+pub no_owner : (rows : List Row) (text : Text) → HasText rows (codes "PPN") text
+    → ((owner : ℕ) → IsPair 6 text owner → ⊥) → (f : NamedFile) → IsNamed rows f → ⊥
+no_owner rows text has none f named =
+    let same = same_some named.owner.0 text (sym named.owner.1 ∙ has) in
+    none f.owner (subst (λ (t : Text). IsPair 6 t f.owner) same named.owner.2)
+
+pub no_name : (rows : List Row) (text : Text) → HasText rows (codes "NAME") text
+    → ((name ext : ℕ) → IsFileName (map upper text) name ext → ⊥) → (f : NamedFile) → IsNamed rows f → ⊥
+no_name rows text has none f named =
+    let same = same_some named.name.0 text (sym named.name.1 ∙ has) in
+    none f.name.name f.name.ext (subst (λ (t : Text). IsFileName (map upper t) f.name.name f.name.ext) same named.name.2)
+
+pub no_place : (rows : List Row) (text : Text) → HasText rows (codes "PPN") text
+    → ((owner : ℕ) → IsPair 6 text owner → ⊥) → (place : Option ℕ) → IsPlace rows place → ⊥
+no_place rows text has none None gone = some_is_none text (sym has ∙ gone)
+no_place rows text has none (Some owner) named =
+    let same = same_some named.0 text (sym named.1 ∙ has) in
+    none owner (subst (λ (t : Text). IsPair 6 t owner) same named.2)
+
+pub no_date : (rows : List Row) → ((n : ℕ) → HasNumber rows (codes "date") 0 32767 n → ⊥) → (at : Moment)
+    → IsAt rows at → ⊥
+no_date rows none at is = none at.date is.0
+
+pub no_minute : (rows : List Row) → ((n : ℕ) → HasNumber rows (codes "minute") 0 1439 n → ⊥) → (at : Moment)
+    → IsAt rows at → ⊥
+no_minute rows none at is = none at.minute is.1
 
 -- Subcommands.
 
@@ -206,18 +238,6 @@ no_get name rows is none (Get file at) asked = none file at asked.1.0 asked.1.1
 no_get name rows is none (ListAll place) asked = other_task name (codes "get") (ListAll place) 305 refl
     (λ e. omega arith) is asked.0
 no_get name rows is none Check asked = other_task name (codes "get") Check 305 refl (λ e. omega arith) is asked.0
-
-pub no_list : (name : Text) (rows : List Row) → name ≡ codes "list" → ((p : Option ℕ) → IsPlace rows p → ⊥)
-    → (t : Task) → IsTask name rows t → ⊥
-no_list name rows is none (Run at) asked = other_task name (codes "list") (Run at) 318 refl (λ e. omega arith) is asked.0
-no_list name rows is none (Calls at) asked = other_task name (codes "list") (Calls at) 318 refl (λ e. omega arith) is
-    asked.0
-no_list name rows is none (Put file at) asked = other_task name (codes "list") (Put file at) 318 refl (λ e. omega arith)
-    is asked.0
-no_list name rows is none (Get file at) asked = other_task name (codes "list") (Get file at) 318 refl (λ e. omega arith)
-    is asked.0
-no_list name rows is none (ListAll place) asked = none place asked.1
-no_list name rows is none Check asked = other_task name (codes "list") Check 318 refl (λ e. omega arith) is asked.0
 
 -- Where `clap` answers, for any app that is the command line.
 

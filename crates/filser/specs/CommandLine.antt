@@ -56,11 +56,15 @@ list_app = with_rule (with_rule (new_app (codes "list")) (wanted (codes "IMAGE")
 unfoldable pub check_app : App
 check_app = with_rule (new_app (codes "check")) (wanted (codes "IMAGE"))
 
--- the subcommands
-unfoldable pub served : App → App
-served app =
-    with_subcommand (with_subcommand (with_subcommand (with_subcommand (with_subcommand (with_subcommand
-    (with_subcommand app init_app.top) run_app.top) calls_app.top) put_app.top) get_app.top) list_app.top) check_app.top
+-- the subcommands: those that make an image and serve an input on it, that bring a file in and out, and that look
+unfoldable pub serving : App → App
+serving app = with_subcommand (with_subcommand (with_subcommand app init_app.top) run_app.top) calls_app.top
+
+unfoldable pub filing : App → App
+filing app = with_subcommand (with_subcommand app put_app.top) get_app.top
+
+unfoldable pub looking : App → App
+looking app = with_subcommand (with_subcommand app list_app.top) check_app.top
 
 -- a command of this name, which can be asked for its version
 abbrev pub versioned : Text → App
@@ -68,4 +72,4 @@ versioned name = record (new_app name) { top = record (new_app name).top { has_v
 
 -- the whole of it
 unfoldable pub command_line : App
-command_line = served (versioned (codes "filser"))
+command_line = looking (filing (serving (versioned (codes "filser"))))

@@ -18,9 +18,12 @@
 //! What an image stands for, and what a line does, is not known here.
 #![tactic(auto)]
 
+mod arguments;
 mod asked;
 mod error;
 mod fault;
+#[cfg(test)]
+mod file_tests;
 #[cfg(test)]
 mod host_tests;
 mod image;
@@ -46,11 +49,11 @@ pub use program::work;
 pub use reading::request;
 pub use refusal::Refusal;
 pub use status::Status;
-pub use task::{NamedFile, Task};
 use std::env;
 use std::io::{self, ErrorKind};
 use std::process::ExitCode;
 pub use streams::MissingStreams;
+pub use task::{NamedFile, Task};
 
 /// Runs the program on its arguments and the standard streams.
 fn main(rt: HostRuntime) -> ExitCode {

@@ -73,7 +73,7 @@ fn answer<F: Files<File = File>, R: Read, W: Write, E: Write>(
         → fault_of command_line (map (λ w. w.now) words.now) ≡ [] → result ≢ BadArguments }
 {
     match request(alloc, words) {
-        Ok(asked) => start(files, alloc, asked, missing, reader, writer, errors),
+        Ok(asked) => start(files, alloc, &asked, missing, reader, writer, errors),
         Err(error) => refuse(&error, writer, errors),
     }
 }
@@ -82,13 +82,13 @@ fn answer<F: Files<File = File>, R: Read, W: Write, E: Write>(
 fn start<F: Files<File = File>, R: Read, W: Write, E: Write>(
     files: &F,
     alloc: Global,
-    asked: Request<'_>,
+    asked: &Request<'_>,
     missing: &MissingStreams,
     reader: &mut R,
     writer: &mut W,
     errors: &mut E,
 ) -> Status
-    requires { InRange asked }
+    requires { InRange asked.now }
     ensures { result ≢ BadArguments }
 {
     if let Some(path) = asked.image() {
@@ -107,23 +107,23 @@ fn start<F: Files<File = File>, R: Read, W: Write, E: Write>(
 fn perform<F: Files<File = File>, R: Read, W: Write, E: Write>(
     files: &F,
     alloc: Global,
-    asked: Request<'_>,
+    asked: &Request<'_>,
     reader: &mut R,
     writer: &mut W,
     errors: &mut E,
 ) -> Status
-    requires { InRange asked }
+    requires { InRange asked.now }
     ensures { result ≢ BadArguments }
 {
     match asked {
         Request::Fresh => serve_fresh(alloc, reader, writer),
-        Request::Init(path, blocks) => match make_image(files, path, blocks, errors) {
+        Request::Init(path, blocks) => match make_image(files, path, *blocks, errors) {
             Ok(()) => Status::Done,
             Err(fault) => refuse_image(fault, path, writer, errors),
         },
         Request::Work(path, task) => match open_file(files, path, errors) {
             Ok(file) => {
-                let served = serve_file(alloc, file, Supposition::any(), task, reader, writer);
+                let served = serve_file(alloc, file, Supposition::any(), *task, reader, writer);
                 conclude(served, path, writer, errors)
             }
             Err(fault) => refuse_image(fault, path, writer, errors),

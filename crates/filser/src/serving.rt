@@ -16,9 +16,7 @@ ghost use Rattle.filser.specs.declared.status.Status.TheVariants.{BadArguments, 
 use crate::image::{Image, image_in};
 use crate::{ImageFault, NamedFile, Refusal, Status, Task};
 use blockdisk::{Disk, MemDisk};
-use commands::{
-    Monitor, SessionError, Tally, Volume, check, get, list, put, script, session,
-};
+use commands::{Monitor, SessionError, Tally, Volume, check, get, list, put, script, session};
 use imagefile::{HostFile, ImageDisk, Supposition};
 use std::alloc::Global;
 use std::fs::File;

@@ -1,12 +1,13 @@
 //! The command line as a value of `clap`'s. A subcommand is a function here, and a line of
-//! `with_subcommands`.
+//! `with_serving`, `with_filing` or `with_looking`.
 ghost use Rattle.std.specs.Prelude.{◌≡◌, IfOk, codes, false};
-ghost use Rattle.clap.specs.Words.{app_of, new_rule, rule_of, with_rule, with_subcommand};
+ghost use Rattle.clap.specs.Words.{app_of, with_subcommand};
 ghost use Rattle.clap.specs.declared.builder.command.Command.TheViews.{out-Command as fields_of};
-ghost use Rattle.filser.specs.CommandLine.{calls_app, check_app, command_line, dated, filed, flag, get_app, init_app};
-ghost use Rattle.filser.specs.CommandLine.{list_app, numbered, optional, put_app, run_app, served, versioned, wanted};
+ghost use Rattle.filser.specs.CommandLine.{calls_app, check_app, command_line, filing, get_app, init_app, list_app};
+ghost use Rattle.filser.specs.CommandLine.{looking, put_app, run_app, serving, versioned};
 
-use clap::{Arg, ArgAction, Command};
+use crate::arguments::{about, blocks, dated, filed, place, shown, wanted, with_argument};
+use clap::Command;
 use std::alloc::{AllocError, Global};
 
 /// What `--version` shows behind the name.
@@ -41,90 +42,12 @@ over many lines beats many runs. One process serves an image at a time: it
 locks the file, which keeps away other runs of filser, and neither editors nor
 copies nor, on some network file systems, other machines.";
 
-/// A text that has to be given.
-fn wanted<'a>(alloc: Global, id: &'a str, help: &'a str) -> Arg<'a>
-    ensures rule { rule_of result ≡ wanted id.entry.now }
-    ensures local { result.global ≡ false }
-{
-    Arg::new(alloc, id).required(true).help(help)
-}
-
-/// How many blocks a new image gets.
-fn blocks<'a>(alloc: Global) -> Arg<'a>
-    ensures rule { rule_of result ≡ numbered (codes "BLOCKS") 64 131072 }
-    ensures local { result.global ≡ false }
-{
-    Arg::new(alloc, "BLOCKS")
-        .required(true)
-        .help("How many blocks of 128 words it has, 64 to 131072")
-        .value_parser(clap::value_parser!(u32).range(64..=131072))
-}
-
-fn date<'a>(alloc: Global) -> Arg<'a>
-    ensures rule { rule_of result ≡ optional (codes "date") 32767 }
-    ensures local { result.global ≡ false }
-{
-    Arg::new(alloc, "date")
-        .long("date")
-        .value_name("N")
-        .help("The date of what is written, 0 to 32767")
-        .default_value("0")
-        .value_parser(clap::value_parser!(u32).range(0..=32767))
-}
-
-fn minute<'a>(alloc: Global) -> Arg<'a>
-    ensures rule { rule_of result ≡ optional (codes "minute") 1439 }
-    ensures local { result.global ≡ false }
-{
-    Arg::new(alloc, "minute")
-        .long("minute")
-        .value_name("N")
-        .help("Its minute of the day, 0 to 1439")
-        .default_value("0")
-        .value_parser(clap::value_parser!(u32).range(0..=1439))
-}
-
-/// A command with one more argument.
-fn with_argument<'a>(command: Command<'a>, argument: Arg<'a>) -> Result<Command<'a>, AllocError>
-    requires { argument.global ≡ false }
-    ensures app { IfOk result (λ c. app_of c ≡ with_rule (app_of command.entry) (rule_of argument.entry)) }
-    ensures local { IfOk result (λ c. (fields_of c).has_globals ≡ (fields_of command.entry).has_globals) }
-{
-    command.arg(argument)
-}
-
 /// A command with one more subcommand.
 fn with_one<'a>(command: Command<'a>, subcommand: Command<'a>) -> Result<Command<'a>, AllocError>
     requires { (fields_of subcommand).has_globals ≡ false }
     ensures app { IfOk result (λ c. app_of c ≡ with_subcommand (app_of command.entry) (app_of subcommand.entry).top) }
 {
     command.subcommand(subcommand)
-}
-
-/// A command with these words on what it does.
-fn about<'a>(command: Command<'a>, text: &'a str) -> Command<'a>
-    ensures app { app_of result ≡ app_of command.entry }
-    ensures local { (fields_of result).has_globals ≡ (fields_of command.entry).has_globals }
-{
-    command.about(text)
-}
-
-/// A command with the date and the minute of what it writes.
-#[tactic(auto, unfolding(crate::specs::CommandLine::dated))]
-fn dated<'a>(alloc: Global, command: Command<'a>) -> Result<Command<'a>, AllocError>
-    ensures app { IfOk result (λ c. app_of c ≡ dated (app_of command.entry)) }
-    ensures local { IfOk result (λ c. (fields_of c).has_globals ≡ (fields_of command.entry).has_globals) }
-{
-    let command = with_argument(command, date(alloc))?;
-    with_argument(command, minute(alloc))
-}
-
-/// A command with one more example of its use below its help.
-fn shown<'a>(command: Command<'a>, example: &'a str) -> Command<'a>
-    ensures app { app_of result ≡ app_of command.entry }
-    ensures local { (fields_of result).has_globals ≡ (fields_of command.entry).has_globals }
-{
-    command.after_help(example)
 }
 
 #[tactic(auto, unfolding(crate::specs::CommandLine::init_app))]
@@ -175,30 +98,6 @@ fn calls_command<'a>(alloc: Global) -> Result<Command<'a>, AllocError>
     dated(alloc, command)
 }
 
-/// An option that says nothing but that it is there.
-fn words<'a>(alloc: Global) -> Arg<'a>
-    ensures rule { rule_of result ≡ flag (codes "words") }
-    ensures local { result.global ≡ false }
-{
-    Arg::new(alloc, "words")
-        .long("words")
-        .action(ArgAction::SetTrue)
-        .help("Any file, as words: eight bytes each, the most significant first")
-}
-
-/// A command with a file of a directory.
-#[tactic(auto, unfolding(crate::specs::CommandLine::filed))]
-fn filed<'a>(alloc: Global, command: Command<'a>) -> Result<Command<'a>, AllocError>
-    ensures app { IfOk result (λ c. app_of c ≡ filed (app_of command.entry)) }
-    ensures local { IfOk result (λ c. (fields_of c).has_globals ≡ (fields_of command.entry).has_globals) }
-{
-    let command = with_argument(command, wanted(alloc, "IMAGE", "The image to work on"))?;
-    let owner = wanted(alloc, "PPN", "Whose directory, in octal, as 10,20");
-    let command = with_argument(command, owner)?;
-    let command = with_argument(command, wanted(alloc, "NAME", "The file, as FOO.TXT"))?;
-    with_argument(command, words(alloc))
-}
-
 #[tactic(auto, unfolding(crate::specs::CommandLine::put_app))]
 fn put_command<'a>(alloc: Global) -> Result<Command<'a>, AllocError>
     ensures app { IfOk result (λ c. app_of c ≡ put_app) }
@@ -242,14 +141,6 @@ fn list_command<'a>(alloc: Global) -> Result<Command<'a>, AllocError>
     with_argument(command, place(alloc))
 }
 
-/// A directory that may be left out.
-fn place<'a>(alloc: Global) -> Arg<'a>
-    ensures rule { rule_of result ≡ new_rule (codes "PPN") }
-    ensures local { result.global ≡ false }
-{
-    Arg::new(alloc, "PPN").help("Whose directory, in octal, as 10,20 [default: all]")
-}
-
 #[tactic(auto, unfolding(crate::specs::CommandLine::check_app))]
 fn check_command<'a>(alloc: Global) -> Result<Command<'a>, AllocError>
     ensures app { IfOk result (λ c. app_of c ≡ check_app) }
@@ -263,15 +154,30 @@ fn check_command<'a>(alloc: Global) -> Result<Command<'a>, AllocError>
     with_argument(command, wanted(alloc, "IMAGE", "The image to check"))
 }
 
-#[tactic(auto, unfolding(crate::specs::CommandLine::served))]
-fn with_subcommands<'a>(alloc: Global, command: Command<'a>) -> Result<Command<'a>, AllocError>
-    ensures { IfOk result (λ c. app_of c ≡ served (app_of command.entry)) }
+/// With the subcommands that make an image, and serve an input on it.
+#[tactic(auto, unfolding(crate::specs::CommandLine::serving))]
+fn with_serving<'a>(alloc: Global, command: Command<'a>) -> Result<Command<'a>, AllocError>
+    ensures { IfOk result (λ c. app_of c ≡ serving (app_of command.entry)) }
 {
     let command = with_one(command, init_command(alloc)?)?;
     let command = with_one(command, run_command(alloc)?)?;
-    let command = with_one(command, calls_command(alloc)?)?;
+    with_one(command, calls_command(alloc)?)
+}
+
+/// With those that bring a file in and out.
+#[tactic(auto, unfolding(crate::specs::CommandLine::filing))]
+fn with_filing<'a>(alloc: Global, command: Command<'a>) -> Result<Command<'a>, AllocError>
+    ensures { IfOk result (λ c. app_of c ≡ filing (app_of command.entry)) }
+{
     let command = with_one(command, put_command(alloc)?)?;
-    let command = with_one(command, get_command(alloc)?)?;
+    with_one(command, get_command(alloc)?)
+}
+
+/// With those that look.
+#[tactic(auto, unfolding(crate::specs::CommandLine::looking))]
+fn with_looking<'a>(alloc: Global, command: Command<'a>) -> Result<Command<'a>, AllocError>
+    ensures { IfOk result (λ c. app_of c ≡ looking (app_of command.entry)) }
+{
     let command = with_one(command, list_command(alloc)?)?;
     with_one(command, check_command(alloc)?)
 }
@@ -293,5 +199,7 @@ fn program<'a>(alloc: Global) -> Command<'a>
 pub(crate) fn command_line<'a>(alloc: Global) -> Result<Command<'a>, AllocError>
     ensures { IfOk result (λ c. app_of c ≡ command_line) }
 {
-    with_subcommands(alloc, program(alloc))
+    let command = with_serving(alloc, program(alloc))?;
+    let command = with_filing(alloc, command)?;
+    with_looking(alloc, command)
 }

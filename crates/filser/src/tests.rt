@@ -36,26 +36,56 @@ fn words_that_make_a_volume(rt: HostRuntime) {
 fn words_that_serve_an_image(rt: HostRuntime) {
     let alloc = rt.alloc();
     let words = ["filser", "run", "V.IMG"];
-    expect(&rt, alloc, &words, Request::Work("V.IMG", Task::Run(Moment::new(0, 0).unwrap())));
+    expect(
+        &rt,
+        alloc,
+        &words,
+        Request::Work("V.IMG", Task::Run(Moment::new(0, 0).unwrap())),
+    );
     let words = ["filser", "run", "V.IMG", "--date", "32767"];
-    expect(&rt, alloc, &words, Request::Work("V.IMG", Task::Run(Moment::new(32767, 0).unwrap())));
+    expect(
+        &rt,
+        alloc,
+        &words,
+        Request::Work("V.IMG", Task::Run(Moment::new(32767, 0).unwrap())),
+    );
     let words = ["filser", "run", "--minute=1439", "V.IMG"];
-    expect(&rt, alloc, &words, Request::Work("V.IMG", Task::Run(Moment::new(0, 1439).unwrap())));
+    expect(
+        &rt,
+        alloc,
+        &words,
+        Request::Work("V.IMG", Task::Run(Moment::new(0, 1439).unwrap())),
+    );
     let words = [
         "filser", "run", "--date", "4095", "--minute", "605", "V.IMG",
     ];
-    expect(&rt, alloc, &words, Request::Work("V.IMG", Task::Run(Moment::new(4095, 605).unwrap())));
+    expect(
+        &rt,
+        alloc,
+        &words,
+        Request::Work("V.IMG", Task::Run(Moment::new(4095, 605).unwrap())),
+    );
 }
 
 #[test]
 fn words_that_serve_a_script(rt: HostRuntime) {
     let alloc = rt.alloc();
     let words = ["filser", "calls", "V.IMG"];
-    expect(&rt, alloc, &words, Request::Work("V.IMG", Task::Calls(Moment::new(0, 0).unwrap())));
+    expect(
+        &rt,
+        alloc,
+        &words,
+        Request::Work("V.IMG", Task::Calls(Moment::new(0, 0).unwrap())),
+    );
     let words = [
         "filser", "calls", "--date", "4095", "V.IMG", "--minute", "605",
     ];
-    expect(&rt, alloc, &words, Request::Work("V.IMG", Task::Calls(Moment::new(4095, 605).unwrap())));
+    expect(
+        &rt,
+        alloc,
+        &words,
+        Request::Work("V.IMG", Task::Calls(Moment::new(4095, 605).unwrap())),
+    );
 }
 
 /// FOO.TXT of [10,20].
