@@ -29,6 +29,7 @@ name_bytes text t e = by (nat_lt 255 (length text)) refl e
     whole : (l : List ℕ) → Bytes t ∷ [] ≡ line_of l → t ≡ map upper l
     whole [] p = absurd (let q = ap (λ (x : List Line). length x) p in omega (arith, q))
     whole (b ∷ bs) p = ap first_bytes p
+
     by : (long : Bool) → nat_lt 255 (length text) ≡ long → Bytes t ∷ [] ≡ fitting text text → t ≡ map upper text
     by true is p = absurd (let q = ap is_long (p ∙ ap (λ b. if b then TooLong ∷ [] else line_of text) is) in cc)
     by false is p = whole text (p ∙ ap (λ b. if b then TooLong ∷ [] else line_of text) is)

@@ -5,7 +5,6 @@ ghost use Rattle.meaning.specs.Texts.{refuses};
 ghost use Rattle.commands.specs.Asking.{Concludes};
 ghost use Rattle.commands.specs.Errands.{Delivery, Errand};
 
-use crate::SessionError;
 use crate::answer::{Tally, is_broken, refuse};
 use crate::concluding::conclude;
 use crate::input_words::{read_input, unfit, words_of};
@@ -13,8 +12,8 @@ use crate::putting::{enter, put_file};
 use crate::run::print;
 use crate::service::FileService;
 use crate::survey::survey;
-use crate::text;
 use crate::typing::read_out;
+use crate::{SessionError, text};
 use meaning::{Encoding, Reply, Spec};
 use std::alloc::{AllocError, Global};
 use std::io::{Read, Write};
@@ -118,9 +117,7 @@ fn put_words<S: FileService>(
         (keeps moment owner encoding spec (option_map (λ v. v.items) words.now)) tally.old tally.new }
 {
     match words {
-        Some(words) => {
-            put_file(alloc, service, moment, tally, owner, encoding, spec, words)
-        }
+        Some(words) => { put_file(alloc, service, moment, tally, owner, encoding, spec, words) }
         None => refuse(alloc, tally, unfit(encoding), false),
     }
 }

@@ -5,12 +5,11 @@ ghost use Rattle.commands.specs.Sessions.{Session, Script};
 ghost use Rattle.commands.specs.Errands.{Checked, Delivery, Errand, Survey};
 ghost use Rattle.meaning.specs.Errands.{gets, keeps, own_file};
 
-use crate::SessionError;
 use crate::answer::Tally;
 use crate::errands::{read_in, write_lists, write_out, write_refusal};
 use crate::run::{converse, play, print};
 use crate::service::FileService;
-use crate::text;
+use crate::{SessionError, text};
 use blockdisk::Disk;
 use meaning::{Encoding, Entry, Event, Reply, Spec};
 use monitor::Monitor;

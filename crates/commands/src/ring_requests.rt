@@ -4,9 +4,7 @@ ghost use Rattle.meaning.specs.Errands as errands;
 ghost use Rattle.meaning.specs.declared.encoding.Encoding.TheVariants.{Characters};
 
 use crate::answer::SESSION_JOB;
-use crate::requests::{
-    DISK, NEW_WORDS, OPEN_WORDS, WRITER, extension_word, owner_word, puts,
-};
+use crate::requests::{DISK, NEW_WORDS, OPEN_WORDS, WRITER, extension_word, owner_word, puts};
 use meaning::{Call, Event, Spec};
 use words36::{Half, Moment, Word};
 

@@ -12,9 +12,7 @@ fn files_on_an_image(rt: HostRuntime) -> Result<(), Fail> {
     let check = ["filser", "check", path];
     let well = "Volume of 64 blocks, room 45\n";
     expect(&rt, rt.alloc(), &check, "", well, 0);
-    let put = [
-        "filser", "put", path, "10,20", "BAR.TXT", "--date", "4095",
-    ];
+    let put = ["filser", "put", path, "10,20", "BAR.TXT", "--date", "4095"];
     expect(&rt, rt.alloc(), &put, "HELLO\r\n", "OK\n", 0);
     let get = ["filser", "get", path, "10,20", "BAR.TXT"];
     expect(&rt, rt.alloc(), &get, "", "HELLO\r\n", 0);
