@@ -1,5 +1,5 @@
 -- What is left of a service and of a writer where a job logs in for one thing.
-use Rattle.std.proofs.Common.{◌≡◌, ◌⊎◌, ℕ, ◌<◌, ◌||◌, Bool, true, false, List, [], ◌∷◌, ◌++◌, Option, None, Some, Result, Ok, Err, refl}
+use Rattle.std.proofs.Common.{◌≡◌, ◌⊎◌, ℕ, ◌||◌, Bool, true, false, List, [], Option, None, Some, Result, Ok, Err, refl}
 use Rattle.std.proofs.Common.{sym, ◌∙◌, ap, subst, inl, inr, IfOk, ℤ}
 use Rattle.std.specs.Io.KnownBytes.{Appends, Consumes, IsAtEnd}
 use Rattle.std.proofs.KnownBytes.{Appends-nil}
@@ -19,7 +19,7 @@ use Rattle.commands.specs.Sessions.{Puts}
 use Rattle.commands.specs.Streams.{spoken}
 use Rattle.commands.specs.declared.answer.Tally.{Tally}
 use Rattle.commands.specs.declared.error.SessionError.{SessionError}
-use Rattle.commands.specs.declared.error.SessionError.TheVariants.{Read, Write, NoMemory}
+use Rattle.commands.specs.declared.error.SessionError.TheVariants.{Read, NoMemory}
 use Rattle.commands.proofs.GoingLaws.{goes_nowhere}
 use Rattle.commands.proofs.LedLaws.{led_on, led_still}
 use Rattle.commands.proofs.AnswerLaws.{or-true}

@@ -1,12 +1,11 @@
 -- Names of files, in the case in which they are given.
-use Rattle.std.proofs.Common.{◌≡◌, ℕ, ◌+◌, ◌<◌, ◌≤◌, nat_lt, if◌then◌else◌, Bool, true, false, List, [], ◌∷◌, ◌++◌, length, map, take}
-use Rattle.std.proofs.Common.{get_or, Option, None, Some, refl, sym, ◌∙◌, ap, subst, arith}
-use Rattle.std.proofs.lemmas.List.{take_all, take_more, length-map, length-append}
+use Rattle.std.proofs.Common.{◌≡◌, ℕ, ◌+◌, ◌<◌, ◌≤◌, nat_lt, if◌then◌else◌, Bool, true, false, List, [], ◌∷◌, length, map}
+use Rattle.std.proofs.Common.{refl, ◌∙◌, ap, arith}
+use Rattle.std.proofs.lemmas.List.{length-map, length-append}
 use Rattle.std.proofs.lemmas.Bool.Decides.{nat_tests}
 use Rattle.meaning.specs.Lines.{Line, Bytes, TooLong, fitting, line_of, upper}
-use Rattle.meaning.specs.Spellings.{IsName, IsExtension}
+use Rattle.meaning.specs.Spellings.{IsExtension}
 use Rattle.commands.specs.Files.{IsFileName}
-use Rattle.commands.specs.PartialLines.{IsPartialLine}
 
 bytes_in : Line → List ℕ → List ℕ
 bytes_in (Bytes text) other = text

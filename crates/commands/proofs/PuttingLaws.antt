@@ -1,11 +1,11 @@
 -- How a file is put: its plan, step by step.
-use Rattle.std.proofs.Common.{◌≡◌, ℕ, zero, suc, ◌+◌, ◌-◌, ◌/◌, ◌<◌, ◌≤◌, List, [], ◌∷◌, ◌++◌, Result, Ok, Err, refl}
+use Rattle.std.proofs.Common.{◌≡◌, ℕ, suc, ◌+◌, ◌-◌, ◌/◌, ◌<◌, ◌≤◌, List, [], ◌∷◌, Result, refl}
 use Rattle.std.proofs.Common.{sym, ◌∙◌, ap, subst, take, drop, length, get_or, min, arith, Bool, true, false, nat_le}
 use Rattle.std.proofs.lemmas.Bool.Decides.{nat_tests}
 use Rattle.std.proofs.lemmas.List.{drop_more, drop_all, take_all, length-drop}
 use Rattle.words36.specs.declared.moment.Moment.{Moment}
 use Rattle.meaning.specs.Costs.{blocks_of}
-use Rattle.meaning.specs.Errands.{enters, creates, fills, fills_parts, fills_all, announces, part_address}
+use Rattle.meaning.specs.Errands.{creates, fills, fills_parts, fills_all, announces, part_address}
 use Rattle.meaning.specs.Plans.{Plan, each, fails, deposits, calls}
 use Rattle.meaning.specs.declared.call.Call.TheVariants.{Close}
 use Rattle.meaning.specs.declared.call.Event.{Event}
@@ -16,7 +16,7 @@ use Rattle.meaning.specs.declared.encoding.Encoding.{Encoding}
 use Rattle.commands.specs.Asking.{Led, followed}
 use Rattle.commands.specs.Machines.{Machine, AlwaysStands}
 use Rattle.commands.proofs.LedLaws.{led_on, led_still}
-use Rattle.commands.proofs.CopyingLaws.{led_each, led_first}
+use Rattle.commands.proofs.CopyingLaws.{led_first}
 
 -- Words that are deposited.
 

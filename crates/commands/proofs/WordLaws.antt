@@ -1,15 +1,14 @@
 -- Bytes of an input as the words that a file gets of them.
-use Rattle.std.proofs.Common.{◌≡◌, ℕ, ◌+◌, ◌*◌, ◌/◌, ◌%◌, ◌^◌, ◌<◌, ◌≤◌, true, false, List, [], ◌∷◌, ◌++◌, length, get_or}
-use Rattle.std.proofs.Common.{All, Option, None, Some, refl, sym, ◌∙◌, ap, subst, arith}
+use Rattle.std.proofs.Common.{◌≡◌, ℕ, ◌+◌, ◌*◌, ◌/◌, ◌%◌, ◌^◌, ◌<◌, ◌≤◌, true, false, List, [], ◌∷◌, length, get_or}
+use Rattle.std.proofs.Common.{All, Some, refl, sym, ◌∙◌, ap, subst, arith}
 use Rattle.std.specs.Prelude.{flat_map}
 use Rattle.std.proofs.lemmas.List.Elements.{All-from_get_or}
 use Rattle.words36.specs.Words.{IsWord}
-use Rattle.words36.specs.Ascii.{packed}
 use Rattle.words36.specs.Blocks.{word_bytes, number_at}
 use Rattle.words36.proofs.BlockLaws.{AreRead, block_bytes-read, number_at-block_bytes}
 use Rattle.meaning.specs.Errands.{is_character, AreWords}
 use Rattle.meaning.specs.Spellings.{Are}
-use Rattle.meaning.specs.declared.encoding.Encoding.TheVariants.{Characters, Words}
+use Rattle.meaning.specs.declared.encoding.Encoding.TheVariants.{Words}
 use Rattle.commands.proofs.FieldLaws.{are_at}
 
 pub no_character : (bytes : List ℕ) (i : ℕ) → i < length bytes → false ≡ is_character (get_or bytes i 0)

@@ -1,5 +1,5 @@
 -- What a line asks of a service, event by event, and how far its plan has come.
-use Rattle.std.specs.Prelude.{◌≡◌, ℕ, ◌||◌, Bool, true, List, ◌++◌, Result, Ok, Err, IfOk}
+use Rattle.std.specs.Prelude.{◌≡◌, ℕ, ◌||◌, true, List, ◌++◌, Result, Ok, Err, IfOk}
 use Rattle.words36.specs.declared.moment.Moment.{Moment}
 use Rattle.meaning.specs.Plans.{Act, Plan, Leads, Show, Say, each, fails}
 use Rattle.meaning.specs.Texts.{Spoken, printed, list_said}

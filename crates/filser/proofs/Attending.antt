@@ -1,5 +1,5 @@
 -- What is so of a service whatever the task was.
-use Rattle.std.proofs.Common.{◌≡◌, ℕ, List, Option, Result, ap, subst}
+use Rattle.std.proofs.Common.{ℕ, List, Option, Result, subst}
 use Rattle.blockdisk.specs.Disk.{DiskState}
 use Rattle.monitor.specs.States.{MonitorState}
 use Rattle.commands.specs.declared.answer.Tally.{Tally}

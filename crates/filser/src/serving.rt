@@ -14,7 +14,7 @@ ghost use Rattle.filser.specs.Statuses.{status_code};
 ghost use Rattle.filser.specs.declared.status.Status.TheVariants.{BadArguments, Fault};
 
 use crate::image::{Image, image_in};
-use crate::{ImageFault, NamedFile, Refusal, Status, Task};
+use crate::{ImageFault, Refusal, Status, Task};
 use blockdisk::{Disk, MemDisk};
 use commands::{Monitor, SessionError, Tally, Volume, check, get, list, put, script, session};
 use imagefile::{HostFile, ImageDisk, Supposition};

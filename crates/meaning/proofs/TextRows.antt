@@ -11,7 +11,7 @@ use Rattle.meaning.specs.Room.{Pack, room}
 use Rattle.meaning.specs.Sessions.{list}
 use Rattle.meaning.specs.Step.{step}
 use Rattle.meaning.specs.Lines.{Bytes, TooLong, lines}
-use Rattle.meaning.specs.Texts.{Spoken, joined, silent, prints, day_text, entry_text, listing, list_said}
+use Rattle.meaning.specs.Texts.{Spoken, joined, silent, prints, day_text, entry_text, listing}
 use Rattle.meaning.specs.Plans.{Plan, Ask, Show, Say, each, fetches, finds, lists, counts, copies_blocks, types_blocks}
 use Rattle.meaning.specs.Plans.{begins}
 use Rattle.meaning.specs.Transcripts.{login_said, core_words}

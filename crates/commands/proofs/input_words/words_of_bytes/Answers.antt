@@ -1,4 +1,4 @@
-use Rattle.std.proofs.Common.{◌≡◌, ◌+◌, ◌*◌, ◌/◌, ◌%◌, ◌≤◌, ◌<◌, ◌^◌, ℕ, length, get_or, arith}
+use Rattle.std.proofs.Common.{◌+◌, ◌*◌, ◌≤◌, ◌^◌, length, arith}
 use Rattle.words36.specs.Blocks.{number_at}
 use Rattle.commands.proofs.WordLaws.{not_eights, no_word, all_words}
 use Rattle.commands.proofs.input_words.words_of_bytes.Goals as goal

@@ -1,6 +1,4 @@
-use Rattle.std.proofs.Common.{◌≡◌, ℕ, List, [], ◌∷◌, Ok, Err, refl, subst}
-use Rattle.meaning.specs.Errands.{surveys}
-use Rattle.commands.specs.Errands.{Errand}
+use Rattle.std.proofs.Common.{[], ◌∷◌, Ok, Err, refl}
 use Rattle.commands.proofs.ErrandLaws.{surveyed, none_there}
 use Rattle.commands.proofs.monitored.list.Goals as goal
 

@@ -1,4 +1,4 @@
-use Rattle.std.proofs.Common.{◌≡◌, ◌∙◌, ◌<◌, length, take, drop, arith}
+use Rattle.std.proofs.Common.{◌≡◌, ◌∙◌, ◌<◌, length, arith}
 use Rattle.std.proofs.lemmas.Result.{err_from_is_err_and}
 use Rattle.commands.proofs.PuttingLaws.{filled_none, filled_more, filled_broken, filled_all, take_part, drop_part}
 use Rattle.commands.proofs.PuttingLaws.{rest_shorter}

@@ -1,4 +1,3 @@
-use Rattle.std.proofs.Common.{length}
 use Rattle.std.proofs.lemmas.Result.{err_from_is_err_and}
 use Rattle.commands.proofs.PuttingLaws.{part_deposited, part_announced}
 use Rattle.commands.proofs.putting.fill_part.Goals as goal

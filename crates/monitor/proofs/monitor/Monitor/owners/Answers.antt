@@ -1,4 +1,4 @@
-use Rattle.std.proofs.Common.{◌≡◌, ◌∙◌, ap, subst, IfOk}
+use Rattle.std.proofs.Common.{◌≡◌, ◌∙◌, subst}
 use Rattle.meaning.specs.Jobs.{State}
 use Rattle.meaning.specs.Maps.{keys}
 use Rattle.meaning.specs.Published.{without_serials}
