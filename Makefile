@@ -11,7 +11,8 @@ help:
 	@echo 'make examples run the examples alone, on the program that is there, or on one that is built first'
 	@echo 'make build    prove and build the program, as bin/filser'
 	@echo 'make run      build it, and do a first run in a fresh folder'
-	@echo 'make install  build it, and put the program and its man page below PREFIX (now $(PREFIX))'
+	@echo 'make install  build it, and put the program, its man page and its completion for bash below'
+	@echo '              PREFIX (now $(PREFIX))'
 
 # The program that rt ci leaves is the one that it built from nothing.
 test:
@@ -19,6 +20,7 @@ test:
 	sh examples/run crates/filser/out/filser
 	sh examples/starts crates/filser/out/filser
 	sh examples/emulate crates/filser/out/filser
+	python3 examples/files crates/filser/out/filser
 	tools/check-docs crates/filser/out/filser
 	tools/test-wrong-bodies
 
@@ -32,6 +34,7 @@ examples:
 	sh examples/run crates/filser/out/filser
 	sh examples/starts crates/filser/out/filser
 	sh examples/emulate crates/filser/out/filser
+	python3 examples/files crates/filser/out/filser
 	tools/check-docs crates/filser/out/filser
 
 # The first time every crate below the program is proved too; what was proved is kept below crates/*/out.
@@ -60,5 +63,7 @@ run: build
 
 install: build
 	install -d $(DESTDIR)$(PREFIX)/bin $(DESTDIR)$(PREFIX)/share/man/man1
+	install -d $(DESTDIR)$(PREFIX)/share/bash-completion/completions
 	install -m 755 bin/filser $(DESTDIR)$(PREFIX)/bin/filser
 	install -m 644 crates/filser/filser.1 $(DESTDIR)$(PREFIX)/share/man/man1/filser.1
+	install -m 644 crates/filser/filser.bash $(DESTDIR)$(PREFIX)/share/bash-completion/completions/filser

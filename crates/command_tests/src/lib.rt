@@ -8,6 +8,8 @@ mod line_tests;
 #[cfg(test)]
 mod memory_tests;
 #[cfg(test)]
+mod put_tests;
+#[cfg(test)]
 mod service;
 #[cfg(test)]
 mod stream_tests;

@@ -49,7 +49,7 @@ fn put(rt: &impl Abort, disk: &mut MemDisk, n: u32, words: &[u64]) {
 }
 
 /// A disk of 64 blocks with the image, which takes so many writes and syncs.
-fn image(rt: &impl Abort, alloc: Global, calls: usize) -> Result<MemDisk, NoMemory> {
+pub fn image(rt: &impl Abort, alloc: Global, calls: usize) -> Result<MemDisk, NoMemory> {
     let mut disk = MemDisk::new(alloc, 64, calls)?;
     for (n, words) in IMAGE {
         put(rt, &mut disk, n, words);
@@ -57,15 +57,19 @@ fn image(rt: &impl Abort, alloc: Global, calls: usize) -> Result<MemDisk, NoMemo
     Ok(disk)
 }
 
-/// A monitor over the image, or none where a start finds no memory. What `start` promises stays behind this function: the
-/// proofs of tests are short without it.
+/// A monitor over a disk, where that is accepted. What `start` promises stays behind this function: the proofs of tests are
+/// short without it.
+pub fn start(alloc: Global, disk: MemDisk) -> Option<Monitor<MemDisk>> {
+    Monitor::start(alloc, disk).ok()
+}
+
+/// A monitor over the image, or none where a start finds no memory.
 pub fn started(
     rt: &impl Abort,
     alloc: Global,
     calls: usize,
 ) -> Result<Option<Monitor<MemDisk>>, NoMemory> {
-    let disk = image(rt, alloc, calls)?;
-    Ok(Monitor::start(alloc, disk).ok())
+    Ok(start(alloc, image(rt, alloc, calls)?))
 }
 
 /// How lines are read.

@@ -3,8 +3,8 @@ use Rattle.std.proofs.Common.{◌≡◌, ◌≢◌, ℕ, ◌||◌, Bool, true, f
 use Rattle.std.proofs.Common.{Some, None, Result, Ok, Err, IfOk, unwrap_or}
 use Rattle.std.specs.Prelude.{codes}
 use Rattle.words36.specs.declared.moment.Moment.{Moment}
-use Rattle.meaning.specs.Texts.{Spoken, complains, refuses, prints, refusal, is_broken, greeting, listing, line}
-use Rattle.meaning.specs.Plans.{Act, Asks, Looks, Plan, Say, Conducts, begins, fails, ends, ok}
+use Rattle.meaning.specs.Texts.{Spoken, complains, refuses, prints, refusal, is_broken, greeting, listing, line, list_said}
+use Rattle.meaning.specs.Plans.{Act, Asks, Looks, Plan, Show, Say, Conducts, begins, fails, ends, ok}
 use Rattle.meaning.specs.Transcripts.{Speaks, core_words}
 use Rattle.meaning.specs.declared.entry.Entry.{Entry}
 use Rattle.meaning.specs.declared.command.Command.{Command}
@@ -14,7 +14,7 @@ use Rattle.meaning.specs.declared.call.Reply.{Reply}
 use Rattle.meaning.specs.declared.call.Reply.TheVariants.{Done, Value, Refused, Stopped, NoChannel, AddressCheck, NoJob}
 use Rattle.meaning.specs.declared.call.Reply.TheVariants.{NoMemory, Device, Failed, DateRange}
 use Rattle.commands.specs.Machines.{Machine, AlwaysStands, IsAnswered, IsListed, GoesBy}
-use Rattle.commands.specs.Asking.{Led, Concludes}
+use Rattle.commands.specs.Asking.{Led, Concludes, HasShown}
 use Rattle.commands.specs.Sessions.{Spoke}
 use Rattle.commands.specs.declared.answer.Tally.{Tally}
 use Rattle.commands.proofs.GoingLaws.{goes_nowhere, goes_answered, goes_listed}
@@ -104,18 +104,6 @@ module _ {V E S : Type 0} (machine : S → Machine) (stands : AlwaysStands machi
       answered)
       same_words same_broken refused broke text
 
-  -- DIRECTORY.
-
-  pub spoke_list_refused : (old new : S) (me : ℕ) (place : Option ℕ) (owner : ℕ) (reply : Reply) (words : List ℕ)
-      (broken : Bool) → owner ≡ unwrap_or place me → IsListed (machine old) (machine new) 1 owner (Err reply)
-      → words ≡ refusal reply → broken ≡ is_broken reply → counted.refused ≡ true
-      → counted.broke ≡ tally.broke || broken → IfOk result (λ v. bytes v ≡ line words)
-      → Spoke bytes result machine old new moment (Some me) (Some me) tally counted (Some (DirectoryLine place))
-  spoke_list_refused old new me place owner reply words broken e listed same_words same_broken refused broke text =
-      spoke_refusal old new (Some me) (Some (DirectoryLine place)) (Looks owner (Err reply) ∷ []) reply words broken
-      ((e, refl), refl) (goes_listed machine stands old new owner (Err reply) listed)
-      same_words same_broken refused broke text
-
   -- What is left of a line where a call was not done.
   pub concludes_refusal : (old new : S) (reply : Reply) (words : List ℕ) (broken : Bool)
       → Led machine old new (fails moment reply) (Say (refuses reply))
@@ -168,21 +156,6 @@ module _ {V E S : Type 0} (machine : S → Machine) (stands : AlwaysStands machi
         text = text;
       }
 
-  pub spoke_list : (old new : S) (me : ℕ) (place : Option ℕ) (owner : ℕ) (entries shown : List Entry)
-      → owner ≡ unwrap_or place me → IsListed (machine old) (machine new) 1 owner (Ok entries) → shown ≡ entries
-      → IfOk result (λ v. bytes v ≡ listing owner shown)
-      → Spoke bytes result machine old new moment (Some me) (Some me) tally tally (Some (DirectoryLine place))
-  spoke_list old new me place owner entries shown e listed same text =
-      record {
-        acts = Looks owner (Ok entries) ∷ [];
-        said = prints (listing owner entries);
-        speaks = ((e, ap (λ (o : ℕ). Say (prints (listing o entries))) e), refl);
-        goes = goes_listed machine stands old new owner (Ok entries) listed;
-        refused = or-false tally.refused;
-        broke = or-false tally.broke;
-        text = subst (λ (l : List Entry). IfOk result (λ v. bytes v ≡ listing owner l)) same text;
-      }
-
   -- What is left of a line that prints OK, all calls of which were done.
   pub concludes_ok : (old new : S) → Led machine old new (ends moment ok) (Say ok)
       → IfOk result (λ v. bytes v ≡ line (codes "OK"))
@@ -194,3 +167,59 @@ module _ {V E S : Type 0} (machine : S → Machine) (stands : AlwaysStands machi
     broke = or-false tally.broke;
     text = text;
   }
+
+-- The list of a directory: there is one, or it is refused.
+module _ {V E S : Type 0} (machine : S → Machine) (stands : AlwaysStands machine) (bytes : V → List ℕ)
+    (result : Result V E) (tally : Tally) where
+  led_shown : (old new : S) (owner : ℕ) (answer : Result (List Entry) Reply)
+      → IsListed (machine old) (machine new) 1 owner answer → (next : Result (List Entry) Reply → Plan)
+      → Led machine old new (Show owner next) (next answer)
+  led_shown old new owner answer listed next = record {
+    acts = Looks owner answer ∷ [];
+    goes = goes_listed machine stands old new owner answer listed;
+    leads = (refl, refl);
+  }
+
+  pub shown_list : (old new : S) (owner : ℕ) (entries shown : List Entry)
+      → IsListed (machine old) (machine new) 1 owner (Ok entries) → shown ≡ entries
+      → IfOk result (λ v. bytes v ≡ listing owner shown)
+      → HasShown bytes result machine old new owner tally tally
+  shown_list old new owner entries shown listed same text = record {
+    answer = Ok entries;
+    led = led_shown old new owner (Ok entries) listed;
+    refused = or-false tally.refused;
+    broke = or-false tally.broke;
+    text = subst (λ (l : List Entry). IfOk result (λ v. bytes v ≡ listing owner l)) same text;
+  }
+
+  pub shown_refused : (counted : Tally) (old new : S) (owner : ℕ) (reply : Reply) (words : List ℕ) (broken : Bool)
+      → IsListed (machine old) (machine new) 1 owner (Err reply)
+      → words ≡ refusal reply → broken ≡ is_broken reply → counted.refused ≡ true
+      → counted.broke ≡ tally.broke || broken → IfOk result (λ v. bytes v ≡ line words)
+      → HasShown bytes result machine old new owner tally counted
+  shown_refused counted old new owner reply words broken listed same_words same_broken refused broke text = record {
+    answer = Err reply;
+    led = led_shown old new owner (Err reply) listed;
+    refused = refused ∙ or-true tally.refused;
+    broke = broke ∙ ap (λ b. tally.broke || b) same_broken;
+    text = subst (λ (l : List ℕ). IfOk result (λ v. bytes v ≡ line l)) same_words text;
+  }
+
+-- DIRECTORY.
+module _ {V E S : Type 0} (machine : S → Machine) (bytes : V → List ℕ) (result : Result V E) (moment : Moment)
+    (tally counted : Tally) where
+  pub spoke_shown : (old new : S) (me : ℕ) (place : Option ℕ) (owner : ℕ) → owner ≡ unwrap_or place me
+      → HasShown bytes result machine old new owner tally counted
+      → Spoke bytes result machine old new moment (Some me) (Some me) tally counted (Some (DirectoryLine place))
+  spoke_shown old new me place owner e p =
+      let q = subst (λ (o : ℕ). HasShown bytes result machine old new o tally counted) e p in
+      let led = q.led (λ answer. Say (list_said (unwrap_or place me) answer)) in
+      record {
+        acts = led.acts;
+        said = list_said (unwrap_or place me) q.answer;
+        speaks = (led.leads, refl);
+        goes = led.goes;
+        refused = q.refused;
+        broke = q.broke;
+        text = q.text;
+      }

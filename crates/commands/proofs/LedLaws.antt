@@ -5,7 +5,7 @@ use Rattle.std.proofs.lemmas.List.{take_more, take_all, take-append-drop}
 use Rattle.words36.specs.declared.moment.Moment.{Moment}
 use Rattle.meaning.specs.Plans.{Act, Asks, Looks, Plan, Ask, Show, Say, Leads, each, if_done, if_told, examines, fails}
 use Rattle.meaning.specs.Plans.{ends}
-use Rattle.meaning.specs.Texts.{Spoken, list_said}
+use Rattle.meaning.specs.Texts.{Spoken}
 use Rattle.meaning.specs.declared.call.Reply.{Reply}
 use Rattle.meaning.specs.declared.call.Reply.TheVariants.{Done, Value, Refused, Stopped, NoChannel, AddressCheck, NoJob}
 use Rattle.meaning.specs.declared.call.Reply.TheVariants.{NoMemory, Device, Failed, DateRange}
@@ -22,9 +22,9 @@ leads_on plan mid rest [] more p q = subst (λ (x : Plan). Leads x more rest) p 
 leads_on (Ask event next) mid rest (Asks asked reply ∷ acts) more p q =
     (p.0, leads_on (next reply) mid rest acts more p.1 q)
 leads_on (Ask event next) mid rest (Looks owner answer ∷ acts) more p q = absurd p
-leads_on (Show owner) mid rest (Asks asked reply ∷ acts) more p q = absurd p
-leads_on (Show owner) mid rest (Looks shown answer ∷ acts) more p q =
-    (p.0, leads_on (Say (list_said owner answer)) mid rest acts more p.1 q)
+leads_on (Show owner next) mid rest (Asks asked reply ∷ acts) more p q = absurd p
+leads_on (Show owner next) mid rest (Looks shown answer ∷ acts) more p q =
+    (p.0, leads_on (next answer) mid rest acts more p.1 q)
 leads_on (Say said) mid rest (act ∷ acts) more p q = absurd p
 
 pub each_append : (moment : Moment) (events more : List Event) (next : Plan)

@@ -19,4 +19,9 @@ pub mod ObeyLaws
 pub mod ReadingLaws
 pub mod TypingLaws
 pub mod SpecLaws
+pub mod ErrandLaws
+pub mod SurveyLaws
+pub mod PuttingLaws
+pub mod WordLaws
+pub mod NameLaws
 pub mod StoppedLaws

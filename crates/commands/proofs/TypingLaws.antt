@@ -1,40 +1,45 @@
--- What TYPE asks for and how far its plan has come, call by call; and the characters of words that follow one another.
-use Rattle.std.proofs.Common.{◌≡◌, ℕ, ◌+◌, ◌≤◌, ◌||◌, Bool, true, List, [], ◌∷◌, ◌++◌, take, length, zero, suc, refl}
-use Rattle.std.proofs.Common.{sym, ◌∙◌, ap, subst, append_assoc, append-nil, Result, Ok, Err, IfOk, Some}
-use Rattle.std.proofs.lemmas.List.{take_all}
+-- What is asked where a file is read and how far its plan has come, call by call; and the bytes of words that follow one
+-- another.
+use Rattle.std.proofs.Common.{◌≡◌, ℕ, ◌+◌, ◌||◌, Bool, true, List, [], ◌∷◌, ◌++◌, zero, suc}
+use Rattle.std.proofs.Common.{sym, ◌∙◌, ap, subst, append_assoc, append-nil, Result, Ok, Err, IfOk}
 use Rattle.std.proofs.lemmas.Grind.{flat_map-append}
 use Rattle.std.specs.Prelude.{flat_map}
 use Rattle.words36.specs.Ascii.{unpacked, five_characters}
 use Rattle.words36.specs.declared.moment.Moment.{Moment}
 use Rattle.meaning.specs.Plans.{Plan, Say, each, examines, fetches, sizes, finds, lists, takes, goes_to, ends, fails}
 use Rattle.meaning.specs.Plans.{file_words, block_address, blocks_said, types_blocks, types_last, types_body, until_end}
-use Rattle.meaning.specs.Texts.{Spoken, typed, not_null, prints, refuses, refusal, is_broken, line}
+use Rattle.meaning.specs.Plans.{reads}
+use Rattle.words36.specs.Blocks.{word_bytes}
+use Rattle.meaning.specs.Texts.{Spoken, typed, printed, not_null, prints, refuses, refusal, is_broken, line}
+use Rattle.meaning.specs.declared.encoding.Encoding.{Encoding}
+use Rattle.meaning.specs.declared.encoding.Encoding.TheVariants.{Characters, Words}
 use Rattle.meaning.specs.declared.call.Event.{Event}
 use Rattle.meaning.specs.declared.call.Reply.{Reply}
-use Rattle.meaning.specs.declared.command.Command.TheVariants.{TypeOut as TypeLine}
 use Rattle.meaning.specs.declared.command.Spec.{Spec}
-use Rattle.commands.specs.Asking.{Led, followed, AreTyped, HasTyped}
+use Rattle.commands.specs.Asking.{Led, Concludes, followed, AreTyped, HasTyped}
 use Rattle.commands.specs.Machines.{Machine, AlwaysStands}
-use Rattle.commands.specs.Sessions.{Spoke}
 use Rattle.commands.specs.declared.answer.Tally.{Tally}
 use Rattle.commands.specs.declared.typing.Typed.{Typed}
 use Rattle.commands.proofs.TranscriptLaws.{or-false}
 use Rattle.commands.proofs.AnswerLaws.{or-true}
 use Rattle.commands.proofs.LedLaws.{led_on, led_still, each_append}
 
--- Characters.
+-- Bytes of words that follow one another.
 
-pub typed-append : (xs ys : List ℕ) → typed (xs ++ ys) ≡ typed xs ++ typed ys
+typed-append : (xs ys : List ℕ) → typed (xs ++ ys) ≡ typed xs ++ typed ys
 typed-append xs ys = ap (flat_map not_null) (flat_map-append five_characters xs ys)
     ∙ flat_map-append not_null (unpacked xs) (unpacked ys)
 
--- where the characters of words were put behind those before
-pub pushed_all : (before after seen words characters : List ℕ) (i : ℕ) → length characters ≤ i
-    → characters ≡ unpacked words → after ≡ before ++ flat_map not_null (take i characters) → before ≡ typed seen
-    → after ≡ typed (seen ++ words)
-pushed_all before after seen words characters i h same put was =
-    put ∙ ap (λ l. before ++ flat_map not_null l) (take_all i characters h ∙ same) ∙ ap (λ l. l ++ typed words) was
-    ∙ sym (typed-append seen words)
+printed-append : (encoding : Encoding) (xs ys : List ℕ)
+    → printed encoding (xs ++ ys) ≡ printed encoding xs ++ printed encoding ys
+printed-append Characters xs ys = typed-append xs ys
+printed-append Words xs ys = flat_map-append word_bytes xs ys
+
+-- where they were put behind those before
+pub pushed_all : (encoding : Encoding) (before after seen words : List ℕ) → after ≡ before ++ printed encoding words
+    → before ≡ printed encoding seen → after ≡ printed encoding (seen ++ words)
+pushed_all encoding before after seen words put was =
+    put ∙ ap (λ l. l ++ printed encoding words) was ∙ sym (printed-append encoding seen words)
 
 -- Plans.
 
@@ -71,13 +76,13 @@ module _ {S : Type 0} (machine : S → Machine) where
 
   pub record HasRead (old new : S) (plan rest : (List ℕ → Plan) → Plan) (before after : Typed) : Type 0 where
     pub words : List ℕ
-    pub types : (seen : List ℕ) → AreTyped before.is_whole before.bytes.items seen
-        → AreTyped after.is_whole after.bytes.items (seen ++ words)
+    pub types : (encoding : Encoding) (seen : List ℕ) → AreTyped encoding before seen
+        → AreTyped encoding after (seen ++ words)
     pub led : (next : List ℕ → Plan) → Led machine old new (plan next) (rest (λ others. next (words ++ others)))
 
-  types_none : (t : Typed) (seen : List ℕ) → AreTyped t.is_whole t.bytes.items seen
-      → AreTyped t.is_whole t.bytes.items (seen ++ [])
-  types_none t seen h = subst (λ (l : List ℕ). AreTyped t.is_whole t.bytes.items l) (sym (append-nil seen)) h
+  types_none : (t : Typed) (encoding : Encoding) (seen : List ℕ) → AreTyped encoding t seen
+      → AreTyped encoding t (seen ++ [])
+  types_none t encoding seen h = subst (λ (l : List ℕ). AreTyped encoding t l) (sym (append-nil seen)) h
 
   pub read_none : AlwaysStands machine → (a : S) (plan : (List ℕ → Plan) → Plan) (t : Typed) → HasRead a a plan plan t t
   read_none stands a plan t = record {
@@ -138,15 +143,15 @@ module _ {S : Type 0} (machine : S → Machine) where
 
       pub read_block : (words : List ℕ)
           → ((next : List ℕ → Plan) → Led machine c d (fetches moment 128 block_address next) (next words))
-          → ((seen : List ℕ) → AreTyped mid.is_whole mid.bytes.items seen
-          → AreTyped after.is_whole after.bytes.items (seen ++ words))
+          → ((encoding : Encoding) (seen : List ℕ) → AreTyped encoding mid seen
+          → AreTyped encoding after (seen ++ words))
           → HasRead a d (types_blocks moment count) (types_blocks moment more) before after
       read_block words fetched pushed =
           let q = next_block in
           record {
             words = q.words ++ words;
-            types = λ seen h. subst (λ (l : List ℕ). AreTyped after.is_whole after.bytes.items l)
-                (append_assoc seen q.words words) (pushed (seen ++ q.words) (q.types seen h));
+            types = λ encoding seen h. subst (λ (l : List ℕ). AreTyped encoding after l)
+                (append_assoc seen q.words words) (pushed encoding (seen ++ q.words) (q.types encoding seen h));
             led = λ next.
                 let k : List ℕ → Plan = λ others. next (q.words ++ others) in
                 let one = led_then (q.led next)
@@ -229,8 +234,8 @@ module _ {S : Type 0} (machine : S → Machine) where
 
           pub read_last : {X : Type 0} (x : X) (words : List ℕ) (after : Typed)
               → ((next : List ℕ → Plan) → Led machine d e (fetches moment count block_address next) (next words))
-              → ((seen : List ℕ) → AreTyped t.is_whole t.bytes.items seen
-              → AreTyped after.is_whole after.bytes.items (seen ++ words))
+              → ((encoding : Encoding) (seen : List ℕ) → AreTyped encoding t seen
+              → AreTyped encoding after (seen ++ words))
               → HasTyped machine a e moment (types_last moment n size) (Ok x) t after
           read_last x words after fetched pushed = record {
             words = words;
@@ -256,8 +261,8 @@ module _ {S : Type 0} (machine : S → Machine) where
       let last = subst (λ n. HasTyped machine b c moment (types_last moment n size) result mid after) e q in
       subst (λ n. HasTyped machine a c moment (types_body moment n size) result before after) (sym e) (record {
         words = p.words ++ last.words;
-        types = λ seen h. subst (λ (l : List ℕ). AreTyped after.is_whole after.bytes.items l)
-            (append_assoc seen p.words last.words) (last.types (seen ++ p.words) (p.types seen h));
+        types = λ encoding seen h. subst (λ (l : List ℕ). AreTyped encoding after l)
+            (append_assoc seen p.words last.words) (last.types encoding (seen ++ p.words) (p.types encoding seen h));
         led = λ next. led_then (p.led (λ words. types_last moment (suc more) size (λ others. next (words ++ others))))
             (last.led (λ others. next (p.words ++ others)));
       })
@@ -353,45 +358,38 @@ module _ {S : Type 0} (machine : S → Machine) where
 
   -- The line.
 
-  module _ {V E X : Type 0} (bytes : V → List ℕ) (result : Result V E) (a b c : S) (moment : Moment) (me : ℕ)
-      (spec : Spec) (tally counted : Tally) (read : Result X Reply) (before after : Typed)
+  module _ {V E X : Type 0} (bytes : V → List ℕ) (result : Result V E) (a b c : S) (moment : Moment)
+      (encoding : Encoding) (spec : Spec) (tally counted : Tally) (read : Result X Reply) (before after : Typed)
       (p : HasTyped machine a b moment (λ next. plan a b moment spec (λ size. behind a b moment spec size next))
       read before after) (closed : (said : Spoken) → Led machine b c (ends moment said) (Say said)) where
-    -- it prints all characters, where there is memory for them
+    -- it prints all bytes, where there is memory for them
     pub typed_out : (x : X) → read ≡ Ok x → counted.refused ≡ tally.refused → counted.broke ≡ tally.broke
-        → AreTyped before.is_whole before.bytes.items []
-        → ((words : List ℕ) → AreTyped after.is_whole after.bytes.items words
-        → IfOk result (λ v. bytes v ≡ typed words))
-        → Spoke bytes result machine a c moment (Some me) (Some me) tally counted (Some (TypeLine spec))
+        → AreTyped encoding before []
+        → ((words : List ℕ) → AreTyped encoding after words → IfOk result (λ v. bytes v ≡ printed encoding words))
+        → Concludes bytes result machine a c (reads moment encoding spec) tally counted
     typed_out x e refused broke fresh text =
         let q = subst (λ (r : Result X Reply). HasTyped machine a b moment
         (λ next. plan a b moment spec (λ size. behind a b moment spec size next)) r before after) e p in
-        let all_led = led_then (q.led (λ words. ends moment (prints (typed words))))
-        (closed (prints (typed q.words))) in
         record {
-          acts = all_led.acts;
-          said = prints (typed q.words);
-          speaks = (all_led.leads, refl);
-          goes = all_led.goes;
+          said = prints (printed encoding q.words);
+          led = led_then (q.led (λ words. ends moment (prints (printed encoding words))))
+              (closed (prints (printed encoding q.words)));
           refused = refused ∙ or-false tally.refused;
           broke = broke ∙ or-false tally.broke;
-          text = text q.words (q.types [] fresh);
+          text = text q.words (q.types encoding [] fresh);
         }
 
     -- or says why it was refused
     pub typed_refused : (reply : Reply) (words : List ℕ) (broken : Bool) → read ≡ Err reply → words ≡ refusal reply
         → broken ≡ is_broken reply → counted.refused ≡ true → counted.broke ≡ tally.broke || broken
         → IfOk result (λ v. bytes v ≡ line words)
-        → Spoke bytes result machine a c moment (Some me) (Some me) tally counted (Some (TypeLine spec))
+        → Concludes bytes result machine a c (reads moment encoding spec) tally counted
     typed_refused reply words broken e same_words same_broken refused broke text =
         let q = subst (λ (r : Result X Reply). HasTyped machine a b moment
         (λ next. plan a b moment spec (λ size. behind a b moment spec size next)) r before after) e p in
-        let all_led = led_then (q.led (λ words. ends moment (prints (typed words)))) (closed (refuses reply)) in
         record {
-          acts = all_led.acts;
           said = refuses reply;
-          speaks = (all_led.leads, refl);
-          goes = all_led.goes;
+          led = led_then (q.led (λ words. ends moment (prints (printed encoding words)))) (closed (refuses reply));
           refused = refused ∙ or-true tally.refused;
           broke = broke ∙ ap (λ b. tally.broke || b) same_broken;
           text = subst (λ (l : List ℕ). IfOk result (λ v. bytes v ≡ line l)) same_words text;

@@ -1,8 +1,10 @@
 -- What a line asks of a service, event by event, and how far its plan has come.
-use Rattle.std.specs.Prelude.{◌≡◌, ℕ, ◌||◌, Bool, true, List, ◌++◌, Result, Ok, Err, IfOk}
+use Rattle.std.specs.Prelude.{◌≡◌, ℕ, ◌||◌, true, List, ◌++◌, Result, Ok, Err, IfOk}
 use Rattle.words36.specs.declared.moment.Moment.{Moment}
-use Rattle.meaning.specs.Plans.{Act, Plan, Leads, Say, each, fails}
-use Rattle.meaning.specs.Texts.{Spoken, typed}
+use Rattle.meaning.specs.Plans.{Act, Plan, Leads, Show, Say, each, fails}
+use Rattle.meaning.specs.Texts.{Spoken, printed, list_said}
+use Rattle.meaning.specs.declared.entry.Entry.{Entry}
+use Rattle.meaning.specs.declared.encoding.Encoding.{Encoding}
 use Rattle.meaning.specs.declared.call.Reply.{Reply}
 use Rattle.meaning.specs.declared.call.Event.{Event}
 use Rattle.commands.specs.Machines.{Machine, GoesBy}
@@ -36,14 +38,23 @@ pub record Concludes {V E S : Type 0} (bytes : V → List ℕ) (result : Result 
   pub broke : counted.broke ≡ tally.broke || said.broke
   pub text : IfOk result (λ v. bytes v ≡ said.text)
 
--- The characters of words, as far as there was memory for them.
-abbrev pub AreTyped : Bool → List ℕ → List ℕ → Type 0
-AreTyped is_whole bytes words = is_whole ≡ true → bytes ≡ typed words
+-- The list of a directory was asked for, and its text, or its refusal's, is what is answered and counted.
+pub record HasShown {V E S : Type 0} (bytes : V → List ℕ) (result : Result V E) (machine : S → Machine) (old new : S)
+    (owner : ℕ) (tally counted : Tally) : Type 0 where
+  pub answer : Result (List Entry) Reply
+  pub led : (next : Result (List Entry) Reply → Plan) → Led machine old new (Show owner next) (next answer)
+  pub refused : counted.refused ≡ tally.refused || (list_said owner answer).refused
+  pub broke : counted.broke ≡ tally.broke || (list_said owner answer).broke
+  pub text : IfOk result (λ v. bytes v ≡ (list_said owner answer).text)
 
--- Words of a body were read by what a plan asks for them, and their characters put behind those before.
+-- The bytes that words are printed as, as far as there was memory for them.
+abbrev pub AreTyped : Encoding → Typed → List ℕ → Type 0
+AreTyped encoding t words = (t.encoding ≡ encoding) × (t.is_whole ≡ true → t.bytes.items ≡ printed encoding words)
+
+-- Words of a body were read by what a plan asks for them, and their bytes put behind those before.
 pub record HasTyped {S X : Type 0} (machine : S → Machine) (old new : S) (moment : Moment) (plan : (List ℕ → Plan)
     → Plan) (result : Result X Reply) (before after : Typed) : Type 0 where
   pub words : List ℕ
-  pub types : (seen : List ℕ) → AreTyped before.is_whole before.bytes.items seen
-      → AreTyped after.is_whole after.bytes.items (seen ++ words)
+  pub types : (encoding : Encoding) (seen : List ℕ) → AreTyped encoding before seen
+      → AreTyped encoding after (seen ++ words)
   pub led : (next : List ℕ → Plan) → Led machine old new (plan next) (followed moment result (λ x. next words))

@@ -6,6 +6,7 @@ pub mod Asking
 pub mod Languages
 pub mod Streams
 pub mod Sessions
+pub mod Errands
 pub mod Monitors
 pub mod Orders
 pub mod Files

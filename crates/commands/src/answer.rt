@@ -4,6 +4,7 @@ ghost use Rattle.meaning.specs.declared.command.Command.TheVariants.{Login as Lo
 ghost use Rattle.meaning.specs.declared.command.Command.TheVariants.{Copy as CopyLine, TypeOut as TypeLine};
 ghost use Rattle.meaning.specs.declared.command.Command.TheVariants.{Rename as RenameLine, Delete as DeleteLine};
 ghost use Rattle.meaning.specs.declared.command.Command.TheVariants.{Protect as ProtectLine, MakeDir as MakeLine};
+ghost use Rattle.commands.specs.Errands.{fresh};
 ghost use Rattle.commands.specs.Fitting.{Fits};
 ghost use Rattle.commands.specs.Sessions.{Spoke};
 
@@ -11,6 +12,7 @@ use crate::changing::{delete, protect, rename};
 use crate::copying::copy;
 use crate::makdir::make_dir;
 use crate::service::FileService;
+use crate::survey::show;
 use crate::text;
 use crate::typing::type_out;
 use meaning::{Command, Event, Reply, Spec};
@@ -21,7 +23,7 @@ use words36::{Moment, Ppn};
 pub const SESSION_JOB: u32 = 1;
 
 /// How many words its core has.
-const CORE_WORDS: u32 = 0o10000;
+pub const CORE_WORDS: u32 = 0o10000;
 
 /// What is counted of a session's lines.
 #[derive(Clone, Copy, Debug, PartialEq, Eq)]
@@ -30,6 +32,18 @@ pub struct Tally {
     pub refused: bool,
     /// Whether a line met a fault of the disk, or came after one.
     pub broke: bool,
+}
+
+impl Tally {
+    /// Nothing counted yet.
+    pub fn none() -> Tally
+        ensures { result ≡ fresh }
+    {
+        Tally {
+            refused: false,
+            broke: false,
+        }
+    }
 }
 
 /// Whether a reply tells of a fault of the disk, in this call or before.
@@ -109,11 +123,7 @@ fn list<S: FileService>(
     ensures { Spoke (λ bytes. bytes.items) result S.machine service.old service.new moment (Some me)
         (Some me) tally.old tally.new (Some (DirectoryLine place)) }
 {
-    let owner = place.unwrap_or(me);
-    match service.list(alloc, SESSION_JOB, owner) {
-        Ok(entries) => text::listing(alloc, owner, &entries),
-        Err(reply) => refuse(alloc, tally, text::refusal(&reply), is_broken(&reply)),
-    }
+    show(alloc, service, tally, place.unwrap_or(me))
 }
 
 /// Answers DIRECTORY, for whoever is logged in.

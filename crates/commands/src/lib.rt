@@ -28,6 +28,9 @@
 //! 10. A start over what a crash left in the course of a session or a script, or of starts after it that were stopped
 //!    themselves, finds the files after some of its acts, or after these and the one that was running.
 //! (`start_after_acts`)
+//! 11. `put` reads and tests all of its input before its first call, and `get` and `list` write nothing before their last
+//!    one. Each does a plan by calls of job 1, which logs in for it, and writes what that says; what a crash leaves is said
+//!    as of a session. (`Delivery`, `Errand`, `Survey`) `check` writes what a volume has. (`Checked`)
 #![tactic(auto)]
 
 mod answer;
@@ -35,31 +38,39 @@ mod asking;
 mod changing;
 mod concluding;
 mod copying;
+mod errands;
 mod error;
 mod fields;
 mod grammar;
 mod input;
+mod input_words;
 mod language;
 mod laws;
 mod makdir;
 mod monitored;
+mod names;
 mod obeying;
 mod orders;
+mod putting;
 mod reading;
 mod requests;
 mod restart;
+mod ring_requests;
 mod run;
 mod service;
 mod specs;
 mod stream;
+mod survey;
 mod text;
 mod typing;
 
 pub use answer::Tally;
 pub use error::SessionError;
 pub use laws::{lines_have_one_meaning, orders_have_one_reading, served_texts_are_functions};
+pub use meaning::Encoding;
 pub use monitor::{Monitor, StartError};
-pub use monitored::{script, session};
+pub use monitored::{check, get, list, put, script, session};
+pub use names::{file_named, owner_named};
 pub use restart::start_after_acts;
 pub use text::refusal;
 pub use volume::Volume;

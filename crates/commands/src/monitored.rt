@@ -2,17 +2,20 @@ ghost use Rattle.commands.specs.Machines.{Machine};
 ghost use Rattle.monitor.specs.States.{MonitorState};
 ghost use Rattle.commands.specs.Monitors.{machine_of};
 ghost use Rattle.commands.specs.Sessions.{Session, Script};
+ghost use Rattle.commands.specs.Errands.{Checked, Delivery, Errand, Survey};
+ghost use Rattle.meaning.specs.Errands.{gets, keeps, own_file};
 
-use crate::SessionError;
 use crate::answer::Tally;
-use crate::run::{converse, play};
+use crate::errands::{read_in, write_lists, write_out, write_refusal};
+use crate::run::{converse, play, print};
 use crate::service::FileService;
+use crate::{SessionError, text};
 use blockdisk::Disk;
-use meaning::{Entry, Event, Reply};
+use meaning::{Encoding, Entry, Event, Reply, Spec};
 use monitor::Monitor;
 use std::alloc::Global;
 use std::io::{Read, Write};
-use words36::{Moment, Ppn};
+use words36::{FileName, Moment, Ppn};
 
 impl<D: Disk> FileService for Monitor<D> {
     ghost use Rattle.monitor.proofs.EventCrashes.{state_stands};
@@ -74,4 +77,101 @@ pub fn script<R: Read, W: Write, D: Disk>(
         moment result }
 {
     play(alloc, reader, writer, monitor, moment)
+}
+
+/// Writes a file, as it is printed, by job 1, which logs in for it as the owner of a directory, at a moment. Of the calls
+/// that are made what is said of those of a session is said.
+///
+/// # Errors
+///
+/// `Write` where the writer failed: it holds a beginning of the file. `NoMemory` where the file found no room: nothing is
+/// written.
+pub fn get<W: Write, D: Disk>(
+    alloc: Global,
+    writer: &mut W,
+    monitor: &mut Monitor<D>,
+    moment: Moment,
+    owner: Ppn,
+    encoding: Encoding,
+    name: FileName,
+) -> Result<Tally, SessionError>
+    ensures { Errand (W.contents writer.old) (W.contents writer.new)
+        (λ (m : MonitorState D). machine_of (D.state m.disk) m.map m.failed m.jobs) monitor.old monitor.new
+        (gets moment owner encoding (own_file name)) result }
+{
+    let spec = Spec { name, owner: None };
+    write_out(alloc, writer, monitor, moment, owner, encoding, spec)
+}
+
+/// Makes a file of all that a reader has, by job 1, which logs in for it as the owner of a directory, at a moment; a file
+/// that is there is superseded. All of the input is read and tested before anything is asked. `OK` is written, or why not.
+///
+/// # Errors
+///
+/// `Read` where the reader failed, `NoMemory` where its bytes or their words found no room: nothing was asked, and nothing
+/// is written. `Write` where the writer failed, `NoMemory` where the text found no room: the calls were made.
+pub fn put<R: Read, W: Write, D: Disk>(
+    alloc: Global,
+    reader: &mut R,
+    writer: &mut W,
+    monitor: &mut Monitor<D>,
+    moment: Moment,
+    owner: Ppn,
+    encoding: Encoding,
+    name: FileName,
+) -> Result<Tally, SessionError>
+    ensures { Delivery (R.remaining reader.old) (R.remaining reader.new) (W.contents writer.old) (W.contents writer.new)
+        (λ (m : MonitorState D). machine_of (D.state m.disk) m.map m.failed m.jobs) monitor.old monitor.new
+        encoding (keeps moment owner encoding (own_file name)) result }
+{
+    let spec = Spec { name, owner: None };
+    read_in(
+        alloc, reader, writer, monitor, moment, owner, encoding, spec,
+    )
+}
+
+/// Writes the list of a directory, or of all that there are, one behind the other, as DIRECTORY prints it, by job 1,
+/// which logs in for it as [1,2], at a moment.
+///
+/// # Errors
+///
+/// `Write` where the writer failed: it holds a beginning of the lists. `NoMemory` where they found no room: nothing is
+/// written.
+pub fn list<W: Write, D: Disk>(
+    alloc: Global,
+    writer: &mut W,
+    monitor: &mut Monitor<D>,
+    moment: Moment,
+    place: Option<Ppn>,
+) -> Result<Tally, SessionError>
+    ensures { Survey (W.contents writer.old) (W.contents writer.new)
+        (λ (m : MonitorState D). machine_of (D.state m.disk) m.map m.failed m.jobs) monitor.old monitor.new
+        moment place result }
+{
+    if let Some(owner) = place {
+        return write_lists(alloc, writer, monitor, moment, &[owner]);
+    }
+    match monitor.owners(alloc) {
+        Ok(owners) => write_lists(alloc, writer, monitor, moment, &owners),
+        Err(reply) => write_refusal(alloc, writer, monitor, &reply),
+    }
+}
+
+/// Writes how many blocks a volume has, and how many are left.
+///
+/// # Errors
+///
+/// `Write` where the writer failed: it holds a beginning of the line. `NoMemory` where the line found no room: nothing is
+/// written.
+pub fn check<W: Write, D: Disk>(
+    alloc: Global,
+    writer: &mut W,
+    monitor: &Monitor<D>,
+) -> Result<Tally, SessionError>
+    ensures { Checked (W.contents writer.old) (W.contents writer.new)
+        (machine_of (D.state monitor.now.disk) monitor.now.map monitor.now.failed monitor.now.jobs) result }
+{
+    let text = text::volume_line(alloc, monitor.blocks(), monitor.room());
+    print(writer, text)?;
+    Ok(Tally::none())
 }

@@ -12,7 +12,7 @@ use words36::{FileName, Half, Moment, Ppn, Word};
 // Where a session has what it hands over, in its core.
 
 /// The three words of an OPEN.
-const OPEN_WORDS: u32 = 0o30;
+pub const OPEN_WORDS: u32 = 0o30;
 
 /// The four words of a file that is looked up, and the words of a directory.
 const FILE_WORDS: u32 = 0o40;
@@ -21,7 +21,7 @@ const FILE_WORDS: u32 = 0o40;
 pub const SIZE_WORD: u32 = FILE_WORDS + 3;
 
 /// The four words of a file that is entered.
-const NEW_WORDS: u32 = 0o44;
+pub const NEW_WORDS: u32 = 0o44;
 
 /// A command list of two words.
 const LIST_WORDS: u32 = 0o50;
@@ -30,7 +30,7 @@ const LIST_WORDS: u32 = 0o50;
 pub const BLOCK_AREA: u32 = 0o200;
 
 /// DSK in SIXBIT.
-const DISK: u64 = 0o446353000000;
+pub const DISK: u64 = 0o446353000000;
 
 const DUMP_MODE: u64 = 0o17;
 
@@ -38,7 +38,7 @@ const DUMP_MODE: u64 = 0o17;
 const READER: u32 = 1;
 
 /// The channel that a file is written on.
-const WRITER: u32 = 2;
+pub const WRITER: u32 = 2;
 
 /// The word that a protection is handed over in: it stands in the nine bits on the left.
 fn protection_word(protection: u32) -> Word
@@ -49,7 +49,7 @@ fn protection_word(protection: u32) -> Word
 }
 
 /// The word of a directory's owner, or 0 for the session's own.
-fn owner_word(owner: Option<Ppn>) -> Word
+pub fn owner_word(owner: Option<Ppn>) -> Word
     ensures { result ≡ unwrap_or owner 0 }
 {
     match owner {
@@ -59,7 +59,7 @@ fn owner_word(owner: Option<Ppn>) -> Word
 }
 
 /// The word of a file's extension.
-fn extension_word(name: &FileName) -> Word
+pub fn extension_word(name: &FileName) -> Word
     ensures { result ≡ join name.now.ext 0 }
 {
     Word::from_halves(name.ext, Half::from_bits(0))

@@ -53,7 +53,10 @@ fn heard_of(language: Language, moment: Moment, line: Option<InputLine<'_>>) -> 
 }
 
 /// Writes a text, where there was memory for it.
-fn put<W: Write>(writer: &mut W, text: Result<Vec<u8>, AllocError>) -> Result<(), SessionError>
+pub fn print<W: Write>(
+    writer: &mut W,
+    text: Result<Vec<u8>, AllocError>,
+) -> Result<(), SessionError>
     ensures { Puts (λ bytes. bytes.items) result (W.contents writer.old) (W.contents writer.new) text }
 {
     match text {
@@ -87,11 +90,11 @@ fn tell<S: FileService, W: Write>(
                 &mut talk.tally,
                 meant,
             );
-            put(writer, text)
+            print(writer, text)
         }
         Heard::Ordered(order) => {
             let text = obey(alloc, service, &mut talk.tally, order);
-            put(writer, text)
+            print(writer, text)
         }
     }
 }

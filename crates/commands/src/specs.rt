@@ -66,7 +66,7 @@ fn extension(text: &[u8]) -> Option<Half>
 }
 
 /// The file's name that `NAME` or `NAME.EXT` spells.
-fn file_name(text: &[u8]) -> Option<FileName>
+pub(crate) fn file_name(text: &[u8]) -> Option<FileName>
     ensures some { IfSome result (λ file. IsFileName text.now file.name file.ext) }
     ensures none { IfNone result ((name ext : ℕ) → IsFileName text.now name ext → ⊥) }
 {

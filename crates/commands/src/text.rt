@@ -3,6 +3,7 @@ ghost use Rattle.words36.specs.Sixbit.{characters};
 ghost use Rattle.meaning.specs.Scripts.{written};
 ghost use Rattle.meaning.specs.Texts.{line, refusal, code_text, greeting, right_in, three_digits, extension_text};
 ghost use Rattle.meaning.specs.Texts.{month_text, day_text, entry_text, blocks_in, total_text, listing};
+ghost use Rattle.meaning.specs.Errands.{volume_line};
 
 use meaning::{Entry, Reply};
 use std::alloc::{AllocError, Global};
@@ -86,6 +87,14 @@ pub fn greeting(alloc: Global, owner: Ppn) -> Result<Vec<u8>, AllocError>
     ensures { IfOk result (λ bytes. bytes.items ≡ greeting owner) }
 {
     let text = format!(in alloc; "Job 1 {owner}")?;
+    line(alloc, text.as_str())
+}
+
+/// What a volume is said to have: so many blocks, and so many that are left; numbers are decimal.
+pub fn volume_line(alloc: Global, blocks: u32, room: i64) -> Result<Vec<u8>, AllocError>
+    ensures { IfOk result (λ bytes. bytes.items ≡ volume_line blocks room) }
+{
+    let text = format!(in alloc; "Volume of {blocks} blocks, room {room}")?;
     line(alloc, text.as_str())
 }
 

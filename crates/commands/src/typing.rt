@@ -1,8 +1,11 @@
-ghost use Rattle.std.specs.Prelude.{◌+◌, ◌++◌, ℕ, List, [], Some};
+ghost use Rattle.std.specs.Prelude.{◌≡◌, ◌+◌, ◌++◌, ℕ, List, [], Some, OnOk, flat_map};
+ghost use Rattle.words36.specs.Blocks.{word_bytes};
 ghost use Rattle.meaning.specs.Plans.{Plan, each, examines, finds as found, lists as listed, file_words, types_blocks};
-ghost use Rattle.meaning.specs.Plans.{types_last, types_body, blocks_said as said_blocks, until_end};
+ghost use Rattle.meaning.specs.Plans.{types_last, types_body, blocks_said as said_blocks, until_end, reads};
+ghost use Rattle.meaning.specs.Texts.{typed};
+ghost use Rattle.meaning.specs.declared.encoding.Encoding.{Encoding as Encodings};
 ghost use Rattle.meaning.specs.declared.command.Command.TheVariants.{TypeOut as TypeLine};
-ghost use Rattle.commands.specs.Asking.{Led, followed, AreTyped, HasTyped};
+ghost use Rattle.commands.specs.Asking.{Led, Concludes, followed, AreTyped, HasTyped};
 ghost use Rattle.commands.specs.Sessions.{Spoke};
 
 use crate::answer::{Tally, is_broken, refuse};
@@ -11,46 +14,74 @@ use crate::reading::{blocks_said, fetch, find_end, last_count};
 use crate::requests::{SIZE_WORD, finds, goes_to, lists, takes};
 use crate::service::FileService;
 use crate::text;
-use meaning::{Reply, Spec};
+use meaning::{Encoding, Reply, Spec};
 use std::alloc::{AllocError, Global};
 use words36::{BLOCK_WORDS, Moment, Ppn, Word, unpack_ascii};
 
-/// The characters that were read so far, without nulls.
+/// What was read so far, as it is printed.
 #[derive(Drop)]
 struct Typed {
+    encoding: Encoding,
     bytes: Vec<u8>,
     /// Whether there was memory for all of them. A file is read to its end in any case, so that the job is left
     /// as after any line.
     is_whole: bool,
 }
 
+/// Puts the characters of words behind the bytes, without nulls.
+fn push_characters(alloc: Global, bytes: &mut Vec<u8>, words: &[Word]) -> Result<(), AllocError>
+    ensures { OnOk result (bytes.new.items ≡ bytes.old.items ++ typed words.now) }
+{
+    let Ok(characters) = unpack_ascii(alloc, words) else {
+        return Err(AllocError);
+    };
+    for character in characters.as_slice() {
+        if *character != 0 {
+            bytes.push(*character)?;
+        }
+    }
+    Ok(())
+}
+
+/// The eight bytes of a word, the most significant first.
+fn bytes_of(word: Word) -> [u8; 8]
+    ensures { result ≡ word_bytes word }
+{
+    word.bits().to_be_bytes()
+}
+
+/// Puts the bytes of words behind the others, eight for each.
+fn push_words(bytes: &mut Vec<u8>, words: &[Word]) -> Result<(), AllocError>
+    ensures { OnOk result (bytes.new.items ≡ bytes.old.items ++ flat_map word_bytes words.now) }
+{
+    for word in words {
+        bytes.extend_from_slice(&bytes_of(*word))?;
+    }
+    Ok(())
+}
+
 impl Typed {
-    fn new(alloc: Global) -> Typed
-        ensures { AreTyped result.is_whole result.bytes.items [] }
+    fn new(alloc: Global, encoding: Encoding) -> Typed
+        ensures { AreTyped encoding result [] }
     {
         Typed {
+            encoding,
             bytes: Vec::new(alloc),
             is_whole: true,
         }
     }
 
-    /// Puts the characters of words behind, where there is memory for them.
+    /// Puts the bytes of words behind, where there is memory for them.
     fn push(&mut self, alloc: Global, words: &[Word])
-        ensures { (seen : List ℕ) → AreTyped self.old.is_whole self.old.bytes.items seen
-            → AreTyped self.new.is_whole self.new.bytes.items (seen ++ words.now) }
+        ensures { (encoding : Encodings) (seen : List ℕ) → AreTyped encoding self.old seen
+            → AreTyped encoding self.new (seen ++ words.now) }
     {
-        let Ok(characters) = unpack_ascii(alloc, words) else {
-            self.is_whole = false;
-            return;
+        let pushed = match self.encoding {
+            Encoding::Characters => push_characters(alloc, &mut self.bytes, words),
+            Encoding::Words => push_words(&mut self.bytes, words),
         };
-        for character in characters.as_slice() {
-            if *character == 0 {
-                continue;
-            }
-            if self.bytes.push(*character).is_err() {
-                self.is_whole = false;
-                return;
-            }
+        if pushed.is_err() {
+            self.is_whole = false;
         }
     }
 }
@@ -145,7 +176,29 @@ fn type_file<S: FileService>(
     find_end(alloc, service, moment)
 }
 
-/// Answers TYPE, for a job that is logged in: the whole file is read before anything of it is printed.
+/// Reads a file and prints it, for a job that is logged in: the whole file is read before anything of it is printed.
+pub fn read_out<S: FileService>(
+    alloc: Global,
+    service: &mut S,
+    moment: Moment,
+    tally: &mut Tally,
+    encoding: Encoding,
+    spec: Spec,
+) -> Result<Vec<u8>, AllocError>
+    ensures { Concludes (λ bytes. bytes.items) result S.machine service.old service.new
+        (reads moment encoding spec) tally.old tally.new }
+{
+    let mut typed = Typed::new(alloc, encoding);
+    let read = type_file(alloc, service, moment, spec, &mut typed);
+    reset(alloc, service, moment);
+    match read {
+        Ok(()) if typed.is_whole => Ok(typed.bytes),
+        Ok(()) => Err(AllocError),
+        Err(reply) => refuse(alloc, tally, text::refusal(&reply), is_broken(&reply)),
+    }
+}
+
+/// Answers TYPE, for a job that is logged in.
 pub fn type_out<S: FileService>(
     alloc: Global,
     service: &mut S,
@@ -157,12 +210,5 @@ pub fn type_out<S: FileService>(
     ensures { Spoke (λ bytes. bytes.items) result S.machine service.old service.new moment (Some me)
         (Some me) tally.old tally.new (Some (TypeLine spec)) }
 {
-    let mut typed = Typed::new(alloc);
-    let read = type_file(alloc, service, moment, spec, &mut typed);
-    reset(alloc, service, moment);
-    match read {
-        Ok(()) if typed.is_whole => Ok(typed.bytes),
-        Ok(()) => Err(AllocError),
-        Err(reply) => refuse(alloc, tally, text::refusal(&reply), is_broken(&reply)),
-    }
+    read_out(alloc, service, moment, tally, Encoding::Characters, spec)
 }

@@ -1,3 +1,4 @@
 mod Began
+mod Attending
 mod Matching
 mod Unasked

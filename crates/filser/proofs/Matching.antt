@@ -1,7 +1,7 @@
 -- From what `clap` matched to what is asked for.
-use Rattle.std.proofs.Common.{◌≡◌, ◌≤◌, ◌<◌, ◌^◌, ◌∙◌, sym, ap, subst, refl, List, ℕ, length, codes, Option, Some, None}
+use Rattle.std.proofs.Common.{◌≡◌, ◌+◌, ◌*◌, ◌≤◌, ◌<◌, ◌^◌, ◌∙◌, sym, ap, subst, refl, List, ℕ, map, codes, Option, Some, None}
 use Rattle.std.proofs.Common.{Err, arith, true, inl, inr}
-use Rattle.std.specs.Prelude.{[], option_map, MatchOption, IsErrOf}
+use Rattle.std.specs.Prelude.{[], slice_index, option_map, MatchOption, IsErrOf}
 use Rattle.std.specs.Str.Parse.{IsNumeral, digits_value, without_leading_plus}
 use Rattle.clap.specs.Words.{Text, Row, App, one_of, first_value, one_text, rows_of, is_simple, kind_of, fault_of}
 use Rattle.clap.specs.Words.{is_simple_and_free, HasKind, IsAmong, HasMatchesOf, subcommand_of, subcommand_rows_of}
@@ -11,21 +11,29 @@ use Rattle.clap.specs.declared.error.Error.{Error}
 use Rattle.clap.specs.declared.error.kind.ErrorKind.TheVariants.{OutOfMemory}
 use Rattle.clap.proofs.OnLiterals.{clap_on_literals}
 use Rattle.clap.proofs.WalkLemmas.{first_value-rows, one_text-rows}
-use Rattle.filser.specs.CommandLine.{command_line, served, init_app, run_app, calls_app, dated}
-use Rattle.filser.specs.Requests.{Asks, IsAsked, HasText, HasNumber, Spells}
+use Rattle.words36.specs.declared.moment.Moment.{Moment}
+use Rattle.meaning.specs.Lines.{upper}
+use Rattle.meaning.specs.Spellings.{IsPair}
+use Rattle.commands.specs.Files.{IsFileName}
+use Rattle.filser.specs.CommandLine.{command_line, serving, filing, looking, init_app, run_app, calls_app, put_app}
+use Rattle.filser.specs.CommandLine.{get_app, list_app, check_app, dated, filed}
+use Rattle.filser.specs.Requests.{Asks, IsAsked, IsTask, IsAt, IsNamed, IsPlace, HasText, HasNumber, Spells, task_name}
+use Rattle.filser.specs.declared.task.NamedFile.{NamedFile}
+use Rattle.filser.specs.declared.task.Task.{Task}
+use Rattle.filser.specs.declared.task.Task.TheVariants.{Run, Calls, Put, Get, List as ListAll, Check}
 use Rattle.filser.specs.declared.error.RequestError.{RequestError}
 use Rattle.filser.specs.declared.error.RequestError.TheVariants.{Usage}
 use Rattle.filser.specs.declared.asked.Request.{Request}
-use Rattle.filser.specs.declared.asked.Request.TheVariants.{Fresh, Init, Run, Calls}
+use Rattle.filser.specs.declared.asked.Request.TheVariants.{Fresh, Init, Work}
 
 -- The command line is one of those whose matches `clap` computes.
 
 pub line-simple : is_simple command_line ≡ true
-unfolding clap_on_literals command_line served init_app dated run_app calls_app
+unfolding clap_on_literals command_line serving filing looking init_app dated filed run_app calls_app put_app get_app list_app check_app
 line-simple = refl
 
 pub line-free : is_simple_and_free command_line ≡ true
-unfolding clap_on_literals command_line served init_app dated run_app calls_app
+unfolding clap_on_literals command_line serving filing looking init_app dated filed run_app calls_app put_app get_app list_app check_app
 line-free = refl
 
 -- Texts and numbers.
@@ -96,55 +104,140 @@ out_of_range rows id least most m parsed outside n has =
     let below : m ≤ most = (let P : ℕ → Type 0 = λ k. k ≤ most in subst P same has.2) in
     outside above below
 
+-- Arguments that name a file, a directory or a moment, and don't.
+
+pub no_owner : (rows : List Row) (text : Text) → HasText rows (codes "PPN") text
+    → ((owner : ℕ) → IsPair 6 text owner → ⊥) → (f : NamedFile) → IsNamed rows f → ⊥
+no_owner rows text has none f named =
+    let same = same_some named.owner.0 text (sym named.owner.1 ∙ has) in
+    none f.owner (subst (λ (t : Text). IsPair 6 t f.owner) same named.owner.2)
+
+pub no_name : (rows : List Row) (text : Text) → HasText rows (codes "NAME") text
+    → ((name ext : ℕ) → IsFileName (map upper text) name ext → ⊥) → (f : NamedFile) → IsNamed rows f → ⊥
+no_name rows text has none f named =
+    let same = same_some named.name.0 text (sym named.name.1 ∙ has) in
+    none f.name.name f.name.ext (subst (λ (t : Text). IsFileName (map upper t) f.name.name f.name.ext) same named.name.2)
+
+pub no_place : (rows : List Row) (text : Text) → HasText rows (codes "PPN") text
+    → ((owner : ℕ) → IsPair 6 text owner → ⊥) → (place : Option ℕ) → IsPlace rows place → ⊥
+no_place rows text has none None gone = some_is_none text (sym has ∙ gone)
+no_place rows text has none (Some owner) named =
+    let same = same_some named.0 text (sym named.1 ∙ has) in
+    none owner (subst (λ (t : Text). IsPair 6 t owner) same named.2)
+
+pub no_date : (rows : List Row) → ((n : ℕ) → HasNumber rows (codes "date") 0 32767 n → ⊥) → (at : Moment)
+    → IsAt rows at → ⊥
+no_date rows none at is = none at.date is.0
+
+pub no_minute : (rows : List Row) → ((n : ℕ) → HasNumber rows (codes "minute") 0 1439 n → ⊥) → (at : Moment)
+    → IsAt rows at → ⊥
+no_minute rows none at is = none at.minute is.1
+
 -- Subcommands.
 
--- words of different lengths
-differ : (name : Text) (x y : Text) (m n : ℕ) → length x ≡ m → length y ≡ n → (m ≡ n → ⊥) → name ≡ x → name ≡ y → ⊥
-differ name x y m n p q other e f = other (sym p ∙ ap length (sym e ∙ f) ∙ q)
+-- what tells the words of subcommands apart
+abbrev mark : Text → ℕ
+mark text = slice_index text 0 + 2 * slice_index text 1
 
-init_is_not_run : (name : Text) → name ≡ codes "init" → name ≡ codes "run" → ⊥
-init_is_not_run name = differ name (codes "init") (codes "run") 4 3 refl refl (λ e. omega arith)
+differ : (name x y : Text) (m n : ℕ) → mark x ≡ m → mark y ≡ n → (m ≡ n → ⊥) → name ≡ x → name ≡ y → ⊥
+differ name x y m n p q other e f = other (sym p ∙ ap mark (sym e ∙ f) ∙ q)
 
-init_is_not_calls : (name : Text) → name ≡ codes "init" → name ≡ codes "calls" → ⊥
-init_is_not_calls name = differ name (codes "init") (codes "calls") 4 5 refl refl (λ e. omega arith)
+-- the mark of a task's word
+abbrev task_mark : Task → ℕ
+task_mark (Run at) = 348
+task_mark (Calls at) = 293
+task_mark (Put file at) = 346
+task_mark (Get file at) = 305
+task_mark (ListAll place) = 318
+task_mark Check = 307
 
-run_is_not_calls : (name : Text) → name ≡ codes "run" → name ≡ codes "calls" → ⊥
-run_is_not_calls name = differ name (codes "run") (codes "calls") 3 5 refl refl (λ e. omega arith)
+marked : (task : Task) → mark (task_name task) ≡ task_mark task
+marked (Run at) = refl
+marked (Calls at) = refl
+marked (Put file at) = refl
+marked (Get file at) = refl
+marked (ListAll place) = refl
+marked Check = refl
+
+other_task : (name x : Text) (task : Task) (m : ℕ) → mark x ≡ m → (m ≡ task_mark task → ⊥) → name ≡ x
+    → name ≡ task_name task → ⊥
+other_task name x task m p other is asked = differ name x (task_name task) m (task_mark task) p (marked task) other is
+    asked
+
+init_is_no_task : (name : Text) (task : Task) → name ≡ codes "init" → name ≡ task_name task → ⊥
+init_is_no_task name (Run at) is asked = other_task name (codes "init") (Run at) 325 refl (λ e. omega arith) is asked
+init_is_no_task name (Calls at) is asked = other_task name (codes "init") (Calls at) 325 refl (λ e. omega arith) is asked
+init_is_no_task name (Put file at) is asked = other_task name (codes "init") (Put file at) 325 refl (λ e. omega arith)
+    is asked
+init_is_no_task name (Get file at) is asked = other_task name (codes "init") (Get file at) 325 refl (λ e. omega arith)
+    is asked
+init_is_no_task name (ListAll place) is asked = other_task name (codes "init") (ListAll place) 325 refl
+    (λ e. omega arith) is asked
+init_is_no_task name Check is asked = other_task name (codes "init") Check 325 refl (λ e. omega arith) is asked
 
 pub no_init : (name : Text) (rows : List Row) → name ≡ codes "init"
     → ((n : ℕ) → HasNumber rows (codes "BLOCKS") 64 131072 n → ⊥) → (r : Request) → IsAsked name rows r → ⊥
 no_init name rows is none Fresh asked = asked
 no_init name rows is none (Init image blocks) asked = none blocks asked.2
-no_init name rows is none (Run image date minute) asked = init_is_not_run name is asked.0
-no_init name rows is none (Calls image date minute) asked = init_is_not_calls name is asked.0
+no_init name rows is none (Work image task) asked = init_is_no_task name task is asked.1.0
 
-pub no_date : (name : Text) (rows : List Row) → name ≡ codes "run"
-    → ((n : ℕ) → HasNumber rows (codes "date") 0 32767 n → ⊥) → (r : Request) → IsAsked name rows r → ⊥
-no_date name rows is none Fresh asked = asked
-no_date name rows is none (Init image blocks) asked = init_is_not_run name asked.0 is
-no_date name rows is none (Run image date minute) asked = none date asked.2
-no_date name rows is none (Calls image date minute) asked = run_is_not_calls name is asked.0
+pub no_work : (name : Text) (rows : List Row) → (name ≡ codes "init" → ⊥) → ((t : Task) → IsTask name rows t → ⊥)
+    → (r : Request) → IsAsked name rows r → ⊥
+no_work name rows other none Fresh asked = asked
+no_work name rows other none (Init image blocks) asked = other asked.0
+no_work name rows other none (Work image task) asked = none task asked.1
 
-pub no_minute : (name : Text) (rows : List Row) → name ≡ codes "run"
-    → ((n : ℕ) → HasNumber rows (codes "minute") 0 1439 n → ⊥) → (r : Request) → IsAsked name rows r → ⊥
-no_minute name rows is none Fresh asked = asked
-no_minute name rows is none (Init image blocks) asked = init_is_not_run name asked.0 is
-no_minute name rows is none (Run image date minute) asked = none minute asked.3
-no_minute name rows is none (Calls image date minute) asked = run_is_not_calls name is asked.0
+-- A task of a word has what belongs to that word.
 
-pub no_date_of_calls : (name : Text) (rows : List Row) → name ≡ codes "calls"
-    → ((n : ℕ) → HasNumber rows (codes "date") 0 32767 n → ⊥) → (r : Request) → IsAsked name rows r → ⊥
-no_date_of_calls name rows is none Fresh asked = asked
-no_date_of_calls name rows is none (Init image blocks) asked = init_is_not_calls name asked.0 is
-no_date_of_calls name rows is none (Run image date minute) asked = run_is_not_calls name asked.0 is
-no_date_of_calls name rows is none (Calls image date minute) asked = none date asked.2
+pub no_run : (name : Text) (rows : List Row) → name ≡ codes "run" → ((at : Moment) → IsAt rows at → ⊥)
+    → (t : Task) → IsTask name rows t → ⊥
+no_run name rows is none (Run at) asked = none at asked.1
+no_run name rows is none (Calls at) asked = other_task name (codes "run") (Calls at) 348 refl (λ e. omega arith) is
+    asked.0
+no_run name rows is none (Put file at) asked = other_task name (codes "run") (Put file at) 348 refl (λ e. omega arith) is
+    asked.0
+no_run name rows is none (Get file at) asked = other_task name (codes "run") (Get file at) 348 refl (λ e. omega arith) is
+    asked.0
+no_run name rows is none (ListAll place) asked = other_task name (codes "run") (ListAll place) 348 refl
+    (λ e. omega arith) is asked.0
+no_run name rows is none Check asked = other_task name (codes "run") Check 348 refl (λ e. omega arith) is asked.0
 
-pub no_minute_of_calls : (name : Text) (rows : List Row) → name ≡ codes "calls"
-    → ((n : ℕ) → HasNumber rows (codes "minute") 0 1439 n → ⊥) → (r : Request) → IsAsked name rows r → ⊥
-no_minute_of_calls name rows is none Fresh asked = asked
-no_minute_of_calls name rows is none (Init image blocks) asked = init_is_not_calls name asked.0 is
-no_minute_of_calls name rows is none (Run image date minute) asked = run_is_not_calls name asked.0 is
-no_minute_of_calls name rows is none (Calls image date minute) asked = none minute asked.3
+pub no_calls : (name : Text) (rows : List Row) → name ≡ codes "calls" → ((at : Moment) → IsAt rows at → ⊥)
+    → (t : Task) → IsTask name rows t → ⊥
+no_calls name rows is none (Run at) asked = other_task name (codes "calls") (Run at) 293 refl (λ e. omega arith) is
+    asked.0
+no_calls name rows is none (Calls at) asked = none at asked.1
+no_calls name rows is none (Put file at) asked = other_task name (codes "calls") (Put file at) 293 refl
+    (λ e. omega arith) is asked.0
+no_calls name rows is none (Get file at) asked = other_task name (codes "calls") (Get file at) 293 refl
+    (λ e. omega arith) is asked.0
+no_calls name rows is none (ListAll place) asked = other_task name (codes "calls") (ListAll place) 293 refl
+    (λ e. omega arith) is asked.0
+no_calls name rows is none Check asked = other_task name (codes "calls") Check 293 refl (λ e. omega arith) is asked.0
+
+pub no_put : (name : Text) (rows : List Row) → name ≡ codes "put"
+    → ((f : NamedFile) (at : Moment) → IsNamed rows f → IsAt rows at → ⊥) → (t : Task) → IsTask name rows t → ⊥
+no_put name rows is none (Run at) asked = other_task name (codes "put") (Run at) 346 refl (λ e. omega arith) is asked.0
+no_put name rows is none (Calls at) asked = other_task name (codes "put") (Calls at) 346 refl (λ e. omega arith) is
+    asked.0
+no_put name rows is none (Put file at) asked = none file at asked.1.0 asked.1.1
+no_put name rows is none (Get file at) asked = other_task name (codes "put") (Get file at) 346 refl (λ e. omega arith) is
+    asked.0
+no_put name rows is none (ListAll place) asked = other_task name (codes "put") (ListAll place) 346 refl
+    (λ e. omega arith) is asked.0
+no_put name rows is none Check asked = other_task name (codes "put") Check 346 refl (λ e. omega arith) is asked.0
+
+pub no_get : (name : Text) (rows : List Row) → name ≡ codes "get"
+    → ((f : NamedFile) (at : Moment) → IsNamed rows f → IsAt rows at → ⊥) → (t : Task) → IsTask name rows t → ⊥
+no_get name rows is none (Run at) asked = other_task name (codes "get") (Run at) 305 refl (λ e. omega arith) is asked.0
+no_get name rows is none (Calls at) asked = other_task name (codes "get") (Calls at) 305 refl (λ e. omega arith) is
+    asked.0
+no_get name rows is none (Put file at) asked = other_task name (codes "get") (Put file at) 305 refl (λ e. omega arith) is
+    asked.0
+no_get name rows is none (Get file at) asked = none file at asked.1.0 asked.1.1
+no_get name rows is none (ListAll place) asked = other_task name (codes "get") (ListAll place) 305 refl
+    (λ e. omega arith) is asked.0
+no_get name rows is none Check asked = other_task name (codes "get") Check 305 refl (λ e. omega arith) is asked.0
 
 -- Where `clap` answers, for any app that is the command line.
 

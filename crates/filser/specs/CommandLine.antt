@@ -2,6 +2,7 @@
 use Rattle.std.specs.Prelude.{ℕ, [], ◌∷◌, Some, true, pos, codes}
 use Rattle.clap.specs.Words.{App, Rule, Text, new_app, new_rule, with_rule, with_subcommand}
 use Rattle.clap.specs.declared.builder.value_parser.ValueParser.TheVariants as vp
+use Rattle.clap.specs.declared.builder.action.ArgAction.TheVariants.{SetTrue}
 
 -- a text that has to be given
 abbrev pub wanted : Text → Rule
@@ -33,9 +34,37 @@ run_app = dated (with_rule (new_app (codes "run")) (wanted (codes "IMAGE")))
 unfoldable pub calls_app : App
 calls_app = dated (with_rule (new_app (codes "calls")) (wanted (codes "IMAGE")))
 
--- the subcommands
-unfoldable pub served : App → App
-served app = with_subcommand (with_subcommand (with_subcommand app init_app.top) run_app.top) calls_app.top
+-- with an option that says nothing but that it is there
+abbrev pub flag : Text → Rule
+flag id = record (new_rule id) { long = Some id; action = Some SetTrue }
+
+-- a file of a directory, and what its bytes say
+unfoldable pub filed : App → App
+filed app =
+    with_rule (with_rule (with_rule (with_rule app (wanted (codes "IMAGE"))) (wanted (codes "PPN")))
+    (wanted (codes "NAME"))) (flag (codes "words"))
+
+unfoldable pub put_app : App
+put_app = dated (filed (new_app (codes "put")))
+
+unfoldable pub get_app : App
+get_app = dated (filed (new_app (codes "get")))
+
+unfoldable pub list_app : App
+list_app = with_rule (with_rule (new_app (codes "list")) (wanted (codes "IMAGE"))) (new_rule (codes "PPN"))
+
+unfoldable pub check_app : App
+check_app = with_rule (new_app (codes "check")) (wanted (codes "IMAGE"))
+
+-- the subcommands: those that make an image and serve an input on it, that bring a file in and out, and that look
+unfoldable pub serving : App → App
+serving app = with_subcommand (with_subcommand (with_subcommand app init_app.top) run_app.top) calls_app.top
+
+unfoldable pub filing : App → App
+filing app = with_subcommand (with_subcommand app put_app.top) get_app.top
+
+unfoldable pub looking : App → App
+looking app = with_subcommand (with_subcommand app list_app.top) check_app.top
 
 -- a command of this name, which can be asked for its version
 abbrev pub versioned : Text → App
@@ -43,4 +72,4 @@ versioned name = record (new_app name) { top = record (new_app name).top { has_v
 
 -- the whole of it
 unfoldable pub command_line : App
-command_line = served (versioned (codes "filser"))
+command_line = looking (filing (serving (versioned (codes "filser"))))

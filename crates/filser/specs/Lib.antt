@@ -5,3 +5,4 @@ pub mod Refusals
 pub mod Endings
 pub mod HostFaults
 pub mod ServedDisks
+pub mod Tasks

@@ -1,9 +1,17 @@
 -- What is asked for, by the subcommand that `clap` matched and what it found there.
-use Rattle.std.specs.Prelude.{◌≡◌, ◌≤◌, ℕ, List, Option, Some, None, codes}
+use Rattle.std.specs.Prelude.{◌≡◌, ◌≤◌, ◌↔◌, ℕ, List, map, Option, Some, None, codes}
 use Rattle.std.specs.Str.Parse.{IsNumeral, digits_value, without_leading_plus}
 use Rattle.clap.specs.Words.{Row, Text, first_of, one_of}
+use Rattle.words36.specs.declared.moment.Moment.{Moment}
+use Rattle.meaning.specs.Lines.{upper}
+use Rattle.meaning.specs.Spellings.{IsPair}
+use Rattle.meaning.specs.declared.encoding.Encoding.TheVariants.{Words}
+use Rattle.commands.specs.Files.{IsFileName}
 use Rattle.filser.specs.declared.asked.Request.{Request}
-use Rattle.filser.specs.declared.asked.Request.TheVariants.{Fresh, Init, Run, Calls}
+use Rattle.filser.specs.declared.asked.Request.TheVariants.{Fresh, Init, Work}
+use Rattle.filser.specs.declared.task.NamedFile.{NamedFile}
+use Rattle.filser.specs.declared.task.Task.{Task}
+use Rattle.filser.specs.declared.task.Task.TheVariants.{Run, Calls, Put, Get, List as ListAll, Check}
 
 -- the text of an argument
 abbrev pub HasText : List Row → Text → Text → Type 0
@@ -18,28 +26,64 @@ abbrev pub HasNumber : List Row → Text → ℕ → ℕ → ℕ → Type 0
 HasNumber rows id least most n = ((text : Text) × (one_of id rows ≡ Some text) × Spells text n) × (least ≤ n)
     × (n ≤ most)
 
+-- the owner that an argument spells, and the file
+abbrev pub HasOwner : List Row → ℕ → Type 0
+HasOwner rows owner = (text : Text) × HasText rows (codes "PPN") text × IsPair 6 text owner
+
+abbrev pub HasName : List Row → ℕ → ℕ → Type 0
+HasName rows name ext = (text : Text) × HasText rows (codes "NAME") text × IsFileName (map upper text) name ext
+
+-- Its bytes are words where that is asked for.
+pub record IsNamed (rows : List Row) (file : NamedFile) : Type 0 where
+  pub owner : HasOwner rows file.owner
+  pub name : HasName rows file.name.name file.name.ext
+  pub encoding : (file.encoding ≡ Words) ↔ HasText rows (codes "words") (codes "true")
+
+-- the directory that is to be listed, or all
+abbrev pub IsPlace : List Row → Option ℕ → Type 0
+IsPlace rows None = first_of (codes "PPN") rows ≡ None
+IsPlace rows (Some owner) = HasOwner rows owner
+
+-- the subcommand of a task
+abbrev pub task_name : Task → Text
+task_name (Run at) = codes "run"
+task_name (Calls at) = codes "calls"
+task_name (Put file at) = codes "put"
+task_name (Get file at) = codes "get"
+task_name (ListAll place) = codes "list"
+task_name Check = codes "check"
+
+-- the date and the minute that are given
+abbrev pub IsAt : List Row → Moment → Type 0
+IsAt rows at = HasNumber rows (codes "date") 0 32767 at.date × HasNumber rows (codes "minute") 0 1439 at.minute
+
+-- what is found with it
+abbrev pub HasTask : List Row → Task → Type 0
+HasTask rows (Run at) = IsAt rows at
+HasTask rows (Calls at) = IsAt rows at
+HasTask rows (Put file at) = IsNamed rows file × IsAt rows at
+HasTask rows (Get file at) = IsNamed rows file × IsAt rows at
+HasTask rows (ListAll place) = IsPlace rows place
+HasTask rows Check = Unit
+
+abbrev pub IsTask : Text → List Row → Task → Type 0
+IsTask name rows task = (name ≡ task_name task) × HasTask rows task
+
 abbrev pub IsAsked : Text → List Row → Request → Type 0
 IsAsked name rows Fresh = ⊥
 IsAsked name rows (Init image blocks) =
     (name ≡ codes "init") × HasText rows (codes "IMAGE") image.now × HasNumber rows (codes "BLOCKS") 64 131072 blocks
-IsAsked name rows (Run image date minute) =
-    (name ≡ codes "run") × HasText rows (codes "IMAGE") image.now
-    × HasNumber rows (codes "date") 0 32767 date × HasNumber rows (codes "minute") 0 1439 minute
-IsAsked name rows (Calls image date minute) =
-    (name ≡ codes "calls") × HasText rows (codes "IMAGE") image.now
-    × HasNumber rows (codes "date") 0 32767 date × HasNumber rows (codes "minute") 0 1439 minute
+IsAsked name rows (Work image task) = HasText rows (codes "IMAGE") image.now × IsTask name rows task
 
 -- without a subcommand a fresh volume is asked for
 abbrev pub Asks : Option (Text × List Row) → Request → Type 0
 Asks None Fresh = Unit
 Asks None (Init image blocks) = ⊥
-Asks None (Run image date minute) = ⊥
-Asks None (Calls image date minute) = ⊥
+Asks None (Work image task) = ⊥
 Asks (Some found) request = IsAsked found.0 found.1 request
 
 -- the numbers are in their ranges
 abbrev pub InRange : Request → Type 0
 InRange Fresh = Unit
 InRange (Init image blocks) = (64 ≤ blocks) × (blocks ≤ 131072)
-InRange (Run image date minute) = (date ≤ 32767) × (minute ≤ 1439)
-InRange (Calls image date minute) = (date ≤ 32767) × (minute ≤ 1439)
+InRange (Work image task) = Unit

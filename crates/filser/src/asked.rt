@@ -1,3 +1,5 @@
+use crate::Task;
+
 /// What the words of a command line ask for. An image is named by its path.
 #[derive(Clone, Copy, Debug, PartialEq, Eq)]
 pub enum Request<'a> {
@@ -5,10 +7,8 @@ pub enum Request<'a> {
     Fresh,
     /// `init`: make this image, of so many blocks.
     Init(&'a str, u32),
-    /// `run`: serve the input on this image, at a date and a minute of the day.
-    Run(&'a str, u32, u32),
-    /// `calls`: serve the input as a call script on this image, at a date and a minute of the day.
-    Calls(&'a str, u32, u32),
+    /// Do this on this image.
+    Work(&'a str, Task),
 }
 
 impl<'a> Request<'a> {
@@ -16,9 +16,7 @@ impl<'a> Request<'a> {
     pub fn image(&self) -> Option<&'a str> {
         match self {
             Request::Fresh => None,
-            Request::Init(path, _) | Request::Run(path, _, _) | Request::Calls(path, _, _) => Some(
-                *path,
-            ),
+            Request::Init(path, _) | Request::Work(path, _) => Some(*path),
         }
     }
 }

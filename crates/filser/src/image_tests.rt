@@ -111,7 +111,7 @@ pub(crate) fn expect_told<T: Abort, F: Files<File = File>>(
 }
 
 /// The same over the host's files, where nothing is told.
-fn expect<F: Files<File = File> + Abort>(
+pub(crate) fn expect<F: Files<File = File> + Abort>(
     rt: &F,
     alloc: Global,
     words: &[&str],

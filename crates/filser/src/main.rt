@@ -12,12 +12,18 @@
 //!    files, and does nothing else.
 //! 6. No file with the number of a standard stream is taken for an image. (`open_file`)
 //!
+//! 7. Whatever is done on an image is done by one function, `serve`: it starts a service on the image's disk, or says why
+//!    there is none, and hands the disk back. (`served`)
+//!
 //! What an image stands for, and what a line does, is not known here.
 #![tactic(auto)]
 
+mod arguments;
 mod asked;
 mod error;
 mod fault;
+#[cfg(test)]
+mod file_tests;
 #[cfg(test)]
 mod host_tests;
 mod image;
@@ -31,6 +37,7 @@ mod serving;
 mod status;
 mod streams;
 mod table;
+mod task;
 #[cfg(test)]
 mod tests;
 
@@ -46,6 +53,7 @@ use std::env;
 use std::io::{self, ErrorKind};
 use std::process::ExitCode;
 pub use streams::MissingStreams;
+pub use task::{NamedFile, Task};
 
 /// Runs the program on its arguments and the standard streams.
 fn main(rt: HostRuntime) -> ExitCode {

@@ -10,7 +10,7 @@ ghost use Rattle.filser.specs.declared.status.Status.TheVariants.{Done, BadArgum
 use crate::fault::report;
 use crate::image::{Image, open_file, tell_failure};
 use crate::lines::LineReader;
-use crate::serving::{say, serve_calls_in_file, serve_file, serve_fresh};
+use crate::serving::{say, serve_file, serve_fresh};
 use crate::streams::stream_at;
 use crate::{ImageFault, MissingStreams, Request, RequestError, Status, make_image, request};
 use clap::Error;
@@ -19,7 +19,6 @@ use std::alloc::Global;
 use std::fs::File;
 use std::io::{Read, Write};
 use std::rt::Files;
-use words36::Moment;
 
 /// A whole run of the program: reads the words, the first of which is its name, does what they ask for over
 /// the files of the host, and answers the exit status, 0 to 4. Texts go to `writer`. To `errors` go those on wrong
@@ -74,7 +73,7 @@ fn answer<F: Files<File = File>, R: Read, W: Write, E: Write>(
         → fault_of command_line (map (λ w. w.now) words.now) ≡ [] → result ≢ BadArguments }
 {
     match request(alloc, words) {
-        Ok(asked) => start(files, alloc, asked, missing, reader, writer, errors),
+        Ok(asked) => start(files, alloc, &asked, missing, reader, writer, errors),
         Err(error) => refuse(&error, writer, errors),
     }
 }
@@ -83,13 +82,13 @@ fn answer<F: Files<File = File>, R: Read, W: Write, E: Write>(
 fn start<F: Files<File = File>, R: Read, W: Write, E: Write>(
     files: &F,
     alloc: Global,
-    asked: Request<'_>,
+    asked: &Request<'_>,
     missing: &MissingStreams,
     reader: &mut R,
     writer: &mut W,
     errors: &mut E,
 ) -> Status
-    requires { InRange asked }
+    requires { InRange asked.now }
     ensures { result ≢ BadArguments }
 {
     if let Some(path) = asked.image() {
@@ -108,39 +107,23 @@ fn start<F: Files<File = File>, R: Read, W: Write, E: Write>(
 fn perform<F: Files<File = File>, R: Read, W: Write, E: Write>(
     files: &F,
     alloc: Global,
-    asked: Request<'_>,
+    asked: &Request<'_>,
     reader: &mut R,
     writer: &mut W,
     errors: &mut E,
 ) -> Status
-    requires { InRange asked }
+    requires { InRange asked.now }
     ensures { result ≢ BadArguments }
 {
     match asked {
-        Request::Fresh => serve_fresh(alloc, moment(0, 0), reader, writer),
-        Request::Init(path, blocks) => match make_image(files, path, blocks, errors) {
+        Request::Fresh => serve_fresh(alloc, reader, writer),
+        Request::Init(path, blocks) => match make_image(files, path, *blocks, errors) {
             Ok(()) => Status::Done,
             Err(fault) => refuse_image(fault, path, writer, errors),
         },
-        Request::Run(path, date, minute) => match open_file(files, path, errors) {
+        Request::Work(path, task) => match open_file(files, path, errors) {
             Ok(file) => {
-                let at = moment(date, minute);
-                let served = serve_file(alloc, file, Supposition::any(), at, reader, writer);
-                conclude(served, path, writer, errors)
-            }
-            Err(fault) => refuse_image(fault, path, writer, errors),
-        },
-        Request::Calls(path, date, minute) => match open_file(files, path, errors) {
-            Ok(file) => {
-                let at = moment(date, minute);
-                let served = serve_calls_in_file(
-                    alloc,
-                    file,
-                    Supposition::any(),
-                    at,
-                    reader,
-                    writer,
-                );
+                let served = serve_file(alloc, file, Supposition::any(), *task, reader, writer);
                 conclude(served, path, writer, errors)
             }
             Err(fault) => refuse_image(fault, path, writer, errors),
@@ -191,16 +174,6 @@ fn refuse_image<W: Write, E: Write>(
         return fault.refusal.status();
     }
     say(writer, fault.refusal)
-}
-
-/// A moment of numbers that are in range.
-fn moment(date: u32, minute: u32) -> Moment
-    requires date { date ≤ 32767 }
-    requires minute { minute ≤ 1439 }
-    ensures date { result.date ≡ date }
-    ensures minute { result.minute ≡ minute }
-{
-    Moment::new(date, minute).unwrap()
 }
 
 /// Says why the words ask for nothing that is done.

@@ -1,19 +1,26 @@
 ghost use Rattle.std.specs.Prelude.{◌≡◌, ◌≤◌, List, ℕ, [], map, codes, IfOk, MatchOption, option_map, IsErrOf, Err};
-ghost use Rattle.std.specs.Prelude.{Some};
+ghost use Rattle.std.specs.Prelude.{◌↔◌, Some, Option};
 ghost use Rattle.clap.specs.Words.{Row, found_of, rows_of, first_of, subcommand_of, subcommand_rows_of, fault_of};
 ghost use Rattle.clap.specs.Words.{kind_of, IsAmong};
 ghost use Rattle.clap.specs.declared.error.Error.{Error as ClapError};
 ghost use Rattle.clap.specs.declared.error.kind.ErrorKind.TheVariants.{OutOfMemory};
 ghost use Rattle.filser.specs.CommandLine.{command_line};
-ghost use Rattle.filser.specs.Requests.{Asks, IsAsked, HasText, HasNumber, InRange};
+ghost use Rattle.filser.specs.Requests.{Asks, IsAsked, IsAt, IsNamed, IsPlace, IsTask, HasText, HasNumber};
+ghost use Rattle.filser.specs.Requests.{InRange};
+ghost use Rattle.words36.specs.declared.moment.Moment.{Moment as Moments};
+ghost use Rattle.filser.specs.declared.task.NamedFile.{NamedFile as NamedFiles};
+ghost use Rattle.filser.specs.declared.task.Task.{Task as Tasks};
+ghost use Rattle.meaning.specs.declared.encoding.Encoding.TheVariants.{Words};
 ghost use Rattle.filser.specs.declared.asked.Request.{Request as Asked};
 ghost use Rattle.filser.specs.declared.error.RequestError.TheVariants.{Usage, BadArgument};
 
 use crate::table::command_line;
-use crate::{Request, RequestError};
+use crate::{NamedFile, Request, RequestError, Task};
 use clap::error::ErrorKind;
 use clap::{ArgMatches, Error};
+use commands::{Encoding, file_named, owner_named};
 use std::alloc::Global;
+use words36::{Moment, Ppn};
 
 /// What the words of a command line ask for; the first is the program's name. Numbers are decimal.
 ///
@@ -73,15 +80,68 @@ fn subcommand<'a>(name: &'a str, matches: &ArgMatches<'a>) -> Option<Request<'a>
     let image = text(matches, "IMAGE")?;
     match name {
         "init" => Some(Request::Init(image, number(matches, "BLOCKS", 64, 131072)?)),
-        "run" => {
-            let date = number(matches, "date", 0, 32767)?;
-            Some(Request::Run(image, date, number(matches, "minute", 0, 1439)?))
-        }
-        "calls" => {
-            let date = number(matches, "date", 0, 32767)?;
-            Some(Request::Calls(image, date, number(matches, "minute", 0, 1439)?))
-        }
+        _ => Some(Request::Work(image, task(name, matches)?)),
+    }
+}
+
+/// The task of a subcommand.
+fn task(name: &str, matches: &ArgMatches) -> Option<Task>
+    ensures { MatchOption result ((t : Tasks) → IsTask name.now (rows_of (found_of matches.now)) t → ⊥)
+        (IsTask name.now (rows_of (found_of matches.now))) }
+{
+    match name {
+        "run" => Some(Task::Run(moment(matches)?)),
+        "calls" => Some(Task::Calls(moment(matches)?)),
+        "put" => Some(Task::Put(named(matches)?, moment(matches)?)),
+        "get" => Some(Task::Get(named(matches)?, moment(matches)?)),
+        "list" => Some(Task::List(place(matches)?)),
+        "check" => Some(Task::Check),
         _ => None,
+    }
+}
+
+/// The moment of what is written.
+fn moment(matches: &ArgMatches) -> Option<Moment>
+    ensures { MatchOption result ((at : Moments) → IsAt (rows_of (found_of matches.now)) at → ⊥)
+        (IsAt (rows_of (found_of matches.now))) }
+{
+    let date = number(matches, "date", 0, 32767)?;
+    let minute = number(matches, "minute", 0, 1439)?;
+    Moment::new(date, minute).ok()
+}
+
+/// The directory that is to be listed, or none for all of them.
+fn place(matches: &ArgMatches) -> Option<Option<Ppn>>
+    ensures { MatchOption result ((p : Option ℕ) → IsPlace (rows_of (found_of matches.now)) p → ⊥)
+        (IsPlace (rows_of (found_of matches.now))) }
+{
+    match text(matches, "PPN") {
+        Some(text) => Some(Some(owner_named(text.as_bytes())?)),
+        None => Some(None),
+    }
+}
+
+/// The file that is named.
+fn named(matches: &ArgMatches) -> Option<NamedFile>
+    ensures { MatchOption result ((f : NamedFiles) → IsNamed (rows_of (found_of matches.now)) f → ⊥)
+        (IsNamed (rows_of (found_of matches.now))) }
+{
+    let owner = owner_named(text(matches, "PPN")?.as_bytes())?;
+    let name = file_named(text(matches, "NAME")?.as_bytes())?;
+    Some(NamedFile {
+        owner,
+        name,
+        encoding: encoding(matches),
+    })
+}
+
+/// What the bytes of the file say: words where that is asked for.
+fn encoding(matches: &ArgMatches) -> Encoding
+    ensures { (result ≡ Words) ↔ HasText (rows_of (found_of matches.now)) (codes "words") (codes "true") }
+{
+    match text(matches, "words") {
+        Some("true") => Encoding::Words,
+        _ => Encoding::Characters,
     }
 }
 

@@ -1,11 +1,11 @@
 ghost use Rattle.std.specs.Prelude.{◌≡◌, ◌≢◌, ◌⊎◌, ◌++◌, ◌∷◌, ◌*◌, ℕ, [], max, if◌then◌else◌, IfOk, IfErr};
 ghost use Rattle.std.specs.Io.KnownBytes.{Appends};
-ghost use Rattle.commands.specs.Sessions.{Session, Script};
 ghost use Rattle.meaning.specs.Files.{File as StoredFile, Files};
 ghost use Rattle.meaning.specs.Lines.{feed};
 ghost use Rattle.meaning.specs.Stands.{Stands};
 ghost use Rattle.filser.specs.Refusals.{IsFileRefusal, refusal_text, refusal_code};
-ghost use Rattle.filser.specs.ServedDisks.{IsEnding, IsSaid, IsServed, IsUnserved, machine_over};
+ghost use Rattle.filser.specs.ServedDisks.{IsEnding, IsSaid, IsServed, IsUnserved};
+ghost use Rattle.filser.specs.Tasks.{Attends, IsStart};
 ghost use Rattle.imagefile.specs.Image.{image_contents};
 ghost use Rattle.imagefile.specs.Streams.{IsApart};
 ghost use Rattle.imagefile.specs.Supposition.{unseen_in};
@@ -14,10 +14,10 @@ ghost use Rattle.filser.specs.Statuses.{status_code};
 ghost use Rattle.filser.specs.declared.status.Status.TheVariants.{BadArguments, Fault};
 
 use crate::image::{Image, image_in};
-use crate::{ImageFault, Refusal, Status};
+use crate::{ImageFault, Refusal, Status, Task};
 use blockcache::Cached;
 use blockdisk::{Disk, MemDisk};
-use commands::{Monitor, SessionError, Tally, Volume, script, session};
+use commands::{Monitor, SessionError, Tally, Volume, check, get, list, put, script, session};
 use imagefile::{HostFile, ImageDisk, Supposition};
 use std::alloc::Global;
 use std::fs::File;
@@ -69,11 +69,56 @@ fn ending(talked: Result<Tally, SessionError>) -> Status
     }
 }
 
-/// Serves the lines of the reader on a disk, at a moment, and writes what they print. The disk is handed back.
+/// The moment of what takes place at none: date 0, minute 0.
+fn no_moment() -> Moment
+    ensures { IsStart result }
+{
+    Moment::new(0, 0).unwrap()
+}
+
+/// Does a task by a service that was started on an image.
+fn attend<D: Disk, R: Read, W: Write>(
+    alloc: Global,
+    task: Task,
+    reader: &mut R,
+    writer: &mut W,
+    monitor: &mut Monitor<D>,
+) -> Result<Tally, SessionError>
+    ensures { Attends D.state task (R.remaining reader.old) (R.remaining reader.new) (W.contents writer.old)
+        (W.contents writer.new) monitor.old monitor.new result }
+{
+    match task {
+        Task::Run(at) => session(alloc, reader, writer, monitor, at),
+        Task::Calls(at) => script(alloc, reader, writer, monitor, at),
+        Task::Put(file, at) => put(
+            alloc,
+            reader,
+            writer,
+            monitor,
+            at,
+            file.owner,
+            file.encoding,
+            file.name,
+        ),
+        Task::Get(file, at) => get(
+            alloc,
+            writer,
+            monitor,
+            at,
+            file.owner,
+            file.encoding,
+            file.name,
+        ),
+        Task::List(place) => list(alloc, writer, monitor, no_moment(), place),
+        Task::Check => check(alloc, writer, monitor),
+    }
+}
+
+/// Does a task on a disk. The disk is handed back.
 pub(crate) fn serve<D: Disk + Drop, R: Read, W: Write>(
     alloc: Global,
     disk: D,
-    moment: Moment,
+    task: Task,
     reader: &mut R,
     writer: &mut W,
 ) -> (Status, D)
@@ -83,50 +128,22 @@ pub(crate) fn serve<D: Disk + Drop, R: Read, W: Write>(
     ensures served { (D.state result.1).honest → (files : Files StoredFile)
         → Stands (D.state disk).size (D.state disk).contents files
         → IsServed D.state disk result.1 result.0 files
-        (λ first last. Session (R.remaining reader.old) (R.remaining reader.new) (W.contents writer.old)
-        (W.contents writer.new) (machine_over D.state) first last moment)
+        (Attends D.state task (R.remaining reader.old) (R.remaining reader.new) (W.contents writer.old)
+        (W.contents writer.new))
         ⊎ IsUnserved D.state disk result.1 result.0 (W.contents writer.old) (W.contents writer.new) }
 {
     match Monitor::start(alloc, disk) {
         Ok(mut monitor) => {
-            let talked = session(alloc, reader, writer, &mut monitor, moment);
-            (ending(talked), monitor.finish())
+            let attended = attend(alloc, task, reader, writer, &mut monitor);
+            (ending(attended), monitor.finish())
         }
         Err((error, disk)) => (say(writer, Refusal::Start(error)), disk),
     }
 }
 
-/// Serves the call script of the reader on a disk, at a moment, and writes a line for each reply. The disk is handed
-/// back.
-pub(crate) fn serve_calls<D: Disk + Drop, R: Read, W: Write>(
-    alloc: Global,
-    disk: D,
-    moment: Moment,
-    reader: &mut R,
-    writer: &mut W,
-) -> (Status, D)
-    ensures serving { result.0 ≢ BadArguments }
-    ensures was_honest { (D.state result.1).honest → (D.state disk).honest }
-    // Where the disk has been honest up to the end, and stood for some files: these are served, or nothing is.
-    ensures served { (D.state result.1).honest → (files : Files StoredFile)
-        → Stands (D.state disk).size (D.state disk).contents files
-        → IsServed D.state disk result.1 result.0 files
-        (λ first last. Script (R.remaining reader.old) (R.remaining reader.new) (W.contents writer.old)
-        (W.contents writer.new) (machine_over D.state) first last moment)
-        ⊎ IsUnserved D.state disk result.1 result.0 (W.contents writer.old) (W.contents writer.new) }
-{
-    match Monitor::start(alloc, disk) {
-        Ok(mut monitor) => {
-            let talked = script(alloc, reader, writer, &mut monitor, moment);
-            (ending(talked), monitor.finish())
-        }
-        Err((error, disk)) => (say(writer, Refusal::Start(error)), disk),
-    }
-}
-
-/// Serves the lines of the reader, at a moment, on the image in a file of the host. Nothing of the host is known
-/// beforehand, so that this is said for whatever may be supposed of the file: where its calls were answered, up to the
-/// end, as by a file that began so and keeps to the model, what it began with is what was served.
+/// Does a task on the image in a file of the host. Nothing of the host is known beforehand, so that this is
+/// said for whatever may be supposed of the file: where its calls were answered, up to the end, as by a file that began so
+/// and keeps to the model, what it began with is what was served.
 ///
 /// # Errors
 ///
@@ -135,7 +152,7 @@ pub(crate) fn serve_file<R: Read, W: Write>(
     alloc: Global,
     file: File,
     supposed: Supposition,
-    moment: Moment,
+    task: Task,
     reader: &mut R,
     writer: &mut W,
 ) -> Result<(Status, Image), ImageFault>
@@ -146,50 +163,18 @@ pub(crate) fn serve_file<R: Read, W: Write>(
         → (blocks : ℕ) (files : Files StoredFile) → size_of (unseen_in supposed) ≡ 1024 * blocks
         → Stands blocks (image_contents (first_bytes (unseen_in supposed))) files
         → (image : _) × (IsServed (⟦<Cached<ImageDisk<HostFile>> as Disk>⟧.state) image done.1 done.0 files
-        (λ first last. Session (R.remaining reader.old) (R.remaining reader.new) (W.contents writer.old)
-        (W.contents writer.new) (machine_over (⟦<Cached<ImageDisk<HostFile>> as Disk>⟧.state)) first last moment)
+        (Attends (⟦<Cached<ImageDisk<HostFile>> as Disk>⟧.state) task (R.remaining reader.old) (R.remaining reader.new)
+        (W.contents writer.old) (W.contents writer.new))
         ⊎ IsUnserved (⟦<Cached<ImageDisk<HostFile>> as Disk>⟧.state) image done.1 done.0 (W.contents writer.old)
         (W.contents writer.new))) }
 {
     let image = image_in(alloc, file, supposed)?;
-    Ok(serve(alloc, image, moment, reader, writer))
+    Ok(serve(alloc, image, task, reader, writer))
 }
 
-/// Serves the call script of the reader, at a moment, on the image in a file of the host. Nothing of the host is known
-/// beforehand, so that this is said for whatever may be supposed of the file: where its calls were answered, up to the
-/// end, as by a file that began so and keeps to the model, what it began with is what was served.
-///
-/// # Errors
-///
-/// As of `image_in`.
-pub(crate) fn serve_calls_in_file<R: Read, W: Write>(
-    alloc: Global,
-    file: File,
-    supposed: Supposition,
-    moment: Moment,
-    reader: &mut R,
-    writer: &mut W,
-) -> Result<(Status, Image), ImageFault>
-    requires { IsApart file }
-    ensures serving { IfOk result (λ done. done.0 ≢ BadArguments) }
-    ensures refused { IfErr result (λ fault. IsFileRefusal fault.refusal) }
-    ensures served { IfOk result (λ done. (⟦<Cached<ImageDisk<HostFile>> as Disk>⟧.state done.1).honest
-        → (blocks : ℕ) (files : Files StoredFile) → size_of (unseen_in supposed) ≡ 1024 * blocks
-        → Stands blocks (image_contents (first_bytes (unseen_in supposed))) files
-        → (image : _) × (IsServed (⟦<Cached<ImageDisk<HostFile>> as Disk>⟧.state) image done.1 done.0 files
-        (λ first last. Script (R.remaining reader.old) (R.remaining reader.new) (W.contents writer.old)
-        (W.contents writer.new) (machine_over (⟦<Cached<ImageDisk<HostFile>> as Disk>⟧.state)) first last moment)
-        ⊎ IsUnserved (⟦<Cached<ImageDisk<HostFile>> as Disk>⟧.state) image done.1 done.0 (W.contents writer.old)
-        (W.contents writer.new))) }
-{
-    let image = image_in(alloc, file, supposed)?;
-    Ok(serve_calls(alloc, image, moment, reader, writer))
-}
-
-/// Serves the lines of the reader on a fresh volume in memory, which is gone at the end.
+/// Serves the lines of the reader, at date 0 and minute 0, on a fresh volume in memory, which is gone at the end.
 pub(crate) fn serve_fresh<R: Read, W: Write>(
     alloc: Global,
-    moment: Moment,
     reader: &mut R,
     writer: &mut W,
 ) -> Status
@@ -199,7 +184,7 @@ pub(crate) fn serve_fresh<R: Read, W: Write>(
         return Status::Fault;
     };
     match Volume::init(&mut disk) {
-        Ok(()) => serve(alloc, disk, moment, reader, writer).0,
+        Ok(()) => serve(alloc, disk, Task::Run(no_moment()), reader, writer).0,
         Err(error) => say(writer, Refusal::Start(error)),
     }
 }

@@ -1,12 +1,13 @@
 //! The command line as a value of `clap`'s. A subcommand is a function here, and a line of
-//! `with_subcommands`.
+//! `with_serving`, `with_filing` or `with_looking`.
 ghost use Rattle.std.specs.Prelude.{◌≡◌, IfOk, codes, false};
-ghost use Rattle.clap.specs.Words.{app_of, rule_of, with_rule, with_subcommand};
+ghost use Rattle.clap.specs.Words.{app_of, with_subcommand};
 ghost use Rattle.clap.specs.declared.builder.command.Command.TheViews.{out-Command as fields_of};
-ghost use Rattle.filser.specs.CommandLine.{calls_app, command_line, dated, init_app, numbered, optional, run_app};
-ghost use Rattle.filser.specs.CommandLine.{served, versioned, wanted};
+ghost use Rattle.filser.specs.CommandLine.{calls_app, check_app, command_line, filing, get_app, init_app, list_app};
+ghost use Rattle.filser.specs.CommandLine.{looking, put_app, run_app, serving, versioned};
 
-use clap::{Arg, Command};
+use crate::arguments::{about, blocks, dated, filed, place, shown, wanted, with_argument};
+use clap::Command;
 use std::alloc::{AllocError, Global};
 
 /// What `--version` shows behind the name.
@@ -17,13 +18,13 @@ const NOTES: &str = "\
 Without a command the input is served as by run, on a fresh volume of 64
 blocks in memory, at date 0 and minute 0. It is gone at the end.
 
-Options of run and calls:
+Options of run, calls, put and get:
   --date N    the date of what is written, 0 to 32767 [default: 0]
   --minute N  its minute of the day, 0 to 1439 [default: 0]
 
 Exit status:
   0  all was done
-  1  a line of the input was refused
+  1  a line of the input was refused, or what was asked
   2  the arguments were wrong
   3  the image was refused, or its start found no memory
   4  the device, the input or the output failed, another process has the
@@ -31,64 +32,15 @@ Exit status:
 
 Example:
   filser init DISK.IMG 4096
-  printf 'LOGIN [10,20]\\nDIRECTORY\\n' | filser run DISK.IMG
+  printf 'LOGIN [10,20]\\nMAKDIR [10,20]\\n' | filser run DISK.IMG
+  filser put DISK.IMG 10,20 FOO.TXT < foo.txt
+  filser list DISK.IMG
+  filser get DISK.IMG 10,20 FOO.TXT > foo.txt
 
 Each run pays for one start, which reads the whole image's files, so one run
 over many lines beats many runs. One process serves an image at a time: it
 locks the file, which keeps away other runs of filser, and neither editors nor
 copies nor, on some network file systems, other machines.";
-
-/// A text that has to be given.
-fn wanted<'a>(alloc: Global, id: &'a str, help: &'a str) -> Arg<'a>
-    ensures rule { rule_of result ≡ wanted id.entry.now }
-    ensures local { result.global ≡ false }
-{
-    Arg::new(alloc, id).required(true).help(help)
-}
-
-/// How many blocks a new image gets.
-fn blocks<'a>(alloc: Global) -> Arg<'a>
-    ensures rule { rule_of result ≡ numbered (codes "BLOCKS") 64 131072 }
-    ensures local { result.global ≡ false }
-{
-    Arg::new(alloc, "BLOCKS")
-        .required(true)
-        .help("How many blocks of 128 words it has, 64 to 131072")
-        .value_parser(clap::value_parser!(u32).range(64..=131072))
-}
-
-fn date<'a>(alloc: Global) -> Arg<'a>
-    ensures rule { rule_of result ≡ optional (codes "date") 32767 }
-    ensures local { result.global ≡ false }
-{
-    Arg::new(alloc, "date")
-        .long("date")
-        .value_name("N")
-        .help("The date of what is written, 0 to 32767")
-        .default_value("0")
-        .value_parser(clap::value_parser!(u32).range(0..=32767))
-}
-
-fn minute<'a>(alloc: Global) -> Arg<'a>
-    ensures rule { rule_of result ≡ optional (codes "minute") 1439 }
-    ensures local { result.global ≡ false }
-{
-    Arg::new(alloc, "minute")
-        .long("minute")
-        .value_name("N")
-        .help("Its minute of the day, 0 to 1439")
-        .default_value("0")
-        .value_parser(clap::value_parser!(u32).range(0..=1439))
-}
-
-/// A command with one more argument.
-fn with_argument<'a>(command: Command<'a>, argument: Arg<'a>) -> Result<Command<'a>, AllocError>
-    requires { argument.global ≡ false }
-    ensures app { IfOk result (λ c. app_of c ≡ with_rule (app_of command.entry) (rule_of argument.entry)) }
-    ensures local { IfOk result (λ c. (fields_of c).has_globals ≡ (fields_of command.entry).has_globals) }
-{
-    command.arg(argument)
-}
 
 /// A command with one more subcommand.
 fn with_one<'a>(command: Command<'a>, subcommand: Command<'a>) -> Result<Command<'a>, AllocError>
@@ -96,24 +48,6 @@ fn with_one<'a>(command: Command<'a>, subcommand: Command<'a>) -> Result<Command
     ensures app { IfOk result (λ c. app_of c ≡ with_subcommand (app_of command.entry) (app_of subcommand.entry).top) }
 {
     command.subcommand(subcommand)
-}
-
-/// A command with these words on what it does.
-fn about<'a>(command: Command<'a>, text: &'a str) -> Command<'a>
-    ensures app { app_of result ≡ app_of command.entry }
-    ensures local { (fields_of result).has_globals ≡ (fields_of command.entry).has_globals }
-{
-    command.about(text)
-}
-
-/// A command with the date and the minute of what it writes.
-#[tactic(auto, unfolding(crate::specs::CommandLine::dated))]
-fn dated<'a>(alloc: Global, command: Command<'a>) -> Result<Command<'a>, AllocError>
-    ensures app { IfOk result (λ c. app_of c ≡ dated (app_of command.entry)) }
-    ensures local { IfOk result (λ c. (fields_of c).has_globals ≡ (fields_of command.entry).has_globals) }
-{
-    let command = with_argument(command, date(alloc))?;
-    with_argument(command, minute(alloc))
 }
 
 #[tactic(auto, unfolding(crate::specs::CommandLine::init_app))]
@@ -125,6 +59,7 @@ fn init_command<'a>(alloc: Global) -> Result<Command<'a>, AllocError>
         Command::new(alloc, "init"),
         "Make an image of a volume with no directory",
     );
+    let command = shown(command, "Example:\n  filser init DISK.IMG 4096");
     let command = with_argument(command, wanted(alloc, "IMAGE", "The file to make"))?;
     with_argument(command, blocks(alloc))
 }
@@ -137,6 +72,10 @@ fn run_command<'a>(alloc: Global) -> Result<Command<'a>, AllocError>
     let command = about(
         Command::new(alloc, "run"),
         "Serve the lines of the input on an image",
+    );
+    let command = shown(
+        command,
+        "Example:\n  printf 'LOGIN [10,20]\\nDIRECTORY\\n' | filser run DISK.IMG",
     );
     let command = with_argument(command, wanted(alloc, "IMAGE", "The image to serve"))?;
     dated(alloc, command)
@@ -151,17 +90,96 @@ fn calls_command<'a>(alloc: Global) -> Result<Command<'a>, AllocError>
         Command::new(alloc, "calls"),
         "Serve the calls that the lines of the input spell on an image",
     );
+    let command = shown(
+        command,
+        "Example:\n  printf '1 LOGIN 10,20 1000\\n1 EXA 121\\n' | filser calls DISK.IMG",
+    );
     let command = with_argument(command, wanted(alloc, "IMAGE", "The image to serve"))?;
     dated(alloc, command)
 }
 
-#[tactic(auto, unfolding(crate::specs::CommandLine::served))]
-fn with_subcommands<'a>(alloc: Global, command: Command<'a>) -> Result<Command<'a>, AllocError>
-    ensures { IfOk result (λ c. app_of c ≡ served (app_of command.entry)) }
+#[tactic(auto, unfolding(crate::specs::CommandLine::put_app))]
+fn put_command<'a>(alloc: Global) -> Result<Command<'a>, AllocError>
+    ensures app { IfOk result (λ c. app_of c ≡ put_app) }
+    ensures local { IfOk result (λ c. (fields_of c).has_globals ≡ false) }
+{
+    let command = about(
+        Command::new(alloc, "put"),
+        "Make a file of the input, in the place of one that is there",
+    );
+    let command = shown(
+        command,
+        "Example:\n  filser put DISK.IMG 10,20 FOO.TXT < foo.txt",
+    );
+    dated(alloc, filed(alloc, command)?)
+}
+
+#[tactic(auto, unfolding(crate::specs::CommandLine::get_app))]
+fn get_command<'a>(alloc: Global) -> Result<Command<'a>, AllocError>
+    ensures app { IfOk result (λ c. app_of c ≡ get_app) }
+    ensures local { IfOk result (λ c. (fields_of c).has_globals ≡ false) }
+{
+    let command = about(Command::new(alloc, "get"), "Print a file");
+    let command = shown(
+        command,
+        "Example:\n  filser get DISK.IMG 10,20 FOO.TXT > foo.txt",
+    );
+    dated(alloc, filed(alloc, command)?)
+}
+
+#[tactic(auto, unfolding(crate::specs::CommandLine::list_app))]
+fn list_command<'a>(alloc: Global) -> Result<Command<'a>, AllocError>
+    ensures app { IfOk result (λ c. app_of c ≡ list_app) }
+    ensures local { IfOk result (λ c. (fields_of c).has_globals ≡ false) }
+{
+    let command = about(
+        Command::new(alloc, "list"),
+        "Print the list of a directory, or of all that there are",
+    );
+    let command = shown(command, "Example:\n  filser list DISK.IMG 10,20");
+    let command = with_argument(command, wanted(alloc, "IMAGE", "The image to look at"))?;
+    with_argument(command, place(alloc))
+}
+
+#[tactic(auto, unfolding(crate::specs::CommandLine::check_app))]
+fn check_command<'a>(alloc: Global) -> Result<Command<'a>, AllocError>
+    ensures app { IfOk result (λ c. app_of c ≡ check_app) }
+    ensures local { IfOk result (λ c. (fields_of c).has_globals ≡ false) }
+{
+    let command = about(
+        Command::new(alloc, "check"),
+        "End a change that was cut short, read the whole image, and say what it has",
+    );
+    let command = shown(command, "Example:\n  filser check DISK.IMG");
+    with_argument(command, wanted(alloc, "IMAGE", "The image to check"))
+}
+
+/// With the subcommands that make an image, and serve an input on it.
+#[tactic(auto, unfolding(crate::specs::CommandLine::serving))]
+fn with_serving<'a>(alloc: Global, command: Command<'a>) -> Result<Command<'a>, AllocError>
+    ensures { IfOk result (λ c. app_of c ≡ serving (app_of command.entry)) }
 {
     let command = with_one(command, init_command(alloc)?)?;
     let command = with_one(command, run_command(alloc)?)?;
     with_one(command, calls_command(alloc)?)
+}
+
+/// With those that bring a file in and out.
+#[tactic(auto, unfolding(crate::specs::CommandLine::filing))]
+fn with_filing<'a>(alloc: Global, command: Command<'a>) -> Result<Command<'a>, AllocError>
+    ensures { IfOk result (λ c. app_of c ≡ filing (app_of command.entry)) }
+{
+    let command = with_one(command, put_command(alloc)?)?;
+    with_one(command, get_command(alloc)?)
+}
+
+/// With those that look.
+#[tactic(auto, unfolding(crate::specs::CommandLine::looking))]
+fn with_looking<'a>(alloc: Global, command: Command<'a>) -> Result<Command<'a>, AllocError>
+    ensures { IfOk result (λ c. app_of c ≡ looking (app_of command.entry)) }
+{
+    let command = with_one(command, list_command(alloc)?)?;
+    with_one(command, check_command(alloc)?)
 }
 
 /// The program's name, with what help and version say of it.
@@ -181,5 +199,7 @@ fn program<'a>(alloc: Global) -> Command<'a>
 pub(crate) fn command_line<'a>(alloc: Global) -> Result<Command<'a>, AllocError>
     ensures { IfOk result (λ c. app_of c ≡ command_line) }
 {
-    with_subcommands(alloc, program(alloc))
+    let command = with_serving(alloc, program(alloc))?;
+    let command = with_filing(alloc, command)?;
+    with_looking(alloc, command)
 }

@@ -36,6 +36,7 @@ pub mod UpdateRows
 pub mod RemovalRows
 pub mod RingRows
 pub mod TextRows
+mod ErrandRows
 pub mod SpelledRows
 pub mod SlotLaws
 pub mod SideLaws

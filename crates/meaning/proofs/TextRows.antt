@@ -11,7 +11,7 @@ use Rattle.meaning.specs.Room.{Pack, room}
 use Rattle.meaning.specs.Sessions.{list}
 use Rattle.meaning.specs.Step.{step}
 use Rattle.meaning.specs.Lines.{Bytes, TooLong, lines}
-use Rattle.meaning.specs.Texts.{Spoken, joined, silent, prints, day_text, entry_text, listing, list_said}
+use Rattle.meaning.specs.Texts.{Spoken, joined, silent, prints, day_text, entry_text, listing}
 use Rattle.meaning.specs.Plans.{Plan, Ask, Show, Say, each, fetches, finds, lists, counts, copies_blocks, types_blocks}
 use Rattle.meaning.specs.Plans.{begins}
 use Rattle.meaning.specs.Transcripts.{login_said, core_words}
@@ -30,9 +30,9 @@ use Rattle.meaning.proofs.Playing.{play, small, ten_twenty, fresh, foo, bar, foo
 
 -- A line's plan, played.
 
-conduct : Pack → ℕ → State → Plan → Spoken × State
+unfoldable pub conduct : Pack → ℕ → State → Plan → Spoken × State
 conduct pack serial s (Say said) = (said, s)
-conduct pack serial s (Show owner) = (list_said owner (list s 1 owner), s)
+conduct pack serial s (Show owner next) = conduct pack serial s (next (list s 1 owner))
 conduct pack serial s (Ask event next) = let r = step pack serial s event in conduct pack (serial + 1) r.1 (next r.0)
 
 abbrev speak : Pack → State → Command → Spoken × State

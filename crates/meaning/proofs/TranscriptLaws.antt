@@ -1,6 +1,6 @@
 -- The text of an input is one: whatever serials are chosen, the same is printed.
 use Rattle.std.proofs.Common.{◌≡◌, ℕ, Bool, true, false, List, [], ◌∷◌, ◌++◌, Option, Some, None, refl, sym, ap, subst}
-use Rattle.std.proofs.Common.{◌∙◌, inl}
+use Rattle.std.proofs.Common.{◌∙◌, inl, Result}
 use Rattle.words36.specs.declared.moment.Moment.{Moment}
 use Rattle.meaning.specs.Jobs.{State}
 use Rattle.meaning.specs.Room.{Pack}
@@ -9,7 +9,8 @@ use Rattle.meaning.specs.Runs.{Serving, Steps}
 use Rattle.meaning.specs.Lines.{Line, Bytes, TooLong}
 use Rattle.meaning.specs.Commands.{Says, Means}
 use Rattle.meaning.specs.Scripts.{SaysEvent, MeansEvent}
-use Rattle.meaning.specs.Texts.{Spoken, joined, list_said}
+use Rattle.meaning.specs.Texts.{Spoken, joined}
+use Rattle.meaning.specs.declared.entry.Entry.{Entry}
 use Rattle.meaning.specs.Plans.{Plan, Ask, Show, Say, Act, Asks, Looks, Leads, begins}
 use Rattle.meaning.specs.Transcripts.{login_said, login_who, LogsIn, Acts, Speaks, IsTranscript, Orders, Scripts}
 use Rattle.meaning.specs.Transcripts.{reports, core_words, Served, Went}
@@ -63,7 +64,7 @@ served_apart pack s u (Looks owner answer ∷ first) more a = let r = served_apa
 
 abbrev said_of : Plan → Spoken → Spoken
 said_of (Say said) other = said
-said_of (Show owner) other = other
+said_of (Show owner next) other = other
 said_of (Ask event next) other = other
 
 say_same : (one other : Spoken) → Say one ≡ Say other → one ≡ other
@@ -71,10 +72,10 @@ say_same one other e = ap (λ plan. said_of plan one) e
 
 abbrev is_said : Plan → Bool
 is_said (Say said) = true
-is_said (Show owner) = false
+is_said (Show owner next) = false
 is_said (Ask event next) = false
 
-say_show : {said : Spoken} {owner : ℕ} → Say said ≡ Show owner → ⊥
+say_show : {said : Spoken} {owner : ℕ} {next : Result (List Entry) Reply → Plan} → Say said ≡ Show owner next → ⊥
 say_show e = let wrong = ap is_said e in cc
 
 say_ask : {said : Spoken} {event : Event} {next : Reply → Plan} → Say said ≡ Ask event next → ⊥
@@ -90,15 +91,15 @@ module _ (pack : Pack) (moment : Moment) where
   )
   same_conduct (Say said) s t u w [] (act ∷ bcts) one other r a b p q = absurd b
   same_conduct (Say said) s t u w (act ∷ acts) bcts one other r a b p q = absurd a
-  same_conduct (Show owner) s t u w [] bcts one other r a b p q = absurd (say_show a)
-  same_conduct (Show owner) s t u w (Asks event reply ∷ acts) bcts one other r a b p q = absurd a
-  same_conduct (Show owner) s t u w (Looks shown answer ∷ acts) [] one other r a b p q = absurd (say_show b)
-  same_conduct (Show owner) s t u w (Looks shown answer ∷ acts) (Asks event reply ∷ bcts) one other r a b p q = absurd b
-  same_conduct (Show owner) s t u w (Looks shown answer ∷ acts) (Looks shown' answer' ∷ bcts) one other r a b p q =
+  same_conduct (Show owner next) s t u w [] bcts one other r a b p q = absurd (say_show a)
+  same_conduct (Show owner next) s t u w (Asks event reply ∷ acts) bcts one other r a b p q = absurd a
+  same_conduct (Show owner next) s t u w (Looks shown answer ∷ acts) [] one other r a b p q = absurd (say_show b)
+  same_conduct (Show owner next) s t u w (Looks shown answer ∷ acts) (Asks event reply ∷ bcts) one other r a b p q = absurd b
+  same_conduct (Show owner next) s t u w (Looks shown answer ∷ acts) (Looks shown' answer' ∷ bcts) one other r a b p q =
       let o : shown ≡ shown' = a.0 ∙ sym b.0 in
       let l : answer ≡ answer' = p.0 ∙ (related_shown pack s t r).1 1 shown ∙ ap (list t 1) o ∙ sym q.0 in
-      same_conduct (Say (list_said owner answer)) s t u w acts bcts one other r a.1
-      (subst (λ x. Leads (Say (list_said owner x)) bcts (Say other)) (sym l) b.1) p.1 q.1
+      same_conduct (next answer) s t u w acts bcts one other r a.1
+      (subst (λ x. Leads (next x) bcts (Say other)) (sym l) b.1) p.1 q.1
   same_conduct (Ask event next) s t u w [] bcts one other r a b p q = absurd (say_ask a)
   same_conduct (Ask event next) s t u w (Looks owner answer ∷ acts) bcts one other r a b p q = absurd a
   same_conduct (Ask event next) s t u w (Asks event' reply ∷ acts) [] one other r a b p q = absurd (say_ask b)

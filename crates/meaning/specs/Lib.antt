@@ -51,3 +51,4 @@ pub mod Scripts
 pub mod Texts
 pub mod Plans
 pub mod Transcripts
+pub mod Errands

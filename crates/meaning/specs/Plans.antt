@@ -6,7 +6,9 @@ use Rattle.words36.specs.Words.{left, join}
 use Rattle.words36.specs.declared.moment.Moment.{Moment}
 use Rattle.meaning.specs.Costs.{blocks_of}
 use Rattle.meaning.specs.Opening.{disk, dump_mode}
-use Rattle.meaning.specs.Texts.{Spoken, prints, refuses, line, typed, list_said}
+use Rattle.meaning.specs.Texts.{Spoken, prints, refuses, line, printed, list_said}
+use Rattle.meaning.specs.declared.encoding.Encoding.{Encoding}
+use Rattle.meaning.specs.declared.encoding.Encoding.TheVariants.{Characters}
 use Rattle.meaning.specs.declared.command.Spec.{Spec}
 use Rattle.meaning.specs.declared.command.Command.{Command}
 use Rattle.meaning.specs.declared.command.Command.TheVariants.{Login as LoginLine, Directory as DirectoryLine}
@@ -106,8 +108,8 @@ makes moment owner protection = deposits file_words (owner ∷ protection * 2 ^ 
 pub data Plan : Type 0 where
   -- an event is asked, and its reply says what comes then
   Ask : Event → (Reply → Plan) → Plan
-  -- the list of a directory
-  Show : ℕ → Plan
+  -- the list of a directory is asked for, and the answer says what comes then
+  Show : ℕ → (Result (List Entry) Reply → Plan) → Plan
   -- nothing is asked any more
   Say : Spoken → Plan
 
@@ -208,6 +210,10 @@ copies moment to from =
     (examines moment (file_words + 3) (λ size. copies_body moment (blocks_said size) size
     (until_end moment (each moment (calls moment (Close 2 0) ∷ []) (ends moment ok)))))
 
+-- the list of one directory
+abbrev pub shows : ℕ → Plan
+shows owner = Show owner (λ answer. Say (list_said owner answer))
+
 -- Typing: the words of whole blocks, then those of the last.
 
 unfoldable pub types_blocks : Moment → ℕ → (List ℕ → Plan) → Plan
@@ -225,16 +231,20 @@ types_body moment zero size next = next []
 types_body moment (suc more) size next = types_blocks moment more
     (λ words. types_last moment (suc more) size (λ others. next (words ++ others)))
 
-abbrev pub types : Moment → Spec → Plan
-types moment spec =
+-- a file is read whole, and then printed
+abbrev pub reads : Moment → Encoding → Spec → Plan
+reads moment encoding spec =
     each moment (finds moment spec ++ lists 128)
     (examines moment (file_words + 3) (λ size. types_body moment (blocks_said size) size
-    (λ words. until_end moment (ends moment (prints (typed words))))))
+    (λ words. until_end moment (ends moment (prints (printed encoding words))))))
+
+abbrev pub types : Moment → Spec → Plan
+types moment spec = reads moment Characters spec
 
 -- what a line plans, of a session that is logged in as `me`
 abbrev pub begins : Moment → ℕ → Command → Plan
 begins moment me (LoginLine owner) = Say (prints [])
-begins moment me (DirectoryLine owner) = Show (unwrap_or owner me)
+begins moment me (DirectoryLine owner) = shows (unwrap_or owner me)
 begins moment me (CopyLine to from) = copies moment to from
 begins moment me (RenameLine to from) = each moment (renames moment to from) (ends moment ok)
 begins moment me (DeleteLine spec) = each moment (deletes moment spec) (ends moment ok)
@@ -252,8 +262,8 @@ abbrev pub Leads : Plan → List Act → Plan → Type 0
 Leads plan [] left = left ≡ plan
 Leads (Ask event next) (Asks asked reply ∷ acts) left = (asked ≡ event) × Leads (next reply) acts left
 Leads (Ask event next) (Looks owner answer ∷ acts) left = ⊥
-Leads (Show owner) (Asks asked reply ∷ acts) left = ⊥
-Leads (Show owner) (Looks shown answer ∷ acts) left = (shown ≡ owner) × Leads (Say (list_said owner answer)) acts left
+Leads (Show owner next) (Asks asked reply ∷ acts) left = ⊥
+Leads (Show owner next) (Looks shown answer ∷ acts) left = (shown ≡ owner) × Leads (next answer) acts left
 Leads (Say said) (act ∷ acts) left = ⊥
 
 -- From a plan on these are the acts, and this is said in the end.

@@ -5,9 +5,12 @@ use Rattle.std.specs.Fmt.{decimal}
 use Rattle.words36.specs.Words.{ppn_text}
 use Rattle.words36.specs.Sixbit.{characters}
 use Rattle.words36.specs.Ascii.{unpacked}
+use Rattle.words36.specs.Blocks.{word_bytes}
 use Rattle.meaning.specs.Maps.{total}
 use Rattle.meaning.specs.Lines.{feed}
 use Rattle.meaning.specs.declared.entry.Entry.{Entry}
+use Rattle.meaning.specs.declared.encoding.Encoding.{Encoding}
+use Rattle.meaning.specs.declared.encoding.Encoding.TheVariants.{Characters, Words}
 use Rattle.meaning.specs.declared.call.Reply.{Reply}
 use Rattle.meaning.specs.declared.call.Reply.TheVariants.{Done, Value, Refused, Stopped, NoChannel, AddressCheck, NoJob}
 use Rattle.meaning.specs.declared.call.Reply.TheVariants.{NoMemory, Device, Failed, DateRange}
@@ -88,6 +91,11 @@ not_null c = if c == 0 then [] else c ∷ []
 
 abbrev pub typed : List ℕ → List ℕ
 typed words = flat_map not_null (unpacked words)
+
+-- the bytes that words are printed as: characters, or eight bytes for each word, the most significant first
+abbrev pub printed : Encoding → List ℕ → List ℕ
+printed Characters words = typed words
+printed Words words = flat_map word_bytes words
 
 -- The list of a directory.
 

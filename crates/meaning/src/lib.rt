@@ -11,6 +11,7 @@ mod changes;
 mod code;
 mod command;
 mod edits;
+mod encoding;
 mod entry;
 mod laws;
 pub mod layout;
@@ -34,6 +35,7 @@ pub use changes::{
 pub use code::ErrorCode;
 pub use command::{Command, Spec};
 pub use edits::{directory_edits, master_edits};
+pub use encoding::Encoding;
 pub use entry::Entry;
 pub use laws::{
     bits_are_counted, chains_are_kept, log_is_no_part, maps_fit_their_cost, names_are_sixbit,

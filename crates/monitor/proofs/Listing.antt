@@ -4,8 +4,8 @@ use Rattle.std.proofs.Common.{ap, ◌∙◌, ◌⊎◌, inr}
 use Rattle.std.specs.Prelude.{if◌then◌else◌, option_map}
 use Rattle.std.specs.Cmp.{nat_cmp_total}
 use Rattle.words36.specs.declared.names.FileName.{FileName}
-use Rattle.meaning.specs.Maps.{get, entries}
-use Rattle.meaning.specs.Files.{File, Directory, map_directory}
+use Rattle.meaning.specs.Maps.{get, entries, keys}
+use Rattle.meaning.specs.Files.{File, Files, Directory, map_directory}
 use Rattle.meaning.specs.Published.{Version, without_serials}
 use Rattle.meaning.specs.Jobs.{Job, State, slot}
 use Rattle.meaning.specs.Rights.{directory_digit, may_look}
@@ -16,7 +16,7 @@ use Rattle.meaning.specs.declared.code.ErrorCode.TheVariants.{NoDirectory}
 use Rattle.meaning.specs.declared.call.Reply.{Reply}
 use Rattle.meaning.specs.declared.call.Reply.TheVariants as replies
 use Rattle.meaning.proofs.Names.{name_total}
-use Rattle.meaning.proofs.MapLists.{get-map_values, entries-map_values}
+use Rattle.meaning.proofs.MapLists.{get-map_values, entries-map_values, keys-map_values}
 use Rattle.volume.specs.Queries.{line, protection_answer, IsListRefusal}
 use Rattle.volume.specs.declared.error.CallError.{CallError}
 use Rattle.volume.specs.declared.error.CallError.TheVariants.{Refused, Device, NoMemory, Failed}
@@ -127,3 +127,7 @@ module _ (s : State) (jobs : List (Option Job)) (n owner : ℕ) (job : Job) (job
     unlisted Device reply may only is none serves = absurd only
     unlisted NoMemory reply may only is none serves = inr (ap Err is, there_is may)
     unlisted Failed reply may only is none serves = absurd (serves refl)
+
+-- the owners of directories, whatever serials their files have
+pub owners_without : (files : Files Version) → keys (without_serials files) ≡ keys files
+owners_without files = keys-map_values nat_cmp_total (map_directory (λ v. v.file)) files

@@ -1,9 +1,10 @@
-ghost use Rattle.std.specs.Prelude.{◌≡◌, ◌↔◌, false, List, None, Result, IfErr, IsErrOf, IsTrue};
-ghost use Rattle.meaning.specs.Jobs.{slot};
-ghost use Rattle.meaning.specs.Runs.{Service, Lists};
+ghost use Rattle.std.specs.Prelude.{◌≡◌, ◌↔◌, ◌⊎◌, false, List, None, Result, IfOk, IfErr, IsErrOf, IsTrue};
+ghost use Rattle.meaning.specs.Jobs.{State, slot};
+ghost use Rattle.meaning.specs.Maps.{keys};
+ghost use Rattle.meaning.specs.Runs.{Service, Serving, Lists};
 ghost use Rattle.meaning.specs.declared.entry.Entry.{Entry};
 ghost use Rattle.meaning.specs.declared.call.Reply.{Reply};
-ghost use Rattle.meaning.specs.declared.call.Reply.TheVariants.{NoJob, Failed};
+ghost use Rattle.meaning.specs.declared.call.Reply.TheVariants.{NoJob, NoMemory, Failed};
 ghost use Rattle.monitor.specs.Serving.{Serves};
 ghost use Rattle.monitor.specs.Lists.{IsListed, reply_of};
 ghost use Rattle.monitor.specs.Replies.{IsListRefusal};
@@ -62,6 +63,24 @@ impl<D: Disk> Monitor<D> {
         }
         match self.volume.list(alloc, ppn) {
             Ok(lines) => Ok(lines),
+            Err(error) => Err(reply_of(error)),
+        }
+    }
+
+    /// The owners of all directories, by their numbers. No job asks for them, and no protection keeps them from anybody.
+    ///
+    /// # Errors
+    ///
+    /// `NoMemory` where they find no room, `Failed` where the monitor has failed.
+    pub fn owners(&self, alloc: Global) -> Result<Vec<Ppn>, Reply>
+        ensures value { (D.state self.now.disk).honest → (s : State)
+            → Serves (D.state self.now.disk) self.now.map self.now.failed self.now.jobs (Serving s)
+            → IfOk result (λ owners. owners.items ≡ keys s.files) }
+        ensures failed { IsErrOf result Failed ↔ IsTrue self.now.failed }
+        ensures only { IfErr result (λ reply. (reply ≡ NoMemory) ⊎ (reply ≡ Failed)) }
+    {
+        match self.volume.owners(alloc) {
+            Ok(owners) => Ok(owners),
             Err(error) => Err(reply_of(error)),
         }
     }

@@ -1,21 +1,27 @@
 -- The list of a directory.
-use Rattle.std.proofs.Common.{◌≡◌, ℕ, ◌+◌, ◌<◌, List, [], ◌∷◌, ◌++◌, map, length, get_or, take, Some, Result, Ok, Err}
+use Rattle.std.proofs.Common.{◌≡◌, ℕ, ◌+◌, ◌<◌, ◌≤◌, List, [], ◌∷◌, ◌++◌, map, length, get_or, take, Some, Result, Ok, Err}
 use Rattle.std.proofs.Common.{IfOk, refl, sym, ap, subst, ◌∙◌}
 use Rattle.std.specs.FinMap.Entries.{find}
+use Rattle.std.specs.Cmp.{nat_cmp_total}
 use Rattle.std.specs.List.{AllByRecursion, AllZip}
 use Rattle.words36.specs.declared.names.FileName.{FileName}
 use Rattle.meaning.specs.declared.entry.Entry.{Entry}
-use Rattle.meaning.specs.Directories.{FileEntry}
+use Rattle.meaning.specs.Directories.{FileEntry, MasterEntry}
+use Rattle.directory.specs.declared.master.MasterEntry.{MasterEntry as Entries}
+use Rattle.blockdisk.specs.Disk.{DiskState}
+use Rattle.std.specs.Ordering.{nat_cmp}
+use Rattle.std.proofs.lemmas.List.{take_all}
 use Rattle.meaning.specs.Files.{File, Files, name_cmp}
-use Rattle.meaning.specs.Maps.{entries, from_entries, get}
-use Rattle.meaning.specs.Stands.{StoredFile, directory_of}
+use Rattle.meaning.specs.Maps.{entries, keys, from_entries, get}
+use Rattle.meaning.specs.Stands.{StoredFile, directory_of, entry_of}
 use Rattle.meaning.proofs.MapLaws.{some_same}
-use Rattle.meaning.proofs.MapLists.{get-from_entries, each_in_entries, entries-map_values}
+use Rattle.meaning.proofs.MapLists.{get-from_entries, each_in_entries, entries-map_values, keys-map_values}
 use Rattle.meaning.proofs.Names.{name_total}
 use Rattle.volume.specs.Known.{Known, KnownDirectory}
 use Rattle.volume.specs.Queries.{line, IsLine, IsShown}
 use Rattle.volume.specs.Found.{IsAdded}
-use Rattle.volume.proofs.Answering.{IsThere, shown_of}
+use Rattle.volume.specs.Cores.{master_view}
+use Rattle.volume.proofs.Answering.{Holds, IsThere, shown_of}
 use Rattle.volume.proofs.Lookups.{viewed_more, zip_behind}
 
 -- what stands in the sorted list is found in the directory
@@ -66,6 +72,30 @@ line_more d view xs i x old new below is zip added =
     (subst (λ (es : List FileEntry). AllZip (λ e l. IsLine d e.0 l) es (old ++ added.added ∷ []))
     (sym (viewed_more view xs i x below is))
     (zip_behind (λ e l. IsLine d e.0 l) (map view (take i xs)) old (view x) added.added zip added.is))
+
+-- The owners of directories, by the entries of the master directory in their order.
+
+pub owner_more : (xs : List Entries) (i : ℕ) (x : Entries) (old new : List ℕ) → i < length xs → x ≡ get_or xs i x
+    → old ≡ map (λ e. e.ppn) (take i xs) → new ≡ old ++ x.ppn ∷ [] → new ≡ map (λ e. e.ppn) (take (i + 1) xs)
+owner_more xs i x old new below is so_far pushed =
+    pushed ∙ ap (λ (l : List ℕ). l ++ x.ppn ∷ []) so_far ∙ sym (viewed_more (λ (e : Entries). e.ppn) xs i x below is)
+
+owners_viewed : (xs : List Entries) → map (λ e. e.ppn) xs ≡ map (λ (e : MasterEntry). e.0) (map master_view xs)
+owners_viewed [] = refl
+owners_viewed (x ∷ xs) = ap (λ (l : List ℕ). x.ppn ∷ l) (owners_viewed xs)
+
+pub owners_sorted : (es : List MasterEntry) (sorted : List Entries) (owners : List ℕ) (i : ℕ) (xs : List Entries)
+    → length xs ≤ i → xs ≡ sorted → map master_view sorted ≡ es → owners ≡ map (λ e. e.ppn) (take i xs)
+    → owners ≡ map (λ e. e.0) es
+owners_sorted es sorted owners i xs all same viewed so_far =
+    so_far ∙ ap (map (λ (e : Entries). e.ppn)) (take_all i xs all ∙ same) ∙ owners_viewed sorted
+    ∙ ap (map (λ (e : MasterEntry). e.0)) viewed
+
+pub owners_are : (s : DiskState) (k : Known) (files : Files File) → Holds s k files → (owners : List ℕ)
+    → owners ≡ keys (from_entries {R = nat_cmp} k.master.entries) → owners ≡ keys files
+owners_are s k files holds owners is =
+    is ∙ ap keys (sym holds.held.known.names) ∙ keys-map_values nat_cmp_total entry_of holds.map.directories
+    ∙ sym (keys-map_values nat_cmp_total directory_of holds.map.directories) ∙ ap keys holds.files_are
 
 pub if_ok_on : {T E : Type 0} {P Q : T → Type 0} (result : Result T E) → ((x : T) → P x → Q x) → IfOk result P
     → IfOk result Q

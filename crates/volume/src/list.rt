@@ -1,10 +1,11 @@
-ghost use Rattle.std.specs.Prelude.{◌≡◌, ◌↔◌, true, false, length, map, None, Some, IfOk, OnOk, IfErr, IsErrOf, IsTrue};
+ghost use Rattle.std.specs.Prelude.{◌≡◌, ◌↔◌, ◌⊎◌, true, false, length, map, None, Some, IfOk, OnOk, IfErr, IsErrOf, IsTrue};
 ghost use Rattle.std.specs.FinMap.Entries.{find};
 ghost use Rattle.std.specs.List.{AllByRecursion, AllZip};
+ghost use Rattle.std.specs.Ordering.{nat_cmp};
 ghost use Rattle.meaning.specs.declared.code.ErrorCode.TheVariants.{NoDirectory};
 ghost use Rattle.meaning.specs.Files.{File, Files, Directory, name_cmp};
-ghost use Rattle.meaning.specs.Maps.{entries, from_entries, get};
-ghost use Rattle.volume.specs.Cores.{file_view};
+ghost use Rattle.meaning.specs.Maps.{entries, keys, from_entries, get};
+ghost use Rattle.volume.specs.Cores.{file_view, master_view};
 ghost use Rattle.volume.specs.Found.{IsAdded};
 ghost use Rattle.volume.specs.Live.{IsKeyed, AreStanding};
 ghost use Rattle.volume.specs.LiveCores.{live_directory};
@@ -17,7 +18,7 @@ use crate::live::{LiveDirectory, LiveVersion};
 use crate::map::Volume;
 use crate::query::{directory_place, named_facts};
 use blockdisk::Disk;
-use directory::FileEntry;
+use directory::{Chain, FileEntry, MasterEntry};
 use meaning::Entry;
 use slab::Slab;
 use std::alloc::Global;
@@ -84,6 +85,28 @@ fn directory_lines(
     Ok(lines)
 }
 
+/// The owners of the directories that the master directory names, by their numbers.
+///
+/// # Errors
+///
+/// `NoMemory` where they find no room.
+fn master_owners(alloc: Global, master: &Chain<MasterEntry>) -> Result<Vec<Ppn>, CallError>
+    ensures value { IfOk result (λ owners. owners.items
+        ≡ keys (from_entries {R = nat_cmp} (map master_view master.now.entries))) }
+    ensures only { IfErr result (λ e. e ≡ NoMemory) }
+{
+    let Ok(sorted) = master.list_sorted(alloc) else {
+        return Err(CallError::NoMemory);
+    };
+    let mut owners = Vec::new(alloc);
+    for entry in sorted.as_slice() {
+        if owners.push(entry.ppn).is_err() {
+            return Err(CallError::NoMemory);
+        }
+    }
+    Ok(owners)
+}
+
 impl<D: Disk> Volume<D> {
     /// The files of a directory, by name and then by extension, as numbers.
     ///
@@ -108,5 +131,23 @@ impl<D: Disk> Volume<D> {
         let i = directory_place(&self.map.master, ppn)?;
         let directory = &self.map.directories[i];
         directory_lines(alloc, &self.map.versions, directory)
+    }
+
+    /// The owners of all directories, by their numbers.
+    ///
+    /// # Errors
+    ///
+    /// `NoMemory` where they find no room, `Failed` where the volume failed before.
+    pub fn owners(&self, alloc: Global) -> Result<Vec<Ppn>, CallError>
+        ensures value { (D.state self.now.disk).honest → self.now.failed ≡ false → (files : Files File)
+            → RestsAt (D.state self.now.disk) files
+            → IfOk result (λ owners. owners.items ≡ keys files) }
+        ensures failed { IsErrOf result Failed ↔ IsTrue self.now.failed }
+        ensures only { IfErr result (λ e. (e ≡ NoMemory) ⊎ (e ≡ Failed)) }
+    {
+        if self.failed {
+            return Err(CallError::Failed);
+        }
+        master_owners(alloc, &self.map.master)
     }
 }

@@ -1,15 +1,6 @@
-use Rattle.commands.proofs.AnswerLaws.{spoke_list, spoke_list_refused}
+use Rattle.commands.proofs.AnswerLaws.{spoke_shown}
 use Rattle.commands.proofs.answer.list.Goals as goal
 
-pub returns-in-Ok : goal.returns-in-Ok
-returns-in-Ok g c = spoke_list g.S.FileService.machine g.met.S.FileService.stands
-    (λ bytes. bytes.items) c.listing.result c.args.moment c.args.tally.now _ _ c.args.me c.args.place
-    c.unwrap_or-owner.result c.in-Ok.entries.items c.deref.result.now
-    c.unwrap_or-owner.ensures c.in-Ok.ensures c.deref.ensures.value c.listing.ensures
-
-pub returns-in-Err : goal.returns-in-Err
-returns-in-Err g c = spoke_list_refused g.S.FileService.machine g.met.S.FileService.stands
-    (λ bytes. bytes.items) c.refuse.result c.args.moment c.args.tally.now c.refuse.new.tally _ _ c.args.me
-    c.args.place c.unwrap_or-owner.result c.in-Err.reply c.refusal.result.now c.is_broken.result
-    c.unwrap_or-owner.ensures c.in-Err.ensures c.refusal.ensures c.is_broken.ensures c.refuse.ensures.refused
-    c.refuse.ensures.broke c.refuse.ensures.text
+pub returns : goal.returns
+returns g c = spoke_shown g.S.FileService.machine (λ bytes. bytes.items) c.show.result c.args.moment c.args.tally.now
+    c.show.new.tally _ _ c.args.me c.args.place c.unwrap_or.result c.unwrap_or.ensures c.show.ensures

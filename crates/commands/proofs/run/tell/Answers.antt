@@ -7,14 +7,14 @@ returns-in-Nothing-clause-told g c = told_nothing g.S.FileService.machine g.met.
     _ c.args.moment c.args.talk.now.who c.args.talk.now.tally c.args.heard c.in-Nothing.is
 
 pub returns-in-Said-clause-told : goal.returns-in-Said-clause-told
-returns-in-Said-clause-told g c = told_said g.S.FileService.machine (λ bytes. bytes.items) c.put.result
+returns-in-Said-clause-told g c = told_said g.S.FileService.machine (λ bytes. bytes.items) c.print.result
     c.answer-text.result _ _ _ _ c.args.moment _ _ _ _ c.args.heard c.in-Said.meant c.in-Said.is
-    c.answer-text.ensures c.put.ensures
+    c.answer-text.ensures c.print.ensures
 
 pub returns-in-Ordered-clause-told : goal.returns-in-Ordered-clause-told
-returns-in-Ordered-clause-told g c = told_ordered g.S.FileService.machine (λ bytes. bytes.items) c.put-in-Ordered.result
+returns-in-Ordered-clause-told g c = told_ordered g.S.FileService.machine (λ bytes. bytes.items) c.print-in-Ordered.result
     c.obey-text.result _ _ _ _ c.args.moment _ _ _ _ c.args.heard c.in-Ordered.order c.in-Ordered.is
-    (c.obey-text.ensures c.args.moment c.args.talk.now.who) c.put-in-Ordered.ensures
+    (c.obey-text.ensures c.args.moment c.args.talk.now.who) c.print-in-Ordered.ensures
 
 pub answer-text-requires : goal.answer-text-requires
 answer-text-requires g c = said_fits c.args.heard c.in-Said.meant c.in-Said.is c.requires

@@ -1,18 +1,20 @@
 use Rattle.std.proofs.Common.{inl, inr, subst}
 use Rattle.monitor.proofs.Along.{no_fault}
+use Rattle.filser.proofs.Attending.{was_honest}
 use Rattle.filser.proofs.serving.serve.Goals as goal
 
 pub returns-in-Ok-clause-served : goal.returns-in-Ok-clause-served
 returns-in-Ok-clause-served g c h files stands =
     let end = subst (λ disk. (g.D.Disk.state disk).honest) c.finish.ensures h in
-    let first = c.session-talked.ensures.goes.was_honest end in
+    let first = was_honest g.D.Disk.state c.args.task _ _ _ _ c.in-Ok.monitor _ c.attend-attended.result
+    c.attend-attended.ensures end in
     inl (record {
       first = c.in-Ok.monitor;
-      last = c.session-talked.new.monitor;
-      result = c.session-talked.result;
+      last = c.attend-attended.new.monitor;
+      result = c.attend-attended.result;
       begun = λ s start. c.in-Ok.ensures.started files stands s start first;
       started = c.in-Ok.ensures.crash first;
-      transcript = c.session-talked.ensures;
+      transcript = c.attend-attended.ensures;
       ends = c.ending.ensures.ends;
       ended = c.finish.ensures;
     })
@@ -30,4 +32,5 @@ returns-in-Err-clause-served g c h files stands =
 pub returns-in-Ok-clause-was_honest : goal.returns-in-Ok-clause-was_honest
 returns-in-Ok-clause-was_honest g c h =
     c.in-Ok.ensures.same.was_honest
-    (c.session-talked.ensures.goes.was_honest (subst (λ disk. (g.D.Disk.state disk).honest) c.finish.ensures h))
+    (was_honest g.D.Disk.state c.args.task _ _ _ _ c.in-Ok.monitor _ c.attend-attended.result
+    c.attend-attended.ensures (subst (λ disk. (g.D.Disk.state disk).honest) c.finish.ensures h))

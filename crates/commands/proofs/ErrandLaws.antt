@@ -1,0 +1,208 @@
+-- What is left of a service and of a writer where a job logs in for one thing.
+use Rattle.std.proofs.Common.{◌≡◌, ◌⊎◌, ℕ, ◌||◌, Bool, true, false, List, [], Option, None, Some, Result, Ok, Err, refl}
+use Rattle.std.proofs.Common.{sym, ◌∙◌, ap, subst, inl, inr, IfOk, ℤ}
+use Rattle.std.specs.Io.KnownBytes.{Appends, Consumes, IsAtEnd}
+use Rattle.std.proofs.KnownBytes.{Appends-nil}
+use Rattle.words36.specs.declared.moment.Moment.{Moment}
+use Rattle.meaning.specs.Errands.{AreWords, surveys, volume_line}
+use Rattle.meaning.specs.Jobs.{State}
+use Rattle.meaning.specs.Plans.{Plan, Say}
+use Rattle.meaning.specs.Room.{room as room_in}
+use Rattle.meaning.specs.Runs.{Serving}
+use Rattle.meaning.specs.Texts.{Spoken, complains, refuses, refusal, is_broken, line}
+use Rattle.meaning.specs.declared.call.Reply.{Reply}
+use Rattle.meaning.specs.declared.encoding.Encoding.{Encoding}
+use Rattle.commands.specs.Asking.{Led, Concludes}
+use Rattle.commands.specs.Errands.{fresh, Carries, Errand, IsUnread, Delivery, Checked}
+use Rattle.commands.specs.Machines.{Machine, AlwaysStands}
+use Rattle.commands.specs.Sessions.{Puts}
+use Rattle.commands.specs.Streams.{spoken}
+use Rattle.commands.specs.declared.answer.Tally.{Tally}
+use Rattle.commands.specs.declared.error.SessionError.{SessionError}
+use Rattle.commands.specs.declared.error.SessionError.TheVariants.{Read, NoMemory}
+use Rattle.commands.proofs.GoingLaws.{goes_nowhere}
+use Rattle.commands.proofs.LedLaws.{led_on, led_still}
+use Rattle.commands.proofs.AnswerLaws.{or-true}
+
+-- what was said where nothing was counted before
+said_spoken : (said : Spoken) (bytes : List ℕ) (tally counted : Tally) → tally ≡ fresh
+    → counted.refused ≡ tally.refused || said.refused → counted.broke ≡ tally.broke || said.broke → bytes ≡ said.text
+    → said ≡ spoken bytes counted
+said_spoken said bytes tally counted none refused broke text =
+    let r : counted.refused ≡ said.refused = refused ∙ ap (λ (t : Tally). t.refused || said.refused) none in
+    let b : counted.broke ≡ said.broke = broke ∙ ap (λ (t : Tally). t.broke || said.broke) none in
+    λ i. record { text = sym text i; refused = sym r i; broke = sym b i }
+
+-- how the writing of a text ended
+abbrev told : Result (Unit {0}) SessionError → Result (Unit {0}) SessionError
+told result = result
+
+not_told : (unit : Unit {0}) → told (Ok unit) ≡ told (Err NoMemory) → ⊥
+not_told unit e = cc
+
+told_error : (error : SessionError) → told (Err error) ≡ told (Err NoMemory) → error ≡ NoMemory
+told_error error e = cc
+
+module _ {V E S : Type 0} (machine : S → Machine) (bytes : V → List ℕ) where
+  -- what was led to comes before its end
+  pub concluded_behind : (result : Result V E) (a b c : S) (plan rest : Plan) (tally counted : Tally)
+      → Led machine a b plan rest → Concludes bytes result machine b c rest tally counted
+      → Concludes bytes result machine a c plan tally counted
+  concluded_behind result a b c plan rest tally counted led p = record {
+    said = p.said;
+    led = led_on machine a b c plan rest (Say p.said) led p.led;
+    refused = p.refused;
+    broke = p.broke;
+    text = p.text;
+  }
+
+  pub carried : (result : Result V E) (a b : S) (plan : Plan) (tally counted : Tally) → tally ≡ fresh
+      → Concludes bytes result machine a b plan tally counted → Carries bytes result machine a b plan counted
+  carried (Ok v) a b plan tally counted none p = subst (λ (said : Spoken). Led machine a b plan (Say said))
+      (said_spoken p.said (bytes v) tally counted none p.refused p.broke p.text) p.led
+  carried (Err error) a b plan tally counted none p = (Say p.said, p.led)
+
+  pub carried_behind : (result : Result V E) (a b c : S) (plan rest : Plan) (counted : Tally)
+      → Led machine a b plan rest → Carries bytes result machine b c rest counted
+      → Carries bytes result machine a c plan counted
+  carried_behind (Ok v) a b c plan rest counted led p = led_on machine a b c plan rest (Say (spoken (bytes v) counted))
+      led p
+  carried_behind (Err error) a b c plan rest counted led p = (p.0, led_on machine a b c plan rest p.0 led p.1)
+
+  -- The text was written, or not all of it.
+
+  pub errand_done : (text : Result V E) (sink full : Option (List ℕ)) (a b : S) (plan : Plan) (counted : Tally)
+      (unit : Unit {0}) → Carries bytes text machine a b plan counted → Puts bytes (Ok unit) sink full text
+      → Errand sink full machine a b plan (Ok counted)
+  errand_done (Ok v) sink full a b plan counted unit p put = record {
+    written = bytes v;
+    acts = p.acts;
+    appended = put.0;
+    goes = p.goes;
+    performs = p.leads;
+  }
+  errand_done (Err error) sink full a b plan counted unit p put = absurd (not_told unit put.0)
+
+  pub errand_cut : (text : Result V E) (sink full : Option (List ℕ)) (a b : S) (plan : Plan) (counted : Tally)
+      (error : SessionError) → Carries bytes text machine a b plan counted → Puts bytes (Err error) sink full text
+      → Errand sink full machine a b plan (Err error)
+  errand_cut (Ok v) sink full a b plan counted error p put =
+      let cut = put.1.1 in
+      subst (λ (e : SessionError). Errand sink full machine a b plan (Err e)) (sym put.1.0) (record {
+        written = cut.0;
+        acts = p.acts;
+        appended = cut.2;
+        goes = p.goes;
+        performs = (spoken (bytes v) counted, p.leads, cut.1, cut.3, cut.4);
+      })
+  errand_cut (Err wanted) sink full a b plan counted error p put =
+      subst (λ (e : SessionError). Errand sink full machine a b plan (Err e)) (sym (told_error error put.0)) (record {
+        written = [];
+        acts = p.1.acts;
+        appended = subst (λ (l : Option (List ℕ)). Appends sink l []) (sym put.1) (Appends-nil sink);
+        goes = p.1.goes;
+        performs = (p.0, p.1.leads, refl);
+      })
+
+-- A refusal for which nothing is asked.
+module _ {V E S : Type 0} (machine : S → Machine) (stands : AlwaysStands machine) (bytes : V → List ℕ)
+    (result : Result V E) (m : S) (tally counted : Tally) where
+  pub refused_reply : (reply : Reply) (words : List ℕ) (broken : Bool) → words ≡ refusal reply
+      → broken ≡ is_broken reply → counted.refused ≡ true → counted.broke ≡ tally.broke || broken
+      → IfOk result (λ v. bytes v ≡ line words)
+      → Concludes bytes result machine m m (Say (refuses reply)) tally counted
+  refused_reply reply words broken same_words same_broken refused broke text = record {
+    said = refuses reply;
+    led = led_still machine stands m (Say (refuses reply));
+    refused = refused ∙ or-true tally.refused;
+    broke = broke ∙ ap (λ b. tally.broke || b) same_broken;
+    text = subst (λ (l : List ℕ). IfOk result (λ v. bytes v ≡ line l)) same_words text;
+  }
+
+  pub refused_words : (words : List ℕ) (said : List ℕ) → words ≡ said → counted.refused ≡ true
+      → counted.broke ≡ tally.broke || false → IfOk result (λ v. bytes v ≡ line words)
+      → Concludes bytes result machine m m (Say (complains said)) tally counted
+  refused_words words said same refused broke text = record {
+    said = complains said;
+    led = led_still machine stands m (Say (complains said));
+    refused = refused ∙ or-true tally.refused;
+    broke = broke;
+    text = subst (λ (l : List ℕ). IfOk result (λ v. bytes v ≡ line l)) same text;
+  }
+
+-- Inputs.
+module _ {S : Type 0} (machine : S → Machine) (source left sink full : Option (List ℕ)) (a b : S) (encoding : Encoding)
+    (plan : Option (List ℕ) → Plan) where
+  pub delivered : (result : Result Tally SessionError) (read : List ℕ) (words : Option (List ℕ))
+      → Consumes source left read → IsAtEnd left → AreWords encoding read words
+      → Errand sink full machine a b (plan words) result
+      → Delivery source left sink full machine a b encoding plan result
+  delivered result read words consumed ended are p = record {
+    read = read;
+    written = p.written;
+    acts = p.acts;
+    consumed = consumed;
+    appended = p.appended;
+    goes = p.goes;
+    delivers = inl (ended, words, are, p.performs);
+  }
+
+pub undelivered : {S : Type 0} (machine : S → Machine) (stands : AlwaysStands machine)
+    (source left sink : Option (List ℕ)) (a : S) (encoding : Encoding) (plan : Option (List ℕ) → Plan)
+    (result : Result Tally SessionError) (read : List ℕ) → Consumes source left read → IsUnread result
+    → Delivery source left sink sink machine a a encoding plan result
+undelivered machine stands source left sink a encoding plan result read consumed unread = record {
+  read = read;
+  written = [];
+  acts = [];
+  consumed = consumed;
+  appended = Appends-nil sink;
+  goes = goes_nowhere machine stands a;
+  delivers = inr (unread, refl, refl);
+}
+
+pub unread_by : (error : SessionError) → (error ≡ Read) ⊎ (error ≡ NoMemory) → IsUnread (Err error)
+unread_by error (inl read) = subst (λ (e : SessionError). IsUnread (Err e)) (sym read) tt
+unread_by error (inr memory) = subst (λ (e : SessionError). IsUnread (Err e)) (sym memory) tt
+
+pub memory_unread : IsUnread (Err NoMemory)
+memory_unread = tt
+
+-- Directories that were asked for.
+
+pub none_there : (place : Option ℕ) → ((owner : ℕ) → place ≡ Some owner → ⊥) → place ≡ None
+none_there None other = refl
+none_there (Some owner) other = absurd (other owner refl)
+
+pub surveyed : {S : Type 0} (machine : S → Machine) (moment : Moment) (sink full : Option (List ℕ)) (a b : S)
+    (shown owners : List ℕ) (result : Result Tally SessionError) → shown ≡ owners
+    → Errand sink full machine a b (surveys moment shown) result → Errand sink full machine a b (surveys moment owners)
+    result
+surveyed machine moment sink full a b shown owners result same p =
+    subst (λ (l : List ℕ). Errand sink full machine a b (surveys moment l) result) same p
+
+-- What a volume has.
+module _ {V E : Type 0} (machine : Machine) (bytes : V → List ℕ) where
+  pub checked_cut : (text : Result V E) (sink full : Option (List ℕ)) (room : ℤ) (error : SessionError)
+      → (machine.honest → (s : State) → machine.serves (Serving s) → room ≡ room_in machine.pack s)
+      → IfOk text (λ v. bytes v ≡ volume_line machine.pack.blocks room) → Puts bytes (Err error) sink full text
+      → Checked sink full machine (Err error)
+  checked_cut (Ok v) sink full room error left said put =
+      let cut = put.1.1 in
+      subst (λ (e : SessionError). Checked sink full machine (Err e)) (sym put.1.0) (record {
+        written = cut.0;
+        unwritten = cut.1;
+        appended = cut.2;
+        says = λ h s serves. ap (volume_line machine.pack.blocks) (sym (left h s serves)) ∙ sym said ∙ cut.3;
+        whole = tt;
+        cut = cut.4;
+      })
+  checked_cut (Err wanted) sink full room error left said put =
+      subst (λ (e : SessionError). Checked sink full machine (Err e)) (sym (told_error error put.0)) (record {
+        written = [];
+        unwritten = volume_line machine.pack.blocks room;
+        appended = subst (λ (l : Option (List ℕ)). Appends sink l []) (sym put.1) (Appends-nil sink);
+        says = λ h s serves. ap (volume_line machine.pack.blocks) (sym (left h s serves));
+        whole = tt;
+        cut = refl;
+      })

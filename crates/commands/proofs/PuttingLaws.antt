@@ -1,0 +1,195 @@
+-- How a file is put: its plan, step by step.
+use Rattle.std.proofs.Common.{◌≡◌, ℕ, suc, ◌+◌, ◌-◌, ◌/◌, ◌<◌, ◌≤◌, List, [], ◌∷◌, Result, refl}
+use Rattle.std.proofs.Common.{sym, ◌∙◌, ap, subst, take, drop, length, get_or, min, arith, Bool, true, false, nat_le}
+use Rattle.std.proofs.lemmas.Bool.Decides.{nat_tests}
+use Rattle.std.proofs.lemmas.List.{drop_more, drop_all, take_all, length-drop}
+use Rattle.words36.specs.declared.moment.Moment.{Moment}
+use Rattle.meaning.specs.Costs.{blocks_of}
+use Rattle.meaning.specs.Errands.{creates, fills, fills_parts, fills_all, announces, part_address}
+use Rattle.meaning.specs.Plans.{Plan, each, fails, deposits, calls}
+use Rattle.meaning.specs.declared.call.Call.TheVariants.{Close}
+use Rattle.meaning.specs.declared.call.Event.{Event}
+use Rattle.meaning.specs.declared.call.Event.TheVariants.{Deposit}
+use Rattle.meaning.specs.declared.call.Reply.{Reply}
+use Rattle.meaning.specs.declared.command.Spec.{Spec}
+use Rattle.meaning.specs.declared.encoding.Encoding.{Encoding}
+use Rattle.commands.specs.Asking.{Led, followed}
+use Rattle.commands.specs.Machines.{Machine, AlwaysStands}
+use Rattle.commands.proofs.LedLaws.{led_on, led_still}
+use Rattle.commands.proofs.CopyingLaws.{led_first}
+
+-- Words that are deposited.
+
+-- the i-th word, and those behind it
+deposits_at : (moment : Moment) (first : ℕ) (words : List ℕ) (i word : ℕ) (event : Event) (next : Plan)
+    → i < length words → word ≡ get_or words i word → event ≡ Deposit 1 (first + i) word
+    → each moment (deposits (first + i) (drop i words)) next
+    ≡ each moment (event ∷ []) (each moment (deposits (first + (i + 1)) (drop (i + 1) words)) next)
+unfolding each
+deposits_at moment first words i word event next h at is =
+    let place : first + i + 1 ≡ first + (i + 1) = omega arith in
+    ap (λ (l : List ℕ). each moment (deposits (first + i) l) next) (drop_more words i word h
+    ∙ ap (λ (w : ℕ). w ∷ drop (i + 1) words) (sym at))
+    ∙ (λ j. each moment (sym is j ∷ []) (each moment (deposits (place j) (drop (i + 1) words)) next))
+
+module _ {S : Type 0} (machine : S → Machine) (first : ℕ) (words : List ℕ) where
+  -- what is left at the i-th word
+  abbrev pub Deposits : S → S → ℕ → Type 0
+  Deposits a b i = (moment : Moment) (next : Plan)
+      → Led machine a b (each moment (deposits first words) next)
+      (each moment (deposits (first + i) (drop i words)) next)
+
+  pub deposits_none : AlwaysStands machine → (a : S) → Deposits a a 0
+  deposits_none stands a moment next =
+      let place : first ≡ first + 0 = omega arith in
+      subst (λ (n : ℕ). Led machine a a (each moment (deposits first words) next) (each moment (deposits n words) next))
+      place (led_still machine stands a (each moment (deposits first words) next))
+
+  module _ (a b c : S) (i word : ℕ) (h : i < length words) (at : word ≡ get_or words i word) (p : Deposits a b i)
+      (event : Event) (is : event ≡ Deposit 1 (first + i) word) where
+    deposit_then : (moment : Moment) (next rest : Plan)
+        → Led machine b c (each moment (event ∷ []) (each moment (deposits (first + (i + 1)) (drop (i + 1) words)) next))
+        rest → Led machine a c (each moment (deposits first words) next) rest
+    deposit_then moment next rest q =
+        led_on machine a b c _ _ rest (p moment next)
+        (subst (λ (l : Plan). Led machine b c l rest)
+        (sym (deposits_at moment first words i word event next h at is)) q)
+
+    pub deposits_more : ((moment : Moment) (next : Plan) → Led machine b c (each moment (event ∷ []) next) next)
+        → Deposits a c (i + 1)
+    deposits_more asked moment next = deposit_then moment next _
+        (asked moment (each moment (deposits (first + (i + 1)) (drop (i + 1) words)) next))
+
+    pub deposits_broken : (reply : Reply)
+        → ((moment : Moment) (next : Plan) → Led machine b c (each moment (event ∷ []) next) (fails moment reply))
+        → (moment : Moment) (next : Plan)
+        → Led machine a c (each moment (deposits first words) next) (fails moment reply)
+    deposits_broken reply asked moment next = deposit_then moment next (fails moment reply)
+        (asked moment (each moment (deposits (first + (i + 1)) (drop (i + 1) words)) next))
+
+  pub deposits_all : (a b : S) (i : ℕ) → length words ≤ i → Deposits a b i → (moment : Moment) (next : Plan)
+      → Led machine a b (each moment (deposits first words) next) next
+  unfolding each
+  deposits_all a b i h p moment next =
+      subst (λ (l : List ℕ). Led machine a b (each moment (deposits first words) next)
+      (each moment (deposits (first + i) l) next)) (drop_all i words h) (p moment next)
+
+-- Parts.
+
+some_blocks : (n : ℕ) → 0 < n → (n + 127) / 128 ≡ suc ((n - 128 + 127) / 128)
+some_blocks n h = omega arith
+
+no_blocks : (n : ℕ) → n ≡ 0 → (n + 127) / 128 ≡ 0
+no_blocks n e = omega arith
+
+part_filled : (moment : Moment) (encoding : Encoding) (more : ℕ) (words : List ℕ) (next : Plan)
+    → fills_parts moment encoding (suc more) words next
+    ≡ each moment (fills moment encoding (take 128 words)) (fills_parts moment encoding more (drop 128 words) next)
+unfolding fills_parts
+part_filled moment encoding more words next = refl
+
+-- the first part, and those behind it
+pub first_part : (moment : Moment) (encoding : Encoding) (words part rest : List ℕ) (next : Plan) → 0 < length words
+    → part ≡ take 128 words → rest ≡ drop 128 words
+    → fills_all moment encoding words next ≡ each moment (fills moment encoding part) (fills_all moment encoding rest next)
+first_part moment encoding words part rest next h is_part is_rest =
+    let long : length (drop 128 words) ≡ length words - 128 = length-drop 128 words in
+    let count : blocks_of (length words) ≡ suc (blocks_of (length (drop 128 words))) = some_blocks (length words) h
+    ∙ ap (λ (n : ℕ). suc ((n + 127) / 128)) (sym long) in
+    ap (λ (n : ℕ). fills_parts moment encoding n words next) count
+    ∙ part_filled moment encoding (blocks_of (length (drop 128 words))) words next
+    ∙ (λ i. each moment (fills moment encoding (sym is_part i)) (fills_all moment encoding (sym is_rest i) next))
+
+pub no_part : (moment : Moment) (encoding : Encoding) (words : List ℕ) (next : Plan) → length words ≡ 0
+    → fills_all moment encoding words next ≡ next
+unfolding fills_parts
+no_part moment encoding words next none = ap (λ (n : ℕ). fills_parts moment encoding n words next)
+    (no_blocks (length words) none)
+
+-- what is cut off at 128 or at the end
+pub take_part : (words : List ℕ) (n : ℕ) → n ≡ min (length words) 128 → take n words ≡ take 128 words
+take_part words n e = by (nat_le (length words) 128) refl
+  where
+    by : (b : Bool) → nat_le (length words) 128 ≡ b → take n words ≡ take 128 words
+    by true t = take_all n words (grind (arith, nat_tests)) ∙ sym (take_all 128 words (grind (arith, nat_tests)))
+    by false t = let at : n ≡ 128 = grind (arith, nat_tests) in ap (λ (k : ℕ). take k words) at
+
+pub drop_part : (words : List ℕ) (n : ℕ) → n ≡ min (length words) 128 → drop n words ≡ drop 128 words
+drop_part words n e = by (nat_le (length words) 128) refl
+  where
+    by : (b : Bool) → nat_le (length words) 128 ≡ b → drop n words ≡ drop 128 words
+    by true t = drop_all n words (grind (arith, nat_tests)) ∙ sym (drop_all 128 words (grind (arith, nat_tests)))
+    by false t = let at : n ≡ 128 = grind (arith, nat_tests) in ap (λ (k : ℕ). drop k words) at
+
+pub rest_shorter : (words after : List ℕ) → 0 < length words → after ≡ drop 128 words → length after < length words
+rest_shorter words after h e =
+    let long : length after ≡ length words - 128 = ap length e ∙ length-drop 128 words in omega arith
+
+module _ {S : Type 0} (machine : S → Machine) (moment : Moment) (encoding : Encoding) (words : List ℕ) where
+  abbrev pub Filled : S → S → List ℕ → Type 0
+  Filled a b rest = (next : Plan)
+      → Led machine a b (fills_all moment encoding words next) (fills_all moment encoding rest next)
+
+  pub filled_none : AlwaysStands machine → (a : S) → Filled a a words
+  filled_none stands a next = led_still machine stands a (fills_all moment encoding words next)
+
+  module _ (a b c : S) (rest part after : List ℕ) (h : 0 < length rest) (is_part : part ≡ take 128 rest)
+      (is_after : after ≡ drop 128 rest) (p : Filled a b rest) where
+    part_then : (next end : Plan)
+        → Led machine b c (each moment (fills moment encoding part) (fills_all moment encoding after next)) end
+        → Led machine a c (fills_all moment encoding words next) end
+    part_then next end q = led_on machine a b c (fills_all moment encoding words next)
+        (fills_all moment encoding rest next) end (p next)
+        (subst (λ (l : Plan). Led machine b c l end)
+        (sym (first_part moment encoding rest part after next h is_part is_after)) q)
+
+    pub filled_more : ((next : Plan) → Led machine b c (each moment (fills moment encoding part) next) next)
+        → Filled a c after
+    filled_more filled next = part_then next (fills_all moment encoding after next)
+        (filled (fills_all moment encoding after next))
+
+    pub filled_broken : (reply : Reply)
+        → ((next : Plan) → Led machine b c (each moment (fills moment encoding part) next) (fails moment reply))
+        → (next : Plan) → Led machine a c (fills_all moment encoding words next) (fails moment reply)
+    filled_broken reply broken next = part_then next (fails moment reply) (broken (fills_all moment encoding after next))
+
+  pub filled_all : (a b : S) (rest : List ℕ) → length rest ≡ 0 → Filled a b rest → (next : Plan)
+      → Led machine a b (fills_all moment encoding words next) next
+  filled_all a b rest none p next = subst (λ (l : Plan). Led machine a b (fills_all moment encoding words next) l)
+      (no_part moment encoding rest next none) (p next)
+
+-- A file: what is left once the job has logged in, once the file is entered, once its words are put.
+
+abbrev pub closed_then : Moment → Plan → Plan
+closed_then moment next = each moment (calls moment (Close 2 0) ∷ []) next
+
+abbrev pub filled_then : Moment → Encoding → List ℕ → Plan → Plan
+filled_then moment encoding words next = fills_all moment encoding words (closed_then moment next)
+
+abbrev pub created_then : Moment → Encoding → Spec → List ℕ → Plan → Plan
+created_then moment encoding spec words next = each moment (creates moment encoding spec)
+    (filled_then moment encoding words next)
+
+-- A part: its words, and what puts them.
+module _ {S : Type 0} (machine : S → Machine) (moment : Moment) (encoding : Encoding) (part : List ℕ) where
+  pub part_deposited : (a b : S) (address : ℕ) → address ≡ part_address encoding → (reply : Reply)
+      → ((moment : Moment) (next : Plan) → Led machine a b (each moment (deposits address part) next)
+      (fails moment reply))
+      → (next : Plan) → Led machine a b (each moment (fills moment encoding part) next) (fails moment reply)
+  part_deposited a b address is reply failed next = led_first machine a b moment (deposits address part)
+      (deposits (part_address encoding) part) (announces moment encoding (length part)) next (fails moment reply)
+      (ap (λ (n : ℕ). deposits n part) is) (failed moment (each moment (announces moment encoding (length part)) next))
+
+  pub part_announced : (a b c : S) (address : ℕ) → address ≡ part_address encoding
+      → (result : Result (Unit {0}) Reply)
+      → ((moment : Moment) (next : Plan) → Led machine a b (each moment (deposits address part) next) next)
+      → ((next : Plan) → Led machine b c (each moment (announces moment encoding (length part)) next)
+      (followed moment result (λ unit. next)))
+      → (next : Plan)
+      → Led machine a c (each moment (fills moment encoding part) next) (followed moment result (λ unit. next))
+  part_announced a b c address is result deposited announced next =
+      let behind = each moment (announces moment encoding (length part)) next in
+      led_on machine a b c (each moment (fills moment encoding part) next) behind _
+      (led_first machine a b moment (deposits address part) (deposits (part_address encoding) part)
+      (announces moment encoding (length part)) next behind (ap (λ (n : ℕ). deposits n part) is)
+      (deposited moment behind)) (announced next)

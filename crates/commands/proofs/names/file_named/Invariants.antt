@@ -1,0 +1,6 @@
+use Rattle.std.proofs.Common.{take}
+use Rattle.commands.specs.PartialLines.{IsPartialLine}
+use Rattle.commands.proofs.names.file_named.Given as goal
+
+abbrev pub invariant-loop-byte : goal.invariant-loop-byte
+invariant-loop-byte l = IsPartialLine l.line (take l.byte-index l.text)

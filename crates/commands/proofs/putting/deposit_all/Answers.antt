@@ -1,0 +1,26 @@
+use Rattle.std.proofs.Common.{arith, refl}
+use Rattle.std.proofs.lemmas.Result.{err_from_is_err_and}
+use Rattle.commands.proofs.PuttingLaws.{deposits_none, deposits_more, deposits_broken, deposits_all}
+use Rattle.commands.proofs.putting.deposit_all.Goals as goal
+
+pub loop-place-init : goal.loop-place-init
+loop-place-init g c = deposits_none g.S.FileService.machine c.args.address c.args.words.now g.met.S.FileService.stands
+    c.args.service.now
+
+pub loop-place-preserved : goal.loop-place-preserved
+loop-place-preserved g c =
+    deposits_more g.S.FileService.machine c.args.address c.args.words.now c.args.service.now c.loop-place.service
+    c.ask_all.new.service c.loop-place.place c.index-words-place.result c.loop-place-test.true c.index-words-place.is
+    c.loop-place.invariant _ refl c.in_ok-ask_all.ensures
+
+pub returns-in_err-ask_all : goal.returns-in_err-ask_all
+returns-in_err-ask_all g c =
+    let p = err_from_is_err_and c.from_residual.result c.from_residual.ensures.1 in
+    rw (p.1, p.2)
+    (deposits_broken g.S.FileService.machine c.args.address c.args.words.now c.args.service.now c.loop-place.service
+    c.ask_all.new.service c.loop-place.place c.index-words-place.result c.loop-place-test.true c.index-words-place.is
+    c.loop-place.invariant _ refl c.in_err-ask_all.field-0.0 c.in_err-ask_all.ensures)
+
+pub returns : goal.returns
+returns g c = deposits_all g.S.FileService.machine c.args.address c.args.words.now c.args.service.now
+    c.loop-place.service c.loop-place.place (omega (arith, c.loop-place-test.false)) c.loop-place.invariant

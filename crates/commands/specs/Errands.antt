@@ -1,0 +1,100 @@
+-- What becomes of the service, and of a reader and a writer, where job 1 logs in for one thing.
+use Rattle.std.specs.Prelude.{◌≡◌, ◌⊎◌, ◌<◌, ℕ, false, List, [], ◌∷◌, ◌++◌, length, MatchResult, IfOk, IfErr, Option}
+use Rattle.std.specs.Prelude.{Some, None, Result, Ok, Err}
+use Rattle.words36.specs.declared.moment.Moment.{Moment}
+use Rattle.std.specs.Io.KnownBytes.{Appends, Consumes, IsAtEnd}
+use Rattle.meaning.specs.Errands.{AreWords, surveys_of, volume_line}
+use Rattle.meaning.specs.Jobs.{State}
+use Rattle.meaning.specs.Maps.{keys}
+use Rattle.meaning.specs.Plans.{Act, Plan, Say, Leads, Conducts}
+use Rattle.meaning.specs.Room.{room}
+use Rattle.meaning.specs.Runs.{Serving}
+use Rattle.meaning.specs.Texts.{Spoken}
+use Rattle.meaning.specs.declared.call.Reply.{Reply}
+use Rattle.meaning.specs.declared.call.Reply.TheVariants.{NoMemory as NoMemoryReply, Failed}
+use Rattle.meaning.specs.declared.encoding.Encoding.{Encoding}
+use Rattle.commands.specs.Asking.{Led}
+use Rattle.commands.specs.Machines.{Machine, GoesBy}
+use Rattle.commands.specs.Streams.{IsCut, spoken}
+use Rattle.commands.specs.declared.answer.Tally.{Tally}
+use Rattle.commands.specs.declared.error.SessionError.{SessionError}
+use Rattle.commands.specs.declared.error.SessionError.TheVariants.{Read, Write, NoMemory}
+
+-- nothing was counted yet
+abbrev pub fresh : Tally
+fresh = record { refused = false; broke = false }
+
+-- A plan was done to its end, and what it says is what is answered, with what was counted; or there was no memory, and
+-- it was begun.
+abbrev pub Carries : {V E S : Type 0} → (V → List ℕ) → Result V E → (S → Machine) → S → S → Plan → Tally → Type 0
+Carries bytes result machine old new plan counted =
+    MatchResult result (λ v. Led machine old new plan (Say (spoken (bytes v) counted)))
+    (λ error. (rest : Plan) × Led machine old new plan rest)
+
+-- By these acts a plan was done to its end, and these bytes are its text; or the writer refused the text's end; or there
+-- was no memory for it, and nothing is written.
+abbrev pub Performs : Plan → List Act → List ℕ → Result Tally SessionError → Type 0
+Performs plan acts written (Ok tally) = Conducts plan acts (spoken written tally)
+Performs plan acts written (Err Read) = ⊥
+Performs plan acts written (Err Write) =
+    (said : Spoken) × Conducts plan acts said × (unwritten : List ℕ) × (said.text ≡ written ++ unwritten)
+    × (0 < length unwritten)
+Performs plan acts written (Err NoMemory) = (rest : Plan) × Leads plan acts rest × (written ≡ [])
+
+-- What became of the service, and what was put into the writer.
+pub record Errand {S : Type 0} (sink full : Option (List ℕ)) (machine : S → Machine) (old new : S) (plan : Plan)
+    (result : Result Tally SessionError) : Type 0 where
+  pub written : List ℕ
+  pub acts : List Act
+  pub appended : Appends sink full written
+  pub goes : GoesBy machine old new acts
+  pub performs : Performs plan acts written result
+
+-- An input wasn't read to its end, or there was no memory for it.
+abbrev pub IsUnread : Result Tally SessionError → Type 0
+IsUnread (Ok tally) = ⊥
+IsUnread (Err Read) = Unit {0}
+IsUnread (Err Write) = ⊥
+IsUnread (Err NoMemory) = Unit {0}
+
+-- The whole input was read, and then a plan for the words that it says was done; or it wasn't read, and nothing was done
+-- and written.
+abbrev pub Delivers : Encoding → Type 0 → (Option (List ℕ) → Plan) → List ℕ → List Act → List ℕ
+    → Result Tally SessionError → Type 0
+Delivers encoding at_end plan read acts written result =
+    (at_end × (words : Option (List ℕ)) × AreWords encoding read words × Performs (plan words) acts written result)
+    ⊎ (IsUnread result × (acts ≡ []) × (written ≡ []))
+
+-- What was taken from the reader and put into the writer, and what became of the service.
+pub record Delivery {S : Type 0} (source left sink full : Option (List ℕ)) (machine : S → Machine) (old new : S)
+    (encoding : Encoding) (plan : Option (List ℕ) → Plan) (result : Result Tally SessionError) : Type 0 where
+  pub read : List ℕ
+  pub written : List ℕ
+  pub acts : List Act
+  pub consumed : Consumes source left read
+  pub appended : Appends sink full written
+  pub goes : GoesBy machine old new acts
+  pub delivers : Delivers encoding (IsAtEnd left) plan read acts written result
+
+-- Which directories are to be listed: one, or all that there are.
+abbrev pub AreAsked : Machine → Option ℕ → Result (List ℕ) Reply → Type 0
+AreAsked machine (Some owner) owners = owners ≡ Ok (owner ∷ [])
+AreAsked machine None (Ok owners) = machine.honest → (s : State) → machine.serves (Serving s) → owners ≡ keys s.files
+AreAsked machine None (Err reply) = (reply ≡ NoMemoryReply) ⊎ (reply ≡ Failed)
+
+-- The lists of directories were asked for, and written.
+pub record Survey {S : Type 0} (sink full : Option (List ℕ)) (machine : S → Machine) (old new : S) (moment : Moment)
+    (place : Option ℕ) (result : Result Tally SessionError) : Type 0 where
+  pub owners : Result (List ℕ) Reply
+  pub asked : AreAsked (machine old) place owners
+  pub errand : Errand sink full machine old new (surveys_of moment owners) result
+
+-- It was written what a volume has, or a beginning of it.
+pub record Checked (sink full : Option (List ℕ)) (machine : Machine) (result : Result Tally SessionError) : Type 0 where
+  pub written : List ℕ
+  pub unwritten : List ℕ
+  pub appended : Appends sink full written
+  pub says : machine.honest → (s : State) → machine.serves (Serving s)
+      → volume_line machine.pack.blocks (room machine.pack s) ≡ written ++ unwritten
+  pub whole : IfOk result (λ tally. (unwritten ≡ []) × (tally ≡ fresh))
+  pub cut : IfErr result (λ error. IsCut error written unwritten)

@@ -1,0 +1,155 @@
+ghost use Rattle.std.specs.Prelude.{option_map};
+ghost use Rattle.meaning.specs.Errands.{gets, keeps, surveys};
+ghost use Rattle.meaning.specs.Plans.{Say};
+ghost use Rattle.meaning.specs.Texts.{refuses};
+ghost use Rattle.commands.specs.Asking.{Concludes};
+ghost use Rattle.commands.specs.Errands.{Delivery, Errand};
+
+use crate::answer::{Tally, is_broken, refuse};
+use crate::concluding::conclude;
+use crate::input_words::{read_input, unfit, words_of};
+use crate::putting::{enter, put_file};
+use crate::run::print;
+use crate::service::FileService;
+use crate::survey::survey;
+use crate::typing::read_out;
+use crate::{SessionError, text};
+use meaning::{Encoding, Reply, Spec};
+use std::alloc::{AllocError, Global};
+use std::io::{Read, Write};
+use words36::{Moment, Ppn, Word};
+
+/// Logs in, and gives a file as it is printed.
+fn get_file<S: FileService>(
+    alloc: Global,
+    service: &mut S,
+    moment: Moment,
+    tally: &mut Tally,
+    owner: Ppn,
+    encoding: Encoding,
+    spec: Spec,
+) -> Result<Vec<u8>, AllocError>
+    ensures { Concludes (λ bytes. bytes.items) result S.machine service.old service.new
+        (gets moment owner encoding spec) tally.old tally.new }
+{
+    match enter(alloc, service, owner) {
+        Ok(()) => read_out(alloc, service, moment, tally, encoding, spec),
+        Err(reply) => conclude(alloc, service, moment, tally, Err(reply)),
+    }
+}
+
+/// Writes a file of a job that logs in for it.
+///
+/// # Errors
+///
+/// `Write` where the writer failed, `NoMemory` where the text found no room: nothing of it is written then.
+pub fn write_out<W: Write, S: FileService>(
+    alloc: Global,
+    writer: &mut W,
+    service: &mut S,
+    moment: Moment,
+    owner: Ppn,
+    encoding: Encoding,
+    spec: Spec,
+) -> Result<Tally, SessionError>
+    ensures { Errand (W.contents writer.old) (W.contents writer.new) S.machine service.old service.new
+        (gets moment owner encoding spec) result }
+{
+    let mut tally = Tally::none();
+    let text = get_file(alloc, service, moment, &mut tally, owner, encoding, spec);
+    print(writer, text)?;
+    Ok(tally)
+}
+
+/// Writes the lists of directories, one behind the other, as who may look into all of them.
+///
+/// # Errors
+///
+/// As of `write_out`.
+pub fn write_lists<W: Write, S: FileService>(
+    alloc: Global,
+    writer: &mut W,
+    service: &mut S,
+    moment: Moment,
+    owners: &[Ppn],
+) -> Result<Tally, SessionError>
+    ensures { Errand (W.contents writer.old) (W.contents writer.new) S.machine service.old service.new
+        (surveys moment owners.now) result }
+{
+    let mut tally = Tally::none();
+    let text = survey(alloc, service, moment, &mut tally, owners);
+    print(writer, text)?;
+    Ok(tally)
+}
+
+/// Writes the refusal of a reply.
+///
+/// # Errors
+///
+/// As of `write_out`.
+pub fn write_refusal<W: Write, S: FileService>(
+    alloc: Global,
+    writer: &mut W,
+    service: &mut S,
+    reply: &Reply,
+) -> Result<Tally, SessionError>
+    ensures { Errand (W.contents writer.old) (W.contents writer.new) S.machine service.old service.new
+        (Say (refuses reply.now)) result }
+{
+    let mut tally = Tally::none();
+    let text = refuse(alloc, &mut tally, text::refusal(reply), is_broken(reply));
+    print(writer, text)?;
+    Ok(tally)
+}
+
+/// Puts a file of these words, or says that there are none.
+fn put_words<S: FileService>(
+    alloc: Global,
+    service: &mut S,
+    moment: Moment,
+    tally: &mut Tally,
+    owner: Ppn,
+    encoding: Encoding,
+    spec: Spec,
+    words: &Option<Vec<Word>>,
+) -> Result<Vec<u8>, AllocError>
+    ensures { Concludes (λ bytes. bytes.items) result S.machine service.old service.new
+        (keeps moment owner encoding spec (option_map (λ v. v.items) words.now)) tally.old tally.new }
+{
+    match words {
+        Some(words) => { put_file(alloc, service, moment, tally, owner, encoding, spec, words) }
+        None => refuse(alloc, tally, unfit(encoding), false),
+    }
+}
+
+/// Makes a file of what a reader has, by a job that logs in for it, and writes how that went. All of the input is read
+/// and tested before anything is asked of the service.
+///
+/// # Errors
+///
+/// `Read` where the reader failed, and `NoMemory` where its bytes or their words found no room: nothing was asked then.
+/// `Write` where the writer failed, `NoMemory` where the text found no room: the calls were made.
+pub fn read_in<R: Read, W: Write, S: FileService>(
+    alloc: Global,
+    reader: &mut R,
+    writer: &mut W,
+    service: &mut S,
+    moment: Moment,
+    owner: Ppn,
+    encoding: Encoding,
+    spec: Spec,
+) -> Result<Tally, SessionError>
+    ensures { Delivery (R.remaining reader.old) (R.remaining reader.new) (W.contents writer.old)
+        (W.contents writer.new) S.machine service.old service.new encoding (keeps moment owner encoding spec) result }
+{
+    let bytes = read_input(alloc, reader)?;
+    let Ok(words) = words_of(alloc, encoding, &bytes) else {
+        return Err(SessionError::NoMemory);
+    };
+    let mut tally = Tally::none();
+    let text = put_words(
+        alloc, service, moment, &mut tally, owner, encoding, spec, &words,
+    );
+    print(writer, text)?;
+    Ok(tally)
+}

@@ -1,0 +1,33 @@
+ghost use Rattle.std.specs.Prelude.{◌≡◌, map, IfSome, IfNone, ℕ};
+ghost use Rattle.meaning.specs.Lines.{upper};
+ghost use Rattle.meaning.specs.Spellings.{IsPair};
+ghost use Rattle.commands.specs.Files.{IsFileName};
+
+use crate::fields::pair;
+use crate::input::{InputLine, PartialLine};
+use crate::specs::file_name;
+use words36::{FileName, Ppn};
+
+/// The owner that `p,n` spells: one to six octal digits each, neither of them 0.
+pub fn owner_named(text: &[u8]) -> Option<Ppn>
+    ensures some { IfSome result (λ owner. IsPair 6 text.now owner) }
+    ensures none { IfNone result ((owner : ℕ) → IsPair 6 text.now owner → ⊥) }
+{
+    pair(text, 6)
+}
+
+/// The file that `NAME` or `NAME.EXT` spells, with letters of either case.
+pub fn file_named(text: &[u8]) -> Option<FileName>
+    ensures some { IfSome result (λ file. IsFileName (map upper text.now) file.name file.ext) }
+    ensures none { IfNone result ((name ext : ℕ) → IsFileName (map upper text.now) name ext → ⊥) }
+{
+    let mut line = PartialLine::new();
+    for byte in text {
+        line.push(*byte);
+    }
+    match line.last() {
+        Some(InputLine::Text(text)) => file_name(text),
+        Some(InputLine::TooLong) => None,
+        None => None,
+    }
+}

@@ -1,0 +1,74 @@
+ghost use Rattle.std.specs.Prelude.{◌≡◌, [], IfOk, IfErr};
+ghost use Rattle.meaning.specs.Plans.{Plan, Say};
+ghost use Rattle.meaning.specs.Errands.{operator, shows_all, surveys};
+ghost use Rattle.commands.specs.Asking.{Led, HasShown};
+ghost use Rattle.commands.specs.Errands.{Carries, fresh};
+ghost use Rattle.commands.specs.Streams.{spoken};
+
+use crate::answer::{SESSION_JOB, Tally, is_broken, refuse};
+use crate::concluding::conclude;
+use crate::putting::enter;
+use crate::service::FileService;
+use crate::text;
+use std::alloc::{AllocError, Global};
+use words36::{Moment, Ppn};
+
+/// Gives the list of a directory, or its refusal, for the job that is logged in.
+pub fn show<S: FileService>(
+    alloc: Global,
+    service: &mut S,
+    tally: &mut Tally,
+    owner: Ppn,
+) -> Result<Vec<u8>, AllocError>
+    ensures { HasShown (λ bytes. bytes.items) result S.machine service.old service.new owner tally.old tally.new }
+{
+    match service.list(alloc, SESSION_JOB, owner) {
+        Ok(entries) => text::listing(alloc, owner, &entries),
+        Err(reply) => refuse(alloc, tally, text::refusal(&reply), is_broken(&reply)),
+    }
+}
+
+/// Gives the lists of directories, one behind the other.
+fn show_all<S: FileService>(
+    alloc: Global,
+    service: &mut S,
+    tally: &mut Tally,
+    owners: &[Ppn],
+) -> Result<Vec<u8>, AllocError>
+    ensures ok { IfOk result (λ bytes. Led S.machine service.old service.new
+        (shows_all owners.now (spoken [] tally.old)) (Say (spoken bytes.items tally.new))) }
+    ensures err { IfErr result (λ error. (rest : Plan) × Led S.machine service.old service.new
+        (shows_all owners.now (spoken [] tally.old)) rest) }
+{
+    let mut bytes = Vec::new(alloc);
+    for owner in owners {
+        let list = show(alloc, service, tally, *owner)?;
+        bytes.extend_from_slice(&list)?;
+    }
+    Ok(bytes)
+}
+
+/// Who may look into all directories: [1,2].
+fn operator() -> Ppn
+    ensures { result ≡ operator }
+{
+    Ppn::new(1, 2).unwrap()
+}
+
+/// Logs in as who may look into all directories, and gives the lists of some of them, one behind the other.
+pub fn survey<S: FileService>(
+    alloc: Global,
+    service: &mut S,
+    moment: Moment,
+    tally: &mut Tally,
+    owners: &[Ppn],
+) -> Result<Vec<u8>, AllocError>
+    requires { tally.old ≡ fresh }
+    ensures { Carries (λ bytes. bytes.items) result S.machine service.old service.new (surveys moment owners.now)
+        tally.new }
+{
+    match enter(alloc, service, operator()) {
+        Ok(()) => show_all(alloc, service, tally, owners),
+        Err(reply) => conclude(alloc, service, moment, tally, Err(reply)),
+    }
+}

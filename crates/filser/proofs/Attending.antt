@@ -1,0 +1,21 @@
+-- What is so of a service whatever the task was.
+use Rattle.std.proofs.Common.{ℕ, List, Option, Result, subst}
+use Rattle.blockdisk.specs.Disk.{DiskState}
+use Rattle.monitor.specs.States.{MonitorState}
+use Rattle.commands.specs.declared.answer.Tally.{Tally}
+use Rattle.commands.specs.declared.error.SessionError.{SessionError}
+use Rattle.filser.specs.Tasks.{Attends}
+use Rattle.filser.specs.declared.task.Task.{Task}
+use Rattle.filser.specs.declared.task.Task.TheVariants.{Run, Calls, Put, Get, List as ListAll, Check}
+
+-- its disk was honest before where it is afterwards
+pub was_honest : {D : Type 0} (state : D → DiskState) (task : Task) (source left sink full : Option (List ℕ))
+    (first last : MonitorState D) (result : Result Tally SessionError)
+    → Attends state task source left sink full first last result → (state last.disk).honest → (state first.disk).honest
+was_honest state (Run at) source left sink full first last result p h = p.goes.was_honest h
+was_honest state (Calls at) source left sink full first last result p h = p.goes.was_honest h
+was_honest state (Put file at) source left sink full first last result p h = p.goes.was_honest h
+was_honest state (Get file at) source left sink full first last result p h = p.goes.was_honest h
+was_honest state (ListAll place) source left sink full first last result p h = p.2.errand.goes.was_honest h
+was_honest {D = D} state Check source left sink full first last result p h =
+    subst (λ (m : MonitorState D). (state m.disk).honest) p.1 h

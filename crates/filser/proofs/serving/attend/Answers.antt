@@ -1,0 +1,20 @@
+use Rattle.std.proofs.Common.{refl}
+use Rattle.filser.proofs.serving.attend.Goals as goal
+
+pub returns-in-Run : goal.returns-in-Run
+returns-in-Run g c = rw c.in-Run.is c.session.ensures
+
+pub returns-in-Calls : goal.returns-in-Calls
+returns-in-Calls g c = rw c.in-Calls.is c.script.ensures
+
+pub returns-in-Put : goal.returns-in-Put
+returns-in-Put g c = rw c.in-Put.is c.put.ensures
+
+pub returns-in-Get : goal.returns-in-Get
+returns-in-Get g c = rw c.in-Get.is c.get.ensures
+
+pub returns-in-List : goal.returns-in-List
+returns-in-List g c = rw c.in-List.is (c.no_moment.result, c.no_moment.ensures, c.list.ensures)
+
+pub returns-in-Check : goal.returns-in-Check
+returns-in-Check g c = rw c.in-Check.is (c.check.ensures, refl)

@@ -1,9 +1,0 @@
-use Rattle.filser.proofs.Began.{stands_for_file}
-use Rattle.filser.proofs.serving.serve_calls_in_file.Goals as goal
-
-pub returns-clause-served : goal.returns-clause-served
-returns-clause-served g c h blocks files size stands = (
-  c.in_ok-image.image,
-  c.serve_calls.ensures.served h files
-      (stands_for_file _ _ c.in_ok-image.ensures.holds (c.serve_calls.ensures.was_honest h) blocks files size stands),
-)

@@ -1,0 +1,34 @@
+-- What becomes of a service, of a reader and of a writer by a task.
+use Rattle.std.specs.Prelude.{◌≡◌, ℕ, List, Option, Result}
+use Rattle.words36.specs.declared.moment.Moment.{Moment}
+use Rattle.blockdisk.specs.Disk.{DiskState}
+use Rattle.meaning.specs.Errands.{gets, keeps, own_file}
+use Rattle.monitor.specs.States.{MonitorState}
+use Rattle.commands.specs.Errands.{Checked, Delivery, Errand, Survey}
+use Rattle.commands.specs.Sessions.{Session, Script}
+use Rattle.commands.specs.declared.answer.Tally.{Tally}
+use Rattle.commands.specs.declared.error.SessionError.{SessionError}
+use Rattle.filser.specs.ServedDisks.{machine_over}
+use Rattle.filser.specs.declared.task.Task.{Task}
+use Rattle.filser.specs.declared.task.Task.TheVariants.{Run, Calls, Put, Get, List as ListAll, Check}
+
+-- date 0, minute 0
+abbrev pub IsStart : Moment → Type 0
+IsStart moment = (moment.date ≡ 0) × (moment.minute ≡ 0)
+
+-- The reader had `source` and has `left`, the writer held `sink` and holds `full`.
+abbrev pub Attends : {D : Type 0} → (D → DiskState) → Task → Option (List ℕ) → Option (List ℕ) → Option (List ℕ)
+    → Option (List ℕ) → MonitorState D → MonitorState D → Result Tally SessionError → Type 0
+Attends state (Run at) source left sink full first last result =
+    Session source left sink full (machine_over state) first last at result
+Attends state (Calls at) source left sink full first last result =
+    Script source left sink full (machine_over state) first last at result
+Attends state (Put file at) source left sink full first last result =
+    Delivery source left sink full (machine_over state) first last file.encoding
+    (keeps at file.owner file.encoding (own_file file.name)) result
+Attends state (Get file at) source left sink full first last result =
+    Errand sink full (machine_over state) first last (gets at file.owner file.encoding (own_file file.name)) result
+Attends state (ListAll place) source left sink full first last result =
+    (at : Moment) × IsStart at × Survey sink full (machine_over state) first last at place result
+Attends state Check source left sink full first last result =
+    Checked sink full (machine_over state first) result × (last ≡ first)

@@ -1,0 +1,121 @@
+//! The arguments of subcommands, as values of `clap`'s, and the words that stand beside a subcommand in the help.
+ghost use Rattle.std.specs.Prelude.{◌≡◌, IfOk, codes, false};
+ghost use Rattle.clap.specs.Words.{app_of, new_rule, rule_of, with_rule};
+ghost use Rattle.clap.specs.declared.builder.command.Command.TheViews.{out-Command as fields_of};
+ghost use Rattle.filser.specs.CommandLine.{dated, filed, flag, numbered, optional, wanted};
+
+use clap::{Arg, ArgAction, Command};
+use std::alloc::{AllocError, Global};
+
+/// A text that has to be given.
+pub(crate) fn wanted<'a>(alloc: Global, id: &'a str, help: &'a str) -> Arg<'a>
+    ensures rule { rule_of result ≡ wanted id.entry.now }
+    ensures local { result.global ≡ false }
+{
+    Arg::new(alloc, id).required(true).help(help)
+}
+
+/// How many blocks a new image gets.
+pub(crate) fn blocks<'a>(alloc: Global) -> Arg<'a>
+    ensures rule { rule_of result ≡ numbered (codes "BLOCKS") 64 131072 }
+    ensures local { result.global ≡ false }
+{
+    Arg::new(alloc, "BLOCKS")
+        .required(true)
+        .help("How many blocks of 128 words it has, 64 to 131072")
+        .value_parser(clap::value_parser!(u32).range(64..=131072))
+}
+
+fn date<'a>(alloc: Global) -> Arg<'a>
+    ensures rule { rule_of result ≡ optional (codes "date") 32767 }
+    ensures local { result.global ≡ false }
+{
+    Arg::new(alloc, "date")
+        .long("date")
+        .value_name("N")
+        .help("The date of what is written, 0 to 32767")
+        .default_value("0")
+        .value_parser(clap::value_parser!(u32).range(0..=32767))
+}
+
+fn minute<'a>(alloc: Global) -> Arg<'a>
+    ensures rule { rule_of result ≡ optional (codes "minute") 1439 }
+    ensures local { result.global ≡ false }
+{
+    Arg::new(alloc, "minute")
+        .long("minute")
+        .value_name("N")
+        .help("Its minute of the day, 0 to 1439")
+        .default_value("0")
+        .value_parser(clap::value_parser!(u32).range(0..=1439))
+}
+
+/// A command with one more argument.
+pub(crate) fn with_argument<'a>(
+    command: Command<'a>,
+    argument: Arg<'a>,
+) -> Result<Command<'a>, AllocError>
+    requires { argument.global ≡ false }
+    ensures app { IfOk result (λ c. app_of c ≡ with_rule (app_of command.entry) (rule_of argument.entry)) }
+    ensures local { IfOk result (λ c. (fields_of c).has_globals ≡ (fields_of command.entry).has_globals) }
+{
+    command.arg(argument)
+}
+
+/// A command with these words on what it does.
+pub(crate) fn about<'a>(command: Command<'a>, text: &'a str) -> Command<'a>
+    ensures app { app_of result ≡ app_of command.entry }
+    ensures local { (fields_of result).has_globals ≡ (fields_of command.entry).has_globals }
+{
+    command.about(text)
+}
+
+/// A command with the date and the minute of what it writes.
+#[tactic(auto, unfolding(crate::specs::CommandLine::dated))]
+pub(crate) fn dated<'a>(alloc: Global, command: Command<'a>) -> Result<Command<'a>, AllocError>
+    ensures app { IfOk result (λ c. app_of c ≡ dated (app_of command.entry)) }
+    ensures local { IfOk result (λ c. (fields_of c).has_globals ≡ (fields_of command.entry).has_globals) }
+{
+    let command = with_argument(command, date(alloc))?;
+    with_argument(command, minute(alloc))
+}
+
+/// A command with one more example of its use below its help.
+pub(crate) fn shown<'a>(command: Command<'a>, example: &'a str) -> Command<'a>
+    ensures app { app_of result ≡ app_of command.entry }
+    ensures local { (fields_of result).has_globals ≡ (fields_of command.entry).has_globals }
+{
+    command.after_help(example)
+}
+
+/// An option that says nothing but that it is there.
+fn words<'a>(alloc: Global) -> Arg<'a>
+    ensures rule { rule_of result ≡ flag (codes "words") }
+    ensures local { result.global ≡ false }
+{
+    Arg::new(alloc, "words")
+        .long("words")
+        .action(ArgAction::SetTrue)
+        .help("Any file, as words: eight bytes each, the most significant first")
+}
+
+/// A command with a file of a directory.
+#[tactic(auto, unfolding(crate::specs::CommandLine::filed))]
+pub(crate) fn filed<'a>(alloc: Global, command: Command<'a>) -> Result<Command<'a>, AllocError>
+    ensures app { IfOk result (λ c. app_of c ≡ filed (app_of command.entry)) }
+    ensures local { IfOk result (λ c. (fields_of c).has_globals ≡ (fields_of command.entry).has_globals) }
+{
+    let command = with_argument(command, wanted(alloc, "IMAGE", "The image to work on"))?;
+    let owner = wanted(alloc, "PPN", "Whose directory, in octal, as 10,20");
+    let command = with_argument(command, owner)?;
+    let command = with_argument(command, wanted(alloc, "NAME", "The file, as FOO.TXT"))?;
+    with_argument(command, words(alloc))
+}
+
+/// A directory that may be left out.
+pub(crate) fn place<'a>(alloc: Global) -> Arg<'a>
+    ensures rule { rule_of result ≡ new_rule (codes "PPN") }
+    ensures local { result.global ≡ false }
+{
+    Arg::new(alloc, "PPN").help("Whose directory, in octal, as 10,20 [default: all]")
+}

@@ -1,0 +1,30 @@
+use commands::Encoding;
+use words36::{FileName, Moment, Ppn};
+
+/// A file as the words of a command line name it, and what the bytes are that it is put from or got as.
+#[derive(Clone, Copy, Debug, PartialEq, Eq)]
+pub struct NamedFile {
+    /// Whose directory it is in. The job that works on it logs in so.
+    pub owner: Ppn,
+    /// Its name.
+    pub name: FileName,
+    /// What its bytes say.
+    pub encoding: Encoding,
+}
+
+/// What is done on an image, and at which moment where that counts.
+#[derive(Clone, Copy, Debug, PartialEq, Eq)]
+pub enum Task {
+    /// `run`: serve the lines of the input.
+    Run(Moment),
+    /// `calls`: serve the input as a call script.
+    Calls(Moment),
+    /// `put`: make a file of the input.
+    Put(NamedFile, Moment),
+    /// `get`: print a file.
+    Get(NamedFile, Moment),
+    /// `list`: print the list of a directory, or of all that there are.
+    List(Option<Ppn>),
+    /// `check`: print how many blocks it has, and how many are left.
+    Check,
+}

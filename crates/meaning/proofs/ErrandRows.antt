@@ -1,0 +1,50 @@
+-- Files that are put and got, computed: what is asked, played on the machine.
+use Rattle.std.proofs.Common.{◌≡◌, ℕ, ◌+◌, List, [], ◌∷◌, ◌++◌, replicate, Some, None, refl}
+use Rattle.std.specs.Prelude.{codes}
+use Rattle.words36.specs.Ascii.{packed}
+use Rattle.meaning.specs.Maps.{get, insert, remove, empty, entries, size}
+use Rattle.meaning.specs.CommandLists.{dump_list, areas_from}
+use Rattle.meaning.specs.Rings.{setup, out_ready, out_writes, last_words}
+use Rattle.meaning.specs.Jobs.{State}
+use Rattle.meaning.specs.Texts.{Spoken, prints, line, printed, typed}
+use Rattle.meaning.specs.Plans.{each, fetches, types_blocks}
+use Rattle.meaning.specs.Errands.{keeps, gets, fills_parts}
+use Rattle.meaning.specs.declared.encoding.Encoding.{Encoding}
+use Rattle.meaning.specs.declared.encoding.Encoding.TheVariants.{Characters, Words}
+use Rattle.meaning.specs.declared.command.Spec.{Spec}
+use Rattle.meaning.proofs.Playing.{small, ten_twenty, fresh, foo, foo_of, at_start}
+use Rattle.meaning.proofs.TextRows.{conduct}
+
+abbrev foo_spec : Spec
+foo_spec = record { name = record { name = foo; ext = 0o647064 }; owner = None }
+
+-- what is said where words are put, and the text of what is got then
+abbrev back : State → Encoding → List ℕ → Spoken × Spoken
+back s encoding words =
+    let put = conduct small 1000 s (keeps at_start ten_twenty encoding foo_spec (Some words)) in
+    (put.0, (conduct small 5000 put.1 (gets at_start ten_twenty encoding foo_spec)).0)
+
+-- A text, in the place of a file that is there, and one of no characters.
+text_back : back (foo_of 0o057 300) Characters (packed (codes "HELLO" ++ 13 ∷ 10 ∷ []))
+    ≡ (prints (line (codes "OK")), prints (codes "HELLO" ++ 13 ∷ 10 ∷ []))
+unfolding empty insert get remove entries size dump_list areas_from each fetches types_blocks fills_parts setup
+    out_ready out_writes last_words conduct
+text_back = refl
+
+nothing_back : back fresh Characters [] ≡ (prints (line (codes "OK")), prints [])
+unfolding empty insert get remove entries size dump_list areas_from each fetches types_blocks fills_parts setup
+    out_ready out_writes last_words conduct
+nothing_back = refl
+
+-- Words: two blocks and a part of a third, and two whole ones.
+words_back : (back fresh Words (replicate 300 7) ≡ (prints (line (codes "OK")), prints (printed Words (replicate 300 7))))
+    × (back fresh Words (replicate 256 7) ≡ (prints (line (codes "OK")), prints (printed Words (replicate 256 7))))
+unfolding empty insert get remove entries size dump_list areas_from each fetches types_blocks fills_parts conduct
+words_back = (refl, refl)
+
+-- Characters of as many words.
+text_of_blocks : back fresh Characters (replicate 300 0o406050301402)
+    ≡ (prints (line (codes "OK")), prints (typed (replicate 300 0o406050301402)))
+unfolding empty insert get remove entries size dump_list areas_from each fetches types_blocks fills_parts setup
+    out_ready out_writes last_words conduct
+text_of_blocks = refl

@@ -1,0 +1,121 @@
+-- Errands: what job 1 asks of the service where it logs in for one thing. A file is got, or put, or directories are
+-- listed.
+use Rattle.std.specs.Prelude.{◌≡◌, ℕ, ℤ, zero, suc, ◌+◌, ◌-◌, ◌&&◌, nat_le, Bool, List, [], ◌∷◌, ◌++◌, length, take, drop}
+use Rattle.std.specs.Prelude.{All, Option, Some, None, Result, Ok, Err, codes, flat_map}
+use Rattle.std.specs.Fmt.{decimal, signed_decimal}
+use Rattle.words36.specs.Words.{IsWord, join}
+use Rattle.words36.specs.Ascii.{packed}
+use Rattle.words36.specs.Blocks.{word_bytes}
+use Rattle.words36.specs.declared.moment.Moment.{Moment}
+use Rattle.words36.specs.declared.names.FileName.{FileName}
+use Rattle.meaning.specs.Costs.{blocks_of}
+use Rattle.meaning.specs.Opening.{disk}
+use Rattle.meaning.specs.Spellings.{Are}
+use Rattle.meaning.specs.Texts.{Spoken, line, silent, joined, complains, refuses, list_said}
+use Rattle.meaning.specs.Plans.{Plan, Show, Say, each, calls, deposits, names, writes, lists, puts, reads, ends, ok}
+use Rattle.meaning.specs.Plans.{open_words, new_words, block_address}
+use Rattle.meaning.specs.Transcripts.{core_words}
+use Rattle.meaning.specs.declared.call.Call.TheVariants.{Open, Enter, Outbuf, Close}
+use Rattle.meaning.specs.declared.call.Event.{Event}
+use Rattle.meaning.specs.declared.call.Reply.{Reply}
+use Rattle.meaning.specs.declared.call.Event.TheVariants.{Login, Deposit}
+use Rattle.meaning.specs.declared.command.Spec.{Spec}
+use Rattle.meaning.specs.declared.encoding.Encoding.{Encoding}
+use Rattle.meaning.specs.declared.encoding.Encoding.TheVariants.{Characters, Words}
+
+-- a file in the directory of the one who logs in
+abbrev pub own_file : FileName → Spec
+own_file name = record { name = name; owner = None }
+
+-- the job logs in
+abbrev pub enters : ℕ → List Event
+enters owner = Login 1 owner core_words ∷ []
+
+-- A file is got: it is read whole, and then printed.
+abbrev pub gets : Moment → ℕ → Encoding → Spec → Plan
+gets moment owner encoding spec = each moment (enters owner) (reads moment encoding spec)
+
+-- Directories are listed, one after the other, by who may look into all of them.
+
+abbrev pub operator : ℕ
+operator = join 1 2
+
+unfoldable pub shows_all : List ℕ → Spoken → Plan
+shows_all [] said = Say said
+shows_all (owner ∷ owners) said = Show owner (λ answer. shows_all owners (joined said (list_said owner answer)))
+
+abbrev pub surveys : Moment → List ℕ → Plan
+surveys moment owners = each moment (enters operator) (shows_all owners silent)
+
+-- the same where it had to be asked which there are
+abbrev pub surveys_of : Moment → Result (List ℕ) Reply → Plan
+surveys_of moment (Ok owners) = surveys moment owners
+surveys_of moment (Err reply) = Say (refuses reply)
+
+-- A file is put. Its bytes say which words it has, or that they are none: a character is a byte from 1 to 127, since a
+-- null would be lost, and a word has 36 bits.
+
+abbrev pub is_character : ℕ → Bool
+is_character byte = nat_le 1 byte && nat_le byte 127
+
+abbrev pub AreWords : Encoding → List ℕ → Option (List ℕ) → Type 0
+AreWords Characters bytes (Some words) = Are is_character bytes × (words ≡ packed bytes)
+AreWords Characters bytes None = Are is_character bytes → ⊥
+AreWords Words bytes (Some words) = All IsWord words × (flat_map word_bytes words ≡ bytes)
+AreWords Words bytes None = (words : List ℕ) → All IsWord words → flat_map word_bytes words ≡ bytes → ⊥
+
+abbrev pub unfit : Encoding → List ℕ
+unfit Characters = codes "?Not ASCII"
+unfit Words = codes "?Bad words"
+
+-- Addresses in job 1's core: the header of a ring, and the data of its one buffer, which lies where the rings of a job
+-- begin that has logged in.
+
+abbrev pub header_words : ℕ
+header_words = 0o60
+
+abbrev pub buffer_data : ℕ
+buffer_data = 0o143
+
+-- The new file is entered on channel 2: for characters in mode 0, with a ring of one buffer that an OUT brings into use,
+-- else in dump mode.
+abbrev pub creates : Moment → Encoding → Spec → List Event
+creates moment Characters spec =
+    deposits open_words (0 ∷ disk ∷ join header_words 0 ∷ []) ++ calls moment (Open 2 open_words)
+    ∷ (names new_words spec 0 ++ calls moment (Enter 2 new_words) ∷ calls moment (Outbuf 2 1) ∷ puts moment ∷ [])
+creates moment Words spec = writes moment spec
+
+-- So many words are the next that are put: the header's byte pointer is at the last character of the last of them, or the
+-- command list names them.
+abbrev pub announces : Moment → Encoding → ℕ → List Event
+announces moment Characters count =
+    Deposit 1 (header_words + 1) (join 0o010700 (buffer_data - 1 + count)) ∷ puts moment ∷ []
+announces moment Words count = lists count ++ puts moment ∷ []
+
+-- where they stand in core
+abbrev pub part_address : Encoding → ℕ
+part_address Characters = buffer_data
+part_address Words = block_address
+
+abbrev pub fills : Moment → Encoding → List ℕ → List Event
+fills moment encoding part = deposits (part_address encoding) part ++ announces moment encoding (length part)
+
+-- words are put in parts of a block each, the last of which may be shorter
+unfoldable pub fills_parts : Moment → Encoding → ℕ → List ℕ → Plan → Plan
+fills_parts moment encoding zero words next = next
+fills_parts moment encoding (suc more) words next = each moment (fills moment encoding (take 128 words))
+    (fills_parts moment encoding more (drop 128 words) next)
+
+abbrev pub fills_all : Moment → Encoding → List ℕ → Plan → Plan
+fills_all moment encoding words next = fills_parts moment encoding (blocks_of (length words)) words next
+
+-- nothing is asked where the bytes are none that a file can have
+abbrev pub keeps : Moment → ℕ → Encoding → Spec → Option (List ℕ) → Plan
+keeps moment owner encoding spec None = Say (complains (unfit encoding))
+keeps moment owner encoding spec (Some words) =
+    each moment (enters owner) (each moment (creates moment encoding spec)
+    (fills_all moment encoding words (each moment (calls moment (Close 2 0) ∷ []) (ends moment ok))))
+
+-- What a volume is said to have: so many blocks, and so many that are left, which may be below 0.
+abbrev pub volume_line : ℕ → ℤ → List ℕ
+volume_line blocks room = line (codes "Volume of " ++ decimal blocks ++ codes " blocks, room " ++ signed_decimal room)

@@ -1,0 +1,15 @@
+use Rattle.std.proofs.Common.{◌≡◌, ◌∙◌, subst}
+use Rattle.meaning.specs.Jobs.{State}
+use Rattle.meaning.specs.Maps.{keys}
+use Rattle.meaning.specs.Published.{without_serials}
+use Rattle.meaning.specs.Runs.{Serving}
+use Rattle.monitor.specs.Serving.{Serves}
+use Rattle.monitor.proofs.Listing.{owners_without}
+use Rattle.monitor.proofs.monitor.Monitor.owners.Goals as goal
+
+pub returns-in-Ok-clause-value : goal.returns-in-Ok-clause-value
+returns-in-Ok-clause-value g c =
+    subst (λ m. (g.D.Disk.state m.disk).honest → (s : State)
+    → Serves (g.D.Disk.state m.disk) m.map m.failed m.jobs (Serving s)
+    → c.in-Ok.owners.items ≡ keys s.files) c.self.view_is
+    (λ h s state. c.in-Ok.ensures.value h state.0 (without_serials s.files) state.1.files ∙ owners_without s.files)
