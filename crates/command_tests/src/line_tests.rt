@@ -94,7 +94,13 @@ fn tallies(rt: HostRuntime) -> Result<(), Fail> {
             b"DONE\nDONE\nVALUE 000000000017\n",
             (false, false),
         ),
-        (64, Language::Script, b"1 RESET\n", b"NOJOB\n", (true, false)),
+        (
+            64,
+            Language::Script,
+            b"1 RESET\n",
+            b"NOJOB\n",
+            (true, false),
+        ),
         (
             1,
             Language::Script,

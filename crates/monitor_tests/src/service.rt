@@ -177,7 +177,13 @@ fn call(monitor: &mut Monitor<MemDisk>, alloc: Global, job: u32, call: Call) -> 
 }
 
 /// A call of a job is done.
-fn expect_done(rt: &impl Abort, monitor: &mut Monitor<MemDisk>, alloc: Global, job: u32, asked: Call) {
+fn expect_done(
+    rt: &impl Abort,
+    monitor: &mut Monitor<MemDisk>,
+    alloc: Global,
+    job: u32,
+    asked: Call,
+) {
     assert!(rt; call(monitor, alloc, job, asked) == Reply::Done);
 }
 

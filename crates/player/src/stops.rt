@@ -8,13 +8,7 @@ use blockdisk::{Disk, Fail, FuseDisk, MemDisk, Pick};
 use std::alloc::Global;
 
 /// What a crash leaves of the open blocks.
-const PICKS: [Pick; 5] = [
-    Pick::Old,
-    Pick::New,
-    Pick::Damaged,
-    Pick::Half,
-    Pick::Open,
-];
+const PICKS: [Pick; 5] = [Pick::Old, Pick::New, Pick::Damaged, Pick::Half, Pick::Open];
 
 /// More calls than the lines of a row make of their disk.
 const MOST_CALLS: u64 = 500;
