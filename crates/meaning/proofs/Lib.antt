@@ -75,3 +75,12 @@ pub mod SerialSteps
 pub mod SerialRuns
 pub mod TranscriptLaws
 pub mod SerialLaws
+pub mod PlanRuns
+pub mod CoreWrites
+pub mod CallRuns
+pub mod OpenRuns
+pub mod EnterRuns
+pub mod BlockRuns
+pub mod CopyRuns
+pub mod SizeRuns
+pub mod CopyLaws

@@ -39,7 +39,7 @@ at_there : (files : Files Version) (place : Place) (d : Directory Version) → g
 at_there files place d is = ap (λ o. file_in o place.name) is
 
 module _ (files : Files Version) (place : Place) (d : Directory Version) (is : get files place.ppn ≡ Some d) where
-  put_here : (v : Version) → file_at (with_file files place v) place ≡ Some v
+  pub put_here : (v : Version) → file_at (with_file files place v) place ≡ Some v
   put_here v =
       let new : Directory Version = record d { files = insert d.files place.name v } in
       let files' : with_file files place v ≡ insert files place.ppn new = ap (λ o. with_file_in o files place v) is in

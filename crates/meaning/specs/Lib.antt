@@ -52,3 +52,4 @@ pub mod Texts
 pub mod Plans
 pub mod Transcripts
 pub mod Errands
+pub mod Copies

@@ -1,0 +1,99 @@
+-- What a line of a session, or an errand of job 1, comes to: the file that a copy leaves, the text that a file is shown
+-- as, the file that is put.
+use Rattle.std.specs.Prelude.{◌≡◌, ◌⊎◌, ◌≤◌, ◌<◌, ℕ, ◌^◌, IsTrue, List, length, unwrap_or, Option, Some, None}
+use Rattle.words36.specs.declared.moment.Moment.{Moment}
+use Rattle.meaning.specs.Files.{File, Files, Place}
+use Rattle.meaning.specs.Published.{Version, file_at, with_file}
+use Rattle.meaning.specs.Jobs.{Job, State, job_at}
+use Rattle.meaning.specs.Looking.{own_if_zero}
+use Rattle.meaning.specs.Outputs.{longest}
+use Rattle.meaning.specs.Room.{Pack}
+use Rattle.meaning.specs.Runs.{Service, Serving, Broken}
+use Rattle.meaning.specs.Texts.{Spoken, prints, printed}
+use Rattle.meaning.specs.Plans.{Plan, Act, Conducts, ok, copies, reads}
+use Rattle.meaning.specs.Opening.{dump_mode}
+use Rattle.meaning.specs.Transcripts.{Went, core_words}
+use Rattle.meaning.specs.declared.command.Spec.{Spec}
+use Rattle.meaning.specs.declared.encoding.Encoding.{Encoding}
+
+-- The service does what a plan asks, and says this in the end.
+abbrev pub Comes : Pack → Service → Plan → Spoken → Service → Type 0
+Comes pack old plan said new = (acts : List Act) × Conducts plan acts said × Went pack old acts new
+
+-- Job 1 is logged in, with the core that a session gives it.
+pub record IsReady (s : State) (me : ℕ) : Type 0 where
+  pub job : Job
+  pub logged_in : job_at s 1 ≡ Some job
+  pub owner : job.ppn ≡ me
+  pub core : length job.core ≡ core_words
+  pub channels : length job.channels ≡ 16
+
+-- where a file lies that is named by who is logged in
+abbrev pub place_of : ℕ → Spec → Place
+place_of me spec = record { ppn = own_if_zero (unwrap_or spec.owner 0) me; name = spec.name }
+
+-- an extension is half a word
+abbrev pub IsSpec : Spec → Type 0
+IsSpec spec = spec.name.ext < 2 ^ 18
+
+-- no body is longer than a file may be
+abbrev pub AreShort : Files Version → Type 0
+AreShort files = (place : Place) (v : Version) → file_at files place ≡ Some v → length v.file.body ≤ longest
+
+-- the files of a service that serves; of one that has failed there is nothing to say
+abbrev pub HasFiles : Files Version → Service → Type 0
+HasFiles files Broken = Unit {0}
+HasFiles files (Serving after) = after.files ≡ files
+
+-- the line is refused, and the files are those from before
+abbrev pub IsRefused : Files Version → Spoken → Service → Type 0
+IsRefused files said new = IsTrue said.refused × HasFiles files new
+
+-- a superseding file keeps the protection of the one that was there
+abbrev pub kept_protection : Option Version → ℕ
+kept_protection None = 0o057
+kept_protection (Some v) = v.file.protection
+
+-- a file of this moment at a place
+abbrev pub made : Files Version → Place → ℕ → Moment → List ℕ → File
+made files place mode moment body = record {
+  protection = kept_protection (file_at files place);
+  mode = mode;
+  time = moment.minute;
+  date = moment.date;
+  body = body;
+}
+
+-- It is the one change of the files.
+pub record IsMade (files : Files Version) (place : Place) (file : File) (new : Service) : Type 0 where
+  pub serial : ℕ
+  pub after : State
+  pub serves : new ≡ Serving after
+  pub files_after : after.files ≡ with_file files place (record { file = file; serial = serial })
+  pub there : file_at after.files place ≡ Some (record { file = file; serial = serial })
+
+-- COPY says OK where the new file has the body that was found, and else refuses and leaves the files.
+abbrev pub IsCopied : Moment → ℕ → State → Spec → Spec → Spoken → Service → Type 0
+IsCopied moment me s to from said new =
+    (said ≡ ok)
+    × ((v : Version) × (file_at s.files (place_of me from) ≡ Some v)
+    × IsMade s.files (place_of me to) (made s.files (place_of me to) dump_mode moment v.file.body) new)
+
+abbrev pub CopiesAreExact : Type 0
+CopiesAreExact =
+    (pack : Pack) (moment : Moment) (me : ℕ) (s : State) (to from : Spec) (said : Spoken) (new : Service)
+    → IsReady s me → IsSpec to → IsSpec from → AreShort s.files → Comes pack (Serving s) (copies moment to from) said new
+    → IsCopied moment me s to from said new ⊎ IsRefused s.files said new
+
+-- A file that is read is printed, or the line is refused; the files stay.
+abbrev pub IsShown : ℕ → State → Encoding → Spec → Spoken → Service → Type 0
+IsShown me s encoding spec said new =
+    ((v : Version) × (file_at s.files (place_of me spec) ≡ Some v) × (said ≡ prints (printed encoding v.file.body)))
+    × HasFiles s.files new
+
+abbrev pub ReadsAreExact : Type 0
+ReadsAreExact =
+    (pack : Pack) (moment : Moment) (me : ℕ) (s : State) (encoding : Encoding) (spec : Spec) (said : Spoken)
+    (new : Service) → IsReady s me → IsSpec spec → AreShort s.files
+    → Comes pack (Serving s) (reads moment encoding spec) said new
+    → IsShown me s encoding spec said new ⊎ IsRefused s.files said new
