@@ -50,7 +50,7 @@ abbrev pub Copied : ℕ → Place → Version → Place → Kind → File → Jo
 Copied me from v to kind file j = IsJob me j × ((next : ℕ) × (channel_at j 1 ≡ Some (reading from v next)))
     × ((next : ℕ) × (channel_at j 2 ≡ Some (writing (side to kind (with_body file v.file.body) next))))
 
-housed : {X : Type 0} (d : Option X) → is_none d ≡ false → (x : X) × (d ≡ Some x)
+pub housed : {X : Type 0} (d : Option X) → is_none d ≡ false → (x : X) × (d ≡ Some x)
 housed None e = let wrong = e in cc
 housed (Some x) e = (x, refl)
 
@@ -184,7 +184,7 @@ module _ (pack : Pack) (s : State) (j0 : Job) (there : job_at s 1 ≡ Some j0) (
           )
 
   -- The end is told, and leaves what is written.
-  until_done : (me : ℕ) (c : Channel) (next : Plan) (said : Spoken) (new : Service) (j : Job) → IsJob me j
+  pub until_done : (me : ℕ) (c : Channel) (next : Plan) (said : Spoken) (new : Service) (j : Job) → IsJob me j
       → channel_at j 1 ≡ Some c → Comes pack (Serving (at s j)) (until_end moment next) said new
       → IsRefused s.files said new
       ⊎ ((j' : Job) × (channel_at j' 2 ≡ channel_at j 2) × Comes pack (Serving (at s j')) next said new)
@@ -229,7 +229,7 @@ module _ (pack : Pack) (s : State) (j0 : Job) (there : job_at s 1 ≡ Some j0) (
           (end_or_fails moment next reply)
 
   -- A CLOSE makes it the file of its name.
-  closed : (j : Job) (o : Output) (t : State) → channel_at j 2 ≡ Some (writing o)
+  pub closed : (j : Job) (o : Output) (t : State) → channel_at j 2 ≡ Some (writing o)
       → Steps pack (at s j) (calls moment (Close 2 0)) Done t
       → (serial : ℕ) × (t.files ≡ with_file s.files o.place (record { file = o.pending; serial = serial }))
   closed j o t second steps =
@@ -242,7 +242,7 @@ module _ (pack : Pack) (s : State) (j0 : Job) (there : job_at s 1 ≡ Some j0) (
       (call.0, sym (ap (λ x. x.1.files) row) ∙ ap (λ x. x.1) d.1)
 
   -- What was written is published, and the line says OK.
-  published : (me : ℕ) (c : Channel) (o : Output) (said : Spoken) (new : Service) (j : Job) → IsJob me j
+  pub published : (me : ℕ) (c : Channel) (o : Output) (said : Spoken) (new : Service) (j : Job) → IsJob me j
       → channel_at j 1 ≡ Some c → channel_at j 2 ≡ Some (writing o) → is_none (get s.files o.place.ppn) ≡ false
       → Comes pack (Serving (at s j))
       (until_end moment (each moment (calls moment (Close 2 0) ∷ []) (ends moment ok))) said new
@@ -313,10 +313,10 @@ module _ (pack : Pack) (s : State) (j0 : Job) (there : job_at s 1 ≡ Some j0) (
 
 -- COPY as a whole.
 
-quiet_finds : (moment : Moment) (spec : Spec) → AllByRecursion IsQuiet (finds moment spec)
+pub quiet_finds : (moment : Moment) (spec : Spec) → AllByRecursion IsQuiet (finds moment spec)
 quiet_finds moment spec = (tt, (tt, (tt, (tt, (tt, (tt, (tt, (tt, (tt, tt)))))))))
 
-quiet_writes : (moment : Moment) (spec : Spec) → AllByRecursion IsQuiet (writes moment spec)
+pub quiet_writes : (moment : Moment) (spec : Spec) → AllByRecursion IsQuiet (writes moment spec)
 quiet_writes moment spec = (tt, (tt, (tt, (tt, (tt, (tt, (tt, (tt, (tt, tt)))))))))
 
 pub at_home : (s : State) (j : Job) → job_at s 1 ≡ Some j → s ≡ at s j

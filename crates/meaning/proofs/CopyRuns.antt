@@ -46,7 +46,7 @@ kept_lists core count ahead c is = record {
 pub start_is : (k : ℕ) → block_start (k + 1) ≡ k * 128
 start_is k = grind arith
 
-one_block : (core : List ℕ) (count : ℕ) (ahead : List ℕ) → 0 < count → count ≤ 128 → count ≤ length ahead
+pub one_block : (core : List ℕ) (count : ℕ) (ahead : List ℕ) → 0 < count → count ≤ 128 → count ≤ length ahead
     → blocks_of (moved core count ahead) ≡ 1
 one_block core count ahead some few there =
     let e : word_count (part count ∷ []) ≡ count = omega arith in

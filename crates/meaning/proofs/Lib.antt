@@ -84,3 +84,4 @@ pub mod BlockRuns
 pub mod CopyRuns
 pub mod SizeRuns
 pub mod CopyLaws
+pub mod ReadLaws
