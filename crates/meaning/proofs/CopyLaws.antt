@@ -16,7 +16,7 @@ use Rattle.meaning.specs.Inputs.{in_answer, in_done, reads}
 use Rattle.meaning.specs.Closing.{closes, close_answer, close_done, files_closed}
 use Rattle.meaning.specs.Looking.{size_word}
 use Rattle.meaning.specs.Outcomes.{settled, stopped_in}
-use Rattle.meaning.specs.Opening.{dump_mode}
+use Rattle.meaning.specs.Opening.{disk, dump_mode}
 use Rattle.meaning.specs.Outputs.{longest}
 use Rattle.meaning.specs.Room.{Pack}
 use Rattle.meaning.specs.Runs.{Service, Serving, Broken, Answers, Steps}
@@ -39,7 +39,7 @@ use Rattle.meaning.proofs.PlanRuns.{AllDone, IsQuiet, asked, failed, goes_on, on
 use Rattle.meaning.proofs.PlanRuns.{answered_files}
 use Rattle.meaning.proofs.CoreWrites.{length-writes, spared}
 use Rattle.meaning.proofs.CallRuns.{at, at_again, IsJob, with_core, job_there, call_done, on_open, settled_done, deposits_done}
-use Rattle.meaning.proofs.OpenRuns.{reading, writing, with_open, at_own, at_other, job_core, job_open, Found, finds_done}
+use Rattle.meaning.proofs.OpenRuns.{open_channel, opening, reading, writing, with_open, at_own, at_other, job_core, job_open, Found, finds_done}
 use Rattle.meaning.proofs.EnterRuns.{side, Lists, list_pair, listing, Entered, writes_done}
 use Rattle.meaning.proofs.BlockRuns.{goes_done}
 use Rattle.meaning.proofs.CopyRuns.{Copying, with_body, both_done}
@@ -367,7 +367,7 @@ copies_are_exact pack moment me s to from said new ready to_is from_is short com
             (subst (λ u. AllDone pack u (finds moment from ++ writes moment to ++ lists 128) t) (at_home s j0 there) all) in
         let both = split_done pack (at s j0) (finds moment from) (writes moment to) last.0 last.1 in
         let f : Found s me from j0 both.0 = finds_done pack s j0 there moment me j0 from both.0 whole from_is both.1 in
-        let e : Entered s me moment to f.job last.0 = writes_done pack s j0 there moment me f.job to last.0 f.whole to_is
+        let e = writes_done pack s j0 there moment me f.job to last.0 f.whole to_is
             (subst (λ u. AllDone pack u (writes moment to) last.0) f.is both.2) in
         let core = after_writes e.job.core (placed list_words (list_pair 128)) in
         let j = with_core e.job core in
@@ -377,7 +377,9 @@ copies_are_exact pack moment me s to from said new ready to_is from_is short com
             (subst (λ u. AllDone pack u (lists 128) t) e.is last.2) in
         let v = f.version in
         let size : slice_index core (file_words + 3) ≡ size_word (length v.file.body) =
-            spared e.job.core list_words (list_pair 128) (file_words + 3) (inl (omega arith)) ∙ e.kept ∙ f.size in
+            spared e.job.core list_words (list_pair 128) (file_words + 3) (inl (omega arith))
+            ∙ e.kept (file_words + 3) (inl (omega arith))
+            ∙ spared f.job.core open_words (dump_mode ∷ disk ∷ 0 ∷ []) (file_words + 3) (inr (omega arith)) ∙ f.size in
         let fits : length v.file.body ≤ longest = short (place_of me from) v f.there in
         let examined = told pack s j0 there moment j (file_words + 3)
             (λ size. copies_body moment (blocks_said size) size closing) said new (let l = is.core in omega arith)
@@ -386,6 +388,7 @@ copies_are_exact pack moment me s to from said new ready to_is from_is short com
             examined in
         ⊎_elim inr (λ (j', done, more). finished v f.there e.kind e.directory j' done more)
         (body_copied pack s j0 there moment me (place_of me from) v (place_of me to) e.kind
-        (made s.files (place_of me to) dump_mode moment []) closing said new j is (e.first ∙ f.first) e.second
+        (made s.files (place_of me to) dump_mode moment []) closing said new j is
+        (e.first ∙ at_other (with_core f.job (opening f.job)) 2 1 open_channel (λ e. cc) ∙ f.first) e.second
         (listing e.job.core 128 e.whole.core) fits (blocks_said (size_word (length v.file.body)))
         (said_blocks (length v.file.body) fits) sized)

@@ -1,7 +1,7 @@
 -- The file that job 1 enters on channel 2, and the command list of its block.
 use Rattle.std.proofs.Common.{◌≡◌, ◌≢◌, ◌⊎◌, inl, inr, ℕ, zero, suc, ◌+◌, ◌-◌, ◌*◌, ◌/◌, ◌%◌, ◌^◌, ◌<◌, ◌≤◌, ◌||◌, Bool}
 use Rattle.std.proofs.Common.{true, false, if◌then◌else◌, List, [], ◌∷◌, ◌++◌, length, Option, Some, None, option_map, refl}
-use Rattle.std.proofs.Common.{sym, ap, subst, ◌∙◌, arith}
+use Rattle.std.proofs.Common.{sym, ap, subst, ◌∙◌, arith, ⊎_elim, append_assoc}
 use Rattle.std.specs.Prelude.{nat_lt, nat_le, not, is_none, slice_index, slice_set, unwrap_or, ◌==◌}
 use Rattle.std.proofs.Math.ListN.{length-set}
 use Rattle.std.proofs.lemmas.Bool.Decides.{nat_tests}
@@ -15,7 +15,7 @@ use Rattle.meaning.specs.Jobs.{Channel, Job, State, Input, Output, Kind, Create,
 use Rattle.meaning.specs.Jobs.{with_job, with_channel}
 use Rattle.meaning.specs.Room.{Pack}
 use Rattle.meaning.specs.Runs.{Steps}
-use Rattle.meaning.specs.Outcomes.{refused_at}
+use Rattle.meaning.specs.Outcomes.{clean, refused_at}
 use Rattle.meaning.specs.Opening.{disk, dump_mode}
 use Rattle.meaning.specs.Looking.{place_at, has_no_directory, digit_at, high_date}
 use Rattle.meaning.specs.Entering.{enter_answer, enter_done, entered, output_opened, protection_or}
@@ -40,23 +40,30 @@ use Rattle.meaning.proofs.OpenRuns.{opens_done, naming, place_named, attributing
 abbrev pub side : Place → Kind → File → ℕ → Output
 side place kind file next = record { place = place; kind = kind; pending = file; next = next }
 
-output_is : (files : Files Version) (j : Job) (e : ℕ) (moment : Moment) (place : Place) (digit : ℕ) (o : Option Version)
-    → file_at files place ≡ o → slice_index j.core (e + 2) ≡ 0
-    → (kind : Kind) × (output_opened j open_channel e moment place digit None o
-    ≡ side place kind (made files place dump_mode moment []) 1)
-output_is files j e moment place digit None is none = (Create, rw (none, is) refl)
-output_is files j e moment place digit (Some v) is none = (Supersede, rw is refl)
+output_is : (files : Files Version) (j : Job) (c : Channel) (e : ℕ) (moment : Moment) (place : Place) (digit : ℕ)
+    (o : Option Version) → file_at files place ≡ o → slice_index j.core (e + 2) ≡ 0
+    → (kind : Kind) × (output_opened j c e moment place digit None o ≡ side place kind (made files place c.mode moment []) 1)
+output_is files j c e moment place digit None is none = (Create, rw (none, is) refl)
+output_is files j c e moment place digit (Some v) is none = (Supersede, rw is refl)
 
--- job 1 with a file that it has entered
-pub record Entered (s : State) (me : ℕ) (moment : Moment) (spec : Spec) (j : Job) (t : State) : Type 0 where
+-- a channel with nothing on it, and with an output side
+abbrev pub idle : Channel → Channel
+idle c = record c { input = None; output = None }
+
+abbrev pub outputs : Channel → Output → Channel
+outputs c o = record (clean (idle c)) { output = Some o }
+
+-- job 1 with a file that it has entered on a channel that was idle
+pub record Entered (s : State) (me : ℕ) (moment : Moment) (spec : Spec) (c : Channel) (j : Job) (t : State)
+    : Type 0 where
   pub job : Job
   pub is : t ≡ at s job
   pub whole : IsJob me job
   pub kind : Kind
   pub second : channel_at job 2
-      ≡ Some (writing (side (place_of me spec) kind (made s.files (place_of me spec) dump_mode moment []) 1))
+      ≡ Some (outputs c (side (place_of me spec) kind (made s.files (place_of me spec) c.mode moment []) 1))
   pub first : channel_at job 1 ≡ channel_at j 1
-  pub kept : slice_index job.core (file_words + 3) ≡ slice_index j.core (file_words + 3)
+  pub kept : (k : ℕ) → (k < new_words) ⊎ (new_words + 4 ≤ k) → slice_index job.core k ≡ slice_index j.core k
   pub directory : is_none (get s.files (place_of me spec).ppn) ≡ false
 
 has_directory : (pack : Pack) (s : State) (j : Job) (c : Channel) (e : ℕ) (place : Place)
@@ -67,59 +74,70 @@ has_directory pack s j c e place is =
     (passed_test (has_no_directory s place) (Refused 1) _ (λ w. cc) b.1).0
 
 module _ (pack : Pack) (s : State) (j0 : Job) (there : job_at s 1 ≡ Some j0) (moment : Moment) where
+  pub enter_done_by : (me : ℕ) (c : Channel) (j : Job) (spec : Spec) (t : State) → IsJob me j → IsSpec spec
+      → channel_at j 2 ≡ Some (idle c)
+      → AllDone pack (at s j) (names new_words spec 0 ++ calls moment (Enter 2 new_words) ∷ []) t
+      → Entered s me moment spec c j t
+  enter_done_by me c j spec t is few idle2 all =
+      let last = split_done pack (at s j) (names new_words spec 0) (calls moment (Enter 2 new_words) ∷ []) t all in
+      let ws : List ℕ = spec.name.name ∷ join spec.name.ext 0 ∷ 0 * 2 ^ 27 ∷ unwrap_or spec.owner 0 ∷ [] in
+      let j2 = naming j new_words spec in
+      let is2 : IsJob me j2 = job_core me j (after_writes j.core (placed new_words ws)) is
+          (length-writes j.core (placed new_words ws)) in
+      let second = deposits_done pack s j0 there ws j new_words last.0 last.1 in
+      let call = call_done pack s j0 there j2 (Enter 2 new_words) moment last.2.0
+          (subst (λ u. Steps pack u (calls moment (Enter 2 new_words)) Done last.2.0) second last.2.1) in
+      let row = row_done pack s j0 there j2
+          (enter_answer pack (at s j2) j2 (idle c) new_words (place_at j2 new_words))
+          (enter_done pack (at s j2) j2 2 (idle c) new_words moment (place_at j2 new_words))
+          (refused_at j2 new_words) last.2.0 (on_open pack s j0 there j2 2 (idle c) _ last.2.0 idle2 call.1) in
+      let place = place_named me j new_words spec is few (omega arith) in
+      let here = place_of me spec in
+      let none : slice_index j2.core (new_words + 2) ≡ 0 = found j.core new_words ws 2 (omega arith)
+          (let l = is.core in omega arith) in
+      let o = output_is s.files j2 (idle c) new_words moment here (digit_at (at s j2) j2 here) (file_at s.files here) refl
+          none in
+      let out = side here o.0 (made s.files here c.mode moment []) 1 in
+      let core = after_writes j2.core (attributing pack j2.core new_words out.pending) in
+      let is3 : IsJob me (with_core j2 core) = job_core me j2 core is2
+          (length-writes j2.core (attributing pack j2.core new_words out.pending)) in
+      let j3 = with_open (with_core j2 core) 2 (outputs c out) in
+      let ends : last.2.0 ≡ at s j3 = row.1
+          ∙ ap (λ p. at s (enter_done pack (at s j2) j2 2 (idle c) new_words moment p)) place
+          ∙ ap (λ o. at s (entered pack j2 2 (idle c) new_words None o)) o.1 in
+      let directory = has_directory pack (at s j2) j2 (idle c) new_words here
+          (subst (λ p. enter_answer pack (at s j2) j2 (idle c) new_words p ≡ Done) place row.0) in
+      record {
+        job = j3;
+        is = last.2.2 ∙ ends;
+        whole = job_open me (with_core j2 core) 2 (outputs c out) is3;
+        kind = o.0;
+        second = at_own (with_core j2 core) me 2 (outputs c out) is3 (omega arith);
+        first = at_other (with_core j2 core) 2 1 (outputs c out) (λ e. cc);
+        kept = λ k apart.
+            spared j2.core (new_words + 1) (join (left (slice_index j2.core (new_words + 1)))
+            (high_date pack.layout out.pending.date) ∷ attributes out.pending ∷ []) k
+            (⊎_elim (λ below. inl (omega (arith, below))) (λ past. inr (omega (arith, past))) apart)
+            ∙ spared j.core new_words ws k
+            (⊎_elim (λ below. inl below) (λ past. inr (omega (arith, past))) apart);
+        directory = directory;
+      }
+
   pub writes_done : (me : ℕ) (j : Job) (spec : Spec) (t : State) → IsJob me j → IsSpec spec
-      → AllDone pack (at s j) (writes moment spec) t → Entered s me moment spec j t
+      → AllDone pack (at s j) (writes moment spec) t
+      → Entered s me moment spec open_channel (with_open (with_core j (opening j)) 2 open_channel) t
   writes_done me j spec t is few all =
-      let last = split_done pack (at s j) (opens moment 2 ++ names new_words spec 0)
-          (calls moment (Enter 2 new_words) ∷ []) t all in
-      let both = split_done pack (at s j) (opens moment 2) (names new_words spec 0) last.0 last.1 in
+      let both = split_done pack (at s j) (opens moment 2) (names new_words spec 0 ++ calls moment (Enter 2 new_words)
+          ∷ []) t (subst (λ es. AllDone pack (at s j) es t) (append_assoc (opens moment 2) (names new_words spec 0)
+          (calls moment (Enter 2 new_words) ∷ [])) all) in
       let c0 = with_core j (opening j) in
       let is0 : IsJob me c0 = job_core me j (opening j) is
           (length-writes j.core (placed open_words (dump_mode ∷ disk ∷ 0 ∷ []))) in
       let j1 = with_open c0 2 open_channel in
       let is1 : IsJob me j1 = job_open me c0 2 open_channel is0 in
       let first = opens_done pack s j0 there moment me j 2 both.0 is both.1 in
-      let ws : List ℕ = spec.name.name ∷ join spec.name.ext 0 ∷ 0 * 2 ^ 27 ∷ unwrap_or spec.owner 0 ∷ [] in
-      let j2 = naming j1 new_words spec in
-      let is2 : IsJob me j2 = job_core me j1 (after_writes j1.core (placed new_words ws)) is1
-          (length-writes j1.core (placed new_words ws)) in
-      let second = deposits_done pack s j0 there ws j1 new_words last.0
-          (subst (λ u. AllDone pack u (names new_words spec 0) last.0) first both.2) in
-      let call = call_done pack s j0 there j2 (Enter 2 new_words) moment last.2.0
-          (subst (λ u. Steps pack u (calls moment (Enter 2 new_words)) Done last.2.0) second last.2.1) in
-      let open2 : channel_at j2 2 ≡ Some open_channel = at_own c0 me 2 open_channel is0 (omega arith) in
-      let row = row_done pack s j0 there j2
-          (enter_answer pack (at s j2) j2 open_channel new_words (place_at j2 new_words))
-          (enter_done pack (at s j2) j2 2 open_channel new_words moment (place_at j2 new_words))
-          (refused_at j2 new_words) last.2.0 (on_open pack s j0 there j2 2 open_channel _ last.2.0 open2 call.1) in
-      let place = place_named me j1 new_words spec is1 few (omega arith) in
-      let here = place_of me spec in
-      let none : slice_index j2.core (new_words + 2) ≡ 0 = found j1.core new_words ws 2 (omega arith)
-          (let l = is1.core in omega arith) in
-      let o = output_is s.files j2 new_words moment here (digit_at (at s j2) j2 here) (file_at s.files here) refl none in
-      let out = side here o.0 (made s.files here dump_mode moment []) 1 in
-      let core = after_writes j2.core (attributing pack j2.core new_words out.pending) in
-      let is3 : IsJob me (with_core j2 core) = job_core me j2 core is2
-          (length-writes j2.core (attributing pack j2.core new_words out.pending)) in
-      let j3 = with_open (with_core j2 core) 2 (writing out) in
-      let ends : last.2.0 ≡ at s j3 = row.1
-          ∙ ap (λ p. at s (enter_done pack (at s j2) j2 2 open_channel new_words moment p)) place
-          ∙ ap (λ o. at s (entered pack j2 2 open_channel new_words None o)) o.1 in
-      let directory = has_directory pack (at s j2) j2 open_channel new_words here
-          (subst (λ p. enter_answer pack (at s j2) j2 open_channel new_words p ≡ Done) place row.0) in
-      record {
-        job = j3;
-        is = last.2.2 ∙ ends;
-        whole = job_open me (with_core j2 core) 2 (writing out) is3;
-        kind = o.0;
-        second = at_own (with_core j2 core) me 2 (writing out) is3 (omega arith);
-        first = at_other (with_core j2 core) 2 1 (writing out) (λ e. cc) ∙ at_other c0 2 1 open_channel (λ e. cc);
-        kept = spared j2.core (new_words + 1) (join (left (slice_index j2.core (new_words + 1)))
-            (high_date pack.layout out.pending.date) ∷ attributes out.pending ∷ []) (file_words + 3) (inl (omega arith))
-            ∙ spared j1.core new_words ws (file_words + 3) (inl (omega arith))
-            ∙ spared j.core open_words (dump_mode ∷ disk ∷ 0 ∷ []) (file_words + 3) (inr (omega arith));
-        directory = directory;
-      }
+      enter_done_by me open_channel j1 spec t is1 few (at_own c0 me 2 open_channel is0 (omega arith))
+      (subst (λ u. AllDone pack u (names new_words spec 0 ++ calls moment (Enter 2 new_words) ∷ []) t) first both.2)
 
 -- A command list that names so many words of the block.
 
