@@ -13,11 +13,11 @@ use Rattle.meaning.specs.Costs.{blocks_of}
 use Rattle.meaning.specs.Cores.{after_writes, placed}
 use Rattle.meaning.specs.Jobs.{Channel, Job, State, Output, Kind, job_at, channel_at, with_channel}
 use Rattle.meaning.specs.Inputs.{in_answer, in_done, reads}
-use Rattle.meaning.specs.Closing.{closes, close_answer, close_done, files_closed}
+use Rattle.meaning.specs.Closing.{close_answer, close_done, files_closed, files_with, last_buffer, words_or_none}
 use Rattle.meaning.specs.Looking.{size_word}
 use Rattle.meaning.specs.Outcomes.{settled, stopped_in}
 use Rattle.meaning.specs.Opening.{disk, dump_mode}
-use Rattle.meaning.specs.Outputs.{longest}
+use Rattle.meaning.specs.Outputs.{longest, put_on}
 use Rattle.meaning.specs.Room.{Pack}
 use Rattle.meaning.specs.Runs.{Service, Serving, Broken, Answers, Steps}
 use Rattle.meaning.specs.Step.{step, last_date, on_job, on_channel, of_job, of_files, call_of}
@@ -40,7 +40,7 @@ use Rattle.meaning.proofs.PlanRuns.{answered_files}
 use Rattle.meaning.proofs.CoreWrites.{length-writes, spared}
 use Rattle.meaning.proofs.CallRuns.{at, at_again, IsJob, with_core, job_there, call_done, on_open, settled_done, deposits_done}
 use Rattle.meaning.proofs.OpenRuns.{open_channel, opening, reading, writing, with_open, at_own, at_other, job_core, job_open, Found, finds_done}
-use Rattle.meaning.proofs.EnterRuns.{side, Lists, list_pair, listing, Entered, writes_done}
+use Rattle.meaning.proofs.EnterRuns.{side, outputs, Lists, list_pair, listing, Entered, writes_done}
 use Rattle.meaning.proofs.BlockRuns.{goes_done}
 use Rattle.meaning.proofs.CopyRuns.{Copying, with_body, both_done}
 use Rattle.meaning.proofs.SizeRuns.{Between, said_blocks, sizes_done, quiet_deposits, told}
@@ -228,50 +228,55 @@ module _ (pack : Pack) (s : State) (j0 : Job) (there : job_at s 1 ≡ Some j0) (
           (subst (λ p. Comes pack mid p said new) same more)))
           (end_or_fails moment next reply)
 
-  -- A CLOSE makes it the file of its name.
-  pub closed : (j : Job) (o : Output) (t : State) → channel_at j 2 ≡ Some (writing o)
-      → Steps pack (at s j) (calls moment (Close 2 0)) Done t
+  -- A CLOSE makes it the file of its name, where there is no last buffer.
+  closed : (j : Job) (c : Channel) (o : Output) (t : State) → channel_at j 2 ≡ Some (outputs c o)
+      → last_buffer j (outputs c o) ≡ Some [] → Steps pack (at s j) (calls moment (Close 2 0)) Done t
       → (serial : ℕ) × (t.files ≡ with_file s.files o.place (record { file = o.pending; serial = serial }))
-  closed j o t second steps =
+  closed j c o t second none steps =
       let call = call_done pack s j0 there j (Close 2 0) moment t steps in
-      let row = on_open pack s j0 there j 2 (writing o) _ t second call.1 in
-      let c = writing o in
-      let d = settled_done {A = Job × Files Version} (close_answer pack (at s j) j c 0)
-          (close_done call.0 j 2 c 0, files_closed call.0 s.files j c 0)
-          (λ reply. (stopped_in j 2 c reply, s.files)) (ap (λ x. x.0) row) in
-      (call.0, sym (ap (λ x. x.1.files) row) ∙ ap (λ x. x.1) d.1)
+      let side = outputs c o in
+      let row = on_open pack s j0 there j 2 side _ t second call.1 in
+      let d = settled_done {A = Job × Files Version} (close_answer pack (at s j) j side 0)
+          (close_done call.0 j 2 side 0, files_closed call.0 s.files j side 0)
+          (λ reply. (stopped_in j 2 side reply, s.files)) (ap (λ x. x.0) row) in
+      (call.0, sym (ap (λ x. x.1.files) row) ∙ ap (λ x. x.1) d.1
+      ∙ ap (λ l. files_with s.files call.0 (put_on (Some o) (words_or_none l))) none)
+
+  -- It is published, and OK is said.
+  pub closes_done : (c : Channel) (o : Output) (said : Spoken) (new : Service) (j : Job)
+      → channel_at j 2 ≡ Some (outputs c o) → last_buffer j (outputs c o) ≡ Some []
+      → is_none (get s.files o.place.ppn) ≡ false
+      → Comes pack (Serving (at s j)) (each moment (calls moment (Close 2 0) ∷ []) (ends moment ok)) said new
+      → ((said ≡ ok) × IsMade s.files o.place o.pending new) ⊎ IsRefused s.files said new
+  unfolding each
+  closes_done c o said new j second none directory come = ⊎_elim inr
+      (λ (t, steps, rest). inl (make t (closed j c o t second none steps) rest))
+      (one_done pack (at s j) moment (calls moment (Close 2 0)) (ends moment ok) said new come)
+    where
+      make : (t : State)
+          → (serial : ℕ) × (t.files ≡ with_file s.files o.place (record { file = o.pending; serial = serial }))
+          → Comes pack (Serving t) (ends moment ok) said new → (said ≡ ok) × IsMade s.files o.place o.pending new
+      make t (serial, files) rest =
+          let e = goes_on pack t moment ok said new rest in
+          let v : Version = record { file = o.pending; serial = serial } in
+          let d = housed (get s.files o.place.ppn) directory in
+          (e.0, record {
+            serial = serial;
+            after = e.1.0;
+            serves = e.1.1;
+            files_after = e.1.2 ∙ files;
+            there = ap (λ fs. file_at fs o.place) (e.1.2 ∙ files) ∙ put_here s.files o.place d.0 d.1 v;
+          })
 
   -- What was written is published, and the line says OK.
-  pub published : (me : ℕ) (c : Channel) (o : Output) (said : Spoken) (new : Service) (j : Job) → IsJob me j
+  published : (me : ℕ) (c : Channel) (o : Output) (said : Spoken) (new : Service) (j : Job) → IsJob me j
       → channel_at j 1 ≡ Some c → channel_at j 2 ≡ Some (writing o) → is_none (get s.files o.place.ppn) ≡ false
       → Comes pack (Serving (at s j))
       (until_end moment (each moment (calls moment (Close 2 0) ∷ []) (ends moment ok))) said new
       → ((said ≡ ok) × IsMade s.files o.place o.pending new) ⊎ IsRefused s.files said new
-  unfolding each
   published me c o said new j is first second directory come = ⊎_elim inr
-      (λ (j', same, more). kept j' (same ∙ second) more)
+      (λ (j', same, more). closes_done open_channel o said new j' (same ∙ second) refl directory more)
       (until_done me c (each moment (calls moment (Close 2 0) ∷ []) (ends moment ok)) said new j is first come)
-    where
-      kept : (j' : Job) → channel_at j' 2 ≡ Some (writing o)
-          → Comes pack (Serving (at s j')) (each moment (calls moment (Close 2 0) ∷ []) (ends moment ok)) said new
-          → ((said ≡ ok) × IsMade s.files o.place o.pending new) ⊎ IsRefused s.files said new
-      kept j' there2 more = ⊎_elim inr (λ (t, steps, rest). inl (make t (closed j' o t there2 steps) rest))
-          (one_done pack (at s j') moment (calls moment (Close 2 0)) (ends moment ok) said new more)
-        where
-          make : (t : State)
-              → (serial : ℕ) × (t.files ≡ with_file s.files o.place (record { file = o.pending; serial = serial }))
-              → Comes pack (Serving t) (ends moment ok) said new → (said ≡ ok) × IsMade s.files o.place o.pending new
-          make t (serial, files) rest =
-              let e = goes_on pack t moment ok said new rest in
-              let v : Version = record { file = o.pending; serial = serial } in
-              let d = housed (get s.files o.place.ppn) directory in
-              (e.0, record {
-                serial = serial;
-                after = e.1.0;
-                serves = e.1.1;
-                files_after = e.1.2 ∙ files;
-                there = ap (λ fs. file_at fs o.place) (e.1.2 ∙ files) ∙ put_here s.files o.place d.0 d.1 v;
-              })
 
   -- The body is copied, whole blocks and the last.
   body_copied : (me : ℕ) (from : Place) (v : Version) (to : Place) (kind : Kind) (file : File) (next : Plan)

@@ -85,3 +85,4 @@ pub mod CopyRuns
 pub mod SizeRuns
 pub mod CopyLaws
 pub mod ReadLaws
+pub mod FillLaws

@@ -1,0 +1,132 @@
+-- A file that is put, part by part, and published.
+use Rattle.std.proofs.Common.{◌≡◌, ◌≢◌, ◌⊎◌, inl, inr, ⊎_elim, ℕ, zero, suc, ◌+◌, ◌-◌, ◌*◌, ◌/◌, ◌^◌, ◌<◌, ◌≤◌, List, []}
+use Rattle.std.proofs.Common.{◌∷◌, ◌++◌, length, take, drop, Option, Some, None, refl, sym, ap, subst, ◌∙◌, arith, append-nil}
+use Rattle.std.proofs.Common.{append_assoc}
+use Rattle.std.specs.Prelude.{slice_index, is_none}
+use Rattle.std.specs.List.{AllByRecursion}
+use Rattle.std.proofs.lemmas.List.{length-take, length-drop, length-append, take-append-drop}
+use Rattle.words36.specs.declared.moment.Moment.{Moment}
+use Rattle.meaning.specs.Files.{Files, File, Place}
+use Rattle.meaning.specs.Published.{Version}
+use Rattle.meaning.specs.Costs.{blocks_of}
+use Rattle.meaning.specs.Splices.{splice, block_start}
+use Rattle.meaning.specs.Cores.{after_writes, placed}
+use Rattle.meaning.specs.Jobs.{Channel, Job, State, Output, Kind, job_at, channel_at}
+use Rattle.meaning.specs.Room.{Pack}
+use Rattle.meaning.specs.Runs.{Service, Serving, Steps}
+use Rattle.meaning.specs.Texts.{Spoken}
+use Rattle.meaning.specs.Plans.{Plan, each, lists, puts, deposits, list_words, block_address}
+use Rattle.meaning.specs.Errands.{fills, fills_parts, part_address}
+use Rattle.meaning.specs.Copies.{Comes, IsRefused}
+use Rattle.meaning.specs.declared.encoding.Encoding.{Encoding}
+use Rattle.meaning.specs.declared.encoding.Encoding.TheVariants.{Characters, Words}
+use Rattle.meaning.specs.declared.call.Event.{Event}
+use Rattle.meaning.specs.declared.call.Reply.TheVariants.{Done}
+use Rattle.meaning.proofs.SlotLaws.{all_append}
+use Rattle.meaning.proofs.PlanRuns.{AllDone, IsQuiet, each_done, split_done}
+use Rattle.meaning.proofs.CoreWrites.{length-writes, window, written, passed}
+use Rattle.meaning.proofs.CallRuns.{at, IsJob, with_core, deposits_done}
+use Rattle.meaning.proofs.OpenRuns.{writing, with_open, at_own, job_core, job_open}
+use Rattle.meaning.proofs.EnterRuns.{side, Lists, list_pair, listing}
+use Rattle.meaning.proofs.BlockRuns.{put_at_end, puts_done}
+use Rattle.meaning.proofs.CopyRuns.{with_body, start_is}
+use Rattle.meaning.proofs.SizeRuns.{quiet_deposits}
+
+-- what each part does, whatever else is so between two of them
+abbrev pub PartsAreDone : Pack → State → Moment → Encoding → (ℕ → List ℕ → Job → Type 0) → Type 0
+PartsAreDone pack s moment encoding W =
+    (k : ℕ) (done part : List ℕ) (j : Job) (t : State) → W k done j → length done ≡ k * 128 → 0 < length part
+    → length part ≤ 128 → AllDone pack (at s j) (fills moment encoding part) t
+    → (j' : Job) × (t ≡ at s j') × W (k + 1) (done ++ part) j'
+
+quiet_fills : (moment : Moment) (encoding : Encoding) (part : List ℕ) → AllByRecursion IsQuiet (fills moment encoding part)
+quiet_fills moment Characters part = all_append IsQuiet (deposits (part_address Characters) part) _
+    (quiet_deposits part (part_address Characters)) (tt, (tt, tt))
+quiet_fills moment Words part = all_append IsQuiet (deposits (part_address Words) part) _
+    (quiet_deposits part (part_address Words))
+    (all_append IsQuiet (lists (length part)) (puts moment ∷ []) (quiet_deposits (list_pair (length part)) list_words)
+    (tt, tt))
+
+parts_left : (more len : ℕ) → suc more ≡ blocks_of len → more ≡ blocks_of (len - 128)
+parts_left more len e = grind arith
+
+module _ (pack : Pack) (s : State) (moment : Moment) (encoding : Encoding) (W : ℕ → List ℕ → Job → Type 0)
+    (part_done : PartsAreDone pack s moment encoding W) where
+  pub parts_done : (more k : ℕ) (done words : List ℕ) (next : Plan) (said : Spoken) (new : Service) (j : Job)
+      → more ≡ blocks_of (length words) → W k done j → (0 < length words → length done ≡ k * 128)
+      → Comes pack (Serving (at s j)) (fills_parts moment encoding more words next) said new
+      → IsRefused s.files said new
+      ⊎ ((n : ℕ) × (j' : Job) × W n (done ++ words) j' × Comes pack (Serving (at s j')) next said new)
+  unfolding fills_parts
+  parts_done zero k done words next said new j count is whole come =
+      let none : words ≡ [] = empty words (no_words (length words) count) in
+      inr (k, j, subst (λ ws. W k ws j) (sym (append-nil done) ∙ ap (λ ws. done ++ ws) (sym none)) is, come)
+    where
+      no_words : (len : ℕ) → 0 ≡ blocks_of len → len ≡ 0
+      no_words len e = grind arith
+
+      empty : (xs : List ℕ) → length xs ≡ 0 → xs ≡ []
+      empty [] e = refl
+      empty (x ∷ xs) e = absurd (omega arith)
+  parts_done (suc more) k done words next said new j count is whole come = ⊎_elim inl
+      (λ (t, all, same, rest).
+      let part = take 128 words in
+      let some : 0 < length words = some_words (length words) count in
+      let cut = length-take 128 words in
+      let d = part_done k done part j t is (whole some) (omega arith) (omega arith) all in
+      let joined = append_assoc done part (drop 128 words) ∙ ap (λ ws. done ++ ws) (take-append-drop 128 words) in
+      ⊎_elim inl (λ (n, j', is', more'). inr (n, j', subst (λ ws. W n ws j') joined is', more'))
+      (parts_done more (k + 1) (done ++ part) (drop 128 words) next said new d.0
+      (parts_left more (length words) count ∙ ap blocks_of (sym (length-drop 128 words))) d.2
+      (λ left. omega (arith, length-append done part, whole some, length-drop 128 words, left))
+      (subst (λ u. Comes pack (Serving u) (fills_parts moment encoding more (drop 128 words) next) said new) d.1 rest)))
+      (each_done pack (at s j) moment (fills moment encoding (take 128 words))
+      (fills_parts moment encoding more (drop 128 words) next) said new (quiet_fills moment encoding (take 128 words)) come)
+    where
+      some_words : (len : ℕ) → suc more ≡ blocks_of len → 0 < len
+      some_words len e = grind arith
+
+-- Parts that are words: the block has them, and a command list names them.
+pub record PutsWords (me : ℕ) (to : Place) (kind : Kind) (file : File) (k : ℕ) (done : List ℕ) (j : Job) : Type 0 where
+  pub whole : IsJob me j
+  pub second : channel_at j 2 ≡ Some (writing (side to kind (with_body file done) (k + 1)))
+
+module _ (pack : Pack) (s : State) (j0 : Job) (there : job_at s 1 ≡ Some j0) (moment : Moment) where
+  pub words_done : (me : ℕ) (to : Place) (kind : Kind) (file : File)
+      → PartsAreDone pack s moment Words (PutsWords me to kind file)
+  words_done me to kind file k done part j t is long some few all =
+      let count = length part in
+      let last = split_done pack (at s j) (deposits block_address part) (lists count ++ puts moment ∷ []) t all in
+      let both = split_done pack last.0 (lists count) (puts moment ∷ []) t last.2 in
+      let core1 = after_writes j.core (placed block_address part) in
+      let j1 = with_core j core1 in
+      let is1 : IsJob me j1 = job_core me j core1 is.whole (length-writes j.core (placed block_address part)) in
+      let to1 = deposits_done pack s j0 there part j block_address last.0 last.1 in
+      let core2 = after_writes core1 (placed list_words (list_pair count)) in
+      let j2 = with_core j1 core2 in
+      let is2 : IsJob me j2 = job_core me j1 core2 is1 (length-writes core1 (placed list_words (list_pair count))) in
+      let to2 = deposits_done pack s j0 there (list_pair count) j1 list_words both.0
+          (subst (λ u. AllDone pack u (lists count) both.0) to1 both.1) in
+      let o = side to kind (with_body file done) (k + 1) in
+      let to3 = puts_done pack s j0 there moment me j2 o count both.2.0 is2 is.second some few
+          (listing core1 count is1.core) (subst (λ u. Steps pack u (puts moment) Done both.2.0) to2 both.2.1) in
+      let words : window core2 block_address count ≡ part =
+          ap (take count) (passed core1 list_words block_address (list_pair count) (omega arith))
+          ∙ written j.core block_address count part refl (let l = is.whole.core in omega arith) in
+      let after : k + 1 + blocks_of (length (window core2 block_address count)) ≡ k + 1 + 1 =
+          ap (λ ws. k + 1 + blocks_of (length ws)) words ∙ two count some few in
+      let body : splice done (k + 1) (window core2 block_address count) ≡ done ++ part =
+          ap (splice done (k + 1)) words ∙ put_at_end done (k + 1) part (start_is k ∙ sym long) in
+      let o' = side to kind (with_body file (done ++ part)) (k + 1 + 1) in
+      (
+        with_open j2 2 (writing o'),
+        both.2.2 ∙ to3 ∙ ap {A = List ℕ × ℕ}
+        (λ b. at s (with_open j2 2 (writing (side to kind (with_body file b.0) b.1)))) (λ i. (body i, after i)),
+        record {
+          whole = job_open me j2 2 (writing o') is2;
+          second = at_own j2 me 2 (writing o') is2 (omega arith);
+        },
+      )
+    where
+      two : (n : ℕ) → 0 < n → n ≤ 128 → k + 1 + blocks_of n ≡ k + 1 + 1
+      two n some few = grind arith
