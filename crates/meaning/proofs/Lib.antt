@@ -86,3 +86,4 @@ pub mod SizeRuns
 pub mod CopyLaws
 pub mod ReadLaws
 pub mod FillLaws
+pub mod RingRuns
