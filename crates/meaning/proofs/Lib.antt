@@ -87,3 +87,4 @@ pub mod CopyLaws
 pub mod ReadLaws
 pub mod FillLaws
 pub mod RingRuns
+pub mod PutRuns

@@ -81,7 +81,7 @@ opened_channel : (core : List ℕ) (a : ℕ) → slice_index core a ≡ dump_mod
     → channel_opened core a ≡ open_channel
 opened_channel core a e f = rw (e, f) refl
 
-open_test : (s : State) (b : Bool) (r : Reply × Job) (t : State)
+pub open_test : (s : State) (b : Bool) (r : Reply × Job) (t : State)
     → (if b then of_job s 1 r else (NoChannel, s)) ≡ (Done, t) → of_job s 1 r ≡ (Done, t)
 open_test s true r t e = e
 open_test s false r t e = let wrong = ap (λ x. x.0) e in cc

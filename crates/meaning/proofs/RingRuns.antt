@@ -80,7 +80,7 @@ pub setup_is : (core : List ℕ) → length core ≡ 4096 → slice_index core f
 unfolding setup
 setup_is core l e = rw (e, l) refl
 
-made_fresh : (core : List ℕ) → length core ≡ 4096 → Fresh (after_writes core ring_made)
+pub made_fresh : (core : List ℕ) → length core ≡ 4096 → Fresh (after_writes core ring_made)
 made_fresh core l = record {
   head = read_at core ring_made header (omega arith);
   link = read_at core ring_made buffer (omega arith);
