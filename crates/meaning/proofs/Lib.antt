@@ -88,3 +88,4 @@ pub mod ReadLaws
 pub mod FillLaws
 pub mod RingRuns
 pub mod PutRuns
+pub mod ErrandRuns

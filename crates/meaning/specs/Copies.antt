@@ -14,7 +14,9 @@ use Rattle.meaning.specs.Plans.{Plan, Act, Conducts, ok, copies, reads}
 use Rattle.meaning.specs.Opening.{dump_mode}
 use Rattle.meaning.specs.Transcripts.{Went, core_words}
 use Rattle.meaning.specs.declared.command.Spec.{Spec}
+use Rattle.meaning.specs.Errands.{keeps, gets}
 use Rattle.meaning.specs.declared.encoding.Encoding.{Encoding}
+use Rattle.meaning.specs.declared.encoding.Encoding.TheVariants.{Characters, Words}
 
 -- The service does what a plan asks, and says this in the end.
 abbrev pub Comes : Pack → Service → Plan → Spoken → Service → Type 0
@@ -96,4 +98,31 @@ ReadsAreExact =
     (pack : Pack) (moment : Moment) (me : ℕ) (s : State) (encoding : Encoding) (spec : Spec) (said : Spoken)
     (new : Service) → IsReady s me → IsSpec spec → AreShort s.files
     → Comes pack (Serving s) (reads moment encoding spec) said new
+    → IsShown me s encoding spec said new ⊎ IsRefused s.files said new
+
+-- Errands, for which job 1 logs in.
+
+-- the mode in which a file is put
+abbrev pub put_mode : Encoding → ℕ
+put_mode Characters = 0
+put_mode Words = dump_mode
+
+-- A file that is put has these words.
+abbrev pub IsPut : Moment → ℕ → State → Encoding → Spec → List ℕ → Spoken → Service → Type 0
+IsPut moment me s encoding spec words said new =
+    (said ≡ ok)
+    × IsMade s.files (place_of me spec) (made s.files (place_of me spec) (put_mode encoding) moment words) new
+
+abbrev pub PutsAreExact : Type 0
+PutsAreExact =
+    (pack : Pack) (moment : Moment) (me : ℕ) (s : State) (encoding : Encoding) (spec : Spec) (words : List ℕ)
+    (said : Spoken) (new : Service) → 1 < length s.jobs → IsSpec spec
+    → Comes pack (Serving s) (keeps moment me encoding spec (Some words)) said new
+    → IsPut moment me s encoding spec words said new ⊎ IsRefused s.files said new
+
+abbrev pub GetsAreExact : Type 0
+GetsAreExact =
+    (pack : Pack) (moment : Moment) (me : ℕ) (s : State) (encoding : Encoding) (spec : Spec) (said : Spoken)
+    (new : Service) → 1 < length s.jobs → IsSpec spec → AreShort s.files
+    → Comes pack (Serving s) (gets moment me encoding spec) said new
     → IsShown me s encoding spec said new ⊎ IsRefused s.files said new

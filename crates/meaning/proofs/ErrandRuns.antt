@@ -1,0 +1,157 @@
+-- Errands of job 1, which logs in for them: a file that is put has the words that were read, and one that is got is
+-- printed whole.
+use Rattle.std.proofs.Common.{◌≡◌, ◌⊎◌, inl, inr, ⊎_elim, ℕ, ◌+◌, ◌*◌, ◌<◌, ◌≤◌, List, [], ◌∷◌, ◌++◌, length, replicate}
+use Rattle.std.proofs.Common.{Option, Some, None, refl, sym, ap, subst, ◌∙◌, arith}
+use Rattle.std.specs.Prelude.{slice_index, is_none}
+use Rattle.std.specs.List.{AllByRecursion}
+use Rattle.std.proofs.Math.ListN.{length-set}
+use Rattle.std.proofs.lemmas.List.{get_or-set_same, length-replicate}
+use Rattle.words36.specs.declared.moment.Moment.{Moment}
+use Rattle.meaning.specs.Maps.{get}
+use Rattle.meaning.specs.Files.{Files, File}
+use Rattle.meaning.specs.Costs.{blocks_of}
+use Rattle.meaning.specs.Cores.{first_free, rings_begin}
+use Rattle.meaning.specs.Jobs.{Channel, Job, State, Kind, job_at, channel_at, with_job}
+use Rattle.meaning.specs.Closing.{last_buffer}
+use Rattle.meaning.specs.Opening.{dump_mode}
+use Rattle.meaning.specs.Sessions.{login_answer, new_job}
+use Rattle.meaning.specs.Room.{Pack}
+use Rattle.meaning.specs.Runs.{Service, Serving, Steps}
+use Rattle.meaning.specs.Texts.{Spoken}
+use Rattle.meaning.specs.Transcripts.{core_words}
+use Rattle.meaning.specs.Plans.{Plan, Ask, each, if_done, calls, ends, ok, names, puts, reads, writes, new_words}
+use Rattle.meaning.specs.Plans.{deposits, open_words}
+use Rattle.meaning.specs.Errands.{enters, creates, fills_all, fills_parts, keeps, gets, header_words}
+use Rattle.meaning.specs.Copies.{Comes, IsReady, IsRefused, IsSpec, AreShort, IsShown, IsPut, IsMade, place_of, made}
+use Rattle.meaning.specs.Copies.{put_mode}
+use Rattle.meaning.specs.declared.command.Spec.{Spec}
+use Rattle.meaning.specs.declared.encoding.Encoding.{Encoding}
+use Rattle.meaning.specs.declared.encoding.Encoding.TheVariants.{Characters, Words}
+use Rattle.meaning.specs.declared.call.Event.{Event}
+use Rattle.meaning.specs.declared.call.Event.TheVariants.{Login}
+use Rattle.meaning.specs.declared.call.Call.TheVariants.{Open, Enter, Outbuf, Close}
+use Rattle.meaning.specs.declared.call.Reply.TheVariants.{Done}
+use Rattle.meaning.proofs.SlotLaws.{all_append}
+use Rattle.meaning.proofs.PlanRuns.{AllDone, IsQuiet, one_done, each_done}
+use Rattle.meaning.proofs.CallRuns.{at, IsJob, slot_set, settled_done}
+use Rattle.meaning.proofs.EnterRuns.{outputs, side}
+use Rattle.meaning.proofs.OpenRuns.{open_channel}
+use Rattle.meaning.proofs.CopyRuns.{with_body}
+use Rattle.meaning.proofs.CopyLaws.{closes_done, at_home, quiet_writes}
+use Rattle.meaning.proofs.FillLaws.{PartsAreDone, PutsWords, parts_done, words_done}
+use Rattle.meaning.proofs.RingRuns.{no_last}
+use Rattle.meaning.proofs.SizeRuns.{quiet_deposits}
+use Rattle.meaning.proofs.PutRuns.{PutsCharacters, Begins, ring_channel, opening_words, characters_done, words_begun}
+use Rattle.meaning.proofs.PutRuns.{characters_begun}
+use Rattle.meaning.proofs.ReadLaws.{reads_are_exact}
+
+-- Job 1 logs in.
+
+abbrev logged : State → ℕ → State
+logged s me = with_job s 1 (new_job me core_words)
+
+logged_in : (s : State) (me : ℕ) → 1 < length s.jobs → job_at (logged s me) 1 ≡ Some (new_job me core_words)
+logged_in s me there = slot_set s.jobs 1 (Some (new_job me core_words)) there
+
+core_is : length (new_job 0 core_words).core ≡ core_words
+core_is = length-set (replicate core_words 0) first_free rings_begin ∙ length-replicate {A = ℕ} core_words 0
+
+is_job : (me : ℕ) → IsJob me (new_job me core_words)
+is_job me = record { owner = refl; core = core_is; channels = refl }
+
+is_ready : (s : State) (me : ℕ) → 1 < length s.jobs → IsReady (logged s me) me
+is_ready s me there = record {
+  job = new_job me core_words;
+  logged_in = logged_in s me there;
+  owner = refl;
+  core = core_is;
+  channels = refl;
+}
+
+ring_base : (me : ℕ) → slice_index (new_job me core_words).core first_free ≡ rings_begin
+ring_base me = get_or-set_same (replicate core_words 0) first_free rings_begin 0
+    (omega (arith, length-replicate {A = ℕ} core_words 0))
+
+login_done : (pack : Pack) (s : State) (me : ℕ) (t : State) → Steps pack s (Login 1 me core_words) Done t
+    → t ≡ logged s me
+login_done pack s me t (serial, fresh, e) =
+    sym (ap (λ x. x.1) e)
+    ∙ (settled_done {A = State} (login_answer 1 core_words) (logged s me) (λ r. s) (ap (λ x. x.0) e)).1
+
+module _ (pack : Pack) (moment : Moment) (me : ℕ) (s : State) (said : Spoken) (new : Service) where
+  enters_done : (next : Plan) → Comes pack (Serving s) (each moment (enters me) next) said new
+      → IsRefused s.files said new ⊎ Comes pack (Serving (logged s me)) next said new
+  unfolding each
+  enters_done next come = ⊎_elim inl
+      (λ (t, steps, rest). inr (subst (λ u. Comes pack (Serving u) next said new) (login_done pack s me t steps) rest))
+      (one_done pack s moment (Login 1 me core_words) next said new come)
+
+pub gets_are_exact : (pack : Pack) (moment : Moment) (me : ℕ) (s : State) (encoding : Encoding) (spec : Spec)
+    (said : Spoken) (new : Service) → 1 < length s.jobs → IsSpec spec → AreShort s.files
+    → Comes pack (Serving s) (gets moment me encoding spec) said new
+    → IsShown me s encoding spec said new ⊎ IsRefused s.files said new
+gets_are_exact pack moment me s encoding spec said new there few short come = ⊎_elim inr
+    (λ more. reads_are_exact pack moment me (logged s me) encoding spec said new (is_ready s me there) few short more)
+    (enters_done pack moment me s said new (reads moment encoding spec) come)
+
+quiet_creates : (moment : Moment) (encoding : Encoding) (spec : Spec) → AllByRecursion IsQuiet (creates moment encoding spec)
+quiet_creates moment Characters spec =
+    let rest : List Event = calls moment (Open 2 open_words) ∷ (names new_words spec 0
+        ++ calls moment (Enter 2 new_words) ∷ calls moment (Outbuf 2 1) ∷ puts moment ∷ []) in
+    let quiet : AllByRecursion IsQuiet rest = (tt, (tt, (tt, (tt, (tt, (tt, (tt, (tt, tt)))))))) in
+    all_append IsQuiet (deposits open_words opening_words) rest (quiet_deposits opening_words open_words) quiet
+quiet_creates moment Words spec = quiet_writes moment spec
+
+pub puts_are_exact : (pack : Pack) (moment : Moment) (me : ℕ) (s : State) (encoding : Encoding) (spec : Spec)
+    (words : List ℕ) (said : Spoken) (new : Service) → 1 < length s.jobs → IsSpec spec
+    → Comes pack (Serving s) (keeps moment me encoding spec (Some words)) said new
+    → IsPut moment me s encoding spec words said new ⊎ IsRefused s.files said new
+puts_are_exact pack moment me s encoding spec words said new there few come = ⊎_elim inr
+    (λ more. ⊎_elim inr (λ (t, all, same, rest). by encoding t all rest)
+    (each_done pack base moment (creates moment encoding spec) (filling encoding) said new
+    (quiet_creates moment encoding spec) more))
+    (enters_done pack moment me s said new (each moment (creates moment encoding spec) (filling encoding)) come)
+  where
+    base : State
+    base = logged s me
+
+    j0 : Job
+    j0 = new_job me core_words
+
+    there0 : job_at base 1 ≡ Some j0
+    there0 = logged_in s me there
+
+    closing : Plan
+    closing = each moment (calls moment (Close 2 0) ∷ []) (ends moment ok)
+
+    filling : Encoding → Plan
+    filling encoding = fills_all moment encoding words closing
+
+    here : (encoding : Encoding) → File
+    here encoding = made s.files (place_of me spec) (put_mode encoding) moment []
+
+    home : (encoding : Encoding) (t : State) → AllDone pack base (creates moment encoding spec) t
+        → AllDone pack (at base j0) (creates moment encoding spec) t
+    home encoding t all = subst (λ u. AllDone pack u (creates moment encoding spec) t) (at_home base j0 there0) all
+
+    by : (encoding : Encoding) (t : State) → AllDone pack base (creates moment encoding spec) t
+        → Comes pack (Serving t) (filling encoding) said new
+        → IsPut moment me s encoding spec words said new ⊎ IsRefused s.files said new
+    by Words t all rest =
+        let b = words_begun pack base j0 there0 moment me j0 spec t (is_job me) few (home Words t all) in
+        ⊎_elim inr (λ (n, j', is, more). closes_done pack base j0 there0 moment open_channel
+        (side (place_of me spec) b.1 (with_body (here Words) words) (n + 1)) said new j' is.second refl b.4 more)
+        (parts_done pack base moment Words (PutsWords me (place_of me spec) b.1 (here Words))
+        (words_done pack base j0 there0 moment me (place_of me spec) b.1 (here Words)) (blocks_of (length words)) 0 []
+        words closing said new b.0 refl b.3 (λ some. refl)
+        (subst (λ u. Comes pack (Serving u) (filling Words) said new) b.2 rest))
+    by Characters t all rest =
+        let b = characters_begun pack base j0 there0 moment me j0 spec t (is_job me) few (ring_base me)
+            (home Characters t all) in
+        ⊎_elim inr (λ (n, j', is, more). closes_done pack base j0 there0 moment ring_channel
+        (side (place_of me spec) b.1 (with_body (here Characters) words) (n + 1)) said new j' is.second
+        (no_last j'.core is.whole.core is.ring) b.4 more)
+        (parts_done pack base moment Characters (PutsCharacters me (place_of me spec) b.1 (here Characters))
+        (characters_done pack base j0 there0 moment me (place_of me spec) b.1 (here Characters))
+        (blocks_of (length words)) 0 [] words closing said new b.0 refl b.3 (λ some. refl)
+        (subst (λ u. Comes pack (Serving u) (filling Characters) said new) b.2 rest))
