@@ -89,3 +89,4 @@ pub mod FillLaws
 pub mod RingRuns
 pub mod PutRuns
 pub mod ErrandRuns
+pub mod ShortLaws

@@ -4,11 +4,12 @@ use Rattle.std.specs.Prelude.{◌≡◌, ◌⊎◌, ◌≤◌, ◌<◌, ℕ, ◌
 use Rattle.words36.specs.declared.moment.Moment.{Moment}
 use Rattle.meaning.specs.Files.{File, Files, Place}
 use Rattle.meaning.specs.Published.{Version, file_at, with_file}
-use Rattle.meaning.specs.Jobs.{Job, State, job_at}
+use Rattle.meaning.specs.Jobs.{Output, Job, State, job_at}
 use Rattle.meaning.specs.Looking.{own_if_zero}
 use Rattle.meaning.specs.Outputs.{longest}
 use Rattle.meaning.specs.Room.{Pack}
 use Rattle.meaning.specs.Runs.{Service, Serving, Broken}
+use Rattle.meaning.specs.Sound.{writes_at}
 use Rattle.meaning.specs.Texts.{Spoken, prints, printed}
 use Rattle.meaning.specs.Plans.{Plan, Act, Conducts, ok, copies, reads}
 use Rattle.meaning.specs.Opening.{dump_mode}
@@ -41,6 +42,11 @@ IsSpec spec = spec.name.ext < 2 ^ 18
 -- no body is longer than a file may be
 abbrev pub AreShort : Files Version → Type 0
 AreShort files = (place : Place) (v : Version) → file_at files place ≡ Some v → length v.file.body ≤ longest
+
+-- In a state that a run comes to nothing is longer: no file, and nothing that is being written.
+pub record IsShort (s : State) : Type 0 where
+  pub files : AreShort s.files
+  pub pending : (n ch : ℕ) (o : Output) → writes_at s n ch ≡ Some o → length o.pending.body ≤ longest
 
 -- the files of a service that serves; of one that has failed there is nothing to say
 abbrev pub HasFiles : Files Version → Service → Type 0
