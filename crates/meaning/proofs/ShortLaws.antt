@@ -1,12 +1,12 @@
 -- No event makes a body longer than a file may be.
 use Rattle.std.proofs.Common.{◌≡◌, ◌≢◌, ◌⊎◌, inl, inr, ⊎_elim, ℕ, ◌+◌, ◌*◌, ◌<◌, ◌≤◌, Bool, true, false, ◌||◌}
 use Rattle.std.proofs.Common.{if◌then◌else◌, List, [], ◌∷◌, length, Option, Some, None, refl, sym, ap, subst, ◌∙◌, arith}
-use Rattle.std.specs.Prelude.{nat_lt, nat_le, ◌==◌, ◌&&◌, not, slice_set, IsSome}
+use Rattle.std.specs.Prelude.{nat_lt, nat_le, ◌==◌, ◌&&◌, not, slice_set, IsSome, option_map}
 use Rattle.std.proofs.lemmas.Bool.Decides.{nat_tests}
 use Rattle.words36.specs.declared.moment.Moment.{Moment}
 use Rattle.meaning.specs.Maps.{get, insert, remove}
-use Rattle.meaning.specs.Files.{Files, File, Place}
-use Rattle.meaning.specs.Published.{Version, file_at, with_file, without_file, with_protection}
+use Rattle.meaning.specs.Files.{Files, File, Directory, Place, map_directory}
+use Rattle.meaning.specs.Published.{Version, file_at, file_in, without_serials, with_file, without_file, with_protection}
 use Rattle.meaning.specs.Splices.{splice, length_after}
 use Rattle.meaning.specs.Jobs.{Channel, Input, Output, Update, Append, Job, State, job_at, channel_at, with_job, with_channel, slot}
 use Rattle.meaning.specs.Room.{Pack, output_of}
@@ -47,6 +47,13 @@ use Rattle.meaning.proofs.OutcomeLaws.{settled_by, stopped_by, refused_by}
 use Rattle.meaning.proofs.SlotLaws.{slot-set_cases, slot-empty}
 use Rattle.meaning.proofs.SpliceLaws.{length-splice}
 use Rattle.meaning.proofs.MapLaws.{some_same}
+use Rattle.meaning.proofs.MapLists.{get-map_values}
+use Rattle.meaning.proofs.Names.{name_total}
+use Rattle.meaning.proofs.LookupLaws.{serving_same, not_broken, broken_stays}
+use Rattle.meaning.specs.Stands.{Stands, StoredFile, StoredDirectory, directory_of}
+use Rattle.blockdisk.specs.Disk.{Contents}
+use Rattle.words36.specs.declared.names.FileName.{FileName}
+use Rattle.std.specs.Cmp.{nat_cmp_total}
 
 -- Sides and jobs that write nothing longer.
 
@@ -345,3 +352,95 @@ module _ (pack : Pack) (serial : ℕ) (s : State) (short : IsShort s) (n : ℕ) 
       by_files (remove_answer s job e (owner_at job e)) job (remove s.files (owner_at job e)) (refused_at job e)
       (λ done. (own, λ q w is. short.files q w (found_without_directory s.files (owner_at job e) q w is)))
       (refused_short e)
+
+-- Events and runs.
+
+short_on_job : (s : State) → IsShort s → (row : Job → Reply × State) (o : Option Job)
+    → ((job : Job) → o ≡ Some job → IsShort (row job).1) → IsShort (on_job s o row).1
+short_on_job s short row None h = short
+short_on_job s short row (Some job) h = h job refl
+
+short_in_time : (s : State) → IsShort s → (late : Bool) (r : Reply × State) → IsShort r.1
+    → IsShort (if late then (DateRange, s) else r).1
+short_in_time s short true r h = short
+short_in_time s short false r h = h
+
+pub short_step : (pack : Pack) (serial : ℕ) (s : State) (event : Event) → IsShort s
+    → IsShort (step pack serial s event).1
+short_step pack serial s (Login n ppn words) short =
+    settled_by (λ r. IsShort r.1) (login_answer n words) (with_job s n (new_job ppn words)) (λ r. s)
+    (λ is. short_state s short n (new_job ppn words) s.files short.files
+    (λ ch o e. nothing o (sym (ap output_of (slot-empty 16 ch)) ∙ e))) (λ differs. short)
+short_step pack serial s (Deposit n address word) short = short_on_job s short _ (job_at s n) (λ job there.
+    settled_by (λ r. IsShort r.1) (deposit_answer job address) (with_job s n (deposit_done job address word)) (λ r. s)
+    (λ is. short_state s short n (deposit_done job address word) s.files short.files
+    (λ ch o e. short.pending n ch o (ap (output_for ch) there ∙ e))) (λ differs. short))
+short_step pack serial s (Examine n address) short = short_on_job s short _ (job_at s n) (λ job there. short)
+short_step pack serial s (Calls n call moment) short =
+    short_in_time s short (nat_lt (last_date pack.layout) moment.date) _
+    (short_on_job s short _ (job_at s n) (λ job there. call_short pack serial s short n job there call moment))
+
+short_answers : (pack : Pack) (s t : State) (event : Event) (reply : Reply)
+    → Answers pack (Serving s) event reply (Serving t) → IsShort s → IsShort t
+short_answers pack s t event reply a short = ⊎_elim
+    (λ steps. subst (λ (r : Reply × State). IsShort r.1) steps.2 (short_step pack steps.0 s event short))
+    (λ none. subst IsShort (sym none.1) short) a
+
+pub short_run : (pack : Pack) (s t : State) (events : List Event) (replies : List Reply)
+    → Run pack (Serving s) events replies (Serving t) → IsShort s → IsShort t
+short_run pack s t [] [] r short = subst IsShort (sym (serving_same r)) short
+short_run pack s t [] (reply ∷ replies) r short = absurd r
+short_run pack s t (event ∷ events) [] r short = absurd r
+short_run pack s t (event ∷ events) (reply ∷ replies) (Serving mid, a, r) short = short_run pack mid t events replies r
+    (short_answers pack s mid event reply a short)
+short_run pack s t (event ∷ events) (reply ∷ replies) (Broken, a, r) short = absurd
+    (not_broken (broken_stays pack events replies (Serving t) r))
+
+-- A start, from the files of a disk.
+
+abbrev HasShortFiles : Files File → Type 0
+HasShortFiles files = (ppn : ℕ) (d : Directory File) (name : FileName) (f : File) → get files ppn ≡ Some d
+    → get d.files name ≡ Some f → length f.body ≤ longest
+
+of_map : {X Y : Type 0} (g : X → Y) (o : Option X) (y : Y) → option_map g o ≡ Some y → (x : X) × (o ≡ Some x) × (g x ≡ y)
+of_map g None y e = let wrong : None ≡ Some y = e in cc
+of_map g (Some x) y e = (x, refl, some_same e)
+
+standing_short : (size : ℕ) (contents : Contents) (files : Files File) → Stands size contents files → HasShortFiles files
+standing_short size contents files (settled, is, (m, has, same)) ppn d name f at there =
+    let found = of_map directory_of (get m.directories ppn) d
+        (sym (get-map_values nat_cmp_total directory_of m.directories ppn) ∙ ap (λ fs. get fs ppn) same ∙ at) in
+    let stored : StoredDirectory = found.0 in
+    let file = of_map (λ (g : StoredFile). g.file) (get stored.files name) f
+        (sym (get-map_values name_total (λ (g : StoredFile). g.file) stored.files name)
+        ∙ ap (λ (x : Directory File). get x.files name) found.2 ∙ there) in
+    let whole = has.mapped.directories ppn stored found.1 in
+    let few = (whole.files name file.0 file.1).retrieved.fits.few in
+    subst (λ (x : File). length x.body ≤ longest) file.2 few
+
+with_files_short : (s : State) → HasShortFiles (without_serials s.files) → AreShort s.files
+with_files_short s few place v is = at (get s.files place.ppn) refl is
+  where
+    at : (o : Option (Directory Version)) → get s.files place.ppn ≡ o → file_in o place.name ≡ Some v
+        → length v.file.body ≤ longest
+    at None e h = let wrong : None ≡ Some v = h in cc
+    at (Some d) e h = few place.ppn (map_directory (λ (w : Version). w.file) d) place.name v.file
+        (get-map_values nat_cmp_total (map_directory (λ (w : Version). w.file)) s.files place.ppn
+        ∙ ap (option_map (map_directory (λ (w : Version). w.file))) e)
+        (get-map_values name_total (λ (w : Version). w.file) d.files place.name
+        ∙ ap (option_map (λ (w : Version). w.file)) h)
+
+start_short : (found : Files File) (s : State) → HasShortFiles found → IsStart found s → IsShort s
+start_short found s few start = record {
+  files = with_files_short s (subst HasShortFiles (sym start.files) few);
+  pending = λ n ch o h.
+      let none : job_at s n ≡ None = ap (λ jobs. slot jobs n) start.jobs ∙ slot-empty 65 n in
+      let wrong : None ≡ Some o = ap (output_for ch) (sym none) ∙ h in
+      cc;
+}
+
+pub bodies_stay_short : (pack : Pack) (size : ℕ) (contents : Contents) (found : Files File) (s t : State)
+    (events : List Event) (replies : List Reply) → Stands size contents found → IsStart found s
+    → Run pack (Serving s) events replies (Serving t) → IsShort t
+bodies_stay_short pack size contents found s t events replies stands start run =
+    short_run pack s t events replies run (start_short found s (standing_short size contents found stands) start)

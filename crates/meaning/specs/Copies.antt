@@ -1,19 +1,25 @@
 -- What a line of a session, or an errand of job 1, comes to: the file that a copy leaves, the text that a file is shown
 -- as, the file that is put.
-use Rattle.std.specs.Prelude.{◌≡◌, ◌⊎◌, ◌≤◌, ◌<◌, ℕ, ◌^◌, IsTrue, List, length, unwrap_or, Option, Some, None}
+use Rattle.std.specs.Prelude.{◌≡◌, ◌⊎◌, ◌≤◌, ◌<◌, ℕ, ◌^◌, Bool, true, false, IsTrue, List, length, unwrap_or, Option, Some, None}
 use Rattle.words36.specs.declared.moment.Moment.{Moment}
+use Rattle.blockdisk.specs.Disk.{Contents}
 use Rattle.meaning.specs.Files.{File, Files, Place}
 use Rattle.meaning.specs.Published.{Version, file_at, with_file}
 use Rattle.meaning.specs.Jobs.{Output, Job, State, job_at}
 use Rattle.meaning.specs.Looking.{own_if_zero}
 use Rattle.meaning.specs.Outputs.{longest}
 use Rattle.meaning.specs.Room.{Pack}
-use Rattle.meaning.specs.Runs.{Service, Serving, Broken}
+use Rattle.meaning.specs.Runs.{Service, Serving, Broken, Steps, Answers, Run, IsStart}
 use Rattle.meaning.specs.Sound.{writes_at}
+use Rattle.meaning.specs.Stands.{Stands}
 use Rattle.meaning.specs.Texts.{Spoken, prints, printed}
 use Rattle.meaning.specs.Plans.{Plan, Act, Conducts, ok, copies, reads}
 use Rattle.meaning.specs.Opening.{dump_mode}
 use Rattle.meaning.specs.Transcripts.{Went, core_words}
+use Rattle.meaning.specs.declared.call.Event.{Event}
+use Rattle.meaning.specs.declared.call.Event.TheVariants.{Login, Deposit, Examine, Call as Calls}
+use Rattle.meaning.specs.declared.call.Reply.{Reply}
+use Rattle.meaning.specs.declared.call.Reply.TheVariants.{Done}
 use Rattle.meaning.specs.declared.command.Spec.{Spec}
 use Rattle.meaning.specs.Errands.{keeps, gets}
 use Rattle.meaning.specs.declared.encoding.Encoding.{Encoding}
@@ -132,3 +138,27 @@ GetsAreExact =
     (new : Service) → 1 < length s.jobs → IsSpec spec → AreShort s.files
     → Comes pack (Serving s) (gets moment me encoding spec) said new
     → IsShown me s encoding spec said new ⊎ IsRefused s.files said new
+
+-- What these laws ask of a state is so of each that a run comes to which began with the files of a disk.
+abbrev pub BodiesStayShort : Type 0
+BodiesStayShort =
+    (pack : Pack) (size : ℕ) (contents : Contents) (found : Files File) (s t : State) (events : List Event)
+    (replies : List Reply) → Stands size contents found → IsStart found s
+    → Run pack (Serving s) events replies (Serving t) → IsShort t
+
+-- Job 1 is ready once its LOGIN is done, and stays so through whatever else is asked.
+
+abbrev pub asks_for_login : Event → Bool
+asks_for_login (Login n ppn words) = true
+asks_for_login (Deposit n address word) = false
+asks_for_login (Examine n address) = false
+asks_for_login (Calls n call moment) = false
+
+abbrev pub LoginsMakeReady : Type 0
+LoginsMakeReady =
+    (pack : Pack) (s t : State) (me : ℕ) → 1 < length s.jobs → Steps pack s (Login 1 me core_words) Done t → IsReady t me
+
+abbrev pub ReadyStays : Type 0
+ReadyStays =
+    (pack : Pack) (s t : State) (event : Event) (reply : Reply) (me : ℕ) → asks_for_login event ≡ false → IsReady s me
+    → Answers pack (Serving s) event reply (Serving t) → IsReady t me
