@@ -78,6 +78,11 @@ login_done pack s me t (serial, fresh, e) =
     sym (ap (λ x. x.1) e)
     ∙ (settled_done {A = State} (login_answer 1 core_words) (logged s me) (λ r. s) (ap (λ x. x.0) e)).1
 
+pub logins_make_ready : (pack : Pack) (s t : State) (me : ℕ) → 1 < length s.jobs
+    → Steps pack s (Login 1 me core_words) Done t → IsReady t me
+logins_make_ready pack s t me there steps = subst (λ u. IsReady u me) (sym (login_done pack s me t steps))
+    (is_ready s me there)
+
 module _ (pack : Pack) (moment : Moment) (me : ℕ) (s : State) (said : Spoken) (new : Service) where
   enters_done : (next : Plan) → Comes pack (Serving s) (each moment (enters me) next) said new
       → IsRefused s.files said new ⊎ Comes pack (Serving (logged s me)) next said new

@@ -90,3 +90,4 @@ pub mod RingRuns
 pub mod PutRuns
 pub mod ErrandRuns
 pub mod ShortLaws
+pub mod ReadyLaws

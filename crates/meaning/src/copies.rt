@@ -1,4 +1,5 @@
-ghost use Rattle.meaning.specs.Copies.{CopiesAreExact, ReadsAreExact, PutsAreExact, GetsAreExact};
+ghost use Rattle.meaning.specs.Copies.{CopiesAreExact, ReadsAreExact, PutsAreExact, GetsAreExact, BodiesStayShort};
+ghost use Rattle.meaning.specs.Copies.{LoginsMakeReady, ReadyStays};
 
 /// COPY prints OK where the new file has the words of the version that was found, with the protection, the mode and the
 /// moment that a new or superseding file gets; else it is refused, and the files are those from before.
@@ -17,4 +18,12 @@ pub fn reads_are_exact()
 pub fn errands_are_exact()
     ensures puts { PutsAreExact }
     ensures gets { GetsAreExact }
+{}
+
+/// What these laws ask of a state is so: no run that began with the files of a disk comes to a body that is longer than a
+/// file may be, and job 1 is ready from its LOGIN on.
+pub fn states_stay_ready()
+    ensures short { BodiesStayShort }
+    ensures logged_in { LoginsMakeReady }
+    ensures on { ReadyStays }
 {}

@@ -1,5 +1,4 @@
 use Rattle.meaning.proofs.ErrandRuns.{puts_are_exact, gets_are_exact}
-use Rattle.meaning.proofs.ShortLaws.{bodies_stay_short}
 use Rattle.meaning.proofs.copies.errands_are_exact.Goals as goal
 
 pub returns-clause-puts : goal.returns-clause-puts

@@ -1,0 +1,13 @@
+use Rattle.meaning.proofs.ShortLaws.{bodies_stay_short}
+use Rattle.meaning.proofs.ErrandRuns.{logins_make_ready}
+use Rattle.meaning.proofs.ReadyLaws.{ready_stays}
+use Rattle.meaning.proofs.copies.states_stay_ready.Goals as goal
+
+pub returns-clause-short : goal.returns-clause-short
+returns-clause-short c = bodies_stay_short
+
+pub returns-clause-logged_in : goal.returns-clause-logged_in
+returns-clause-logged_in c = logins_make_ready
+
+pub returns-clause-on : goal.returns-clause-on
+returns-clause-on c = ready_stays
