@@ -20,6 +20,7 @@ pub mod ReadingLaws
 pub mod TypingLaws
 pub mod SpecLaws
 pub mod ErrandLaws
+pub mod OutcomeLaws
 pub mod SurveyLaws
 pub mod PuttingLaws
 pub mod WordLaws

@@ -7,6 +7,7 @@ pub mod Languages
 pub mod Streams
 pub mod Sessions
 pub mod Errands
+pub mod Outcomes
 pub mod Monitors
 pub mod Orders
 pub mod Files

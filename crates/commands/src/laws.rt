@@ -10,8 +10,11 @@ ghost use Rattle.meaning.specs.Transcripts.{Served};
 ghost use Rattle.meaning.specs.Texts.{Spoken};
 ghost use Rattle.meaning.specs.declared.call.Event.{Event};
 ghost use Rattle.meaning.specs.declared.command.Command.{Command};
+ghost use Rattle.commands.specs.Outcomes.{DeliveriesKeepFiles, ErrandsShowFiles};
 ghost use Rattle.commands.specs.Streams.{IsServedTranscript};
 ghost use Rattle.commands.specs.declared.language.Language.TheVariants.{Commands, Events};
+
+use crate::service::FileService;
 
 /// A line says one thing, or nothing.
 pub fn lines_have_one_meaning()
@@ -35,4 +38,12 @@ pub fn served_texts_are_functions()
 pub fn orders_have_one_reading()
     ensures { (text : List ℕ) (moment : Moment) (said other : Option Event) → SaysEvent text moment said
         → SaysEvent text moment other → said ≡ other }
+{}
+
+/// What an errand of job 1 comes to, where the service has kept its promises up to its end: a file that was put has the
+/// words that the input says, or it was refused and nothing has changed; a file that was got was written as the words of
+/// the version that was found, or refused.
+pub fn errands_reach_files<S: FileService>()
+    ensures put { DeliveriesKeepFiles S.machine }
+    ensures got { ErrandsShowFiles S.machine }
 {}

@@ -1,0 +1,58 @@
+-- What the errands of job 1 come to.
+use Rattle.std.proofs.Common.{◌≡◌, ◌⊎◌, inl, inr, ⊎_elim, ◌<◌, ℕ, true, List, [], ◌∷◌, length, Option, Some, None, Ok, refl}
+use Rattle.std.proofs.Common.{sym, ap, subst}
+use Rattle.std.specs.Io.KnownBytes.{Appends, Consumes, IsAtEnd}
+use Rattle.words36.specs.declared.moment.Moment.{Moment}
+use Rattle.meaning.specs.Copies.{AreShort, HasFiles, IsPut, IsRefused, IsShown, IsSpec}
+use Rattle.meaning.specs.Errands.{AreWords, gets, keeps, unfit}
+use Rattle.meaning.specs.Jobs.{State}
+use Rattle.meaning.specs.Plans.{Act, Say, Conducts}
+use Rattle.meaning.specs.Room.{Pack}
+use Rattle.meaning.specs.Runs.{Service, Serving}
+use Rattle.meaning.specs.Texts.{Spoken, complains}
+use Rattle.meaning.specs.Transcripts.{Went}
+use Rattle.meaning.specs.declared.command.Spec.{Spec}
+use Rattle.meaning.specs.declared.encoding.Encoding.{Encoding}
+use Rattle.meaning.proofs.ErrandRuns.{puts_are_exact, gets_are_exact}
+use Rattle.commands.specs.Errands.{Delivery, Errand}
+use Rattle.commands.specs.Machines.{Machine, ActsBy}
+use Rattle.commands.specs.Outcomes.{IsKept, DeliveriesKeepFiles, ErrandsShowFiles}
+use Rattle.commands.specs.Streams.{spoken}
+use Rattle.commands.specs.declared.answer.Tally.{Tally}
+use Rattle.commands.proofs.GoingLaws.{acts_went}
+
+-- nothing is asked where the input is no file's
+complained : (pack : Pack) (s : State) (acts : List Act) (text : List ℕ) (said : Spoken) (last : Service)
+    → Conducts (Say (complains text)) acts said → Went pack (Serving s) acts last → IsRefused s.files said last
+complained pack s [] text said last led went =
+    let e : said ≡ complains text = let f = led in cc in
+    let flag : said.refused ≡ true = ap (λ (x : Spoken). x.refused) e in
+    (flag, subst (HasFiles s.files) (sym went) refl)
+complained pack s (act ∷ acts) text said last led went = absurd led
+
+delivered : (pack : Pack) (s : State) (moment : Moment) (me : ℕ) (encoding : Encoding) (spec : Spec) (read : List ℕ)
+    (words : Option (List ℕ)) (acts : List Act) (said : Spoken) (last : Service) → 1 < length s.jobs → IsSpec spec
+    → AreWords encoding read words → Conducts (keeps moment me encoding spec words) acts said
+    → Went pack (Serving s) acts last → IsKept moment me s encoding spec read said last
+delivered pack s moment me encoding spec read None acts said last there few are led went =
+    inr (complained pack s acts (unfit encoding) said last led went)
+delivered pack s moment me encoding spec read (Some words) acts said last there few are led went = ⊎_elim
+    (λ put. inl (words, are, put)) inr
+    (puts_are_exact pack moment me s encoding spec words said last there few (acts, led, went))
+
+module _ {S : Type 0} (machine : S → Machine) where
+  pub deliveries_keep_files : DeliveriesKeepFiles machine
+  deliveries_keep_files source left sink full old new moment me encoding spec tally d honest s serves there few =
+      let end = d.goes.went honest (Serving s) serves in
+      let went = acts_went machine (machine old).pack old (Serving s) d.acts new end.0 end.2 in
+      ⊎_elim
+      (λ done. (d.read, d.written, d.consumed, done.0, d.appended, end.0, end.1,
+      delivered (machine old).pack s moment me encoding spec d.read done.1 d.acts (spoken d.written tally) end.0 there few
+      done.2 done.3 went)) (λ unread. absurd unread.0) d.delivers
+
+  pub errands_show_files : ErrandsShowFiles machine
+  errands_show_files sink full old new moment me encoding spec tally e honest s serves there few short =
+      let end = e.goes.went honest (Serving s) serves in
+      let went = acts_went machine (machine old).pack old (Serving s) e.acts new end.0 end.2 in
+      (e.written, e.appended, end.0, end.1, gets_are_exact (machine old).pack moment me s encoding spec
+      (spoken e.written tally) end.0 there few short (e.acts, e.performs, went))
