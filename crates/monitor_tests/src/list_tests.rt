@@ -331,7 +331,7 @@ fn play_example(
     Ok(())
 }
 
-/// The example that docs/EXAMPLES.md walks through: job 2 reads on in the file that it looked up, which job 1
+/// The example that examples/README.md walks through: job 2 reads on in the file that it looked up, which job 1
 /// supersedes.
 #[test]
 fn a_reader_across_a_supersede(rt: HostRuntime) -> Result<(), Fail> {
