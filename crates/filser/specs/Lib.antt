@@ -6,3 +6,4 @@ pub mod Endings
 pub mod HostFaults
 pub mod ServedDisks
 pub mod Tasks
+pub mod Runs

@@ -1,9 +1,14 @@
-ghost use Rattle.std.specs.Prelude.{◌≡◌, ◌≢◌, ◌⊎◌, ◌≤◌, [], map, true, IfOk, IfSome};
+ghost use Rattle.std.specs.Prelude.{◌≡◌, ◌≢◌, ◌⊎◌, ◌≤◌, ℕ, List, [], map, true, Option, IfOk, IfErr, IfSome, MatchResult};
+ghost use Rattle.std.specs.Io.KnownBytes.{Keeps};
 ghost use Rattle.clap.specs.Words.{fault_of, kind_of, subcommand_of};
 ghost use Rattle.filser.specs.CommandLine.{command_line};
 ghost use Rattle.filser.specs.Endings.{AreMistaken, AskToSee, EndsUnasked, IsShown};
 ghost use Rattle.filser.specs.HostFaults.{forbids_errors, forbids_output};
 ghost use Rattle.filser.specs.Requests.{Asks, InRange};
+ghost use Rattle.filser.specs.Runs.{IsExcused, IsRun, IsTurnedAway, IsUnasked};
+ghost use Rattle.filser.specs.Statuses.{status_code};
+ghost use Rattle.filser.specs.declared.error.RequestError.TheVariants.{BadArgument, NoMemory};
+ghost use Rattle.filser.specs.declared.status.Status.{Status as Statuses};
 ghost use Rattle.filser.specs.declared.asked.Request.{Request as Asked};
 ghost use Rattle.filser.specs.declared.status.Status.TheVariants.{Done, BadArguments, Fault};
 
@@ -13,11 +18,13 @@ use crate::lines::LineReader;
 use crate::serving::{say, serve_file, serve_fresh};
 use crate::streams::stream_at;
 use crate::{ImageFault, MissingStreams, Request, RequestError, Status, make_image, request};
+use blockcache::Cached;
+use blockdisk::{Disk, MemDisk};
 use clap::Error;
-use imagefile::Supposition;
+use imagefile::{HostFile, ImageDisk, Supposition};
 use std::alloc::Global;
 use std::fs::File;
-use std::io::{Read, Write};
+use std::io::{self, Read, Write};
 use std::rt::Files;
 
 /// A whole run of the program: reads the words, the first of which is its name, does what they ask for over
@@ -40,6 +47,15 @@ pub fn work<F: Files<File = File>, R: Read, W: Write, E: Write>(
     ensures shown { AskToSee (fault_of command_line (map (λ w. w.now) words.now)) → (result ≡ 0) ⊎ (result ≡ 4) }
     ensures asked { (r : Asked) → Asks (subcommand_of command_line (map (λ w. w.now) words.now)) r
         → fault_of command_line (map (λ w. w.now) words.now) ≡ [] → result ≢ 2 }
+    // What was printed, and the status of that, unless the end of the text can't be written.
+    ensures ran { (status : Statuses) × (left : Option (List ℕ)) × (full : Option (List ℕ))
+        × ((result ≡ status_code status) ⊎ (result ≡ 4)) × Keeps full (W.contents writer.new)
+        × (((r : Asked) × Asks (subcommand_of command_line (map (λ w. w.now) words.now)) r
+        × (IsRun (⟦<MemDisk as Disk>⟧.state) (⟦<Cached<ImageDisk<HostFile>> as Disk>⟧.state) r (R.remaining reader.old) left
+        (W.contents writer.old) full status
+        ⊎ IsTurnedAway (R.remaining reader.old) left (W.contents writer.old) full status))
+        ⊎ IsUnasked (fault_of command_line (map (λ w. w.now) words.now)) (R.remaining reader.old) left
+        (W.contents writer.old) full status) }
 {
     let mut lines = LineReader::new(reader);
     let status = answer(files, alloc, words, missing, &mut lines, writer, errors);
@@ -50,7 +66,14 @@ pub fn work<F: Files<File = File>, R: Read, W: Write, E: Write>(
             &format_args!("line {line}: {fault}"),
         );
     }
-    match writer.flush() {
+    exit_code(status, writer.flush())
+}
+
+/// The exit status of a run, all of whose text could be written or not.
+fn exit_code(status: Status, flushed: io::Result<()>) -> u8
+    ensures { MatchResult flushed (λ unit. result ≡ status_code status) (λ error. result ≡ 4) }
+{
+    match flushed {
         Ok(()) => status.code(),
         Err(_) => Status::Fault.code(),
     }
@@ -71,6 +94,13 @@ fn answer<F: Files<File = File>, R: Read, W: Write, E: Write>(
     ensures shown { AskToSee (fault_of command_line (map (λ w. w.now) words.now)) → (result ≡ Done) ⊎ (result ≡ Fault) }
     ensures asked { (r : Asked) → Asks (subcommand_of command_line (map (λ w. w.now) words.now)) r
         → fault_of command_line (map (λ w. w.now) words.now) ≡ [] → result ≢ BadArguments }
+    ensures ran { ((r : Asked) × Asks (subcommand_of command_line (map (λ w. w.now) words.now)) r
+        × (IsRun (⟦<MemDisk as Disk>⟧.state) (⟦<Cached<ImageDisk<HostFile>> as Disk>⟧.state) r (R.remaining reader.old)
+        (R.remaining reader.new) (W.contents writer.old) (W.contents writer.new) result
+        ⊎ IsTurnedAway (R.remaining reader.old) (R.remaining reader.new) (W.contents writer.old) (W.contents writer.new)
+        result))
+        ⊎ IsUnasked (fault_of command_line (map (λ w. w.now) words.now)) (R.remaining reader.old) (R.remaining reader.new)
+        (W.contents writer.old) (W.contents writer.new) result }
 {
     match request(alloc, words) {
         Ok(asked) => start(files, alloc, &asked, missing, reader, writer, errors),
@@ -89,7 +119,11 @@ fn start<F: Files<File = File>, R: Read, W: Write, E: Write>(
     errors: &mut E,
 ) -> Status
     requires { InRange asked.now }
-    ensures { result ≢ BadArguments }
+    ensures serving { result ≢ BadArguments }
+    ensures ran { IsRun (⟦<MemDisk as Disk>⟧.state) (⟦<Cached<ImageDisk<HostFile>> as Disk>⟧.state) asked.now
+        (R.remaining reader.old) (R.remaining reader.new) (W.contents writer.old) (W.contents writer.new) result
+        ⊎ IsTurnedAway (R.remaining reader.old) (R.remaining reader.new) (W.contents writer.old) (W.contents writer.new)
+        result }
 {
     if let Some(path) = asked.image() {
         if let Some(stream) = stream_at(files, path) {
@@ -113,7 +147,11 @@ fn perform<F: Files<File = File>, R: Read, W: Write, E: Write>(
     errors: &mut E,
 ) -> Status
     requires { InRange asked.now }
-    ensures { result ≢ BadArguments }
+    ensures serving { result ≢ BadArguments }
+    ensures ran { IsRun (⟦<MemDisk as Disk>⟧.state) (⟦<Cached<ImageDisk<HostFile>> as Disk>⟧.state) asked.now
+        (R.remaining reader.old) (R.remaining reader.new) (W.contents writer.old) (W.contents writer.new) result
+        ⊎ IsTurnedAway (R.remaining reader.old) (R.remaining reader.new) (W.contents writer.old) (W.contents writer.new)
+        result }
 {
     match asked {
         Request::Fresh => serve_fresh(alloc, reader, writer),
@@ -139,7 +177,9 @@ fn conclude<W: Write, E: Write>(
     errors: &mut E,
 ) -> Status
     requires { IfOk served (λ done. done.0 ≢ BadArguments) }
-    ensures { result ≢ BadArguments }
+    ensures serving { result ≢ BadArguments }
+    ensures done { IfOk served (λ done. (result ≡ done.0) × (W.contents writer.new ≡ W.contents writer.old)) }
+    ensures excused { IfErr served (λ fault. IsExcused (W.contents writer.old) (W.contents writer.new) result) }
 {
     match served {
         Ok((status, image)) => {
@@ -163,6 +203,7 @@ fn refuse_image<W: Write, E: Write>(
         → W.contents writer.new ≡ W.contents writer.old) }
     ensures untold { IfSome fault.host (λ host. forbids_errors host ≡ true
         → E.contents errors.new ≡ E.contents errors.old) }
+    ensures excused { IsExcused (W.contents writer.old) (W.contents writer.new) result }
 {
     let Some(host) = fault.host else {
         return say(writer, fault.refusal);
@@ -178,7 +219,9 @@ fn refuse_image<W: Write, E: Write>(
 
 /// Says why the words ask for nothing that is done.
 fn refuse<W: Write, E: Write>(error: &RequestError, writer: &mut W, errors: &mut E) -> Status
-    ensures { EndsUnasked error.now result }
+    ensures ends { EndsUnasked error.now result }
+    ensures unprinted { (error.now ≡ BadArgument) ⊎ (error.now ≡ NoMemory)
+        → W.contents writer.new ≡ W.contents writer.old }
 {
     match error {
         RequestError::Usage(usage) => show(usage, writer, errors),

@@ -5,7 +5,10 @@ ghost use Rattle.meaning.specs.Lines.{feed};
 ghost use Rattle.meaning.specs.Stands.{Stands};
 ghost use Rattle.filser.specs.Refusals.{IsFileRefusal, refusal_text, refusal_code};
 ghost use Rattle.filser.specs.ServedDisks.{IsEnding, IsSaid, IsServed, IsUnserved};
+ghost use Rattle.filser.specs.Runs.{IsAttended, IsTurnedAway};
 ghost use Rattle.filser.specs.Tasks.{Attends, IsStart};
+ghost use Rattle.filser.specs.declared.task.Task.TheVariants.{Run};
+ghost use Rattle.words36.specs.declared.moment.Moment as moments;
 ghost use Rattle.imagefile.specs.Image.{image_contents};
 ghost use Rattle.imagefile.specs.Streams.{IsApart};
 ghost use Rattle.imagefile.specs.Supposition.{unseen_in};
@@ -131,6 +134,11 @@ pub(crate) fn serve<D: Disk + Drop, R: Read, W: Write>(
         (Attends D.state task (R.remaining reader.old) (R.remaining reader.new) (W.contents writer.old)
         (W.contents writer.new))
         ⊎ IsUnserved D.state disk result.1 result.0 (W.contents writer.old) (W.contents writer.new) }
+    // And whatever the disk does, what is printed is the task's.
+    ensures attended { IsAttended D.state task (R.remaining reader.old) (R.remaining reader.new) (W.contents writer.old)
+        (W.contents writer.new) result.0
+        ⊎ IsTurnedAway (R.remaining reader.old) (R.remaining reader.new) (W.contents writer.old) (W.contents writer.new)
+        result.0 }
 {
     match Monitor::start(alloc, disk) {
         Ok(mut monitor) => {
@@ -167,6 +175,12 @@ pub(crate) fn serve_file<R: Read, W: Write>(
         (W.contents writer.old) (W.contents writer.new))
         ⊎ IsUnserved (⟦<Cached<ImageDisk<HostFile>> as Disk>⟧.state) image done.1 done.0 (W.contents writer.old)
         (W.contents writer.new))) }
+    ensures attended { IfOk result (λ done. IsAttended (⟦<Cached<ImageDisk<HostFile>> as Disk>⟧.state) task
+        (R.remaining reader.old) (R.remaining reader.new) (W.contents writer.old) (W.contents writer.new) done.0
+        ⊎ IsTurnedAway (R.remaining reader.old) (R.remaining reader.new) (W.contents writer.old) (W.contents writer.new)
+        done.0) }
+    ensures untouched { IfErr result (λ fault. (R.remaining reader.new ≡ R.remaining reader.old)
+        × (W.contents writer.new ≡ W.contents writer.old)) }
 {
     let image = image_in(alloc, file, supposed)?;
     Ok(serve(alloc, image, task, reader, writer))
@@ -178,7 +192,11 @@ pub(crate) fn serve_fresh<R: Read, W: Write>(
     reader: &mut R,
     writer: &mut W,
 ) -> Status
-    ensures { result ≢ BadArguments }
+    ensures serving { result ≢ BadArguments }
+    ensures attended { ((at : moments.Moment) × IsStart at × IsAttended (⟦<MemDisk as Disk>⟧.state) (Run at)
+        (R.remaining reader.old) (R.remaining reader.new) (W.contents writer.old) (W.contents writer.new) result)
+        ⊎ IsTurnedAway (R.remaining reader.old) (R.remaining reader.new) (W.contents writer.old) (W.contents writer.new)
+        result }
 {
     let Ok(mut disk) = MemDisk::new(alloc, FRESH_BLOCKS, FRESH_CALLS) else {
         return Status::Fault;

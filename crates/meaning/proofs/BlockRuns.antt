@@ -1,30 +1,28 @@
 -- Words of a block that job 1 takes from channel 1 and puts on channel 2, by a command list.
-use Rattle.std.proofs.Common.{◌≡◌, ◌≢◌, ◌⊎◌, inl, inr, ⊎_elim, ℕ, zero, suc, ◌+◌, ◌-◌, ◌*◌, ◌/◌, ◌%◌, ◌^◌, ◌<◌, ◌≤◌, Bool}
-use Rattle.std.proofs.Common.{true, false, if◌then◌else◌, List, [], ◌∷◌, ◌++◌, length, take, drop, min, Option, Some, None}
-use Rattle.std.proofs.Common.{option_map, refl, sym, ap, subst, ◌∙◌, arith, append-nil}
-use Rattle.std.specs.Prelude.{slice_index, slice_set}
-use Rattle.std.proofs.lemmas.List.{length-take, length-drop, take_all, drop_all}
+use Rattle.std.proofs.Common.{◌≡◌, ℕ, zero, suc, ◌+◌, ◌-◌, ◌<◌, ◌≤◌}
+use Rattle.std.proofs.Common.{List, [], ◌∷◌, ◌++◌, length, take, drop, min, Some}
+use Rattle.std.proofs.Common.{option_map, refl, sym, ap, ◌∙◌, arith, append-nil}
+use Rattle.std.proofs.lemmas.List.{take_all, drop_all}
 use Rattle.words36.specs.declared.moment.Moment.{Moment}
-use Rattle.meaning.specs.Files.{Files, File, Place}
+use Rattle.meaning.specs.Files.{Place}
 use Rattle.meaning.specs.Published.{Version}
 use Rattle.meaning.specs.Costs.{blocks_of}
 use Rattle.meaning.specs.Splices.{splice, block_start, words_from}
 use Rattle.meaning.specs.Cores.{after_writes, placed, dealt, joined}
-use Rattle.meaning.specs.CommandLists.{dump_list, word_count}
-use Rattle.meaning.specs.declared.area.Area.{Area}
-use Rattle.meaning.specs.Jobs.{Channel, Job, State, Input, Output, Kind, job_at, channel_at, with_job, with_channel}
+use Rattle.meaning.specs.CommandLists.{word_count}
+use Rattle.meaning.specs.Jobs.{Job, State, Output, job_at, channel_at, with_channel}
 use Rattle.meaning.specs.Inputs.{in_answer, in_done, areas_or_none, useti_answer, useti_done}
 use Rattle.meaning.specs.Outputs.{out_answer, out_done, put_done}
 use Rattle.meaning.specs.Outcomes.{stopped_in}
 use Rattle.meaning.specs.Room.{Pack}
 use Rattle.meaning.specs.Runs.{Steps}
-use Rattle.meaning.specs.Plans.{calls, takes, puts, goes_to, list_words, block_address}
+use Rattle.meaning.specs.Plans.{takes, puts, goes_to, list_words, block_address}
 use Rattle.meaning.specs.declared.call.Call.TheVariants.{In, Out, Useti}
 use Rattle.meaning.specs.declared.call.Reply.TheVariants.{Done}
-use Rattle.meaning.proofs.CoreWrites.{length-writes, spared, window, range_window, written}
+use Rattle.meaning.proofs.CoreWrites.{window, range_window}
 use Rattle.meaning.proofs.CallRuns.{at, IsJob, with_core, call_done, on_open, row_done}
-use Rattle.meaning.proofs.OpenRuns.{open_channel, reading, writing, with_open, at_own, at_other, job_core, job_open}
-use Rattle.meaning.proofs.EnterRuns.{side, part, Lists, listed}
+use Rattle.meaning.proofs.OpenRuns.{reading, writing, with_open}
+use Rattle.meaning.proofs.EnterRuns.{part, Lists, listed}
 
 take_none : {X : Type 0} (k : ℕ) → take {A = X} k [] ≡ []
 take_none zero = refl
@@ -64,7 +62,7 @@ module _ (pack : Pack) (s : State) (j0 : Job) (there : job_at s 1 ≡ Some j0) (
       let call = call_done pack s j0 there j (In 1 list_words) moment t steps in
       let c = reading place v n in
       let row = row_done pack s j0 there j (in_answer j c list_words) (in_done j 1 c list_words) (stopped_in j 1 c) t
-          (on_open pack s j0 there j 1 c _ t held call.1) in
+      (on_open pack s j0 there j 1 c _ t held call.1) in
       let ahead = words_from v.file.body n in
       let names = listed j.core count some few is.core lists in
       row.1
@@ -85,10 +83,10 @@ module _ (pack : Pack) (s : State) (j0 : Job) (there : job_at s 1 ≡ Some j0) (
       let call = call_done pack s j0 there j (Out 2 list_words) moment t steps in
       let c = writing o in
       let row = row_done pack s j0 there j (out_answer pack (at s j) j c list_words) (out_done j 2 c list_words)
-          (stopped_in j 2 c) t (on_open pack s j0 there j 2 c _ t held call.1) in
+      (stopped_in j 2 c) t (on_open pack s j0 there j 2 c _ t held call.1) in
       let names = listed j.core count some few is.core lists in
       let words : joined j.core (part count ∷ []) ≡ window j.core block_address count =
-          append-nil _ ∙ range_window j.core block_address count in
+      append-nil _ ∙ range_window j.core block_address count in
       row.1
       ∙ ap (λ a. at s (put_done j 2 c (option_map (λ areas. record { words = joined j.core areas; core = j.core }) a)))
       names

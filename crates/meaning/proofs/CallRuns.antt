@@ -1,32 +1,24 @@
 -- Events of job 1 that are done: what becomes of its record.
-use Rattle.std.proofs.Common.{◌≡◌, ◌≢◌, ◌⊎◌, inl, inr, ℕ, zero, suc, ◌+◌, ◌-◌, ◌*◌, ◌/◌, ◌%◌, ◌^◌, ◌<◌, ◌≤◌, ◌||◌, Bool}
-use Rattle.std.proofs.Common.{true, false, if◌then◌else◌, List, [], ◌∷◌, ◌++◌, length, Option, Some, None, option_map, refl}
+use Rattle.std.proofs.Common.{◌≡◌, ◌≢◌, ℕ, zero, suc, ◌+◌, ◌<◌, ◌||◌, Bool}
+use Rattle.std.proofs.Common.{true, false, if◌then◌else◌, List, [], ◌∷◌, length, Option, Some, refl}
 use Rattle.std.proofs.Common.{sym, ap, subst, ◌∙◌, arith}
-use Rattle.std.specs.Prelude.{nat_lt, nat_le, slice_index, slice_set}
-use Rattle.std.proofs.Math.ListN.{length-set}
-use Rattle.std.proofs.lemmas.Bool.Decides.{nat_tests}
-use Rattle.words36.specs.Words.{left, right, join}
+use Rattle.std.specs.Prelude.{nat_lt, slice_set}
 use Rattle.words36.specs.declared.moment.Moment.{Moment}
 use Rattle.meaning.specs.Cores.{after_writes, placed}
-use Rattle.meaning.specs.Jobs.{Channel, Job, State, job_at, channel_at, with_job, with_channel, slot}
+use Rattle.meaning.specs.Jobs.{Channel, Job, State, job_at, channel_at, with_job, slot}
 use Rattle.meaning.specs.Room.{Pack}
 use Rattle.meaning.specs.Runs.{Steps}
 use Rattle.meaning.specs.Outcomes.{settled}
-use Rattle.meaning.specs.Opening.{disk, dump_mode, opens as open_row, open_answer, open_done, core_opened, channel_opened}
-use Rattle.meaning.specs.Rings.{is_buffered}
 use Rattle.meaning.specs.Sessions.{deposit_answer, deposit_done}
-use Rattle.meaning.specs.Step.{step, last_date, on_job, on_channel, of_job, open_on, call_of, deposit}
-use Rattle.meaning.specs.Plans.{calls, deposits, opens, open_words}
+use Rattle.meaning.specs.Step.{last_date, on_job, on_channel, of_job, call_of, deposit}
+use Rattle.meaning.specs.Plans.{calls, deposits}
 use Rattle.meaning.specs.declared.call.Call.{Call}
-use Rattle.meaning.specs.declared.call.Call.TheVariants.{Open}
-use Rattle.meaning.specs.declared.call.Event.{Event}
 use Rattle.meaning.specs.declared.call.Event.TheVariants.{Deposit}
 use Rattle.meaning.specs.declared.call.Reply.{Reply}
-use Rattle.meaning.specs.declared.call.Reply.TheVariants.{Done, NoChannel, DateRange, AddressCheck}
+use Rattle.meaning.specs.declared.call.Reply.TheVariants.{Done, DateRange}
 use Rattle.meaning.proofs.OutcomeLaws.{settled_by}
-use Rattle.meaning.proofs.SlotLaws.{slot-set_same, slot-set_other}
-use Rattle.meaning.proofs.PlanRuns.{AllDone, split_done}
-use Rattle.meaning.proofs.CoreWrites.{length-writes, found, spared}
+use Rattle.meaning.proofs.SlotLaws.{slot-set_same}
+use Rattle.meaning.proofs.PlanRuns.{AllDone}
 
 -- the state with this record of job 1
 abbrev pub at : State → Job → State
@@ -82,9 +74,11 @@ module _ (pack : Pack) (s : State) (j0 : Job) (there : job_at s 1 ≡ Some j0) w
   -- a call's own row
   pub call_done : (j : Job) (call : Call) (moment : Moment) (t : State) → Steps pack (at s j) (calls moment call) Done t
       → (serial : ℕ) × (call_of pack serial (at s j) 1 j call moment ≡ (Done, t))
-  call_done j call moment t (serial, fresh, e) =
-      (serial, subst (λ o. on_job (at s j) o (λ job. call_of pack serial (at s j) 1 job call moment) ≡ (Done, t))
-      (job_there j) (not_late (nat_lt (last_date pack.layout) moment.date) (at s j) t _ e))
+  call_done j call moment t (serial, fresh, e) = (
+    serial,
+    subst (λ o. on_job (at s j) o (λ job. call_of pack serial (at s j) 1 job call moment) ≡ (Done, t))
+        (job_there j) (not_late (nat_lt (last_date pack.layout) moment.date) (at s j) t _ e),
+  )
 
   pub on_open : (j : Job) (ch : ℕ) (c : Channel) (row : Channel → Reply × State) (t : State)
       → channel_at j ch ≡ Some c → on_channel (at s j) (channel_at j ch) row ≡ (Done, t) → row c ≡ (Done, t)
@@ -103,9 +97,9 @@ module _ (pack : Pack) (s : State) (j0 : Job) (there : job_at s 1 ≡ Some j0) w
       → t ≡ at s (with_core j (slice_set j.core a w))
   one_deposit j a w t (serial, fresh, e) =
       let row : deposit (at s j) 1 j a w ≡ (Done, t) =
-          subst (λ o. on_job (at s j) o (λ job. deposit (at s j) 1 job a w) ≡ (Done, t)) (job_there j) e in
+      subst (λ o. on_job (at s j) o (λ job. deposit (at s j) 1 job a w) ≡ (Done, t)) (job_there j) e in
       let d = settled_done (deposit_answer j a) (with_job (at s j) 1 (deposit_done j a w)) (λ r. at s j)
-          (ap (λ x. x.0) row) in
+      (ap (λ x. x.0) row) in
       sym (ap (λ x. x.1) row) ∙ d.1 ∙ at_again s j (deposit_done j a w)
 
   pub deposits_done : (ws : List ℕ) (j : Job) (a : ℕ) (t : State) → AllDone pack (at s j) (deposits a ws) t

@@ -1,17 +1,19 @@
 -- COPY: what it says, and the files that it leaves.
-use Rattle.std.proofs.Common.{◌≡◌, ◌≢◌, ◌⊎◌, inl, inr, ⊎_elim, ℕ, zero, suc, ◌+◌, ◌-◌, ◌*◌, ◌/◌, ◌^◌, ◌<◌, ◌≤◌, Bool, true}
-use Rattle.std.proofs.Common.{false, if◌then◌else◌, List, [], ◌∷◌, ◌++◌, length, take, drop, Option, Some, None, refl, sym}
+use Rattle.std.proofs.Common.{◌≡◌, ◌⊎◌, inl, inr, ⊎_elim, ℕ, zero, suc, ◌+◌, ◌-◌, ◌*◌, ◌<◌, ◌≤◌, Bool}
+use Rattle.std.proofs.Common.{true}
+use Rattle.std.proofs.Common.{false, if◌then◌else◌, List, [], ◌∷◌, ◌++◌, length, take, Option, Some, None, refl}
+use Rattle.std.proofs.Common.{sym}
 use Rattle.std.proofs.Common.{ap, subst, ◌∙◌, arith}
-use Rattle.std.specs.Prelude.{slice_index, is_none, not, nat_lt}
+use Rattle.std.specs.Prelude.{slice_index, is_none, nat_lt}
 use Rattle.std.specs.List.{AllByRecursion}
-use Rattle.std.proofs.lemmas.List.{length-take, take_all}
+use Rattle.std.proofs.lemmas.List.{take_all}
 use Rattle.words36.specs.declared.moment.Moment.{Moment}
 use Rattle.meaning.specs.Maps.{get}
-use Rattle.meaning.specs.Files.{Files, File, Directory, Place}
+use Rattle.meaning.specs.Files.{Files, File, Place}
 use Rattle.meaning.specs.Published.{Version, file_at, with_file}
 use Rattle.meaning.specs.Costs.{blocks_of}
 use Rattle.meaning.specs.Cores.{after_writes, placed}
-use Rattle.meaning.specs.Jobs.{Channel, Job, State, Output, Kind, job_at, channel_at, with_channel}
+use Rattle.meaning.specs.Jobs.{Channel, Job, State, Output, Kind, job_at, channel_at}
 use Rattle.meaning.specs.Inputs.{in_answer, in_done, reads}
 use Rattle.meaning.specs.Closing.{close_answer, close_done, files_closed, files_with, last_buffer, words_or_none}
 use Rattle.meaning.specs.Looking.{size_word}
@@ -20,12 +22,15 @@ use Rattle.meaning.specs.Opening.{disk, dump_mode}
 use Rattle.meaning.specs.Outputs.{longest, put_on}
 use Rattle.meaning.specs.Room.{Pack}
 use Rattle.meaning.specs.Runs.{Service, Serving, Broken, Answers, Steps}
-use Rattle.meaning.specs.Step.{step, last_date, on_job, on_channel, of_job, of_files, call_of}
+use Rattle.meaning.specs.Step.{last_date, on_job, on_channel, of_job, call_of}
 use Rattle.meaning.specs.Texts.{Spoken}
-use Rattle.meaning.specs.Plans.{Plan, Ask, each, calls, deposits, opens, names, finds, writes, lists, takes, puts, goes_to}
-use Rattle.meaning.specs.Plans.{copies_blocks, copies_last, copies_body, copies, until_end, if_end, is_end, fails, ends, ok}
-use Rattle.meaning.specs.Plans.{list_words, block_address, file_words, new_words, open_words, examines, blocks_said}
-use Rattle.meaning.specs.Copies.{Comes, IsReady, IsSpec, AreShort, HasFiles, IsRefused, IsMade, IsCopied, place_of, made}
+use Rattle.meaning.specs.Plans.{Plan, each, calls, finds, writes, lists, takes, puts}
+use Rattle.meaning.specs.Plans.{goes_to}
+use Rattle.meaning.specs.Plans.{copies_blocks, copies_last, copies_body, copies, until_end, if_end, is_end, fails}
+use Rattle.meaning.specs.Plans.{ends, ok}
+use Rattle.meaning.specs.Plans.{list_words, file_words, open_words, examines, blocks_said}
+use Rattle.meaning.specs.Copies.{Comes, IsReady, IsSpec, AreShort, IsRefused, IsMade, IsCopied, place_of}
+use Rattle.meaning.specs.Copies.{made}
 use Rattle.meaning.specs.declared.command.Spec.{Spec}
 use Rattle.meaning.specs.declared.call.Call.TheVariants.{In, Close}
 use Rattle.meaning.specs.declared.call.Event.{Event}
@@ -35,15 +40,18 @@ use Rattle.meaning.specs.declared.call.Reply.TheVariants.{NoMemory, Device, Fail
 use Rattle.meaning.proofs.MovingLaws.{put_here}
 use Rattle.meaning.proofs.OutcomeLaws.{settled_by}
 use Rattle.meaning.proofs.SlotLaws.{all_append, set-slot}
-use Rattle.meaning.proofs.PlanRuns.{AllDone, IsQuiet, asked, failed, goes_on, one_done, each_done, split_done, quiet_files}
+use Rattle.meaning.proofs.PlanRuns.{AllDone, IsQuiet, asked, failed, goes_on, one_done, each_done, split_done}
+use Rattle.meaning.proofs.PlanRuns.{quiet_files}
 use Rattle.meaning.proofs.PlanRuns.{answered_files}
 use Rattle.meaning.proofs.CoreWrites.{length-writes, spared}
-use Rattle.meaning.proofs.CallRuns.{at, at_again, IsJob, with_core, job_there, call_done, on_open, settled_done, deposits_done}
-use Rattle.meaning.proofs.OpenRuns.{open_channel, opening, reading, writing, with_open, at_own, at_other, job_core, job_open, Found, finds_done}
-use Rattle.meaning.proofs.EnterRuns.{side, outputs, Lists, list_pair, listing, Entered, writes_done}
+use Rattle.meaning.proofs.CallRuns.{at, at_again, IsJob, with_core, job_there, call_done, on_open, settled_done}
+use Rattle.meaning.proofs.CallRuns.{deposits_done}
+use Rattle.meaning.proofs.OpenRuns.{open_channel, opening, reading, writing, with_open, at_own, at_other, job_core}
+use Rattle.meaning.proofs.OpenRuns.{job_open, Found, finds_done}
+use Rattle.meaning.proofs.EnterRuns.{side, outputs, Lists, list_pair, listing, writes_done}
 use Rattle.meaning.proofs.BlockRuns.{goes_done}
 use Rattle.meaning.proofs.CopyRuns.{Copying, with_body, both_done}
-use Rattle.meaning.proofs.SizeRuns.{Between, said_blocks, sizes_done, quiet_deposits, told}
+use Rattle.meaning.proofs.SizeRuns.{said_blocks, sizes_done, quiet_deposits, told}
 
 -- Job 1 with the whole body in the file that it writes.
 abbrev pub Copied : ℕ → Place → Version → Place → Kind → File → Job → Type 0
@@ -98,7 +106,7 @@ module _ (pack : Pack) (s : State) (j0 : Job) (there : job_at s 1 ≡ Some j0) (
       → (j' : Job) × (t ≡ at s j') × Copying me from v to kind file (k + 1) j' × Lists 128 j'.core
   block_copied me from v to kind file k j is named fits t all =
       let d = both_done pack s j0 there moment me j from v to kind file k 128 t is (omega arith) (omega arith) named
-          (omega arith) all in
+      (omega arith) all in
       let words : k * 128 + 128 ≡ (k + 1) * 128 = omega arith in
       let two : k + 2 ≡ k + 1 + 1 = omega arith in
       let is' : Copying me from v to kind file (k + 1) d.0 = record {
@@ -158,28 +166,30 @@ module _ (pack : Pack) (s : State) (j0 : Job) (there : job_at s 1 ≡ Some j0) (
           → (j' : Job) × Copied me from v to kind file j' × Comes pack (Serving (at s j')) next said new
       behind j1 is1 k first1 second1 t all rest =
           let parts = split_done pack (at s j1) (lists count) (goes_to moment (more + 1) ∷ takes moment ∷ puts moment
-              ∷ []) t all in
+          ∷ []) t all in
           let core = after_writes j1.core (placed list_words (list_pair count)) in
           let j2 = with_core j1 core in
           let is2 : IsJob me j2 = job_core me j1 core is1 (length-writes j1.core (placed list_words (list_pair count))) in
           let to2 = deposits_done pack s j0 there (list_pair count) j1 list_words parts.0 parts.1 in
           let j3 = with_open j2 1 (reading from v (more + 1)) in
           let to3 : parts.2.0 ≡ at s j3 = goes_done pack s j0 there moment j2 from v (more + 1) k parts.2.0 first1
-              (subst (λ u. Steps pack u (goes_to moment (more + 1)) Done parts.2.0) to2 parts.2.1) in
+          (subst (λ u. Steps pack u (goes_to moment (more + 1)) Done parts.2.0) to2 parts.2.1) in
           let is3 : Copying me from v to kind file more j3 = record {
             whole = job_open me j2 1 (reading from v (more + 1)) is2;
             first = at_own j2 me 1 (reading from v (more + 1)) is2 (omega arith);
             second = at_other j2 1 2 (reading from v (more + 1)) (λ e. cc) ∙ second1 ∙ is.second;
           } in
           let d = both_done pack s j0 there moment me j3 from v to kind file more count t is3 (omega arith) (omega arith)
-              (listing j1.core count is1.core) (omega arith)
-              (subst (λ u. AllDone pack u (takes moment ∷ puts moment ∷ []) t) to3 parts.2.2) in
+          (listing j1.core count is1.core) (omega arith)
+          (subst (λ u. AllDone pack u (takes moment ∷ puts moment ∷ []) t) to3 parts.2.2) in
           let all_words : take (more * 128 + count) v.file.body ≡ v.file.body = take_all (more * 128 + count) v.file.body
-              (omega arith) in
-          (
+          (omega arith) in (
             d.0,
-            (d.2, (more + 2, d.3),
-            (more + 2, d.4 ∙ ap (λ b. Some (writing (side to kind (with_body file b) (more + 2)))) all_words)),
+            (
+              d.2,
+              (more + 2, d.3),
+              (more + 2, d.4 ∙ ap (λ b. Some (writing (side to kind (with_body file b) (more + 2)))) all_words),
+            ),
             subst (λ u. Comes pack (Serving u) next said new) d.1 rest,
           )
 
@@ -195,11 +205,11 @@ module _ (pack : Pack) (s : State) (j0 : Job) (there : job_at s 1 ≡ Some j0) (
           → t ≡ at s (with_open j 1 (record c { status = status }))
       left status t (serial, fresh, e) =
           let row : of_job (at s j) 1 (reads j 1 c list_words) ≡ (Stopped status, t) =
-              subst (λ o. on_channel (at s j) o (λ c. of_job (at s j) 1 (reads j 1 c list_words)) ≡ (Stopped status, t))
-              first (subst (λ o. on_job (at s j) o
-              (λ job. call_of pack serial (at s j) 1 job (In 1 list_words) moment) ≡ (Stopped status, t))
-              (job_there pack s j0 there j)
-              (not_late (nat_lt (last_date pack.layout) moment.date) (at s j) t _ status e)) in
+          subst (λ o. on_channel (at s j) o (λ c. of_job (at s j) 1 (reads j 1 c list_words)) ≡ (Stopped status, t))
+          first (subst (λ o. on_job (at s j) o
+          (λ job. call_of pack serial (at s j) 1 job (In 1 list_words) moment) ≡ (Stopped status, t))
+          (job_there pack s j0 there j)
+          (not_late (nat_lt (last_date pack.layout) moment.date) (at s j) t _ status e)) in
           sym (ap (λ x. x.1) row) ∙ at_again s j (reads j 1 c list_words).1
           ∙ ap (at s) (settled_other (in_answer j c list_words) (in_done j 1 c list_words) (stopped_in j 1 c) status
           (ap (λ x. x.0) row))
@@ -208,9 +218,11 @@ module _ (pack : Pack) (s : State) (j0 : Job) (there : job_at s 1 ≡ Some j0) (
           → Comes pack mid next said new
           → (j' : Job) × (channel_at j' 2 ≡ channel_at j 2) × Comes pack (Serving (at s j')) next said new
       stopped status Broken (device, undecided, touches) more = let wrong : Stopped status ≡ Device = device in cc
-      stopped status (Serving t) (inl steps) more =
-          (with_open j 1 (record c { status = status }), at_other j 1 2 (record c { status = status }) (λ e. cc),
-          subst (λ u. Comes pack (Serving u) next said new) (left status t steps) more)
+      stopped status (Serving t) (inl steps) more = (
+        with_open j 1 (record c { status = status }),
+        at_other j 1 2 (record c { status = status }) (λ e. cc),
+        subst (λ u. Comes pack (Serving u) next said new) (left status t steps) more,
+      )
       stopped status (Serving t) (inr (none, same, undecided, wants)) more =
           let wrong : Stopped status ≡ NoMemory = none in cc
 
@@ -237,10 +249,12 @@ module _ (pack : Pack) (s : State) (j0 : Job) (there : job_at s 1 ≡ Some j0) (
       let side = outputs c o in
       let row = on_open pack s j0 there j 2 side _ t second call.1 in
       let d = settled_done {A = Job × Files Version} (close_answer pack (at s j) j side 0)
-          (close_done call.0 j 2 side 0, files_closed call.0 s.files j side 0)
-          (λ reply. (stopped_in j 2 side reply, s.files)) (ap (λ x. x.0) row) in
-      (call.0, sym (ap (λ x. x.1.files) row) ∙ ap (λ x. x.1) d.1
-      ∙ ap (λ l. files_with s.files call.0 (put_on (Some o) (words_or_none l))) none)
+      (close_done call.0 j 2 side 0, files_closed call.0 s.files j side 0)
+      (λ reply. (stopped_in j 2 side reply, s.files)) (ap (λ x. x.0) row) in (
+        call.0,
+        sym (ap (λ x. x.1.files) row) ∙ ap (λ x. x.1) d.1
+            ∙ ap (λ l. files_with s.files call.0 (put_on (Some o) (words_or_none l))) none,
+      )
 
   -- It is published, and OK is said.
   pub closes_done : (c : Channel) (o : Output) (said : Spoken) (new : Service) (j : Job)
@@ -259,14 +273,16 @@ module _ (pack : Pack) (s : State) (j0 : Job) (there : job_at s 1 ≡ Some j0) (
       make t (serial, files) rest =
           let e = goes_on pack t moment ok said new rest in
           let v : Version = record { file = o.pending; serial = serial } in
-          let d = housed (get s.files o.place.ppn) directory in
-          (e.0, record {
-            serial = serial;
-            after = e.1.0;
-            serves = e.1.1;
-            files_after = e.1.2 ∙ files;
-            there = ap (λ fs. file_at fs o.place) (e.1.2 ∙ files) ∙ put_here s.files o.place d.0 d.1 v;
-          })
+          let d = housed (get s.files o.place.ppn) directory in (
+            e.0,
+            record {
+              serial = serial;
+              after = e.1.0;
+              serves = e.1.1;
+              files_after = e.1.2 ∙ files;
+              there = ap (λ fs. file_at fs o.place) (e.1.2 ∙ files) ∙ put_here s.files o.place d.0 d.1 v;
+            },
+          )
 
   -- What was written is published, and the line says OK.
   published : (me : ℕ) (c : Channel) (o : Output) (said : Spoken) (new : Service) (j : Job) → IsJob me j
@@ -369,28 +385,28 @@ copies_are_exact pack moment me s to from said new ready to_is from_is short com
     begun t all rest =
         let there = ready.logged_in in
         let last = split_done pack (at s j0) (finds moment from ++ writes moment to) (lists 128) t
-            (subst (λ u. AllDone pack u (finds moment from ++ writes moment to ++ lists 128) t) (at_home s j0 there) all) in
+        (subst (λ u. AllDone pack u (finds moment from ++ writes moment to ++ lists 128) t) (at_home s j0 there) all) in
         let both = split_done pack (at s j0) (finds moment from) (writes moment to) last.0 last.1 in
         let f : Found s me from j0 both.0 = finds_done pack s j0 there moment me j0 from both.0 whole from_is both.1 in
         let e = writes_done pack s j0 there moment me f.job to last.0 f.whole to_is
-            (subst (λ u. AllDone pack u (writes moment to) last.0) f.is both.2) in
+        (subst (λ u. AllDone pack u (writes moment to) last.0) f.is both.2) in
         let core = after_writes e.job.core (placed list_words (list_pair 128)) in
         let j = with_core e.job core in
         let is : IsJob me j = job_core me e.job core e.whole
-            (length-writes e.job.core (placed list_words (list_pair 128))) in
+        (length-writes e.job.core (placed list_words (list_pair 128))) in
         let to_j : t ≡ at s j = deposits_done pack s j0 there (list_pair 128) e.job list_words t
-            (subst (λ u. AllDone pack u (lists 128) t) e.is last.2) in
+        (subst (λ u. AllDone pack u (lists 128) t) e.is last.2) in
         let v = f.version in
         let size : slice_index core (file_words + 3) ≡ size_word (length v.file.body) =
-            spared e.job.core list_words (list_pair 128) (file_words + 3) (inl (omega arith))
-            ∙ e.kept (file_words + 3) (inl (omega arith))
-            ∙ spared f.job.core open_words (dump_mode ∷ disk ∷ 0 ∷ []) (file_words + 3) (inr (omega arith)) ∙ f.size in
+        spared e.job.core list_words (list_pair 128) (file_words + 3) (inl (omega arith))
+        ∙ e.kept (file_words + 3) (inl (omega arith))
+        ∙ spared f.job.core open_words (dump_mode ∷ disk ∷ 0 ∷ []) (file_words + 3) (inr (omega arith)) ∙ f.size in
         let fits : length v.file.body ≤ longest = short (place_of me from) v f.there in
         let examined = told pack s j0 there moment j (file_words + 3)
-            (λ size. copies_body moment (blocks_said size) size closing) said new (let l = is.core in omega arith)
-            (subst (λ u. Comes pack (Serving u) rests said new) to_j rest) in
+        (λ size. copies_body moment (blocks_said size) size closing) said new (let l = is.core in omega arith)
+        (subst (λ u. Comes pack (Serving u) rests said new) to_j rest) in
         let sized = subst (λ n. Comes pack (Serving (at s j)) (copies_body moment (blocks_said n) n closing) said new) size
-            examined in
+        examined in
         ⊎_elim inr (λ (j', done, more). finished v f.there e.kind e.directory j' done more)
         (body_copied pack s j0 there moment me (place_of me from) v (place_of me to) e.kind
         (made s.files (place_of me to) dump_mode moment []) closing said new j is

@@ -1,24 +1,21 @@
 -- A body that job 1 copies from channel 1 to channel 2: whole blocks, and the words of the last.
-use Rattle.std.proofs.Common.{◌≡◌, ◌≢◌, ◌⊎◌, inl, inr, ⊎_elim, ℕ, zero, suc, ◌+◌, ◌-◌, ◌*◌, ◌/◌, ◌%◌, ◌^◌, ◌<◌, ◌≤◌, Bool}
-use Rattle.std.proofs.Common.{true, false, if◌then◌else◌, List, [], ◌∷◌, ◌++◌, length, take, drop, min, Option, Some, None}
-use Rattle.std.proofs.Common.{refl, sym, ap, subst, ◌∙◌, arith}
-use Rattle.std.specs.Prelude.{slice_index, nat_le}
-use Rattle.std.proofs.lemmas.List.{length-take, length-drop, take_all}
+use Rattle.std.proofs.Common.{◌≡◌, inl, ℕ, ◌+◌, ◌*◌, ◌<◌, ◌≤◌}
+use Rattle.std.proofs.Common.{List, [], ◌∷◌, ◌++◌, length, take, drop, min, Some}
+use Rattle.std.proofs.Common.{sym, ap, subst, ◌∙◌, arith}
+use Rattle.std.proofs.lemmas.List.{length-take, length-drop}
 use Rattle.words36.specs.declared.moment.Moment.{Moment}
-use Rattle.meaning.specs.Files.{Files, File, Place}
+use Rattle.meaning.specs.Files.{File, Place}
 use Rattle.meaning.specs.Published.{Version}
 use Rattle.meaning.specs.Costs.{blocks_of}
 use Rattle.meaning.specs.Splices.{splice, block_start, words_from}
 use Rattle.meaning.specs.Cores.{placed}
 use Rattle.meaning.specs.CommandLists.{word_count}
-use Rattle.meaning.specs.Jobs.{Channel, Job, State, Output, Kind, job_at, channel_at}
+use Rattle.meaning.specs.Jobs.{Job, State, Kind, job_at, channel_at}
 use Rattle.meaning.specs.Room.{Pack}
-use Rattle.meaning.specs.Runs.{Service, Serving, Steps}
-use Rattle.meaning.specs.Texts.{Spoken}
-use Rattle.meaning.specs.Plans.{Plan, each, copies_blocks, takes, puts, list_words, block_address}
-use Rattle.meaning.specs.Copies.{Comes, IsRefused}
+use Rattle.meaning.specs.Runs.{Steps}
+use Rattle.meaning.specs.Plans.{takes, puts, list_words, block_address}
 use Rattle.meaning.specs.declared.call.Reply.TheVariants.{Done}
-use Rattle.meaning.proofs.PlanRuns.{AllDone, each_done}
+use Rattle.meaning.proofs.PlanRuns.{AllDone}
 use Rattle.meaning.proofs.CoreWrites.{length-writes, spared, window, written}
 use Rattle.meaning.proofs.CallRuns.{at, IsJob, with_core}
 use Rattle.meaning.proofs.OpenRuns.{reading, writing, with_open, at_own, at_other, job_core, job_open}
@@ -51,7 +48,7 @@ pub one_block : (core : List ℕ) (count : ℕ) (ahead : List ℕ) → 0 < count
 one_block core count ahead some few there =
     let e : word_count (part count ∷ []) ≡ count = omega arith in
     let m : min (word_count (part count ∷ [])) (length ahead) ≡ count = ap (λ w. min w (length ahead)) e ∙ least count
-        (length ahead) there in
+    (length ahead) there in
     ap blocks_of m ∙ one count some few
   where
     least : (a b : ℕ) → a ≤ b → min a b ≡ a
@@ -73,37 +70,47 @@ module _ (pack : Pack) (s : State) (j0 : Job) (there : job_at s 1 ≡ Some j0) (
       let ahead = words_from body (k + 1) in
       let begin = start_is k in
       let long : count ≤ length ahead = omega (arith, length-drop (block_start (k + 1)) body) in
-      let next : k + 1 + blocks_of (moved j.core count ahead) ≡ k + 2 = omega (arith, one_block j.core count ahead some
-          few long) in
+      let next : k + 1 + blocks_of (moved j.core count ahead) ≡ k + 2 = omega (
+        arith,
+        one_block j.core count ahead some
+            few long,
+      ) in
       let core = taken j.core count ahead in
       let c1 = with_core j core in
       let is1 : IsJob me c1 = job_core me j core is.whole
-          (length-writes j.core (placed block_address (take count ahead))) in
+      (length-writes j.core (placed block_address (take count ahead))) in
       let j1 = with_open c1 1 (reading from v (k + 2)) in
       let first : u ≡ at s j1 = takes_done pack s j0 there moment me j from v (k + 1) count u is.whole is.first some few
-          lists taking ∙ ap (λ n. at s (with_open c1 1 (reading from v n))) next in
+      lists taking ∙ ap (λ n. at s (with_open c1 1 (reading from v n))) next in
       let is2 : IsJob me j1 = job_open me c1 1 (reading from v (k + 2)) is1 in
       let o = side to kind (with_body file (take (k * 128) body)) (k + 1) in
       let out : channel_at j1 2 ≡ Some (writing o) = at_other c1 1 2 (reading from v (k + 2)) (λ e. cc) ∙ is.second in
       let second = puts_done pack s j0 there moment me j1 o count w is2 out some few (kept_lists j.core count ahead count
-          lists) (subst (λ x. Steps pack x (puts moment) Done w) first putting) in
+      lists) (subst (λ x. Steps pack x (puts moment) Done w) first putting) in
       let words : window core block_address count ≡ take count ahead = written j.core block_address count
-          (take count ahead) (omega (arith, length-take count ahead)) (let l = is.whole.core in omega arith) in
-      let long' : length (window core block_address count) ≡ count = ap length words ∙ omega (arith, length-take count
-          ahead) in
+      (take count ahead) (omega (arith, length-take count ahead)) (let l = is.whole.core in omega arith) in
+      let long' : length (window core block_address count) ≡ count = ap length words ∙ omega (
+        arith,
+        length-take count
+            ahead,
+      ) in
       let after : o.next + blocks_of (length (window core block_address count)) ≡ k + 2 =
-          ap (λ n. k + 1 + blocks_of n) long' ∙ two count some few in
+      ap (λ n. k + 1 + blocks_of n) long' ∙ two count some few in
       let body' : splice (take (k * 128) body) (k + 1) (window core block_address count) ≡ take (k * 128 + count) body =
-          ap (splice (take (k * 128) body) (k + 1)) words
-          ∙ put_at_end (take (k * 128) body) (k + 1) (take count ahead) (omega (arith, length-take (k * 128) body))
-          ∙ ap (λ n. take (k * 128) body ++ take count (drop n body)) begin
-          ∙ sym (take_more (k * 128) count body) in
+      ap (splice (take (k * 128) body) (k + 1)) words
+      ∙ put_at_end (take (k * 128) body) (k + 1) (take count ahead) (omega (arith, length-take (k * 128) body))
+      ∙ ap (λ n. take (k * 128) body ++ take count (drop n body)) begin
+      ∙ sym (take_more (k * 128) count body) in
       let o' = side to kind (with_body file (take (k * 128 + count) body)) (k + 2) in
-      let j2 = with_open j1 2 (writing o') in
-      (j2, same ∙ second ∙ ap {A = List ℕ × ℕ} (λ b. at s (with_open j1 2 (writing (side to kind (with_body file b.0) b.1))))
-      (λ i. (body' i, after i)), job_open me j1 2 (writing o') is2,
-      at_other j1 2 1 (writing o') (λ e. cc) ∙ at_own c1 me 1 (reading from v (k + 2)) is1 (omega arith),
-      at_own j1 me 2 (writing o') is2 (omega arith), kept_lists j.core count ahead count lists)
+      let j2 = with_open j1 2 (writing o') in (
+        j2,
+        same ∙ second ∙ ap {A = List ℕ × ℕ} (λ b. at s (with_open j1 2 (writing (side to kind (with_body file b.0) b.1))))
+            (λ i. (body' i, after i)),
+        job_open me j1 2 (writing o') is2,
+        at_other j1 2 1 (writing o') (λ e. cc) ∙ at_own c1 me 1 (reading from v (k + 2)) is1 (omega arith),
+        at_own j1 me 2 (writing o') is2 (omega arith),
+        kept_lists j.core count ahead count lists,
+      )
     where
       two : (n : ℕ) → 0 < n → n ≤ 128 → k + 1 + blocks_of n ≡ k + 2
       two n some few = grind arith

@@ -1,9 +1,8 @@
 -- The file that job 1 enters on channel 2, and the command list of its block.
-use Rattle.std.proofs.Common.{◌≡◌, ◌≢◌, ◌⊎◌, inl, inr, ℕ, zero, suc, ◌+◌, ◌-◌, ◌*◌, ◌/◌, ◌%◌, ◌^◌, ◌<◌, ◌≤◌, ◌||◌, Bool}
+use Rattle.std.proofs.Common.{◌≡◌, ◌⊎◌, inl, inr, ℕ, suc, ◌+◌, ◌-◌, ◌*◌, ◌%◌, ◌^◌, ◌<◌, ◌≤◌, Bool}
 use Rattle.std.proofs.Common.{true, false, if◌then◌else◌, List, [], ◌∷◌, ◌++◌, length, Option, Some, None, option_map, refl}
-use Rattle.std.proofs.Common.{sym, ap, subst, ◌∙◌, arith, ⊎_elim, append_assoc}
-use Rattle.std.specs.Prelude.{nat_lt, nat_le, not, is_none, slice_index, slice_set, unwrap_or, ◌==◌}
-use Rattle.std.proofs.Math.ListN.{length-set}
+use Rattle.std.proofs.Common.{ap, subst, ◌∙◌, arith, ⊎_elim, append_assoc}
+use Rattle.std.specs.Prelude.{nat_lt, nat_le, is_none, slice_index, unwrap_or, ◌==◌}
 use Rattle.std.proofs.lemmas.Bool.Decides.{nat_tests}
 use Rattle.words36.specs.Words.{left, right, join}
 use Rattle.words36.specs.declared.moment.Moment.{Moment}
@@ -11,29 +10,26 @@ use Rattle.meaning.specs.Maps.{get}
 use Rattle.meaning.specs.Files.{Files, File, Place}
 use Rattle.meaning.specs.Published.{Version, file_at, attributes}
 use Rattle.meaning.specs.Cores.{after_writes, placed, lies_outside}
-use Rattle.meaning.specs.Jobs.{Channel, Job, State, Input, Output, Kind, Create, Supersede, job_at, channel_at}
-use Rattle.meaning.specs.Jobs.{with_job, with_channel}
+use Rattle.meaning.specs.Jobs.{Channel, Job, State, Output, Kind, Create, Supersede, job_at, channel_at}
 use Rattle.meaning.specs.Room.{Pack}
 use Rattle.meaning.specs.Runs.{Steps}
 use Rattle.meaning.specs.Outcomes.{clean, refused_at}
 use Rattle.meaning.specs.Opening.{disk, dump_mode}
 use Rattle.meaning.specs.Looking.{place_at, has_no_directory, digit_at, high_date}
-use Rattle.meaning.specs.Entering.{enter_answer, enter_done, entered, output_opened, protection_or}
+use Rattle.meaning.specs.Entering.{enter_answer, enter_done, entered, output_opened}
 use Rattle.meaning.specs.CommandLists.{dump_list, areas_from, area_of, next_command, limited, word_count}
 use Rattle.meaning.specs.declared.area.Area.{Area}
-use Rattle.meaning.specs.Step.{of_job, call_of}
-use Rattle.meaning.specs.Plans.{calls, deposits, opens, names, writes, lists, new_words, file_words, list_words}
+use Rattle.meaning.specs.Plans.{calls, opens, names, writes, new_words, list_words}
 use Rattle.meaning.specs.Plans.{block_address, open_words}
 use Rattle.meaning.specs.Copies.{place_of, IsSpec, made}
 use Rattle.meaning.specs.declared.command.Spec.{Spec}
-use Rattle.meaning.specs.declared.call.Call.TheVariants.{Open, Enter}
-use Rattle.meaning.specs.declared.call.Reply.{Reply}
-use Rattle.meaning.specs.declared.call.Reply.TheVariants.{Done, NoChannel, AddressCheck, Refused}
+use Rattle.meaning.specs.declared.call.Call.TheVariants.{Enter}
+use Rattle.meaning.specs.declared.call.Reply.TheVariants.{Done, AddressCheck, Refused}
 use Rattle.meaning.proofs.PlanRuns.{AllDone, split_done}
 use Rattle.meaning.proofs.CoreWrites.{length-writes, found, spared}
-use Rattle.meaning.proofs.CallRuns.{at, IsJob, with_core, slot_set, passed_test, or_false, call_done, on_open, row_done}
+use Rattle.meaning.proofs.CallRuns.{at, IsJob, with_core, passed_test, call_done, on_open, row_done}
 use Rattle.meaning.proofs.CallRuns.{deposits_done}
-use Rattle.meaning.proofs.OpenRuns.{open_channel, writing, with_open, at_own, at_other, job_core, job_open, opening}
+use Rattle.meaning.proofs.OpenRuns.{open_channel, with_open, at_own, at_other, job_core, job_open, opening}
 use Rattle.meaning.proofs.OpenRuns.{opens_done, naming, place_named, attributing}
 
 -- The output side of a file that is new, or supersedes one.
@@ -83,30 +79,30 @@ module _ (pack : Pack) (s : State) (j0 : Job) (there : job_at s 1 ≡ Some j0) (
       let ws : List ℕ = spec.name.name ∷ join spec.name.ext 0 ∷ 0 * 2 ^ 27 ∷ unwrap_or spec.owner 0 ∷ [] in
       let j2 = naming j new_words spec in
       let is2 : IsJob me j2 = job_core me j (after_writes j.core (placed new_words ws)) is
-          (length-writes j.core (placed new_words ws)) in
+      (length-writes j.core (placed new_words ws)) in
       let second = deposits_done pack s j0 there ws j new_words last.0 last.1 in
       let call = call_done pack s j0 there j2 (Enter 2 new_words) moment last.2.0
-          (subst (λ u. Steps pack u (calls moment (Enter 2 new_words)) Done last.2.0) second last.2.1) in
+      (subst (λ u. Steps pack u (calls moment (Enter 2 new_words)) Done last.2.0) second last.2.1) in
       let row = row_done pack s j0 there j2
-          (enter_answer pack (at s j2) j2 (idle c) new_words (place_at j2 new_words))
-          (enter_done pack (at s j2) j2 2 (idle c) new_words moment (place_at j2 new_words))
-          (refused_at j2 new_words) last.2.0 (on_open pack s j0 there j2 2 (idle c) _ last.2.0 idle2 call.1) in
+      (enter_answer pack (at s j2) j2 (idle c) new_words (place_at j2 new_words))
+      (enter_done pack (at s j2) j2 2 (idle c) new_words moment (place_at j2 new_words))
+      (refused_at j2 new_words) last.2.0 (on_open pack s j0 there j2 2 (idle c) _ last.2.0 idle2 call.1) in
       let place = place_named me j new_words spec is few (omega arith) in
       let here = place_of me spec in
       let none : slice_index j2.core (new_words + 2) ≡ 0 = found j.core new_words ws 2 (omega arith)
-          (let l = is.core in omega arith) in
+      (let l = is.core in omega arith) in
       let o = output_is s.files j2 (idle c) new_words moment here (digit_at (at s j2) j2 here) (file_at s.files here) refl
-          none in
+      none in
       let out = side here o.0 (made s.files here c.mode moment []) 1 in
       let core = after_writes j2.core (attributing pack j2.core new_words out.pending) in
       let is3 : IsJob me (with_core j2 core) = job_core me j2 core is2
-          (length-writes j2.core (attributing pack j2.core new_words out.pending)) in
+      (length-writes j2.core (attributing pack j2.core new_words out.pending)) in
       let j3 = with_open (with_core j2 core) 2 (outputs c out) in
       let ends : last.2.0 ≡ at s j3 = row.1
-          ∙ ap (λ p. at s (enter_done pack (at s j2) j2 2 (idle c) new_words moment p)) place
-          ∙ ap (λ o. at s (entered pack j2 2 (idle c) new_words None o)) o.1 in
+      ∙ ap (λ p. at s (enter_done pack (at s j2) j2 2 (idle c) new_words moment p)) place
+      ∙ ap (λ o. at s (entered pack j2 2 (idle c) new_words None o)) o.1 in
       let directory = has_directory pack (at s j2) j2 (idle c) new_words here
-          (subst (λ p. enter_answer pack (at s j2) j2 (idle c) new_words p ≡ Done) place row.0) in
+      (subst (λ p. enter_answer pack (at s j2) j2 (idle c) new_words p ≡ Done) place row.0) in
       record {
         job = j3;
         is = last.2.2 ∙ ends;
@@ -128,11 +124,11 @@ module _ (pack : Pack) (s : State) (j0 : Job) (there : job_at s 1 ≡ Some j0) (
       → Entered s me moment spec open_channel (with_open (with_core j (opening j)) 2 open_channel) t
   writes_done me j spec t is few all =
       let both = split_done pack (at s j) (opens moment 2) (names new_words spec 0 ++ calls moment (Enter 2 new_words)
-          ∷ []) t (subst (λ es. AllDone pack (at s j) es t) (append_assoc (opens moment 2) (names new_words spec 0)
-          (calls moment (Enter 2 new_words) ∷ [])) all) in
+      ∷ []) t (subst (λ es. AllDone pack (at s j) es t) (append_assoc (opens moment 2) (names new_words spec 0)
+      (calls moment (Enter 2 new_words) ∷ [])) all) in
       let c0 = with_core j (opening j) in
       let is0 : IsJob me c0 = job_core me j (opening j) is
-          (length-writes j.core (placed open_words (dump_mode ∷ disk ∷ 0 ∷ []))) in
+      (length-writes j.core (placed open_words (dump_mode ∷ disk ∷ 0 ∷ []))) in
       let j1 = with_open c0 2 open_channel in
       let is1 : IsJob me j1 = job_open me c0 2 open_channel is0 in
       let first = opens_done pack s j0 there moment me j 2 both.0 is both.1 in
@@ -188,9 +184,9 @@ one_area core more address count some few l e f there =
     let command = slice_index core address in
     let whole : (2 ^ 18 - count) % 2 ^ 18 ≡ 2 ^ 18 - count = grind arith in
     let high : left command ≡ 2 ^ 18 - count = ap left (e ∙ ap (λ h. join h (block_address - 1)) whole)
-        ∙ half (2 ^ 18 - count) in
+    ∙ half (2 ^ 18 - count) in
     let low : right command ≡ block_address - 1 = ap right (e ∙ ap (λ h. join h (block_address - 1)) whole)
-        ∙ other_half (2 ^ 18 - count) in
+    ∙ other_half (2 ^ 18 - count) in
     let area : area_of command ≡ part count = areas (left command) (right command) count high low (omega arith) in
     let inside : nat_le (length core) address ≡ false = grind (arith, nat_tests) in
     let more_words : (left command == 0) ≡ false = not_zero (left command) (omega arith) in

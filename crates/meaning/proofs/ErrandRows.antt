@@ -1,5 +1,5 @@
 -- Files that are put and got, computed: what is asked, played on the machine.
-use Rattle.std.proofs.Common.{◌≡◌, ℕ, ◌+◌, List, [], ◌∷◌, ◌++◌, replicate, Some, None, refl}
+use Rattle.std.proofs.Common.{◌≡◌, ℕ, List, [], ◌∷◌, ◌++◌, replicate, Some, None, refl}
 use Rattle.std.specs.Prelude.{codes}
 use Rattle.words36.specs.Ascii.{packed}
 use Rattle.meaning.specs.Maps.{get, insert, remove, empty, entries, size}

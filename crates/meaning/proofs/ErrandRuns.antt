@@ -1,28 +1,25 @@
 -- Errands of job 1, which logs in for them: a file that is put has the words that were read, and one that is got is
 -- printed whole.
-use Rattle.std.proofs.Common.{◌≡◌, ◌⊎◌, inl, inr, ⊎_elim, ℕ, ◌+◌, ◌*◌, ◌<◌, ◌≤◌, List, [], ◌∷◌, ◌++◌, length, replicate}
-use Rattle.std.proofs.Common.{Option, Some, None, refl, sym, ap, subst, ◌∙◌, arith}
-use Rattle.std.specs.Prelude.{slice_index, is_none}
+use Rattle.std.proofs.Common.{◌≡◌, ◌⊎◌, inl, inr, ⊎_elim, ℕ, ◌+◌, ◌<◌, List, [], ◌∷◌, ◌++◌, length, replicate}
+use Rattle.std.proofs.Common.{Some, refl, sym, ap, subst, ◌∙◌, arith}
+use Rattle.std.specs.Prelude.{slice_index}
 use Rattle.std.specs.List.{AllByRecursion}
 use Rattle.std.proofs.Math.ListN.{length-set}
 use Rattle.std.proofs.lemmas.List.{get_or-set_same, length-replicate}
 use Rattle.words36.specs.declared.moment.Moment.{Moment}
-use Rattle.meaning.specs.Maps.{get}
-use Rattle.meaning.specs.Files.{Files, File}
+use Rattle.meaning.specs.Files.{File}
 use Rattle.meaning.specs.Costs.{blocks_of}
 use Rattle.meaning.specs.Cores.{first_free, rings_begin}
-use Rattle.meaning.specs.Jobs.{Channel, Job, State, Kind, job_at, channel_at, with_job}
-use Rattle.meaning.specs.Closing.{last_buffer}
-use Rattle.meaning.specs.Opening.{dump_mode}
+use Rattle.meaning.specs.Jobs.{Job, State, job_at, with_job}
 use Rattle.meaning.specs.Sessions.{login_answer, new_job}
 use Rattle.meaning.specs.Room.{Pack}
 use Rattle.meaning.specs.Runs.{Service, Serving, Steps}
 use Rattle.meaning.specs.Texts.{Spoken}
 use Rattle.meaning.specs.Transcripts.{core_words}
-use Rattle.meaning.specs.Plans.{Plan, Ask, each, if_done, calls, ends, ok, names, puts, reads, writes, new_words}
+use Rattle.meaning.specs.Plans.{Plan, each, calls, ends, ok, names, puts, reads, new_words}
 use Rattle.meaning.specs.Plans.{deposits, open_words}
-use Rattle.meaning.specs.Errands.{enters, creates, fills_all, fills_parts, keeps, gets, header_words}
-use Rattle.meaning.specs.Copies.{Comes, IsReady, IsRefused, IsSpec, AreShort, IsShown, IsPut, IsMade, place_of, made}
+use Rattle.meaning.specs.Errands.{enters, creates, fills_all, keeps, gets}
+use Rattle.meaning.specs.Copies.{Comes, IsReady, IsRefused, IsSpec, AreShort, IsShown, IsPut, place_of, made}
 use Rattle.meaning.specs.Copies.{put_mode}
 use Rattle.meaning.specs.declared.command.Spec.{Spec}
 use Rattle.meaning.specs.declared.encoding.Encoding.{Encoding}
@@ -34,14 +31,14 @@ use Rattle.meaning.specs.declared.call.Reply.TheVariants.{Done}
 use Rattle.meaning.proofs.SlotLaws.{all_append}
 use Rattle.meaning.proofs.PlanRuns.{AllDone, IsQuiet, one_done, each_done}
 use Rattle.meaning.proofs.CallRuns.{at, IsJob, slot_set, settled_done}
-use Rattle.meaning.proofs.EnterRuns.{outputs, side}
+use Rattle.meaning.proofs.EnterRuns.{side}
 use Rattle.meaning.proofs.OpenRuns.{open_channel}
 use Rattle.meaning.proofs.CopyRuns.{with_body}
 use Rattle.meaning.proofs.CopyLaws.{closes_done, at_home, quiet_writes}
-use Rattle.meaning.proofs.FillLaws.{PartsAreDone, PutsWords, parts_done, words_done}
+use Rattle.meaning.proofs.FillLaws.{PutsWords, parts_done, words_done}
 use Rattle.meaning.proofs.RingRuns.{no_last}
 use Rattle.meaning.proofs.SizeRuns.{quiet_deposits}
-use Rattle.meaning.proofs.PutRuns.{PutsCharacters, Begins, ring_channel, opening_words, characters_done, words_begun}
+use Rattle.meaning.proofs.PutRuns.{PutsCharacters, ring_channel, opening_words, characters_done, words_begun}
 use Rattle.meaning.proofs.PutRuns.{characters_begun}
 use Rattle.meaning.proofs.ReadLaws.{reads_are_exact}
 
@@ -102,7 +99,7 @@ gets_are_exact pack moment me s encoding spec said new there few short come = �
 quiet_creates : (moment : Moment) (encoding : Encoding) (spec : Spec) → AllByRecursion IsQuiet (creates moment encoding spec)
 quiet_creates moment Characters spec =
     let rest : List Event = calls moment (Open 2 open_words) ∷ (names new_words spec 0
-        ++ calls moment (Enter 2 new_words) ∷ calls moment (Outbuf 2 1) ∷ puts moment ∷ []) in
+    ++ calls moment (Enter 2 new_words) ∷ calls moment (Outbuf 2 1) ∷ puts moment ∷ []) in
     let quiet : AllByRecursion IsQuiet rest = (tt, (tt, (tt, (tt, (tt, (tt, (tt, (tt, tt)))))))) in
     all_append IsQuiet (deposits open_words opening_words) rest (quiet_deposits opening_words open_words) quiet
 quiet_creates moment Words spec = quiet_writes moment spec
@@ -152,7 +149,7 @@ puts_are_exact pack moment me s encoding spec words said new there few come = �
         (subst (λ u. Comes pack (Serving u) (filling Words) said new) b.2 rest))
     by Characters t all rest =
         let b = characters_begun pack base j0 there0 moment me j0 spec t (is_job me) few (ring_base me)
-            (home Characters t all) in
+        (home Characters t all) in
         ⊎_elim inr (λ (n, j', is, more). closes_done pack base j0 there0 moment ring_channel
         (side (place_of me spec) b.1 (with_body (here Characters) words) (n + 1)) said new j' is.second
         (no_last j'.core is.whole.core is.ring) b.4 more)

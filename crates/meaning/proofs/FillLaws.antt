@@ -1,33 +1,30 @@
 -- A file that is put, part by part, and published.
-use Rattle.std.proofs.Common.{◌≡◌, ◌≢◌, ◌⊎◌, inl, inr, ⊎_elim, ℕ, zero, suc, ◌+◌, ◌-◌, ◌*◌, ◌/◌, ◌^◌, ◌<◌, ◌≤◌, List, []}
-use Rattle.std.proofs.Common.{◌∷◌, ◌++◌, length, take, drop, Option, Some, None, refl, sym, ap, subst, ◌∙◌, arith, append-nil}
+use Rattle.std.proofs.Common.{◌≡◌, ◌⊎◌, inl, inr, ⊎_elim, ℕ, zero, suc, ◌+◌, ◌-◌, ◌*◌, ◌<◌, ◌≤◌, List, []}
+use Rattle.std.proofs.Common.{◌∷◌, ◌++◌, length, take, drop, Some, refl, sym, ap, subst, ◌∙◌, arith, append-nil}
 use Rattle.std.proofs.Common.{append_assoc}
-use Rattle.std.specs.Prelude.{slice_index, is_none}
 use Rattle.std.specs.List.{AllByRecursion}
 use Rattle.std.proofs.lemmas.List.{length-take, length-drop, length-append, take-append-drop}
 use Rattle.words36.specs.declared.moment.Moment.{Moment}
-use Rattle.meaning.specs.Files.{Files, File, Place}
-use Rattle.meaning.specs.Published.{Version}
+use Rattle.meaning.specs.Files.{File, Place}
 use Rattle.meaning.specs.Costs.{blocks_of}
-use Rattle.meaning.specs.Splices.{splice, block_start}
+use Rattle.meaning.specs.Splices.{splice}
 use Rattle.meaning.specs.Cores.{after_writes, placed}
-use Rattle.meaning.specs.Jobs.{Channel, Job, State, Output, Kind, job_at, channel_at}
+use Rattle.meaning.specs.Jobs.{Job, State, Kind, job_at, channel_at}
 use Rattle.meaning.specs.Room.{Pack}
 use Rattle.meaning.specs.Runs.{Service, Serving, Steps}
 use Rattle.meaning.specs.Texts.{Spoken}
-use Rattle.meaning.specs.Plans.{Plan, each, lists, puts, deposits, list_words, block_address}
+use Rattle.meaning.specs.Plans.{Plan, lists, puts, deposits, list_words, block_address}
 use Rattle.meaning.specs.Errands.{fills, fills_parts, part_address}
 use Rattle.meaning.specs.Copies.{Comes, IsRefused}
 use Rattle.meaning.specs.declared.encoding.Encoding.{Encoding}
 use Rattle.meaning.specs.declared.encoding.Encoding.TheVariants.{Characters, Words}
-use Rattle.meaning.specs.declared.call.Event.{Event}
 use Rattle.meaning.specs.declared.call.Reply.TheVariants.{Done}
 use Rattle.meaning.proofs.SlotLaws.{all_append}
 use Rattle.meaning.proofs.PlanRuns.{AllDone, IsQuiet, each_done, split_done}
 use Rattle.meaning.proofs.CoreWrites.{length-writes, window, written, passed}
 use Rattle.meaning.proofs.CallRuns.{at, IsJob, with_core, deposits_done}
 use Rattle.meaning.proofs.OpenRuns.{writing, with_open, at_own, job_core, job_open}
-use Rattle.meaning.proofs.EnterRuns.{side, Lists, list_pair, listing}
+use Rattle.meaning.proofs.EnterRuns.{side, list_pair, listing}
 use Rattle.meaning.proofs.BlockRuns.{put_at_end, puts_done}
 use Rattle.meaning.proofs.CopyRuns.{with_body, start_is}
 use Rattle.meaning.proofs.SizeRuns.{quiet_deposits}
@@ -106,22 +103,21 @@ module _ (pack : Pack) (s : State) (j0 : Job) (there : job_at s 1 ≡ Some j0) (
       let j2 = with_core j1 core2 in
       let is2 : IsJob me j2 = job_core me j1 core2 is1 (length-writes core1 (placed list_words (list_pair count))) in
       let to2 = deposits_done pack s j0 there (list_pair count) j1 list_words both.0
-          (subst (λ u. AllDone pack u (lists count) both.0) to1 both.1) in
+      (subst (λ u. AllDone pack u (lists count) both.0) to1 both.1) in
       let o = side to kind (with_body file done) (k + 1) in
       let to3 = puts_done pack s j0 there moment me j2 o count both.2.0 is2 is.second some few
-          (listing core1 count is1.core) (subst (λ u. Steps pack u (puts moment) Done both.2.0) to2 both.2.1) in
+      (listing core1 count is1.core) (subst (λ u. Steps pack u (puts moment) Done both.2.0) to2 both.2.1) in
       let words : window core2 block_address count ≡ part =
-          ap (take count) (passed core1 list_words block_address (list_pair count) (omega arith))
-          ∙ written j.core block_address count part refl (let l = is.whole.core in omega arith) in
+      ap (take count) (passed core1 list_words block_address (list_pair count) (omega arith))
+      ∙ written j.core block_address count part refl (let l = is.whole.core in omega arith) in
       let after : k + 1 + blocks_of (length (window core2 block_address count)) ≡ k + 1 + 1 =
-          ap (λ ws. k + 1 + blocks_of (length ws)) words ∙ two count some few in
+      ap (λ ws. k + 1 + blocks_of (length ws)) words ∙ two count some few in
       let body : splice done (k + 1) (window core2 block_address count) ≡ done ++ part =
-          ap (splice done (k + 1)) words ∙ put_at_end done (k + 1) part (start_is k ∙ sym long) in
-      let o' = side to kind (with_body file (done ++ part)) (k + 1 + 1) in
-      (
+      ap (splice done (k + 1)) words ∙ put_at_end done (k + 1) part (start_is k ∙ sym long) in
+      let o' = side to kind (with_body file (done ++ part)) (k + 1 + 1) in (
         with_open j2 2 (writing o'),
         both.2.2 ∙ to3 ∙ ap {A = List ℕ × ℕ}
-        (λ b. at s (with_open j2 2 (writing (side to kind (with_body file b.0) b.1)))) (λ i. (body i, after i)),
+            (λ b. at s (with_open j2 2 (writing (side to kind (with_body file b.0) b.1)))) (λ i. (body i, after i)),
         record {
           whole = job_open me j2 2 (writing o') is2;
           second = at_own j2 me 2 (writing o') is2 (omega arith);

@@ -1,29 +1,23 @@
 -- Channels that job 1 opens in dump mode, the file that it finds on channel 1, and the one that it enters on channel 2.
-use Rattle.std.proofs.Common.{◌≡◌, ◌≢◌, ◌⊎◌, inl, inr, ℕ, zero, suc, ◌+◌, ◌-◌, ◌*◌, ◌/◌, ◌%◌, ◌^◌, ◌<◌, ◌≤◌, ◌||◌, Bool}
+use Rattle.std.proofs.Common.{◌≡◌, ◌≢◌, ℕ, ◌+◌, ◌*◌, ◌^◌, ◌<◌, ◌≤◌, ◌||◌, Bool}
 use Rattle.std.proofs.Common.{true, false, if◌then◌else◌, List, [], ◌∷◌, ◌++◌, length, Option, Some, None, refl}
 use Rattle.std.proofs.Common.{sym, ap, subst, ◌∙◌, arith}
-use Rattle.std.specs.Prelude.{nat_lt, nat_le, not, is_none, slice_index, slice_set, unwrap_or, ◌==◌}
+use Rattle.std.specs.Prelude.{nat_le, is_none, slice_index, unwrap_or, ◌==◌}
 use Rattle.std.proofs.Math.ListN.{length-set}
 use Rattle.std.proofs.lemmas.List.{get_or-set_same}
-use Rattle.words36.specs.Words.{left, right, join}
+use Rattle.words36.specs.Words.{left, join}
 use Rattle.words36.specs.declared.moment.Moment.{Moment}
-use Rattle.words36.specs.declared.names.FileName.{FileName}
-use Rattle.meaning.specs.Maps.{get}
-use Rattle.meaning.specs.Files.{Files, File, Place}
+use Rattle.meaning.specs.Files.{File, Place}
 use Rattle.meaning.specs.Published.{Version, file_at, attributes}
 use Rattle.meaning.specs.Cores.{after_writes, placed, lies_outside}
-use Rattle.meaning.specs.Jobs.{Channel, Job, State, Input, Output, Kind, job_at, channel_at, with_job, with_channel}
-use Rattle.meaning.specs.Jobs.{cleared}
+use Rattle.meaning.specs.Jobs.{Channel, Job, State, Output, job_at, channel_at, with_channel}
 use Rattle.meaning.specs.Room.{Pack}
 use Rattle.meaning.specs.Runs.{Steps}
 use Rattle.meaning.specs.Outcomes.{refused_at}
-use Rattle.meaning.specs.Opening.{disk, dump_mode, open_answer, open_done, core_opened, channel_opened, mode_at}
-use Rattle.meaning.specs.Opening.{output_header_at, input_header_at}
-use Rattle.meaning.specs.Rings.{is_buffered}
-use Rattle.meaning.specs.Looking.{place_at, own_if_zero, has_no_directory, is_absent, directory_digit_at, digit_at}
+use Rattle.meaning.specs.Opening.{disk, dump_mode, open_answer, open_done, core_opened, channel_opened}
+use Rattle.meaning.specs.Looking.{place_at, own_if_zero, has_no_directory, is_absent}
 use Rattle.meaning.specs.Looking.{lookup_answer, lookup_done, looked_up, with_attributes, size_word, high_date}
-use Rattle.meaning.specs.Rights.{may_look, may_read}
-use Rattle.meaning.specs.Step.{of_job, open_on, call_of}
+use Rattle.meaning.specs.Step.{of_job}
 use Rattle.meaning.specs.Plans.{calls, deposits, opens, names, finds, open_words, file_words}
 use Rattle.meaning.specs.Copies.{place_of, IsSpec}
 use Rattle.meaning.specs.declared.command.Spec.{Spec}
@@ -32,7 +26,7 @@ use Rattle.meaning.specs.declared.call.Reply.{Reply}
 use Rattle.meaning.specs.declared.call.Reply.TheVariants.{Done, NoChannel, AddressCheck, Refused}
 use Rattle.meaning.proofs.SlotLaws.{slot-set_other}
 use Rattle.meaning.proofs.PlanRuns.{AllDone, split_done}
-use Rattle.meaning.proofs.CoreWrites.{length-writes, found, spared}
+use Rattle.meaning.proofs.CoreWrites.{length-writes, found}
 use Rattle.meaning.proofs.CallRuns.{at, IsJob, with_core, slot_set, passed_test, or_false, call_done, on_open, row_done}
 use Rattle.meaning.proofs.CallRuns.{deposits_done}
 
@@ -96,17 +90,17 @@ module _ (pack : Pack) (s : State) (j0 : Job) (there : job_at s 1 ≡ Some j0) (
   opens_done me j ch t is all =
       let l = is.core in
       let parts = split_done pack (at s j) (deposits open_words (dump_mode ∷ disk ∷ 0 ∷ []))
-          (calls moment (Open ch open_words) ∷ []) t all in
+      (calls moment (Open ch open_words) ∷ []) t all in
       let j1 = with_core j (opening j) in
       let first = deposits_done pack s j0 there (dump_mode ∷ disk ∷ 0 ∷ []) j open_words parts.0 parts.1 in
       let call = call_done pack s j0 there j1 (Open ch open_words) moment parts.2.0
-          (subst (λ u. Steps pack u (calls moment (Open ch open_words)) Done parts.2.0) first parts.2.1) in
+      (subst (λ u. Steps pack u (calls moment (Open ch open_words)) Done parts.2.0) first parts.2.1) in
       let row = row_done pack s j0 there j1 (open_answer j1 ch open_words) (open_done j1 ch open_words) (λ reply. j1)
-          parts.2.0 (open_test (at s j1) (nat_le ch 15) _ parts.2.0 call.1) in
+      parts.2.0 (open_test (at s j1) (nat_le ch 15) _ parts.2.0 call.1) in
       let mode : slice_index (opening j) open_words ≡ dump_mode = found j.core open_words (dump_mode ∷ disk ∷ 0 ∷ []) 0
-          (omega arith) (omega arith) in
+      (omega arith) (omega arith) in
       let none : slice_index (opening j) (open_words + 2) ≡ 0 = found j.core open_words (dump_mode ∷ disk ∷ 0 ∷ []) 2
-          (omega arith) (omega arith) in
+      (omega arith) (omega arith) in
       parts.2.2 ∙ row.1 ∙ ap (λ core. at s (with_channel (with_core j core) ch
       (Some (channel_opened (opening j) open_words)))) (opened_core (opening j) open_words mode)
       ∙ ap (λ c. at s (with_channel j1 ch (Some c))) (opened_channel (opening j) open_words mode none)
@@ -132,7 +126,7 @@ place_named me j e spec is few fits =
     let ws : List ℕ = spec.name.name ∷ join spec.name.ext 0 ∷ 0 * 2 ^ 27 ∷ unwrap_or spec.owner 0 ∷ [] in
     let at : e + 0 ≡ e = omega arith in
     let first = ap (slice_index (after_writes j.core (placed e ws))) (sym at) ∙ found j.core e ws 0 (omega arith)
-        (omega arith) in
+    (omega arith) in
     named (naming j e spec) e (unwrap_or spec.owner 0) spec.name.name spec.name.ext me is.owner first
     (ap left (found j.core e ws 1 (omega arith) (omega arith)) ∙ left_join spec.name.ext few)
     (found j.core e ws 3 (omega arith) (omega arith))
@@ -186,34 +180,34 @@ module _ (pack : Pack) (s : State) (j0 : Job) (there : job_at s 1 ≡ Some j0) (
       → AllDone pack (at s j) (finds moment spec) t → Found s me spec j t
   finds_done me j spec t is few all =
       let last = split_done pack (at s j) (opens moment 1 ++ names file_words spec 0)
-          (calls moment (Lookup 1 file_words) ∷ []) t all in
+      (calls moment (Lookup 1 file_words) ∷ []) t all in
       let both = split_done pack (at s j) (opens moment 1) (names file_words spec 0) last.0 last.1 in
       let j1 = with_open (with_core j (opening j)) 1 open_channel in
       let is1 : IsJob me j1 = job_open me (with_core j (opening j)) 1 open_channel
-          (job_core me j (opening j) is (length-writes j.core (placed open_words (dump_mode ∷ disk ∷ 0 ∷ [])))) in
+      (job_core me j (opening j) is (length-writes j.core (placed open_words (dump_mode ∷ disk ∷ 0 ∷ [])))) in
       let first = opens_done pack s j0 there moment me j 1 both.0 is both.1 in
       let ws : List ℕ = spec.name.name ∷ join spec.name.ext 0 ∷ 0 * 2 ^ 27 ∷ unwrap_or spec.owner 0 ∷ [] in
       let j2 = naming j1 file_words spec in
       let is2 : IsJob me j2 = job_core me j1 (after_writes j1.core (placed file_words ws)) is1
-          (length-writes j1.core (placed file_words ws)) in
+      (length-writes j1.core (placed file_words ws)) in
       let second = deposits_done pack s j0 there ws j1 file_words last.0
-          (subst (λ u. AllDone pack u (names file_words spec 0) last.0) first both.2) in
+      (subst (λ u. AllDone pack u (names file_words spec 0) last.0) first both.2) in
       let call = call_done pack s j0 there j2 (Lookup 1 file_words) moment last.2.0
-          (subst (λ u. Steps pack u (calls moment (Lookup 1 file_words)) Done last.2.0) second last.2.1) in
+      (subst (λ u. Steps pack u (calls moment (Lookup 1 file_words)) Done last.2.0) second last.2.1) in
       let open1 : channel_at j2 1 ≡ Some open_channel = at_own (with_core j (opening j)) me 1 open_channel
-          (job_core me j (opening j) is (length-writes j.core (placed open_words (dump_mode ∷ disk ∷ 0 ∷ [])))) (omega arith) in
+      (job_core me j (opening j) is (length-writes j.core (placed open_words (dump_mode ∷ disk ∷ 0 ∷ [])))) (omega arith) in
       let row = row_done pack s j0 there j2
-          (lookup_answer (at s j2) j2 open_channel file_words (place_at j2 file_words))
-          (lookup_done pack (at s j2) j2 1 open_channel file_words (place_at j2 file_words)) (refused_at j2 file_words)
-          last.2.0 (on_open pack s j0 there j2 1 open_channel _ last.2.0 open1 call.1) in
+      (lookup_answer (at s j2) j2 open_channel file_words (place_at j2 file_words))
+      (lookup_done pack (at s j2) j2 1 open_channel file_words (place_at j2 file_words)) (refused_at j2 file_words)
+      last.2.0 (on_open pack s j0 there j2 1 open_channel _ last.2.0 open1 call.1) in
       let place = place_named me j1 file_words spec is1 few (omega arith) in
       let v = looked (at s j2) j2 open_channel file_words (place_of me spec)
-          (subst (λ p. lookup_answer (at s j2) j2 open_channel file_words p ≡ Done) place row.0) in
+      (subst (λ p. lookup_answer (at s j2) j2 open_channel file_words p ≡ Done) place row.0) in
       let core = sized pack j2.core file_words v.0.file in
       let j3 = with_open (with_core j2 core) 1 (reading (place_of me spec) v.0 1) in
       let ends : last.2.0 ≡ at s j3 = row.1
-          ∙ ap (λ p. at s (lookup_done pack (at s j2) j2 1 open_channel file_words p)) place
-          ∙ ap (λ o. at s (looked_up pack j2 1 open_channel file_words (place_of me spec) o)) v.1 in
+      ∙ ap (λ p. at s (lookup_done pack (at s j2) j2 1 open_channel file_words p)) place
+      ∙ ap (λ o. at s (looked_up pack j2 1 open_channel file_words (place_of me spec) o)) v.1 in
       let is3 : IsJob me (with_core j2 core) = job_core me j2 core is2 (length-sized pack j2.core file_words v.0.file) in
       record {
         job = j3;

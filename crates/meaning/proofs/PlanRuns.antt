@@ -1,5 +1,5 @@
 -- Plans that are run, event by event: each is done, or the line is refused and the files stay.
-use Rattle.std.proofs.Common.{◌≡◌, ◌≢◌, ◌⊎◌, inl, inr, ⊎_elim, ℕ, ◌+◌, Bool, true, false, if◌then◌else◌, IsTrue, List, []}
+use Rattle.std.proofs.Common.{◌≡◌, ◌≢◌, ◌⊎◌, inl, inr, ⊎_elim, ℕ, Bool, true, false, if◌then◌else◌, IsTrue, List, []}
 use Rattle.std.proofs.Common.{◌∷◌, ◌++◌, Option, Some, None, refl, sym, ap, subst, ◌∙◌}
 use Rattle.std.specs.List.{AllByRecursion}
 use Rattle.std.specs.Prelude.{nat_lt, nat_le}
@@ -13,8 +13,8 @@ use Rattle.meaning.specs.Outcomes.{settled}
 use Rattle.meaning.specs.Step.{step, last_date, on_job, on_channel, of_job, call_of, deposit}
 use Rattle.meaning.specs.Sessions.{login_answer, new_job, deposit_answer, deposit_done}
 use Rattle.meaning.specs.Texts.{Spoken, refuses}
-use Rattle.meaning.specs.Plans.{Plan, Ask, Show, Say, Act, Asks, Looks, Leads, Conducts, ends, fails, if_done, each, calls}
-use Rattle.meaning.specs.Transcripts.{Went, Does}
+use Rattle.meaning.specs.Plans.{Plan, Ask, Say, Act, Asks, Looks, ends, fails, if_done, each, calls}
+use Rattle.meaning.specs.Transcripts.{Went}
 use Rattle.meaning.specs.Copies.{Comes, HasFiles, IsRefused}
 use Rattle.meaning.specs.declared.call.Call.{Call}
 use Rattle.meaning.specs.declared.call.Call.TheVariants.{Open, Inbuf, Outbuf, Lookup, Enter, Rename, In, Out, Useti}
@@ -229,8 +229,12 @@ one_done pack s moment event next said new c = by (asked pack (Serving s) event 
         ⊎ ((t : State) × Steps pack s event Done t × Comes pack (Serving t) next said new)
     by (reply, mid, answers, more) = ⊎_elim
         (λ done. let d = done_steps pack s event reply mid done answers in
-        inr (d.0, d.2, subst (λ p. Comes pack (Serving d.0) p said new) (ap (if_done moment next) done)
-        (subst (λ m. Comes pack m (if_done moment next reply) said new) d.1 more)))
+        inr (
+          d.0,
+          d.2,
+          subst (λ p. Comes pack (Serving d.0) p said new) (ap (if_done moment next) done)
+              (subst (λ m. Comes pack m (if_done moment next reply) said new) d.1 more),
+        ))
         (λ other. inl (failed pack s.files mid moment reply said new
         (answered_files pack s event reply mid (λ t. undone_files pack s event reply t other.0) answers)
         (subst (λ p. Comes pack mid p said new) other.1 more)))

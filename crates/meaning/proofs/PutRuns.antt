@@ -1,16 +1,12 @@
 -- A file that job 1 puts, of characters or of words, from its OPEN to its CLOSE.
-use Rattle.std.proofs.Common.{◌≡◌, ◌≢◌, ◌⊎◌, inl, inr, ⊎_elim, ℕ, zero, suc, ◌+◌, ◌-◌, ◌*◌, ◌/◌, ◌%◌, ◌^◌, ◌<◌, ◌≤◌, Bool}
-use Rattle.std.proofs.Common.{true, false, if◌then◌else◌, List, [], ◌∷◌, ◌++◌, length, take, drop, replicate, Option, Some}
+use Rattle.std.proofs.Common.{◌≡◌, inl, inr, ℕ, ◌+◌, ◌-◌, ◌<◌, ◌≤◌}
+use Rattle.std.proofs.Common.{false, List, [], ◌∷◌, ◌++◌, length, take, Some}
 use Rattle.std.proofs.Common.{None, option_map, refl, sym, ap, subst, ◌∙◌, arith, append_assoc}
-use Rattle.std.specs.Prelude.{slice_index, slice_set, is_none, nat_le, unwrap_or}
-use Rattle.std.specs.List.{AllByRecursion}
-use Rattle.std.proofs.Math.ListN.{length-set}
-use Rattle.std.proofs.lemmas.List.{get_or-set_same, length-replicate}
-use Rattle.words36.specs.Words.{left, right, join}
+use Rattle.std.specs.Prelude.{slice_index, is_none, nat_le}
+use Rattle.words36.specs.Words.{right, join}
 use Rattle.words36.specs.declared.moment.Moment.{Moment}
 use Rattle.meaning.specs.Maps.{get}
-use Rattle.meaning.specs.Files.{Files, File, Place}
-use Rattle.meaning.specs.Published.{Version, file_at}
+use Rattle.meaning.specs.Files.{File, Place}
 use Rattle.meaning.specs.Costs.{blocks_of}
 use Rattle.meaning.specs.Splices.{splice}
 use Rattle.meaning.specs.Cores.{after_writes, placed, first_free, rings_begin}
@@ -19,31 +15,27 @@ use Rattle.meaning.specs.Outcomes.{clean, stopped_in}
 use Rattle.meaning.specs.Opening.{disk, dump_mode, open_answer, open_done, core_opened, channel_opened, ring_answer}
 use Rattle.meaning.specs.Opening.{ring_made as made_ring, core_or}
 use Rattle.meaning.specs.Outputs.{out_answer, out_done, put_done, ring_out}
-use Rattle.meaning.specs.Closing.{last_buffer}
 use Rattle.meaning.specs.Rings.{pointer, out_ready, out_writes, ring_words}
 use Rattle.meaning.specs.Room.{Pack}
-use Rattle.meaning.specs.Runs.{Service, Serving, Steps}
-use Rattle.meaning.specs.Texts.{Spoken}
-use Rattle.meaning.specs.Plans.{Plan, each, calls, deposits, names, puts, open_words, new_words, list_words}
-use Rattle.meaning.specs.Errands.{creates, fills, header_words, buffer_data}
-use Rattle.meaning.specs.Copies.{Comes, IsRefused, IsSpec, place_of, made}
+use Rattle.meaning.specs.Runs.{Steps}
+use Rattle.meaning.specs.Plans.{calls, deposits, names, puts, open_words, new_words, list_words}
+use Rattle.meaning.specs.Errands.{creates, header_words, buffer_data}
+use Rattle.meaning.specs.Copies.{IsSpec, place_of, made}
 use Rattle.meaning.specs.declared.command.Spec.{Spec}
 use Rattle.meaning.specs.declared.encoding.Encoding.TheVariants.{Characters, Words}
 use Rattle.meaning.specs.declared.call.Event.{Event}
-use Rattle.meaning.specs.declared.call.Event.TheVariants.{Deposit}
 use Rattle.meaning.specs.declared.call.Call.TheVariants.{Open, Enter, Outbuf, Out}
-use Rattle.meaning.specs.declared.call.Reply.{Reply}
 use Rattle.meaning.specs.declared.call.Reply.TheVariants.{Done}
 use Rattle.meaning.proofs.PlanRuns.{AllDone, split_done}
-use Rattle.meaning.proofs.CoreWrites.{length-writes, found, spared, window, written, passed}
+use Rattle.meaning.proofs.CoreWrites.{length-writes, found, spared, written, passed}
 use Rattle.meaning.proofs.CallRuns.{at, IsJob, with_core, call_done, on_open, row_done, deposits_done}
 use Rattle.meaning.proofs.OpenRuns.{with_open, at_own, job_core, job_open, open_test}
-use Rattle.meaning.proofs.EnterRuns.{side, outputs, idle, Entered, enter_done_by, writes_done}
+use Rattle.meaning.proofs.EnterRuns.{side, outputs, enter_done_by, writes_done}
 use Rattle.meaning.proofs.BlockRuns.{put_at_end}
 use Rattle.meaning.proofs.CopyRuns.{with_body, start_is}
 use Rattle.meaning.proofs.FillLaws.{PartsAreDone, PutsWords}
-use Rattle.meaning.proofs.RingRuns.{header, Fresh, Ring, ring_made, setup_is, made_fresh, read_at, fresh_ready, fresh_words}
-use Rattle.meaning.proofs.RingRuns.{fresh_after, used_ready, used_words, used_after, no_last}
+use Rattle.meaning.proofs.RingRuns.{header, Ring, ring_made, setup_is, made_fresh, fresh_ready, fresh_words}
+use Rattle.meaning.proofs.RingRuns.{fresh_after, used_ready, used_words, used_after}
 
 -- a channel of characters that was just opened
 abbrev pub ring_channel : Channel
@@ -91,7 +83,7 @@ module _ (pack : Pack) (s : State) (j0 : Job) (there : job_at s 1 ≡ Some j0) (
       let call = call_done pack s j0 there j (Out 2 list_words) moment t steps in
       let c = outputs ring_channel o in
       let row = row_done pack s j0 there j (out_answer pack (at s j) j c list_words) (out_done j 2 c list_words)
-          (stopped_in j 2 c) t (on_open pack s j0 there j 2 c _ t second call.1) in
+      (stopped_in j 2 c) t (on_open pack s j0 there j 2 c _ t second call.1) in
       row.1 ∙ ap (λ r. at s (put_done j 2 c (option_map (ring_out c) r))) ready
 
   opened_ring : (me : ℕ) (j : Job) (t : State) → IsJob me j
@@ -101,17 +93,17 @@ module _ (pack : Pack) (s : State) (j0 : Job) (there : job_at s 1 ≡ Some j0) (
   opened_ring me j t is all =
       let l = is.core in
       let parts = split_done pack (at s j) (deposits open_words opening_words) (calls moment (Open 2 open_words) ∷ []) t
-          all in
+      all in
       let core1 = after_writes j.core (placed open_words opening_words) in
       let j1 = with_core j core1 in
       let first = deposits_done pack s j0 there opening_words j open_words parts.0 parts.1 in
       let call = call_done pack s j0 there j1 (Open 2 open_words) moment parts.2.0
-          (subst (λ u. Steps pack u (calls moment (Open 2 open_words)) Done parts.2.0) first parts.2.1) in
+      (subst (λ u. Steps pack u (calls moment (Open 2 open_words)) Done parts.2.0) first parts.2.1) in
       let row = row_done pack s j0 there j1 (open_answer j1 2 open_words) (open_done j1 2 open_words) (λ reply. j1)
-          parts.2.0 (open_test (at s j1) (nat_le 2 15) _ parts.2.0 call.1) in
+      parts.2.0 (open_test (at s j1) (nat_le 2 15) _ parts.2.0 call.1) in
       let mode : slice_index core1 open_words ≡ 0 = found j.core open_words opening_words 0 (omega arith) (omega arith) in
       let named : slice_index core1 (open_words + 2) ≡ join header_words 0 = found j.core open_words opening_words 2
-          (omega arith) (omega arith) in
+      (omega arith) (omega arith) in
       parts.2.2 ∙ row.1 ∙ ap (λ core. at s (with_channel (with_core j core) 2 (Some (channel_opened core1 open_words))))
       (ring_core core1 mode named)
       ∙ ap (λ c. at s (with_channel (with_core j (after_writes core1 (placed header_words header_made))) 2 (Some c)))
@@ -125,8 +117,8 @@ module _ (pack : Pack) (s : State) (j0 : Job) (there : job_at s 1 ≡ Some j0) (
       let c = outputs ring_channel o in
       let call = call_done pack s j0 there j (Outbuf 2 1) moment t steps in
       let row = row_done pack s j0 there j (ring_answer j c header_words 1)
-          (with_channel (with_core j (core_or j.core (made_ring j c header_words 1))) 2 (Some (clean c))) (λ reply. j) t
-          (on_open pack s j0 there j 2 c _ t second call.1) in
+      (with_channel (with_core j (core_or j.core (made_ring j c header_words 1))) 2 (Some (clean c))) (λ reply. j) t
+      (on_open pack s j0 there j 2 c _ t second call.1) in
       row.1 ∙ ap (λ m. at s (with_channel (with_core j (core_or j.core m)) 2 (Some (clean c))))
       (setup_is j.core is.core free)
 
@@ -136,9 +128,9 @@ module _ (pack : Pack) (s : State) (j0 : Job) (there : job_at s 1 ≡ Some j0) (
   characters_done me to kind file k done part j t is long some few all =
       let count = length part in
       let last = split_done pack (at s j) (deposits buffer_data part) (deposits (header_words + 1)
-          (join 0o010700 (buffer_data - 1 + count) ∷ []) ++ puts moment ∷ []) t all in
+      (join 0o010700 (buffer_data - 1 + count) ∷ []) ++ puts moment ∷ []) t all in
       let both = split_done pack last.0 (deposits (header_words + 1) (join 0o010700 (buffer_data - 1 + count) ∷ []))
-          (puts moment ∷ []) t last.2 in
+      (puts moment ∷ []) t last.2 in
       let core1 = after_writes j.core (placed buffer_data part) in
       let j1 = with_core j core1 in
       let is1 : IsJob me j1 = job_core me j core1 is.whole (length-writes j.core (placed buffer_data part)) in
@@ -148,7 +140,7 @@ module _ (pack : Pack) (s : State) (j0 : Job) (there : job_at s 1 ≡ Some j0) (
       let j2 = with_core j1 core2 in
       let is2 : IsJob me j2 = job_core me j1 core2 is1 (length-writes core1 (placed (header_words + 1) ends)) in
       let to2 = deposits_done pack s j0 there ends j1 (header_words + 1) both.0
-          (subst (λ u. AllDone pack u (deposits (header_words + 1) ends) both.0) to1 both.1) in
+      (subst (λ u. AllDone pack u (deposits (header_words + 1) ends) both.0) to1 both.1) in
       let ring : Ring count core2 = record {
         head = spared core1 (header_words + 1) ends header (inl (omega arith))
             ∙ spared j.core buffer_data part header (inl (omega arith)) ∙ is.ring.head;
@@ -159,24 +151,23 @@ module _ (pack : Pack) (s : State) (j0 : Job) (there : job_at s 1 ≡ Some j0) (
       } in
       let o = side to kind (with_body file done) (k + 1) in
       let to3 = ring_put me j2 o both.2.0 is2 is.second (used_ready core2 is2.core count few ring)
-          (subst (λ u. Steps pack u (puts moment) Done both.2.0) to2 both.2.1) in
+      (subst (λ u. Steps pack u (puts moment) Done both.2.0) to2 both.2.1) in
       let words : ring_words core2 header ≡ part =
-          used_words core2 is2.core count few ring
-          ∙ ap (take count) (passed core1 (header_words + 1) buffer_data ends (omega arith))
-          ∙ written j.core buffer_data count part refl (let l = is.whole.core in omega arith) in
+      used_words core2 is2.core count few ring
+      ∙ ap (take count) (passed core1 (header_words + 1) buffer_data ends (omega arith))
+      ∙ written j.core buffer_data count part refl (let l = is.whole.core in omega arith) in
       let after : k + 1 + blocks_of (length (ring_words core2 header)) ≡ k + 1 + 1 =
-          ap (λ ws. k + 1 + blocks_of (length ws)) words ∙ two count some few in
+      ap (λ ws. k + 1 + blocks_of (length ws)) words ∙ two count some few in
       let body : splice done (k + 1) (ring_words core2 header) ≡ done ++ part =
-          ap (splice done (k + 1)) words ∙ put_at_end done (k + 1) part (start_is k ∙ sym long) in
+      ap (splice done (k + 1)) words ∙ put_at_end done (k + 1) part (start_is k ∙ sym long) in
       let o' = side to kind (with_body file (done ++ part)) (k + 1 + 1) in
       let core3 = after_writes core2 (out_writes core2 header 7) in
       let j3 = with_core j2 core3 in
-      let is3 : IsJob me j3 = job_core me j2 core3 is2 (length-writes core2 (out_writes core2 header 7)) in
-      (
+      let is3 : IsJob me j3 = job_core me j2 core3 is2 (length-writes core2 (out_writes core2 header 7)) in (
         with_open j3 2 (outputs ring_channel o'),
         both.2.2 ∙ to3 ∙ ap {A = List ℕ × ℕ}
-        (λ b. at s (with_open j3 2 (outputs ring_channel (side to kind (with_body file b.0) b.1))))
-        (λ i. (body i, after i)),
+            (λ b. at s (with_open j3 2 (outputs ring_channel (side to kind (with_body file b.0) b.1))))
+            (λ i. (body i, after i)),
         record {
           whole = job_open me j3 2 (outputs ring_channel o') is3;
           ring = used_after core2 is2.core count few ring;
@@ -207,45 +198,44 @@ module _ (pack : Pack) (s : State) (j0 : Job) (there : job_at s 1 ≡ Some j0) (
       → Begins me spec 0 (λ kind file j'. PutsCharacters me (place_of me spec) kind file 0 [] j') t
   characters_begun me j spec t is few free all =
       let rest : List Event = names new_words spec 0 ++ calls moment (Enter 2 new_words) ∷ calls moment (Outbuf 2 1)
-          ∷ puts moment ∷ [] in
+      ∷ puts moment ∷ [] in
       let one = split_done pack (at s j) (deposits open_words opening_words ++ calls moment (Open 2 open_words) ∷ []) rest t
-          (subst (λ es. AllDone pack (at s j) es t)
-          (sym (append_assoc (deposits open_words opening_words) (calls moment (Open 2 open_words) ∷ []) rest)) all) in
+      (subst (λ es. AllDone pack (at s j) es t)
+      (sym (append_assoc (deposits open_words opening_words) (calls moment (Open 2 open_words) ∷ []) rest)) all) in
       let core1 = after_writes j.core (placed open_words opening_words) in
       let core2 = after_writes core1 (placed header_words header_made) in
       let c2 = with_core j core2 in
       let is2 : IsJob me c2 = job_core me j core2 is (length-writes core1 (placed header_words header_made)
-          ∙ length-writes j.core (placed open_words opening_words)) in
+      ∙ length-writes j.core (placed open_words opening_words)) in
       let j2 = with_open c2 2 ring_channel in
       let to2 : one.0 ≡ at s j2 = opened_ring me j one.0 is one.1 in
       let two = split_done pack one.0 (names new_words spec 0 ++ calls moment (Enter 2 new_words) ∷ [])
-          (calls moment (Outbuf 2 1) ∷ puts moment ∷ []) t (subst (λ es. AllDone pack one.0 es t)
-          (sym (append_assoc (names new_words spec 0) (calls moment (Enter 2 new_words) ∷ [])
-          (calls moment (Outbuf 2 1) ∷ puts moment ∷ []))) one.2) in
+      (calls moment (Outbuf 2 1) ∷ puts moment ∷ []) t (subst (λ es. AllDone pack one.0 es t)
+      (sym (append_assoc (names new_words spec 0) (calls moment (Enter 2 new_words) ∷ [])
+      (calls moment (Outbuf 2 1) ∷ puts moment ∷ []))) one.2) in
       let e = enter_done_by pack s j0 there moment me ring_channel j2 spec two.0 (job_open me c2 2 ring_channel is2) few
-          (at_own c2 me 2 ring_channel is2 (omega arith))
-          (subst (λ u. AllDone pack u (names new_words spec 0 ++ calls moment (Enter 2 new_words) ∷ []) two.0) to2
-          two.1) in
+      (at_own c2 me 2 ring_channel is2 (omega arith))
+      (subst (λ u. AllDone pack u (names new_words spec 0 ++ calls moment (Enter 2 new_words) ∷ []) two.0) to2
+      two.1) in
       let o = side (place_of me spec) e.kind (made s.files (place_of me spec) 0 moment []) 1 in
       let base : slice_index e.job.core first_free ≡ rings_begin =
-          e.kept first_free (inr (omega arith)) ∙ spared core1 header_words header_made first_free (inr (omega arith))
-          ∙ spared j.core open_words opening_words first_free (inr (omega arith)) ∙ free in
+      e.kept first_free (inr (omega arith)) ∙ spared core1 header_words header_made first_free (inr (omega arith))
+      ∙ spared j.core open_words opening_words first_free (inr (omega arith)) ∙ free in
       let core3 = after_writes e.job.core ring_made in
       let c3 = with_core e.job core3 in
       let is3 : IsJob me c3 = job_core me e.job core3 e.whole (length-writes e.job.core ring_made) in
       let j3 = with_open c3 2 (outputs ring_channel o) in
       let to3 : two.2.0 ≡ at s j3 = made_done me e.job o two.2.0 e.whole e.second base
-          (subst (λ u. Steps pack u (calls moment (Outbuf 2 1)) Done two.2.0) e.is two.2.1) in
+      (subst (λ u. Steps pack u (calls moment (Outbuf 2 1)) Done two.2.0) e.is two.2.1) in
       let fresh = made_fresh e.job.core e.whole.core in
       let last = two.2.2 in
       let to4 = ring_put me j3 o last.0 (job_open me c3 2 (outputs ring_channel o) is3)
-          (at_own c3 me 2 (outputs ring_channel o) is3 (omega arith)) (fresh_ready core3 is3.core fresh)
-          (subst (λ u. Steps pack u (puts moment) Done last.0) to3 last.1) in
+      (at_own c3 me 2 (outputs ring_channel o) is3 (omega arith)) (fresh_ready core3 is3.core fresh)
+      (subst (λ u. Steps pack u (puts moment) Done last.0) to3 last.1) in
       let core4 = after_writes core3 (out_writes core3 header 7) in
       let c4 = with_core j3 core4 in
       let is4 : IsJob me c4 = job_core me j3 core4 (job_open me c3 2 (outputs ring_channel o) is3)
-          (length-writes core3 (out_writes core3 header 7)) in
-      (
+      (length-writes core3 (out_writes core3 header 7)) in (
         with_open c4 2 (outputs ring_channel o),
         e.kind,
         last.2 ∙ to4 ∙ ap (λ ws. at s (with_open c4 2 (outputs ring_channel (record o {

@@ -1,16 +1,15 @@
 -- A file that is read whole: the words that are fetched are those of the version that was found.
-use Rattle.std.proofs.Common.{◌≡◌, ◌≢◌, ◌⊎◌, inl, inr, ⊎_elim, ℕ, zero, suc, ◌+◌, ◌-◌, ◌*◌, ◌/◌, ◌^◌, ◌<◌, ◌≤◌, List, []}
-use Rattle.std.proofs.Common.{◌∷◌, ◌++◌, length, take, drop, Option, Some, None, refl, sym, ap, subst, ◌∙◌, arith}
+use Rattle.std.proofs.Common.{◌≡◌, ◌⊎◌, inl, inr, ⊎_elim, ℕ, zero, suc, ◌+◌, ◌-◌, ◌*◌, ◌<◌, ◌≤◌, List, []}
+use Rattle.std.proofs.Common.{◌∷◌, ◌++◌, length, take, drop, Some, refl, sym, ap, subst, ◌∙◌, arith}
 use Rattle.std.specs.Prelude.{slice_index}
-use Rattle.std.specs.List.{AllByRecursion}
 use Rattle.std.proofs.lemmas.List.{length-take, length-drop, take_all, take-append-drop, drop-drop}
 use Rattle.words36.specs.declared.moment.Moment.{Moment}
-use Rattle.meaning.specs.Files.{Files, Place}
+use Rattle.meaning.specs.Files.{Place}
 use Rattle.meaning.specs.Published.{Version, file_at}
 use Rattle.meaning.specs.Costs.{blocks_of}
 use Rattle.meaning.specs.Splices.{words_from, block_start}
 use Rattle.meaning.specs.Cores.{after_writes, placed}
-use Rattle.meaning.specs.Jobs.{Channel, Job, State, job_at, channel_at}
+use Rattle.meaning.specs.Jobs.{Job, State, job_at, channel_at}
 use Rattle.meaning.specs.Looking.{size_word}
 use Rattle.meaning.specs.Outputs.{longest}
 use Rattle.meaning.specs.Room.{Pack}
@@ -55,18 +54,20 @@ module _ (pack : Pack) (s : State) (j0 : Job) (there : job_at s 1 ≡ Some j0) (
       let ahead = words_from body (k + 1) in
       let begin = start_is k in
       let long : count ≤ length ahead = omega (arith, length-drop (block_start (k + 1)) body) in
-      let next : k + 1 + blocks_of (moved j.core count ahead) ≡ k + 2 = omega (arith, one_block j.core count ahead some
-          few long) in
+      let next : k + 1 + blocks_of (moved j.core count ahead) ≡ k + 2 = omega (
+        arith,
+        one_block j.core count ahead some
+            few long,
+      ) in
       let core = taken j.core count ahead in
       let c1 = with_core j core in
       let is1 : IsJob me c1 = job_core me j core is.whole
-          (length-writes j.core (placed block_address (take count ahead))) in
+      (length-writes j.core (placed block_address (take count ahead))) in
       let to : t ≡ at s (with_open c1 1 (reading place v (k + 2))) =
-          takes_done pack s j0 there moment me j place v (k + 1) count t is.whole is.first some few is.named steps
-          ∙ ap (λ n. at s (with_open c1 1 (reading place v n))) next in
+      takes_done pack s j0 there moment me j place v (k + 1) count t is.whole is.first some few is.named steps
+      ∙ ap (λ n. at s (with_open c1 1 (reading place v n))) next in
       let words : window core block_address count ≡ take count ahead = written j.core block_address count
-          (take count ahead) (omega (arith, length-take count ahead)) (let l = is.whole.core in omega arith) in
-      (
+      (take count ahead) (omega (arith, length-take count ahead)) (let l = is.whole.core in omega arith) in (
         with_open c1 1 (reading place v (k + 2)),
         to,
         record {
@@ -95,18 +96,21 @@ module _ (pack : Pack) (s : State) (j0 : Job) (there : job_at s 1 ≡ Some j0) (
       let is1 : Reads me place v (k + 1 + 1) 128 d.0 = subst (λ n. Reads me place v n 128 d.0) two d.2 in
       let behind : List ℕ → Plan = λ words. types_blocks moment more (λ others. next (words ++ others)) in
       let got = fetched pack s j0 there moment 128 d.0 block_address behind said new (let l = d.2.whole.core in omega arith)
-          (subst (λ x. Comes pack (Serving x) (fetches moment 128 block_address behind) said new) (same ∙ d.1) rest) in
+      (subst (λ x. Comes pack (Serving x) (fetches moment 128 block_address behind) said new) (same ∙ d.1) rest) in
       let one : k + 1 + more + 1 ≡ k + suc more + 1 = omega arith in
       let all_words : words ++ take (more * 128) (drop ((k + 1) * 128) v.file.body)
-          ≡ take (suc more * 128) (drop (k * 128) v.file.body) =
-          let shift : k * 128 + 128 ≡ (k + 1) * 128 = omega arith in
-          let sum : 128 + more * 128 ≡ suc more * 128 = omega arith in
-          ap (λ xs. words ++ take (more * 128) xs) (ap (λ n. drop n v.file.body) (sym shift)
-          ∙ sym (drop-drop 128 (k * 128) v.file.body))
-          ∙ sym (take_more 128 (more * 128) (drop (k * 128) v.file.body))
-          ∙ ap (λ n. take n (drop (k * 128) v.file.body)) sum in
-      ⊎_elim inl (λ (j', is', more'). inr (j', subst (λ n. Reads me place v n 128 j') one is',
-      subst (λ ws. Comes pack (Serving (at s j')) (next ws) said new) all_words more'))
+      ≡ take (suc more * 128) (drop (k * 128) v.file.body) =
+      let shift : k * 128 + 128 ≡ (k + 1) * 128 = omega arith in
+      let sum : 128 + more * 128 ≡ suc more * 128 = omega arith in
+      ap (λ xs. words ++ take (more * 128) xs) (ap (λ n. drop n v.file.body) (sym shift)
+      ∙ sym (drop-drop 128 (k * 128) v.file.body))
+      ∙ sym (take_more 128 (more * 128) (drop (k * 128) v.file.body))
+      ∙ ap (λ n. take n (drop (k * 128) v.file.body)) sum in
+      ⊎_elim inl (λ (j', is', more'). inr (
+        j',
+        subst (λ n. Reads me place v n 128 j') one is',
+        subst (λ ws. Comes pack (Serving (at s j')) (next ws) said new) all_words more',
+      ))
       (blocks_read me place v said new more (k + 1) (λ others. next (words ++ others)) d.0 is1 (omega arith)
       (subst (λ ws. Comes pack (Serving (at s d.0)) (behind ws) said new) d.3 got)))
       (each_done pack (at s j) moment (takes moment ∷ []) (fetches moment 128 block_address
@@ -144,7 +148,7 @@ module _ (pack : Pack) (s : State) (j0 : Job) (there : job_at s 1 ≡ Some j0) (
           let to2 = deposits_done pack s j0 there (list_pair count) j1 list_words parts.0 parts.1 in
           let j3 = with_open j2 1 (reading place v (more + 1)) in
           let to3 : parts.2.0 ≡ at s j3 = goes_done pack s j0 there moment j2 place v (more + 1) k parts.2.0 first1
-              (subst (λ u. Steps pack u (goes_to moment (more + 1)) Done parts.2.0) to2 parts.2.1) in
+          (subst (λ u. Steps pack u (goes_to moment (more + 1)) Done parts.2.0) to2 parts.2.1) in
           let is3 : Reads me place v (more + 1) count j3 = record {
             whole = job_open me j2 1 (reading place v (more + 1)) is2;
             first = at_own j2 me 1 (reading place v (more + 1)) is2 (omega arith);
@@ -152,15 +156,18 @@ module _ (pack : Pack) (s : State) (j0 : Job) (there : job_at s 1 ≡ Some j0) (
           } in
           let taking = parts.2.2 in
           let d = block_taken me place v more count j3 taking.0 is3 (omega arith) (omega arith) (omega arith)
-              (subst (λ u. Steps pack u (takes moment) Done taking.0) to3 taking.1) in
+          (subst (λ u. Steps pack u (takes moment) Done taking.0) to3 taking.1) in
           let all_words : take count (drop (more * 128) v.file.body) ≡ drop (more * 128) v.file.body =
-              take_all count (drop (more * 128) v.file.body) (omega (arith, length-drop (more * 128) v.file.body)) in
+          take_all count (drop (more * 128) v.file.body) (omega (arith, length-drop (more * 128) v.file.body)) in
           let got = fetched pack s j0 there moment count d.0 block_address next said new
-              (let l = d.2.whole.core in omega arith)
-              (subst (λ x. Comes pack (Serving x) (fetches moment count block_address next) said new) (taking.2 ∙ d.1)
-              rest) in
-          (d.0, d.2.whole, (more + 2, d.2.first),
-          subst (λ ws. Comes pack (Serving (at s d.0)) (next ws) said new) (d.3 ∙ all_words) got)
+          (let l = d.2.whole.core in omega arith)
+          (subst (λ x. Comes pack (Serving x) (fetches moment count block_address next) said new) (taking.2 ∙ d.1)
+          rest) in (
+            d.0,
+            d.2.whole,
+            (more + 2, d.2.first),
+            subst (λ ws. Comes pack (Serving (at s d.0)) (next ws) said new) (d.3 ∙ all_words) got,
+          )
 
   body_read : (me : ℕ) (place : Place) (v : Version) (said : Spoken) (new : Service) (blocks : ℕ)
       (next : List ℕ → Plan) (j : Job) → Reads me place v 1 128 j → length v.file.body ≤ longest
@@ -170,8 +177,13 @@ module _ (pack : Pack) (s : State) (j0 : Job) (there : job_at s 1 ≡ Some j0) (
       ⊎ ((j' : Job) × IsJob me j' × ((n : ℕ) × (channel_at j' 1 ≡ Some (reading place v n)))
       × Comes pack (Serving (at s j')) (next v.file.body) said new)
   body_read me place v said new zero next j is fits count come =
-      inr (j, is.whole, (1, is.first), subst (λ ws. Comes pack (Serving (at s j)) (next ws) said new)
-      (sym (empty v.file.body (no_words (length v.file.body) count))) come)
+      inr (
+        j,
+        is.whole,
+        (1, is.first),
+        subst (λ ws. Comes pack (Serving (at s j)) (next ws) said new)
+            (sym (empty v.file.body (no_words (length v.file.body) count))) come,
+      )
     where
       no_words : (len : ℕ) → 0 ≡ blocks_of len → len ≡ 0
       no_words len e = grind arith
@@ -181,8 +193,13 @@ module _ (pack : Pack) (s : State) (j0 : Job) (there : job_at s 1 ≡ Some j0) (
       empty (x ∷ xs) e = absurd (omega arith)
   body_read me place v said new (suc more) next j is fits count come = ⊎_elim inl
       (λ (j1, is1, rest). ⊎_elim inl
-      (λ (j2, is2, reads2, last). inr (j2, is2, reads2, subst (λ ws. Comes pack (Serving (at s j2)) (next ws) said new)
-      (take-append-drop (more * 128) v.file.body) last))
+      (λ (j2, is2, reads2, last). inr (
+        j2,
+        is2,
+        reads2,
+        subst (λ ws. Comes pack (Serving (at s j2)) (next ws) said new)
+            (take-append-drop (more * 128) v.file.body) last,
+      ))
       (last_read me place v said new more (λ others. next (take (more * 128) v.file.body ++ others)) j1
       (subst (λ n. Reads me place v n 128 j1) start is1) fits (omega (arith, bounds)) (omega (arith, bounds))
       (subst (λ n. Comes pack (Serving (at s j1)) (types_last moment n (size_word (length v.file.body))
@@ -243,23 +260,23 @@ reads_are_exact pack moment me s encoding spec said new ready few short come = �
     begun t all rest =
         let there = ready.logged_in in
         let both = split_done pack (at s j0) (finds moment spec) (lists 128) t
-            (subst (λ u. AllDone pack u (finds moment spec ++ lists 128) t) (at_home s j0 there) all) in
+        (subst (λ u. AllDone pack u (finds moment spec ++ lists 128) t) (at_home s j0 there) all) in
         let f : Found s me spec j0 both.0 = finds_done pack s j0 there moment me j0 spec both.0 whole few both.1 in
         let core = after_writes f.job.core (placed list_words (list_pair 128)) in
         let j = with_core f.job core in
         let is : IsJob me j = job_core me f.job core f.whole
-            (length-writes f.job.core (placed list_words (list_pair 128))) in
+        (length-writes f.job.core (placed list_words (list_pair 128))) in
         let to_j : t ≡ at s j = deposits_done pack s j0 there (list_pair 128) f.job list_words t
-            (subst (λ u. AllDone pack u (lists 128) t) f.is both.2) in
+        (subst (λ u. AllDone pack u (lists 128) t) f.is both.2) in
         let v = f.version in
         let size : slice_index core (file_words + 3) ≡ size_word (length v.file.body) =
-            spared f.job.core list_words (list_pair 128) (file_words + 3) (inl (omega arith)) ∙ f.size in
+        spared f.job.core list_words (list_pair 128) (file_words + 3) (inl (omega arith)) ∙ f.size in
         let fits : length v.file.body ≤ longest = short (place_of me spec) v f.there in
         let examined = told pack s j0 there moment j (file_words + 3)
-            (λ size. types_body moment (blocks_said size) size closing) said new (let l = is.core in omega arith)
-            (subst (λ u. Comes pack (Serving u) rests said new) to_j rest) in
+        (λ size. types_body moment (blocks_said size) size closing) said new (let l = is.core in omega arith)
+        (subst (λ u. Comes pack (Serving u) rests said new) to_j rest) in
         let sized = subst (λ n. Comes pack (Serving (at s j)) (types_body moment (blocks_said n) n closing) said new) size
-            examined in
+        examined in
         ⊎_elim inr (λ (j', is', reads', more). finished v f.there j' is' reads' more)
         (body_read pack s j0 there moment me (place_of me spec) v said new
         (blocks_said (size_word (length v.file.body))) closing j

@@ -1,6 +1,6 @@
 -- A job keeps its owner, the length of its core and its sixteen channels through whatever it asks.
-use Rattle.std.proofs.Common.{◌≡◌, ◌≢◌, ◌⊎◌, inl, inr, ⊎_elim, ℕ, ◌+◌, ◌*◌, ◌<◌, ◌≤◌, Bool, true, false, ◌||◌}
-use Rattle.std.proofs.Common.{if◌then◌else◌, List, [], ◌∷◌, ◌++◌, length, Option, Some, None, refl, sym, ap, subst, ◌∙◌, arith}
+use Rattle.std.proofs.Common.{◌≡◌, ⊎_elim, ℕ, ◌+◌, ◌*◌, Bool, true, false, ◌||◌}
+use Rattle.std.proofs.Common.{if◌then◌else◌, List, [], ◌∷◌, ◌++◌, length, Option, Some, None, refl, sym, subst, ◌∙◌}
 use Rattle.std.specs.Prelude.{nat_lt, nat_le, ◌==◌, ◌&&◌, not, is_some, take, option_map, slice_index, slice_set}
 use Rattle.std.proofs.Math.ListN.{length-set}
 use Rattle.std.proofs.lemmas.Bool.{eqb-true, eq-eqb}
@@ -11,7 +11,7 @@ use Rattle.meaning.specs.Files.{Files, Place}
 use Rattle.meaning.specs.Published.{Version, file_at}
 use Rattle.meaning.specs.Cores.{after_writes, with_right, first_free, rings_begin, lies_outside, dealt, joined}
 use Rattle.meaning.specs.Costs.{blocks_of}
-use Rattle.meaning.specs.Jobs.{Channel, Input, Output, Job, State, job_at, channel_at, with_job, with_channel, cleared}
+use Rattle.meaning.specs.Jobs.{Channel, Job, State, job_at, channel_at, with_job, with_channel, cleared}
 use Rattle.meaning.specs.Room.{Pack}
 use Rattle.meaning.specs.Outcomes.{settled, clean, stopped_in, refused_at}
 use Rattle.meaning.specs.Opening.{opens, open_answer, open_done, core_opened, channel_opened, header_opened, mode_at}
@@ -32,7 +32,7 @@ use Rattle.meaning.specs.Rings.{setup, setup_writes, is_buffered, with_ring, kep
 use Rattle.meaning.specs.Rings.{byte_size, buffers_of, base, buffer_words, current, in_writes, out_writes, data_words}
 use Rattle.meaning.specs.Sessions.{deposit_answer, deposit_done, examine_answer, resets}
 use Rattle.meaning.specs.Step.{step, last_date, on_job, on_channel, of_job, of_files, call_of, deposit, job_of}
-use Rattle.meaning.specs.Runs.{Answers, Serving, Steps}
+use Rattle.meaning.specs.Runs.{Answers, Serving}
 use Rattle.meaning.specs.Transcripts.{core_words}
 use Rattle.meaning.specs.declared.area.Area.{Area}
 use Rattle.meaning.specs.Copies.{IsReady, asks_for_login}
@@ -44,11 +44,10 @@ use Rattle.meaning.specs.declared.call.Event.TheVariants.{Login, Deposit, Examin
 use Rattle.meaning.specs.declared.call.Reply.{Reply}
 use Rattle.meaning.specs.declared.call.Reply.TheVariants.{Done, Value, Refused, Stopped, NoChannel, AddressCheck, NoJob}
 use Rattle.meaning.specs.declared.call.Reply.TheVariants.{NoMemory, Device, Failed, DateRange}
-use Rattle.meaning.proofs.OutcomeLaws.{settled_by, stopped_by, refused_by}
-use Rattle.meaning.proofs.SlotLaws.{slot-set_same, slot-set_other}
+use Rattle.meaning.proofs.OutcomeLaws.{settled_by, stopped_by}
+use Rattle.meaning.proofs.SlotLaws.{slot-set_same}
 use Rattle.meaning.proofs.StepLaws.{spares_step}
 use Rattle.meaning.proofs.CoreWrites.{length-writes}
-use Rattle.meaning.proofs.CallRuns.{set_twice}
 use Rattle.meaning.proofs.OpenRuns.{attributing}
 
 -- How long a core is that writes, a ring or a call leave.

@@ -1,16 +1,16 @@
 -- A file of characters that job 1 puts through a ring of one buffer.
-use Rattle.std.proofs.Common.{◌≡◌, ◌≢◌, ◌⊎◌, inl, inr, ⊎_elim, ℕ, zero, suc, ◌+◌, ◌-◌, ◌*◌, ◌/◌, ◌%◌, ◌^◌, ◌<◌, ◌≤◌, Bool}
-use Rattle.std.proofs.Common.{true, false, if◌then◌else◌, List, [], ◌∷◌, ◌++◌, length, take, drop, replicate, Option, Some}
-use Rattle.std.proofs.Common.{None, option_map, refl, sym, ap, subst, ◌∙◌, arith, append_assoc}
+use Rattle.std.proofs.Common.{◌≡◌, ℕ, ◌+◌, ◌-◌, ◌<◌, ◌≤◌, Bool}
+use Rattle.std.proofs.Common.{true, false, if◌then◌else◌, List, [], ◌∷◌, ◌++◌, length, Option, Some}
+use Rattle.std.proofs.Common.{None, refl, sym, ap, subst, ◌∙◌, arith}
 use Rattle.std.specs.Prelude.{slice_index, slice_range, slice_set, nat_lt, nat_le, ◌==◌, ◌&&◌, ◌||◌, not, unwrap_or}
 use Rattle.std.proofs.Math.ListN.{length-set}
-use Rattle.std.proofs.lemmas.List.{get_or-set_same, get_or-set_other, length-take}
+use Rattle.std.proofs.lemmas.List.{get_or-set_same, get_or-set_other}
 use Rattle.std.proofs.lemmas.Bool.{eqb-true, eq-eqb}
 use Rattle.std.proofs.lemmas.Bool.Decides.{nat_tests}
-use Rattle.words36.specs.Words.{left, right, join}
-use Rattle.meaning.specs.Cores.{after_writes, placed, lies_outside, first_free}
+use Rattle.words36.specs.Words.{right, join}
+use Rattle.meaning.specs.Cores.{after_writes, lies_outside, first_free}
 use Rattle.meaning.specs.Rings.{setup, with_ring, kept_if, out_ready, out_is_good, out_writes, is_good, is_unused, is_marked}
-use Rattle.meaning.specs.Rings.{current, next, target, put_count, last_is_good, buffer_data, ring_words, put_behind, emptied}
+use Rattle.meaning.specs.Rings.{current, next, target, put_count, last_is_good, buffer_data, ring_words, emptied}
 use Rattle.meaning.specs.Rings.{last_words, has_last, unmarked, pointer}
 use Rattle.meaning.proofs.CoreWrites.{window, range_window}
 
@@ -212,7 +212,7 @@ pub no_last : (core : List ℕ) → length core ≡ 4096 → Ring 0 core → las
 unfolding last_words
 no_last core l is =
     let last : has_last core header ≡ true = has (is_unused core header) (current core header) (used core l 0 (omega arith)
-        is) (used_current core l 0 (omega arith) is) in
+    is) (used_current core l 0 (omega arith) is) in
     chosen (has_last core header) (last_is_good core header) (lies_outside core header 3) (buffer_data core header) last
     (used_good core l 0 (omega arith) is) (ap (λ n. nat_lt n (header + 3)) l)
     ∙ ap Some (used_data core l 0 (omega arith) is)

@@ -1,40 +1,47 @@
 -- No event makes a body longer than a file may be.
-use Rattle.std.proofs.Common.{◌≡◌, ◌≢◌, ◌⊎◌, inl, inr, ⊎_elim, ℕ, ◌+◌, ◌*◌, ◌<◌, ◌≤◌, Bool, true, false, ◌||◌}
-use Rattle.std.proofs.Common.{if◌then◌else◌, List, [], ◌∷◌, length, Option, Some, None, refl, sym, ap, subst, ◌∙◌, arith}
-use Rattle.std.specs.Prelude.{nat_lt, nat_le, ◌==◌, ◌&&◌, not, slice_set, IsSome, option_map}
+use Rattle.std.proofs.Common.{◌≡◌, ⊎_elim, ℕ, ◌+◌, ◌≤◌, Bool, true, false, ◌||◌}
+use Rattle.std.proofs.Common.{if◌then◌else◌, List, [], ◌∷◌, length, Option, Some, None, refl, sym, ap, subst, ◌∙◌}
+use Rattle.std.proofs.Common.{arith}
+use Rattle.std.specs.Prelude.{nat_lt, nat_le, ◌==◌, ◌&&◌, not, slice_set, option_map}
 use Rattle.std.proofs.lemmas.Bool.Decides.{nat_tests}
 use Rattle.words36.specs.declared.moment.Moment.{Moment}
 use Rattle.meaning.specs.Maps.{get, insert, remove}
 use Rattle.meaning.specs.Files.{Files, File, Directory, Place, map_directory}
-use Rattle.meaning.specs.Published.{Version, file_at, file_in, without_serials, with_file, without_file, with_protection}
+use Rattle.meaning.specs.Published.{Version, file_at, file_in, without_serials, without_file}
+use Rattle.meaning.specs.Published.{with_protection}
 use Rattle.meaning.specs.Splices.{splice, length_after}
-use Rattle.meaning.specs.Jobs.{Channel, Input, Output, Update, Append, Job, State, job_at, channel_at, with_job, with_channel, slot}
+use Rattle.meaning.specs.Jobs.{Channel, Input, Output, Update, Append, Job, State, job_at, channel_at, with_job}
+use Rattle.meaning.specs.Jobs.{with_channel, slot}
 use Rattle.meaning.specs.Room.{Pack, output_of}
 use Rattle.meaning.specs.Outcomes.{settled, clean, stopped_in, refused_at}
-use Rattle.meaning.specs.Opening.{opens, open_answer, open_done, sets_up, ring_answer, ring_made, core_or}
+use Rattle.meaning.specs.Opening.{opens, open_answer, open_done, ring_answer, ring_made, core_or}
 use Rattle.meaning.specs.Opening.{core_opened, channel_opened}
 use Rattle.meaning.specs.Cores.{after_writes}
-use Rattle.meaning.specs.Looking.{lookup, lookup_answer, lookup_done, looked_up, place_at, digit_at, with_attributes, size_word}
-use Rattle.meaning.specs.Entering.{enter, enter_answer, enter_done, output_opened}
-use Rattle.meaning.specs.Inputs.{reads, in_answer, in_done, core_filled, words_ahead, words_moved, moved_on, useti, useti_answer, useti_done}
-use Rattle.meaning.specs.Outputs.{Outgoing, longest, finds_no_place, place_answer, found_answer, put_answer, out_answer}
-use Rattle.meaning.specs.Outputs.{outgoing, put_on, put_done, out_done, puts, useto, useto_answer, useto_done, output_at}
+use Rattle.meaning.specs.Looking.{lookup_answer, lookup_done, looked_up, place_at, digit_at, with_attributes}
+use Rattle.meaning.specs.Looking.{size_word}
+use Rattle.meaning.specs.Entering.{enter_answer, enter_done, output_opened}
+use Rattle.meaning.specs.Inputs.{in_answer, in_done, core_filled, words_ahead, words_moved, moved_on}
+use Rattle.meaning.specs.Inputs.{useti_answer, useti_done}
+use Rattle.meaning.specs.Outputs.{Outgoing, longest, finds_no_place, place_answer, put_answer, out_answer}
+use Rattle.meaning.specs.Outputs.{outgoing, put_on, put_done, out_done, useto_answer, useto_done}
+use Rattle.meaning.specs.Outputs.{output_at}
 use Rattle.meaning.specs.Updating.{output_updating, input_updating}
 use Rattle.meaning.specs.Rights.{may_update}
-use Rattle.meaning.specs.Sound.{output_for, writes_at}
+use Rattle.meaning.specs.Sound.{output_for}
 use Rattle.meaning.specs.Copies.{AreShort, IsShort}
 use Rattle.meaning.specs.declared.call.Reply.{Reply}
 use Rattle.meaning.specs.declared.call.Reply.TheVariants.{Done, Refused, AddressCheck, NoChannel, DateRange}
 use Rattle.meaning.specs.Costs.{blocks_of}
-use Rattle.meaning.specs.Closing.{close_answer, close_done, closes, releases, files_closed, files_with, output_put}
-use Rattle.meaning.specs.Closing.{publishes, last_buffer, last_answer, words_or_none, published, core_closed, keeps_output}
+use Rattle.meaning.specs.Closing.{close_answer, close_done, files_closed, files_with, output_put}
+use Rattle.meaning.specs.Closing.{publishes, last_buffer, last_answer, words_or_none, published, core_closed}
+use Rattle.meaning.specs.Closing.{keeps_output}
 use Rattle.meaning.specs.Closing.{channel_closed}
-use Rattle.meaning.specs.Renaming.{renames, rename_answer, rename_done, files_renamed, files_from, files_moved}
+use Rattle.meaning.specs.Renaming.{rename_answer, rename_done, files_renamed, files_from, files_moved}
 use Rattle.meaning.specs.Renaming.{deletes_at, protection_at}
-use Rattle.meaning.specs.Making.{makes, make_answer, removes, remove_answer, owner_at, directory_made}
+use Rattle.meaning.specs.Making.{make_answer, remove_answer, owner_at, directory_made}
 use Rattle.meaning.specs.Sessions.{login_answer, new_job, deposit_answer, deposit_done, resets}
 use Rattle.meaning.specs.Step.{step, last_date, on_job, on_channel, of_job, of_files, call_of}
-use Rattle.meaning.specs.Runs.{Answers, Run, Serving, Broken, Service, IsStart, Steps}
+use Rattle.meaning.specs.Runs.{Answers, Run, Serving, Broken, IsStart}
 use Rattle.meaning.specs.declared.call.Call.{Call}
 use Rattle.meaning.specs.declared.call.Call.TheVariants.{Open, Inbuf, Outbuf, Lookup, Enter, Rename, In, Out, Useti}
 use Rattle.meaning.specs.declared.call.Call.TheVariants.{Useto, Close, Releas, Getsts, Reset, MakeDir, DeleteDir}
@@ -108,9 +115,13 @@ none_after len next count e = rw e refl
 pub put_short : (pack : Pack) (s : State) (o : Output) (words : List ℕ) → finds_no_place pack s o (length words) ≡ false
     → length o.pending.body ≤ longest → length (splice o.pending.body o.next words) ≤ longest
 put_short pack s o words none few =
-    omega (arith, length-splice o.pending.body o.next words, placed_few (length words) (length o.pending.body)
-    (length_after (length o.pending.body) o.next (length words)) _ _ none few
-    (none_after (length o.pending.body) o.next (length words)))
+    omega (
+      arith,
+      length-splice o.pending.body o.next words,
+      placed_few (length words) (length o.pending.body)
+          (length_after (length o.pending.body) o.next (length words)) _ _ none few
+          (none_after (length o.pending.body) o.next (length words)),
+    )
 
 -- An OUT that is done, and the last words of a CLOSE.
 
@@ -312,8 +323,10 @@ module _ (pack : Pack) (serial : ℕ) (s : State) (short : IsShort s) (n : ℕ) 
   call_short (Rename ch e) moment = on_channel_short _ (channel_at job ch) (λ c is.
       by_files (rename_answer pack s job c e) (rename_done job ch c) (files_renamed s.files job e c.input)
       (refused_at job e)
-      (λ done. (short_with job own job.core ch (Some (record (clean c) { input = None })) (side_of ch c is),
-      renamed_short s.files job e c.input short.files)) (refused_short e))
+      (λ done. (
+        short_with job own job.core ch (Some (record (clean c) { input = None })) (side_of ch c is),
+        renamed_short s.files job e c.input short.files,
+      )) (refused_short e))
   call_short (In ch a) moment = on_channel_short _ (channel_at job ch) (λ c is.
       by_row (in_answer job c a) (in_done job ch c a) (stopped_in job ch c)
       (λ done. short_with job own (core_filled job c a (words_ahead c.input c.output)) ch
@@ -332,22 +345,29 @@ module _ (pack : Pack) (serial : ℕ) (s : State) (short : IsShort s) (n : ℕ) 
   call_short (Close ch bits) moment = on_channel_short _ (channel_at job ch) (λ c is.
       by_files (close_answer pack s job c bits) (close_done serial job ch c bits) (files_closed serial s.files job c bits)
       (stopped_in job ch c)
-      (λ done. (short_with job own (core_closed job.core c bits) ch (Some (channel_closed serial job c bits))
-      (kept_side (keeps_output bits) c.output (side_of ch c is)),
-      closed_short pack serial s job c bits short.files (side_of ch c is) done)) (stopped_short ch c is))
+      (λ done. (
+        short_with job own (core_closed job.core c bits) ch (Some (channel_closed serial job c bits))
+            (kept_side (keeps_output bits) c.output (side_of ch c is)),
+        closed_short pack serial s job c bits short.files (side_of ch c is) done,
+      )) (stopped_short ch c is))
   call_short (Releas ch) moment = on_channel_short _ (channel_at job ch) (λ c is.
       by_files (close_answer pack s job c 0) (with_channel (record job { core = core_closed job.core c 0 }) ch None)
       (files_closed serial s.files job c 0) (stopped_in job ch c)
-      (λ done. (short_with job own (core_closed job.core c 0) ch None nothing,
-      closed_short pack serial s job c 0 short.files (side_of ch c is) done)) (stopped_short ch c is))
+      (λ done. (
+        short_with job own (core_closed job.core c 0) ch None nothing,
+        closed_short pack serial s job c 0 short.files (side_of ch c is) done,
+      )) (stopped_short ch c is))
   call_short (Getsts ch) moment = on_channel_short _ (channel_at job ch) (λ c is. short)
   call_short Reset moment = by_job (resets job).1
       (λ ch o is. nothing o (sym (ap output_of (slot-empty 16 ch)) ∙ is))
   call_short (MakeDir e) moment =
       by_files (make_answer pack s job e (owner_at job e)) job (insert s.files (owner_at job e) (directory_made job e))
       (refused_at job e)
-      (λ done. (own, λ q w is. short.files q w (found_with_directory s.files (owner_at job e) _ 0
-      (make_needs pack s job e (owner_at job e) done).0 q w is))) (refused_short e)
+      (λ done. (
+        own,
+        λ q w is. short.files q w (found_with_directory s.files (owner_at job e) _ 0
+            (make_needs pack s job e (owner_at job e) done).0 q w is),
+      )) (refused_short e)
   call_short (DeleteDir e) moment =
       by_files (remove_answer s job e (owner_at job e)) job (remove s.files (owner_at job e)) (refused_at job e)
       (λ done. (own, λ q w is. short.files q w (found_without_directory s.files (owner_at job e) q w is)))
@@ -409,11 +429,11 @@ of_map g (Some x) y e = (x, refl, some_same e)
 standing_short : (size : ℕ) (contents : Contents) (files : Files File) → Stands size contents files → HasShortFiles files
 standing_short size contents files (settled, is, (m, has, same)) ppn d name f at there =
     let found = of_map directory_of (get m.directories ppn) d
-        (sym (get-map_values nat_cmp_total directory_of m.directories ppn) ∙ ap (λ fs. get fs ppn) same ∙ at) in
+    (sym (get-map_values nat_cmp_total directory_of m.directories ppn) ∙ ap (λ fs. get fs ppn) same ∙ at) in
     let stored : StoredDirectory = found.0 in
     let file = of_map (λ (g : StoredFile). g.file) (get stored.files name) f
-        (sym (get-map_values name_total (λ (g : StoredFile). g.file) stored.files name)
-        ∙ ap (λ (x : Directory File). get x.files name) found.2 ∙ there) in
+    (sym (get-map_values name_total (λ (g : StoredFile). g.file) stored.files name)
+    ∙ ap (λ (x : Directory File). get x.files name) found.2 ∙ there) in
     let whole = has.mapped.directories ppn stored found.1 in
     let few = (whole.files name file.0 file.1).retrieved.fits.few in
     subst (λ (x : File). length x.body ≤ longest) file.2 few

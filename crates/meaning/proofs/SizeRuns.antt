@@ -1,8 +1,8 @@
 -- How long a body is: by the word behind its name, or by the words of its last block, of which two INs tell them.
-use Rattle.std.proofs.Common.{◌≡◌, ◌≢◌, ◌⊎◌, inl, inr, ⊎_elim, ℕ, zero, suc, ◌+◌, ◌-◌, ◌*◌, ◌/◌, ◌%◌, ◌^◌, ◌<◌, ◌≤◌, Bool}
-use Rattle.std.proofs.Common.{true, false, if◌then◌else◌, IsTrue, List, [], ◌∷◌, ◌++◌, length, take, drop, replicate, min}
-use Rattle.std.proofs.Common.{Option, Some, None, refl, sym, ap, subst, ◌∙◌, arith}
-use Rattle.std.specs.Prelude.{slice_index, nat_le, nat_lt, ◌==◌}
+use Rattle.std.proofs.Common.{◌≡◌, ◌⊎◌, inl, inr, ⊎_elim, ℕ, zero, suc, ◌+◌, ◌-◌, ◌*◌, ◌%◌, ◌^◌, ◌<◌, ◌≤◌, Bool}
+use Rattle.std.proofs.Common.{true, false, if◌then◌else◌, IsTrue, List, [], ◌∷◌, ◌++◌, length, take, drop, replicate}
+use Rattle.std.proofs.Common.{Some, refl, sym, ap, subst, ◌∙◌, arith}
+use Rattle.std.specs.Prelude.{slice_index, nat_le, nat_lt}
 use Rattle.std.specs.List.{AllByRecursion}
 use Rattle.std.proofs.lemmas.List.{length-take, length-drop, length-replicate}
 use Rattle.std.proofs.lemmas.Bool.{eq-eqb}
@@ -14,7 +14,7 @@ use Rattle.meaning.specs.Published.{Version}
 use Rattle.meaning.specs.Costs.{blocks_of}
 use Rattle.meaning.specs.Splices.{words_from, block_start}
 use Rattle.meaning.specs.Cores.{after_writes, placed}
-use Rattle.meaning.specs.Jobs.{Channel, Job, State, job_at, channel_at}
+use Rattle.meaning.specs.Jobs.{Job, State, job_at, channel_at}
 use Rattle.meaning.specs.Looking.{size_word}
 use Rattle.meaning.specs.Outputs.{longest}
 use Rattle.meaning.specs.Room.{Pack}
@@ -22,11 +22,10 @@ use Rattle.meaning.specs.Runs.{Service, Serving, Broken, Answers, Steps}
 use Rattle.meaning.specs.Sessions.{examine_answer}
 use Rattle.meaning.specs.Step.{on_job}
 use Rattle.meaning.specs.Texts.{Spoken}
-use Rattle.meaning.specs.Plans.{Plan, Ask, each, examines, fetches, if_told, says_words, blocks_said, last_said, same_words}
+use Rattle.meaning.specs.Plans.{Plan, examines, fetches, if_told, says_words, blocks_said, last_said, same_words}
 use Rattle.meaning.specs.Plans.{takes_over, counts, sizes, takes, goes_to, deposits, block_address}
 use Rattle.meaning.specs.Plans.{list_words}
 use Rattle.meaning.specs.Copies.{Comes, IsRefused}
-use Rattle.meaning.specs.declared.call.Event.{Event}
 use Rattle.meaning.specs.declared.call.Event.TheVariants.{Examine}
 use Rattle.meaning.specs.declared.call.Reply.{Reply}
 use Rattle.meaning.specs.declared.call.Reply.TheVariants.{Done, Value, AddressCheck}
@@ -181,7 +180,7 @@ module _ (pack : Pack) (s : State) (j0 : Job) (there : job_at s 1 ≡ Some j0) (
           (next (laid (take 128 ahead) word)) said new
       behind t all more =
           let parts = split_done pack (at s j) (deposits block_address (replicate 128 word))
-              (goes_to moment n ∷ takes moment ∷ []) t all in
+          (goes_to moment n ∷ takes moment ∷ []) t all in
           let ws : List ℕ = replicate 128 word in
           let core1 = after_writes j.core (placed block_address ws) in
           let j1 = with_core j core1 in
@@ -194,25 +193,24 @@ module _ (pack : Pack) (s : State) (j0 : Job) (there : job_at s 1 ≡ Some j0) (
           let j2 = with_open j1 1 (reading place v n) in
           let is2 : IsJob me j2 = job_open me j1 1 (reading place v n) is1 in
           let first2 : parts.2.0 ≡ at s j2 = goes_done pack s j0 there moment j1 place v n k parts.2.0 first
-              (subst (λ u. Steps pack u (goes_to moment n) Done parts.2.0) first1 parts.2.1) in
+          (subst (λ u. Steps pack u (goes_to moment n) Done parts.2.0) first1 parts.2.1) in
           let open2 : channel_at j2 1 ≡ Some (reading place v n) = at_own j1 me 1 (reading place v n) is1 (omega arith) in
           let core3 = taken core1 128 ahead in
           let c3 = reading place v (n + blocks_of (moved core1 128 ahead)) in
           let j3 = with_open (with_core j2 core3) 1 c3 in
           let is3 : IsJob me (with_core j2 core3) = job_core me j2 core3 is2
-              (length-writes core1 (placed block_address (take 128 ahead))) in
+          (length-writes core1 (placed block_address (take 128 ahead))) in
           let first3 : parts.2.2.0 ≡ at s j3 = takes_done pack s j0 there moment me j2 place v n 128 parts.2.2.0 is2 open2
-              (omega arith) (omega arith) lists1
-              (subst (λ u. Steps pack u (takes moment) Done parts.2.2.0) first2 parts.2.2.1) in
+          (omega arith) (omega arith) lists1
+          (subst (λ u. Steps pack u (takes moment) Done parts.2.2.0) first2 parts.2.2.1) in
           let here : window core3 block_address 128 ≡ laid (take 128 ahead) word =
-              overlaid core1 block_address 128 (take 128 ahead) (omega (arith, length-take 128 ahead))
-              (let l = is1.core in omega arith)
-              ∙ ap (λ ys. take 128 ahead ++ drop (length (take 128 ahead)) ys) (written j.core block_address 128 ws
-              (length-replicate 128 word) (let l = is.core in omega arith)) in
+          overlaid core1 block_address 128 (take 128 ahead) (omega (arith, length-take 128 ahead))
+          (let l = is1.core in omega arith)
+          ∙ ap (λ ys. take 128 ahead ++ drop (length (take 128 ahead)) ys) (written j.core block_address 128 ws
+          (length-replicate 128 word) (let l = is.core in omega arith)) in
           let left = fetched 128 j3 block_address next said new (let l = is3.core in omega arith)
-              (subst (λ u. Comes pack (Serving u) (fetches moment 128 block_address next) said new)
-              (parts.2.2.2 ∙ first3) more) in
-          (
+          (subst (λ u. Comes pack (Serving u) (fetches moment 128 block_address next) said new)
+          (parts.2.2.2 ∙ first3) more) in (
             j3,
             (
               job_open me (with_core j2 core3) 1 c3 is3,
@@ -259,11 +257,18 @@ module _ (pack : Pack) (s : State) (j0 : Job) (there : job_at s 1 ≡ Some j0) (
           → Comes pack (Serving (at s j)) (if b then next (last_said size) else counts moment (more + 1) next) said new
           → IsRefused s.files said new
           ⊎ ((j' : Job) × Between me place v j j' × Comes pack (Serving (at s j')) (next (len - more * 128)) said new)
-      by true says c = inr (j, (is, (k, first), refl, lists), subst (λ n. Comes pack (Serving (at s j)) (next n) said new)
-          (said_last len (omega arith) fits says ∙ sym counted) c)
+      by true says c = inr (
+        j,
+        (is, (k, first), refl, lists),
+        subst (λ n. Comes pack (Serving (at s j)) (next n) said new)
+            (said_last len (omega arith) fits says ∙ sym counted) c,
+      )
       by false says c = ⊎_elim inl (λ (j1, (is1, (k1, first1), second1, lists1), c1). ⊎_elim inl
-          (λ (j2, (is2, reads2, second2, lists2), c2). inr (j2, (is2, reads2, second2 ∙ second1, lists2),
-          subst (λ n. Comes pack (Serving (at s j2)) (next n) said new) (same_laid ahead ∙ ahead_is) c2))
+          (λ (j2, (is2, reads2, second2, lists2), c2). inr (
+            j2,
+            (is2, reads2, second2 ∙ second1, lists2),
+            subst (λ n. Comes pack (Serving (at s j2)) (next n) said new) (same_laid ahead ∙ ahead_is) c2,
+          ))
           (takes_over_done me place v (more + 1) 1 (λ ones. next (same_words (laid ahead 0) ones)) said new j1 is1 k1
           first1 lists1 c1))
           (takes_over_done me place v (more + 1) 0

@@ -9,8 +9,8 @@ mod area;
 mod call;
 mod changes;
 mod code;
-mod copies;
 mod command;
+mod copies;
 mod edits;
 mod encoding;
 mod entry;
@@ -35,10 +35,10 @@ pub use changes::{
 };
 pub use code::ErrorCode;
 pub use command::{Command, Spec};
+pub use copies::{copies_are_exact, errands_are_exact, reads_are_exact, states_stay_ready};
 pub use edits::{directory_edits, master_edits};
 pub use encoding::Encoding;
 pub use entry::Entry;
-pub use copies::{copies_are_exact, errands_are_exact, reads_are_exact, states_stay_ready};
 pub use laws::{
     bits_are_counted, chains_are_kept, log_is_no_part, maps_fit_their_cost, names_are_sixbit,
     one_meaning, quiet_writes, vectors_stand, versions_are_kept, versions_fit_their_cost,
