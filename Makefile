@@ -21,6 +21,7 @@ test:
 	sh examples/starts crates/filser/out/filser
 	sh examples/emulate crates/filser/out/filser
 	python3 examples/files crates/filser/out/filser
+	python3 examples/hostile crates/filser/out/filser
 	tools/check-docs crates/filser/out/filser
 	tools/test-wrong-bodies
 
@@ -35,6 +36,7 @@ examples:
 	sh examples/starts crates/filser/out/filser
 	sh examples/emulate crates/filser/out/filser
 	python3 examples/files crates/filser/out/filser
+	python3 examples/hostile crates/filser/out/filser
 	tools/check-docs crates/filser/out/filser
 
 # The first time every crate below the program is proved too; what was proved is kept below crates/*/out.

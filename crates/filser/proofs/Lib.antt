@@ -2,3 +2,4 @@ mod Began
 mod Attending
 mod Matching
 mod Unasked
+mod Concluding

@@ -1,5 +1,6 @@
-use Rattle.std.proofs.Common.{inl, inr, subst}
+use Rattle.std.proofs.Common.{inl, inr, refl, subst}
 use Rattle.monitor.proofs.Along.{no_fault}
+use Rattle.filser.specs.declared.refusal.Refusal.TheVariants.{Start}
 use Rattle.filser.proofs.Attending.{was_honest}
 use Rattle.filser.proofs.serving.serve.Goals as goal
 
@@ -34,3 +35,15 @@ returns-in-Ok-clause-was_honest g c h =
     c.in-Ok.ensures.same.was_honest
     (was_honest g.D.Disk.state c.args.task _ _ _ _ c.in-Ok.monitor _ c.attend-attended.result
     c.attend-attended.ensures (subst (λ disk. (g.D.Disk.state disk).honest) c.finish.ensures h))
+
+pub returns-in-Ok-clause-attended : goal.returns-in-Ok-clause-attended
+returns-in-Ok-clause-attended g c = inl (record {
+  first = c.in-Ok.monitor;
+  last = c.attend-attended.new.monitor;
+  result = c.attend-attended.result;
+  attends = c.attend-attended.ensures;
+  ends = c.ending.ensures.ends;
+})
+
+pub returns-in-Err-clause-attended : goal.returns-in-Err-clause-attended
+returns-in-Err-clause-attended g c = inr (refl, inl (Start c.in-Err.error, inl c.say.ensures.said))
