@@ -1,4 +1,5 @@
 mod AsciiLaws
 pub mod BlockLaws
 mod Digits
+mod NineLaws
 mod SixbitLaws
