@@ -1,5 +1,5 @@
 mod AsciiLaws
 pub mod BlockLaws
 mod Digits
-mod NineLaws
+pub mod NineLaws
 mod SixbitLaws
