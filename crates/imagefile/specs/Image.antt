@@ -15,6 +15,10 @@ abbrev pub block_length : Form → ℕ
 block_length Wide = 1024
 block_length Packed = 576
 
+abbrev pub other_form : Form → Form
+other_form Wide = Packed
+other_form Packed = Wide
+
 -- the first n words of a wide block's bytes have top bits of zero
 unfoldable pub are_words : List ℕ → ℕ → Bool
 are_words bytes zero = true

@@ -1,5 +1,5 @@
 ghost use Rattle.std.specs.Prelude.{◌≡◌, ◌<◌, ◌≤◌};
-ghost use Rattle.imagefile.specs.Image.{block_length};
+ghost use Rattle.imagefile.specs.Image.{block_length, other_form};
 
 use words36::{BLOCK_BYTES, PACKED_BYTES};
 
@@ -23,6 +23,16 @@ impl Form {
         match self {
             Form::Wide => BLOCK_BYTES as u64,
             Form::Packed => PACKED_BYTES as u64,
+        }
+    }
+
+    /// The other form.
+    pub fn other(self) -> Form
+        ensures { result ≡ other_form self }
+    {
+        match self {
+            Form::Wide => Form::Packed,
+            Form::Packed => Form::Wide,
         }
     }
 }
