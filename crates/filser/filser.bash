@@ -2,19 +2,20 @@
 _filser() {
     local word=${COMP_WORDS[COMP_CWORD]} command=${COMP_WORDS[1]-}
     if [ "$COMP_CWORD" -eq 1 ]; then
-        mapfile -t COMPREPLY < <(compgen -W 'init run calls put get list check help -h --help -V --version' -- "$word")
+        mapfile -t COMPREPLY < <(compgen -W 'init run calls put get list check convert help -h --help -V --version' -- "$word")
         return
     fi
-    local options=--help
+    local options='--form --help'
     case $command in
-        run | calls) options='--date --minute --help' ;;
-        put | get) options='--words --date --minute --help' ;;
+        run | calls) options='--date --minute --form --help' ;;
+        put | get) options='--words --date --minute --form --help' ;;
+        help) options=--help ;;
     esac
     if [[ $word == -* ]]; then
         mapfile -t COMPREPLY < <(compgen -W "$options" -- "$word")
     elif [ "$command" = help ]; then
-        mapfile -t COMPREPLY < <(compgen -W 'init run calls put get list check' -- "$word")
-    elif [ "$COMP_CWORD" -eq 2 ]; then
+        mapfile -t COMPREPLY < <(compgen -W 'init run calls put get list check convert' -- "$word")
+    elif [ "$COMP_CWORD" -eq 2 ] || { [ "$command" = convert ] && [ "$COMP_CWORD" -eq 3 ]; }; then
         compopt -o filenames
         mapfile -t COMPREPLY < <(compgen -f -- "$word")
     fi

@@ -1,5 +1,5 @@
 use blockdisk::{Disk, Fault, NoMemory};
-use imagefile::{Durable, ImageDisk, ImageError, MemFile, block_count};
+use imagefile::{Durable, Form, ImageDisk, ImageError, MemFile, block_count};
 use std::alloc::{AllocError, Global};
 use std::process::Abort;
 use std::test::Fail;
@@ -88,7 +88,7 @@ pub(crate) fn expect_bad_size<F: Durable + Drop>(rt: &impl Abort, file: F, bytes
 }
 
 /// A block whose words are all this number.
-fn filled(number: u64) -> Block {
+pub(crate) fn filled(number: u64) -> Block {
     match Word::new(number) {
         Some(word) => [word; BLOCK_WORDS],
         None => [Word::ZERO; BLOCK_WORDS],
@@ -105,13 +105,13 @@ fn expect_word<D: Disk>(rt: &impl Abort, disk: &mut D, n: u32, place: usize, wor
 }
 
 /// What reading a block answers.
-fn expect_block<D: Disk>(rt: &impl Abort, disk: &mut D, n: u32, wanted: Result<Block, Fault>) {
+pub(crate) fn expect_block<D: Disk>(rt: &impl Abort, disk: &mut D, n: u32, wanted: Result<Block, Fault>) {
     assert!(rt; n < disk.blocks());
     assert!(rt; disk.read(n) == wanted);
 }
 
 /// What writing a block of this number answers.
-fn expect_write<D: Disk>(
+pub(crate) fn expect_write<D: Disk>(
     rt: &impl Abort,
     disk: &mut D,
     n: u32,
@@ -143,12 +143,12 @@ pub(crate) fn expect_v1<D: Disk>(rt: &impl Abort, disk: &mut D) {
 
 #[test]
 fn lengths_of_images(rt: HostRuntime) {
-    assert_eq!(rt; block_count(0), Ok(0));
-    assert_eq!(rt; block_count(65536), Ok(64));
-    assert_eq!(rt; block_count(1024 * 4294967295), Ok(4294967295));
+    assert_eq!(rt; block_count(Form::Wide, 0), Ok(0));
+    assert_eq!(rt; block_count(Form::Wide, 65536), Ok(64));
+    assert_eq!(rt; block_count(Form::Wide, 1024 * 4294967295), Ok(4294967295));
     for length in [1, 576, 1023, 1025, 65535, 1024 * 4294967296, u64::MAX] {
         assert_eq!(rt;
-            block_count(length),
+            block_count(Form::Wide, length),
             Err(ImageError::BadSize),
             "at {length}"
         );

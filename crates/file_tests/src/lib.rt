@@ -11,4 +11,6 @@ mod host_tests;
 #[cfg(test)]
 mod image_tests;
 #[cfg(test)]
+mod packed_tests;
+#[cfg(test)]
 mod same_tests;

@@ -12,28 +12,30 @@ use Rattle.clap.specs.declared.error.kind.ErrorKind.TheVariants.{OutOfMemory}
 use Rattle.clap.proofs.OnLiterals.{clap_on_literals}
 use Rattle.clap.proofs.WalkLemmas.{first_value-rows, one_text-rows}
 use Rattle.words36.specs.declared.moment.Moment.{Moment}
+use Rattle.imagefile.specs.declared.form.Form.{Form}
 use Rattle.meaning.specs.Lines.{upper}
 use Rattle.meaning.specs.Spellings.{IsPair}
 use Rattle.commands.specs.Files.{IsFileName}
 use Rattle.filser.specs.CommandLine.{command_line, serving, filing, looking, init_app, run_app, calls_app, put_app}
-use Rattle.filser.specs.CommandLine.{get_app, list_app, check_app, dated, filed}
-use Rattle.filser.specs.Requests.{Asks, IsAsked, IsTask, IsAt, IsNamed, IsPlace, HasText, HasNumber, Spells, task_name}
+use Rattle.filser.specs.CommandLine.{get_app, list_app, check_app, convert_app, converting, dated, filed, formed}
+use Rattle.filser.specs.Requests.{Asks, IsAsked, IsTask, IsAt, IsNamed, IsPlace, HasForm, HasText, HasNumber}
+use Rattle.filser.specs.Requests.{Spells, task_name}
 use Rattle.filser.specs.declared.task.NamedFile.{NamedFile}
 use Rattle.filser.specs.declared.task.Task.{Task}
 use Rattle.filser.specs.declared.task.Task.TheVariants.{Run, Calls, Put, Get, List as ListAll, Check}
 use Rattle.filser.specs.declared.error.RequestError.{RequestError}
 use Rattle.filser.specs.declared.error.RequestError.TheVariants.{Usage}
 use Rattle.filser.specs.declared.asked.Request.{Request}
-use Rattle.filser.specs.declared.asked.Request.TheVariants.{Fresh, Init, Work}
+use Rattle.filser.specs.declared.asked.Request.TheVariants.{Fresh, Init, Work, Convert}
 
 -- The command line is one of those whose matches `clap` computes.
 
 pub line-simple : is_simple command_line ≡ true
-unfolding clap_on_literals command_line serving filing looking init_app dated filed run_app calls_app put_app get_app list_app check_app
+unfolding clap_on_literals command_line serving filing looking init_app dated filed run_app calls_app put_app get_app list_app check_app convert_app converting formed
 line-simple = refl
 
 pub line-free : is_simple_and_free command_line ≡ true
-unfolding clap_on_literals command_line serving filing looking init_app dated filed run_app calls_app put_app get_app list_app check_app
+unfolding clap_on_literals command_line serving filing looking init_app dated filed run_app calls_app put_app get_app list_app check_app convert_app converting formed
 line-free = refl
 
 -- Texts and numbers.
@@ -178,14 +180,45 @@ init_is_no_task name Check is asked = other_task name (codes "init") Check 325 r
 pub no_init : (name : Text) (rows : List Row) → name ≡ codes "init"
     → ((n : ℕ) → HasNumber rows (codes "BLOCKS") 64 131072 n → ⊥) → (r : Request) → IsAsked name rows r → ⊥
 no_init name rows is none Fresh asked = asked
-no_init name rows is none (Init image blocks) asked = none blocks asked.2
-no_init name rows is none (Work image task) asked = init_is_no_task name task is asked.1.0
+no_init name rows is none (Init image blocks form) asked = none blocks asked.2
+no_init name rows is none (Work image form task) asked = init_is_no_task name task is asked.2.0
+no_init name rows is none (Convert image new form) asked = differ name (codes "init") (codes "convert") 325 321 refl refl
+    (λ e. omega arith) is asked.0
 
-pub no_work : (name : Text) (rows : List Row) → (name ≡ codes "init" → ⊥) → ((t : Task) → IsTask name rows t → ⊥)
-    → (r : Request) → IsAsked name rows r → ⊥
-no_work name rows other none Fresh asked = asked
-no_work name rows other none (Init image blocks) asked = other asked.0
-no_work name rows other none (Work image task) asked = none task asked.1
+convert_is_no_task : (name : Text) (task : Task) → name ≡ codes "convert" → name ≡ task_name task → ⊥
+convert_is_no_task name (Run at) is asked = other_task name (codes "convert") (Run at) 321 refl (λ e. omega arith) is
+    asked
+convert_is_no_task name (Calls at) is asked = other_task name (codes "convert") (Calls at) 321 refl (λ e. omega arith)
+    is asked
+convert_is_no_task name (Put file at) is asked = other_task name (codes "convert") (Put file at) 321 refl
+    (λ e. omega arith) is asked
+convert_is_no_task name (Get file at) is asked = other_task name (codes "convert") (Get file at) 321 refl
+    (λ e. omega arith) is asked
+convert_is_no_task name (ListAll place) is asked = other_task name (codes "convert") (ListAll place) 321 refl
+    (λ e. omega arith) is asked
+convert_is_no_task name Check is asked = other_task name (codes "convert") Check 321 refl (λ e. omega arith) is asked
+
+pub no_convert : (name : Text) (rows : List Row) → name ≡ codes "convert"
+    → ((t : Text) → HasText rows (codes "NEW") t → ⊥) → (r : Request) → IsAsked name rows r → ⊥
+no_convert name rows is none Fresh asked = asked
+no_convert name rows is none (Init image blocks form) asked = differ name (codes "convert") (codes "init") 321 325 refl
+    refl (λ e. omega arith) is asked.0
+no_convert name rows is none (Work image form task) asked = convert_is_no_task name task is asked.2.0
+no_convert name rows is none (Convert image new form) asked = none new.now asked.2
+
+pub no_form : (name : Text) (rows : List Row) → ((f : Form) → HasForm rows f → ⊥) → (r : Request)
+    → IsAsked name rows r → ⊥
+no_form name rows none Fresh asked = asked
+no_form name rows none (Init image blocks form) asked = none form asked.3
+no_form name rows none (Work image form task) asked = none form asked.1
+no_form name rows none (Convert image new form) asked = none form asked.3
+
+pub no_work : (name : Text) (rows : List Row) → (name ≡ codes "init" → ⊥) → (name ≡ codes "convert" → ⊥)
+    → ((t : Task) → IsTask name rows t → ⊥) → (r : Request) → IsAsked name rows r → ⊥
+no_work name rows other another none Fresh asked = asked
+no_work name rows other another none (Init image blocks form) asked = other asked.0
+no_work name rows other another none (Work image form task) asked = none task asked.2
+no_work name rows other another none (Convert image new form) asked = another asked.0
 
 -- A task of a word has what belongs to that word.
 

@@ -21,18 +21,32 @@ optional id most = record (new_rule id) {
   parser = Some (vp.Signed (pos 0) (pos most));
 }
 
+-- an image's form, 1 or 2, which may be left out, and is 1 then
+abbrev pub form_rule : Rule
+form_rule = record (new_rule (codes "form")) {
+  long = Some (codes "form");
+  value_names = 1;
+  defaults = codes "1" ∷ [];
+  parser = Some (vp.Signed (pos 1) (pos 2));
+}
+
+-- with the form of an image
+unfoldable pub formed : App → App
+formed app = with_rule app form_rule
+
 unfoldable pub init_app : App
-init_app = with_rule (with_rule (new_app (codes "init")) (wanted (codes "IMAGE"))) (numbered (codes "BLOCKS") 64 131072)
+init_app = formed (with_rule (with_rule (new_app (codes "init")) (wanted (codes "IMAGE")))
+    (numbered (codes "BLOCKS") 64 131072))
 
 -- with the date and the minute of what is written
 unfoldable pub dated : App → App
 dated app = with_rule (with_rule app (optional (codes "date") 32767)) (optional (codes "minute") 1439)
 
 unfoldable pub run_app : App
-run_app = dated (with_rule (new_app (codes "run")) (wanted (codes "IMAGE")))
+run_app = formed (dated (with_rule (new_app (codes "run")) (wanted (codes "IMAGE"))))
 
 unfoldable pub calls_app : App
-calls_app = dated (with_rule (new_app (codes "calls")) (wanted (codes "IMAGE")))
+calls_app = formed (dated (with_rule (new_app (codes "calls")) (wanted (codes "IMAGE"))))
 
 -- with an option that says nothing but that it is there
 abbrev pub flag : Text → Rule
@@ -45,18 +59,22 @@ filed app =
     (wanted (codes "NAME"))) (flag (codes "words"))
 
 unfoldable pub put_app : App
-put_app = dated (filed (new_app (codes "put")))
+put_app = formed (dated (filed (new_app (codes "put"))))
 
 unfoldable pub get_app : App
-get_app = dated (filed (new_app (codes "get")))
+get_app = formed (dated (filed (new_app (codes "get"))))
 
 unfoldable pub list_app : App
-list_app = with_rule (with_rule (new_app (codes "list")) (wanted (codes "IMAGE"))) (new_rule (codes "PPN"))
+list_app = formed (with_rule (with_rule (new_app (codes "list")) (wanted (codes "IMAGE"))) (new_rule (codes "PPN")))
 
 unfoldable pub check_app : App
-check_app = with_rule (new_app (codes "check")) (wanted (codes "IMAGE"))
+check_app = formed (with_rule (new_app (codes "check")) (wanted (codes "IMAGE")))
 
--- the subcommands: those that make an image and serve an input on it, that bring a file in and out, and that look
+unfoldable pub convert_app : App
+convert_app = formed (with_rule (with_rule (new_app (codes "convert")) (wanted (codes "IMAGE"))) (wanted (codes "NEW")))
+
+-- the subcommands: those that make an image and serve an input on it, that bring a file in and out, that look, and the
+-- one that converts
 unfoldable pub serving : App → App
 serving app = with_subcommand (with_subcommand (with_subcommand app init_app.top) run_app.top) calls_app.top
 
@@ -66,10 +84,13 @@ filing app = with_subcommand (with_subcommand app put_app.top) get_app.top
 unfoldable pub looking : App → App
 looking app = with_subcommand (with_subcommand app list_app.top) check_app.top
 
+unfoldable pub converting : App → App
+converting app = with_subcommand app convert_app.top
+
 -- a command of this name, which can be asked for its version
 abbrev pub versioned : Text → App
 versioned name = record (new_app name) { top = record (new_app name).top { has_version = true } }
 
 -- the whole of it
 unfoldable pub command_line : App
-command_line = looking (filing (serving (versioned (codes "filser"))))
+command_line = converting (looking (filing (serving (versioned (codes "filser")))))

@@ -5,10 +5,12 @@ use Rattle.clap.specs.Words.{Row, Text, first_of, one_of}
 use Rattle.words36.specs.declared.moment.Moment.{Moment}
 use Rattle.meaning.specs.Lines.{upper}
 use Rattle.meaning.specs.Spellings.{IsPair}
+use Rattle.imagefile.specs.declared.form.Form.{Form}
+use Rattle.imagefile.specs.declared.form.Form.TheVariants.{Wide, Packed}
 use Rattle.meaning.specs.declared.encoding.Encoding.TheVariants.{Words}
 use Rattle.commands.specs.Files.{IsFileName}
 use Rattle.filser.specs.declared.asked.Request.{Request}
-use Rattle.filser.specs.declared.asked.Request.TheVariants.{Fresh, Init, Work}
+use Rattle.filser.specs.declared.asked.Request.TheVariants.{Fresh, Init, Work, Convert}
 use Rattle.filser.specs.declared.task.NamedFile.{NamedFile}
 use Rattle.filser.specs.declared.task.Task.{Task}
 use Rattle.filser.specs.declared.task.Task.TheVariants.{Run, Calls, Put, Get, List as ListAll, Check}
@@ -69,21 +71,36 @@ HasTask rows Check = Unit
 abbrev pub IsTask : Text → List Row → Task → Type 0
 IsTask name rows task = (name ≡ task_name task) × HasTask rows task
 
+-- the number of a form
+abbrev pub form_number : Form → ℕ
+form_number Wide = 1
+form_number Packed = 2
+
+abbrev pub HasForm : List Row → Form → Type 0
+HasForm rows form = HasNumber rows (codes "form") 1 2 (form_number form)
+
 abbrev pub IsAsked : Text → List Row → Request → Type 0
 IsAsked name rows Fresh = ⊥
-IsAsked name rows (Init image blocks) =
+IsAsked name rows (Init image blocks form) =
     (name ≡ codes "init") × HasText rows (codes "IMAGE") image.now × HasNumber rows (codes "BLOCKS") 64 131072 blocks
-IsAsked name rows (Work image task) = HasText rows (codes "IMAGE") image.now × IsTask name rows task
+    × HasForm rows form
+IsAsked name rows (Work image form task) = HasText rows (codes "IMAGE") image.now × HasForm rows form
+    × IsTask name rows task
+IsAsked name rows (Convert image new form) =
+    (name ≡ codes "convert") × HasText rows (codes "IMAGE") image.now × HasText rows (codes "NEW") new.now
+    × HasForm rows form
 
 -- without a subcommand a fresh volume is asked for
 abbrev pub Asks : Option (Text × List Row) → Request → Type 0
 Asks None Fresh = Unit
-Asks None (Init image blocks) = ⊥
-Asks None (Work image task) = ⊥
+Asks None (Init image blocks form) = ⊥
+Asks None (Work image form task) = ⊥
+Asks None (Convert image new form) = ⊥
 Asks (Some found) request = IsAsked found.0 found.1 request
 
 -- the numbers are in their ranges
 abbrev pub InRange : Request → Type 0
 InRange Fresh = Unit
-InRange (Init image blocks) = (64 ≤ blocks) × (blocks ≤ 131072)
-InRange (Work image task) = Unit
+InRange (Init image blocks form) = (64 ≤ blocks) × (blocks ≤ 131072)
+InRange (Work image form task) = Unit
+InRange (Convert image new form) = Unit

@@ -9,7 +9,8 @@ use Rattle.volume.specs.declared.error.VolumeError.{VolumeError}
 use Rattle.volume.specs.declared.error.VolumeError.TheVariants.{Device, NoMemory}
 use Rattle.monitor.specs.Runs.{ServesFiles}
 use Rattle.monitor.specs.States.{MonitorState}
-use Rattle.imagefile.specs.Image.{image_contents}
+use Rattle.imagefile.specs.Image.{block_length, image_contents}
+use Rattle.imagefile.specs.declared.form.Form.{Form}
 use Rattle.imagefile.specs.Unseen.{Unseen, size_of, first_bytes}
 use Rattle.commands.specs.Machines.{Machine}
 use Rattle.commands.specs.Monitors.{machine_of}
@@ -59,6 +60,6 @@ pub record IsUnserved {D : Type 0} (state : D → DiskState) (disk end : D) (sta
   pub left : LeavesOnly (state disk) (state end) (StandsLikeBefore (state disk))
 
 -- While it has been honest, the disk holds what the file of its image began with.
-pub record HoldsFile (u : Unseen) (d : DiskState) : Type 0 where
-  pub size : d.honest → size_of u ≡ 1024 * d.size
-  pub contents : d.honest → (n : ℕ) → d.contents n ≡ image_contents (first_bytes u) n
+pub record HoldsFile (form : Form) (u : Unseen) (d : DiskState) : Type 0 where
+  pub size : d.honest → size_of u ≡ block_length form * d.size
+  pub contents : d.honest → (n : ℕ) → d.contents n ≡ image_contents form (first_bytes u) n

@@ -2,7 +2,7 @@
 ghost use Rattle.std.specs.Prelude.{◌≡◌, IfOk, codes, false};
 ghost use Rattle.clap.specs.Words.{app_of, new_rule, rule_of, with_rule};
 ghost use Rattle.clap.specs.declared.builder.command.Command.TheViews.{out-Command as fields_of};
-ghost use Rattle.filser.specs.CommandLine.{dated, filed, flag, numbered, optional, wanted};
+ghost use Rattle.filser.specs.CommandLine.{dated, filed, flag, form_rule, formed, numbered, optional, wanted};
 
 use clap::{Arg, ArgAction, Command};
 use std::alloc::{AllocError, Global};
@@ -78,6 +78,28 @@ pub(crate) fn dated<'a>(alloc: Global, command: Command<'a>) -> Result<Command<'
 {
     let command = with_argument(command, date(alloc))?;
     with_argument(command, minute(alloc))
+}
+
+/// The form of an image.
+fn form<'a>(alloc: Global) -> Arg<'a>
+    ensures rule { rule_of result ≡ form_rule }
+    ensures local { result.global ≡ false }
+{
+    Arg::new(alloc, "form")
+        .long("form")
+        .value_name("N")
+        .help("The form of IMAGE: 1, eight bytes a word, or 2, nine bytes to two words")
+        .default_value("1")
+        .value_parser(clap::value_parser!(u32).range(1..=2))
+}
+
+/// A command with the form of its image.
+#[tactic(auto, unfolding(crate::specs::CommandLine::formed))]
+pub(crate) fn formed<'a>(alloc: Global, command: Command<'a>) -> Result<Command<'a>, AllocError>
+    ensures app { IfOk result (λ c. app_of c ≡ formed (app_of command.entry)) }
+    ensures local { IfOk result (λ c. (fields_of c).has_globals ≡ (fields_of command.entry).has_globals) }
+{
+    with_argument(command, form(alloc))
 }
 
 /// A command with one more example of its use below its help.

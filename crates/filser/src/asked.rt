@@ -1,22 +1,27 @@
 use crate::Task;
+use imagefile::Form;
 
 /// What the words of a command line ask for. An image is named by its path.
 #[derive(Clone, Copy, Debug, PartialEq, Eq)]
 pub enum Request<'a> {
     /// No subcommand: serve the input on a fresh volume that nobody keeps.
     Fresh,
-    /// `init`: make this image, of so many blocks.
-    Init(&'a str, u32),
-    /// Do this on this image.
-    Work(&'a str, Task),
+    /// `init`: make this image, of so many blocks, in this form.
+    Init(&'a str, u32, Form),
+    /// Do this on this image, which has this form.
+    Work(&'a str, Form, Task),
+    /// `convert`: write what is on the first image, which has this form, to a new one of the other form.
+    Convert(&'a str, &'a str, Form),
 }
 
 impl<'a> Request<'a> {
-    /// The path of the image that it names, where it names one.
+    /// The path of the image that it names, where it names one: of two, of the one that is there.
     pub fn image(&self) -> Option<&'a str> {
         match self {
             Request::Fresh => None,
-            Request::Init(path, _) | Request::Work(path, _) => Some(*path),
+            Request::Init(path, _, _) | Request::Work(path, _, _) | Request::Convert(path, _, _) => {
+                Some(*path)
+            }
         }
     }
 }

@@ -12,7 +12,7 @@ use crate::{HostFault, ImageFault, Refusal};
 use blockcache::Cached;
 use blockdisk::{Disk, NoMemory};
 use commands::Volume;
-use imagefile::{HostFile, ImageDisk, ImageError, Supposition, apart};
+use imagefile::{Form, HostFile, ImageDisk, ImageError, Supposition, apart};
 use std::alloc::Global;
 use std::fs::{self, File, OpenOptions, TryLockError};
 use std::io::{self, ErrorKind, Write};
@@ -28,7 +28,7 @@ const KEPT_BLOCKS: usize = 256;
 pub(crate) type Image = Cached<ImageDisk<HostFile>>;
 
 /// Why the first call failed that did on a file, for people.
-fn failure_of(file: &HostFile) -> Option<HostFault> {
+pub(crate) fn failure_of(file: &HostFile) -> Option<HostFault> {
     file.failure().map(HostFault::System)
 }
 
@@ -77,18 +77,22 @@ fn claim<E: Write>(file: &File, path: &str, errors: &mut E) -> Result<(), ImageF
     }
 }
 
-/// The disk in a file that began as is supposed.
+/// The disk of this form in a file that began as is supposed.
 ///
 /// # Errors
 ///
 /// `NotVolume` where its length is not that of an image, `Device` where the device failed.
-fn disk_in(file: File, supposed: Supposition) -> Result<ImageDisk<HostFile>, ImageFault>
+pub(crate) fn disk_in(
+    file: File,
+    form: Form,
+    supposed: Supposition,
+) -> Result<ImageDisk<HostFile>, ImageFault>
     requires { IsApart file }
     ensures holds { IfOk result
-        (λ image. HoldsFile (unseen_in supposed) (⟦<ImageDisk<HostFile> as Disk>⟧.state image)) }
+        (λ image. HoldsFile form (unseen_in supposed) (⟦<ImageDisk<HostFile> as Disk>⟧.state image)) }
     ensures refused { IfErr result (λ fault. IsFileRefusal fault.refusal) }
 {
-    match ImageDisk::new(HostFile::from_file(file, supposed)) {
+    match ImageDisk::of_form(HostFile::from_file(file, supposed), form) {
         Ok(image) => Ok(image),
         Err((ImageError::BadSize, _)) => Err(ImageFault {
             refusal: Refusal::Start(VolumeError::NotVolume),
@@ -101,7 +105,7 @@ fn disk_in(file: File, supposed: Supposition) -> Result<ImageDisk<HostFile>, Ima
     }
 }
 
-/// The image in a file that began as is supposed, with room to keep blocks of it in memory.
+/// The image of this form in a file that began as is supposed, with room to keep blocks of it in memory.
 ///
 /// # Errors
 ///
@@ -109,14 +113,15 @@ fn disk_in(file: File, supposed: Supposition) -> Result<ImageDisk<HostFile>, Ima
 pub(crate) fn image_in(
     alloc: Global,
     file: File,
+    form: Form,
     supposed: Supposition,
 ) -> Result<Image, ImageFault>
     requires { IsApart file }
     ensures holds { IfOk result
-        (λ image. HoldsFile (unseen_in supposed) (⟦<Cached<ImageDisk<HostFile>> as Disk>⟧.state image)) }
+        (λ image. HoldsFile form (unseen_in supposed) (⟦<Cached<ImageDisk<HostFile>> as Disk>⟧.state image)) }
     ensures refused { IfErr result (λ fault. IsFileRefusal fault.refusal) }
 {
-    let disk = disk_in(file, supposed)?;
+    let disk = disk_in(file, form, supposed)?;
     let room = NonZeroUsize::new(KEPT_BLOCKS).unwrap();
     match Cached::new(alloc, disk, room) {
         Ok(image) => Ok(image),
@@ -152,7 +157,7 @@ pub(crate) fn open_file<F: Files<File = File>, E: Write>(
 /// # Errors
 ///
 /// `Exists` where something has that name, `Device` where it can't be made.
-fn new_file<F: Files<File = File>>(files: &F, path: &str) -> Result<File, ImageFault>
+pub(crate) fn new_file<F: Files<File = File>>(files: &F, path: &str) -> Result<File, ImageFault>
     ensures { IfErr result (λ fault. (fault.refusal ≡ Exists) ⊎ (fault.refusal ≡ Start Device)) }
 {
     match File::create_new(files, path) {
@@ -165,19 +170,42 @@ fn new_file<F: Files<File = File>>(files: &F, path: &str) -> Result<File, ImageF
     }
 }
 
-/// Writes so many blocks of zeros, so that a file system without room for an image refuses it when it is made, and not
+/// Writes so many blocks of zeros in this form, so that a file system without room for an image refuses it when it is made, and not
 /// when somebody's file is written.
 ///
 /// # Errors
 ///
 /// The system's.
-fn write_zeros(file: &File, blocks: u32) -> io::Result<()> {
+fn write_zeros(file: &File, form: Form, blocks: u32) -> io::Result<()> {
     let zeros = [0; BLOCK_BYTES];
+    let block = &zeros[..form.block_bytes() as usize];
     let mut writer = file;
     for _ in 0..blocks {
-        writer.write_all(&zeros)?;
+        writer.write_all(block)?;
     }
     file.sync_all()
+}
+
+/// The disk of so many blocks of zeros in a new file.
+///
+/// # Errors
+///
+/// `Device` where the file can't be written, or another process has it.
+pub(crate) fn zeros_in<E: Write>(
+    file: File,
+    path: &str,
+    form: Form,
+    blocks: u32,
+    errors: &mut E,
+) -> Result<ImageDisk<HostFile>, ImageFault>
+    ensures { IfErr result (λ fault. IsFileRefusal fault.refusal) }
+{
+    let file = kept_apart(file)?;
+    claim(&file, path, errors)?;
+    if let Err(error) = write_zeros(&file, form, blocks) {
+        return Err(ImageFault::from(HostFault::System(error)));
+    }
+    disk_in(file, form, Supposition::any())
 }
 
 /// Makes a volume of so many blocks in a new file.
@@ -185,15 +213,16 @@ fn write_zeros(file: &File, blocks: u32) -> io::Result<()> {
 /// # Errors
 ///
 /// `Device` where the file can't be written, or another process has it.
-fn fill<E: Write>(file: File, path: &str, blocks: u32, errors: &mut E) -> Result<(), ImageFault>
+fn fill<E: Write>(
+    file: File,
+    path: &str,
+    form: Form,
+    blocks: u32,
+    errors: &mut E,
+) -> Result<(), ImageFault>
     ensures { IfErr result (λ fault. IsFileRefusal fault.refusal) }
 {
-    let file = kept_apart(file)?;
-    claim(&file, path, errors)?;
-    if let Err(error) = write_zeros(&file, blocks) {
-        return Err(ImageFault::from(HostFault::System(error)));
-    }
-    let mut disk = disk_in(file, Supposition::any())?;
+    let mut disk = zeros_in(file, path, form, blocks, errors)?;
     match Volume::init(&mut disk) {
         Ok(()) => Ok(()),
         Err(error) => Err(ImageFault {
@@ -203,7 +232,7 @@ fn fill<E: Write>(file: File, path: &str, blocks: u32, errors: &mut E) -> Result
     }
 }
 
-/// Makes an image of so many blocks with no directory on it. All of them are written.
+/// Makes an image of this form and of so many blocks with no directory on it. All of them are written.
 ///
 /// # Errors
 ///
@@ -212,13 +241,14 @@ fn fill<E: Write>(file: File, path: &str, blocks: u32, errors: &mut E) -> Result
 pub fn make_image<F: Files<File = File>, E: Write>(
     files: &F,
     path: &str,
+    form: Form,
     blocks: u32,
     errors: &mut E,
 ) -> Result<(), ImageFault>
     ensures { IfErr result (λ fault. (fault.refusal ≡ Exists) ⊎ IsFileRefusal fault.refusal) }
 {
     let file = new_file(files, path)?;
-    match fill(file, path, blocks, errors) {
+    match fill(file, path, form, blocks, errors) {
         Ok(()) => Ok(()),
         Err(fault) => {
             let _ = fs::remove_file(files, path);

@@ -1,4 +1,5 @@
 use crate::{MissingStreams, Refusal, make_image, work};
+use imagefile::Form;
 use std::alloc::{AllocError, Global};
 use std::fs::{self, File};
 use std::io;
@@ -158,7 +159,7 @@ fn an_image_is_made(rt: HostRuntime) -> Result<(), Fail> {
 /// A new image doesn't get this name, since it is taken.
 fn expect_taken<F: Files<File = File> + Alloc<A = Global> + Abort>(rt: &F, path: &str) {
     let mut errors = Vec::new(rt.alloc());
-    match make_image(rt, path, 64, &mut errors) {
+    match make_image(rt, path, Form::Wide, 64, &mut errors) {
         Ok(()) => panic!(rt; "an image is made"),
         Err(fault) => assert!(rt; fault.refusal == Refusal::Exists),
     }

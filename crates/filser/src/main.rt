@@ -20,6 +20,7 @@
 
 mod arguments;
 mod asked;
+mod convert;
 mod error;
 mod fault;
 #[cfg(test)]

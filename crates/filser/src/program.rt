@@ -13,6 +13,7 @@ ghost use Rattle.filser.specs.declared.asked.Request.{Request as Asked};
 ghost use Rattle.filser.specs.declared.status.Status.TheVariants.{Done, BadArguments, Fault};
 
 use crate::fault::report;
+use crate::convert::convert_image;
 use crate::image::{Image, open_file, tell_failure};
 use crate::lines::LineReader;
 use crate::serving::{say, serve_file, serve_fresh};
@@ -155,17 +156,21 @@ fn perform<F: Files<File = File>, R: Read, W: Write, E: Write>(
 {
     match asked {
         Request::Fresh => serve_fresh(alloc, reader, writer),
-        Request::Init(path, blocks) => match make_image(files, path, *blocks, errors) {
+        Request::Init(path, blocks, form) => match make_image(files, path, *form, *blocks, errors) {
             Ok(()) => Status::Done,
             Err(fault) => refuse_image(fault, path, writer, errors),
         },
-        Request::Work(path, task) => match open_file(files, path, errors) {
+        Request::Work(path, form, task) => match open_file(files, path, errors) {
             Ok(file) => {
-                let served = serve_file(alloc, file, Supposition::any(), *task, reader, writer);
+                let any = Supposition::any();
+                let served = serve_file(alloc, file, *form, any, *task, reader, writer);
                 conclude(served, path, writer, errors)
             }
             Err(fault) => refuse_image(fault, path, writer, errors),
         },
+        Request::Convert(path, new, form) => {
+            convert_image(files, alloc, path, new, *form, writer, errors)
+        }
     }
 }
 
@@ -192,7 +197,7 @@ fn conclude<W: Write, E: Write>(
 
 /// Says why an image isn't served or made, and tells people what the host has to do with it. Nothing is written to a
 /// stream that leads to the image.
-fn refuse_image<W: Write, E: Write>(
+pub(crate) fn refuse_image<W: Write, E: Write>(
     fault: ImageFault,
     path: &str,
     writer: &mut W,

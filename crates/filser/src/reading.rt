@@ -5,9 +5,10 @@ ghost use Rattle.clap.specs.Words.{kind_of, IsAmong};
 ghost use Rattle.clap.specs.declared.error.Error.{Error as ClapError};
 ghost use Rattle.clap.specs.declared.error.kind.ErrorKind.TheVariants.{OutOfMemory};
 ghost use Rattle.filser.specs.CommandLine.{command_line};
-ghost use Rattle.filser.specs.Requests.{Asks, IsAsked, IsAt, IsNamed, IsPlace, IsTask, HasText, HasNumber};
+ghost use Rattle.filser.specs.Requests.{Asks, IsAsked, IsAt, IsNamed, IsPlace, IsTask, HasForm, HasText, HasNumber};
 ghost use Rattle.filser.specs.Requests.{InRange};
 ghost use Rattle.words36.specs.declared.moment.Moment.{Moment as Moments};
+ghost use Rattle.imagefile.specs.declared.form.Form.{Form as Forms};
 ghost use Rattle.filser.specs.declared.task.NamedFile.{NamedFile as NamedFiles};
 ghost use Rattle.filser.specs.declared.task.Task.{Task as Tasks};
 ghost use Rattle.meaning.specs.declared.encoding.Encoding.TheVariants.{Words};
@@ -19,6 +20,7 @@ use crate::{NamedFile, Request, RequestError, Task};
 use clap::error::ErrorKind;
 use clap::{ArgMatches, Error};
 use commands::{Encoding, file_named, owner_named};
+use imagefile::Form;
 use std::alloc::Global;
 use words36::{Moment, Ppn};
 
@@ -78,9 +80,22 @@ fn subcommand<'a>(name: &'a str, matches: &ArgMatches<'a>) -> Option<Request<'a>
         → ⊥) (IsAsked name.entry.now (rows_of (found_of matches.entry.now))) }
 {
     let image = text(matches, "IMAGE")?;
+    let form = form(matches)?;
     match name {
-        "init" => Some(Request::Init(image, number(matches, "BLOCKS", 64, 131072)?)),
-        _ => Some(Request::Work(image, task(name, matches)?)),
+        "init" => Some(Request::Init(image, number(matches, "BLOCKS", 64, 131072)?, form)),
+        "convert" => Some(Request::Convert(image, text(matches, "NEW")?, form)),
+        _ => Some(Request::Work(image, form, task(name, matches)?)),
+    }
+}
+
+/// The form of the image.
+fn form(matches: &ArgMatches) -> Option<Form>
+    ensures { MatchOption result ((f : Forms) → HasForm (rows_of (found_of matches.now)) f → ⊥)
+        (HasForm (rows_of (found_of matches.now))) }
+{
+    match number(matches, "form", 1, 2)? {
+        1 => Some(Form::Wide),
+        _ => Some(Form::Packed),
     }
 }
 

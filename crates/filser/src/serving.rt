@@ -9,7 +9,7 @@ ghost use Rattle.filser.specs.Runs.{IsAttended, IsTurnedAway};
 ghost use Rattle.filser.specs.Tasks.{Attends, IsStart};
 ghost use Rattle.filser.specs.declared.task.Task.TheVariants.{Run};
 ghost use Rattle.words36.specs.declared.moment.Moment as moments;
-ghost use Rattle.imagefile.specs.Image.{image_contents};
+ghost use Rattle.imagefile.specs.Image.{block_length, image_contents};
 ghost use Rattle.imagefile.specs.Streams.{IsApart};
 ghost use Rattle.imagefile.specs.Supposition.{unseen_in};
 ghost use Rattle.imagefile.specs.Unseen.{size_of, first_bytes};
@@ -21,7 +21,7 @@ use crate::{ImageFault, Refusal, Status, Task};
 use blockcache::Cached;
 use blockdisk::{Disk, MemDisk};
 use commands::{Monitor, SessionError, Tally, Volume, check, get, list, put, script, session};
-use imagefile::{HostFile, ImageDisk, Supposition};
+use imagefile::{Form, HostFile, ImageDisk, Supposition};
 use std::alloc::Global;
 use std::fs::File;
 use std::io::{Read, Write};
@@ -149,7 +149,7 @@ pub(crate) fn serve<D: Disk + Drop, R: Read, W: Write>(
     }
 }
 
-/// Does a task on the image in a file of the host. Nothing of the host is known beforehand, so that this is
+/// Does a task on the image of this form in a file of the host. Nothing of the host is known beforehand, so that this is
 /// said for whatever may be supposed of the file: where its calls were answered, up to the end, as by a file that began so
 /// and keeps to the model, what it began with is what was served.
 ///
@@ -159,6 +159,7 @@ pub(crate) fn serve<D: Disk + Drop, R: Read, W: Write>(
 pub(crate) fn serve_file<R: Read, W: Write>(
     alloc: Global,
     file: File,
+    form: Form,
     supposed: Supposition,
     task: Task,
     reader: &mut R,
@@ -168,8 +169,8 @@ pub(crate) fn serve_file<R: Read, W: Write>(
     ensures serving { IfOk result (λ done. done.0 ≢ BadArguments) }
     ensures refused { IfErr result (λ fault. IsFileRefusal fault.refusal) }
     ensures served { IfOk result (λ done. (⟦<Cached<ImageDisk<HostFile>> as Disk>⟧.state done.1).honest
-        → (blocks : ℕ) (files : Files StoredFile) → size_of (unseen_in supposed) ≡ 1024 * blocks
-        → Stands blocks (image_contents (first_bytes (unseen_in supposed))) files
+        → (blocks : ℕ) (files : Files StoredFile) → size_of (unseen_in supposed) ≡ block_length form * blocks
+        → Stands blocks (image_contents form (first_bytes (unseen_in supposed))) files
         → (image : _) × (IsServed (⟦<Cached<ImageDisk<HostFile>> as Disk>⟧.state) image done.1 done.0 files
         (Attends (⟦<Cached<ImageDisk<HostFile>> as Disk>⟧.state) task (R.remaining reader.old) (R.remaining reader.new)
         (W.contents writer.old) (W.contents writer.new))
@@ -182,7 +183,7 @@ pub(crate) fn serve_file<R: Read, W: Write>(
     ensures untouched { IfErr result (λ fault. (R.remaining reader.new ≡ R.remaining reader.old)
         × (W.contents writer.new ≡ W.contents writer.old)) }
 {
-    let image = image_in(alloc, file, supposed)?;
+    let image = image_in(alloc, file, form, supposed)?;
     Ok(serve(alloc, image, task, reader, writer))
 }
 

@@ -1,12 +1,12 @@
 //! The command line as a value of `clap`'s. A subcommand is a function here, and a line of
-//! `with_serving`, `with_filing` or `with_looking`.
+//! `with_serving`, `with_filing`, `with_looking` or `with_converting`.
 ghost use Rattle.std.specs.Prelude.{◌≡◌, IfOk, codes, false};
 ghost use Rattle.clap.specs.Words.{app_of, with_subcommand};
 ghost use Rattle.clap.specs.declared.builder.command.Command.TheViews.{out-Command as fields_of};
-ghost use Rattle.filser.specs.CommandLine.{calls_app, check_app, command_line, filing, get_app, init_app, list_app};
-ghost use Rattle.filser.specs.CommandLine.{looking, put_app, run_app, serving, versioned};
+ghost use Rattle.filser.specs.CommandLine.{calls_app, check_app, command_line, convert_app, converting};
+ghost use Rattle.filser.specs.CommandLine.{filing, get_app, init_app, list_app, looking, put_app, run_app, serving, versioned};
 
-use crate::arguments::{about, blocks, dated, filed, place, shown, wanted, with_argument};
+use crate::arguments::{about, blocks, dated, filed, formed, place, shown, wanted, with_argument};
 use clap::Command;
 use std::alloc::{AllocError, Global};
 
@@ -21,6 +21,9 @@ blocks in memory, at date 0 and minute 0. It is gone at the end.
 Options of run, calls, put and get:
   --date N    the date of what is written, 0 to 32767 [default: 0]
   --minute N  its minute of the day, 0 to 1439 [default: 0]
+Of all commands, for the image that they name first:
+  --form N    1, eight bytes a word, or 2, nine bytes to two words
+              [default: 1]
 
 Exit status:
   0  all was done
@@ -61,7 +64,8 @@ fn init_command<'a>(alloc: Global) -> Result<Command<'a>, AllocError>
     );
     let command = shown(command, "Example:\n  filser init DISK.IMG 4096");
     let command = with_argument(command, wanted(alloc, "IMAGE", "The file to make"))?;
-    with_argument(command, blocks(alloc))
+    let command = with_argument(command, blocks(alloc))?;
+    formed(alloc, command)
 }
 
 #[tactic(auto, unfolding(crate::specs::CommandLine::run_app))]
@@ -78,7 +82,7 @@ fn run_command<'a>(alloc: Global) -> Result<Command<'a>, AllocError>
         "Example:\n  printf 'LOGIN [10,20]\\nDIRECTORY\\n' | filser run DISK.IMG",
     );
     let command = with_argument(command, wanted(alloc, "IMAGE", "The image to serve"))?;
-    dated(alloc, command)
+    formed(alloc, dated(alloc, command)?)
 }
 
 #[tactic(auto, unfolding(crate::specs::CommandLine::calls_app))]
@@ -95,7 +99,7 @@ fn calls_command<'a>(alloc: Global) -> Result<Command<'a>, AllocError>
         "Example:\n  printf '1 LOGIN 10,20 1000\\n1 EXA 121\\n' | filser calls DISK.IMG",
     );
     let command = with_argument(command, wanted(alloc, "IMAGE", "The image to serve"))?;
-    dated(alloc, command)
+    formed(alloc, dated(alloc, command)?)
 }
 
 #[tactic(auto, unfolding(crate::specs::CommandLine::put_app))]
@@ -111,7 +115,8 @@ fn put_command<'a>(alloc: Global) -> Result<Command<'a>, AllocError>
         command,
         "Example:\n  filser put DISK.IMG 10,20 FOO.TXT < foo.txt",
     );
-    dated(alloc, filed(alloc, command)?)
+    let command = filed(alloc, command)?;
+    formed(alloc, dated(alloc, command)?)
 }
 
 #[tactic(auto, unfolding(crate::specs::CommandLine::get_app))]
@@ -124,7 +129,8 @@ fn get_command<'a>(alloc: Global) -> Result<Command<'a>, AllocError>
         command,
         "Example:\n  filser get DISK.IMG 10,20 FOO.TXT > foo.txt",
     );
-    dated(alloc, filed(alloc, command)?)
+    let command = filed(alloc, command)?;
+    formed(alloc, dated(alloc, command)?)
 }
 
 #[tactic(auto, unfolding(crate::specs::CommandLine::list_app))]
@@ -138,7 +144,7 @@ fn list_command<'a>(alloc: Global) -> Result<Command<'a>, AllocError>
     );
     let command = shown(command, "Example:\n  filser list DISK.IMG 10,20");
     let command = with_argument(command, wanted(alloc, "IMAGE", "The image to look at"))?;
-    with_argument(command, place(alloc))
+    formed(alloc, with_argument(command, place(alloc))?)
 }
 
 #[tactic(auto, unfolding(crate::specs::CommandLine::check_app))]
@@ -151,7 +157,26 @@ fn check_command<'a>(alloc: Global) -> Result<Command<'a>, AllocError>
         "End a change that was cut short, read the whole image, and say what it has",
     );
     let command = shown(command, "Example:\n  filser check DISK.IMG");
-    with_argument(command, wanted(alloc, "IMAGE", "The image to check"))
+    let command = with_argument(command, wanted(alloc, "IMAGE", "The image to check"))?;
+    formed(alloc, command)
+}
+
+#[tactic(auto, unfolding(crate::specs::CommandLine::convert_app))]
+fn convert_command<'a>(alloc: Global) -> Result<Command<'a>, AllocError>
+    ensures app { IfOk result (λ c. app_of c ≡ convert_app) }
+    ensures local { IfOk result (λ c. (fields_of c).has_globals ≡ false) }
+{
+    let command = about(
+        Command::new(alloc, "convert"),
+        "Write what is on an image to a new one of the other form",
+    );
+    let command = shown(
+        command,
+        "Example:\n  filser convert DISK.IMG SMALL.IMG --form 1",
+    );
+    let command = with_argument(command, wanted(alloc, "IMAGE", "The image to read"))?;
+    let command = with_argument(command, wanted(alloc, "NEW", "The file to make"))?;
+    formed(alloc, command)
 }
 
 /// With the subcommands that make an image, and serve an input on it.
@@ -182,6 +207,14 @@ fn with_looking<'a>(alloc: Global, command: Command<'a>) -> Result<Command<'a>, 
     with_one(command, check_command(alloc)?)
 }
 
+/// With the one that converts.
+#[tactic(auto, unfolding(crate::specs::CommandLine::converting))]
+fn with_converting<'a>(alloc: Global, command: Command<'a>) -> Result<Command<'a>, AllocError>
+    ensures { IfOk result (λ c. app_of c ≡ converting (app_of command.entry)) }
+{
+    with_one(command, convert_command(alloc)?)
+}
+
 /// The program's name, with what help and version say of it.
 fn program<'a>(alloc: Global) -> Command<'a>
     ensures { app_of result ≡ versioned (codes "filser") }
@@ -201,5 +234,6 @@ pub(crate) fn command_line<'a>(alloc: Global) -> Result<Command<'a>, AllocError>
 {
     let command = with_serving(alloc, program(alloc))?;
     let command = with_filing(alloc, command)?;
-    with_looking(alloc, command)
+    let command = with_looking(alloc, command)?;
+    with_converting(alloc, command)
 }

@@ -7,11 +7,14 @@ use Rattle.std.proofs.lemmas.Bool.{cases_lt}
 use Rattle.std.proofs.lemmas.List.{get_or_append_left, get_or-append_right, get_or_past, ext_get_or}
 use Rattle.words36.specs.Words.{IsWord}
 use Rattle.words36.specs.Blocks.{IsBlock, IsFirstBadWord, block_bytes, number_at}
+use Rattle.words36.specs.Nines.{nine_bytes, nine_words}
 use Rattle.words36.proofs.BlockLaws.{block_bytes-read, number_at-block_bytes}
+use Rattle.words36.proofs.NineLaws.{pairs_of_bytes, bytes_of_pairs, block_read}
 use Rattle.words36.specs.declared.error.WordError.{WordError}
 use Rattle.words36.specs.declared.error.WordError.TheVariants.{BadWord}
 use Rattle.imagefile.specs.File.{Bytes, window}
-use Rattle.imagefile.specs.Image.{are_words, first_words, block_content, image_contents}
+use Rattle.imagefile.specs.Image.{are_words, first_words, wide_content, block_content, image_contents}
+use Rattle.imagefile.specs.declared.form.Form.TheVariants.{Wide, Packed}
 
 -- Top bits
 
@@ -89,14 +92,14 @@ first_words-at bytes (suc n) k d less =
 
 -- Contents
 
-content_good : (bytes : List ℕ) → are_words bytes 128 ≡ true → block_content bytes ≡ Some (first_words bytes 128)
+content_good : (bytes : List ℕ) → are_words bytes 128 ≡ true → wide_content bytes ≡ Some (first_words bytes 128)
 content_good bytes good = cond-true (are_words bytes 128) (Some (first_words bytes 128)) None good
 
-content_bad : (bytes : List ℕ) → are_words bytes 128 ≡ false → block_content bytes ≡ None
+content_bad : (bytes : List ℕ) → are_words bytes 128 ≡ false → wide_content bytes ≡ None
 content_bad bytes bad = cond-false (are_words bytes 128) (Some (first_words bytes 128)) None bad
 
 -- a block's bytes hold the block
-pub content_block : (words : List ℕ) → IsBlock words → block_content (block_bytes words) ≡ Some words
+pub content_block : (words : List ℕ) → IsBlock words → wide_content (block_bytes words) ≡ Some words
 content_block words block = content_good (block_bytes words) (words_are (block_bytes words) 128 each) ∙ ap Some same
   where
     value : (k : ℕ) → k < 128 → number_at (block_bytes words) k ≡ get_or words k 0
@@ -113,11 +116,11 @@ content_block words block = content_good (block_bytes words) (words_are (block_b
         first_words-at (block_bytes words) 128 i 0 less ∙ value i less)
 
 -- a block that was read
-pub content_read : (words bytes : List ℕ) → IsBlock words → block_bytes words ≡ bytes → block_content bytes ≡ Some words
+pub content_read : (words bytes : List ℕ) → IsBlock words → block_bytes words ≡ bytes → wide_content bytes ≡ Some words
 content_read words bytes block same = rw (← same) (content_block words block)
 
 -- a block that is damaged
-pub content_refused : (bytes : List ℕ) (place : ℕ) → IsFirstBadWord bytes place → block_content bytes ≡ None
+pub content_refused : (bytes : List ℕ) (place : ℕ) → IsFirstBadWord bytes place → wide_content bytes ≡ None
 content_refused bytes place bad =
     content_bad bytes (⊎_elim (λ good.
     absurd (no_word (number_at bytes place) bad.bad (words_below bytes 128 good place bad.inside))) (λ wrong. wrong)
@@ -128,7 +131,7 @@ content_refused bytes place bad =
 
 -- what bytes hold is the block that has them
 pub content_is : (words bytes : List ℕ) → ((j : ℕ) → get_or bytes j 0 < 256) → length bytes ≡ 1024
-    → block_content bytes ≡ Some words → IsBlock words × (block_bytes words ≡ bytes)
+    → wide_content bytes ≡ Some words → IsBlock words × (block_bytes words ≡ bytes)
 content_is words bytes small long is = ⊎_elim good bad (cases_Bool (are_words bytes 128))
   where
     is_word : (v w : ℕ) → w ≡ v → IsWord v → IsWord w
@@ -159,33 +162,61 @@ content_is words bytes small long is = ⊎_elim good bad (cases_Bool (are_words 
     bad : are_words bytes 128 ≡ false → IsBlock words × (block_bytes words ≡ bytes)
     bad are = absurd (nothing (sym (content_bad bytes are) ∙ is))
 
--- The image's block that some bytes of the file spell.
+-- The block of a wide image that some bytes of the file spell.
 
 module _ (b : Bytes) (n at len : ℕ) (bytes : List ℕ) (place : at ≡ 1024 * n) (long : len ≡ 1024) where
-  spelled : bytes ≡ window b at len → image_contents b n ≡ block_content bytes
-  spelled is = ap block_content (sym (is ∙ ap (λ k. window b k len) place ∙ ap (window b (1024 * n)) long))
+  spelled : bytes ≡ window b at len → image_contents Wide b n ≡ wide_content bytes
+  spelled is = ap wide_content (sym (is ∙ ap (λ k. window b k len) place ∙ ap (window b (1024 * n)) long))
 
   pub image_read : (words : List ℕ) → bytes ≡ window b at len → IsBlock words → block_bytes words ≡ bytes
-      → image_contents b n ≡ Some words
+      → image_contents Wide b n ≡ Some words
   image_read words is block same = spelled is ∙ content_read words bytes block same
 
   pub image_refused : (error : WordError) → bytes ≡ window b at len → ((place : ℕ) × (error ≡ BadWord place))
-      → ((place : ℕ) → (error ≡ BadWord place) → IsFirstBadWord bytes place) → image_contents b n ≡ None
+      → ((place : ℕ) → (error ≡ BadWord place) → IsFirstBadWord bytes place) → image_contents Wide b n ≡ None
   image_refused error is which bad = spelled is ∙ content_refused bytes which.0 (bad which.0 which.1)
 
   pub image_put : (words : List ℕ) → window b at len ≡ bytes → bytes ≡ block_bytes words → IsBlock words
-      → image_contents b n ≡ Some words
+      → image_contents Wide b n ≡ Some words
   image_put words is same block = spelled (sym is) ∙ content_read words bytes block (sym same)
 
--- The law of the format.
+-- The block of a packed one.
+
+module _ (b : Bytes) (n at len : ℕ) (bytes : List ℕ) (place : at ≡ 576 * n) (long : len ≡ 576) where
+  packed_spelled : bytes ≡ window b at len → image_contents Packed b n ≡ Some (nine_words bytes)
+  packed_spelled is = ap (block_content Packed)
+      (sym (is ∙ ap (λ k. window b k len) place ∙ ap (window b (576 * n)) long))
+
+  pub packed_read : (words : List ℕ) → bytes ≡ window b at len → words ≡ nine_words bytes
+      → image_contents Packed b n ≡ Some words
+  packed_read words is same = packed_spelled is ∙ ap Some (sym same)
+
+  pub packed_put : (words : List ℕ) → window b at len ≡ bytes → nine_words bytes ≡ words
+      → image_contents Packed b n ≡ Some words
+  packed_put words is same = packed_spelled (sym is) ∙ ap Some same
+
+-- The laws of the forms.
+
+some_words : (a b : List ℕ) → Some a ≡ Some b → a ≡ b
+some_words a b h = cc
+
+small : (bytes : List ℕ) → All (λ byte. byte < 256) bytes → (j : ℕ) → get_or bytes j 0 < 256
+small bytes each j = ⊎_elim (λ inside. each j 0 inside) (λ past. omega (arith, get_or_past bytes j 0 past))
+    (cases_lt j (length bytes))
 
 pub damaged_exactly : (words bytes : List ℕ) → All (λ byte. byte < 256) bytes → length bytes ≡ 1024
-    → (block_content bytes ≡ Some words ↔ (IsBlock words × (block_bytes words ≡ bytes)))
+    → (block_content Wide bytes ≡ Some words ↔ (IsBlock words × (block_bytes words ≡ bytes)))
 damaged_exactly words bytes each long = (
-  content_is words bytes (λ j. ⊎_elim (λ inside. each j 0 inside) (λ past. small_past j past)
-      (cases_lt j (length bytes))) long,
+  content_is words bytes (small bytes each) long,
   λ (block, same). content_read words bytes block same,
 )
-  where
-    small_past : (j : ℕ) → length bytes ≤ j → get_or bytes j 0 < 256
-    small_past j past = omega (arith, get_or_past bytes j 0 past)
+
+pub packed_exactly : (words bytes : List ℕ) → All (λ byte. byte < 256) bytes → length bytes ≡ 576
+    → (block_content Packed bytes ≡ Some words ↔ (IsBlock words × (nine_bytes words ≡ bytes)))
+packed_exactly words bytes each long = (
+  λ is.
+      let same : nine_words bytes ≡ words = some_words (nine_words bytes) words is in
+      let back : nine_bytes (nine_words bytes) ≡ bytes = bytes_of_pairs 64 bytes long (small bytes each) in
+      rw (← same) (block_read bytes (small bytes each), back),
+  λ (block, same). ap (λ l. Some (nine_words l)) (sym same) ∙ ap Some (pairs_of_bytes 64 words block.long block.each),
+)

@@ -5,7 +5,9 @@ use Rattle.std.proofs.lemmas.Bool.{cases_eq, or_parts, or_from, or_left, cond-tr
 use Rattle.blockdisk.specs.Disk.{Contents, MayLeave, Passes, Keeps, Writes, Syncs, Fails}
 use Rattle.imagefile.specs.File.{Bytes, Remains, FileState, MayRemain, Inside, window, FilePasses, FileKeeps}
 use Rattle.imagefile.specs.File.{FileWrites, FileSyncs, FileFails}
-use Rattle.imagefile.specs.Image.{block_content, image_contents, opened_in, ReadsAs, image_state}
+use Rattle.imagefile.specs.Image.{block_length, block_content, image_contents, opened_in, InBlock, ReadsAs, image_state}
+use Rattle.imagefile.specs.declared.form.Form.{Form}
+use Rattle.imagefile.specs.declared.form.Form.TheVariants.{Wide, Packed}
 
 -- Windows
 
@@ -19,9 +21,25 @@ window-same b c at (suc n) same =
     ap (λ x. x ∷ window c (at + 1) n) here ∙ ap (λ xs. b at ∷ xs) rest
 
 -- the contents of a block depend on its bytes alone
-pub content-same : (b c : Bytes) (n : ℕ) → ((p : ℕ) → Inside (1024 * n) 1024 p → c p ≡ b p)
-    → image_contents c n ≡ image_contents b n
-content-same b c n same = ap block_content (window-same b c (1024 * n) 1024 same)
+pub content-same : (form : Form) (b c : Bytes) (n : ℕ) → ((p : ℕ) → InBlock form n p → c p ≡ b p)
+    → image_contents form c n ≡ image_contents form b n
+content-same form b c n same = ap (block_content form)
+    (window-same b c (block_length form * n) (block_length form) same)
+
+-- Places
+
+-- a block has a first byte
+some_length : (form : Form) → (m : ℕ) × (block_length form ≡ suc m)
+some_length Wide = (1023, refl)
+some_length Packed = (575, refl)
+
+first_in : (at len m : ℕ) → len ≡ suc m → Inside at len at
+first_in at len m is = record { low = omega arith; high = omega (arith, is) }
+
+-- no byte is in two blocks
+apart : (form : Form) (n m p : ℕ) → (m ≡ n → ⊥) → InBlock form m p → InBlock form n p → ⊥
+apart Wide n m p other there here = other (omega (arith, there.low, there.high, here.low, here.high))
+apart Packed n m p other there here = other (omega (arith, there.low, there.high, here.low, here.high))
 
 -- Open blocks
 
@@ -64,12 +82,12 @@ opened-same o o' at (suc n) same =
 
 -- Crashes
 
-module _ (blocks : ℕ) where
+module _ (form : Form) (blocks : ℕ) where
   -- what a crash leaves of the file, read as an image, is what it may leave of the disk
-  pub image_may_leave : (s : FileState) (r : Remains) (c : Contents) → MayRemain s r → ReadsAs r c
-      → MayLeave (image_state blocks s) c
+  pub image_may_leave : (s : FileState) (r : Remains) (c : Contents) → MayRemain s r → ReadsAs form r c
+      → MayLeave (image_state form blocks s) c
   image_may_leave s r c may reads n closed = reads n s.bytes
-      (λ p inside. may p (closed_each s.is_open (1024 * n) 1024 closed p inside))
+      (λ p inside. may p (closed_each s.is_open (block_length form * n) (block_length form) closed p inside))
 
   known_or_not : FileState → Remains
   known_or_not s p = if s.is_open p then None else Some (s.bytes p)
@@ -87,34 +105,34 @@ module _ (blocks : ℕ) where
       none_some : (byte : ℕ) → None ≡ Some byte → ⊥
       none_some byte h = cc
 
-  known_reads : (s : FileState) (c : Contents) → MayLeave (image_state blocks s) c → ReadsAs (known_or_not s) c
+  known_reads : (s : FileState) (c : Contents) → MayLeave (image_state form blocks s) c → ReadsAs form (known_or_not s) c
   known_reads s c left n b all =
-      let closed : opened_in s.is_open (1024 * n) 1024
-      ≡ false = all_closed s.is_open (1024 * n) 1024 (λ p inside. known_closed s p (b p) (all p inside)) in
+      let closed : opened_in s.is_open (block_length form * n) (block_length form)
+      ≡ false = all_closed s.is_open (block_length form * n) (block_length form) (λ p inside. known_closed s p (b p) (all p inside)) in
       left n closed
-      ∙ content-same b s.bytes n (λ p inside. same_byte (s.bytes p) (b p)
+      ∙ content-same form b s.bytes n (λ p inside. same_byte (s.bytes p) (b p)
       (sym (known s p (known_closed s p (b p) (all p inside))) ∙ all p inside))
     where
       same_byte : (x y : ℕ) → Some x ≡ Some y → x ≡ y
       same_byte x y h = cc
 
   pub image_counts_now : (s : FileState) (t : ℕ) (c : Contents) → ((r : Remains) → MayRemain s r → s.left_since t r)
-      → MayLeave (image_state blocks s) c → (image_state blocks s).left_since t c
+      → MayLeave (image_state form blocks s) c → (image_state form blocks s).left_since t c
   image_counts_now s t c counts left = (known_or_not s, counts (known_or_not s) (known s), known_reads s c left)
 
   pub image_only_now : (s : FileState) (c : Contents) → ((r : Remains) → s.left_since s.clock r → MayRemain s r)
-      → (image_state blocks s).left_since s.clock c → MayLeave (image_state blocks s) c
+      → (image_state form blocks s).left_since s.clock c → MayLeave (image_state form blocks s) c
   image_only_now s c only left = image_may_leave s left.0 c (only left.0 left.1) left.2
 
   pub image_reaches_back : (s : FileState) (t u : ℕ) (c : Contents) → ((r : Remains) → s.left_since u r
-      → s.left_since t r) → (image_state blocks s).left_since u c → (image_state blocks s).left_since t c
+      → s.left_since t r) → (image_state form blocks s).left_since u c → (image_state form blocks s).left_since t c
   image_reaches_back s t u c back left = (left.0, back left.0 left.1, left.2)
 
   -- Calls
 
   module _ (s s' : FileState) where
     image_passes : FilePasses s s' (MayRemain s')
-        → Passes (image_state blocks s) (image_state blocks s') (MayLeave (image_state blocks s'))
+        → Passes (image_state form blocks s) (image_state form blocks s') (MayLeave (image_state form blocks s'))
     image_passes time = record {
       later = time.later;
       nothing_else = λ t c le left. ⊎_elim (λ was. inl (left.0, was, left.2))
@@ -124,38 +142,36 @@ module _ (blocks : ℕ) where
       keeps = λ t c le left. (left.0, time.keeps t left.0 le left.1, left.2);
     }
 
-    pub image_keeps : FileKeeps s s' → Keeps (image_state blocks s) (image_state blocks s')
+    pub image_keeps : FileKeeps s s' → Keeps (image_state form blocks s) (image_state form blocks s')
     image_keeps keeps = record {
-      contents = λ n. content-same s.bytes s'.bytes n (λ p inside. keeps.bytes p);
-      is_open = λ n. opened-same s.is_open s'.is_open (1024 * n) 1024 (λ p inside. keeps.is_open p);
+      contents = λ n. content-same form s.bytes s'.bytes n (λ p inside. keeps.bytes p);
+      is_open = λ n. opened-same s.is_open s'.is_open (block_length form * n) (block_length form) (λ p inside. keeps.is_open p);
       time = image_passes keeps.time;
     }
 
-    apart : (n m p : ℕ) → (m ≡ n → ⊥) → Inside (1024 * m) 1024 p → Inside (1024 * n) 1024 p → ⊥
-    apart n m p other there here = other (omega (arith, there.low, there.high, here.low, here.high))
-
-    pub image_writes : (n : ℕ) → FileWrites (1024 * n) 1024 s s'
-        → Writes n (image_state blocks s) (image_state blocks s')
+    pub image_writes : (n : ℕ) → FileWrites (block_length form * n) (block_length form) s s'
+        → Writes n (image_state form blocks s) (image_state form blocks s')
     image_writes n writes = record {
-      contents = λ m other. content-same s.bytes s'.bytes m (λ p inside. writes.bytes p (apart n m p other inside));
-      opened = some_open s'.is_open (1024 * n) 1024 1023 refl
-          (writes.opened (1024 * n) (record { low = omega arith; high = omega arith }));
-      is_open = λ m other. opened-same s.is_open s'.is_open (1024 * m) 1024
-          (λ p inside. writes.is_open p (apart n m p other inside));
+      contents = λ m other. content-same form s.bytes s'.bytes m (λ p inside. writes.bytes p (apart form n m p other inside));
+      opened = some_open s'.is_open (block_length form * n) (block_length form) (some_length form).0 (some_length form).1
+          (writes.opened (block_length form * n)
+          (first_in (block_length form * n) (block_length form) (some_length form).0 (some_length form).1));
+      is_open = λ m other. opened-same s.is_open s'.is_open (block_length form * m) (block_length form)
+          (λ p inside. writes.is_open p (apart form n m p other inside));
       time = image_passes writes.time;
     }
 
-    pub image_fails : FileFails s s' → Fails (image_state blocks s) (image_state blocks s')
+    pub image_fails : FileFails s s' → Fails (image_state form blocks s) (image_state form blocks s')
     image_fails fails = record {
-      contents = λ n closed. content-same s.bytes s'.bytes n
-          (λ p inside. fails.bytes p (closed_each s.is_open (1024 * n) 1024 closed p inside));
-      is_open = λ n. opened-same s.is_open s'.is_open (1024 * n) 1024 (λ p inside. fails.is_open p);
+      contents = λ n closed. content-same form s.bytes s'.bytes n
+          (λ p inside. fails.bytes p (closed_each s.is_open (block_length form * n) (block_length form) closed p inside));
+      is_open = λ n. opened-same s.is_open s'.is_open (block_length form * n) (block_length form) (λ p inside. fails.is_open p);
       time = image_passes fails.time;
     }
 
-    pub image_syncs : FileSyncs s s' → Syncs (image_state blocks s) (image_state blocks s')
+    pub image_syncs : FileSyncs s s' → Syncs (image_state form blocks s) (image_state form blocks s')
     image_syncs syncs = record {
-      contents = λ n. content-same s.bytes s'.bytes n (λ p inside. syncs.bytes p);
-      closed = λ n. all_closed s'.is_open (1024 * n) 1024 (λ p inside. syncs.closed p);
+      contents = λ n. content-same form s.bytes s'.bytes n (λ p inside. syncs.bytes p);
+      closed = λ n. all_closed s'.is_open (block_length form * n) (block_length form) (λ p inside. syncs.closed p);
       time = image_passes syncs.time;
     }

@@ -1,7 +1,9 @@
 pub mod File
 pub mod Image
 pub mod ImageLaws
+pub mod Measured
 pub mod ImageDisk
+pub mod PackedDisk
 pub mod Memory
 pub mod MemoryLaws
 pub mod Host

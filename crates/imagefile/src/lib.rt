@@ -25,22 +25,29 @@
 
 mod call_record;
 mod calls;
+mod codec;
 mod durable;
+mod form;
 mod host;
 mod image;
 mod memory;
 mod memory_calls;
+mod packed;
 mod seeking;
+mod size;
 mod streams;
 mod supposition;
 mod system;
 
 pub use calls::FileCalls;
 pub use durable::Durable;
+pub use form::Form;
 pub use host::HostFile;
-pub use image::{ImageDisk, ImageError, block_count, damage_is_by_the_format};
+pub use image::{ImageDisk, damage_is_by_the_format, packed_bytes_are_words};
 pub use memory::MemFile;
+pub use packed::PackedDisk;
 pub use seeking::{SeekingFile, a_file_by_the_model_is_honest, answers_by_the_model_are_honest};
+pub use size::{ImageError, block_count};
 pub use streams::apart;
 pub use supposition::Supposition;
 pub use system::{HostCalls, SystemCalls};

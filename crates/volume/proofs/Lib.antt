@@ -13,6 +13,7 @@ pub mod FaultyMaps
 pub mod FoundMaps
 pub mod Opening
 pub mod Starting
+pub mod CopiedImages
 pub mod Costing
 pub mod CostLaws
 pub mod LiveTotals

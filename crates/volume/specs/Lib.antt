@@ -19,5 +19,6 @@ pub mod Publishing
 pub mod Places
 pub mod States
 pub mod Claims
+pub mod Copying
 pub mod Removing
 pub mod Moving

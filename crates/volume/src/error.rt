@@ -84,3 +84,14 @@ pub enum CallError {
     #[error("failed before")]
     Failed,
 }
+
+/// Why an image wasn't copied.
+#[derive(Clone, Copy, Debug, PartialEq, Eq, Error)]
+pub enum CopyError {
+    /// What was to be copied is refused, or its device failed.
+    #[error("source: {0}")]
+    Source(VolumeError),
+    /// The device failed that the copy was written to.
+    #[error("device fault of the copy")]
+    Target,
+}

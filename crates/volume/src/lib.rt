@@ -56,6 +56,7 @@
 mod begin;
 mod blocks;
 mod claims;
+mod copy;
 mod cost;
 mod current;
 mod delete;
@@ -87,7 +88,7 @@ mod supplies;
 mod transaction;
 mod words;
 
-pub use error::{CallError, VolumeError};
+pub use error::{CallError, CopyError, VolumeError};
 pub use file_facts::FileFacts;
 pub use files::StoredVersion;
 pub use handles::{Pending, Pin, VersionHandle};

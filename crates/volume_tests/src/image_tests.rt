@@ -66,7 +66,7 @@ fn put_image(rt: &impl Abort, image: &mut [u8]) {
 }
 
 /// The bytes of an image with one file of two words.
-fn v1(rt: &impl Abort, alloc: Global) -> Result<Vec<u8>, AllocError> {
+pub(crate) fn v1(rt: &impl Abort, alloc: Global) -> Result<Vec<u8>, AllocError> {
     let mut bytes = vec![in alloc; 0; SIZE]?;
     put_image(rt, bytes.as_mut_slice());
     Ok(bytes)
@@ -82,7 +82,7 @@ fn disk_of(
 }
 
 /// The disk of an image in memory, with room to record so many writes and syncs.
-fn image_disk(
+pub(crate) fn image_disk(
     rt: &impl Abort,
     alloc: Global,
     bytes: &[u8],
@@ -127,7 +127,7 @@ fn open<D: Disk + Drop>(alloc: Global, disk: D) -> Result<Volume<D>, (VolumeErro
 }
 
 /// The volume of a disk that has to be accepted.
-fn opened<D: Disk + Drop>(rt: &impl Abort, alloc: Global, disk: D) -> Volume<D> {
+pub(crate) fn opened<D: Disk + Drop>(rt: &impl Abort, alloc: Global, disk: D) -> Volume<D> {
     match open(alloc, disk) {
         Ok(volume) => volume,
         Err(_refused) => panic!(rt; "the image is refused"),
@@ -162,7 +162,7 @@ fn expect_foo<D: Disk>(rt: &impl Abort, volume: &Volume<D>) {
 }
 
 /// The volume has 64 blocks, of which 45 are left, and in [10,20] FOO.TXT.
-fn expect_image<D: Disk>(rt: &impl Abort, volume: &Volume<D>) {
+pub(crate) fn expect_image<D: Disk>(rt: &impl Abort, volume: &Volume<D>) {
     assert_eq!(rt; volume.blocks(), 64);
     expect_room(rt, volume, 45);
     expect_directory(rt, volume, 0o775);

@@ -9,6 +9,8 @@ mod body_tests;
 #[cfg(test)]
 mod call_tests;
 #[cfg(test)]
+mod copy_tests;
+#[cfg(test)]
 mod fault_tests;
 #[cfg(test)]
 mod home_tests;

@@ -1,4 +1,5 @@
 mod AsciiLaws
 pub mod BlockLaws
 mod Digits
+pub mod NineLaws
 mod SixbitLaws

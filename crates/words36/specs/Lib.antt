@@ -1,5 +1,6 @@
 pub mod Ascii
 pub mod Blocks
 pub mod Dates
+pub mod Nines
 pub mod Sixbit
 pub mod Words

@@ -7,6 +7,7 @@ mod date;
 mod error;
 mod moment;
 mod names;
+mod nines;
 mod sixbit;
 mod word;
 
@@ -16,5 +17,6 @@ pub use date::{Day, date_of, day_of};
 pub use error::WordError;
 pub use moment::Moment;
 pub use names::{FileName, Ppn};
+pub use nines::{PACKED_BYTES, block_from_nine, block_to_nine};
 pub use sixbit::{sixbit_of, text_of};
 pub use word::{BLOCK_WORDS, Block, Half, Word};

@@ -1,0 +1,175 @@
+ghost use Rattle.std.specs.Prelude.{◌≡◌, ◌≢◌, ◌⊎◌, OnOk, IfErr};
+ghost use Rattle.blockdisk.specs.Disk.{NoneOpen};
+ghost use Rattle.meaning.specs.Files.{File as StoredFile, Files};
+ghost use Rattle.meaning.specs.Stands.{Stands};
+ghost use Rattle.volume.specs.Rest.{RestsAt};
+ghost use Rattle.filser.specs.Refusals.{IsFileRefusal};
+ghost use Rattle.filser.specs.declared.refusal.Refusal.TheVariants.{Exists};
+ghost use Rattle.filser.specs.declared.status.Status.TheVariants.{BadArguments};
+
+use crate::fault::report;
+use crate::image::{disk_in, failure_of, new_file, open_file, zeros_in};
+use crate::program::refuse_image;
+use crate::{ImageFault, Refusal, Status};
+use blockdisk::Disk;
+use commands::Volume;
+use imagefile::{Form, HostFile, ImageDisk, Supposition};
+use std::alloc::Global;
+use std::fs::{self, File};
+use std::io::Write;
+use std::rt::Files;
+use volume::{CopyError, VolumeError};
+
+/// Writes what is on an image, which has this form, to a new one of the other form, and prints how many blocks they
+/// have. Nothing else is written to the one that is there than its recovery. A new one that can't be finished is left,
+/// and people are told that it is incomplete.
+pub(crate) fn convert_image<F: Files<File = File>, W: Write, E: Write>(
+    files: &F,
+    alloc: Global,
+    path: &str,
+    new: &str,
+    form: Form,
+    writer: &mut W,
+    errors: &mut E,
+) -> Status
+    ensures { result ≢ BadArguments }
+{
+    if fs::metadata(files, new).is_ok() {
+        let fault = ImageFault {
+            refusal: Refusal::Exists,
+            host: None,
+        };
+        return refuse_image(fault, new, writer, errors);
+    }
+    match source_of(files, path, form, errors) {
+        Ok(source) => write_new(files, alloc, source, path, new, form.other(), writer, errors),
+        Err(fault) => refuse_image(fault, path, writer, errors),
+    }
+}
+
+/// The disk of the image that is there.
+///
+/// # Errors
+///
+/// As of an image that is served.
+fn source_of<F: Files<File = File>, E: Write>(
+    files: &F,
+    path: &str,
+    form: Form,
+    errors: &mut E,
+) -> Result<ImageDisk<HostFile>, ImageFault>
+    ensures { IfErr result (λ fault. IsFileRefusal fault.refusal) }
+{
+    let file = open_file(files, path, errors)?;
+    disk_in(file, form, Supposition::any())
+}
+
+/// Writes what is on a disk to a new image of this form.
+fn write_new<F: Files<File = File>, W: Write, E: Write>(
+    files: &F,
+    alloc: Global,
+    source: ImageDisk<HostFile>,
+    path: &str,
+    new: &str,
+    form: Form,
+    writer: &mut W,
+    errors: &mut E,
+) -> Status
+    ensures { result ≢ BadArguments }
+{
+    let file = match new_file(files, new) {
+        Ok(file) => file,
+        Err(fault) => return refuse_image(fault, new, writer, errors),
+    };
+    let blocks = source.blocks();
+    match zeros_in(file, new, form, blocks, errors) {
+        Ok(target) => match copied(alloc, source, target) {
+            Ok(()) => tell_converted(blocks, writer),
+            Err(Side::Source(fault)) => {
+                tell_incomplete(new, errors);
+                refuse_image(fault, path, writer, errors)
+            }
+            Err(Side::Target(fault)) => {
+                tell_incomplete(new, errors);
+                refuse_image(fault, new, writer, errors)
+            }
+        },
+        Err(fault) => {
+            tell_incomplete(new, errors);
+            refuse_image(fault, new, writer, errors)
+        }
+    }
+}
+
+/// Why a disk wasn't copied, and which of the two has the fault.
+enum Side {
+    /// The one that was to be copied.
+    Source(ImageFault),
+    /// The copy.
+    Target(ImageFault),
+}
+
+/// Copies a disk to another, and lets both go.
+///
+/// # Errors
+///
+/// The refusal of the one that is there, or a fault of either.
+fn copied(
+    alloc: Global,
+    source: ImageDisk<HostFile>,
+    target: ImageDisk<HostFile>,
+) -> Result<(), Side> {
+    let mut source = source;
+    let mut target = target;
+    match copy(alloc, &mut source, &mut target) {
+        Ok(()) => Ok(()),
+        Err(CopyError::Source(error)) => Err(Side::Source(ImageFault {
+            refusal: Refusal::Start(error),
+            host: failure_of(&source.finish()),
+        })),
+        Err(CopyError::Target) => Err(Side::Target(ImageFault {
+            refusal: Refusal::Start(VolumeError::Device),
+            host: failure_of(&target.finish()),
+        })),
+    }
+}
+
+/// Copies a disk to another, which the host has made of as many blocks.
+///
+/// # Errors
+///
+/// As of `Volume::copy_image`; `Target` too where the host has given another number of blocks.
+fn copy(
+    alloc: Global,
+    source: &mut ImageDisk<HostFile>,
+    target: &mut ImageDisk<HostFile>,
+) -> Result<(), CopyError>
+    // Where both files have kept to the model up to the end: the copy stands for what the image stood for.
+    ensures files { (⟦<ImageDisk<HostFile> as Disk>⟧.state source.new).honest
+        → (⟦<ImageDisk<HostFile> as Disk>⟧.state target.new).honest → (files : Files StoredFile)
+        → Stands (⟦<ImageDisk<HostFile> as Disk>⟧.state source.old).size
+        (⟦<ImageDisk<HostFile> as Disk>⟧.state source.old).contents files
+        → OnOk result (RestsAt (⟦<ImageDisk<HostFile> as Disk>⟧.state target.new) files) }
+    ensures settled { (⟦<ImageDisk<HostFile> as Disk>⟧.state target.new).honest
+        → OnOk result (NoneOpen (⟦<ImageDisk<HostFile> as Disk>⟧.state target.new)) }
+{
+    if source.blocks() != target.blocks() {
+        return Err(CopyError::Target);
+    }
+    Volume::copy_image(alloc, source, target)
+}
+
+/// Prints how many blocks were converted.
+fn tell_converted<W: Write>(blocks: u32, writer: &mut W) -> Status
+    ensures { result ≢ BadArguments }
+{
+    match writeln!(writer, "Converted {blocks} blocks") {
+        Ok(()) => Status::Done,
+        Err(_) => Status::Fault,
+    }
+}
+
+/// Tells people that a new image was left as it was when the conversion ended.
+fn tell_incomplete<E: Write>(new: &str, errors: &mut E) {
+    report(errors, new, &"incomplete");
+}

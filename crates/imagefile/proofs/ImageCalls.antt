@@ -1,0 +1,73 @@
+-- The calls of a disk over an image, from what a file promises of its own.
+use Rattle.std.proofs.Common.{◌≡◌, ◌*◌, ◌<◌, ℕ, List, Result, Ok, Err, Some, None, OnOk}
+use Rattle.std.proofs.Common.{OnErr, IsErrOf, refl}
+use Rattle.blockdisk.specs.Disk.{SameDisk, Syncs, Fails, one_more}
+use Rattle.blockdisk.specs.Calls.{IsRead, IsWrite}
+use Rattle.blockdisk.specs.declared.fault.Fault.{Fault}
+use Rattle.blockdisk.specs.declared.fault.Fault.TheVariants.{Device, Damaged}
+use Rattle.imagefile.specs.File.{FileState, SameFile, FileKeeps, FileWrites, FileSyncs, FileFails}
+use Rattle.imagefile.specs.Image.{block_length, image_contents, image_state}
+use Rattle.imagefile.specs.ImageLaws.{image_keeps, image_writes, image_syncs, image_fails}
+use Rattle.imagefile.specs.declared.form.Form.{Form}
+
+same_disk : (form : Form) (blocks : ℕ) (s s' : FileState) → SameFile s s'
+    → SameDisk (image_state form blocks s) (image_state form blocks s')
+same_disk form blocks s s' same = record { size = refl; was_honest = same.was_honest }
+
+not_refused : (words : List ℕ) (fault : Fault) → IsErrOf {T = List ℕ} (Ok words) fault → ⊥
+not_refused words fault is = cc
+
+other_fault : IsErrOf {T = List ℕ} (Err Damaged) Device → ⊥
+other_fault is = cc
+
+module _ (form : Form) (blocks n : ℕ) (s s' : FileState) (same : SameFile s s') where
+  pub block_read : (words : List ℕ) → (s'.honest → image_contents form s.bytes n ≡ Some words)
+      → (s'.honest → FileKeeps s s') → s'.failures ≡ s.failures
+      → IsRead n (image_state form blocks s) (image_state form blocks s') (Ok words)
+  block_read words read keeps served = record {
+    words = read;
+    damaged = λ h is. absurd (not_refused words Damaged is);
+    keeps = λ h. image_keeps form blocks s s' (keeps h);
+    same = same_disk form blocks s s' same;
+    failed = λ is. absurd (not_refused words Device is);
+    served = λ other. served;
+  }
+
+  pub block_damaged : (s'.honest → image_contents form s.bytes n ≡ None)
+      → (s'.honest → FileKeeps s s') → s'.failures ≡ s.failures
+      → IsRead n (image_state form blocks s) (image_state form blocks s') (Err Damaged)
+  block_damaged damaged keeps served = record {
+    words = λ h. tt;
+    damaged = λ h is. damaged h;
+    keeps = λ h. image_keeps form blocks s s' (keeps h);
+    same = same_disk form blocks s s' same;
+    failed = λ is. absurd (other_fault is);
+    served = λ other. served;
+  }
+
+pub block_written : (form : Form) (blocks n at len : ℕ) (s s' : FileState) (words : List ℕ)
+    (answer : Result (Unit {0}) Fault) → at ≡ block_length form * n → len ≡ block_length form
+    → (s'.honest → OnOk answer (image_contents form s'.bytes n ≡ Some words))
+    → (s'.honest → OnOk answer (s.clock < s'.clock))
+    → (s'.honest → FileWrites at len s s') → SameFile s s' → (IsErrOf answer Damaged → ⊥)
+    → (IsErrOf answer Device → s'.failures ≡ one_more s.failures) → OnOk answer (s'.failures ≡ s.failures)
+    → IsWrite n words (image_state form blocks s) (image_state form blocks s') answer
+block_written form blocks n at len s s' words answer place long put moves writes same device failed served = record {
+  put = put;
+  moves = moves;
+  writes = λ h. image_writes form blocks s s' n (rw (← place, ← long) (writes h));
+  same = same_disk form blocks s s' same;
+  device = device;
+  failed = failed;
+  served = served;
+}
+
+pub synced : {E : Type 0} (answer : Result (Unit {0}) E) (form : Form) (blocks : ℕ) (s s' : FileState)
+    → OnOk answer (FileSyncs s s') → OnOk answer (Syncs (image_state form blocks s) (image_state form blocks s'))
+synced (Ok done) form blocks s s' syncs = image_syncs form blocks s s' syncs
+synced (Err fault) form blocks s s' syncs = tt
+
+pub sync_failed : {E : Type 0} (answer : Result (Unit {0}) E) (form : Form) (blocks : ℕ) (s s' : FileState)
+    → OnErr answer (FileFails s s') → OnErr answer (Fails (image_state form blocks s) (image_state form blocks s'))
+sync_failed (Ok done) form blocks s s' fails = tt
+sync_failed (Err fault) form blocks s s' fails = image_fails form blocks s s' fails

@@ -1,0 +1,11 @@
+use Rattle.imagefile.specs.declared.form.Form.TheVariants.{Packed}
+use Rattle.imagefile.proofs.ImageCalls.{synced, sync_failed}
+use Rattle.imagefile.proofs.packed.PackedDiskDisk.sync.Goals as goal
+
+pub returns-clause-syncs : goal.returns-clause-syncs
+returns-clause-syncs g c h = synced c.sync.result Packed c.args.self.now.blocks
+    (g.F.Durable.state c.args.self.now.file) (g.F.Durable.state c.sync.new.self) (c.sync.ensures.syncs h)
+
+pub returns-clause-fails : goal.returns-clause-fails
+returns-clause-fails g c h = sync_failed c.sync.result Packed c.args.self.now.blocks
+    (g.F.Durable.state c.args.self.now.file) (g.F.Durable.state c.sync.new.self) (c.sync.ensures.fails h)

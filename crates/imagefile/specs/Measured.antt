@@ -1,0 +1,24 @@
+-- What is said of a file that a disk is made of, or that is refused.
+use Rattle.std.specs.Prelude.{◌≡◌, ◌<◌, ◌*◌, ◌^◌, ℕ}
+use Rattle.blockdisk.specs.Disk.{one_more}
+use Rattle.imagefile.specs.File.{FileState, FileKeeps, SameFile}
+use Rattle.imagefile.specs.Image.{block_length, IsImageSize}
+use Rattle.imagefile.specs.declared.form.Form.{Form}
+use Rattle.imagefile.specs.declared.size.ImageError.{ImageError}
+use Rattle.imagefile.specs.declared.size.ImageError.TheVariants.{BadSize, Device}
+
+-- The file, which was s and is s' now, is an image of so many blocks.
+pub record IsImageOf (form : Form) (blocks : ℕ) (s s' : FileState) : Type 0 where
+  pub sized : s'.honest → s.size ≡ block_length form * blocks
+  pub few : blocks < 2 ^ 32
+  pub keeps : s'.honest → FileKeeps s s'
+  pub same : SameFile s s'
+  pub served : s'.failures ≡ s.failures
+
+-- It is handed back with this error.
+pub record IsNoImage (form : Form) (error : ImageError) (s s' : FileState) : Type 0 where
+  pub kept : s'.honest → FileKeeps s s'
+  pub stays : SameFile s s'
+  pub bad : s'.honest → error ≡ BadSize → IsImageSize form s.size → ⊥
+  pub failed : error ≡ Device → s'.failures ≡ one_more s.failures
+  pub counted : error ≡ BadSize → s'.failures ≡ s.failures

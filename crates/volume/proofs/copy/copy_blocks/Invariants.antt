@@ -1,0 +1,16 @@
+use Rattle.std.proofs.Common.{◌≡◌}
+use Rattle.blockdisk.specs.Disk.{SameDisk}
+use Rattle.changeset.specs.Reads.{OnlyReads}
+use Rattle.volume.specs.Copying.{AreCopied}
+use Rattle.volume.proofs.copy.copy_blocks.Given as goal
+
+abbrev pub invariant-loop-n : goal.invariant-loop-n
+invariant-loop-n g l = record {
+  reads : (g.D.Disk.state l.from).honest → OnlyReads (g.D.Disk.state l.initial.from) (g.D.Disk.state l.from);
+  same_source : SameDisk (g.D.Disk.state l.initial.from) (g.D.Disk.state l.from);
+  same_target : SameDisk (g.E.Disk.state l.initial.to) (g.E.Disk.state l.to);
+  served_source : (g.D.Disk.state l.from).failures ≡ (g.D.Disk.state l.initial.from).failures;
+  served_target : (g.E.Disk.state l.to).failures ≡ (g.E.Disk.state l.initial.to).failures;
+  copied : (g.D.Disk.state l.from).honest → (g.E.Disk.state l.to).honest
+      → AreCopied l.n (g.D.Disk.state l.initial.from).contents (g.E.Disk.state l.to).contents;
+}

@@ -1,0 +1,28 @@
+-- An image that is copied block by block, with zeros in the place of a block that is damaged.
+use Rattle.std.specs.Prelude.{◌≡◌, ◌⊎◌, ◌<◌, ℕ, List, Option, Some, None, Result, IfErr, IsErrOf, replicate}
+use Rattle.blockdisk.specs.Disk.{Contents, DiskState, SameDisk, one_more}
+use Rattle.changeset.specs.Reads.{OnlyReads}
+use Rattle.volume.specs.declared.error.CopyError.{CopyError}
+use Rattle.volume.specs.declared.error.CopyError.TheVariants.{Source, Target}
+use Rattle.volume.specs.declared.error.VolumeError.TheVariants.{Device}
+
+-- the words of a block in the copy
+abbrev pub copied : Option (List ℕ) → List ℕ
+copied None = replicate 128 0
+copied (Some words) = words
+
+-- Of each block below `end` the copy has the words.
+abbrev pub AreCopied : ℕ → Contents → Contents → Type 0
+AreCopied end from to = (n : ℕ) → n < end → to n ≡ Some (copied (from n))
+
+-- The one disk, which was s, was only read; the other, which was t, may hold anything; and which device failed where
+-- that is refused.
+pub record IsCopyStep (s s' t t' : DiskState) (result : Result (Unit {0}) CopyError) : Type 0 where
+  pub reads : s'.honest → OnlyReads s s'
+  pub only : IfErr result (λ error. (error ≡ Source Device) ⊎ (error ≡ Target))
+  pub same_source : SameDisk s s'
+  pub same_target : SameDisk t t'
+  pub failed_source : IsErrOf result (Source Device) → s'.failures ≡ one_more s.failures
+  pub served_source : (IsErrOf result (Source Device) → ⊥) → s'.failures ≡ s.failures
+  pub failed_target : IsErrOf result Target → t'.failures ≡ one_more t.failures
+  pub served_target : (IsErrOf result Target → ⊥) → t'.failures ≡ t.failures

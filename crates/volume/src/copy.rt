@@ -1,0 +1,152 @@
+ghost use Rattle.std.specs.Prelude.{◌≡◌, ◌⊎◌, ◌<◌, ℕ, Some, OnOk, IfOk, IfErr, IsErrOf};
+ghost use Rattle.blockdisk.specs.Disk.{LeavesOnly, NoneOpen, SameDisk, SameOutside, Still, one_more};
+ghost use Rattle.changeset.specs.Crashes.{IsRecovered, SyncsFirst};
+ghost use Rattle.changeset.specs.Reads.{OnlyReads};
+ghost use Rattle.meaning.specs.Files.{File, Files};
+ghost use Rattle.meaning.specs.Stands.{Stands};
+ghost use Rattle.volume.specs.Copying.{copied, AreCopied, IsCopyStep};
+ghost use Rattle.volume.specs.FaultsFound.{NamesInSpace, Refuses};
+ghost use Rattle.volume.specs.Rest.{RestsAt, StandsLike, StandsLikeBefore};
+ghost use Rattle.volume.specs.declared.error.CopyError.TheVariants.{Source, Target};
+ghost use Rattle.volume.specs.declared.error.VolumeError.{VolumeError};
+ghost use Rattle.volume.specs.declared.error.VolumeError.TheVariants.{Device};
+
+use crate::map::Volume;
+use crate::start::read_volume;
+use crate::{CopyError, VolumeError};
+use blockdisk::{Disk, Fault};
+use std::alloc::Global;
+use words36::{BLOCK_WORDS, Block, Word};
+
+impl<D: Disk> Volume<D> {
+    /// Copies the volume on a disk to another disk of as many blocks: recovers it and reads all that it reaches, as
+    /// `open` does, then writes every block in their order, zeros for each that is damaged, and waits until all are on
+    /// the disk. It isn't safe against a stop: what the other disk holds until then is no copy.
+    ///
+    /// # Errors
+    ///
+    /// `Source` with the refusal of `open`, or with `Device` where the disk fails while it is copied; `Target` where
+    /// the other one fails. Nothing is known of that one then.
+    pub fn copy_image<E: Disk>(alloc: Global, from: &mut D, to: &mut E) -> Result<(), CopyError>
+        // What the caller sees to.
+        requires { (D.state from.old).size ≡ (E.state to.old).size }
+
+        // The copy stands for the files, with a closed gate, and no block of it is open.
+        ensures stood { (D.state from.new).honest → (E.state to.new).honest
+            → OnOk result ((files : Files File) × Stands (D.state from.old).size (D.state from.old).contents files
+            × RestsAt (E.state to.new) files) }
+        ensures files { (D.state from.new).honest → (E.state to.new).honest → (files : Files File)
+            → Stands (D.state from.old).size (D.state from.old).contents files
+            → OnOk result (RestsAt (E.state to.new) files) }
+        ensures settled { (E.state to.new).honest → OnOk result (NoneOpen (E.state to.new)) }
+        ensures copied { (D.state from.new).honest → (E.state to.new).honest
+            → OnOk result (AreCopied (D.state from.old).size (D.state from.new).contents (E.state to.new).contents) }
+
+        // What is copied was recovered at most: all that `open` says of its disk.
+        ensures rests { (D.state from.new).honest → (files : Files File)
+            → Stands (D.state from.old).size (D.state from.old).contents files
+            → OnOk result (RestsAt (D.state from.new) files) }
+        ensures crash { (D.state from.new).honest
+            → LeavesOnly (D.state from.old) (D.state from.new) (StandsLikeBefore (D.state from.old)) }
+        ensures synced { (D.state from.new).honest
+            → SyncsFirst D.state from.old from.new (IsErrOf result (Source Device)) (StandsLike (D.state from.old)) }
+        ensures kept { (D.state from.new).honest → (IsErrOf result (Source Device) → ⊥)
+            → Still (D.state from.old) (D.state from.new)
+            ⊎ IsRecovered (D.state from.old).size (D.state from.old).contents (D.state from.new).contents }
+
+        // Where it is refused. The other disk is then as it was, unless a device failed.
+        ensures refused { (D.state from.new).honest → (error : VolumeError) → IsErrOf result (Source error)
+            → Refuses (D.state from.old).size (D.state from.new).contents error }
+        ensures named { (error : VolumeError) → IsErrOf result (Source error)
+            → NamesInSpace (D.state from.old).size error }
+        ensures untouched { (error : VolumeError) → IsErrOf result (Source error) → (error ≡ Device → ⊥)
+            → to.new ≡ to.old }
+
+        // On every disk.
+        ensures same_source { SameDisk (D.state from.old) (D.state from.new) }
+        ensures same_target { SameDisk (E.state to.old) (E.state to.new) }
+        ensures failed_source { IsErrOf result (Source Device)
+            → (D.state from.new).failures ≡ one_more (D.state from.old).failures }
+        ensures served_source { (IsErrOf result (Source Device) → ⊥)
+            → (D.state from.new).failures ≡ (D.state from.old).failures }
+        ensures failed_target { IsErrOf result Target
+            → (E.state to.new).failures ≡ one_more (E.state to.old).failures }
+        ensures served_target { (IsErrOf result Target → ⊥)
+            → (E.state to.new).failures ≡ (E.state to.old).failures }
+    {
+        match read_volume(alloc, from) {
+            Ok(map) => {
+                drop(map);
+                copy_all(from, to)
+            }
+            Err(error) => Err(CopyError::Source(error)),
+        }
+    }
+}
+
+/// Copies each block of a disk to another of as many blocks, and waits until all are on it.
+fn copy_all<D: Disk, E: Disk>(from: &mut D, to: &mut E) -> Result<(), CopyError>
+    requires { (D.state from.old).size ≡ (E.state to.old).size }
+    ensures copied { (D.state from.new).honest → (E.state to.new).honest
+        → OnOk result (AreCopied (D.state from.old).size (D.state from.old).contents (E.state to.new).contents) }
+    ensures settled { (E.state to.new).honest → OnOk result (NoneOpen (E.state to.new)) }
+    ensures step { IsCopyStep (D.state from.old) (D.state from.new) (E.state to.old) (E.state to.new) result }
+{
+    copy_blocks(from, to)?;
+    match to.sync() {
+        Ok(()) => Ok(()),
+        Err(_) => Err(CopyError::Target),
+    }
+}
+
+/// Writes each block of a disk to another of as many blocks.
+fn copy_blocks<D: Disk, E: Disk>(from: &mut D, to: &mut E) -> Result<(), CopyError>
+    requires { (D.state from.old).size ≡ (E.state to.old).size }
+    ensures copied { (D.state from.new).honest → (E.state to.new).honest
+        → OnOk result (AreCopied (D.state from.old).size (D.state from.old).contents (E.state to.new).contents) }
+    ensures step { IsCopyStep (D.state from.old) (D.state from.new) (E.state to.old) (E.state to.new) result }
+{
+    for n in 0..from.blocks() {
+        copy_block(from, to, n)?;
+    }
+    Ok(())
+}
+
+/// Writes a block of a disk to another, zeros where it is damaged.
+fn copy_block<D: Disk, E: Disk>(from: &mut D, to: &mut E, n: u32) -> Result<(), CopyError>
+    requires here { n < (D.state from.old).size }
+    requires there { n < (E.state to.old).size }
+    ensures copied { (D.state from.new).honest → (E.state to.new).honest
+        → OnOk result ((E.state to.new).contents n ≡ Some (copied ((D.state from.old).contents n))) }
+    ensures others { (E.state to.new).honest
+        → SameOutside (λ m. m ≡ n) (E.state to.old).contents (E.state to.new).contents }
+    ensures step { IsCopyStep (D.state from.old) (D.state from.new) (E.state to.old) (E.state to.new) result }
+{
+    let Ok(block) = words_or_zeros(from, n) else {
+        return Err(CopyError::Source(VolumeError::Device));
+    };
+    match to.write(n, &block) {
+        Ok(()) => Ok(()),
+        Err(_) => Err(CopyError::Target),
+    }
+}
+
+/// The words of a block, zeros where it is damaged.
+///
+/// # Errors
+///
+/// `Device` where the device failed.
+fn words_or_zeros<D: Disk>(disk: &mut D, n: u32) -> Result<Block, VolumeError>
+    requires { n < (D.state disk.old).size }
+    ensures words { (D.state disk.new).honest → IfOk result (λ block. block ≡ copied ((D.state disk.old).contents n)) }
+    ensures reads { (D.state disk.new).honest → OnlyReads (D.state disk.old) (D.state disk.new) }
+    ensures same { SameDisk (D.state disk.old) (D.state disk.new) }
+    ensures failed { IfErr result (λ _error. (D.state disk.new).failures ≡ one_more (D.state disk.old).failures) }
+    ensures served { OnOk result ((D.state disk.new).failures ≡ (D.state disk.old).failures) }
+{
+    match disk.read(n) {
+        Ok(block) => Ok(block),
+        Err(Fault::Damaged) => Ok([Word::ZERO; BLOCK_WORDS]),
+        Err(Fault::Device) => Err(VolumeError::Device),
+    }
+}
