@@ -1,9 +1,12 @@
 -- What a run makes of the reader and of the writer, whatever the disk does: the reader had `source` and has `left`, the
 -- writer held `sink` and holds `full`.
-use Rattle.std.specs.Prelude.{◌≡◌, ◌⊎◌, ℕ, List, Option, Result}
+use Rattle.std.specs.Prelude.{◌≡◌, ◌⊎◌, ◌++◌, ◌∷◌, ℕ, List, [], Option, Result, codes}
+use Rattle.std.specs.Fmt.{decimal}
+use Rattle.std.specs.Io.KnownBytes.{Appends}
 use Rattle.clap.specs.Words.{Kinds, IsAmong, kind_of}
 use Rattle.words36.specs.declared.moment.Moment.{Moment}
 use Rattle.blockdisk.specs.Disk.{DiskState}
+use Rattle.meaning.specs.Lines.{feed}
 use Rattle.monitor.specs.States.{MonitorState}
 use Rattle.commands.specs.declared.answer.Tally.{Tally}
 use Rattle.commands.specs.declared.error.SessionError.{SessionError}
@@ -13,7 +16,7 @@ use Rattle.filser.specs.ServedDisks.{IsEnding, IsSaid}
 use Rattle.filser.specs.Statuses.{status_code}
 use Rattle.filser.specs.Tasks.{Attends, IsStart}
 use Rattle.filser.specs.declared.asked.Request.{Request}
-use Rattle.filser.specs.declared.asked.Request.TheVariants.{Fresh, Init, Work}
+use Rattle.filser.specs.declared.asked.Request.TheVariants.{Fresh, Init, Work, Convert}
 use Rattle.filser.specs.declared.error.RequestError.{RequestError}
 use Rattle.filser.specs.declared.error.RequestError.TheVariants.{Usage, BadArgument, NoMemory}
 use Rattle.filser.specs.declared.refusal.Refusal.{Refusal}
@@ -43,15 +46,23 @@ IsExcused sink full status =
 abbrev pub IsTurnedAway : Option (List ℕ) → Option (List ℕ) → Option (List ℕ) → Option (List ℕ) → Status → Type 0
 IsTurnedAway source left sink full status = (left ≡ source) × IsExcused sink full status
 
+-- so many blocks were converted, as is printed, unless the writer failed
+abbrev pub IsTold : ℕ → Option (List ℕ) → Option (List ℕ) → Status → Type 0
+IsTold blocks sink full status = (status ≡ Fault)
+    ⊎ ((status ≡ Done) × Appends sink full (codes "Converted " ++ decimal blocks ++ codes " blocks" ++ feed ∷ []))
+
 -- What was asked for was done: the lines of the reader were served at date 0 and minute 0, over a fresh volume in memory;
--- an image was made, of which nothing is printed; or a task was attended to on the image that is named.
+-- an image was made, of which nothing is printed; a task was attended to on the image that is named; or it was converted.
 abbrev pub IsRun : {D E : Type 0} → (D → DiskState) → (E → DiskState) → Request → Option (List ℕ) → Option (List ℕ)
     → Option (List ℕ) → Option (List ℕ) → Status → Type 0
 IsRun memory image Fresh source left sink full status =
     (at : Moment) × IsStart at × IsAttended memory (Run at) source left sink full status
-IsRun memory image (Init path blocks) source left sink full status =
+IsRun memory image (Init path blocks form) source left sink full status =
     (left ≡ source) × (full ≡ sink) × (status ≡ Done)
-IsRun memory image (Work path task) source left sink full status = IsAttended image task source left sink full status
+IsRun memory image (Work path form task) source left sink full status =
+    IsAttended image task source left sink full status
+IsRun memory image (Convert path new form) source left sink full status =
+    (left ≡ source) × ((blocks : ℕ) × IsTold blocks sink full status)
 
 -- what is printed where the words ask for nothing that is done: what `clap` has to say of them, or nothing
 abbrev pub PrintsOnly : Kinds → RequestError → Option (List ℕ) → Option (List ℕ) → Type 0

@@ -1,9 +1,10 @@
-ghost use Rattle.std.specs.Prelude.{◌≡◌, ◌≢◌, ◌⊎◌, OnOk, IfErr};
+ghost use Rattle.std.specs.Prelude.{◌≡◌, ◌≢◌, ◌⊎◌, ℕ, OnOk, IfErr};
 ghost use Rattle.blockdisk.specs.Disk.{NoneOpen};
 ghost use Rattle.meaning.specs.Files.{File as StoredFile, Files};
 ghost use Rattle.meaning.specs.Stands.{Stands};
 ghost use Rattle.volume.specs.Rest.{RestsAt};
 ghost use Rattle.filser.specs.Refusals.{IsFileRefusal};
+ghost use Rattle.filser.specs.Runs.{IsExcused, IsTold};
 ghost use Rattle.filser.specs.declared.refusal.Refusal.TheVariants.{Exists};
 ghost use Rattle.filser.specs.declared.status.Status.TheVariants.{BadArguments};
 
@@ -32,7 +33,9 @@ pub(crate) fn convert_image<F: Files<File = File>, W: Write, E: Write>(
     writer: &mut W,
     errors: &mut E,
 ) -> Status
-    ensures { result ≢ BadArguments }
+    ensures serving { result ≢ BadArguments }
+    ensures told { ((blocks : ℕ) × IsTold blocks (W.contents writer.old) (W.contents writer.new) result)
+        ⊎ IsExcused (W.contents writer.old) (W.contents writer.new) result }
 {
     if fs::metadata(files, new).is_ok() {
         let fault = ImageFault {
@@ -75,7 +78,9 @@ fn write_new<F: Files<File = File>, W: Write, E: Write>(
     writer: &mut W,
     errors: &mut E,
 ) -> Status
-    ensures { result ≢ BadArguments }
+    ensures serving { result ≢ BadArguments }
+    ensures told { ((blocks : ℕ) × IsTold blocks (W.contents writer.old) (W.contents writer.new) result)
+        ⊎ IsExcused (W.contents writer.old) (W.contents writer.new) result }
 {
     let file = match new_file(files, new) {
         Ok(file) => file,
@@ -161,7 +166,8 @@ fn copy(
 
 /// Prints how many blocks were converted.
 fn tell_converted<W: Write>(blocks: u32, writer: &mut W) -> Status
-    ensures { result ≢ BadArguments }
+    ensures serving { result ≢ BadArguments }
+    ensures told { IsTold blocks (W.contents writer.old) (W.contents writer.new) result }
 {
     match writeln!(writer, "Converted {blocks} blocks") {
         Ok(()) => Status::Done,

@@ -1,4 +1,8 @@
 ghost use Rattle.std.specs.Prelude.{◌≡◌, ◌⊎◌, IfOk, IfErr};
+ghost use Rattle.blockdisk.specs.Disk.{NoneOpen};
+ghost use Rattle.changeset.specs.Rest.{AtRest};
+ghost use Rattle.meaning.specs.Maps.{empty};
+ghost use Rattle.meaning.specs.Stands.{Stands};
 ghost use Rattle.filser.specs.Refusals.{IsFileRefusal};
 ghost use Rattle.filser.specs.ServedDisks.{HoldsFile};
 ghost use Rattle.imagefile.specs.Streams.{IsApart};
@@ -170,8 +174,8 @@ pub(crate) fn new_file<F: Files<File = File>>(files: &F, path: &str) -> Result<F
     }
 }
 
-/// Writes so many blocks of zeros in this form, so that a file system without room for an image refuses it when it is made, and not
-/// when somebody's file is written.
+/// Writes so many blocks of zeros in this form, so that a file system without room for an image refuses it when it is
+/// made, and not when somebody's file is written.
 ///
 /// # Errors
 ///
@@ -208,6 +212,30 @@ pub(crate) fn zeros_in<E: Write>(
     disk_in(file, form, Supposition::any())
 }
 
+/// Makes an empty volume on the disk of a new image, and hands it back.
+///
+/// # Errors
+///
+/// `NotVolume` where the disk has a number of blocks that is no volume's, `Device` where the device failed.
+fn volume_on(disk: ImageDisk<HostFile>) -> Result<ImageDisk<HostFile>, ImageFault>
+    // Where the file has kept to the model: whatever a crash leaves of it stands for no files.
+    ensures made { IfOk result (λ made. (⟦<ImageDisk<HostFile> as Disk>⟧.state made).honest
+        → AtRest (⟦<ImageDisk<HostFile> as Disk>⟧.state made)
+        (λ c. Stands (⟦<ImageDisk<HostFile> as Disk>⟧.state disk).size c empty)) }
+    ensures settled { IfOk result (λ made. (⟦<ImageDisk<HostFile> as Disk>⟧.state made).honest
+        → NoneOpen (⟦<ImageDisk<HostFile> as Disk>⟧.state made)) }
+    ensures refused { IfErr result (λ fault. IsFileRefusal fault.refusal) }
+{
+    let mut disk = disk;
+    match Volume::init(&mut disk) {
+        Ok(()) => Ok(disk),
+        Err(error) => Err(ImageFault {
+            refusal: Refusal::Start(error),
+            host: failure_of(&disk.finish()),
+        }),
+    }
+}
+
 /// Makes a volume of so many blocks in a new file.
 ///
 /// # Errors
@@ -222,14 +250,8 @@ fn fill<E: Write>(
 ) -> Result<(), ImageFault>
     ensures { IfErr result (λ fault. IsFileRefusal fault.refusal) }
 {
-    let mut disk = zeros_in(file, path, form, blocks, errors)?;
-    match Volume::init(&mut disk) {
-        Ok(()) => Ok(()),
-        Err(error) => Err(ImageFault {
-            refusal: Refusal::Start(error),
-            host: failure_of(&disk.finish()),
-        }),
-    }
+    volume_on(zeros_in(file, path, form, blocks, errors)?)?;
+    Ok(())
 }
 
 /// Makes an image of this form and of so many blocks with no directory on it. All of them are written.
