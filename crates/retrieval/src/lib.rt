@@ -29,6 +29,7 @@
 //!    does in a list that was found before, of as many places as `rib_count` says.
 #![tactic(auto)]
 
+mod block_list;
 mod body;
 mod build;
 mod error;
@@ -41,6 +42,8 @@ mod pointers;
 mod prime;
 mod put;
 mod read;
+mod run;
+mod run_parts;
 mod runs;
 mod space;
 mod version;
