@@ -14,8 +14,7 @@ use words36::{BLOCK_WORDS, Block, Half, Word};
 
 /// The pointer to a run: how many blocks, and the first of them.
 pub fn pointer_to(run: Run) -> Word
-    requires first { run.first < 2 ^ 18 }
-    requires count { run.last - run.first < 2 ^ 18 - 1 }
+    requires { IsRun (pair_of run) }
     ensures { result ≡ pointer (pair_of run) }
 {
     Word::from_halves(

@@ -138,13 +138,13 @@ fn put_into<D: Disk>(
     ensures served { (IsErrOf result Device → ⊥) → (D.state disk.new).failures ≡ (D.state disk.old).failures }
 {
     let _booked = table.booked(); // which says that the table is sound
-    let (at, old) = ((block - 1) as usize, old as usize);
-    let first = at.min(old / BLOCK_WORDS);
+    let at = (block - 1) as usize;
+    let first = at.min(old as usize / BLOCK_WORDS);
     let end = at + words.len().div_ceil(BLOCK_WORDS);
-    let had = blocks.len();
-    let more = end.saturating_sub(had);
-    // Memory first, so that a refused growth leaves everything alone: a block that is changed may part a run.
-    let kept = prepare(disk, blocks, old, at, words.len(), more + 2 * (end - first))?;
+    let more = end.saturating_sub(blocks.len());
+    // Memory first, so that a refused growth leaves everything alone: a block that changes may part a run.
+    let runs = more + 2 * (end - first);
+    let kept = prepare(disk, blocks, old as usize, at, words.len(), runs)?;
     take_more(blocks, table, more);
     match write_places(disk, table, blocks, &kept, first, at, words) {
         Ok(()) => Ok(()),
