@@ -9,6 +9,7 @@ ghost use Rattle.retrieval.specs.Reading.{IsReadAs};
 ghost use Rattle.retrieval.specs.Writing.{IsFixed, rib_count};
 ghost use Rattle.retrieval.specs.declared.error.RetrievalError.TheVariants.{BadRetrieval};
 
+use crate::run_tests::expect_same_blocks;
 use alloctab::{Reached, Table, TableError};
 use blockdisk::{Disk, MemDisk, NoMemory};
 use retrieval::{
@@ -198,7 +199,7 @@ fn expect_written(
     assert!(rt; count <= 239 && ribs == count.saturating_sub(112).div_ceil(126));
     assert!(rt; *prime == foo(rt));
     assert_eq!(rt; read.length(), count * 128);
-    assert!(rt; read.blocks() == version.blocks());
+    expect_same_blocks(rt, read, version);
     assert!(rt; read.ribs() == version.ribs());
     assert_eq!(rt; read.ribs().len(), ribs as usize);
 }
@@ -311,7 +312,7 @@ fn expect_ribs(rt: &impl Abort, disk: &mut MemDisk) {
 /// A version of 239 blocks is written with a list for its ribs that was found before.
 fn expect_two_ribs(rt: &impl Abort, alloc: Global, disk: &mut MemDisk) -> Result<(), Fail> {
     let (mut table, mut version) = listed(rt, alloc, disk, 239)?;
-    let ribs = vec![in alloc; 0; rib_count(version.blocks().len())]?;
+    let ribs = vec![in alloc; 0; rib_count(version.count())]?;
     let at = write_found(rt, disk, &mut table, &mut version, ribs);
     drop(table);
     let has_ribs = version.ribs() == [16, 17].as_slice();
@@ -367,7 +368,7 @@ fn each_write_may_fail(rt: HostRuntime) -> Result<(), Fail> {
 
 /// A version of 113 blocks has no ribs, and the first free block is still there to be taken.
 fn expect_unchanged(rt: &impl Abort, table: &mut Table, version: &Version) {
-    assert!(rt; version.blocks().len() == 113 && version.ribs().is_empty());
+    assert!(rt; version.count() == 113 && version.ribs().is_empty());
     assert_eq!(rt; table.take(), Some(15));
 }
 

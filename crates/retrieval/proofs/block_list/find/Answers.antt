@@ -1,4 +1,4 @@
-use Rattle.std.proofs.Common.{◌+◌, ◌≤◌, length, take, arith}
+use Rattle.std.proofs.Common.{arith}
 use Rattle.retrieval.proofs.KeptRuns.{found, length_more}
 use Rattle.retrieval.proofs.block_list.find.Goals as goal
 

@@ -1,4 +1,4 @@
-use Rattle.std.proofs.Common.{rules, ◌+◌, ◌<◌, ◌≤◌, ◌∙◌, ap, length, drop, take, arith}
+use Rattle.std.proofs.Common.{rules, ◌+◌, ◌<◌, ◌∙◌, length, take, arith}
 use Rattle.retrieval.proofs.KeptRuns.{drop_later, same_at, joined_more}
 use Rattle.retrieval.specs.Runs.{pairs_of}
 use Rattle.retrieval.proofs.block_list.join_all.Goals as goal

@@ -1,4 +1,4 @@
-use Rattle.std.proofs.Common.{◌≡◌, ◌≤◌, length, take, drop}
+use Rattle.std.proofs.Common.{◌≡◌, ◌≤◌, take, drop}
 use Rattle.std.specs.Prelude.{vec_len, vec_capacity}
 use Rattle.retrieval.specs.Runs.{blocks_of_runs, pairs_of, longest}
 use Rattle.retrieval.proofs.block_list.join_all.Given as goal

@@ -1,4 +1,4 @@
-use Rattle.std.proofs.Common.{◌<◌, ◌-◌, length, arith}
+use Rattle.std.proofs.Common.{arith}
 use Rattle.retrieval.proofs.KeptRuns.{joins_last, stands_apart}
 use Rattle.retrieval.proofs.block_list.joined_last.Goals as goal
 

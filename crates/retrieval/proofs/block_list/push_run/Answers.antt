@@ -1,6 +1,5 @@
-use Rattle.std.proofs.Common.{◌≡◌, ◌+◌, ◌-◌, ◌<◌, ◌≤◌, ◌++◌, ◌∷◌, [], ◌∙◌, ap, sym, subst, length, take, List, slice_set, arith, rules}
+use Rattle.std.proofs.Common.{◌≡◌, ◌-◌, ◌++◌, ◌∷◌, [], ◌∙◌, ap, sym, subst, length, take, List, slice_set, arith, rules}
 use Rattle.std.proofs.lemmas.List.{take_all, length-set}
-use Rattle.meaning.specs.Retrieval.{Run}
 use Rattle.retrieval.specs.Runs.{pairs_of, pair_of, behind}
 use Rattle.retrieval.specs.declared.run.Run.{Run as RunValue}
 use Rattle.retrieval.proofs.KeptRuns.{set_before}

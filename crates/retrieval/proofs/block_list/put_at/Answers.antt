@@ -1,8 +1,6 @@
-use Rattle.std.proofs.Common.{◌≡◌, ◌+◌, ◌-◌, ◌<◌, ◌∙◌, ap, sym, length, List, flat_map, slice_set, refl, rules}
-use Rattle.std.specs.Prelude.{IfSome}
-use Rattle.std.proofs.lemmas.Option.{slice_get_read}
-use Rattle.meaning.specs.Retrieval.{run_blocks, count_up}
-use Rattle.retrieval.specs.Runs.{pairs_of, pair_of, blocks_of_runs, longest, part_blocks}
+use Rattle.std.proofs.Common.{◌<◌, ◌∙◌, ap, sym, length, flat_map, slice_set, refl, rules}
+use Rattle.meaning.specs.Retrieval.{run_blocks}
+use Rattle.retrieval.specs.Runs.{blocks_of_runs, longest, part_blocks}
 use Rattle.retrieval.proofs.LongestRuns.{blocks_of_longest}
 use Rattle.retrieval.proofs.KeptRuns.{parts_put, put_in, offset_at}
 use Rattle.retrieval.proofs.block_list.put_at.Goals as goal

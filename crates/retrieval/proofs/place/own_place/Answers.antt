@@ -1,5 +1,4 @@
 use Rattle.std.proofs.Common.{◌≡◌, ◌+◌, ℕ, List, sym, ap, ◌∙◌, subst, arith}
-use Rattle.std.specs.Prelude.{slice_index}
 use Rattle.meaning.specs.Maps.{times}
 use Rattle.alloctab.specs.TableState.{bit, holds}
 use Rattle.retrieval.specs.Bodies.{IsOwn}

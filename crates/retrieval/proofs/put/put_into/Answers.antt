@@ -1,14 +1,9 @@
-use Rattle.std.proofs.Common.{◌≡◌, ◌+◌, ◌-◌, ◌/◌, ◌<◌, ℕ, length, min, replicate, sym, ap, ◌∙◌, subst, arith, rules}
+use Rattle.std.proofs.Common.{◌≡◌, ◌+◌, ◌-◌, ◌/◌, ℕ, length, min, sym, ◌∙◌, subst, arith}
 use Rattle.std.specs.List.{AllByRecursion}
-use Rattle.std.proofs.lemmas.List.{length-append, length-replicate}
-use Rattle.blockdisk.specs.Laws.{modifies_start, modifies_on, modifies_wider, still_modifies, keeps_still}
+use Rattle.blockdisk.specs.Laws.{modifies_on, modifies_wider, still_modifies, keeps_still}
 use Rattle.meaning.specs.Costs.{blocks_of}
 use Rattle.meaning.specs.Faults.{InSpace}
-use Rattle.meaning.specs.Maps.{times}
-use Rattle.meaning.specs.Retrieval.{HasBody}
-use Rattle.meaning.specs.Splices.{splice}
-use Rattle.alloctab.specs.TableState.{holds}
-use Rattle.retrieval.specs.Bodies.{IsOwn, AddsFree, KeepsOwn}
+use Rattle.retrieval.specs.Bodies.{IsOwn}
 use Rattle.retrieval.specs.Placing.{IsPlaced}
 use Rattle.retrieval.proofs.Growing.{grown, grown_length, grown_keeps, after_some}
 use Rattle.retrieval.proofs.Holding.{used_le_uses}

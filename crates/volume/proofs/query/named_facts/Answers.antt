@@ -48,5 +48,5 @@ returns-clause-found c =
       mode = refl;
       moment = refl;
       words = c.length.ensures;
-      blocks = ap length c.blocks-2.ensures ∙ whole.counted;
+      blocks = c.count.ensures ∙ whole.counted;
     }

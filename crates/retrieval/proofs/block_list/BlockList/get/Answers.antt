@@ -1,4 +1,4 @@
-use Rattle.std.proofs.Common.{ap, ◌∙◌, sym, Some, ℕ, List, subst}
+use Rattle.std.proofs.Common.{ap, ◌∙◌, sym, Some, List, subst}
 use Rattle.retrieval.specs.Runs.{IsIn}
 use Rattle.retrieval.specs.declared.run.Run.{Run as RunValue}
 use Rattle.retrieval.proofs.KeptRuns.{block_in}

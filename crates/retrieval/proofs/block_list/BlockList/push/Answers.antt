@@ -1,5 +1,4 @@
-use Rattle.std.proofs.Common.{rules, arith, ◌≡◌, ◌+◌, ◌∙◌, ap, sym, List}
-use Rattle.meaning.specs.Retrieval.{Run}
+use Rattle.std.proofs.Common.{rules, ◌∙◌, ap}
 use Rattle.retrieval.specs.Runs.{pairs_of, behind}
 use Rattle.retrieval.proofs.KeptRuns.{kept_more, pushed}
 use Rattle.retrieval.proofs.block_list.BlockList.push.Goals as goal

@@ -1,4 +1,4 @@
-use Rattle.std.proofs.Common.{◌≡◌, ◌+◌, ◌-◌, ℕ, suc, arith}
+use Rattle.std.proofs.Common.{◌≡◌, ◌+◌, ◌-◌, suc, arith}
 use Rattle.meaning.specs.Retrieval.{count_up}
 use Rattle.retrieval.proofs.run.Run.behind.Goals as goal
 
