@@ -1,15 +1,15 @@
 -- Runs as they are kept: one more behind, one found, one parted, all joined.
-use Rattle.std.proofs.Common.{◌≡◌, ℕ, zero, suc, true, false, Bool, ◌+◌, ◌-◌, ◌<◌, ◌≤◌, ◌==◌, if◌then◌else◌, List, [], ◌∷◌}
-use Rattle.std.proofs.Common.{◌++◌, map, length, get_or, take, drop, flat_map, slice_set, Some, None, Option, refl, sym}
+use Rattle.std.proofs.Common.{◌≡◌, ℕ, zero, suc, Bool, ◌+◌, ◌-◌, ◌<◌, ◌≤◌, ◌==◌, if◌then◌else◌, List, [], ◌∷◌}
+use Rattle.std.proofs.Common.{◌++◌, length, get_or, take, drop, flat_map, slice_set, Some, Option, refl, sym}
 use Rattle.std.proofs.Common.{◌∙◌, ap, subst, arith, append_assoc, length-append, append-nil}
 use Rattle.std.specs.Prelude.{slice_get, IfSome}
 use Rattle.std.proofs.lemmas.Bool.{eq-eqb, ne_eqb}
-use Rattle.std.proofs.lemmas.List.{map_more, map_push, map-append, take-append-drop, take_all, take_more_set, set_split, drop_all}
-use Rattle.std.proofs.lemmas.List.{take_more, drop_more, take_at, drop_at, length-take-le, set-append_right, get_or-drop, drop-drop, drop-set}
+use Rattle.std.proofs.lemmas.List.{map_more, map_push, map-append, take-append-drop, take_more_set, set_split}
+use Rattle.std.proofs.lemmas.List.{drop_more, take_at, drop_at, length-take-le, set-append_right, get_or-drop, drop-drop}
 use Rattle.std.proofs.lemmas.Option.{slice_get_read}
 use Rattle.std.proofs.lemmas.Grind.{flat_map-append}
 use Rattle.meaning.specs.Retrieval.{Run, run_blocks, count_up}
-use Rattle.retrieval.specs.Runs.{pair_of, pairs_of, blocks_of_runs, part_blocks, IsIn, behind, longest, AreKept}
+use Rattle.retrieval.specs.Runs.{pair_of, pairs_of, blocks_of_runs, IsIn, behind, longest, AreKept}
 use Rattle.retrieval.specs.declared.run.Run.{Run as RunValue}
 use Rattle.retrieval.proofs.RunLists.{length-count_up}
 use Rattle.retrieval.proofs.LongestRuns.{longest_behind, behind_last, blocks_of_longest}

@@ -1,15 +1,14 @@
 -- Extensions that are written, and blocks that are taken for them.
-use Rattle.std.proofs.Common.{inl, inr, ◌≡◌, ℕ, zero, suc, ◌+◌, ◌-◌, ◌/◌, ◌^◌, ◌<◌, ◌≤◌, List, [], ◌∷◌, ◌++◌, min, map}
-use Rattle.std.proofs.Common.{length, get_or, take, drop, flat_map, replicate, slice_set, Some, Result, Ok, Err, OnOk}
-use Rattle.std.proofs.Common.{refl, sym, ◌∙◌, ap, subst, arith, append_assoc, length-drop}
+use Rattle.std.proofs.Common.{inl, inr, ◌≡◌, ℕ, zero, suc, ◌+◌, ◌-◌, ◌/◌, ◌<◌, ◌≤◌, List, [], ◌∷◌, ◌++◌, min}
+use Rattle.std.proofs.Common.{length, take, drop, flat_map, Some, Result, Ok, Err, OnOk}
+use Rattle.std.proofs.Common.{refl, sym, ◌∙◌, ap, subst, arith, length-drop}
 use Rattle.std.specs.List.{AllByRecursion}
 use Rattle.std.proofs.lemmas.List.{take_all, take-append-drop, length-take-le}
-use Rattle.std.proofs.Math.Seq.{set-append_seam}
 use Rattle.blockdisk.specs.Disk.{Contents}
 use Rattle.meaning.specs.Blocks.{head_or_zero}
 use Rattle.meaning.specs.Maps.{times}
 use Rattle.meaning.specs.Costs.{blocks_of}
-use Rattle.meaning.specs.Retrieval.{Prime, Run, IsRun, IsPrime, IsMode, IsRetrieved, pointer, prime_block, run_blocks}
+use Rattle.meaning.specs.Retrieval.{Prime, Run, IsRun, IsPrime, IsMode, IsRetrieved, prime_block, run_blocks}
 use Rattle.meaning.specs.Retrieval.{all_runs, AreExtensions, extension_block, extension_numbers, first_extension}
 use Rattle.retrieval.specs.Modes.{mode_number}
 use Rattle.retrieval.specs.declared.mode.Mode.{Mode}
