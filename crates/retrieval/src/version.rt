@@ -9,8 +9,8 @@ use blockdisk::NoMemory;
 use std::alloc::Global;
 use std::marker::Model;
 
-/// Where a version of a file lies: its length in words, its data blocks in order, and its ribs, the
-/// extensions of its prime block.
+/// Where a version of a file lies: its length in words, its data blocks in order, which are kept as runs, and its
+/// ribs, the extensions of its prime block.
 #[derive(Drop)]
 pub struct Version {
     length: u32,
