@@ -263,7 +263,8 @@ fn prime_blocks_are_built_again(rt: HostRuntime) -> Result<(), Fail> {
     expect_built(&rt, rt.alloc(), &small, &none, &small)?;
     let pieces = rib(300, 0, &[(2, 30), (1, 99)]);
     let alone = rib(300, 0, &[(1, 30), (1, 31), (1, 99)]);
-    expect_built(&rt, rt.alloc(), &pieces, &none, &alone)?;
+    expect_built(&rt, rt.alloc(), &pieces, &none, &pieces)?;
+    expect_built(&rt, rt.alloc(), &alone, &none, &pieces)?; // neighbours are joined
     let large = rib(113 * 128, 21, &[(1, 100); 112]);
     expect_built(&rt, rt.alloc(), &large, &xrb(0, &[(1, 99)]), &large)?;
     Ok(())

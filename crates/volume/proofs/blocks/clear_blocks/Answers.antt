@@ -1,4 +1,4 @@
-use Rattle.std.proofs.Common.{◌+◌, ◌<◌, ℕ, take, refl, sym, subst, length, arith}
+use Rattle.std.proofs.Common.{◌+◌, ◌<◌, ℕ, take, sym, subst, length, arith}
 use Rattle.volume.specs.Publishing.{ClearsBits}
 use Rattle.volume.proofs.BlockLists.{next_there, clears_next}
 use Rattle.volume.proofs.MakingLaw.{bit_few}

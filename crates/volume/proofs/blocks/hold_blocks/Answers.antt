@@ -1,4 +1,4 @@
-use Rattle.std.proofs.Common.{◌+◌, ◌<◌, ℕ, refl, sym, ap, subst, ◌∙◌, length, arith}
+use Rattle.std.proofs.Common.{◌+◌, ◌<◌, ℕ, sym, ap, subst, ◌∙◌, length, arith}
 use Rattle.alloctab.specs.TableState.{IsTable, holds}
 use Rattle.alloctab.specs.TableLaws.{sound-with_held}
 use Rattle.volume.proofs.Releasing.{rest_more}

@@ -1,4 +1,4 @@
-use Rattle.std.proofs.Common.{◌+◌, ◌<◌, ℕ, take, refl, sym, subst, length, arith}
+use Rattle.std.proofs.Common.{◌+◌, ◌<◌, ℕ, take, sym, subst, length, arith}
 use Rattle.volume.specs.Publishing.{SetsBits}
 use Rattle.volume.proofs.BlockLists.{next_there, sets_next}
 use Rattle.volume.proofs.blocks.set_blocks.Goals as goal

@@ -1,4 +1,4 @@
-use Rattle.std.proofs.Common.{◌≡◌, ◌+◌, ◌≤◌, ◌++◌, ◌∷◌, [], ℕ, List, true, length, map, slice_get, slice_set}
+use Rattle.std.proofs.Common.{◌≡◌, ◌+◌, ◌≤◌, ◌++◌, ◌∷◌, [], ℕ, List, true, map, slice_get, slice_set}
 use Rattle.std.proofs.Common.{option_to_list, Some, None, IfSome, IfNone, IsSome, refl, sym, ap, subst, ◌∙◌, arith}
 use Rattle.std.specs.FinMap.Entries.{find}
 use Rattle.meaning.specs.Files.{name_cmp}

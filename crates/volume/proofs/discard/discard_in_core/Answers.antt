@@ -1,6 +1,5 @@
-use Rattle.std.proofs.Common.{◌≡◌, ◌+◌, ◌-◌, ◌≤◌, ℕ, List, sym, ap, subst, ◌∙◌, arith}
-use Rattle.meaning.specs.Maps.{times}
-use Rattle.alloctab.specs.TableState.{TableState, holds}
+use Rattle.std.proofs.Common.{◌≡◌, ◌+◌, ◌-◌, sym, ap, subst, ◌∙◌, arith}
+use Rattle.alloctab.specs.TableState.{TableState}
 use Rattle.volume.specs.Live.{IsWholeCore}
 use Rattle.volume.specs.LiveCores.{core_of}
 use Rattle.volume.proofs.Dropping.{taken_out, dropped_there, dropped_few, dropped_held, dropped_growths, dropped_booked}

@@ -1,6 +1,6 @@
 use Rattle.meaning.specs.Maps.{times}
 use Rattle.alloctab.specs.TableState.{holds}
-use Rattle.std.proofs.Common.{◌<◌, ◌+◌, ℕ, take, refl, sym, ap, subst, ◌∙◌, arith, length}
+use Rattle.std.proofs.Common.{◌<◌, ◌+◌, ℕ, take, sym, ap, subst, ◌∙◌, arith, length}
 use Rattle.volume.proofs.Releasing.{still_held, next_less, rest_more}
 use Rattle.volume.proofs.live.unhold_blocks.Goals as goal
 
