@@ -1,58 +1,95 @@
 -- Pointers that are put into a block one after the other.
 use Rattle.std.proofs.Common.{◌≡◌, ◌⊎◌, ⊎_elim, ℕ, min, add-zero, zero, suc, ◌+◌, ◌-◌, ◌^◌, ◌<◌, ◌≤◌, List, [], ◌∷◌}
-use Rattle.std.proofs.Common.{◌++◌, map, length, get_or, take, drop, replicate, slice_set, sym, ◌∙◌, ap, subst, arith}
+use Rattle.std.proofs.Common.{◌++◌, map, length, get_or, take, drop, replicate, slice_set, refl, sym, ◌∙◌, ap, subst, arith}
 use Rattle.std.proofs.Common.{append_assoc, length-append}
 use Rattle.std.specs.List.{AllByRecursion}
-use Rattle.std.proofs.lemmas.List.{take_more, take_all, take-append-drop, map-append, length-map, length-take-le}
+use Rattle.std.proofs.lemmas.List.{map_more, take_all, take-append-drop, map-append, length-map, length-take-le}
 use Rattle.std.proofs.Math.Seq.{set-append_seam}
 use Rattle.words36.specs.Words.{join}
-use Rattle.meaning.specs.Retrieval.{Prime, Run, pointer, prime_word, extension_word, attributes, prime_block}
+use Rattle.meaning.specs.Retrieval.{Prime, Run, IsRun, run_blocks, pointer, prime_word, extension_word, attributes}
+use Rattle.meaning.specs.Retrieval.{prime_block}
+use Rattle.meaning.proofs.SlotLaws.{all_right}
 use Rattle.retrieval.specs.Heads.{prime_front}
 use Rattle.retrieval.proofs.Spellings.{ext_word}
-use Rattle.retrieval.specs.Pointers.{one_each}
+use Rattle.retrieval.specs.Runs.{pair_of, pairs_of, blocks_of_runs}
+use Rattle.retrieval.specs.declared.run.Run.{Run as RunValue}
+use Rattle.retrieval.proofs.RunLists.{length-count_up}
 
-pub fits_at : (ns : List ℕ) (i n : ℕ) → i < length ns → n ≡ get_or ns i n → AllByRecursion (λ k. k < 2 ^ 18) ns
-    → n < 2 ^ 18
-fits_at [] i n below is all = absurd (omega arith)
-fits_at (first ∷ ns) zero n below is all = subst (λ (k : ℕ). k < 2 ^ 18) (sym is) all.0
-fits_at (first ∷ ns) (suc i) n below is all = fits_at ns i n (omega arith) is all.1
+abbrev pub pointers : List RunValue → List ℕ
+pointers runs = map pointer (pairs_of runs)
 
-pub fit_first : (count : ℕ) (ns : List ℕ) → AllByRecursion (λ k. k < 2 ^ 18) ns
-    → AllByRecursion (λ k. k < 2 ^ 18) (take count ns)
-fit_first zero ns all = tt
-fit_first (suc count) [] all = tt
-fit_first (suc count) (n ∷ ns) all = (all.0, fit_first count ns all.1)
+length-pointers : (runs : List RunValue) → length (pointers runs) ≡ length runs
+length-pointers runs = length-map (pairs_of runs) pointer ∙ length-map runs pair_of
 
-abbrev pointers : List ℕ → List ℕ
-pointers ns = map pointer (one_each ns)
+pub pointers_more : (runs : List RunValue) (i : ℕ) (run : RunValue) → i < length runs → run ≡ get_or runs i run
+    → pointers (take (i + 1) runs) ≡ pointers (take i runs) ++ pointer (pair_of run) ∷ []
+pointers_more runs i run below is =
+    ap (map pointer) (map_more pair_of runs i run below)
+    ∙ map-append pointer (pairs_of (take i runs)) (pair_of (get_or runs i run) ∷ [])
+    ∙ ap (λ (r : RunValue). pointers (take i runs) ++ pointer (pair_of r) ∷ []) (sym is)
 
-length-pointers : (ns : List ℕ) → length (pointers ns) ≡ length ns
-length-pointers ns = length-map (one_each ns) pointer ∙ length-map ns (λ n. (1, n))
+-- A pointer more behind the first words of a block.
+put_more : (head : List ℕ) (most before : ℕ) (runs : List RunValue) (i : ℕ) (run : RunValue) → length head ≡ before
+    → length runs ≤ most → i < length runs → run ≡ get_or runs i run
+    → slice_set (head ++ (pointers (take i runs) ++ replicate (most - i) 0)) (before + i) (pointer (pair_of run))
+    ≡ head ++ (pointers (take (i + 1) runs) ++ replicate (most - (i + 1)) 0)
+put_more head most before runs i run long few below is =
+    let front = head ++ pointers (take i runs) in
+    let rest : List ℕ = replicate (most - (i + 1)) 0 in
+    let n = pointer (pair_of run) in
+    let counted : length front ≡ before + i = length-append head (pointers (take i runs))
+    ∙ (let e = length-pointers (take i runs) in let f = length-take-le i runs (omega arith) in omega arith) in
+    let room : most - i ≡ suc (most - (i + 1)) = omega arith in
+    ap (λ (k : ℕ). slice_set (head ++ (pointers (take i runs) ++ replicate k 0)) (before + i) n) room
+    ∙ ap (λ (l : List ℕ). slice_set l (before + i) n) (sym (append_assoc head (pointers (take i runs)) (0 ∷ rest)))
+    ∙ ap (λ (k : ℕ). slice_set (front ++ 0 ∷ rest) k n) (sym counted)
+    ∙ set-append_seam front 0 rest n
+    ∙ append_assoc head (pointers (take i runs)) (n ∷ rest)
+    ∙ ap (λ (l : List ℕ). head ++ l) (sym (append_assoc (pointers (take i runs)) (n ∷ []) rest)
+    ∙ ap (λ (l : List ℕ). l ++ rest) (sym (pointers_more runs i run below is)))
 
-pointers_more : (ns : List ℕ) (i n : ℕ) → i < length ns → n ≡ get_or ns i n
-    → pointers (take (i + 1) ns) ≡ pointers (take i ns) ++ pointer (1, n) ∷ []
-pointers_more ns i n below is =
-    ap pointers (take_more ns i n below ∙ ap (λ (k : ℕ). take i ns ++ k ∷ []) (sym is))
-    ∙ ap (map pointer) (map-append (λ (k : ℕ). (1, k)) (take i ns) (n ∷ []))
-    ∙ map-append pointer (one_each (take i ns)) ((1, n) ∷ [])
+pub put_in_prime : (head : List ℕ) (runs : List RunValue) (i : ℕ) (run : RunValue) → length head ≡ 16
+    → length runs ≤ 112 → i < length runs → run ≡ get_or runs i run
+    → slice_set (head ++ (pointers (take i runs) ++ replicate (112 - i) 0)) (16 + i) (pointer (pair_of run))
+    ≡ head ++ (pointers (take (i + 1) runs) ++ replicate (112 - (i + 1)) 0)
+put_in_prime head runs i run long few below is = put_more head 112 16 runs i run long few below is
 
-pub put_more : (head ns : List ℕ) (i n : ℕ) → length head ≡ 16 → length ns ≤ 112 → i < length ns → n ≡ get_or ns i n
-    → slice_set (head ++ (pointers (take i ns) ++ replicate (112 - i) 0)) (16 + i) (pointer (1, n))
-    ≡ head ++ (pointers (take (i + 1) ns) ++ replicate (112 - (i + 1)) 0)
-put_more head ns i n long few below is =
-    let front = head ++ pointers (take i ns) in
-    let rest : List ℕ = replicate (112 - (i + 1)) 0 in
-    let counted : length front ≡ 16 + i = length-append head (pointers (take i ns))
-    ∙ (let e = length-pointers (take i ns) in let f = length-take-le i ns (omega arith) in omega arith) in
-    let room : 112 - i ≡ suc (112 - (i + 1)) = omega arith in
-    ap (λ (k : ℕ). slice_set (head ++ (pointers (take i ns) ++ replicate k 0)) (16 + i) (pointer (1, n))) room
-    ∙ ap (λ (l : List ℕ). slice_set l (16 + i) (pointer (1, n)))
-    (sym (append_assoc head (pointers (take i ns)) (0 ∷ rest)))
-    ∙ ap (λ (k : ℕ). slice_set (front ++ 0 ∷ rest) k (pointer (1, n))) (sym counted)
-    ∙ set-append_seam front 0 rest (pointer (1, n))
-    ∙ append_assoc head (pointers (take i ns)) (pointer (1, n) ∷ rest)
-    ∙ ap (λ (l : List ℕ). head ++ l) (sym (append_assoc (pointers (take i ns)) (pointer (1, n) ∷ []) rest)
-    ∙ ap (λ (l : List ℕ). l ++ rest) (sym (pointers_more ns i n below is)))
+pub put_in_extension : (a b : ℕ) (runs : List RunValue) (i : ℕ) (run : RunValue) → length runs ≤ 126
+    → i < length runs → run ≡ get_or runs i run
+    → slice_set (a ∷ b ∷ (pointers (take i runs) ++ replicate (126 - i) 0)) (2 + i) (pointer (pair_of run))
+    ≡ a ∷ b ∷ (pointers (take (i + 1) runs) ++ replicate (126 - (i + 1)) 0)
+put_in_extension a b runs i run few below is = put_more (a ∷ b ∷ []) 126 2 runs i run refl few below is
+
+-- What each run fits: the first and the count are below 2 ^ 18.
+
+pub all_first : {X : Type 0} (P : X → Type 0) (count : ℕ) (xs : List X) → AllByRecursion P xs
+    → AllByRecursion P (take count xs)
+all_first P zero xs all = tt
+all_first P (suc count) [] all = tt
+all_first P (suc count) (x ∷ xs) all = (all.0, all_first P count xs all.1)
+
+pub all_later : {X : Type 0} (P : X → Type 0) (count : ℕ) (xs : List X) → AllByRecursion P xs
+    → AllByRecursion P (drop count xs)
+all_later P zero xs all = all
+all_later P (suc count) [] all = tt
+all_later P (suc count) (x ∷ xs) all = all_later P count xs all.1
+
+pub fits_at : (runs : List RunValue) (i : ℕ) (run : RunValue) → i < length runs → run ≡ get_or runs i run
+    → AllByRecursion IsRun (pairs_of runs) → IsRun (pair_of run)
+fits_at [] i run below is all = absurd (omega arith)
+fits_at (first ∷ runs) zero run below is all = subst (λ (r : RunValue). IsRun (pair_of r)) (sym is) all.0
+fits_at (first ∷ runs) (suc i) run below is all = fits_at runs i run (omega arith) is all.1
+
+pub runs_fit : (runs : List RunValue) → AllByRecursion (λ n. n < 2 ^ 18) (blocks_of_runs runs)
+    → length (blocks_of_runs runs) ≤ 16384 → AllByRecursion IsRun (pairs_of runs)
+runs_fit [] all few = tt
+runs_fit (run ∷ runs) all few =
+    let here = run_blocks (pair_of run) in
+    let long = length-append here (blocks_of_runs runs) in
+    let count = length-count_up (suc (run.last - run.first)) run.first in (
+      (omega arith, omega arith, all.0),
+      runs_fit runs (all_right (λ n. n < 2 ^ 18) here (blocks_of_runs runs) all) (omega arith),
+    )
 
 pub put_none : (words : List ℕ) → drop 16 words ≡ replicate 112 0 → words ≡ take 16 words ++ replicate 112 0
 put_none words clear = sym (take-append-drop 16 words) ∙ ap (λ (l : List ℕ). take 16 words ++ l) clear
@@ -67,39 +104,37 @@ front_written p count next count' next' words a b d e f fits mark none ext attr 
     ∙ ext_word p fits in
     λ i. mark i ∷ p.place.name.name ∷ ext_is i ∷ attr i ∷ ppn i ∷ length_is i ∷ counted i ∷ named i ∷ replicate 120 0
 
-min_take : (ns : List ℕ) (count : ℕ) → count ≡ min (length ns) 112 → (take count ns ≡ take 112 ns)
-    × (length (take 112 ns) ≡ count) × (length (take count ns) ≡ count)
-min_take ns count is =
-    let few : count ≤ length ns = omega arith in
+first_of_all : (all : List Run) (count : ℕ) → count ≡ min (length all) 112
+    → (take count all ≡ take 112 all) × (length (take 112 all) ≡ count)
+first_of_all all count is =
+    let few : count ≤ length all = omega arith in
     ⊎_elim
-    (λ (more : 112 ≤ length ns). let e : count ≡ 112 = omega arith in
-    (ap (λ (n : ℕ). take n ns) e, length-take-le 112 ns more ∙ sym e, length-take-le count ns few))
-    (λ (less : length ns < 112).
-    let e : count ≡ length ns = omega arith in
-    let f : take 112 ns ≡ ns = take_all 112 ns (omega arith) in
-    let g : take count ns ≡ ns = take_all count ns (omega arith) in
-    (g ∙ sym f, ap length f ∙ sym e, length-take-le count ns few))
-    (small_or_large (length ns))
+    (λ (more : 112 ≤ length all). let e : count ≡ 112 = omega arith in
+    (ap (λ (n : ℕ). take n all) e, length-take-le 112 all more ∙ sym e))
+    (λ (less : length all < 112).
+    let e : count ≡ length all = omega arith in
+    let f : take 112 all ≡ all = take_all 112 all (omega arith) in
+    let g : take count all ≡ all = take_all count all (omega arith) in
+    (g ∙ sym f, ap length f ∙ sym e))
+    (small_or_large (length all))
   where
     small_or_large : (n : ℕ) → (112 ≤ n) ⊎ (n < 112)
     small_or_large n = grind arith
 
 -- and with the pointers put in
-pub block_written : (p : Prime) (ns part new : List ℕ) (count next : ℕ) → count ≡ min (length ns) 112
-    → part ≡ take count ns
+pub block_written : (p : Prime) (all : List Run) (part : List RunValue) (new : List ℕ) (count next : ℕ)
+    → count ≡ min (length all) 112 → pairs_of part ≡ take count all
     → new ≡ take 16 (prime_front p count next ++ replicate 112 0) ++ (pointers part ++ replicate (112 - length part) 0)
-    → new ≡ prime_block p (one_each (take 112 ns)) next
-block_written p ns part new count next is part_is new_is =
-    let both = min_take ns count is in
-    let same : part ≡ take 112 ns = part_is ∙ both.0 in
-    let counted : count ≡ length (one_each (take 112 ns)) = sym (length-map (take 112 ns) (λ n. (1, n)) ∙ both.1) in
-    let room : length part ≡ length (one_each (take 112 ns)) = ap length same
-    ∙ sym (length-map (take 112 ns) (λ n. (1, n))) in
+    → new ≡ prime_block p (take 112 all) next
+block_written p all part new count next is part_is new_is =
+    let both = first_of_all all count is in
+    let same : pairs_of part ≡ take 112 all = part_is ∙ both.0 in
+    let long : length part ≡ length (take 112 all) = sym (length-map part pair_of) ∙ ap length same in
     new_is
-    ∙ ap (λ (l : List ℕ). prime_front p count next ++ (pointers l ++ replicate (112 - length part) 0)) same
-    ∙ ap (λ (n : ℕ). prime_front p count next ++ (pointers (take 112 ns) ++ replicate (112 - n) 0)) room
+    ∙ ap (λ (l : List Run). prime_front p count next ++ (map pointer l ++ replicate (112 - length part) 0)) same
+    ∙ ap (λ (n : ℕ). prime_front p count next ++ (map pointer (take 112 all) ++ replicate (112 - n) 0)) long
     ∙ ap (λ (n : ℕ). prime_front p n next
-    ++ (pointers (take 112 ns) ++ replicate (112 - length (one_each (take 112 ns))) 0)) counted
+    ++ (map pointer (take 112 all) ++ replicate (112 - length (take 112 all)) 0)) (sym both.1)
 
 -- What a prime block says is written anew, its length and what follows stay.
 pub front_rewritten : (p q : Prime) (runs : List Run) (next b d e f : ℕ) (old : List ℕ) → q.date < 4096 → b ≡ 0

@@ -1,5 +1,5 @@
 -- A list of blocks that grows by free ones.
-use Rattle.std.proofs.Common.{◌≡◌, ⊎_elim, inl, inr, ℕ, ◌+◌, ◌-◌, ◌<◌, List, [], ◌∷◌, ◌++◌, length, max, take, drop}
+use Rattle.std.proofs.Common.{◌≡◌, ⊎_elim, inl, inr, ℕ, ◌+◌, ◌-◌, ◌<◌, List, [], ◌∷◌, ◌++◌, length, max}
 use Rattle.std.proofs.Common.{refl, sym, ◌∙◌, ap, subst, arith, ◌≤◌}
 use Rattle.std.specs.Prelude.{slice_index}
 use Rattle.std.specs.List.{AllByRecursion}
@@ -15,8 +15,8 @@ use Rattle.changeset.specs.PutLaws.{times_head, times_tail}
 use Rattle.alloctab.specs.TableState.{TableState, IsTable, bit, holds, with_held, uses}
 use Rattle.alloctab.specs.TableLaws.{sound-with_held}
 use Rattle.retrieval.specs.Bodies.{AddsFree, KeepsOwn}
-use Rattle.retrieval.specs.Writing.{Takes, AreApart, IsFixed}
-use Rattle.retrieval.proofs.Taking.{free_in_space, may_be_written, takes_none, takes_apart, all_of}
+use Rattle.retrieval.specs.Writing.{Takes, GrowsBy, AreApart, IsFixed}
+use Rattle.retrieval.proofs.Taking.{free_in_space, may_be_written, takes_none, takes_apart}
 use Rattle.retrieval.proofs.Holding.{holds_taken, uses-with_held}
 use Rattle.retrieval.proofs.Placed.{bits_same}
 use Rattle.meaning.proofs.SlotLaws.{all_append}
@@ -89,14 +89,21 @@ grown_by size t t' xs ns is sound fixed inside takes = record {
       let b = times-append n xs ns in omega arith;
 }
 
--- The list was made longer first, and its new places filled then.
-pub grown : (size : ℕ) (t t' : TableState) (xs zs longer xs' : List ℕ) (had : ℕ) → t.size ≡ size → IsTable t
-    → IsFixed t → AllByRecursion (InSpace size) xs → had ≡ length xs → longer ≡ xs ++ zs
-    → xs' ≡ take had longer ++ drop had xs' → Takes t (drop had xs') t' → IsGrown size t t' xs xs'
-grown size t t' xs zs longer xs' had is sound fixed inside count made filled takes =
-    let front : take had longer ≡ xs = ap (take had) made ∙ all_of had xs zs (sym count) in
-    let e : xs ++ drop had xs' ≡ xs' = ap (λ (l : List ℕ). l ++ drop had xs') (sym front) ∙ sym filled in
-    subst (IsGrown size t t' xs) e (grown_by size t t' xs (drop had xs') is sound fixed inside takes)
+-- So many were added behind.
+pub grown : (size : ℕ) (t t' : TableState) (xs old xs' : List ℕ) (more : ℕ) → t.size ≡ size → IsTable t
+    → IsFixed t → AllByRecursion (InSpace size) xs → old ≡ xs → GrowsBy t t' old xs' more → IsGrown size t t' xs xs'
+grown size t t' xs old xs' more is sound fixed inside same grows =
+    let e : xs ++ grows.taken ≡ xs' = ap (λ (l : List ℕ). l ++ grows.taken) (sym same) ∙ sym grows.is in
+    subst (IsGrown size t t' xs) e (grown_by size t t' xs grows.taken is sound fixed inside grows.takes)
+
+pub grown_length : (t t' : TableState) (xs old xs' : List ℕ) (more : ℕ) → old ≡ xs → GrowsBy t t' old xs' more
+    → length xs' ≡ length xs + more
+grown_length t t' xs old xs' more same grows =
+    let a = ap length grows.is in
+    let b = length-append old grows.taken in
+    let d = ap length same in
+    let e = grows.many in
+    omega arith
 
 -- A block of the list's own is one of the longer list's own.
 pub grown_keeps : (size : ℕ) (t t' : TableState) (xs xs' ys : List ℕ) → IsGrown size t t' xs xs' → KeepsOwn t' xs' ys

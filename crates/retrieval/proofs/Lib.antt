@@ -1,6 +1,8 @@
 pub mod PointerLists
 pub mod Spellings
 pub mod RunLists
+pub mod LongestRuns
+pub mod KeptRuns
 pub mod Stops
 pub mod Readings
 pub mod Writing

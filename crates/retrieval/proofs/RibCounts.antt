@@ -3,10 +3,12 @@ use Rattle.std.proofs.Common.{ℕ, ◌+◌, ◌*◌, ◌<◌, ◌≤◌, List, [
 use Rattle.std.specs.List.{AllByRecursion}
 use Rattle.meaning.specs.Retrieval.{Run, IsRun, run_blocks}
 use Rattle.retrieval.specs.Reading.{IsStarted, Extends}
+use Rattle.retrieval.specs.Runs.{ribs_of}
 use Rattle.retrieval.specs.Versions.{VersionState}
 use Rattle.retrieval.specs.Writing.{rib_count}
 use Rattle.retrieval.specs.declared.prime.Prime.{Prime}
 use Rattle.retrieval.proofs.RunLists.{length-count_up}
+use Rattle.retrieval.proofs.LongestRuns.{longest_few}
 
 -- each run has a block at least
 runs-le : (runs : List Run) → AllByRecursion IsRun runs → length runs ≤ length (flat_map run_blocks runs)
@@ -51,3 +53,7 @@ extended_filled size words n next old new more x filled =
 
 pub filled_few : (ribs blocks next : ℕ) → AreFilled ribs blocks next → ribs ≤ rib_count blocks
 filled_few ribs blocks next filled = let some = filled.some in omega arith
+
+-- The longest runs ask for no more of them than the blocks would one by one.
+pub ribs_few : (blocks : List ℕ) → ribs_of blocks ≤ rib_count (length blocks)
+ribs_few blocks = let few = longest_few blocks in omega arith

@@ -2,6 +2,7 @@ pub mod Modes
 pub mod Primes
 pub mod Versions
 pub mod Pointers
+pub mod Runs
 pub mod Heads
 pub mod Spelling
 pub mod Reading

@@ -1,11 +1,11 @@
 -- What writing a version does, to the disk and to the table.
-use Rattle.std.specs.Prelude.{◌≡◌, ℕ, ◌+◌, ◌-◌, ◌/◌, ◌<◌, List, [], ◌∷◌, map, take, drop}
+use Rattle.std.specs.Prelude.{◌≡◌, ℕ, ◌+◌, ◌-◌, ◌/◌, ◌<◌, List, [], ◌∷◌, ◌++◌, length, take, drop}
 use Rattle.meaning.specs.Maps.{times}
-use Rattle.meaning.specs.Retrieval.{Extension}
+use Rattle.meaning.specs.Retrieval.{Run, Extension}
 use Rattle.alloctab.specs.TableState.{TableState, IsFree, bit, holds, with_held}
 use Rattle.meaning.specs.Regions.{space_start}
 
--- how many extensions so many blocks ask for, each block with a pointer of its own
+-- how many extensions so many pointers ask for
 abbrev pub rib_count : ℕ → ℕ
 rib_count n = (n - 112 + 125) / 126
 
@@ -14,15 +14,22 @@ abbrev pub Takes : TableState → List ℕ → TableState → Type 0
 Takes t [] t' = t' ≡ t
 Takes t (n ∷ ns) t' = (n < t.size) × IsFree t n × Takes (with_held t n (holds t n + 1)) ns t'
 
+-- So many blocks stand behind those of a list, taken one after the other.
+pub record GrowsBy (t t' : TableState) (old new : List ℕ) (more : ℕ) : Type 0 where
+  pub taken : List ℕ
+  pub takes : Takes t taken t'
+  pub is : new ≡ old ++ taken
+  pub many : length taken ≡ more
+
 -- No number stands in the list twice.
 abbrev pub AreApart : List ℕ → Type 0
 AreApart [] = Unit {0}
 AreApart (n ∷ ns) = (times n ns ≡ 0) × AreApart ns
 
--- the extensions with these numbers, for these blocks, 126 to each
-abbrev pub extensions_of : List ℕ → List ℕ → List Extension
-extensions_of [] blocks = []
-extensions_of (rib ∷ ribs) blocks = (rib, map (λ n. (1, n)) (take 126 blocks)) ∷ extensions_of ribs (drop 126 blocks)
+-- the extensions with these numbers, for these runs, 126 to each
+abbrev pub extensions_of : List ℕ → List Run → List Extension
+extensions_of [] runs = []
+extensions_of (rib ∷ ribs) runs = (rib, take 126 runs) ∷ extensions_of ribs (drop 126 runs)
 
 -- The bits of the fixed regions are set.
 abbrev pub IsFixed : TableState → Type 0

@@ -83,9 +83,8 @@ pub fn get_words<D: Disk>(
     let wanted = words_there(version.length(), block, count) as usize;
     // Memory first, so that a refused growth leaves the disk alone.
     let mut words = Vec::with_capacity(alloc, wanted)?;
-    let blocks = version.blocks();
     for i in 0..wanted.div_ceil(BLOCK_WORDS) {
-        let data = read_data(disk, blocks[(block - 1) as usize + i])?;
+        let data = read_data(disk, version.block_at((block - 1) as usize + i))?;
         let here = (wanted - words.len()).min(BLOCK_WORDS);
         words.extend_from_slice(&data[..here])?;
     }

@@ -1,34 +1,38 @@
 ghost use Rattle.std.specs.Prelude.{◌≡◌, ◌-◌, ◌<◌, ◌≤◌, ◌^◌, ◌++◌, map, length, take, drop, replicate};
 ghost use Rattle.std.specs.List.{AllByRecursion};
 ghost use Rattle.meaning.specs.Blocks.{head_or_zero};
-ghost use Rattle.meaning.specs.Retrieval.{pointer, prime_block};
+ghost use Rattle.meaning.specs.Retrieval.{IsRun, pointer, prime_block, most_blocks};
 ghost use Rattle.retrieval.specs.Heads.{prime_front};
-ghost use Rattle.retrieval.specs.Pointers.{one_each};
+ghost use Rattle.retrieval.specs.Runs.{pair_of, pairs_of, longest};
 ghost use Rattle.retrieval.specs.Primes.{with_length, IsRewritten};
 
 use crate::head::{PRIME_WORD, attributes_word};
+use crate::run::Run;
 use crate::{Prime, Version};
 use meaning::layout::{PRIME_HEAD, PRIME_POINTERS};
 use words36::{BLOCK_WORDS, Block, Half, Word};
 
-/// The pointer to one block.
-pub fn pointer_to(n: u32) -> Word
-    requires { n < 2 ^ 18 }
-    ensures { result ≡ pointer (1, n) }
+/// The pointer to a run: how many blocks, and the first of them.
+pub fn pointer_to(run: Run) -> Word
+    requires { IsRun (pair_of run) }
+    ensures { result ≡ pointer (pair_of run) }
 {
-    Word::from_halves(Half::from_bits(1), Half::from_bits(n))
+    Word::from_halves(
+        Half::from_bits(run.count() as u32),
+        Half::from_bits(run.first),
+    )
 }
 
-/// Puts a pointer to each of the blocks behind the first words of a prime block.
-fn put_pointers(words: &mut Block, blocks: &[u32])
-    requires few { length blocks.now ≤ 112 }
-    requires fit { AllByRecursion (λ n. n < 2 ^ 18) blocks.now }
+/// Puts pointers to runs behind the first words of a prime block.
+fn put_pointers(words: &mut Block, runs: &[Run])
+    requires few { length runs.now ≤ 112 }
+    requires fit { AllByRecursion IsRun (pairs_of runs.now) }
     requires clear { drop 16 words.old ≡ replicate 112 0 }
     ensures { words.new ≡ take 16 words.old
-        ++ (map pointer (one_each blocks.now) ++ replicate (112 - length blocks.now) 0) }
+        ++ (map pointer (pairs_of runs.now) ++ replicate (112 - length runs.now) 0) }
 {
-    for (i, n) in blocks.iter().enumerate() {
-        words[PRIME_HEAD + i] = pointer_to(*n);
+    for (i, run) in runs.iter().enumerate() {
+        words[PRIME_HEAD + i] = pointer_to(*run);
     }
 }
 
@@ -50,17 +54,18 @@ fn without_pointers(prime: &Prime, version: &Version, count: usize) -> Block
     words
 }
 
-/// The words of the prime block of a version: a pointer of its own to each data block, as far as there
+/// The words of the prime block of a version: a pointer to each of the longest runs of its data blocks, as far as there
 /// is room, and the first of the ribs, or 0.
 pub fn prime_block(prime: &Prime, version: &Version) -> Block
-    requires { AllByRecursion (λ n. n < 2 ^ 18) version.now.blocks }
-    ensures { result ≡ prime_block (with_length prime.now version.now.words) (one_each (take 112 version.now.blocks))
+    requires fit { AllByRecursion (λ n. n < 2 ^ 18) version.now.blocks }
+    requires few { length version.now.blocks ≤ most_blocks }
+    ensures { result ≡ prime_block (with_length prime.now version.now.words) (take 112 (longest version.now.blocks))
         (head_or_zero version.now.ribs) }
 {
-    let blocks = version.blocks();
-    let count = blocks.len().min(PRIME_POINTERS);
+    let runs = version.runs();
+    let count = runs.len().min(PRIME_POINTERS);
     let mut words = without_pointers(prime, version, count);
-    put_pointers(&mut words, &blocks[..count]);
+    put_pointers(&mut words, &runs[..count]);
     words
 }
 

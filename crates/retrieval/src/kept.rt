@@ -11,6 +11,7 @@ ghost use Rattle.retrieval.specs.Placing.{kept_word, IsEdge, Stays, IsNewBlock};
 ghost use Rattle.retrieval.specs.declared.error.BodyError.TheVariants.{BadData, Device, NoMemory};
 
 use crate::BodyError;
+use crate::block_list::BlockList;
 use crate::body::read_data;
 use blockdisk::Disk;
 use words36::{BLOCK_WORDS, Block, Word};
@@ -60,20 +61,20 @@ fn front_of(block: &Block, count: usize) -> Block
 /// `BadData` with a block that is damaged, `Device` where the device failed.
 pub(crate) fn read_kept<D: Disk>(
     disk: &mut D,
-    blocks: &[u32],
+    blocks: &BlockList,
     total: usize,
     at: usize,
     count: usize,
 ) -> Result<Kept, BodyError>
-    requires inside { AllByRecursion (InSpace (D.state disk.old).size) blocks.now }
-    requires counted { length blocks.now ≡ blocks_of total }
+    requires inside { AllByRecursion (InSpace (D.state disk.old).size) blocks.now.blocks }
+    requires counted { length blocks.now.blocks ≡ blocks_of total }
     requires fits { at * 128 + count ≤ 2097152 }
 
     ensures kept { (D.state disk.new).honest → (body : List ℕ) → length body ≡ total
-        → AreWhole (D.state disk.old).contents blocks.now → HasBody (D.state disk.old).contents blocks.now body
+        → AreWhole (D.state disk.old).contents blocks.now.blocks → HasBody (D.state disk.old).contents blocks.now.blocks body
         → IfOk result (λ kept. Stays body (min at (total / 128)) at count kept.place kept.words) }
     ensures damaged { (D.state disk.new).honest → (k : ℕ) → IsErrOf result (BadData k)
-        → (0 < times k blocks.now) × ((D.state disk.old).contents k ≡ None) }
+        → (0 < times k blocks.now.blocks) × ((D.state disk.old).contents k ≡ None) }
     ensures memory { IsErrOf result NoMemory → ⊥ }
     ensures keeps { (D.state disk.new).honest → Keeps (D.state disk.old) (D.state disk.new) }
     ensures same { SameDisk (D.state disk.old) (D.state disk.new) }
@@ -84,7 +85,7 @@ pub(crate) fn read_kept<D: Disk>(
         let words = [Word::ZERO; BLOCK_WORDS];
         return Ok(Kept { place: 0, words });
     };
-    let block = read_data(disk, blocks[place])?;
+    let block = read_data(disk, blocks.at(place))?;
     let words = front_of(&block, total - place * BLOCK_WORDS);
     Ok(Kept { place, words })
 }

@@ -10,8 +10,8 @@
 //!    (`blocks_inside`, `ribs_inside`, `counted`, `few`, `named`)
 //! 3. It writes nothing, and answers `Device` exactly with one more failure of the disk. (`keeps`,
 //!    `failed`, `served`)
-//! 4. `prime_block` spells the prime block of a version, a pointer of its own to each data block. `prime_block_for`
-//!    writes one that was read for another name, and leaves its pointers as they are.
+//! 4. `prime_block` spells the prime block of a version, a pointer to each of the longest runs of its data blocks.
+//!    `prime_block_for` writes one that was read for another name, and leaves its pointers as they are.
 //! 5. A `Prime` has a protection below 1000 (octal) and a date that fits the twelve bits of layout 1; a
 //!    `Mode` is one of the six data modes of files.
 //! 6. `write_version` writes no block but the prime block and the ribs that it took from the table, all
@@ -24,11 +24,14 @@
 //! 8. After `put_words` the blocks hold the body with the words put, zeros before them where it ended
 //!    before; none is written that another version reaches, and the table holds one for the other.
 //!    (`body`, `length`, `counted`, `modified`, `held`)
-//! 9. Memory is taken for the lists of blocks and for the words that are read, and a `Version` whose growth
-//!    is refused stays as it was. `take_retrieval_blocks` and `write_retrieval_blocks` do what `write_version`
-//!    does in a list that was found before, of as many places as `rib_count` says.
+//! 9. Memory is taken for the lists of runs and of ribs and for the words that are read, and a `Version` whose
+//!    growth is refused stays as it was. `take_retrieval_blocks` and `write_retrieval_blocks` do what
+//!    `write_version` does in a list that was found before, of as many places as `rib_count` says or more.
+//! 10. A `Version` shows a list of blocks and keeps the longest runs of it (`AreKept`), so that a body in one run
+//!    takes as little memory as one of a block.
 #![tactic(auto)]
 
+mod block_list;
 mod body;
 mod build;
 mod error;
@@ -41,6 +44,8 @@ mod pointers;
 mod prime;
 mod put;
 mod read;
+mod run;
+mod run_parts;
 mod runs;
 mod space;
 mod version;

@@ -1,5 +1,5 @@
-ghost use Rattle.std.specs.Prelude.{◌≡◌, ◌+◌, ◌-◌, ◌*◌, ◌/◌, ◌<◌, ◌≤◌, ◌++◌, ℕ, List, None, IfOk, OnOk, OnErr, IsErrOf};
-ghost use Rattle.std.specs.Prelude.{length, min, take, replicate};
+ghost use Rattle.std.specs.Prelude.{◌≡◌, ◌+◌, ◌-◌, ◌*◌, ◌/◌, ◌<◌, ◌≤◌, ◌^◌, ℕ, List, None, IfOk, OnOk, OnErr, IsErrOf};
+ghost use Rattle.std.specs.Prelude.{length, min};
 ghost use Rattle.std.specs.List.{AllByRecursion};
 ghost use Rattle.blockdisk.specs.Disk.{Keeps, SameDisk, Modifies, one_more};
 ghost use Rattle.meaning.specs.Costs.{blocks_of};
@@ -8,12 +8,13 @@ ghost use Rattle.meaning.specs.Maps.{times};
 ghost use Rattle.meaning.specs.Regions.{IsVolumeSize};
 ghost use Rattle.meaning.specs.Retrieval.{HasBody, most_blocks};
 ghost use Rattle.meaning.specs.Splices.{splice, length_after};
-ghost use Rattle.alloctab.specs.TableState.{uses, holds, space};
+ghost use Rattle.alloctab.specs.TableState.{IsTable, uses, used_in_space, holds, space};
 ghost use Rattle.retrieval.specs.Bodies.{AreWhole, IsOwn, AddsFree, KeepsOwn};
 ghost use Rattle.retrieval.specs.Placing.{Stays};
-ghost use Rattle.retrieval.specs.Writing.{IsFixed};
+ghost use Rattle.retrieval.specs.Writing.{IsFixed, GrowsBy};
 ghost use Rattle.retrieval.specs.declared.error.BodyError.TheVariants.{BadData, Device, NoMemory};
 
+use crate::block_list::BlockList;
 use crate::kept::{Kept, read_kept};
 use crate::place::write_places;
 use crate::{BodyError, Version};
@@ -21,51 +22,133 @@ use alloctab::Table;
 use blockdisk::Disk;
 use words36::{BLOCK_WORDS, Word};
 
-/// Makes the list of a version's blocks this long, the new places with block 0, and reads the words that
-/// stay where so many words are put from block `at` on.
+/// Finds memory for so many runs more of the list of a body's blocks, and reads the words that stay where so many words
+/// are put from block `at` of the body, of `total` words, on.
 ///
 /// # Errors
 ///
-/// As of `put_words`, and the version is as before then.
+/// As of `put_words`, and the list is as before then.
 fn prepare<D: Disk>(
     disk: &mut D,
-    version: &mut Version,
+    blocks: &mut BlockList,
+    total: usize,
     at: usize,
     count: usize,
-    blocks: usize,
+    more: usize,
 ) -> Result<Kept, BodyError>
     // What the caller sees to.
-    requires inside { AllByRecursion (InSpace (D.state disk.old).size) version.old.blocks }
-    requires counted { length version.old.blocks ≡ blocks_of version.old.words }
+    requires inside { AllByRecursion (InSpace (D.state disk.old).size) blocks.old.blocks }
+    requires counted { length blocks.old.blocks ≡ blocks_of total }
     requires fits { at * 128 + count ≤ 2097152 }
-    requires longer { length version.old.blocks ≤ blocks }
 
     // What is kept of the words that stay.
-    ensures ok { OnOk result (version.new
-        ≡ record version.old { blocks = version.old.blocks ++ replicate (blocks - length version.old.blocks) 0 }) }
-    ensures err { OnErr result (version.new ≡ version.old) }
-    ensures kept { (D.state disk.new).honest → (body : List ℕ) → length body ≡ version.old.words
-        → AreWhole (D.state disk.old).contents version.old.blocks
-        → HasBody (D.state disk.old).contents version.old.blocks body
-        → IfOk result (λ kept. Stays body (min at (version.old.words / 128)) at count kept.place kept.words) }
+    ensures same_blocks { blocks.new.blocks ≡ blocks.old.blocks }
+    ensures spare { OnOk result (more ≤ blocks.new.spare) }
+    ensures kept { (D.state disk.new).honest → (body : List ℕ) → length body ≡ total
+        → AreWhole (D.state disk.old).contents blocks.old.blocks
+        → HasBody (D.state disk.old).contents blocks.old.blocks body
+        → IfOk result (λ kept. Stays body (min at (total / 128)) at count kept.place kept.words) }
     // Which refusal comes when, and what it leaves.
     ensures damaged { (D.state disk.new).honest → (k : ℕ) → IsErrOf result (BadData k)
-        → (0 < times k version.old.blocks) × ((D.state disk.old).contents k ≡ None) }
+        → (0 < times k blocks.old.blocks) × ((D.state disk.old).contents k ≡ None) }
     ensures memory { IsErrOf result NoMemory → disk.new ≡ disk.old }
     ensures keeps { (D.state disk.new).honest → Keeps (D.state disk.old) (D.state disk.new) }
     ensures same { SameDisk (D.state disk.old) (D.state disk.new) }
     ensures failed { IsErrOf result Device → (D.state disk.new).failures ≡ one_more (D.state disk.old).failures }
     ensures served { (IsErrOf result Device → ⊥) → (D.state disk.new).failures ≡ (D.state disk.old).failures }
 {
-    let had = version.blocks().len();
-    version.resize(blocks)?;
-    let total = version.length() as usize;
-    match read_kept(disk, &version.blocks()[..had], total, at, count) {
-        Ok(kept) => Ok(kept),
-        Err(error) => {
-            version.truncate(had);
-            Err(error)
+    blocks.reserve(more)?;
+    read_kept(disk, blocks, total, at, count)
+}
+
+/// Adds free blocks behind those of a list, in memory that was found before.
+fn take_more(blocks: &mut BlockList, table: &mut Table, more: usize)
+    requires sound { IsTable table.old }
+    requires fixed { IsFixed table.old }
+    requires used { used_in_space table.old + more ≤ table.old.booked }
+    requires room { table.old.booked ≤ space table.old.size }
+    requires spare { more ≤ blocks.old.spare }
+    requires few { length blocks.old.blocks + more < 2 ^ 64 }
+    ensures grown { GrowsBy table.old table.new blocks.old.blocks blocks.new.blocks more }
+    ensures spare { blocks.old.spare ≤ blocks.new.spare + more }
+{
+    for _ in 0..more {
+        let n = table.take_block();
+        match blocks.push(n) {
+            Ok(()) => (),
+            Err(_) => unreachable!(), // there is memory for it
         }
+    }
+}
+
+/// Puts words at block `block` of a body of `old` words, counted from 1, of which at least one: as `put_words` does, in the
+/// list of its blocks.
+///
+/// # Errors
+///
+/// As of `put_words`.
+fn put_into<D: Disk>(
+    disk: &mut D,
+    table: &mut Table,
+    blocks: &mut BlockList,
+    old: u32,
+    block: u32,
+    words: &[Word],
+) -> Result<(), BodyError>
+    // What the caller sees to.
+    requires size { table.old.size ≡ (D.state disk.old).size }
+    requires fixed { IsFixed table.old }
+    requires inside { AllByRecursion (InSpace (D.state disk.old).size) blocks.old.blocks }
+    requires counted { length blocks.old.blocks ≡ blocks_of old }
+    requires held { (n : ℕ) → times n blocks.old.blocks ≤ holds table.old n }
+    requires first { 0 < block }
+    requires some { 0 < length words.now }
+    requires fits { length_after old block (length words.now) ≤ most_blocks * 128 }
+    requires booked { uses table.old + (blocks_of (length_after old block (length words.now))
+        - length blocks.old.blocks) < table.old.booked }
+    requires room { table.old.booked ≤ space table.old.size }
+
+    ensures body { (D.state disk.new).honest
+        → OnOk result ((body : List ℕ) → length body ≡ old
+        → HasBody (D.state disk.old).contents blocks.old.blocks body
+        → HasBody (D.state disk.new).contents blocks.new.blocks (splice body block words.now)) }
+    ensures counted { OnOk result (length blocks.new.blocks ≡ blocks_of (length_after old block (length words.now))) }
+
+    // Whatever the answer.
+    ensures inside { AllByRecursion (InSpace (D.state disk.old).size) blocks.new.blocks }
+    ensures adds { AddsFree table.old blocks.old.blocks blocks.new.blocks }
+    ensures few { length blocks.new.blocks ≤ blocks_of (length_after old block (length words.now)) }
+    ensures table { table.new ≡ record table.old { held = table.new.held } }
+    ensures held { (n : ℕ) → holds table.new n + times n blocks.old.blocks
+        ≡ holds table.old n + times n blocks.new.blocks }
+    ensures used { uses table.new + length blocks.old.blocks ≡ uses table.old + length blocks.new.blocks }
+    ensures stays { KeepsOwn table.old blocks.old.blocks blocks.new.blocks }
+    ensures modified { (D.state disk.new).honest
+        → Modifies (IsOwn table.old blocks.old.blocks) (D.state disk.old) (D.state disk.new) }
+    ensures memory { IsErrOf result NoMemory → (table.new ≡ table.old) × (blocks.new.blocks ≡ blocks.old.blocks)
+        × (disk.new ≡ disk.old) }
+    ensures damaged { (D.state disk.new).honest → (k : ℕ) → IsErrOf result (BadData k)
+        → (0 < times k blocks.old.blocks) × ((D.state disk.old).contents k ≡ None) }
+    ensures undone { (k : ℕ) → IsErrOf result (BadData k) → (table.new ≡ table.old)
+        × (blocks.new.blocks ≡ blocks.old.blocks) }
+
+    // On every disk.
+    ensures same { SameDisk (D.state disk.old) (D.state disk.new) }
+    ensures failed { IsErrOf result Device → (D.state disk.new).failures ≡ one_more (D.state disk.old).failures }
+    ensures served { (IsErrOf result Device → ⊥) → (D.state disk.new).failures ≡ (D.state disk.old).failures }
+{
+    let _booked = table.booked(); // which says that the table is sound
+    let at = (block - 1) as usize;
+    let first = at.min(old as usize / BLOCK_WORDS);
+    let end = at + words.len().div_ceil(BLOCK_WORDS);
+    let more = end.saturating_sub(blocks.len());
+    // Memory first, so that a refused growth leaves everything alone: a block that changes may part a run.
+    let runs = more + 2 * (end - first);
+    let kept = prepare(disk, blocks, old as usize, at, words.len(), runs)?;
+    take_more(blocks, table, more);
+    match write_places(disk, table, blocks, &kept, first, at, words) {
+        Ok(()) => Ok(()),
+        Err(_) => Err(BodyError::Device),
     }
 }
 
@@ -131,20 +214,9 @@ pub fn put_words<D: Disk>(
     if words.is_empty() {
         return Ok(());
     }
-    let _booked = table.booked(); // which says that the table is sound
-    let at = (block - 1) as usize;
-    let had = version.blocks().len();
-    let old = version.length() as usize;
-    let total = old.max(at * BLOCK_WORDS + words.len());
-    // Memory first, so that a refused growth leaves everything alone.
-    let kept = prepare(disk, version, at, words.len(), total.div_ceil(BLOCK_WORDS))?;
-    version.fill(had, table);
-    let first = at.min(old / BLOCK_WORDS);
-    match write_places(disk, table, version, &kept, first, at, words) {
-        Ok(()) => {
-            version.set_length(total as u32);
-            Ok(())
-        }
-        Err(_) => Err(BodyError::Device),
-    }
+    let old = version.length();
+    let end = (block - 1) as usize * BLOCK_WORDS + words.len();
+    put_into(disk, table, &mut version.blocks, old, block, words)?;
+    version.set_length(old.max(end as u32));
+    Ok(())
 }

@@ -162,7 +162,7 @@ pub fn read_version<D: Disk>(
         let block = read_block(disk, next)?;
         next = extend_version(&block, next, at, size, &mut version)?;
     }
-    if version.blocks().len() as u32 != blocks_of(version.length()) {
+    if version.count() as u32 != blocks_of(version.length()) {
         return Err(RetrievalError::BadRetrieval(at));
     }
     Ok((prime, version))

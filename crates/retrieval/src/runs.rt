@@ -60,7 +60,7 @@ fn push_pointer(word: Word, size: u32, limit: u32, version: &mut Version) -> Res
     if !is_run_in_space(size, count, first) {
         return Err(RunError::Outside);
     }
-    if count > limit - version.blocks().len() as u32 {
+    if count > limit - version.count() as u32 {
         return Err(RunError::TooMany);
     }
     push_run(count, first, version)?;

@@ -1,21 +1,20 @@
-ghost use Rattle.std.specs.Prelude.{◌≡◌, ◌+◌, ◌-◌, ◌<◌, ◌≤◌, ◌++◌, ◌∷◌, [], slice_set, slice_get, length, take, drop};
-ghost use Rattle.std.specs.Prelude.{replicate, Some, IfOk, OnOk, OnErr};
-ghost use Rattle.alloctab.specs.TableState.{IsTable, space, used_in_space};
+ghost use Rattle.std.specs.Prelude.{◌≡◌, ◌<◌, ◌++◌, ◌∷◌, [], slice_set, slice_get, slice_index, length, Some, IfOk};
+ghost use Rattle.std.specs.Prelude.{OnOk, OnErr};
+ghost use Rattle.retrieval.specs.Runs.{BlocksState, blocks_of_runs, pairs_of, longest};
 ghost use Rattle.retrieval.specs.Versions.{VersionState};
-ghost use Rattle.retrieval.specs.Writing.{Takes, IsFixed};
 
-use crate::write::take_blocks;
-use alloctab::Table;
+use crate::block_list::BlockList;
+use crate::run::Run;
 use blockdisk::NoMemory;
 use std::alloc::Global;
 use std::marker::Model;
 
-/// Where a version of a file lies: its length in words, its data blocks in order, and its ribs, the
-/// extensions of its prime block.
+/// Where a version of a file lies: its length in words, its data blocks in order, which are kept as runs, and its
+/// ribs, the extensions of its prime block.
 #[derive(Drop)]
 pub struct Version {
     length: u32,
-    blocks: Vec<u32>,
+    pub(crate) blocks: BlockList,
     ribs: Vec<u32>,
 }
 
@@ -24,7 +23,7 @@ impl Model for Version {
 
     ghost Value = { VersionState };
 
-    ghost view = { λ v. record { words = v.length; blocks = v.blocks.items; ribs = v.ribs.items } };
+    ghost view = { λ v. record { words = v.length; blocks = v.blocks.blocks; ribs = v.ribs.items } };
 }
 
 impl Version {
@@ -34,7 +33,7 @@ impl Version {
     {
         Version {
             length: 0,
-            blocks: Vec::new(alloc),
+            blocks: BlockList::new(alloc),
             ribs: Vec::new(alloc),
         }
     }
@@ -53,11 +52,19 @@ impl Version {
         self.length = words;
     }
 
-    /// The data blocks, in order.
-    pub fn blocks(&self) -> &[u32]
-        ensures { result.now ≡ self.now.blocks }
+    /// How many data blocks there are.
+    pub fn count(&self) -> usize
+        ensures { result ≡ length self.now.blocks }
     {
-        self.blocks.as_slice()
+        self.blocks.len()
+    }
+
+    /// The longest runs of the data blocks.
+    pub(crate) fn runs(&self) -> &[Run]
+        ensures blocks { blocks_of_runs result.now ≡ self.now.blocks }
+        ensures are_longest { pairs_of result.now ≡ longest self.now.blocks }
+    {
+        self.blocks.runs()
     }
 
     /// The extensions of the prime block, in order.
@@ -71,21 +78,29 @@ impl Version {
     pub fn block(&self, i: usize) -> Option<u32>
         ensures { result ≡ slice_get self.now.blocks i }
     {
-        self.blocks.get(i).copied()
+        self.blocks.get(i)
+    }
+
+    /// The data block at a place, counted from 0.
+    pub fn block_at(&self, i: usize) -> u32
+        requires { i < length self.now.blocks }
+        ensures { result ≡ slice_index self.now.blocks i }
+    {
+        self.blocks.at(i)
     }
 
     /// Puts another block at a place.
     ///
     /// # Errors
     ///
-    /// `NoMemory` where there is no memory; nothing changes then. A list of blocks never needs any; a list
-    /// of runs can.
+    /// `NoMemory` where there is no memory; nothing changes then.
     pub fn set_block(&mut self, i: usize, n: u32) -> Result<(), NoMemory>
         requires { i < length self.old.blocks }
         ensures ok { OnOk result (self.new ≡ record self.old { blocks = slice_set self.old.blocks i n }) }
         ensures err { OnErr result (self.new ≡ self.old) }
     {
-        self.put_block(i, n);
+        self.blocks.reserve(2)?; // a run that is parted
+        self.blocks.set(i, n);
         Ok(())
     }
 
@@ -98,10 +113,7 @@ impl Version {
         ensures ok { OnOk result (self.new ≡ record self.old { blocks = self.old.blocks ++ n ∷ [] }) }
         ensures err { OnErr result (self.new ≡ self.old) }
     {
-        match self.blocks.push(n) {
-            Ok(()) => Ok(()),
-            Err(_) => Err(NoMemory),
-        }
+        self.blocks.push(n)
     }
 
     /// Adds a rib behind the last.
@@ -117,52 +129,6 @@ impl Version {
             Ok(()) => Ok(()),
             Err(_) => Err(NoMemory),
         }
-    }
-
-    /// Makes the list of data blocks this long. New places have block 0, and are to be filled before anyone
-    /// looks at them.
-    ///
-    /// # Errors
-    ///
-    /// `NoMemory` where there is no memory; nothing changes then.
-    pub(crate) fn resize(&mut self, count: usize) -> Result<(), NoMemory>
-        ensures ok { OnOk result (self.new
-            ≡ record self.old { blocks = take count self.old.blocks ++ replicate (count - length self.old.blocks) 0 }) }
-        ensures err { OnErr result (self.new ≡ self.old) }
-    {
-        match self.blocks.resize(count, 0) {
-            Ok(()) => Ok(()),
-            Err(_) => Err(NoMemory),
-        }
-    }
-
-    /// Lets the data blocks from a place on go.
-    pub(crate) fn truncate(&mut self, count: usize)
-        ensures { self.new ≡ record self.old { blocks = take count self.old.blocks } }
-    {
-        self.blocks.truncate(count);
-    }
-
-    /// Puts another block at a place.
-    pub(crate) fn put_block(&mut self, i: usize, n: u32)
-        requires { i < length self.old.blocks }
-        ensures { self.new ≡ record self.old { blocks = slice_set self.old.blocks i n } }
-    {
-        self.blocks[i] = n;
-    }
-
-    /// Takes a free block for each place from one on.
-    pub(crate) fn fill(&mut self, from: usize, table: &mut Table)
-        requires from { from ≤ length self.old.blocks }
-        requires sound { IsTable table.old }
-        requires fixed { IsFixed table.old }
-        requires used { used_in_space table.old + (length self.old.blocks - from) ≤ table.old.booked }
-        requires room { table.old.booked ≤ space table.old.size }
-        ensures taken { Takes table.old (drop from self.new.blocks) table.new }
-        ensures kept { self.new ≡ record self.old { blocks = take from self.old.blocks ++ drop from self.new.blocks } }
-        ensures long { length self.new.blocks ≡ length self.old.blocks }
-    {
-        take_blocks(table, &mut self.blocks[from..]);
     }
 
     /// Puts other ribs in the place of all.
@@ -183,7 +149,7 @@ impl Version {
         let ribs = Vec::new(alloc);
         Ok(Version {
             length: self.length,
-            blocks: self.blocks.clone()?,
+            blocks: self.blocks.copy()?,
             ribs,
         })
     }
@@ -198,7 +164,7 @@ impl Version {
     {
         Ok(Version {
             length: self.length,
-            blocks: self.blocks.clone()?,
+            blocks: self.blocks.copy()?,
             ribs: self.ribs.clone()?,
         })
     }

@@ -6,9 +6,9 @@ ghost use Rattle.meaning.specs.Costs.{blocks_of};
 ghost use Rattle.meaning.specs.Faults.{InSpace};
 ghost use Rattle.meaning.specs.Maps.{times};
 ghost use Rattle.meaning.specs.Regions.{IsVolumeSize};
-ghost use Rattle.meaning.specs.Retrieval.{extension_block, AreExtensions, IsRetrieved};
+ghost use Rattle.meaning.specs.Retrieval.{IsRun, extension_block, AreExtensions, IsRetrieved};
 ghost use Rattle.alloctab.specs.TableState.{IsTable, IsFree, holds, space, used_in_space, with_held};
-ghost use Rattle.retrieval.specs.Pointers.{one_each};
+ghost use Rattle.retrieval.specs.Runs.{pairs_of, ribs_of};
 ghost use Rattle.retrieval.specs.Primes.{with_length};
 ghost use Rattle.retrieval.specs.Reading.{IsWholeVersion};
 ghost use Rattle.retrieval.specs.declared.error.RetrievalError.TheVariants.{BadRetrieval, Device, NoMemory};
@@ -16,6 +16,7 @@ ghost use Rattle.retrieval.specs.Writing.{rib_count, Takes, AreApart, IsFixed, e
 
 use crate::build::{first_of, pointer_to, prime_block};
 use crate::head::EXTENSION_HALF;
+use crate::run::Run;
 use crate::{Prime, RetrievalError, Version};
 use alloctab::Table;
 use blockdisk::{Disk, Fault};
@@ -23,36 +24,36 @@ use meaning::layout::{EXTENSION_HEAD, EXTENSION_POINTERS, PRIME_POINTERS};
 use std::alloc::Global;
 use words36::{BLOCK_WORDS, Block, Half, Word};
 
-/// The words of an extension: a pointer of its own to each of the blocks, and the next extension, or 0.
-fn extension_of(blocks: &[u32], next: u32) -> Block
-    requires few { length blocks.now ≤ 126 }
-    requires fit { AllByRecursion (λ n. n < 2 ^ 18) blocks.now }
-    ensures { result ≡ extension_block (one_each blocks.now) next }
+/// The words of an extension: a pointer to each of the runs, and the next extension, or 0.
+fn extension_of(runs: &[Run], next: u32) -> Block
+    requires few { length runs.now ≤ 126 }
+    requires fit { AllByRecursion IsRun (pairs_of runs.now) }
+    ensures { result ≡ extension_block (pairs_of runs.now) next }
 {
     let mut words = [Word::ZERO; BLOCK_WORDS];
     words[0] = Word::from_halves(
         Half::from_bits(EXTENSION_HALF),
-        Half::from_bits(blocks.len() as u32),
+        Half::from_bits(runs.len() as u32),
     );
     words[1] = Word::from_bits(u64::from(next));
-    for (i, n) in blocks.iter().enumerate() {
-        words[EXTENSION_HEAD + i] = pointer_to(*n);
+    for (i, run) in runs.iter().enumerate() {
+        words[EXTENSION_HEAD + i] = pointer_to(*run);
     }
     words
 }
 
-/// Writes the ribs with the pointers to these blocks, the last rib first.
+/// Writes the ribs with the pointers to these runs, the last rib first.
 ///
 /// # Errors
 ///
 /// `Device` where the device failed; the ribs may then hold anything.
-fn write_ribs<D: Disk>(disk: &mut D, ribs: &[u32], blocks: &[u32]) -> Result<(), Fault>
+fn write_ribs<D: Disk>(disk: &mut D, ribs: &[u32], runs: &[Run]) -> Result<(), Fault>
     requires inside { AllByRecursion (λ n. n < (D.state disk.old).size) ribs.now }
     requires apart { AreApart ribs.now }
-    requires count { length ribs.now ≡ (length blocks.now + 125) / 126 }
-    requires fit { AllByRecursion (λ n. n < 2 ^ 18) blocks.now }
+    requires count { length ribs.now ≡ (length runs.now + 125) / 126 }
+    requires fit { AllByRecursion IsRun (pairs_of runs.now) }
     ensures written { (D.state disk.new).honest
-        → OnOk result (AreExtensions (D.state disk.new).contents (extensions_of ribs.now blocks.now)) }
+        → OnOk result (AreExtensions (D.state disk.new).contents (extensions_of ribs.now (pairs_of runs.now))) }
     ensures modified { (D.state disk.new).honest
         → Modifies (λ n. 0 < times n ribs.now) (D.state disk.old) (D.state disk.new) }
     ensures same { SameDisk (D.state disk.old) (D.state disk.new) }
@@ -63,9 +64,9 @@ fn write_ribs<D: Disk>(disk: &mut D, ribs: &[u32], blocks: &[u32]) -> Result<(),
     let Some((rib, further)) = ribs.split_first() else {
         return Ok(());
     };
-    let here = blocks.len().min(EXTENSION_POINTERS);
-    write_ribs(disk, further, &blocks[here..])?;
-    let words = extension_of(&blocks[..here], first_of(further));
+    let here = runs.len().min(EXTENSION_POINTERS);
+    write_ribs(disk, further, &runs[here..])?;
+    let words = extension_of(&runs[..here], first_of(further));
     disk.write(*rib, &words)
 }
 
@@ -83,27 +84,30 @@ pub(crate) fn take_blocks(table: &mut Table, blocks: &mut [u32])
     }
 }
 
-/// How many ribs so many data blocks ask for. A rib is a block with the pointers to up to 126 data blocks of a version:
-/// those for which its prime block, with the first 112, has no place.
-pub fn rib_count(blocks: usize) -> usize
-    ensures { result ≡ rib_count blocks }
+/// How many ribs so many pointers ask for. A rib is a block with up to 126 pointers of a version: those for which its
+/// prime block, with the first 112, has no place. As many data blocks never ask for more.
+pub fn rib_count(pointers: usize) -> usize
+    ensures { result ≡ rib_count pointers }
 {
-    let others = blocks.saturating_sub(PRIME_POINTERS);
+    let others = pointers.saturating_sub(PRIME_POINTERS);
     others.div_ceil(EXTENSION_POINTERS)
 }
 
 /// Takes the blocks that the retrieval blocks of a version will have: its prime block, which is answered, and
-/// its ribs. `ribs` is a list that was found for these, with a place for each; what it holds isn't looked at.
+/// its ribs, as many as its longest runs ask for. `ribs` is a list that was found for these, with a place for each, or
+/// more; what it holds isn't looked at.
 pub fn take_retrieval_blocks(table: &mut Table, version: &mut Version, mut ribs: Vec<u32>) -> u32
     requires fixed { IsFixed table.old }
-    requires booked { used_in_space table.old + (1 + length ribs.items) ≤ table.old.booked }
+    requires enough { ribs_of version.old.blocks ≤ length ribs.items }
+    requires booked { used_in_space table.old + (1 + ribs_of version.old.blocks) ≤ table.old.booked }
     requires room { table.old.booked ≤ space table.old.size }
     ensures kept { version.new ≡ record version.old { ribs = version.new.ribs } }
-    ensures count { length version.new.ribs ≡ length ribs.items }
+    ensures count { length version.new.ribs ≡ ribs_of version.new.blocks }
     ensures taken { Takes table.old (result ∷ version.new.ribs) table.new }
 {
     let _booked = table.booked(); // which says that the table is sound
     let at = table.take_block();
+    ribs.truncate(rib_count(version.runs().len()));
     take_blocks(table, ribs.as_mut_slice());
     version.set_ribs(ribs);
     at
@@ -125,7 +129,7 @@ pub fn write_retrieval_blocks<D: Disk>(
     requires inside { AllByRecursion (λ n. n < (D.state disk.old).size) (at ∷ version.now.ribs) }
     requires apart { AreApart (at ∷ version.now.ribs) }
     requires nonzero { times 0 version.now.ribs ≡ 0 }
-    requires count { length version.now.ribs ≡ rib_count (length version.now.blocks) }
+    requires count { length version.now.ribs ≡ ribs_of version.now.blocks }
     requires words { version.now.words ≤ 2097152 }
     requires enough { length version.now.blocks ≡ blocks_of version.now.words }
     requires fit { AllByRecursion (λ n. n < 2 ^ 18) version.now.blocks }
@@ -141,9 +145,9 @@ pub fn write_retrieval_blocks<D: Disk>(
     ensures failed { IsErrOf result DeviceFault → (D.state disk.new).failures ≡ one_more (D.state disk.old).failures }
     ensures served { OnOk result ((D.state disk.new).failures ≡ (D.state disk.old).failures) }
 {
-    let blocks = version.blocks();
-    let here = blocks.len().min(PRIME_POINTERS);
-    write_ribs(disk, version.ribs(), &blocks[here..])?;
+    let runs = version.runs();
+    let here = runs.len().min(PRIME_POINTERS);
+    write_ribs(disk, version.ribs(), &runs[here..])?;
     let words = prime_block(prime, version);
     disk.write(at, &words)
 }
@@ -168,7 +172,7 @@ pub fn write_version<D: Disk>(
     requires enough { length version.old.blocks ≡ blocks_of version.old.words }
     requires blocks { AllByRecursion (λ n. n < 2 ^ 18) version.old.blocks }
     requires fixed { IsFixed table.old }
-    requires booked { used_in_space table.old + (1 + rib_count (length version.old.blocks)) ≤ table.old.booked }
+    requires booked { used_in_space table.old + (1 + ribs_of version.old.blocks) ≤ table.old.booked }
     requires room { table.old.booked ≤ space table.old.size }
 
     // What was written stands there, and is read back: `whole` and `reads` of `read_version`.
@@ -179,7 +183,7 @@ pub fn write_version<D: Disk>(
         → IfOk result (λ n. IsWholeVersion (D.state disk.new).size (D.state disk.new).contents n
         (with_length prime.now version.new.words) version.new.ribs version.new.blocks) }
     ensures kept { version.new ≡ record version.old { ribs = version.new.ribs } }
-    ensures count { OnOk result (length version.new.ribs ≡ rib_count (length version.new.blocks)) }
+    ensures count { OnOk result (length version.new.ribs ≡ ribs_of version.new.blocks) }
 
     // The blocks taken were free, one after the other, also where the device failed.
     ensures taken { IfOk result (λ n. Takes table.old (n ∷ version.new.ribs) table.new) }
@@ -201,7 +205,7 @@ pub fn write_version<D: Disk>(
     ensures served { (IsErrOf result Device → ⊥) → (D.state disk.new).failures ≡ (D.state disk.old).failures }
 {
     // Memory first, so that a refused growth leaves everything alone.
-    let ribs = vec![in alloc; 0; rib_count(version.blocks().len())]?;
+    let ribs = vec![in alloc; 0; rib_count(version.runs().len())]?;
     let _booked = table.booked(); // which says that the table is sound
     let _place = (prime.ppn.word(), prime.file.ext.bits()); // which say that the place fits its words
     let at = take_retrieval_blocks(table, version, ribs);

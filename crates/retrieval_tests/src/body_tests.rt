@@ -10,6 +10,7 @@ ghost use Rattle.meaning.specs.Splices.{splice, length_after, words_from};
 ghost use Rattle.retrieval.specs.Writing.{IsFixed};
 
 use crate::read_tests::FailingDisk;
+use crate::run_tests::expect_blocks;
 use crate::write_tests::{SIZE, disk_of, table_of, word};
 use alloctab::{Table, TableError};
 use blockdisk::{Disk, MemDisk, NoMemory};
@@ -329,7 +330,7 @@ fn expect_first_at(
 )
     requires { table.now.size ≡ 1024 }
 {
-    assert!(rt; version.blocks() == [at, FIRST + 1, FIRST + 2].as_slice());
+    expect_blocks(rt, version, &[at, FIRST + 1, FIRST + 2]);
     assert_eq!(rt; table.is_free(15), at == FIRST);
     assert_eq!(rt; table.is_held_alone(FIRST), shared == 0 || at == FIRST);
     assert!(rt; disk.blocks() == SIZE);
@@ -553,7 +554,7 @@ fn expect_no_memory(rt: &impl Abort, failed: Option<BodyError>) {
 /// A version of 300 words is as it was made, and the first free block is still there to be taken.
 fn expect_unchanged(rt: &impl Abort, table: &mut Table, version: &Version) {
     assert_eq!(rt; version.length(), 300);
-    assert!(rt; version.blocks() == [FIRST, FIRST + 1, FIRST + 2].as_slice());
+    expect_blocks(rt, version, &[FIRST, FIRST + 1, FIRST + 2]);
     assert_eq!(rt; table.take(), Some(15));
 }
 

@@ -8,4 +8,6 @@ mod body_tests;
 #[cfg(test)]
 mod read_tests;
 #[cfg(test)]
+mod run_tests;
+#[cfg(test)]
 mod write_tests;

@@ -1,5 +1,6 @@
 ghost use Rattle.blockdisk.specs.Memory.{memory_state};
 
+use crate::run_tests::expect_blocks;
 use blockdisk::{Disk, Fault, MemDisk, NoMemory};
 use retrieval::{BodyError, Mode, Prime, RetrievalError, Version, prime_block, read_version};
 use std::alloc::Global;
@@ -90,7 +91,7 @@ fn count_blocks<D: Disk>(
     disk: &mut D,
 ) -> Result<usize, RetrievalError> {
     let (_prime, version) = read(rt, alloc, disk, 20)?;
-    Ok(version.blocks().len())
+    Ok(version.count())
 }
 
 /// What a disk with this prime block in 20 answers, and this extension in 21.
@@ -160,7 +161,7 @@ fn expect_foo(rt: &impl Abort, prime: &Prime) {
 /// A version of two words in block 18.
 fn expect_two_words(rt: &impl Abort, version: &Version) {
     assert_eq!(rt; version.length(), 2);
-    assert!(rt; version.blocks() == [18].as_slice());
+    expect_blocks(rt, version, &[18]);
     assert!(rt; version.ribs().is_empty());
     assert_eq!(rt; version.block(0), Some(18));
     assert_eq!(rt; version.block(1), None);
@@ -211,7 +212,7 @@ fn versions_with_an_extension(rt: HostRuntime) {
 /// A version of 239 blocks, whose prime block has 112 of them, and its extensions in 21 and 22 the rest.
 fn expect_two_extensions(rt: &impl Abort, version: &Version) {
     assert_eq!(rt; version.length(), 239 * 128);
-    assert_eq!(rt; version.blocks().len(), 239);
+    assert_eq!(rt; version.count(), 239);
     assert_eq!(rt; version.block(111), Some(100));
     assert_eq!(rt; version.block(112), Some(200));
     assert_eq!(rt; version.block(237), Some(200));
@@ -262,7 +263,8 @@ fn prime_blocks_are_built_again(rt: HostRuntime) -> Result<(), Fail> {
     expect_built(&rt, rt.alloc(), &small, &none, &small)?;
     let pieces = rib(300, 0, &[(2, 30), (1, 99)]);
     let alone = rib(300, 0, &[(1, 30), (1, 31), (1, 99)]);
-    expect_built(&rt, rt.alloc(), &pieces, &none, &alone)?;
+    expect_built(&rt, rt.alloc(), &pieces, &none, &pieces)?;
+    expect_built(&rt, rt.alloc(), &alone, &none, &pieces)?; // neighbours are joined
     let large = rib(113 * 128, 21, &[(1, 100); 112]);
     expect_built(&rt, rt.alloc(), &large, &xrb(0, &[(1, 99)]), &large)?;
     Ok(())
@@ -384,7 +386,7 @@ fn bad_extensions(rt: HostRuntime) -> Result<(), Fail> {
 /// A copy that was made of a version when it had 200 words.
 fn expect_copy(rt: &impl Abort, copy: &Version) {
     assert_eq!(rt; copy.length(), 200);
-    assert!(rt; copy.blocks() == [30, 35].as_slice());
+    expect_blocks(rt, copy, &[30, 35]);
     assert!(rt; copy.ribs() == [40].as_slice());
 }
 
@@ -395,7 +397,7 @@ fn fill(rt: &impl Abort, version: &mut Version) -> Result<(), NoMemory> {
     version.push(31)?;
     version.push_rib(40)?;
     version.set_length(200);
-    assert!(rt; version.blocks().len() == 2);
+    assert!(rt; version.count() == 2);
     version.set_block(1, 35)
 }
 
@@ -538,7 +540,7 @@ fn each_read_may_fail(rt: HostRuntime) -> Result<(), Fail> {
 /// A version of 113 blocks, and a copy of it, if there is memory.
 fn expect_one_extension(rt: &impl Abort, version: &Version) {
     if let Ok(copy) = version.copy() {
-        let count = copy.blocks().len();
+        let count = copy.count();
         drop(copy);
         assert_eq!(rt; count, 113);
     }

@@ -6,9 +6,11 @@ ghost use Rattle.meaning.specs.Faults.{InSpace};
 ghost use Rattle.meaning.specs.Regions.{IsVolumeSize};
 ghost use Rattle.retrieval.specs.Primes.{with_length};
 ghost use Rattle.retrieval.specs.Reading.{IsReadAs};
+ghost use Rattle.retrieval.specs.Runs.{ribs_of};
 ghost use Rattle.retrieval.specs.Writing.{IsFixed, rib_count};
 ghost use Rattle.retrieval.specs.declared.error.RetrievalError.TheVariants.{BadRetrieval};
 
+use crate::run_tests::expect_same_blocks;
 use alloctab::{Reached, Table, TableError};
 use blockdisk::{Disk, MemDisk, NoMemory};
 use retrieval::{
@@ -106,7 +108,7 @@ fn write_and_read<D: Disk>(
     requires blocks { AllByRecursion (λ n. n < 2 ^ 18) version.old.blocks }
     requires inside { AllByRecursion (InSpace (D.state disk.old).size) version.old.blocks }
     requires fixed { IsFixed table.old }
-    requires booked { used_in_space table.old + (1 + rib_count (length version.old.blocks)) ≤ table.old.booked }
+    requires booked { used_in_space table.old + (1 + ribs_of version.old.blocks) ≤ table.old.booked }
     requires room { table.old.booked ≤ space table.old.size }
     ensures read { (D.state disk.new).honest
         → IfOk result (λ read. IsReadAs (with_length prime.now version.old.words) version.new.ribs version.old.blocks
@@ -126,8 +128,9 @@ fn listed<D: Disk>(
 ) -> Result<(Table, Version), TableError>
     ensures size { IfOk result (λ listed. listed.0.size ≡ 1024) }
     ensures fixed { IfOk result (λ listed. IsFixed listed.0) }
-    ensures booked { IfOk result (λ listed. used_in_space listed.0 + (1 + rib_count (length listed.1.blocks))
+    ensures booked { IfOk result (λ listed. used_in_space listed.0 + (1 + ribs_of listed.1.blocks)
         ≤ listed.0.booked) }
+    ensures ribs { IfOk result (λ listed. ribs_of listed.1.blocks ≤ rib_count (length listed.1.blocks)) }
     ensures room { IfOk result (λ listed. listed.0.booked ≤ 242) }
     ensures words { IfOk result (λ listed. listed.1.words ≤ 30592) }
     ensures enough { IfOk result (λ listed. length listed.1.blocks ≡ blocks_of listed.1.words) }
@@ -153,7 +156,7 @@ fn write_listed<D: Disk>(
 ) -> Result<u32, RetrievalError>
     requires size { table.old.size ≡ 1024 }
     requires fixed { IsFixed table.old }
-    requires booked { used_in_space table.old + (1 + rib_count (length version.old.blocks)) ≤ table.old.booked }
+    requires booked { used_in_space table.old + (1 + ribs_of version.old.blocks) ≤ table.old.booked }
     requires room { table.old.booked ≤ 242 }
     requires words { version.old.words ≤ 30592 }
     requires enough { length version.old.blocks ≡ blocks_of version.old.words }
@@ -174,7 +177,7 @@ fn write_listed_and_read<D: Disk>(
 ) -> Result<(Prime, Version), RetrievalError>
     requires size { table.old.size ≡ 1024 }
     requires fixed { IsFixed table.old }
-    requires booked { used_in_space table.old + (1 + rib_count (length version.old.blocks)) ≤ table.old.booked }
+    requires booked { used_in_space table.old + (1 + ribs_of version.old.blocks) ≤ table.old.booked }
     requires room { table.old.booked ≤ 242 }
     requires words { version.old.words ≤ 30592 }
     requires enough { length version.old.blocks ≡ blocks_of version.old.words }
@@ -198,7 +201,7 @@ fn expect_written(
     assert!(rt; count <= 239 && ribs == count.saturating_sub(112).div_ceil(126));
     assert!(rt; *prime == foo(rt));
     assert_eq!(rt; read.length(), count * 128);
-    assert!(rt; read.blocks() == version.blocks());
+    expect_same_blocks(rt, read, version);
     assert!(rt; read.ribs() == version.ribs());
     assert_eq!(rt; read.ribs().len(), ribs as usize);
 }
@@ -255,12 +258,12 @@ fn write_found<D: Disk>(
 ) -> u32
     requires size { table.old.size ≡ 1024 }
     requires fixed { IsFixed table.old }
-    requires booked { used_in_space table.old + (1 + rib_count (length version.old.blocks)) ≤ table.old.booked }
+    requires booked { used_in_space table.old + (1 + ribs_of version.old.blocks) ≤ table.old.booked }
     requires room { table.old.booked ≤ 242 }
     requires words { version.old.words ≤ 30592 }
     requires enough { length version.old.blocks ≡ blocks_of version.old.words }
     requires fit { AllByRecursion (λ n. n < 2 ^ 18) version.old.blocks }
-    requires ribs { length ribs.items ≡ rib_count (length version.old.blocks) }
+    requires ribs { ribs_of version.old.blocks ≤ length ribs.items }
 {
     let prime = foo(rt);
     let _booked = table.booked(); // which says that the table is sound
@@ -311,7 +314,7 @@ fn expect_ribs(rt: &impl Abort, disk: &mut MemDisk) {
 /// A version of 239 blocks is written with a list for its ribs that was found before.
 fn expect_two_ribs(rt: &impl Abort, alloc: Global, disk: &mut MemDisk) -> Result<(), Fail> {
     let (mut table, mut version) = listed(rt, alloc, disk, 239)?;
-    let ribs = vec![in alloc; 0; rib_count(version.blocks().len())]?;
+    let ribs = vec![in alloc; 0; rib_count(version.count())]?;
     let at = write_found(rt, disk, &mut table, &mut version, ribs);
     drop(table);
     let has_ribs = version.ribs() == [16, 17].as_slice();
@@ -367,7 +370,7 @@ fn each_write_may_fail(rt: HostRuntime) -> Result<(), Fail> {
 
 /// A version of 113 blocks has no ribs, and the first free block is still there to be taken.
 fn expect_unchanged(rt: &impl Abort, table: &mut Table, version: &Version) {
-    assert!(rt; version.blocks().len() == 113 && version.ribs().is_empty());
+    assert!(rt; version.count() == 113 && version.ribs().is_empty());
     assert_eq!(rt; table.take(), Some(15));
 }
 

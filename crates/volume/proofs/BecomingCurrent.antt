@@ -20,7 +20,7 @@ use Rattle.alloctab.specs.TableLaws.{sound-unchanged}
 use Rattle.alloctab.specs.TableState.{TableState, IsTable, bit, holds, changed_blocks}
 use Rattle.directory.specs.Chains.{IsChain, viewed}
 use Rattle.directory.specs.Edits.{StandsAt, PutsChain, inserted}
-use Rattle.retrieval.specs.Writing.{rib_count}
+use Rattle.retrieval.specs.Runs.{ribs_of}
 use Rattle.volume.specs.declared.live.LiveDirectory.{LiveDirectory}
 use Rattle.volume.specs.declared.live.LiveMap.{LiveMap}
 use Rattle.volume.specs.declared.live.LiveVersion.{LiveVersion}
@@ -54,7 +54,7 @@ module _ (m m' : LiveMap) (whole : IsWholeCore m.table.size (core_of m)) (key : 
     (master : m'.master ≡ m.master) (directories : m'.directories.items ≡ slice_set m.directories.items place d')
     (gone : pending_at m'.pending.slots key ≡ None) (other_pending : (k : ℕ) → (k ≡ key → ⊥)
     → pending_at m'.pending.slots k ≡ pending_at m.pending.slots k)
-    (grown : List ℕ) (prime : ℕ) (ribs : List ℕ) (few_ribs : length ribs ≡ rib_count (length p.version.blocks))
+    (grown : List ℕ) (prime : ℕ) (ribs : List ℕ) (few_ribs : length ribs ≡ ribs_of p.version.blocks)
     (t1 t2 t3 : TableState) (takes : TakesPlaces m.table t1 grown prime ribs)
     (puts_in_use : PutsInUse t2 t3 (blocks_reached prime (record p.version { ribs = ribs }) ++ grown))
     (table : m'.table ≡ record t3 { changed = replicate (table_blocks t3.size) false })

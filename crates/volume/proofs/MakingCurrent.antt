@@ -245,7 +245,7 @@ module _ (m : LiveMap) (whole : IsWholeCore m.table.size (core_of m)) (key : ℕ
       itself n = grind (arith, nat_tests)
 
   pub blocks_booked : (grows : Bool) (ribs : ℕ) → (IsTrue grows ↔ TakesBlock name_cmp dk.chain p.prime.file)
-      → ribs ≡ rib_count (length p.version.blocks) → used_in_space m.table + (if grows then 1 else 0) + (1 + ribs)
+      → ribs ≤ rib_count (length p.version.blocks) → used_in_space m.table + (if grows then 1 else 0) + (1 + ribs)
       ≤ m.table.booked
   blocks_booked grows ribs takes many =
       let all = core_uses_more m.table.size c whole key p was (if grows then 1 else 0) (grown_booked grows takes) in

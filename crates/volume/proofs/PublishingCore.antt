@@ -20,6 +20,7 @@ use Rattle.meaning.proofs.MapLaws.{some_same, some_none}
 use Rattle.meaning.proofs.MapSums.{times-append}
 use Rattle.alloctab.specs.TableState.{holds}
 use Rattle.directory.specs.Chains.{ChainState, IsChain}
+use Rattle.retrieval.proofs.RibCounts.{ribs_few}
 use Rattle.volume.specs.Known.{KnownDirectory, blocks_reached, reaches_in_known, reaches_in_entries, cost_of_directory}
 use Rattle.volume.specs.Known.{cost_of_known, IsWholeVersion, IsWholeDirectory, IsWholeMap}
 use Rattle.volume.specs.Live.{is_creation, VolumeCore, slot, as_known, held_reaches, held_cost, current_reaches}
@@ -103,7 +104,7 @@ module _ (size : ℕ) (c c' : VolumeCore) (key : ℕ) (p : PendingVersion) (at :
   new_whole = record {
     counted = was_waiting.whole.counted;
     few = was_waiting.whole.few;
-    few_ribs = let many = is.few_ribs in omega arith;
+    few_ribs = let many = is.few_ribs in let few = ribs_few p.version.blocks in omega arith;
   }
 
   now_whole : IsWholeDirectory size is.published.directory'

@@ -18,7 +18,7 @@ use Rattle.directory.specs.Edits.{StandsAt, IsReserve, PutsChain}
 use Rattle.meaning.specs.Regions.{table_blocks}
 use Rattle.retrieval.specs.Modes.{mode_number}
 use Rattle.retrieval.specs.Versions.{VersionState}
-use Rattle.retrieval.specs.Writing.{rib_count}
+use Rattle.retrieval.specs.Runs.{ribs_of}
 use Rattle.retrieval.specs.declared.prime.Prime.{Prime}
 use Rattle.volume.specs.Beginning.{is_absent, IsDirectoryOf}
 use Rattle.volume.specs.Known.{Before, IsNamed, KnownVersion, KnownDirectory, Known, blocks_reached, given_up}
@@ -179,7 +179,7 @@ pub record MakesCurrent (size : ℕ) (c c' : VolumeCore) (key : ℕ) (p : Pendin
   pub old : Entered
   pub published : IsPublished size c.known c'.known p.prime.ppn p.prime.file
       at (record { prime = p.prime; version = record p.version { ribs = ribs } }) (before old) puts
-  pub few_ribs : length ribs ≡ rib_count (length p.version.blocks)
+  pub few_ribs : length ribs ≡ ribs_of p.version.blocks
   -- it is written no more
   pub written : pending_at c.pending key ≡ Some p
   pub gone : pending_at c'.pending key ≡ None

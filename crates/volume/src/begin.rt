@@ -21,7 +21,7 @@ ghost use Rattle.volume.specs.Rest.{RestsAt};
 ghost use Rattle.volume.specs.declared.error.CallError.TheVariants.{Refused, Device, Failed};
 
 use crate::CallError;
-use crate::blocks::hold_all;
+use crate::blocks::hold_blocks;
 use crate::cost::version_cost;
 use crate::handles::Pending;
 use crate::live::{LiveMap, LiveVersion};
@@ -171,7 +171,7 @@ fn begin_from(
 {
     let version = live.version.copy_without_ribs(alloc)?;
     let kept_blocks = match kind {
-        Kind::Append => version.blocks().len() as u32,
+        Kind::Append => version.count() as u32,
         _ => 0,
     };
     Ok(PendingVersion {
@@ -266,7 +266,7 @@ pub fn begin_in_core(
     if core.pending.reserve(1).is_err() {
         return Err(CallError::NoMemory);
     }
-    hold_all(&mut core.table, version.version.blocks());
+    hold_blocks(&mut core.table, &version.version);
     core.table.book(cost);
     Ok(core.pending.insert_reserved(version))
 }

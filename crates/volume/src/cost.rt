@@ -30,7 +30,7 @@ pub fn version_cost(version: &Version) -> u32
     requires { length version.now.blocks ≤ most_blocks }
     ensures { result ≡ cost_of_blocks (length version.now.blocks) }
 {
-    cost_of_blocks(version.blocks().len() as u32)
+    cost_of_blocks(version.count() as u32)
 }
 
 /// Books what a directory costs with all its files.

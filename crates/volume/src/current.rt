@@ -10,6 +10,7 @@ ghost use Rattle.meaning.specs.Retrieval.{most_blocks};
 ghost use Rattle.alloctab.specs.TableState.{IsTable, bit, holds, space, used_in_space};
 ghost use Rattle.directory.specs.Chains.{IsChain, viewed};
 ghost use Rattle.directory.specs.Edits.{StandsAt, TakesBlock, IsReserve, PutsChain, inserted};
+ghost use Rattle.retrieval.specs.Runs.{ribs_of};
 ghost use Rattle.retrieval.specs.Writing.{rib_count, Takes, IsFixed};
 ghost use Rattle.slab.specs.Slab.{HasRoomFor};
 ghost use Rattle.volume.specs.Cores.{file_view, master_view};
@@ -22,7 +23,7 @@ ghost use Rattle.volume.specs.declared.live.LiveDirectory.{LiveDirectory};
 ghost use Rattle.volume.specs.declared.live.LiveVersion.{LiveVersion};
 ghost use Rattle.volume.specs.declared.pending.PendingVersion.{PendingVersion};
 
-use crate::blocks::{bring_all, clear_all, hold_all};
+use crate::blocks::{bring_all, bring_blocks, clear_all, clear_blocks, hold_all, hold_blocks};
 use crate::cost::version_cost;
 use crate::live::{LiveDirectory, LiveMap, LiveVersion};
 use crate::make::use_block;
@@ -60,14 +61,16 @@ pub(crate) fn take_for_chain(table: &mut Table, grows: bool) -> Option<u32>
 }
 
 /// Takes the blocks that a version wants besides its data blocks, and the one by which a chain grows. `ribs` is a list
-/// with a place for each rib.
+/// with a place for each rib, or more.
 fn take_places(table: &mut Table, version: &mut Version, ribs: Vec<u32>, grows: bool) -> Places
     requires sound { IsTable table.old }
     requires fixed { IsFixed table.old }
-    requires used { used_in_space table.old + (if grows then 1 else 0) + (1 + length ribs.items) ≤ table.old.booked }
+    requires enough { ribs_of version.old.blocks ≤ length ribs.items }
+    requires used { used_in_space table.old + (if grows then 1 else 0) + (1 + ribs_of version.old.blocks)
+        ≤ table.old.booked }
     requires room { table.old.booked ≤ space table.old.size }
     ensures kept { version.new ≡ record version.old { ribs = version.new.ribs } }
-    ensures count { length version.new.ribs ≡ length ribs.items }
+    ensures count { length version.new.ribs ≡ ribs_of version.new.blocks }
     ensures grown { length (option_to_list result.grown) ≡ (if grows then 1 else 0) }
     ensures taken { TakesPlaces table.old table.new (option_to_list result.grown) result.at version.new.ribs }
 {
@@ -88,7 +91,7 @@ fn use_version(table: &mut Table, live: &LiveVersion, grown: Option<u32>)
 {
     use_block(table, live.at);
     bring_all(table, live.version.ribs());
-    bring_all(table, live.version.blocks());
+    bring_blocks(table, &live.version);
     if let Some(n) = grown {
         use_block(table, n);
     }
@@ -270,7 +273,7 @@ fn clear_version(table: &mut Table, version: &LiveVersion)
 {
     table.clear(version.at);
     clear_all(table, version.version.ribs());
-    clear_all(table, version.version.blocks());
+    clear_blocks(table, &version.version);
 }
 
 /// Holds a version's blocks.
@@ -285,7 +288,7 @@ fn hold_version(table: &mut Table, version: &LiveVersion)
 {
     table.hold(version.at);
     hold_all(table, version.version.ribs());
-    hold_all(table, version.version.blocks());
+    hold_blocks(table, &version.version);
 }
 
 /// Takes the version under a key out of use: no file has it any more, so that its blocks are free on the disk.

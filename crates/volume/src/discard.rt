@@ -13,7 +13,7 @@ ghost use Rattle.volume.specs.declared.pending.PendingVersion.{PendingVersion};
 use crate::begin::growth_at;
 use crate::cost::version_cost;
 use crate::handles::Pending;
-use crate::live::{LiveMap, unhold_all};
+use crate::live::{LiveMap, unhold_blocks};
 use crate::map::Volume;
 use crate::pending::PendingVersion;
 use crate::query::directory_place;
@@ -68,7 +68,7 @@ pub fn discard_in_core(core: &mut LiveMap, key: usize)
         unreachable!() // there is one
     };
     let cost = version_cost(&version.version) + shrinkage(core, &version);
-    unhold_all(&mut core.table, version.version.blocks());
+    unhold_blocks(&mut core.table, &version.version);
     core.table.unbook(cost);
 }
 

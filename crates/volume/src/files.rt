@@ -83,13 +83,13 @@ fn read_named<D: Disk>(
     })
 }
 
-/// Reads each of these data blocks once.
-fn read_data<D: Disk>(disk: &mut D, blocks: &[u32]) -> Result<(), VolumeError>
-    requires { AllByRecursion (InSpace (D.state disk.old).size) blocks.now }
+/// Reads each of a version's data blocks once.
+fn read_data<D: Disk>(disk: &mut D, version: &Version) -> Result<(), VolumeError>
+    requires { AllByRecursion (InSpace (D.state disk.old).size) version.now.blocks }
     ensures ok { (D.state disk.new).honest
-        → OnOk result (AllByRecursion (IsWholeBlock (D.state disk.old).contents) blocks.now) }
+        → OnOk result (AllByRecursion (IsWholeBlock (D.state disk.old).contents) version.now.blocks) }
     ensures damaged { (D.state disk.new).honest → (k : ℕ) → IsErrOf result (BadData k)
-        → (0 < times k blocks.now) × ((D.state disk.old).contents k ≡ None) }
+        → (0 < times k version.now.blocks) × ((D.state disk.old).contents k ≡ None) }
     ensures only { IfErr result IsDataRefusal }
     ensures named { (k : ℕ) → IsErrOf result (BadData k) → InSpace (D.state disk.old).size k }
     ensures keeps { (D.state disk.new).honest → Keeps (D.state disk.old) (D.state disk.new) }
@@ -97,7 +97,8 @@ fn read_data<D: Disk>(disk: &mut D, blocks: &[u32]) -> Result<(), VolumeError>
     ensures failed { IsErrOf result Device → (D.state disk.new).failures ≡ one_more (D.state disk.old).failures }
     ensures served { (IsErrOf result Device → ⊥) → (D.state disk.new).failures ≡ (D.state disk.old).failures }
 {
-    for &block in blocks {
+    for i in 0..version.count() {
+        let block = version.block_at(i);
         match disk.read(block) {
             Ok(_) => (),
             Err(Fault::Damaged) => return Err(VolumeError::BadData(block)),
@@ -163,6 +164,6 @@ pub fn read_file<D: Disk>(
     if let Err(block) = mark_version(reached, prime, &stored.version) {
         return Err(VolumeError::BlockTwice(block));
     }
-    read_data(disk, stored.version.blocks())?;
+    read_data(disk, &stored.version)?;
     Ok(stored)
 }

@@ -232,6 +232,18 @@ pub(crate) fn unhold_all(table: &mut Table, blocks: &[u32])
     }
 }
 
+/// Holds each of a version's data blocks once less.
+pub(crate) fn unhold_blocks(table: &mut Table, version: &Version)
+    requires held { (n : ℕ) → times n version.now.blocks ≤ holds table.old n }
+    requires inside { (n : ℕ) → 0 < holds table.old n → n < table.old.size }
+    ensures held { (n : ℕ) → holds table.new n + times n version.now.blocks ≡ holds table.old n }
+    ensures rest { table.new ≡ record table.old { held = table.new.held } }
+{
+    for i in 0..version.count() {
+        table.unhold(version.block_at(i));
+    }
+}
+
 /// Lets the blocks of a version that was held go, and takes back the booking of what it cost.
 fn release_version(table: &mut Table, version: &LiveVersion)
     requires held { (n : ℕ) → times n (blocks_reached version.now.at version.now.version) ≤ holds table.old n }
@@ -245,7 +257,7 @@ fn release_version(table: &mut Table, version: &LiveVersion)
 {
     table.unhold(version.at);
     unhold_all(table, version.version.ribs());
-    unhold_all(table, version.version.blocks());
+    unhold_blocks(table, &version.version);
     table.unbook(version_cost(&version.version));
 }
 

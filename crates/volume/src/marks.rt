@@ -26,6 +26,27 @@ pub fn mark_all(reached: &mut Reached, blocks: &[u32]) -> Result<(), u32>
     Ok(())
 }
 
+/// Marks the data blocks of a version in turn.
+///
+/// # Errors
+///
+/// The first block that was marked already; those before it are marked then.
+fn mark_blocks(reached: &mut Reached, version: &Version) -> Result<(), u32>
+    requires { AllByRecursion (λ n. n < length reached.old) version.now.blocks }
+    ensures ok { OnOk result ((n : ℕ) → digit_at reached.new n ≡ digit_at reached.old n + times n version.now.blocks) }
+    ensures twice { (n : ℕ) → IsErrOf result n → 2 ≤ digit_at reached.old n + times n version.now.blocks }
+    ensures among { (n : ℕ) → IsErrOf result n → 0 < times n version.now.blocks }
+    ensures length { length reached.new ≡ length reached.old }
+{
+    for i in 0..version.count() {
+        let block = version.block_at(i);
+        if !reached.mark(block) {
+            return Err(block);
+        }
+    }
+    Ok(())
+}
+
 /// Marks the blocks of a version: the prime block, the ribs, and the data blocks.
 ///
 /// # Errors
@@ -46,5 +67,5 @@ pub fn mark_version(reached: &mut Reached, prime: u32, version: &Version) -> Res
         return Err(prime);
     }
     mark_all(reached, version.ribs())?;
-    mark_all(reached, version.blocks())
+    mark_blocks(reached, version)
 }

@@ -62,7 +62,7 @@ fn last_blocks(map: &LiveMap, key: usize, block: u32, count: usize) -> Result<us
     };
     let version = &pending.version;
     if count == 0 {
-        return Ok(version.blocks().len());
+        return Ok(version.count());
     }
     match growth(version, block, count) {
         Some(more) if map.table.can_book(more) => {}

@@ -130,7 +130,7 @@ fn put_booked<D: Disk>(
     match put_words(disk, table, version, block, words) {
         Ok(()) => Ok(()),
         Err(BodyError::Device) => {
-            version.set_length((version.blocks().len() * BLOCK_WORDS) as u32); // some blocks may be new
+            version.set_length((version.count() * BLOCK_WORDS) as u32); // some blocks may be new
             table.unbook(cost - version_cost(version));
             Err(BodyError::Device)
         }

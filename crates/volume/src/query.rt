@@ -69,7 +69,7 @@ pub fn named_facts(
         mode: live.prime.mode,
         moment: live.prime.moment,
         words: live.version.length(),
-        blocks: live.version.blocks().len() as u32,
+        blocks: live.version.count() as u32,
     })
 }
 

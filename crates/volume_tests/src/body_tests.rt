@@ -71,7 +71,7 @@ fn with_a_rib(rt: &impl Abort, alloc: Global) -> Result<MemDisk, NoMemory> {
 
 /// A version has so many data blocks and these extensions.
 fn expect_blocks(rt: &impl Abort, stored: &StoredVersion, blocks: u32, ribs: &[u32]) {
-    assert_eq!(rt; stored.version.blocks().len(), blocks as usize);
+    assert_eq!(rt; stored.version.count(), blocks as usize);
     expect_numbers(rt, stored.version.ribs(), ribs);
 }
 

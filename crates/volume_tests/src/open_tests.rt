@@ -234,7 +234,8 @@ pub(crate) fn only_version<'a>(rt: &impl Abort, map: &'a DiskMap) -> &'a StoredV
 /// The file of V1, as its prime block says.
 fn expect_file_of_v1(rt: &impl Abort, stored: &StoredVersion) {
     assert_eq!(rt; stored.version.length(), 2);
-    expect_numbers(rt, stored.version.blocks(), &[18]);
+    assert_eq!(rt; stored.version.count(), 1);
+    assert_eq!(rt; stored.version.block(0), Some(18));
     assert_eq!(rt; stored.prime.protection, 0o057);
 }
 

@@ -1,4 +1,4 @@
-use Rattle.std.proofs.Common.{◌≡◌, ⊎_elim, Some, None, ◌+◌, ◌-◌, ◌*◌, ◌<◌, ◌≤◌, ℕ, List, length, sym, ap, subst, ◌∙◌}
+use Rattle.std.proofs.Common.{◌≡◌, ⊎_elim, Some, ◌+◌, ◌-◌, ◌*◌, ◌<◌, ◌≤◌, ℕ, List, length, refl, sym, ap, subst, ◌∙◌}
 use Rattle.std.proofs.Common.{arith, rules}
 use Rattle.std.specs.Prelude.{slice_index}
 use Rattle.std.proofs.lemmas.Bool.{cases_eq}
@@ -24,8 +24,9 @@ returns-in_err-data-clause-damaged g c h k is =
     let e = c.read_data.ensures.bad h k
     (passed_on c.from_residual-in_err-data.result c.read_data.result p.0 c.in_err-data.field-0.0
     (BadData k) is p.1 p.2 c.in_err-data.was) in
-    damaged_at s.contents (g.D.Disk.state c.loop-i.disk).contents c.args.version.now.blocks c.blocks-blocks.result.now
-    k at c.blocks-blocks.ensures below e.0 e.1
+    damaged_at s.contents (g.D.Disk.state c.loop-i.disk).contents c.args.version.now.blocks c.args.version.now.blocks
+    k at refl below (e.0 ∙ c.block_at.ensures)
+    (ap (g.D.Disk.state c.loop-i.disk).contents (sym c.block_at.ensures) ∙ e.1)
     (c.loop-i.invariant.keeps (c.read_data.ensures.same.was_honest h)).contents
 
 pub returns-in_err-data-clause-keeps : goal.returns-in_err-data-clause-keeps
@@ -48,9 +49,9 @@ loop-i-preserved g c =
     omega (arith, c.length.ensures) in
     let few : here ≤ 128 = let e = c.min-here.ensures in omega arith in
     let has_data : new.honest → s.contents (slice_index c.args.version.now.blocks at) ≡ Some data' =
-    λ h. ap (λ (l : List ℕ). s.contents (slice_index l at)) (sym c.blocks-blocks.ensures)
+    λ h. ap s.contents (sym c.block_at.ensures)
     ∙ sym ((c.loop-i.invariant.keeps (c.read_data.ensures.same.was_honest h)).contents
-    (slice_index c.blocks-blocks.result.now at)) ∙ c.in_ok-data.ensures.words h in
+    c.block_at.result) ∙ c.in_ok-data.ensures.words h in
     let from : block_start c.args.block + length items ≡ at * 128 = let b = c.loop-i-test.true in
     let e = c.loop-i.invariant.long in let d = c.requires.first in omega arith in
     record {

@@ -1,10 +1,21 @@
-use Rattle.std.proofs.Common.{◌-◌, ℕ, List, ◌++◌, map, length, take, drop, replicate, min, ap, ◌∙◌}
+use Rattle.std.proofs.Common.{◌-◌, ◌<◌, ◌≤◌, ◌^◌, ℕ, List, ◌++◌, map, length, take, drop, replicate, min, sym, subst, ap, ◌∙◌}
+use Rattle.std.specs.List.{AllByRecursion}
+use Rattle.std.proofs.lemmas.List.{length-map, take-map}
 use Rattle.meaning.specs.Blocks.{head_or_zero}
-use Rattle.meaning.specs.Retrieval.{pointer}
-use Rattle.retrieval.specs.Pointers.{one_each}
+use Rattle.meaning.specs.Retrieval.{Run, IsRun, pointer}
 use Rattle.retrieval.specs.Primes.{with_length}
-use Rattle.retrieval.proofs.Building.{block_written}
+use Rattle.retrieval.specs.Runs.{pair_of, pairs_of, longest}
+use Rattle.retrieval.proofs.Building.{block_written, all_first, runs_fit}
 use Rattle.retrieval.proofs.build.prime_block.Goals as goal
+
+pub put_pointers-requires-clause-fit : goal.put_pointers-requires-clause-fit
+put_pointers-requires-clause-fit c =
+    let runs = c.runs-runs.result.now in
+    let blocks = c.runs-runs.ensures.blocks in
+    subst (AllByRecursion IsRun) (take-map pair_of c.min-count.result runs)
+    (all_first IsRun c.min-count.result (pairs_of runs)
+    (runs_fit runs (subst (AllByRecursion (λ n. n < 2 ^ 18)) (sym blocks) c.requires.fit)
+    (subst (λ (l : List ℕ). length l ≤ 16384) (sym blocks) c.requires.few)))
 
 pub put_pointers-requires-clause-clear : goal.put_pointers-requires-clause-clear
 put_pointers-requires-clause-clear c = ap (λ (l : List ℕ). drop 16 l) c.without_pointers-words.ensures
@@ -13,10 +24,12 @@ pub returns : goal.returns
 returns c =
     let v = c.args.version.now in
     let count = c.min-count.result in
-    let part : List ℕ = take count c.blocks-blocks.result.now in
-    block_written (with_length c.args.prime.now v.words) v.blocks part c.put_pointers.new.words count
+    let runs = c.runs-runs.result.now in
+    let part = take count runs in
+    let are = c.runs-runs.ensures.are_longest in
+    block_written (with_length c.args.prime.now v.words) (longest v.blocks) part c.put_pointers.new.words count
     (head_or_zero v.ribs)
-    (c.min-count.ensures ∙ ap (λ (l : List ℕ). min (length l) 112) c.blocks-blocks.ensures)
-    (ap (λ (l : List ℕ). take count l) c.blocks-blocks.ensures)
+    (c.min-count.ensures ∙ ap (λ (n : ℕ). min n 112) (sym (length-map runs pair_of) ∙ ap length are))
+    (sym (take-map pair_of count runs) ∙ ap (λ (l : List Run). take count l) are)
     (c.put_pointers.ensures ∙ ap (λ (l : List ℕ). take 16 l
-    ++ (map pointer (one_each part) ++ replicate (112 - length part) 0)) c.without_pointers-words.ensures)
+    ++ (map pointer (pairs_of part) ++ replicate (112 - length part) 0)) c.without_pointers-words.ensures)

@@ -1,8 +1,8 @@
 use Rattle.std.proofs.Common.{◌≡◌, ◌-◌, ◌++◌, map, take, replicate}
 use Rattle.meaning.specs.Retrieval.{pointer}
-use Rattle.retrieval.specs.Pointers.{one_each}
+use Rattle.retrieval.specs.Runs.{pairs_of}
 use Rattle.retrieval.proofs.build.put_pointers.Given as goal
 
 abbrev pub invariant-loop-i : goal.invariant-loop-i
 invariant-loop-i l = l.words ≡ take 16 l.fn.words
-    ++ (map pointer (one_each (take l.i l.blocks)) ++ replicate (112 - l.i) 0)
+    ++ (map pointer (pairs_of (take l.i l.runs)) ++ replicate (112 - l.i) 0)

@@ -142,8 +142,8 @@ loop-next-preserved g c =
           ∙ c.in_ok-block-2.ensures.words h) x;
     }
 
-pub returns-then-blocks-blocks_of-clause-bad : goal.returns-then-blocks-blocks_of-clause-bad
-returns-then-blocks-blocks_of-clause-bad g c h k is =
+pub returns-then-count-blocks_of-clause-bad : goal.returns-then-count-blocks_of-clause-bad
+returns-then-count-blocks_of-clause-bad g c h k is =
     let s = g.D.Disk.state c.args.disk.now in
     let size = c.blocks-size.result in
     let end : IsReadTo size s.contents c.args.at c.in_ok-prime.prime c.loop-next.version 0 =
@@ -151,7 +151,7 @@ returns-then-blocks-blocks_of-clause-bad g c h k is =
     c.loop-next-test.false (c.loop-next.invariant.read h) in
     bad_of size s.size s.contents c.args.at k c.args.at c.blocks-size.ensures (cc)
     (bad_count size s.contents c.args.at c.in_ok-prime.prime c.loop-next.version end
-    (λ same. c.if-blocks-blocks_of.true (ap length c.blocks-2.ensures ∙ same
+    (λ same. c.if-count-blocks_of.true (c.count.ensures ∙ same
     ∙ sym (c.blocks_of.ensures.value ∙ ap blocks_of c.length.ensures))))
 
 pub returns-clause-ok : goal.returns-clause-ok
@@ -162,7 +162,7 @@ returns-clause-ok g c h =
     subst (λ (n : ℕ). IsReadTo size s.contents c.args.at c.in_ok-prime.prime c.loop-next.version n)
     c.loop-next-test.false (c.loop-next.invariant.read h) in
     let enough : length c.loop-next.version.blocks
-    ≡ blocks_of c.loop-next.version.words = sym (ap length c.blocks-2.ensures) ∙ c.if-blocks-blocks_of.false
+    ≡ blocks_of c.loop-next.version.words = sym c.count.ensures ∙ c.if-count-blocks_of.false
     ∙ c.blocks_of.ensures.value ∙ ap blocks_of c.length.ensures in
     subst (λ (n : ℕ). IsVersionAt n s.contents c.args.at c.in_ok-prime.prime c.loop-next.version) c.blocks-size.ensures
     (read_whole size s.contents c.args.at c.in_ok-prime.prime c.loop-next.version end enough)
@@ -186,7 +186,7 @@ returns-clause-ribs_inside g c = subst (λ (n : ℕ). AllByRecursion (InSpace n)
     c.blocks-size.ensures c.loop-next.invariant.ribs_inside
 
 pub returns-clause-counted : goal.returns-clause-counted
-returns-clause-counted g c = sym (ap length c.blocks-2.ensures) ∙ c.if-blocks-blocks_of.false
+returns-clause-counted g c = sym c.count.ensures ∙ c.if-count-blocks_of.false
     ∙ c.blocks_of.ensures.value ∙ ap blocks_of c.length.ensures
 
 -- The block that is named.
@@ -229,8 +229,8 @@ returns-in_err-next-clause-named g c k is =
     (c.extend_version.ensures.bad k (passed_on c.from_residual-in_err-next.result c.extend_version.result
     p.0 c.in_err-next.field-0.0 (BadRetrieval k) is p.1 p.2 c.in_err-next.was))
 
-pub returns-then-blocks-blocks_of-clause-named : goal.returns-then-blocks-blocks_of-clause-named
-returns-then-blocks-blocks_of-clause-named g c k is = inl (cc)
+pub returns-then-count-blocks_of-clause-named : goal.returns-then-count-blocks_of-clause-named
+returns-then-count-blocks_of-clause-named g c k is = inl (cc)
 
 pub returns-in_err-block-clause-whole : goal.returns-in_err-block-clause-whole
 returns-in_err-block-clause-whole g c h p ribs blocks w k is =
@@ -252,7 +252,7 @@ returns-in_err-next-clause-whole g c h p ribs blocks w k is =
     let s = g.D.Disk.state c.args.disk.now in
     none_wrong s.size s.contents c.args.at p ribs blocks w k (returns-in_err-next-clause-bad g c h k is)
 
-pub returns-then-blocks-blocks_of-clause-whole : goal.returns-then-blocks-blocks_of-clause-whole
-returns-then-blocks-blocks_of-clause-whole g c h p ribs blocks w k is =
+pub returns-then-count-blocks_of-clause-whole : goal.returns-then-count-blocks_of-clause-whole
+returns-then-count-blocks_of-clause-whole g c h p ribs blocks w k is =
     let s = g.D.Disk.state c.args.disk.now in
-    none_wrong s.size s.contents c.args.at p ribs blocks w k (returns-then-blocks-blocks_of-clause-bad g c h k is)
+    none_wrong s.size s.contents c.args.at p ribs blocks w k (returns-then-count-blocks_of-clause-bad g c h k is)

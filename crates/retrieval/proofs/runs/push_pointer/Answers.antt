@@ -20,14 +20,14 @@ pub returns-then-count-limit-clause-many : goal.returns-then-count-limit-clause-
 returns-then-count-limit-clause-many c is =
     let count : c.bits-count.result ≡ left c.args.word = c.bits-count.ensures.value ∙ c.left.ensures.value in
     let long = length-count_up (left c.args.word) (right c.args.word) in
-    let seen : length c.blocks-2.result.now ≡ length c.args.version.now.blocks = ap length c.blocks-2.ensures in
+    let seen = c.count.ensures in
     let past = c.if-count-limit.true in
     omega arith
 
 pub returns-clause-room : goal.returns-clause-room
 returns-clause-room c =
     let long = length-count_up c.bits-count.result c.bits-first.result in
-    let seen : length c.blocks-2.result.now ≡ length c.args.version.now.blocks = ap length c.blocks-2.ensures in
+    let seen = c.count.ensures in
     let fits = c.if-count-limit.false in
     let all = ap (λ (v : VersionState). length v.blocks) c.in_ok-push_run.ensures in
     let e = length-append c.args.version.now.blocks (count_up c.bits-count.result c.bits-first.result) in

@@ -1,9 +1,9 @@
 use Rattle.std.proofs.Common.{◌≡◌, ◌-◌, ◌∷◌, ◌++◌, length, take, replicate}
 use Rattle.words36.specs.Words.{join}
 use Rattle.meaning.specs.Retrieval.{extension_half}
-use Rattle.retrieval.proofs.Writing.{pointers}
+use Rattle.retrieval.proofs.Building.{pointers}
 use Rattle.retrieval.proofs.write.extension_of.Given as goal
 
 abbrev pub invariant-loop-i : goal.invariant-loop-i
-invariant-loop-i l = l.words ≡ join extension_half (length l.blocks) ∷ l.next
-    ∷ (pointers (take l.i l.blocks) ++ replicate (126 - l.i) 0)
+invariant-loop-i l = l.words ≡ join extension_half (length l.runs) ∷ l.next
+    ∷ (pointers (take l.i l.runs) ++ replicate (126 - l.i) 0)

@@ -1,12 +1,28 @@
-use Rattle.std.proofs.Common.{ℕ, List, subst, ap, ◌∷◌, ◌-◌, ◌<◌, length, take, drop, refl, ◌∙◌}
+use Rattle.std.proofs.Common.{ℕ, List, subst, sym, ap, ◌∷◌, ◌-◌, ◌<◌, ◌≤◌, ◌^◌, length, take, drop, refl, ◌∙◌, arith}
+use Rattle.std.specs.List.{AllByRecursion}
+use Rattle.std.proofs.lemmas.List.{drop-map}
 use Rattle.blockdisk.specs.Laws.{modifies_wider, modifies_write}
 use Rattle.blockdisk.specs.Disk.{Modifies}
-use Rattle.meaning.specs.Retrieval.{AreExtensions, IsPrime}
+use Rattle.meaning.specs.Retrieval.{AreExtensions, IsPrime, IsRun}
+use Rattle.retrieval.specs.Runs.{pair_of, pairs_of, longest}
+use Rattle.retrieval.proofs.Building.{runs_fit, all_later}
+use Rattle.retrieval.proofs.LongestRuns.{blocks_of_longest}
 use Rattle.retrieval.specs.Writing.{extensions_of}
 use Rattle.meaning.specs.Maps.{times}
 use Rattle.retrieval.specs.Primes.{with_length}
 use Rattle.retrieval.proofs.Writing.{retrieved_on, behind, drop_min, is_in, in_later, is_mode}
 use Rattle.retrieval.proofs.write.write_retrieval_blocks.Goals as goal
+
+pub write_ribs-requires-clause-fit : goal.write_ribs-requires-clause-fit
+write_ribs-requires-clause-fit g c =
+    let runs = c.runs-runs.result.now in
+    let count = c.min-here.result in
+    let whole = c.runs-runs.ensures.blocks in
+    subst (AllByRecursion IsRun) (drop-map pair_of count runs ∙ ap pairs_of (sym (behind runs count)))
+    (all_later IsRun count (pairs_of runs)
+    (runs_fit runs (subst (AllByRecursion (λ n. n < 2 ^ 18)) (sym whole) c.requires.fit)
+    (subst (λ (l : List ℕ). length l ≤ 16384) (sym whole) (let a = c.requires.enough in let b = c.requires.words in
+    omega arith))))
 
 pub returns-clause-written : goal.returns-clause-written
 returns-clause-written g c h =
@@ -14,9 +30,15 @@ returns-clause-written g c h =
     let new = g.D.Disk.state c.write.new.self in
     let v = c.args.version.now in
     let p = c.args.prime.now in
-    let blocks = c.blocks-blocks.result.now in
+    let runs = c.runs-runs.result.now in
+    let are = c.runs-runs.ensures.are_longest in
+    let whole = c.runs-runs.ensures.blocks in
     let count = c.min-here.result in
-    let part = take (length blocks - count) (drop count blocks) in
+    let part = pairs_of (take (length runs - count) (drop count runs)) in
+    let fit : AllByRecursion IsRun (longest v.blocks) = subst (AllByRecursion IsRun) are
+    (runs_fit runs (subst (AllByRecursion (λ n. n < 2 ^ 18)) (sym whole) c.requires.fit)
+    (subst (λ (l : List ℕ). length l ≤ 16384) (sym whole) (let a = c.requires.enough in let b = c.requires.words in
+    omega arith))) in
     let fits : IsPrime 1 (with_length p v.words) = record {
       protection = p.protection_fits;
       mode = is_mode p.mode;
@@ -24,13 +46,15 @@ returns-clause-written g c h =
       date = p.date_fits;
       few = c.requires.words;
     } in
-    retrieved_on now.contents new.contents (with_length p v.words) c.args.at v.ribs v.blocks part c.write.result
-    c.prime_block-words.result
+    retrieved_on now.contents new.contents (with_length p v.words) c.args.at v.ribs v.blocks (longest v.blocks) part
+    c.write.result c.prime_block-words.result
     (subst (λ (l : List ℕ). AreExtensions now.contents (extensions_of l part)) c.ribs.ensures
     (c.in_ok-write_ribs.ensures.written (c.write.ensures.same.was_honest h)))
-    (behind blocks count ∙ drop_min blocks 112 count c.min-here.ensures ∙ ap (drop 112) c.blocks-blocks.ensures)
+    (ap pairs_of (behind runs count ∙ drop_min runs 112 count c.min-here.ensures) ∙ sym (drop-map pair_of 112 runs)
+    ∙ ap (drop 112) are)
     c.requires.apart (c.write.ensures.writes h).contents c.prime_block-words.ensures
-    (c.write.ensures.put h) fits c.requires.nonzero c.requires.fit c.requires.count c.requires.enough
+    (c.write.ensures.put h) fits c.requires.nonzero fit
+    (blocks_of_longest v.blocks) c.requires.count c.requires.enough
 
 pub returns-clause-modified : goal.returns-clause-modified
 returns-clause-modified g c h =

@@ -1,4 +1,4 @@
-use Rattle.std.proofs.Common.{◌≡◌, ◌∷◌, ◌<◌, ◌^◌, ℕ, length, drop, sym, subst, ap, ◌∙◌, arith}
+use Rattle.std.proofs.Common.{◌∷◌, ◌<◌, ◌^◌, ℕ, sym, subst}
 use Rattle.std.specs.List.{AllByRecursion}
 use Rattle.words36.specs.Words.{IsPpn}
 use Rattle.blockdisk.specs.Laws.{modifies_wider, modifies_start}
@@ -8,9 +8,8 @@ use Rattle.alloctab.specs.TableState.{IsFree}
 use Rattle.retrieval.specs.Primes.{with_length}
 use Rattle.retrieval.specs.Reading.{IsWholeVersion}
 use Rattle.retrieval.specs.Versions.{VersionState}
-use Rattle.retrieval.specs.Writing.{rib_count}
-use Rattle.retrieval.proofs.Taking.{fits_after, takes_all, takes_apart, takes_inside, takes_nonzero, may_be_written}
-use Rattle.retrieval.proofs.Taking.{all_of, later}
+use Rattle.retrieval.proofs.Taking.{takes_apart, takes_inside, takes_nonzero, may_be_written}
+use Rattle.retrieval.proofs.Taking.{later}
 use Rattle.meaning.proofs.Walking.{all_times}
 use Rattle.retrieval.proofs.Whole.{whole_version}
 use Rattle.retrieval.proofs.write.write_version.Goals as goal

@@ -219,8 +219,8 @@ returns-clause-room c d there prior named fits =
     let room = c.can_book.ensures.0 c.if-not-can_book.false in
     (λ any. cc, λ more. absurd (omega arith))
 
-pub hold_all-requires-clause-inside : goal.hold_all-requires-clause-inside
-hold_all-requires-clause-inside c n some =
+pub hold_blocks-requires-clause-inside : goal.hold_blocks-requires-clause-inside
+hold_blocks-requires-clause-inside c n some =
     let m = c.args.core.now in
     let size = m.table.size in
     let core = core_of m in
@@ -230,11 +230,11 @@ hold_all-requires-clause-inside c n some =
     let version : c.in-Ok.version ≡ begun c.args.kind c.args.prime (version_before core.live o) = c.in-Ok.ensures in
     let inside = begun_inside size core whole c.booked-booked.ensures.sound c.args.kind c.args.prime o is n
     (subst (λ (p : PendingVersion). 0 < times n p.version.blocks) version
-    (subst (λ l. 0 < times n l) c.blocks-2.ensures some)) in
+    (some)) in
     inside.below
 
-pub hold_all-requires-clause-fits : goal.hold_all-requires-clause-fits
-hold_all-requires-clause-fits c n =
+pub hold_blocks-requires-clause-fits : goal.hold_blocks-requires-clause-fits
+hold_blocks-requires-clause-fits c n =
     let m = c.args.core.now in
     let size = m.table.size in
     let core = core_of m in
@@ -245,7 +245,7 @@ hold_all-requires-clause-fits c n =
     let few = begun_hold size core whole c.args.kind c.args.prime o is n (c.begin_cost-cost.result)
     (c.can_book.ensures.0 c.if-not-can_book.false) in
     let once = begun_once size core whole c.booked-booked.ensures.sound c.args.kind c.args.prime o is n in
-    let same = ap (λ l. times n l) c.blocks-2.ensures ∙ ap (λ (p : PendingVersion). times n p.version.blocks) version in
+    let same = ap (λ (p : PendingVersion). times n p.version.blocks) version in
     omega arith
 
 pub returns-clause-begun : goal.returns-clause-begun
@@ -264,14 +264,13 @@ returns-clause-begun c =
     c.begin_cost-cost.ensures.value e.0 e.1 in
     let slots : c.reserve.new.self.slots ≡ m.pending.slots = ap (λ s. s.slots) c.reserve.ensures.rest_kept in
     let table : c.book.new.self
-    ≡ record m.table { held = c.hold_all.new.table.held; booked = m.table.booked + c.begin_cost-cost.result } =
-    c.book.ensures ∙ (λ i. record (c.hold_all.ensures.rest i) {
-      booked = (c.hold_all.ensures.rest i).booked + c.begin_cost-cost.result;
+    ≡ record m.table { held = c.hold_blocks.new.table.held; booked = m.table.booked + c.begin_cost-cost.result } =
+    c.book.ensures ∙ (λ i. record (c.hold_blocks.ensures.rest i) {
+      booked = (c.hold_blocks.ensures.rest i).booked + c.begin_cost-cost.result;
     }) in
-    let held : (n : ℕ) → holds c.hold_all.new.table n
+    let held : (n : ℕ) → holds c.hold_blocks.new.table n
     ≡ holds m.table n + times n (begun_version c.args.kind (version_before core.live o)).blocks = λ n.
-    c.hold_all.ensures.held n
-    ∙ ap (λ l. holds m.table n + times n l) c.blocks-2.ensures
+    c.hold_blocks.ensures.held n
     ∙ ap (λ (p : PendingVersion). holds m.table n + times n p.version.blocks) version in
     record {
       directory = e.0;
@@ -315,14 +314,13 @@ returns-clause-whole c =
     c.begin_cost-cost.ensures.value e.0 e.1 in
     let slots : c.reserve.new.self.slots ≡ m.pending.slots = ap (λ s. s.slots) c.reserve.ensures.rest_kept in
     let table : c.book.new.self
-    ≡ record m.table { held = c.hold_all.new.table.held; booked = m.table.booked + c.begin_cost-cost.result } =
-    c.book.ensures ∙ (λ i. record (c.hold_all.ensures.rest i) {
-      booked = (c.hold_all.ensures.rest i).booked + c.begin_cost-cost.result;
+    ≡ record m.table { held = c.hold_blocks.new.table.held; booked = m.table.booked + c.begin_cost-cost.result } =
+    c.book.ensures ∙ (λ i. record (c.hold_blocks.ensures.rest i) {
+      booked = (c.hold_blocks.ensures.rest i).booked + c.begin_cost-cost.result;
     }) in
-    let held : (n : ℕ) → holds c.hold_all.new.table n
+    let held : (n : ℕ) → holds c.hold_blocks.new.table n
     ≡ holds m.table n + times n (begun_version c.args.kind (version_before core.live o)).blocks = λ n.
-    c.hold_all.ensures.held n
-    ∙ ap (λ l. holds m.table n + times n l) c.blocks-2.ensures
+    c.hold_blocks.ensures.held n
     ∙ ap (λ (p : PendingVersion). holds m.table n + times n p.version.blocks) version in
     let adds : Adds m.pending.slots c.insert_reserved.new.self.slots c.insert_reserved.result
     (begun c.args.kind c.args.prime (version_before core.live o)) = record {
@@ -340,6 +338,6 @@ returns-clause-whole c =
       table = t;
     }))) (sym table)
     (begun_whole size core whole c.booked-booked.ensures.sound c.args.kind c.args.prime o is
-    c.insert_reserved.new.self.slots c.insert_reserved.result adds c.in_default.ensures c.hold_all.new.table.held held
+    c.insert_reserved.new.self.slots c.insert_reserved.result adds c.in_default.ensures c.hold_blocks.new.table.held held
     c.in_ok-place.place stands.0 e.0 stands.1.is e.1 (m.table.booked + c.begin_cost-cost.result)
     (ap (λ (n : ℕ). m.table.booked + n) cost) room)

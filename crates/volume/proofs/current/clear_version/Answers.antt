@@ -31,8 +31,8 @@ clear_all-requires-clause-set c =
     subst (λ ribs. (n : ℕ) → times n ribs ≤ bit u n) (sym c.ribs.ensures)
     (ribs_set t v.at v.version.ribs v.version.blocks c.requires.sound c.requires.set u first)
 
-pub clear_all-requires-2-clause-inside : goal.clear_all-requires-2-clause-inside
-clear_all-requires-2-clause-inside c =
+pub clear_blocks-requires-clause-inside : goal.clear_blocks-requires-clause-inside
+clear_blocks-requires-clause-inside c =
     let v = c.args.version.now in
     let t = c.args.table.now in
     let u = c.clear.new.self in
@@ -40,11 +40,10 @@ clear_all-requires-2-clause-inside c =
     let first = prime_clears t v.at v.version.ribs v.version.blocks c.requires.sound c.requires.set u
     c.clear.ensures.bits in
     let second = subst (ClearsBits u w) c.ribs.ensures c.clear_all.ensures in
-    subst (λ blocks. (n : ℕ) → 0 < times n blocks → n < w.size) (sym c.blocks-2.ensures)
     (blocks_inside t v.at v.version.ribs v.version.blocks c.requires.sound c.requires.set u w first second)
 
-pub clear_all-requires-2-clause-set : goal.clear_all-requires-2-clause-set
-clear_all-requires-2-clause-set c =
+pub clear_blocks-requires-clause-set : goal.clear_blocks-requires-clause-set
+clear_blocks-requires-clause-set c =
     let v = c.args.version.now in
     let t = c.args.table.now in
     let u = c.clear.new.self in
@@ -52,7 +51,6 @@ clear_all-requires-2-clause-set c =
     let first = prime_clears t v.at v.version.ribs v.version.blocks c.requires.sound c.requires.set u
     c.clear.ensures.bits in
     let second = subst (ClearsBits u w) c.ribs.ensures c.clear_all.ensures in
-    subst (λ blocks. (n : ℕ) → times n blocks ≤ bit w n) (sym c.blocks-2.ensures)
     (blocks_set t v.at v.version.ribs v.version.blocks c.requires.sound c.requires.set u w first second)
 
 pub returns : goal.returns
@@ -64,6 +62,6 @@ returns c =
     let first = prime_clears t v.at v.version.ribs v.version.blocks c.requires.sound c.requires.set u
     c.clear.ensures.bits in
     let second = subst (ClearsBits u w) c.ribs.ensures c.clear_all.ensures in
-    let third = subst (ClearsBits w c.clear_all-2.new.table) c.blocks-2.ensures c.clear_all-2.ensures in
-    version_clears t v.at v.version.ribs v.version.blocks c.requires.sound c.requires.set u w c.clear_all-2.new.table
+    let third = c.clear_blocks.ensures in
+    version_clears t v.at v.version.ribs v.version.blocks c.requires.sound c.requires.set u w c.clear_blocks.new.table
     first second third

@@ -27,16 +27,15 @@ hold_all-requires-clause-fits c =
     subst (λ ribs. (n : ℕ) → holds u n + times n ribs < 2 ^ 32) (sym c.ribs.ensures)
     (ribs_fit v.at v.version.ribs v.version.blocks (holds t) (holds u) c.requires.fits first)
 
-pub hold_all-requires-2-clause-inside : goal.hold_all-requires-2-clause-inside
-hold_all-requires-2-clause-inside c =
+pub hold_blocks-requires-clause-inside : goal.hold_blocks-requires-clause-inside
+hold_blocks-requires-clause-inside c =
     let v = c.args.version.now in
     let w = c.hold_all.new.table in
-    subst (λ blocks. (n : ℕ) → 0 < times n blocks → n < w.size) (sym c.blocks-2.ensures)
     (blocks_below c.args.table.now v.at v.version.ribs v.version.blocks c.requires.inside w
     (ap (λ t. t.size) c.hold_all.ensures.rest ∙ ap (λ t. t.size) c.hold.ensures))
 
-pub hold_all-requires-2-clause-fits : goal.hold_all-requires-2-clause-fits
-hold_all-requires-2-clause-fits c =
+pub hold_blocks-requires-clause-fits : goal.hold_blocks-requires-clause-fits
+hold_blocks-requires-clause-fits c =
     let v = c.args.version.now in
     let t = c.args.table.now in
     let u = c.hold.new.self in
@@ -45,7 +44,6 @@ hold_all-requires-2-clause-fits c =
     (prime_below t v.at v.version.ribs v.version.blocks c.requires.inside) c.hold.ensures in
     let second = subst (λ ribs. (n : ℕ)
     → holds w n ≡ holds u n + times n ribs) c.ribs.ensures c.hold_all.ensures.held in
-    subst (λ blocks. (n : ℕ) → holds w n + times n blocks < 2 ^ 32) (sym c.blocks-2.ensures)
     (blocks_fit v.at v.version.ribs v.version.blocks (holds t) (holds u) (holds w) c.requires.fits first second)
 
 pub returns-clause-held : goal.returns-clause-held
@@ -54,11 +52,10 @@ returns-clause-held c =
     let t = c.args.table.now in
     let u = c.hold.new.self in
     let w = c.hold_all.new.table in
-    let new = c.hold_all-2.new.table in
+    let new = c.hold_blocks.new.table in
     let first = prime_holds t u v.at c.requires.sound
     (prime_below t v.at v.version.ribs v.version.blocks c.requires.inside) c.hold.ensures in
     let second = subst (λ ribs. (n : ℕ)
     → holds w n ≡ holds u n + times n ribs) c.ribs.ensures c.hold_all.ensures.held in
-    let third = subst (λ blocks. (n : ℕ)
-    → holds new n ≡ holds w n + times n blocks) c.blocks-2.ensures c.hold_all-2.ensures.held in
+    let third = c.hold_blocks.ensures.held in
     version_holds v.at v.version.ribs v.version.blocks (holds t) (holds u) (holds w) (holds new) first second third

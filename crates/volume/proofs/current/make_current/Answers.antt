@@ -1,5 +1,5 @@
-use Rattle.std.proofs.Common.{◌≡◌, ◌+◌, ◌≤◌, ◌++◌, ◌∷◌, [], ℕ, List, true, length, map, slice_get, slice_set}
-use Rattle.std.proofs.Common.{option_to_list, Some, None, IfSome, IfNone, IsSome, refl, sym, ap, subst, ◌∙◌}
+use Rattle.std.proofs.Common.{◌≡◌, ◌+◌, ◌≤◌, ◌++◌, ◌∷◌, [], ℕ, List, true, map, slice_get, slice_set}
+use Rattle.std.proofs.Common.{option_to_list, Some, None, IfSome, IfNone, IsSome, refl, sym, ap, subst, ◌∙◌, arith}
 use Rattle.std.specs.FinMap.Entries.{find}
 use Rattle.meaning.specs.Files.{name_cmp}
 use Rattle.directory.specs.Edits.{StandsAt, IsReserve, inserted}
@@ -17,7 +17,9 @@ use Rattle.volume.proofs.BecomingCurrent.{made_current_by}
 use Rattle.std.specs.Vec.{with_item}
 use Rattle.meaning.specs.Maps.{insert, from_entries, times}
 use Rattle.alloctab.specs.TableState.{bit, holds}
+use Rattle.retrieval.specs.Runs.{ribs_of}
 use Rattle.retrieval.specs.Versions.{VersionState}
+use Rattle.retrieval.proofs.RibCounts.{ribs_few}
 use Rattle.volume.specs.Known.{blocks_reached}
 use Rattle.volume.specs.Publishing.{PutsInUse, MakesCurrent}
 use Rattle.volume.specs.declared.live.LiveMap.{LiveMap}
@@ -39,8 +41,16 @@ take_places-at-requires-clause-used c =
     let stands = c.place_of-place.ensures in
     let d = directory_there m c.requires.whole p.prime.ppn place stands.0 stands.1 in
     blocks_booked m c.requires.whole c.args.key p was (c.requires.placed p was) place stands.0 stands.1
-    d.0 d.1 c.takes_block-grows.result (length c.args.supplies.ribs.items) (c.takes_block-grows.ensures d.0 d.1)
-    (c.requires.ribs p was)
+    d.0 d.1 c.takes_block-grows.result (ribs_of p.version.blocks) (c.takes_block-grows.ensures d.0 d.1)
+    (ribs_few p.version.blocks)
+
+pub take_places-at-requires-clause-enough : goal.take_places-at-requires-clause-enough
+take_places-at-requires-clause-enough c =
+    let p = c.in-Some.field-0 in
+    let was = sym c.try_remove.ensures.value ∙ c.in-Some.is in
+    let few = ribs_few p.version.blocks in
+    let all = c.requires.ribs p was in
+    omega arith
 
 pub take_places-at-requires-clause-room : goal.take_places-at-requires-clause-room
 take_places-at-requires-clause-room c =
@@ -445,7 +455,7 @@ returns c q there =
     let makes_current = made_current_by m m' c.requires.whole c.args.key p was placed place stands.0 stands.1
     d d' at refl refl c.try_remove.ensures.updates.changed c.try_remove.ensures.updates.others
     (option_to_list taken.result.grown) taken.result.at ribs (taken.ensures.count
-    ∙ c.requires.ribs p was) taken.new.table c.retire_before.new.table c.use_current.new.table taken.ensures.taken
+    ∙ ap (λ (x : VersionState). ribs_of x.blocks) version) taken.new.table c.retire_before.new.table c.use_current.new.table taken.ensures.taken
     puts_in_use c.changes.ensures.done set c.changes.new.set c.put_entry-old.ensures.put
     c.put_entry-old.ensures.few c.changes.ensures.others
     c.changes.ensures.spells c.changes.ensures.in_range c.changes.ensures.few

@@ -1,4 +1,4 @@
-use Rattle.std.proofs.Common.{option_to_list, ap}
+use Rattle.std.proofs.Common.{option_to_list, ap, refl}
 use Rattle.volume.proofs.UsedVersions.{at_held, at_inside, puts_in_use_at, ribs_held, ribs_clear, blocks_held}
 use Rattle.volume.proofs.UsedVersions.{blocks_clear, more_held, more_inside, used_alone, used_grown}
 use Rattle.volume.proofs.current.use_version.Goals as goal
@@ -36,19 +36,19 @@ bring_all-requires-clause-clear c =
     c.requires.sound c.requires.held c.requires.clear c.use_block.new.table
     c.use_block.ensures _ c.ribs.ensures
 
-pub bring_all-requires-2-clause-held : goal.bring_all-requires-2-clause-held
-bring_all-requires-2-clause-held c =
+pub bring_blocks-requires-clause-held : goal.bring_blocks-requires-clause-held
+bring_blocks-requires-clause-held c =
     let v = c.args.live.now in
     blocks_held c.args.table.now v.at v.version.ribs v.version.blocks (option_to_list c.args.grown)
     c.requires.sound c.requires.held c.requires.clear c.use_block.new.table
-    c.use_block.ensures _ c.ribs.ensures c.bring_all.new.table c.bring_all.ensures _ c.blocks-2.ensures
+    c.use_block.ensures _ c.ribs.ensures c.bring_all.new.table c.bring_all.ensures _ refl
 
-pub bring_all-requires-2-clause-clear : goal.bring_all-requires-2-clause-clear
-bring_all-requires-2-clause-clear c =
+pub bring_blocks-requires-clause-clear : goal.bring_blocks-requires-clause-clear
+bring_blocks-requires-clause-clear c =
     let v = c.args.live.now in
     blocks_clear c.args.table.now v.at v.version.ribs v.version.blocks (option_to_list c.args.grown)
     c.requires.sound c.requires.held c.requires.clear c.use_block.new.table
-    c.use_block.ensures _ c.ribs.ensures c.bring_all.new.table c.bring_all.ensures _ c.blocks-2.ensures
+    c.use_block.ensures _ c.ribs.ensures c.bring_all.new.table c.bring_all.ensures _ refl
 
 pub use_block-requires-in-Some-clause-inside : goal.use_block-requires-in-Some-clause-inside
 use_block-requires-in-Some-clause-inside c =
@@ -56,7 +56,7 @@ use_block-requires-in-Some-clause-inside c =
     more_inside c.args.table.now v.at v.version.ribs v.version.blocks (option_to_list c.args.grown)
     c.requires.sound c.requires.held c.requires.clear c.use_block.new.table
     c.use_block.ensures _ c.ribs.ensures c.bring_all.new.table c.bring_all.ensures
-    _ c.blocks-2.ensures c.bring_all-2.new.table c.bring_all-2.ensures _ (ap option_to_list c.in-Some.is)
+    _ refl c.bring_blocks.new.table c.bring_blocks.ensures _ (ap option_to_list c.in-Some.is)
 
 pub use_block-requires-in-Some-clause-held : goal.use_block-requires-in-Some-clause-held
 use_block-requires-in-Some-clause-held c =
@@ -64,7 +64,7 @@ use_block-requires-in-Some-clause-held c =
     more_held c.args.table.now v.at v.version.ribs v.version.blocks (option_to_list c.args.grown)
     c.requires.sound c.requires.held c.requires.clear c.use_block.new.table
     c.use_block.ensures _ c.ribs.ensures c.bring_all.new.table c.bring_all.ensures
-    _ c.blocks-2.ensures c.bring_all-2.new.table c.bring_all-2.ensures _ (ap option_to_list c.in-Some.is)
+    _ refl c.bring_blocks.new.table c.bring_blocks.ensures _ (ap option_to_list c.in-Some.is)
 
 pub returns-in-Some : goal.returns-in-Some
 returns-in-Some c =
@@ -72,7 +72,7 @@ returns-in-Some c =
     used_grown c.args.table.now v.at v.version.ribs v.version.blocks (option_to_list c.args.grown)
     c.requires.sound c.requires.held c.requires.clear c.use_block.new.table
     c.use_block.ensures _ c.ribs.ensures c.bring_all.new.table c.bring_all.ensures
-    _ c.blocks-2.ensures c.bring_all-2.new.table c.bring_all-2.ensures _ (ap option_to_list c.in-Some.is)
+    _ refl c.bring_blocks.new.table c.bring_blocks.ensures _ (ap option_to_list c.in-Some.is)
     c.use_block-in-Some.new.table c.use_block-in-Some.ensures
 
 pub returns-in_default : goal.returns-in_default
@@ -81,4 +81,4 @@ returns-in_default c =
     used_alone c.args.table.now v.at v.version.ribs v.version.blocks (option_to_list c.args.grown)
     c.requires.sound c.requires.held c.requires.clear c.use_block.new.table
     c.use_block.ensures _ c.ribs.ensures c.bring_all.new.table c.bring_all.ensures
-    _ c.blocks-2.ensures c.bring_all-2.new.table c.bring_all-2.ensures (ap option_to_list c.in_default.is)
+    _ refl c.bring_blocks.new.table c.bring_blocks.ensures (ap option_to_list c.in_default.is)

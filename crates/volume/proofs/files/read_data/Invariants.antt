@@ -4,11 +4,11 @@ use Rattle.blockdisk.specs.Disk.{Keeps, SameDisk}
 use Rattle.volume.specs.FileReading.{IsWholeBlock}
 use Rattle.volume.proofs.files.read_data.Given as goal
 
-abbrev pub invariant-loop-block : goal.invariant-loop-block
-invariant-loop-block g l = record {
+abbrev pub invariant-loop-i : goal.invariant-loop-i
+invariant-loop-i g l = record {
   same : SameDisk (g.D.Disk.state l.fn.disk) (g.D.Disk.state l.disk);
   served : (g.D.Disk.state l.disk).failures ≡ (g.D.Disk.state l.fn.disk).failures;
   keeps : (g.D.Disk.state l.disk).honest → Keeps (g.D.Disk.state l.fn.disk) (g.D.Disk.state l.disk);
   whole : (g.D.Disk.state l.disk).honest
-      → AllByRecursion (IsWholeBlock (g.D.Disk.state l.fn.disk).contents) (take l.block-index l.blocks);
+      → AllByRecursion (IsWholeBlock (g.D.Disk.state l.fn.disk).contents) (take l.i l.version.blocks);
 }

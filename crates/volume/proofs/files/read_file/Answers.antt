@@ -3,7 +3,6 @@ use Rattle.std.specs.List.{AllByRecursion}
 use Rattle.std.proofs.lemmas.Result.{err_from_is_err_and}
 use Rattle.blockdisk.specs.Laws.{same_contents}
 use Rattle.blockdisk.specs.Disk.{Contents}
-use Rattle.meaning.specs.Maps.{times}
 use Rattle.meaning.specs.Faults.{InSpace}
 use Rattle.retrieval.proofs.Readings.{keeps_on}
 use Rattle.volume.specs.FileReading.{IsWholeBlock, IsVersionRefusal, IsDataRefusal, IsFileRefusal}
@@ -92,7 +91,7 @@ returns-in_err-read_data-clause-bad_data g c h k is =
     damaged_data s.size s.contents c.args.ppn c.args.name c.args.prime v.prime v.version
     (c.in_ok-stored.ensures.ok (c.read_data.ensures.same.was_honest h)) c.in_ok-stored.ensures.name
     c.in_ok-stored.ensures.ppn
-    k (subst (λ blocks. 0 < times k blocks) c.blocks-2.ensures bad.0)
+    k (bad.0)
     (sym ((c.read_named.ensures.keeps (c.read_data.ensures.same.was_honest h)).contents k) ∙ bad.1)
 
 pub returns-in_err-read_data-clause-only : goal.returns-in_err-read_data-clause-only
@@ -112,8 +111,7 @@ returns-clause-ok g c h =
     let s = g.D.Disk.state c.args.disk.now in
     let read = g.D.Disk.state c.read_named.new.disk in
     let v = c.in_ok-stored.stored in
-    let whole : AllByRecursion (IsWholeBlock read.contents) v.version.blocks = subst
-    (AllByRecursion (IsWholeBlock read.contents)) c.blocks-2.ensures (c.in_ok-read_data.ensures.ok h) in
+    let whole : AllByRecursion (IsWholeBlock read.contents) v.version.blocks = (c.in_ok-read_data.ensures.ok h) in
     file_found s.size s.contents c.args.ppn c.args.name c.args.prime v.prime v.version
     (c.in_ok-stored.ensures.ok (c.in_ok-read_data.ensures.same.was_honest h)) c.in_ok-stored.ensures.name
     c.in_ok-stored.ensures.ppn

@@ -17,12 +17,11 @@ unhold_all-requires-clause-held c =
     (ribs_held v.at v.version.ribs v.version.blocks (holds c.args.table.now) (holds c.unhold.new.self) c.requires.held
     (λ m. ap (λ t. holds t m + times m (v.at ∷ [])) c.unhold.ensures ∙ first m) n)
 
-pub unhold_all-requires-2-clause-held : goal.unhold_all-requires-2-clause-held
-unhold_all-requires-2-clause-held c =
+pub unhold_blocks-requires-clause-held : goal.unhold_blocks-requires-clause-held
+unhold_blocks-requires-clause-held c =
     let v = c.args.version.now in
     let first = prime_less v.at (v.version.ribs ++ v.version.blocks) c.args.table.now.held c.requires.held in
-    λ n. subst (λ blocks. times n blocks ≤ holds c.unhold_all.new.table n) (sym c.blocks-2.ensures)
-    (blocks_held v.at v.version.ribs v.version.blocks (holds c.args.table.now) (holds c.unhold.new.self)
+    λ n. (blocks_held v.at v.version.ribs v.version.blocks (holds c.args.table.now) (holds c.unhold.new.self)
     (holds c.unhold_all.new.table) c.requires.held (λ m. ap (λ t. holds t m + times m (v.at ∷ [])) c.unhold.ensures
     ∙ first m)
     (λ m. ap (λ ribs. holds c.unhold_all.new.table m + times m ribs) (sym c.ribs.ensures)
@@ -37,5 +36,4 @@ returns-clause-held c =
     (λ n. ap (λ t. holds t n + times n (v.at ∷ [])) c.unhold.ensures ∙ first n)
     (λ n. ap (λ ribs. holds c.unhold_all.new.table n + times n ribs) (sym c.ribs.ensures) ∙ c.unhold_all.ensures.held n)
     (λ n. ap (λ t. holds t n + times n v.version.blocks) c.unbook.ensures
-    ∙ ap (λ blocks. holds c.unhold_all-2.new.table n + times n blocks) (sym c.blocks-2.ensures)
-    ∙ c.unhold_all-2.ensures.held n)
+    ∙ c.unhold_blocks.ensures.held n)

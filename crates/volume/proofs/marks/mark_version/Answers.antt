@@ -24,38 +24,35 @@ returns-in_err-mark_all-clause-twice c n is =
     ∙ digit-marked old prime c.requires.prime (c.if-not-mark.ensures.first.0 refl) n in
     omega (arith, times_parts n prime v.ribs v.blocks)
 
-pub mark_all-requires-2 : goal.mark_all-requires-2
-mark_all-requires-2 c =
+pub mark_blocks-requires : goal.mark_blocks-requires
+mark_blocks-requires c =
     let long : length c.mark_all.new.reached ≡ length c.args.reached.now = c.mark_all.ensures.length
     ∙ ap length c.mark.ensures.marked ∙ length-set c.args.reached.now c.args.prime true in
-    subst (λ (m : ℕ). AllByRecursion (λ n. n < m) c.blocks-2.result.now) (sym long)
-    (subst (AllByRecursion (λ n. n < length c.args.reached.now)) (sym c.blocks-2.ensures) c.requires.blocks)
+    subst (λ (m : ℕ). AllByRecursion (λ n. n < m) c.args.version.now.blocks) (sym long) c.requires.blocks
 
 pub returns-clause-ok : goal.returns-clause-ok
 returns-clause-ok c =
     let old = c.args.reached.now in
     let prime = c.args.prime in
     let v = c.args.version.now in
-    on_ok c.mark_all-2.result ((n : ℕ) → digit_at c.mark_all-2.new.reached n
-    ≡ digit_at c.mark_all.new.reached n + times n c.blocks-2.result.now)
-    ((n : ℕ) → digit_at c.mark_all-2.new.reached n ≡ digit_at old n + times n (prime ∷ (v.ribs ++ v.blocks)))
+    on_ok c.mark_blocks.result ((n : ℕ) → digit_at c.mark_blocks.new.reached n
+    ≡ digit_at c.mark_all.new.reached n + times n c.args.version.now.blocks)
+    ((n : ℕ) → digit_at c.mark_blocks.new.reached n ≡ digit_at old n + times n (prime ∷ (v.ribs ++ v.blocks)))
     (λ third n.
     let ribs : times n c.ribs.result.now ≡ times n v.ribs = ap (times n) c.ribs.ensures in
-    let blocks : times n c.blocks-2.result.now ≡ times n v.blocks = ap (times n) c.blocks-2.ensures in
     let second = c.in_ok-mark_all.ensures.ok n in
     let first : digit_at c.mark.new.self n
     ≡ digit_at old n + times n (prime ∷ []) = ap (λ flags. digit_at flags n) c.mark.ensures.marked
     ∙ digit-marked old prime c.requires.prime (c.if-not-mark.ensures.first.0 refl) n in
-    omega (arith, third n, times_parts n prime v.ribs v.blocks)) c.mark_all-2.ensures.ok
+    omega (arith, third n, times_parts n prime v.ribs v.blocks)) c.mark_blocks.ensures.ok
 
 pub returns-clause-twice : goal.returns-clause-twice
 returns-clause-twice c n is =
     let old = c.args.reached.now in
     let prime = c.args.prime in
     let v = c.args.version.now in
-    let twice = c.mark_all-2.ensures.twice n is in
+    let twice = c.mark_blocks.ensures.twice n is in
     let ribs : times n c.ribs.result.now ≡ times n v.ribs = ap (times n) c.ribs.ensures in
-    let blocks : times n c.blocks-2.result.now ≡ times n v.blocks = ap (times n) c.blocks-2.ensures in
     let second = c.in_ok-mark_all.ensures.ok n in
     let first : digit_at c.mark.new.self n
     ≡ digit_at old n + times n (prime ∷ []) = ap (λ flags. digit_at flags n) c.mark.ensures.marked
@@ -81,6 +78,5 @@ returns-in_err-mark_all-clause-among c n is =
 pub returns-clause-among : goal.returns-clause-among
 returns-clause-among c n is =
     let v = c.args.version.now in
-    let among = c.mark_all-2.ensures.among n is in
-    let blocks : times n c.blocks-2.result.now ≡ times n v.blocks = ap (times n) c.blocks-2.ensures in
+    let among = c.mark_blocks.ensures.among n is in
     omega (arith, times_parts n c.args.prime v.ribs v.blocks)

@@ -1,4 +1,4 @@
-use Rattle.std.proofs.Common.{◌≡◌, length, map, Some, option_copied, refl, sym, ap, ◌∙◌, arith}
+use Rattle.std.proofs.Common.{◌≡◌, map, Some, option_copied, refl, sym, ap, ◌∙◌, arith}
 use Rattle.std.proofs.lemmas.List.{length-map}
 use Rattle.volume.specs.Cores.{file_view}
 use Rattle.volume.specs.Known.{IsWholeVersion}
@@ -48,5 +48,5 @@ returns-clause-found c =
       mode = refl;
       moment = refl;
       words = c.length.ensures;
-      blocks = ap length c.blocks-2.ensures ∙ whole.counted;
+      blocks = c.count.ensures ∙ whole.counted;
     }

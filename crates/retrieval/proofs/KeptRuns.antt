@@ -1,0 +1,244 @@
+-- Runs as they are kept: one more behind, one found, one parted, all joined.
+use Rattle.std.proofs.Common.{◌≡◌, ℕ, zero, suc, Bool, ◌+◌, ◌-◌, ◌<◌, ◌≤◌, ◌==◌, if◌then◌else◌, List, [], ◌∷◌}
+use Rattle.std.proofs.Common.{◌++◌, length, get_or, take, drop, flat_map, slice_set, Some, Option, refl, sym}
+use Rattle.std.proofs.Common.{◌∙◌, ap, subst, arith, append_assoc, length-append, append-nil}
+use Rattle.std.specs.Prelude.{slice_get, IfSome}
+use Rattle.std.proofs.lemmas.Bool.{eq-eqb, ne_eqb}
+use Rattle.std.proofs.lemmas.List.{map_more, map_push, map-append, take-append-drop, take_more_set, set_split}
+use Rattle.std.proofs.lemmas.List.{drop_more, take_at, drop_at, length-take-le, set-append_right, get_or-drop, drop-drop}
+use Rattle.std.proofs.lemmas.Option.{slice_get_read}
+use Rattle.std.proofs.lemmas.Grind.{flat_map-append}
+use Rattle.meaning.specs.Retrieval.{Run, run_blocks, count_up}
+use Rattle.retrieval.specs.Runs.{pair_of, pairs_of, blocks_of_runs, IsIn, behind, longest, AreKept}
+use Rattle.retrieval.specs.declared.run.Run.{Run as RunValue}
+use Rattle.retrieval.proofs.RunLists.{length-count_up}
+use Rattle.retrieval.proofs.LongestRuns.{longest_behind, behind_last, blocks_of_longest}
+
+-- A run behind the first so many.
+
+module _ (runs : List RunValue) (count : ℕ) (last run : RunValue) (some : 0 < count) (below : count - 1 < length runs)
+    (is : last ≡ get_or runs (count - 1) last) where
+  one_more : pairs_of (take count runs) ≡ pairs_of (take (count - 1) runs) ++ pair_of last ∷ []
+  one_more = ap (λ (k : ℕ). pairs_of (take k runs)) (let e : count ≡ count - 1 + 1 = omega arith in e)
+      ∙ map_more pair_of runs (count - 1) last below
+      ∙ ap (λ (r : RunValue). pairs_of (take (count - 1) runs) ++ pair_of r ∷ []) (sym is)
+
+  abbrev choice : Bool → List Run
+  choice b = pairs_of (take (count - 1) runs)
+      ++ (if b then (suc (last.last - last.first) + suc (run.last - run.first), last.first) ∷ []
+      else pair_of last ∷ pair_of run ∷ [])
+
+  chosen : behind (pairs_of (take count runs)) (pair_of run)
+      ≡ choice (suc (last.last - last.first) + last.first == run.first)
+  chosen = ap (λ (l : List Run). behind l (pair_of run)) one_more
+      ∙ behind_last (pairs_of (take (count - 1) runs)) (pair_of last) (pair_of run)
+
+  pub joins_last : (joined : RunValue) → suc (last.last - last.first) + last.first ≡ run.first
+      → pair_of joined ≡ (suc (last.last - last.first) + suc (run.last - run.first), last.first)
+      → pairs_of (take (count - 1) runs) ++ pair_of joined ∷ [] ≡ behind (pairs_of (take count runs)) (pair_of run)
+  joins_last joined adjoins joined_is =
+      ap (λ (r : Run). pairs_of (take (count - 1) runs) ++ r ∷ []) joined_is
+      ∙ sym (chosen ∙ ap choice (eq-eqb (suc (last.last - last.first) + last.first) run.first adjoins))
+
+  pub stands_apart : (suc (last.last - last.first) + last.first ≡ run.first → ⊥)
+      → pairs_of (take count runs) ++ pair_of run ∷ [] ≡ behind (pairs_of (take count runs)) (pair_of run)
+  stands_apart apart =
+      ap (λ (l : List Run). l ++ pair_of run ∷ []) one_more
+      ∙ append_assoc (pairs_of (take (count - 1) runs)) (pair_of last ∷ []) (pair_of run ∷ [])
+      ∙ sym (chosen ∙ ap choice (ne_eqb (suc (last.last - last.first) + last.first) run.first apart))
+
+pub none_before : (runs : List RunValue) (count : ℕ) (run : RunValue) → count ≡ 0
+    → pairs_of (take count runs) ++ pair_of run ∷ [] ≡ behind (pairs_of (take count runs)) (pair_of run)
+none_before runs count run is = subst
+    (λ (k : ℕ). pairs_of (take k runs) ++ pair_of run ∷ [] ≡ behind (pairs_of (take k runs)) (pair_of run)) (sym is) refl
+
+-- Another run at the place before the first so many end, and behind them.
+
+pub set_before : (runs : List RunValue) (count : ℕ) (run : RunValue) → 0 < count → count ≤ length runs
+    → pairs_of (take count (slice_set runs (count - 1) run)) ≡ pairs_of (take (count - 1) runs) ++ pair_of run ∷ []
+set_before runs count run some few =
+    ap (λ (k : ℕ). pairs_of (take k (slice_set runs (count - 1) run))) (let e : count ≡ count - 1 + 1 = omega arith in e)
+    ∙ ap pairs_of (take_more_set runs (count - 1) run (omega arith))
+    ∙ map_push pair_of (take (count - 1) runs) run
+
+pub set_behind : (runs : List RunValue) (count : ℕ) (run : RunValue) → count < length runs
+    → pairs_of (take (count + 1) (slice_set runs count run)) ≡ pairs_of (take count runs) ++ pair_of run ∷ []
+set_behind runs count run below = ap pairs_of (take_more_set runs count run below) ∙ map_push pair_of (take count runs) run
+
+-- One run more, by the first so many.
+
+pub blocks_more : (runs : List RunValue) (i : ℕ) (run : RunValue) → i < length runs → run ≡ get_or runs i run
+    → blocks_of_runs (take (i + 1) runs) ≡ blocks_of_runs (take i runs) ++ run_blocks (pair_of run)
+blocks_more runs i run below is =
+    ap (flat_map run_blocks) (map_more pair_of runs i run below)
+    ∙ flat_map-append run_blocks (pairs_of (take i runs)) (pair_of (get_or runs i run) ∷ [])
+    ∙ ap (λ (l : List ℕ). blocks_of_runs (take i runs) ++ l) (append-nil (run_blocks (pair_of (get_or runs i run))))
+    ∙ ap (λ (r : RunValue). blocks_of_runs (take i runs) ++ run_blocks (pair_of r)) (sym is)
+
+pub length_more : (runs : List RunValue) (i : ℕ) (run : RunValue) → i < length runs → run ≡ get_or runs i run
+    → length (blocks_of_runs (take (i + 1) runs)) ≡ length (blocks_of_runs (take i runs)) + suc (run.last - run.first)
+length_more runs i run below is =
+    let a = ap length (blocks_more runs i run below is) in
+    let b = length-append (blocks_of_runs (take i runs)) (run_blocks (pair_of run)) in
+    let d = length-count_up (suc (run.last - run.first)) run.first in
+    omega arith
+
+blocks_append : (a b : List RunValue) → blocks_of_runs (a ++ b) ≡ blocks_of_runs a ++ blocks_of_runs b
+blocks_append a b = ap (flat_map run_blocks) (map-append pair_of a b)
+    ∙ flat_map-append run_blocks (pairs_of a) (pairs_of b)
+
+-- before a run, it, and behind it
+parted : (runs : List RunValue) (i : ℕ) (run : RunValue) → i < length runs → run ≡ get_or runs i run
+    → blocks_of_runs runs ≡ blocks_of_runs (take i runs)
+    ++ (run_blocks (pair_of run) ++ blocks_of_runs (drop (i + 1) runs))
+parted runs i run below is =
+    ap blocks_of_runs (sym (take-append-drop i runs))
+    ∙ blocks_append (take i runs) (drop i runs)
+    ∙ ap (λ (l : List RunValue). blocks_of_runs (take i runs) ++ blocks_of_runs l)
+    (drop_more runs i run below ∙ ap (λ (r : RunValue). r ∷ drop (i + 1) runs) (sym is))
+
+-- A block that was found.
+
+pub found : (runs : List RunValue) (i r left : ℕ) (run : RunValue) → r < length runs → run ≡ get_or runs r run
+    → left + length (blocks_of_runs (take r runs)) ≡ i → left < suc (run.last - run.first) → IsIn runs i r left
+found runs i r left run below is at inside = record {
+  below = below;
+  inside = subst (λ (o : Option RunValue). IfSome o (λ run. left ≤ run.last - run.first))
+      (sym (slice_get_read runs (length runs) r run refl below is)) (omega arith);
+  is = omega arith;
+}
+
+pub offset_at : (runs : List RunValue) (r offset : ℕ) (run : RunValue) → r < length runs → run ≡ get_or runs r run
+    → IfSome (slice_get runs r) (λ run. offset ≤ run.last - run.first) → offset ≤ run.last - run.first
+offset_at runs r offset run below is inside =
+    subst (λ (o : Option RunValue). IfSome o (λ run. offset ≤ run.last - run.first))
+    (slice_get_read runs (length runs) r run refl below is) inside
+
+pub offset_of : (runs : List RunValue) (i r offset : ℕ) (run : RunValue) → IsIn runs i r offset
+    → run ≡ get_or runs r run → offset ≤ run.last - run.first
+offset_of runs i r offset run is_in is = offset_at runs r offset run is_in.below is is_in.inside
+
+get_behind : (a b : List ℕ) (o : ℕ) → slice_get (a ++ b) (length a + o) ≡ slice_get b o
+get_behind [] b o = let e : 0 + o ≡ o = omega arith in ap (slice_get b) e
+get_behind (x ∷ a) b o = let e : suc (length a) + o ≡ suc (length a + o) = omega arith in
+    ap (slice_get (x ∷ (a ++ b))) e ∙ get_behind a b o
+
+get_up : (count first o : ℕ) (rest : List ℕ) → o < count → slice_get (count_up count first ++ rest) o ≡ Some (first + o)
+get_up zero first o rest below = absurd (omega arith)
+get_up (suc count) first zero rest below = let e : first ≡ first + zero = omega arith in ap Some e
+get_up (suc count) first (suc o) rest below = get_up count (suc first) o rest (omega arith)
+    ∙ (let e : suc first + o ≡ first + suc o = omega arith in ap Some e)
+
+pub block_in : (runs : List RunValue) (i r offset : ℕ) (run : RunValue) → IsIn runs i r offset → run ≡ get_or runs r run
+    → slice_get (blocks_of_runs runs) i ≡ Some (run.first + offset)
+block_in runs i r offset run is_in is =
+    let before = blocks_of_runs (take r runs) in
+    let rest = blocks_of_runs (drop (r + 1) runs) in
+    ap (λ (l : List ℕ). slice_get l i) (parted runs r run is_in.below is)
+    ∙ ap (slice_get (before ++ (run_blocks (pair_of run) ++ rest))) (sym is_in.is)
+    ∙ get_behind before (run_blocks (pair_of run) ++ rest) offset
+    ∙ get_up (suc (run.last - run.first)) run.first offset rest
+    (let e = offset_of runs i r offset run is_in is in omega arith)
+
+-- One block more behind the last.
+
+pub pushed : (old new : List RunValue) (n : ℕ) → pairs_of old ≡ longest (blocks_of_runs old)
+    → pairs_of new ≡ behind (pairs_of old) (1, n)
+    → (pairs_of new ≡ longest (blocks_of_runs old ++ n ∷ [])) × (blocks_of_runs new ≡ blocks_of_runs old ++ n ∷ [])
+pushed old new n is more =
+    let whole : pairs_of new ≡ longest (blocks_of_runs old ++ n ∷ []) = more
+    ∙ ap (λ (l : List Run). behind l (1, n)) is ∙ sym (longest_behind (blocks_of_runs old) 0 n) in
+    (whole, ap (flat_map run_blocks) whole ∙ blocks_of_longest (blocks_of_runs old ++ n ∷ []))
+
+pub kept_more : (old new : List RunValue) (count now n : ℕ) → AreKept old count
+    → pairs_of new ≡ behind (pairs_of old) (1, n) → now ≡ count + 1 → AreKept new now
+kept_more old new count now n kept more is =
+    let both = pushed old new n kept.are_longest more in
+    record {
+      are_longest = both.0 ∙ ap longest (sym both.1);
+      counted = let a = ap length both.1 in let b = length-append (blocks_of_runs old) (n ∷ []) in
+          let e = kept.counted in omega arith;
+    }
+
+-- Runs that are joined from the first on.
+
+pub drop_later : (xs ys : List RunValue) (i j : ℕ) → i ≤ j → drop i xs ≡ drop i ys → drop j xs ≡ drop j ys
+drop_later xs ys i j less is =
+    let e : j ≡ i + (j - i) = omega arith in
+    ap (λ (k : ℕ). drop k xs) e ∙ sym (drop-drop (j - i) i xs) ∙ ap (drop (j - i)) is ∙ drop-drop (j - i) i ys
+    ∙ sym (ap (λ (k : ℕ). drop k ys) e)
+
+pub same_at : (xs ys : List RunValue) (i : ℕ) (run : RunValue) → drop i xs ≡ drop i ys → run ≡ get_or xs i run
+    → run ≡ get_or ys i run
+same_at xs ys i run same is =
+    let e : i + 0 ≡ i = omega arith in
+    is ∙ sym (ap (λ (k : ℕ). get_or xs k run) e) ∙ sym (get_or-drop i xs 0 run)
+    ∙ ap (λ (l : List RunValue). get_or l 0 run) same ∙ get_or-drop i ys 0 run ∙ ap (λ (k : ℕ). get_or ys k run) e
+
+pub joined_more : (old : List RunValue) (before now : List Run) (i : ℕ) (run : RunValue) → i < length old
+    → run ≡ get_or old i run → before ≡ longest (blocks_of_runs (take i old)) → now ≡ behind before (pair_of run)
+    → now ≡ longest (blocks_of_runs (take (i + 1) old))
+joined_more old before now i run below is was more =
+    more ∙ ap (λ (l : List Run). behind l (pair_of run)) was
+    ∙ sym (longest_behind (blocks_of_runs (take i old)) (run.last - run.first) run.first)
+    ∙ ap longest (sym (blocks_more old i run below is))
+
+-- A run that is parted.
+
+set_up : (o count first n : ℕ) (rest : List ℕ) → o ≤ count → slice_set (count_up (suc count) first ++ rest) o n
+    ≡ count_up o first ++ (n ∷ (count_up (count - o) (first + o + 1) ++ rest))
+set_up zero count first n rest few =
+    let e : count ≡ count - 0 = omega arith in
+    let f : suc first ≡ first + 0 + 1 = omega arith in
+    λ i. n ∷ (count_up (e i) (f i) ++ rest)
+set_up (suc o) zero first n rest few = absurd (omega arith)
+set_up (suc o) (suc count) first n rest few =
+    let e : count - o ≡ suc count - suc o = omega arith in
+    let f : suc first + o + 1 ≡ first + suc o + 1 = omega arith in
+    ap (λ (l : List ℕ). first ∷ l) (set_up o count (suc first) n rest (omega arith))
+    ∙ (λ i. first ∷ (count_up o (suc first) ++ (n ∷ (count_up (e i) (f i) ++ rest))))
+
+module _ (old with_one with_tail new : List RunValue) (at n : ℕ) (one run : RunValue) (head tail : List ℕ) where
+  pub parts_put : at < length old → with_one ≡ slice_set old at one → pair_of one ≡ (1, n)
+      → take (at + 1) with_tail ≡ take (at + 1) with_one
+      → blocks_of_runs (drop (at + 1) with_tail) ≡ tail ++ blocks_of_runs (drop (at + 1) with_one)
+      → take at new ≡ take at with_tail → blocks_of_runs (drop at new) ≡ head ++ blocks_of_runs (drop at with_tail)
+      → blocks_of_runs new ≡ blocks_of_runs (take at old)
+      ++ (head ++ (n ∷ (tail ++ blocks_of_runs (drop (at + 1) old))))
+  parts_put below first one_is front behind' front' behind'' =
+      let early = take at old in
+      let late = drop (at + 1) with_tail in
+      let long : length early ≡ at = length-take-le at old (omega arith) in
+      let whole : with_tail ≡ early ++ one ∷ late = sym (take-append-drop (at + 1) with_tail)
+      ∙ ap (λ (l : List RunValue). l ++ late) (front ∙ ap (take (at + 1)) first ∙ take_more_set old at one below)
+      ∙ append_assoc early (one ∷ []) late in
+      let ends : drop (at + 1) with_one ≡ drop (at + 1) old = ap (drop (at + 1)) first
+      ∙ (let e : at + 1 ≡ suc at = omega arith in
+      ap (λ (l : List RunValue). drop (at + 1) l) (set_split old at one below)
+      ∙ sym (drop-drop 1 at (early ++ one ∷ drop (suc at) old))
+      ∙ ap (drop 1) (drop_at early (one ∷ drop (suc at) old) at long) ∙ ap (λ (k : ℕ). drop k old) (sym e)) in
+      ap blocks_of_runs (sym (take-append-drop at new))
+      ∙ blocks_append (take at new) (drop at new)
+      ∙ ap (λ (l : List RunValue). blocks_of_runs l ++ blocks_of_runs (drop at new))
+      (front' ∙ ap (take at) whole ∙ take_at early (one ∷ late) at long)
+      ∙ ap (λ (l : List ℕ). blocks_of_runs early ++ l)
+      (behind'' ∙ ap (λ (l : List RunValue). head ++ blocks_of_runs l)
+      (ap (drop at) whole ∙ drop_at early (one ∷ late) at long)
+      ∙ ap (λ (r : Run). head ++ (run_blocks r ++ blocks_of_runs late)) one_is
+      ∙ ap (λ (l : List ℕ). head ++ (n ∷ l)) (behind' ∙ ap (λ (l : List RunValue). tail ++ blocks_of_runs l) ends))
+
+  pub put_in : (offset : ℕ) → at < length old → run ≡ get_or old at run → offset ≤ run.last - run.first
+      → head ≡ count_up offset run.first → tail ≡ count_up (run.last - run.first - offset) (run.first + offset + 1)
+      → blocks_of_runs new ≡ blocks_of_runs (take at old)
+      ++ (head ++ (n ∷ (tail ++ blocks_of_runs (drop (at + 1) old))))
+      → blocks_of_runs new ≡ slice_set (blocks_of_runs old) (length (blocks_of_runs (take at old)) + offset) n
+  put_in offset below is few head_is tail_is whole =
+      let before = blocks_of_runs (take at old) in
+      let rest = blocks_of_runs (drop (at + 1) old) in
+      let all = run_blocks (pair_of run) ++ rest in
+      let back : length before + offset - length before ≡ offset = omega arith in
+      whole ∙ (λ i. before ++ (head_is i ++ (n ∷ (tail_is i ++ rest))))
+      ∙ ap (λ (l : List ℕ). before ++ l) (sym (set_up offset (run.last - run.first) run.first n rest few))
+      ∙ ap (λ (k : ℕ). before ++ slice_set all k n) (sym back)
+      ∙ sym (set-append_right before all (length before) (length before + offset) n refl (omega arith))
+      ∙ ap (λ (l : List ℕ). slice_set l (length before + offset) n) (sym (parted old at run below is))

@@ -1,0 +1,19 @@
+use Rattle.std.proofs.Common.{◌≡◌, ◌-◌, ◌++◌, ◌∷◌, [], ◌∙◌, ap, sym, subst, length, take, List, slice_set, arith, rules}
+use Rattle.std.proofs.lemmas.List.{take_all, length-set}
+use Rattle.retrieval.specs.Runs.{pairs_of, pair_of, behind}
+use Rattle.retrieval.specs.declared.run.Run.{Run as RunValue}
+use Rattle.retrieval.proofs.KeptRuns.{set_before}
+use Rattle.retrieval.proofs.block_list.push_run.Goals as goal
+
+pub returns-in-Some-clause-ok : goal.returns-in-Some-clause-ok
+returns-in-Some-clause-ok c =
+    let runs = c.args.runs.now.items in
+    let count = c.len-count.result in
+    let joined = c.in-Some.joined in
+    let all : count ≡ length runs = search rules in
+    let set = slice_set runs (count - 1) joined in
+    ap pairs_of (sym (take_all count set (let e = length-set runs (count - 1) joined in omega arith)))
+    ∙ set_before runs count joined c.in-Some.ensures.some (omega arith)
+    ∙ subst (λ (l : List RunValue). pairs_of (take (count - 1) l) ++ pair_of joined ∷ []
+    ≡ behind (pairs_of (take count l)) (pair_of c.args.run)) c.deref.ensures.value c.in-Some.ensures.joins
+    ∙ ap (λ (l : List RunValue). behind (pairs_of l) (pair_of c.args.run)) (take_all count runs (omega arith))

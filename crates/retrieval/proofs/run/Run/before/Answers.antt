@@ -1,0 +1,9 @@
+use Rattle.std.proofs.Common.{◌≡◌, ◌+◌, ◌-◌, suc, arith}
+use Rattle.meaning.specs.Retrieval.{count_up}
+use Rattle.retrieval.proofs.run.Run.before.Goals as goal
+
+pub returns : goal.returns
+returns c =
+    let some = c.if-offset-eq0.false in
+    let e : suc (c.args.self.first + (c.args.offset - 1) - c.args.self.first) ≡ c.args.offset = omega arith in
+    λ i. count_up (e i) c.args.self.first

@@ -1,0 +1,76 @@
+ghost use Rattle.std.specs.Prelude.{◌≡◌, ◌+◌, ◌-◌, ◌≤◌, ◌^◌, ◌↔◌, suc, IsTrue};
+ghost use Rattle.meaning.specs.Retrieval.{count_up};
+ghost use Rattle.retrieval.specs.Runs.{pair_of, part_blocks};
+
+use crate::run::Run;
+
+impl Run {
+    /// The run of one block.
+    pub(crate) fn of(n: u32) -> Run
+        ensures { pair_of result ≡ (1, n) }
+    {
+        Run { first: n, last: n }
+    }
+
+    /// How many blocks there are.
+    pub(crate) fn count(self) -> usize
+        ensures value { result ≡ suc (self.last - self.first) }
+        ensures few { result ≤ 2 ^ 32 }
+    {
+        (self.last - self.first) as usize + 1
+    }
+
+    /// The block at a place in it, counted from 0.
+    pub(crate) fn at(self, offset: u32) -> u32
+        requires { offset ≤ self.last - self.first }
+        ensures { result ≡ self.first + offset }
+    {
+        self.first + offset
+    }
+
+    /// Whether another run begins just behind this one.
+    pub(crate) fn adjoins(self, other: Run) -> bool
+        ensures { IsTrue result ↔ (suc (self.last - self.first) + self.first ≡ other.first) }
+    {
+        self.last.checked_add(1) == Some(other.first)
+    }
+
+    /// This run and one that begins just behind it.
+    pub(crate) fn joined(self, other: Run) -> Run
+        requires { suc (self.last - self.first) + self.first ≡ other.first }
+        ensures { pair_of result ≡ (suc (self.last - self.first) + suc (other.last - other.first), self.first) }
+    {
+        Run {
+            first: self.first,
+            last: other.last,
+        }
+    }
+
+    /// The blocks before a place, where there are any.
+    pub(crate) fn before(self, offset: u32) -> Option<Run>
+        requires { offset ≤ self.last - self.first }
+        ensures { part_blocks result ≡ count_up offset self.first }
+    {
+        if offset == 0 {
+            return None;
+        }
+        Some(Run {
+            first: self.first,
+            last: self.first + (offset - 1),
+        })
+    }
+
+    /// The blocks behind a place, where there are any.
+    pub(crate) fn behind(self, offset: u32) -> Option<Run>
+        requires { offset ≤ self.last - self.first }
+        ensures { part_blocks result ≡ count_up (self.last - self.first - offset) (self.first + offset + 1) }
+    {
+        if offset == self.last - self.first {
+            return None;
+        }
+        Some(Run {
+            first: self.first + offset + 1,
+            last: self.last,
+        })
+    }
+}

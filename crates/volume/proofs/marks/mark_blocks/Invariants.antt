@@ -1,0 +1,10 @@
+use Rattle.std.proofs.Common.{◌≡◌, ◌+◌, ℕ, length, take}
+use Rattle.meaning.specs.Maps.{times}
+use Rattle.alloctab.specs.Lists.{digit_at}
+use Rattle.volume.proofs.marks.mark_blocks.Given as goal
+
+abbrev pub invariant-loop-i : goal.invariant-loop-i
+invariant-loop-i l = record {
+  long : length l.reached ≡ length l.fn.reached;
+  marked : (n : ℕ) → digit_at l.reached n ≡ digit_at l.fn.reached n + times n (take l.i l.version.blocks);
+}
