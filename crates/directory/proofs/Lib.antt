@@ -1,3 +1,4 @@
+mod Growing
 mod Parsing
 mod Images
 mod BlockReading

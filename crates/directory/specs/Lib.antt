@@ -1,4 +1,5 @@
 pub mod Chains
 pub mod ChainLaws
 pub mod Loading
+pub mod Rooms
 pub mod Edits

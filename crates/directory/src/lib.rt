@@ -27,6 +27,7 @@
 
 mod chain;
 mod edit;
+mod entries;
 mod entry;
 mod error;
 mod file;
@@ -38,6 +39,7 @@ mod load;
 mod master;
 mod parse;
 mod reserve;
+mod room;
 
 pub use chain::Chain;
 pub use entry::{Entry, EntryFault};
