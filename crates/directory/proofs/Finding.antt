@@ -31,7 +31,7 @@ if_none None e h = h
 if_none (Some x) e h = absurd (true_false (sym e))
 
 module _ {K V : Type 0} {R : K → K → Ordering} (o : IsTotalOrder R) where
-  find_at : (items : List (K × V)) (i : ℕ) (k : K) (v : V) → slice_get items i ≡ Some (k, v)
+  pub find_at : (items : List (K × V)) (i : ℕ) (k : K) (v : V) → slice_get items i ≡ Some (k, v)
       → find R k (take i items) ≡ None → find R k items ≡ Some v
   find_at [] i k v is none = absurd (some_none (sym is))
   find_at (y ∷ ys) zero k v is none = let e : y ≡ (k, v) = some_same is in

@@ -37,6 +37,7 @@ mod laws;
 mod list;
 mod load;
 mod master;
+mod order;
 mod parse;
 mod reserve;
 mod room;

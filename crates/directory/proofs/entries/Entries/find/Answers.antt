@@ -1,3 +1,4 @@
+use Rattle.directory.proofs.Indexing.{index_set}
 use Rattle.std.proofs.Common.{◌<◌, length, get_or, sym, ap, subst, ◌∙◌}
 use Rattle.std.specs.Ordering.{is_eq}
 use Rattle.directory.proofs.Finding.{not_yet, found_at}
