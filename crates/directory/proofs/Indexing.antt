@@ -3,7 +3,7 @@
 use Rattle.std.proofs.Common.{◌≡◌, ◌⊎◌, inl, inr, ℕ, zero, suc, ◌+◌, ◌-◌, ◌<◌, ◌≤◌, List, [], ◌∷◌, ◌++◌, length, take}
 use Rattle.std.proofs.Common.{drop, map, get_or, slice_set, slice_get, swap_remove, Option, Some, None, refl, sym, ap, subst}
 use Rattle.std.proofs.Common.{◌∙◌, Bool, true, false, cond, Ordering, Less, Equal, Greater, arith, length-append}
-use Rattle.std.proofs.lemmas.List.{length-map, get_or-map, take-map, map-set, length-set, length-take-le, get_or-take, get_or-drop, length-take, length-drop}
+use Rattle.std.proofs.lemmas.List.{length-map, map_push, get_or-map, take-map, map-set, length-set, length-take-le, get_or-take, get_or-drop, length-take, length-drop}
 use Rattle.std.proofs.lemmas.List.Elements.{All-from_recursion, recursion_from_All}
 use Rattle.std.proofs.lemmas.Option.{slice_get_within, slice_get-get_or, get_or_from_slice_get}
 use Rattle.std.specs.List.{AllByRecursion, HoldsAt}
@@ -21,7 +21,7 @@ use Rattle.directory.specs.Edits.{StandsAt}
 use Rattle.directory.specs.Indexes.{order_to, HasKeyAt, Precedes, AreRising, Compares, IsGap, IsEntered, IsIndex, IsLeft}
 use Rattle.directory.proofs.Finding.{find_at}
 use Rattle.directory.proofs.Orders.{one, one_same, one_other, same_or_not, strict, all_in, all_at, all_take, all_drop, times_left}
-use Rattle.directory.proofs.Orders.{times_entered, times_parts, times_at, get_within, get-take, taken, get-set_same}
+use Rattle.directory.proofs.Orders.{length_left, length_entered, times_entered, times_parts, times_at, get_within, get-take, taken, get-set_same}
 use Rattle.directory.proofs.Orders.{get-set_other, get-push, get-push_last}
 
 less_or_equal : Less ≡ Equal → ⊥
@@ -344,6 +344,7 @@ module _ {K V : Type 0} {R : K → K → Ordering} (o : IsTotalOrder R) (exact :
     rising = subst (AreRising {V = V} R []) (sym none) tt;
     inside = λ p h. absurd (omega arith);
     outside = λ p h. ap (times p) none;
+    counted = ap length none;
   }
 
   -- an entry comes behind the others
@@ -366,6 +367,8 @@ module _ {K V : Type 0} {R : K → K → Ordering} (o : IsTotalOrder R) (exact :
         inside = λ p h. step p (same_or_not p (length items)) (count p) h;
         outside = λ p h. let c = count p in let other = one_other p (length items) (λ s. omega arith) in
             let none = index.outside p (omega arith) in omega arith;
+        counted = let was = index.counted in
+            let grown = ap length entered.is ∙ length_entered order entered.at (length items) in omega arith;
       }
     where
       step : (p : ℕ) → (p ≡ length items) ⊎ (p ≡ length items → ⊥)
@@ -374,6 +377,20 @@ module _ {K V : Type 0} {R : K → K → Ordering} (o : IsTotalOrder R) (exact :
           let none = index.outside p (omega arith) in omega arith
       step p (inr other) c h = let many = length-append items (e ∷ []) in let s = one_other p (length items) other in
           let was = index.inside p (omega arith) in omega arith
+
+  -- the same of a list, as it is seen
+  pub pushed_index : {E : Type 0} (view : E → K × V) (list seen : List E) (e : E) (k : K) (n : ℕ) (order before new : List ℕ)
+      → seen ≡ list → k ≡ (view e).0 → n ≡ length list → before ≡ order → IsIndex R (map view list) order
+      → IsEntered R (map view seen) k n before new → (all : List E) → all ≡ list ++ e ∷ []
+      → IsIndex R (map view all) new
+  pushed_index view list seen e k n order before new same key many was index entered all more =
+      let first = subst (λ es. IsEntered R (map view es) k n before new) same entered in
+      let second = subst (λ q. IsEntered R (map view list) q n before new) key first in
+      let third = subst (λ m. IsEntered R (map view list) (view e).0 m before new)
+      (many ∙ sym (length-map list view)) second in
+      let fourth = subst (λ ps. IsEntered R (map view list) (view e).0 (length (map view list)) ps new) was third in
+      subst (λ es. IsIndex R es new) (sym (ap (map view) more ∙ map_push view list e))
+      (index_pushed (map view list) (view e) order new index fourth)
 
   -- an entry comes in the place of another: its place leaves the order and comes in again
   pub index_set : (items : List (K × V)) (i : ℕ) (e : K × V) (order less new : List ℕ) → i < length items
@@ -386,6 +403,10 @@ module _ {K V : Type 0} {R : K → K → Ordering} (o : IsTotalOrder R) (exact :
             gap.low gap.high rising);
         inside = λ p h. let m = many in let a = back p in let b = index.inside p (omega arith) in omega arith;
         outside = λ p h. let m = many in let a = back p in let b = index.outside p (omega arith) in omega arith;
+        counted = let m = many in let was = index.counted in
+            let grown = ap length entered.is ∙ length_entered less entered.at i in
+            let shrunk : suc (length less) ≡ length order = ap (λ ps. suc (length ps)) left.is
+            ∙ length_left order left.at i left.was in omega arith;
       }
     where
       after : List (K × V)
@@ -431,6 +452,9 @@ module _ {K V : Type 0} {R : K → K → Ordering} (o : IsTotalOrder R) (exact :
         inside = λ p h. let m = many in let f = fewer p in let was = index.inside p (omega arith) in
             let other = one_other p i (λ s. omega arith) in omega arith;
         outside = λ p h. let m = many in step p (same_or_not p i) (omega arith);
+        counted = let m = many in let was = index.counted in
+            let shrunk : suc (length new) ≡ length order = ap (λ ps. suc (length ps)) left.is
+            ∙ length_left order left.at i left.was in omega arith;
       }
     where
       after : List (K × V)
@@ -477,6 +501,12 @@ module _ {K V : Type 0} {R : K → K → Ordering} (o : IsTotalOrder R) (exact :
         inside = λ p h. let m = many in let b = back p in let was = index.inside p (omega arith) in
             let s = one_other p (length items - 1) (λ t. omega arith) in omega arith;
         outside = λ p h. let m = many in step p (same_or_not p (length items - 1)) (omega arith);
+        counted = let m = many in let was = index.counted in
+            let grown = ap length entered.is ∙ length_entered least entered.at i in
+            let shrunk : suc (length less) ≡ length order = ap (λ ps. suc (length ps)) left.is
+            ∙ length_left order left.at i left.was in
+            let again : suc (length least) ≡ length less = ap (λ ps. suc (length ps)) left'.is
+            ∙ length_left less left'.at (length items - 1) left'.was in omega arith;
       }
     where
       near : i < length items - 1

@@ -72,6 +72,17 @@ times_entered ps zero q p = refl
 times_entered [] (suc i) q p = refl
 times_entered (r ∷ ps) (suc i) q p = let h = times_entered ps i q p in omega arith
 
+pub length_left : (ps : List ℕ) (i q : ℕ) → slice_get ps i ≡ Some q
+    → suc (length (take i ps ++ drop (suc i) ps)) ≡ length ps
+length_left [] i q is = absurd (some_none (sym is))
+length_left (r ∷ ps) zero q is = refl
+length_left (r ∷ ps) (suc i) q is = ap suc (length_left ps i q is)
+
+pub length_entered : (ps : List ℕ) (i q : ℕ) → length (take i ps ++ q ∷ drop i ps) ≡ suc (length ps)
+length_entered ps zero q = refl
+length_entered [] (suc i) q = refl
+length_entered (r ∷ ps) (suc i) q = ap suc (length_entered ps i q)
+
 pub times_parts : (ps : List ℕ) (i p : ℕ) → times p (take i ps) + times p (drop i ps) ≡ times p ps
 times_parts ps zero p = omega arith
 times_parts [] (suc i) p = omega arith

@@ -11,12 +11,13 @@ use Rattle.directory.specs.Rooms.{IsRoomFor}
 module _ {E K V : Type 0} {R : K → K → Ordering} (view : E → K × V) (old : ChainState E) (k : K) where
   -- what is found is enough
   pub found_reserve : (room : Places) → IsRoomFor (length old.entries) room.entries
-      → (length old.entries ≡ 42 * length old.blocks → IsRoomFor (length old.blocks) room.blocks)
+      → IsRoomFor (length old.entries) room.order → (length old.entries ≡ 42 * length old.blocks → IsRoomFor (length old.blocks) room.blocks)
       → IsReserve R (viewed view old) k room
-  found_reserve room entries blocks =
+  found_reserve room entries order blocks =
       let many = length-map old.entries view in
       record {
         entries = λ none. subst (λ n. IsRoomFor n room.entries) (sym many) entries;
+        order = λ none. subst (λ n. IsRoomFor n room.order) (sym many) order;
         blocks = λ takes. blocks (sym many ∙ takes.1);
       }
 
@@ -24,6 +25,7 @@ module _ {E K V : Type 0} {R : K → K → Ordering} (view : E → K × V) (old 
   pub no_reserve : (room : Places) → (find R k (map view old.entries) ≡ None → ⊥) → IsReserve R (viewed view old) k room
   no_reserve room there = record {
     entries = λ none. absurd (there none);
+    order = λ none. absurd (there none);
     blocks = λ takes. absurd (there takes.0);
   }
 
@@ -31,6 +33,9 @@ module _ {E K V : Type 0} {R : K → K → Ordering} (view : E → K × V) (old 
       (none : find R k (map view old.entries) ≡ None) where
     pub room_entries : IsRoomFor (length old.entries) room.entries
     room_entries = subst (λ n. IsRoomFor n room.entries) (length-map old.entries view) (is_reserve.entries none)
+
+    pub room_order : IsRoomFor (length old.entries) room.order
+    room_order = subst (λ n. IsRoomFor n room.order) (length-map old.entries view) (is_reserve.order none)
 
     -- for the block, where it is taken
     pub room_block : (block : Option ℕ) → MatchOption block (length old.entries ≡ 42 * length old.blocks

@@ -22,6 +22,8 @@ last_first xs = drop (length xs - 1) xs ++ take (length xs - 1) xs
 pub record Places : Type 0 where
   pub blocks : ℕ
   pub entries : ℕ
+  -- for the places of the entries by rising keys
+  pub order : ℕ
 
 module _ {K V : Type 0} (R : K → K → Ordering) where
   -- The first entry with this key stands at place i, counted from 0.
@@ -38,6 +40,7 @@ module _ {K V : Type 0} (R : K → K → Ordering) where
   -- Memory for an entry more, where the key has none yet, and for the block that the chain takes for it.
   pub record IsReserve (chain : ChainState (K × V)) (k : K) (reserve : Places) : Type 0 where
     pub entries : find R k chain.entries ≡ None → IsRoomFor (length chain.entries) reserve.entries
+    pub order : find R k chain.entries ≡ None → IsRoomFor (length chain.entries) reserve.order
     pub blocks : TakesBlock chain k → IsRoomFor (length chain.blocks) reserve.blocks
 
   -- the entries with this one: in the place of the one with its key, or at the end

@@ -45,6 +45,7 @@ module _ {K V : Type 0} (R : K → K → Ordering) (items : List (K × V)) where
     pub rising : AreRising order
     pub inside : (p : ℕ) → p < length items → times p order ≡ 1
     pub outside : (p : ℕ) → length items ≤ p → times p order ≡ 0
+    pub counted : length order ≡ length items
 
 -- A place left an order.
 pub record IsLeft (place : ℕ) (old new : List ℕ) : Type 0 where

@@ -1,25 +1,30 @@
-ghost use Rattle.std.specs.Prelude.{◌≡◌, ◌<◌, ◌++◌, ◌∷◌, [], IfOk, OnOk, OnErr, IfSome, IfNone, None};
-ghost use Rattle.std.specs.Prelude.{length, map, swap_remove, slice_set};
+ghost use Rattle.std.specs.Prelude.{◌≡◌, ◌<◌, ◌++◌, ◌∷◌, [], IfOk, OnOk, OnErr, IfSome, IfNone, None, Some, suc};
+ghost use Rattle.std.specs.Prelude.{length, map, swap_remove, slice_get, slice_set, take, drop};
 ghost use Rattle.std.specs.FinMap.Entries.{find};
 ghost use Rattle.directory.specs.Edits.{StandsAt};
+ghost use Rattle.directory.specs.Indexes.{IsIndex};
 ghost use Rattle.directory.specs.Rooms.{IsRoomFor};
 
 use crate::Entry;
-use crate::room::{Room, find_room, push, push_into};
+use crate::order::{enter, find_place, rename_place, take_place};
+use crate::room::{Room, find_room, make_room, push_into};
 use blockdisk::NoMemory;
 use std::alloc::Global;
 use std::marker::Model;
 
-/// The entries of a directory in core, in the order of the disk.
+/// The entries of a directory in core, in the order of the disk, and beside them their places by rising keys, so that
+/// no search goes through the list. No key comes twice.
 #[derive(Drop)]
 pub struct Entries<E: Entry> {
     list: Vec<E>,
+    order: Vec<usize>,
 }
 
 impl<E: Entry> Model for Entries<E> {
-    ghost use Rattle.std.specs.Prelude.{List};
+    ghost use Rattle.std.specs.Prelude.{List, map};
     ghost use Rattle.std.specs.Coded.{coded_list};
     ghost use Rattle.std.specs.Vec.{vec_len, vec_capacity};
+    ghost use Rattle.directory.specs.Indexes.{IsIndex};
     ghost use Rattle.directory.specs.Rooms.{HasPlaces};
 
     ghost Value = { List E };
@@ -28,7 +33,8 @@ impl<E: Entry> Model for Entries<E> {
 
     ghost view = { λ e. e.list.items };
 
-    ghost invariant = { λ e. HasPlaces (vec_len e.list) (vec_capacity e.list) };
+    ghost invariant = { λ e. IsIndex E.order (map E.view e.list.items) e.order.items
+        × HasPlaces (vec_len e.list) (vec_capacity e.list) × HasPlaces (vec_len e.order) (vec_capacity e.order) };
 }
 
 impl<E: Entry> Entries<E> {
@@ -38,6 +44,7 @@ impl<E: Entry> Entries<E> {
     {
         Entries {
             list: Vec::new(alloc),
+            order: Vec::new(alloc),
         }
     }
 
@@ -46,6 +53,13 @@ impl<E: Entry> Entries<E> {
         ensures { result.now ≡ self.now }
     {
         self.list.as_slice()
+    }
+
+    /// The places of the entries by rising keys.
+    pub fn places(&self) -> &[usize]
+        ensures { IsIndex E.order (map E.view self.now) result.now }
+    {
+        self.order.as_slice()
     }
 
     /// How many there are.
@@ -60,12 +74,7 @@ impl<E: Entry> Entries<E> {
         ensures found { IfSome result (λ i. (v : E.Stored) × StandsAt E.order (map E.view self.now) key.now v i) }
         ensures none { IfNone result (find E.order key.now (map E.view self.now) ≡ None) }
     {
-        for (i, entry) in self.list.iter().enumerate() {
-            if entry.cmp_key(key).is_eq() {
-                return Some(i);
-            }
-        }
-        None
+        find_place(&self.order, &self.list, key)
     }
 
     /// Finds the memory that one entry more takes.
@@ -79,31 +88,54 @@ impl<E: Entry> Entries<E> {
         find_room(alloc, self.list.len())
     }
 
-    /// Adds an entry behind the others, in memory found before.
-    pub fn push_into(&mut self, room: Room<E>, entry: E)
-        requires { IsRoomFor (length self.old) room }
+    /// Finds the memory that the place of one entry more takes.
+    ///
+    /// # Errors
+    ///
+    /// `NoMemory` where there is none.
+    pub fn find_place_room(&self, alloc: Global) -> Result<Room<usize>, NoMemory>
+        ensures { IfOk result (IsRoomFor (length self.now)) }
+    {
+        find_room(alloc, self.list.len())
+    }
+
+    /// Adds an entry with a new key behind the others, in memory found before.
+    pub fn push_into(&mut self, room: Room<E>, places: Room<usize>, entry: E)
+        requires absent { find E.order (E.view entry).0 (map E.view self.old) ≡ None }
+        requires room { IsRoomFor (length self.old) room }
+        requires places { IsRoomFor (length self.old) places }
         ensures { self.new ≡ self.old ++ entry ∷ [] }
     {
+        make_room(&mut self.order, places);
+        enter(&mut self.order, &self.list, &entry.key(), self.list.len());
         push_into(&mut self.list, room, entry);
     }
 
-    /// Adds an entry behind the others.
+    /// Adds an entry with a new key behind the others.
     ///
     /// # Errors
     ///
     /// `NoMemory` where there is none; nothing changes then.
     pub fn push(&mut self, entry: E) -> Result<(), NoMemory>
+        requires { find E.order (E.view entry).0 (map E.view self.old) ≡ None }
         ensures more { OnOk result (self.new ≡ self.old ++ entry ∷ []) }
         ensures same { OnErr result (self.new ≡ self.old) }
     {
-        push(&mut self.list, entry)
+        let alloc = *self.list.allocator();
+        let room = self.find_room(alloc)?;
+        let places = self.find_place_room(alloc)?;
+        self.push_into(room, places, entry);
+        Ok(())
     }
 
-    /// Puts an entry in the place of another.
+    /// Puts an entry in the place of another. Its key stands in no other place.
     pub fn set(&mut self, i: usize, entry: E)
-        requires { i < length self.old }
+        requires within { i < length self.old }
+        requires alone { find E.order (E.view entry).0 (take i (map E.view self.old) ++ drop (suc i) (map E.view self.old))
+            ≡ None }
         ensures { self.new ≡ slice_set self.old i entry }
     {
+        rename_place(&mut self.order, &self.list, i, &entry);
         self.list[i] = entry;
     }
 
@@ -112,6 +144,7 @@ impl<E: Entry> Entries<E> {
         requires { i < length self.old }
         ensures { self.new ≡ swap_remove self.old i result }
     {
+        take_place(&mut self.order, &self.list, i);
         self.list.swap_remove(i)
     }
 }

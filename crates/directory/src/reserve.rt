@@ -22,6 +22,7 @@ use std::marker::Model;
 pub struct Reserve<E: Entry> {
     blocks: Room<u32>,
     entries: Room<E>,
+    order: Room<usize>,
 }
 
 impl<E: Entry> Model for Reserve<E> {
@@ -29,7 +30,7 @@ impl<E: Entry> Model for Reserve<E> {
 
     ghost Value = { Places };
 
-    ghost view = { λ r. record { blocks = r.blocks; entries = r.entries } };
+    ghost view = { λ r. record { blocks = r.blocks; entries = r.entries; order = r.order } };
 }
 
 /// Adds a block where one is given, in memory found before.
@@ -61,11 +62,17 @@ impl<E: Entry> Chain<E> {
             return Ok(Reserve {
                 blocks: Room::none(alloc),
                 entries: Room::none(alloc),
+                order: Room::none(alloc),
             });
         }
         let entries = self.entries.find_room(alloc)?;
+        let order = self.entries.find_place_room(alloc)?;
         let blocks = self.find_block_room(alloc)?;
-        Ok(Reserve { blocks, entries })
+        Ok(Reserve {
+            blocks,
+            entries,
+            order,
+        })
     }
 
     /// Finds the memory for one block more, where the last one is full.
@@ -131,9 +138,13 @@ impl<E: Entry> Chain<E> {
         ensures few { length set.new ≤ length set.old + 2 }
     {
         let _words = entry.words(); // an entry that has words is as it should be
-        let Reserve { blocks, entries } = reserve;
+        let Reserve {
+            blocks,
+            entries,
+            order,
+        } = reserve;
         push_block(&mut self.blocks, blocks, block);
-        self.entries.push_into(entries, entry);
+        self.entries.push_into(entries, order, entry);
         put_end(&self.blocks, self.entries.as_slice(), block.is_some(), set);
     }
 }
