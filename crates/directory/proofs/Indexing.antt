@@ -100,9 +100,11 @@ module _ {K V : Type 0} {R : K → K → Ordering} (o : IsTotalOrder R) where
   rising_entered items (q ∷ order) (suc i) p e within is low high rising = (
     rising.0,
     all_append (Precedes R items q) (take i order) (p ∷ drop i order)
-        (all_take (Precedes R items q) i order rising.1)
-        ((λ x y at at'. let same : e ≡ y = some_same (sym is ∙ at') in
-        (λ j. R x.0 (sym same j).0) ∙ low.0 x at), all_drop (Precedes R items q) i order rising.1),
+        (all_take (Precedes R items q) i order rising.1) (
+          (λ x y at at'. let same : e ≡ y = some_same (sym is ∙ at') in
+              (λ j. R x.0 (sym same j).0) ∙ low.0 x at),
+          all_drop (Precedes R items q) i order rising.1,
+        ),
     rising_entered items order i p e within is low.1 high rising.2,
   )
 
@@ -290,9 +292,11 @@ module _ {K V : Type 0} {R : K → K → Ordering} (o : IsTotalOrder R) (exact :
   pub stands_found : (items : List (K × V)) (order : List ℕ) → IsIndex R items order → (k : K) (i d : ℕ)
       → (p : ℕ) × (slice_get order i ≡ Some p) × HasKeyAt R items k p → (v : V) × StandsAt R items k v (get_or order i d)
   stands_found items order index k i d found =
-      let has = found.2 in
-      (has.0, subst (λ p. StandsAt R items k has.0 p) (sym (get_or_from_slice_get order i found.0 d found.1))
-      (stands_at items order index k found.0 has.0 has.1))
+      let has = found.2 in (
+        has.0,
+        subst (λ p. StandsAt R items k has.0 p) (sym (get_or_from_slice_get order i found.0 d found.1))
+            (stands_at items order index k found.0 has.0 has.1),
+      )
 
   pub none_found : (items : List (K × V)) (order : List ℕ) → IsIndex R items order → (k : K) (i : ℕ)
       → IsGap R items k order i → find R k items ≡ None
@@ -302,10 +306,12 @@ module _ {K V : Type 0} {R : K → K → Ordering} (o : IsTotalOrder R) (exact :
 pub key_at : {E K V : Type 0} (R : K → K → Ordering) (view : E → K × V) (list : List E) (i : ℕ) (e : E) (k : K)
     → i < length list → e ≡ get_or list i e → k ≡ (view e).0 → HasKeyAt R (map view list) k i
 key_at R view list i e k within at key =
-    let many = length-map list view in
-    ((view e).1, slice_get-get_or (map view list) i (view e) (omega arith)
-    ∙ ap Some (get_or-map view list i e (view e) within ∙ ap view (sym at))
-    ∙ (λ j. Some (sym key j, (view e).1)))
+    let many = length-map list view in (
+      (view e).1,
+      slice_get-get_or (map view list) i (view e) (omega arith)
+          ∙ ap Some (get_or-map view list i e (view e) within ∙ ap view (sym at))
+          ∙ (λ j. Some (sym key j, (view e).1)),
+    )
 
 pub seen_inside : {E X : Type 0} (view : E → X) (list : List E) (i : ℕ) → i < length list → i < length (map view list)
 seen_inside view list i h = let many = length-map list view in omega arith

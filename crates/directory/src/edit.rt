@@ -131,12 +131,8 @@ impl<E: Entry> Chain<E> {
     {
         let _words = entry.words(); // an entry that has words is as it should be
         self.entries.set(i, entry);
-        put_block(
-            &self.blocks,
-            self.entries.as_slice(),
-            i / BLOCK_ENTRIES,
-            set,
-        );
+        let k = i / BLOCK_ENTRIES;
+        put_block(&self.blocks, self.entries.as_slice(), k, set);
     }
 }
 
