@@ -1,6 +1,6 @@
 -- The entry with a key, and where it stands.
 use Rattle.std.proofs.Common.{◌≡◌, ℕ, zero, suc, ◌+◌, ◌*◌, ◌%◌, ◌<◌, Bool, true, false, cond, List, [], ◌∷◌, ◌++◌, map}
-use Rattle.std.proofs.Common.{length, take, get_or, slice_get, Option, Some, None, refl, sym, ap, subst, ◌∙◌, Ordering}
+use Rattle.std.proofs.Common.{length, take, get_or, slice_get, Option, Some, None, IfNone, is_some, refl, sym, ap, subst, ◌∙◌, Ordering}
 use Rattle.std.proofs.Common.{arith}
 use Rattle.std.proofs.lemmas.List.{take_more, length-map, get_or-map}
 use Rattle.std.specs.Ordering.{eq_by_cmp, is_eq}
@@ -25,8 +25,13 @@ read_at (x ∷ xs) (suc i) d h = read_at xs i d (omega arith)
 true_false : true ≡ false → ⊥
 true_false e = cc
 
+-- what holds where nothing was found
+pub if_none : {X : Type 0} (r : Option X) {P : Type 0} → false ≡ is_some r → IfNone r P → P
+if_none None e h = h
+if_none (Some x) e h = absurd (true_false (sym e))
+
 module _ {K V : Type 0} {R : K → K → Ordering} (o : IsTotalOrder R) where
-  find_at : (items : List (K × V)) (i : ℕ) (k : K) (v : V) → slice_get items i ≡ Some (k, v)
+  pub find_at : (items : List (K × V)) (i : ℕ) (k : K) (v : V) → slice_get items i ≡ Some (k, v)
       → find R k (take i items) ≡ None → find R k items ≡ Some v
   find_at [] i k v is none = absurd (some_none (sym is))
   find_at (y ∷ ys) zero k v is none = let e : y ≡ (k, v) = some_same is in

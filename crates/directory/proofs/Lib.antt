@@ -1,3 +1,6 @@
+mod Growing
+mod Orders
+mod Indexing
 mod Parsing
 mod Images
 mod BlockReading

@@ -1,116 +1,154 @@
 -- Entries in the order of their keys are those of the map.
 -- In each section `o` says that the order of the keys is total, and `exact` that only equal keys tie in it.
-use Rattle.std.proofs.Common.{◌≡◌, ◌+◌, ◌<◌, Bool, true, false, cond, ◌&&◌, T, List, [], ◌∷◌, map, length, get_or}
-use Rattle.std.proofs.Common.{Option, Some, None, refl, sym, ap, subst, ◌∙◌, Ordering, Less, Equal, Greater, arith}
-use mathlib.Core.List.{map-map}
-use Rattle.std.proofs.lemmas.List.{length-map, get_or-map}
-use Rattle.std.proofs.lemmas.List.Sorted.{IsPermutation-map, IsPermutation-sym, Contains-permutation}
-use Rattle.std.proofs.lemmas.Map.Keys.{sorted_head, sorted_tail, sorted_from_all_adjacent, IsDistinct-IsPermutation}
-use Rattle.std.proofs.lemmas.Map.Keys.{apart_from_distinct}
-use Rattle.std.specs.List.{AllByRecursion, IsDistinct}
-use Rattle.std.specs.List.Sorted.{IsPermutation, IsSortedBy, IsStrictlySortedBy}
-use Rattle.std.specs.Ordering.{eq_by_cmp, is_eq, is_lt, ordering_reverse}
-use Rattle.std.specs.Cmp.{IsTotalOrder, eq_by_cmp_equiv}
+use Rattle.std.proofs.Common.{◌≡◌, ◌⊎◌, inl, inr, ℕ, zero, suc, ◌+◌, ◌<◌, ◌≤◌, Bool, true, false, ◌&&◌, T, List, [], ◌∷◌, map}
+use Rattle.std.proofs.Common.{◌++◌, length, take, get_or, slice_get, Option, Some, None, option_map, refl, sym, ap, subst}
+use Rattle.std.proofs.Common.{◌∙◌, Ordering, Less, arith}
+use Rattle.std.proofs.lemmas.List.{take_all, take_more}
+use Rattle.std.proofs.lemmas.Option.{slice_get-map, slice_get-get_or, slice_get_within}
+use Rattle.std.specs.List.{AllByRecursion, AllZip, Contains}
+use Rattle.std.specs.Ordering.{is_lt}
+use Rattle.std.specs.Cmp.{IsTotalOrder}
 use Rattle.std.specs.FinMap.{IsAntisymmetric}
 use Rattle.std.specs.FinMap.Entries.{find, is_sorted, below_all}
-use Rattle.meaning.specs.Maps.{EachOnce, entries, from_entries}
+use Rattle.meaning.specs.Maps.{times, entries, from_entries}
 use Rattle.meaning.proofs.MapEdits.{from_entries_alike}
-use Rattle.meaning.proofs.MapLaws.{some_none}
+use Rattle.meaning.proofs.MapLaws.{some_none, some_same}
 use Rattle.meaning.proofs.MapLists.{EachOnce-sorted, entries-from_sorted, find-contains, contains-found}
-
-both : (a b : Bool) → a ≡ true → T b → T (a && b)
-both true b p q = q
-both false b p q = cc
-
--- keys of which neither is above and neither is the other's equal rise
-rises : (r s : Ordering) → r ≡ ordering_reverse s → is_lt s ≡ false → is_eq r ≡ false → r ≡ Less
-rises r Less turned not_less not_equal = cc
-rises r Equal turned not_less not_equal = let e : is_eq r ≡ true = ap is_eq turned in cc
-rises r Greater turned not_less not_equal = turned
+use Rattle.directory.specs.Indexes.{HasKeyAt, Precedes, AreRising, IsIndex}
+use Rattle.directory.proofs.Orders.{same_or_not, one, one_other, times_at}
+use Rattle.directory.proofs.Indexing.{nowhere_found, rising_inside, inside_seen}
 
 both_hold : (a b : Bool) → T a → T b → T (a && b)
 both_hold true b p q = q
 both_hold false b p q = p
 
-module _ {K X : Type 0} (R : K → K → Ordering) where
-  differ : (k : K) (es : List (K × X)) → find R k es ≡ None
-      → AllByRecursion (λ q. eq_by_cmp R k q ≡ false) (map (λ e. e.0) es)
-  differ k [] none = tt
-  differ k (e ∷ es) none = step (eq_by_cmp R k e.0) refl none (differ k es)
-    where
-      step : (b : Bool) → eq_by_cmp R k e.0 ≡ b → cond b (Some e.1) (find R k es) ≡ None
-          → (find R k es ≡ None → AllByRecursion (λ q. eq_by_cmp R k q ≡ false) (map (λ x. x.0) es))
-          → (eq_by_cmp R k e.0 ≡ false) × AllByRecursion (λ q. eq_by_cmp R k q ≡ false) (map (λ x. x.0) es)
-      step true t n rest = absurd (some_none n)
-      step false t n rest = (t, rest n)
+both : (a b : Bool) → a ≡ true → T b → T (a && b)
+both true b p q = q
+both false b p q = cc
 
-  distinct : (es : List (K × X)) → EachOnce R es → IsDistinct (eq_by_cmp R) (map (λ e. e.0) es)
-  unfolding IsDistinct
-  distinct [] once = tt
-  distinct (e ∷ es) once = (differ e.0 es once.0, distinct es once.1)
+-- The entries at these places, one by one.
+abbrev pub AreAt : {X : Type 0} → List X → List ℕ → List X → Type 0
+AreAt items order listed = AllZip (λ p x. slice_get items p ≡ Some x) order listed
 
-  below_from : (k : K) (es : List (K × X)) → AllByRecursion (λ q. R k q ≡ Less) (map (λ e. e.0) es)
-      → T (below_all R k es)
-  below_from k [] all = tt
-  below_from k (e ∷ es) all = both (is_lt (R k e.0)) (below_all R k es) (ap is_lt all.0) (below_from k es all.1)
+-- and as they are seen
+pub seen_at : {E X : Type 0} (view : E → X) (es : List E) (order : List ℕ) (listed : List E) → AreAt es order listed
+    → AreAt (map view es) order (map view listed)
+seen_at view es [] [] at = tt
+seen_at view es [] (y ∷ ys) at = absurd at
+seen_at view es (p ∷ order) [] at = absurd at
+seen_at view es (p ∷ order) (y ∷ ys) at = (
+  slice_get-map view es p ∙ ap (option_map view) at.0,
+  seen_at view es order ys at.1,
+)
 
-  sorted_from : (es : List (K × X)) → IsStrictlySortedBy R (map (λ e. e.0) es) → T (is_sorted R es)
-  sorted_from [] s = tt
-  sorted_from (e ∷ es) s = both_hold (below_all R e.0 es) (is_sorted R es)
-      (below_from e.0 es (sorted_head R e.0 (map (λ x. x.0) es) s))
-      (sorted_from es (sorted_tail R e.0 (map (λ x. x.0) es) s))
+at_push : {X : Type 0} (es : List X) (order : List ℕ) (list : List X) (p : ℕ) (x : X) → AreAt es order list
+    → slice_get es p ≡ Some x → AreAt es (order ++ p ∷ []) (list ++ x ∷ [])
+at_push es [] [] p x at is = (is, tt)
+at_push es [] (y ∷ ys) p x at is = absurd at
+at_push es (q ∷ order) [] p x at is = absurd at
+at_push es (q ∷ order) (y ∷ ys) p x at is = (at.0, at_push es order ys p x at.1 is)
+
+-- one more
+pub listed_more : {X : Type 0} (es : List X) (order : List ℕ) (i : ℕ) (x : X) (list new : List X) → i < length order
+    → get_or order i 0 < length es → x ≡ get_or es (get_or order i 0) x → AreAt es (take i order) list
+    → new ≡ list ++ x ∷ [] → AreAt es (take (i + 1) order) new
+listed_more es order i x list new within inside is so_far more =
+    subst (AreAt es (take (i + 1) order)) (sym more)
+    (subst (λ ps. AreAt es ps (list ++ x ∷ [])) (sym (take_more order i 0 within))
+    (at_push es (take i order) list (get_or order i 0) x so_far
+    (slice_get-get_or es (get_or order i 0) x inside ∙ ap Some (sym is))))
+
+-- each place of the order is listed at its own
+at_each : {X : Type 0} (es : List X) (order : List ℕ) (list : List X) → AreAt es order list → (i : ℕ) (d : X)
+    → i < length list → slice_get es (get_or order i 0) ≡ Some (get_or list i d)
+at_each es [] [] at i d h = absurd (omega arith)
+at_each es [] (y ∷ ys) at i d h = absurd at
+at_each es (q ∷ order) [] at i d h = absurd at
+at_each es (q ∷ order) (y ∷ ys) at zero d h = at.0
+at_each es (q ∷ order) (y ∷ ys) at (suc i) d h = at_each es order ys at.1 i d (omega arith)
+
+-- a place of the order lies in the list
+pub place_inside : {E K V : Type 0} (R : K → K → Ordering) (view : E → K × V) (es : List E) (order : List ℕ) (i d : ℕ)
+    → IsIndex R (map view es) order → i < length order → get_or order i d < length es
+place_inside R view es order i d index within =
+    inside_seen view es (get_or order i d) (rising_inside R (map view es) order index.rising (get_or order i d)
+    (times_at order i (get_or order i d) (slice_get-get_or order i d within)))
+
+-- what stands at a place that comes is listed
+at_contains : {X : Type 0} (items : List X) (order : List ℕ) (listed : List X) → AreAt items order listed → (p : ℕ)
+    → 0 < times p order → (x : X) → slice_get items p ≡ Some x → Contains listed x
+at_contains items [] [] at p h x is = absurd (omega arith)
+at_contains items [] (y ∷ ys) at p h x is = absurd at
+at_contains items (q ∷ order) [] at p h x is = absurd at
+at_contains items (q ∷ order) (y ∷ ys) at p h x is = step (same_or_not p q) (λ k. at_contains items order ys at.1 p k x is)
+  where
+    step : (p ≡ q) ⊎ (p ≡ q → ⊥) → (0 < times p order → Contains ys x) → Contains (y ∷ ys) x
+    step (inl e) rest = (0, omega arith, some_same (sym at.0 ∙ ap (slice_get items) (sym e) ∙ is))
+    step (inr other) rest = let none = one_other p q other in let r = rest (omega arith) in
+        (suc r.0, (let h = r.1 in omega arith), r.2)
+
+module _ {K X : Type 0} (R : K → K → Ordering) (items : List (K × X)) where
+  below_at : (p : ℕ) (y : K × X) (order : List ℕ) (listed : List (K × X)) → slice_get items p ≡ Some y
+      → AllByRecursion (Precedes R items p) order → AreAt items order listed → T (below_all R y.0 listed)
+  below_at p y [] [] is all at = tt
+  below_at p y [] (z ∷ zs) is all at = absurd at
+  below_at p y (q ∷ order) [] is all at = absurd at
+  below_at p y (q ∷ order) (z ∷ zs) is all at =
+      both (is_lt (R y.0 z.0)) (below_all R y.0 zs) (ap is_lt (all.0 y z is at.0)) (below_at p y order zs is all.1 at.1)
+
+  -- places by rising keys list the entries so
+  sorted_at : (order : List ℕ) (listed : List (K × X)) → AreRising R items order → AreAt items order listed
+      → T (is_sorted R listed)
+  sorted_at [] [] rising at = tt
+  sorted_at [] (y ∷ ys) rising at = absurd at
+  sorted_at (p ∷ order) [] rising at = absurd at
+  sorted_at (p ∷ order) (y ∷ ys) rising at =
+      both_hold (below_all R y.0 ys) (is_sorted R ys) (below_at p y order ys at.0 rising.1 at.1)
+      (sorted_at order ys rising.2 at.1)
 
 module _ {K X : Type 0} {R : K → K → Ordering} (o : IsTotalOrder R) (exact : IsAntisymmetric R) where
-  found_moved : (es fs : List (K × X)) → EachOnce R fs → IsPermutation es fs → (q : K) (x : X) → find R q es ≡ Some x
-      → find R q fs ≡ Some x
-  found_moved es fs once moved q x is = find-contains o fs q x once
-      (Contains-permutation es fs (q, x) moved (contains-found o exact es q x is))
+  module _ (items : List (K × X)) (order : List ℕ) (index : IsIndex R items order) (listed : List (K × X))
+      (at : AreAt items order listed) where
+    rising : T (is_sorted R listed)
+    rising = sorted_at R items order listed index.rising at
 
-  -- entries in another order are found the same
-  find_moved : (es fs : List (K × X)) → EachOnce R es → EachOnce R fs → IsPermutation es fs → (q : K)
-      → find R q es ≡ find R q fs
-  find_moved es fs once once' moved q = step (find R q es) refl (find R q fs) refl
-    where
-      step : (a : Option X) → find R q es ≡ a → (b : Option X) → find R q fs ≡ b → find R q es ≡ find R q fs
-      step (Some x) e b f = e ∙ sym (found_moved es fs once' moved q x e)
-      step None e None f = e ∙ sym f
-      step None e (Some x) f = absurd (some_none (sym (found_moved fs es once (IsPermutation-sym es fs moved) q x f)
-          ∙ e))
+    -- what is found among the entries is found in the list
+    found_listed : (q : K) (x : X) → find R q items ≡ Some x → find R q listed ≡ Some x
+    found_listed q x is =
+        let c = contains-found o exact items q x is in
+        let place : slice_get items c.0 ≡ Some (q, x) = slice_get-get_or items c.0 (q, x) c.1 ∙ ap Some c.2 in
+        let once = index.inside c.0 c.1 in
+        find-contains o listed q x (EachOnce-sorted R listed rising)
+        (at_contains items order listed at c.0 (omega arith) (q, x) place)
 
-  module _ {E : Type 0} (view : E → K × X) where
-    strictly : (es : List E) → IsDistinct (eq_by_cmp R) (map (λ e. (view e).0) es)
-        → IsSortedBy (λ x y. is_lt (R (view x).0 (view y).0)) es → IsStrictlySortedBy R (map (λ e. (view e).0) es)
-    unfolding IsStrictlySortedBy
-    strictly [] apart sorted = tt
-    strictly (y ∷ ys) apart sorted =
-        let f : E → K = λ e. (view e).0 in
-        let many = length-map (y ∷ ys) f in
-        sorted_from_all_adjacent o (map f (y ∷ ys)) (f y)
-        (λ k h.
-        let inside : k < length (y ∷ ys) = omega arith in
-        let next : k + 1 < length (y ∷ ys) = omega arith in
-        let low = get_or-map f (y ∷ ys) k y (f y) inside in
-        let high = get_or-map f (y ∷ ys) (k + 1) y (f y) next in
-        rises (R (get_or (map f (y ∷ ys)) k (f y)) (get_or (map f (y ∷ ys)) (k + 1) (f y)))
-        (R (get_or (map f (y ∷ ys)) (k + 1) (f y)) (get_or (map f (y ∷ ys)) k (f y)))
-        (o.antisymm (get_or (map f (y ∷ ys)) k (f y)) (get_or (map f (y ∷ ys)) (k + 1) (f y)))
-        ((λ j. is_lt (R (high j) (low j))) ∙ sorted k y (omega arith) next)
-        (apart_from_distinct (eq_by_cmp R) (map f (y ∷ ys)) k (k + 1) (f y) apart (omega arith) h))
+    -- and what isn't found there isn't found in it
+    listed_nowhere : (q : K) (x : X) → find R q items ≡ None → find R q listed ≡ Some x → ⊥
+    listed_nowhere q x none is =
+        let c = contains-found o exact listed q x is in
+        nowhere_found o exact items q none (get_or order c.0 0)
+        (x, at_each items order listed at c.0 (q, x) c.1 ∙ ap Some c.2)
 
-    -- entries that were sorted by their keys are those of the map
-    pub listed : (es fs : List E) → EachOnce R (map view es) → IsPermutation es fs
-        → IsSortedBy (λ x y. is_lt (R (view x).0 (view y).0)) fs
-        → map view fs ≡ entries (from_entries {R = R} (map view es))
-    listed es fs once moved sorted =
-        let f : E → K = λ e. (view e).0 in
-        let apart : IsDistinct (eq_by_cmp R) (map f es) = subst (IsDistinct (eq_by_cmp R)) (map-map _ _ es)
-        (distinct R (map view es) once) in
-        let apart' = IsDistinct-IsPermutation (eq_by_cmp R) (eq_by_cmp_equiv o).symm (map f es) (map f fs)
-        (IsPermutation-map f es fs moved) apart in
-        let strict : IsStrictlySortedBy R (map (λ e. e.0) (map view fs)) = subst (IsStrictlySortedBy R)
-        (sym (map-map _ _ fs)) (strictly fs apart' sorted) in
-        let rising = sorted_from R (map view fs) strict in
-        sym (ap entries (from_entries_alike o exact (map view es) (map view fs)
-        (find_moved (map view es) (map view fs) once (EachOnce-sorted R (map view fs) rising)
-        (IsPermutation-map view es fs moved)))
-        ∙ entries-from_sorted o (map view fs) rising)
+    alike : (q : K) → find R q items ≡ find R q listed
+    alike q = step (find R q items) refl (find R q listed) refl
+      where
+        step : (a : Option X) → find R q items ≡ a → (b : Option X) → find R q listed ≡ b → find R q items ≡ find R q listed
+        step (Some x) e b f = e ∙ sym (found_listed q x e)
+        step None e None f = e ∙ sym f
+        step None e (Some x) f = absurd (listed_nowhere q x e f)
+
+    listed_all : listed ≡ entries (from_entries {R = R} items)
+    listed_all = sym (ap entries (from_entries_alike o exact items listed alike) ∙ entries-from_sorted o listed rising)
+
+  -- entries that were listed place by place are those of the map
+  pub listed : {E : Type 0} (view : E → K × X) (es : List E) (order : List ℕ) (fs : List E)
+      → IsIndex R (map view es) order → AreAt es order fs → map view fs ≡ entries (from_entries {R = R} (map view es))
+  listed view es order fs index at =
+      listed_all (map view es) order index (map view fs) (seen_at view es order fs at)
+
+  -- all of them, once the loop is through
+  pub listed_whole : {E : Type 0} (view : E → K × X) (es seen : List E) (order : List ℕ) (i : ℕ) (fs : List E)
+      → IsIndex R (map view es) order → seen ≡ es → length order ≤ i → AreAt seen (take i order) fs
+      → map view fs ≡ entries (from_entries {R = R} (map view es))
+  listed_whole view es seen order i fs index same end at =
+      listed view es order fs index
+      (subst (λ ps. AreAt es ps fs) (take_all i order end) (subst (λ xs. AreAt xs (take i order) fs) same at))

@@ -12,10 +12,18 @@ use Rattle.meaning.specs.Log.{targets, with_puts, IsTarget}
 use Rattle.meaning.specs.Faults.{InSpace}
 use Rattle.meaning.specs.Directories.{directory_block}
 use Rattle.directory.specs.Chains.{ChainState, IsOn}
+use Rattle.directory.specs.Rooms.{IsRoomFor}
 
 -- the list with its last element first
 abbrev pub last_first : {X : Type 0} → List X → List X
 last_first xs = drop (length xs - 1) xs ++ take (length xs - 1) xs
+
+-- Memory for the lists of a chain to grow: how many places there are.
+pub record Places : Type 0 where
+  pub blocks : ℕ
+  pub entries : ℕ
+  -- for the places of the entries by rising keys
+  pub order : ℕ
 
 module _ {K V : Type 0} (R : K → K → Ordering) where
   -- The first entry with this key stands at place i, counted from 0.
@@ -29,12 +37,11 @@ module _ {K V : Type 0} (R : K → K → Ordering) where
   abbrev pub TakesBlock : ChainState (K × V) → K → Type 0
   TakesBlock chain k = (find R k chain.entries ≡ None) × (length chain.entries ≡ 42 * length chain.blocks)
 
-  -- Lists with a place for an entry more, where the key has none yet, and for the block that the chain takes for it.
-  pub record IsReserve (chain : ChainState (K × V)) (k : K) (reserve : ChainState (K × V)) : Type 0 where
-    pub entry : find R k chain.entries ≡ None → (e : K × V) × (reserve.entries ≡ chain.entries ++ e ∷ [])
-    pub grown : TakesBlock chain k → (n : ℕ) × (reserve.blocks ≡ chain.blocks ++ n ∷ [])
-    pub kept : find R k chain.entries ≡ None → (length chain.entries ≡ 42 * length chain.blocks → ⊥)
-        → reserve.blocks ≡ chain.blocks
+  -- Memory for an entry more, where the key has none yet, and for the block that the chain takes for it.
+  pub record IsReserve (chain : ChainState (K × V)) (k : K) (reserve : Places) : Type 0 where
+    pub entries : find R k chain.entries ≡ None → IsRoomFor (length chain.entries) reserve.entries
+    pub order : find R k chain.entries ≡ None → IsRoomFor (length chain.entries) reserve.order
+    pub blocks : TakesBlock chain k → IsRoomFor (length chain.blocks) reserve.blocks
 
   -- the entries with this one: in the place of the one with its key, or at the end
   abbrev pub inserted : List (K × V) → K × V → List (K × V)

@@ -1,6 +1,7 @@
 ghost use Rattle.std.specs.Prelude.{◌≡◌, ◌∷◌, [], length, IfOk};
 
 use crate::Entry;
+use crate::entries::Entries;
 use blockdisk::NoMemory;
 use std::alloc::Global;
 use std::marker::Model;
@@ -10,20 +11,23 @@ use std::marker::Model;
 #[derive(Drop)]
 pub struct Chain<E: Entry> {
     pub(crate) blocks: Vec<u32>,
-    pub(crate) entries: Vec<E>,
+    pub(crate) entries: Entries<E>,
 }
 
 impl<E: Entry> Model for Chain<E> {
+    ghost use Rattle.std.specs.Vec.{vec_len, vec_capacity};
     ghost use Rattle.directory.specs.Chains.{ChainState, IsChain, viewed, chain_code};
+    ghost use Rattle.directory.specs.Rooms.{HasPlaces};
 
     ghost Value = { ChainState E };
 
     ghost coded = { chain_code E.code };
 
-    ghost view = { λ c. record { blocks = c.blocks.items; entries = c.entries.items } };
+    ghost view = { λ c. record { blocks = c.blocks.items; entries = c.entries } };
 
     ghost invariant = { λ c. IsChain E.order E.IsEntry
-        (viewed E.view (record { blocks = c.blocks.items; entries = c.entries.items })) };
+        (viewed E.view (record { blocks = c.blocks.items; entries = c.entries }))
+        × HasPlaces (vec_len c.blocks) (vec_capacity c.blocks) };
 }
 
 impl<E: Entry> Chain<E> {
@@ -39,7 +43,7 @@ impl<E: Entry> Chain<E> {
     {
         Ok(Chain {
             blocks: vec![in alloc; block; 1]?,
-            entries: Vec::new(alloc),
+            entries: Entries::new(alloc),
         })
     }
 

@@ -5,7 +5,9 @@ ghost use Rattle.std.specs.FinMap.Entries.{find};
 ghost use Rattle.changeset.specs.Puts.{most_puts, replaced};
 ghost use Rattle.meaning.specs.Costs.{directory_cost};
 ghost use Rattle.meaning.specs.Maps.{times, from_entries, insert, remove};
+ghost use Rattle.std.specs.Vec.{vec_len, vec_capacity};
 ghost use Rattle.directory.specs.Chains.{IsChain, viewed};
+ghost use Rattle.directory.specs.Rooms.{HasPlaces};
 ghost use Rattle.directory.specs.Edits.{TakesBlock, PutsChain, inserted, renamed, removed, last_first, block_put};
 ghost use Rattle.directory.specs.declared.error.DirectoryError.TheVariants.{NoMemory};
 
@@ -49,12 +51,9 @@ impl<E: Entry> Chain<E> {
         ensures same { OnErr result (self.new ≡ self.old) }
         ensures unput { OnErr result (set.new ≡ set.old) }
     {
-        if let Some(i) = self.find(&entry.key()) {
-            self.replace(i, entry, set);
-            return Ok(());
-        }
-        let block = if self.needs_block() { fresh } else { None };
-        self.append(entry, block, set)
+        let reserve = self.reserve_for(*self.blocks.allocator(), &entry)?;
+        self.insert_into(reserve, entry, fresh, set);
+        Ok(())
     }
 
     /// Puts an entry in the place of the one with this key. It has the same key, or one that isn't there.
@@ -110,7 +109,12 @@ impl<E: Entry> Chain<E> {
     {
         self.entries.swap_remove(i);
         let freed = pop_empty(&mut self.blocks, self.entries.len());
-        put_hole(&self.blocks, &self.entries, i / BLOCK_ENTRIES, set);
+        put_hole(
+            &self.blocks,
+            self.entries.as_slice(),
+            i / BLOCK_ENTRIES,
+            set,
+        );
         freed
     }
 
@@ -126,45 +130,19 @@ impl<E: Entry> Chain<E> {
         ensures sound { IsChain E.order E.IsEntry (viewed E.view self.old) }
     {
         let _words = entry.words(); // an entry that has words is as it should be
-        self.entries[i] = entry;
-        put_block(&self.blocks, &self.entries, i / BLOCK_ENTRIES, set);
-    }
-
-    /// Adds an entry with a new key, in a new last block where one is given.
-    ///
-    /// # Errors
-    ///
-    /// `NoMemory` where there is no memory; nothing changes then.
-    fn append(
-        &mut self,
-        entry: E,
-        block: Option<u32>,
-        set: &mut ChangeSet,
-    ) -> Result<(), DirectoryError>
-        requires absent { find E.order (E.view entry).0 (map E.view self.old.entries) ≡ None }
-        requires block { MatchOption block (length self.old.entries ≡ 42 * length self.old.blocks
-            → ⊥) (λ n. (length self.old.entries ≡ 42 * length self.old.blocks) × (times n self.old.blocks ≡ 0)) }
-        requires room { length set.old + 2 ≤ most_puts }
-        ensures entries { OnOk result (map E.view self.new.entries ≡ map E.view self.old.entries ++ E.view entry ∷ []) }
-        ensures blocks { OnOk result (self.new.blocks ≡ self.old.blocks ++ option_to_list block) }
-        ensures put { PutsChain E.words_of (viewed E.view self.old) (viewed E.view self.new) set.old set.new }
-        ensures few { length set.new ≤ length set.old + 2 }
-        ensures err { IfErr result (λ error. error ≡ NoMemory) }
-        ensures same { OnErr result (self.new ≡ self.old) }
-        ensures unput { OnErr result (set.new ≡ set.old) }
-    {
-        let _words = entry.words(); // an entry that has words is as it should be
-        push_entry(&mut self.blocks, &mut self.entries, block, entry)?;
-        put_end(&self.blocks, &self.entries, block.is_some(), set);
-        Ok(())
+        self.entries.set(i, entry);
+        let k = i / BLOCK_ENTRIES;
+        put_block(&self.blocks, self.entries.as_slice(), k, set);
     }
 }
 
 /// Takes the last block out where so many entries leave it empty, unless it is the only one.
 fn pop_empty(blocks: &mut Vec<u32>, count: usize) -> Option<u32>
-    requires { length blocks.old.items ≡ directory_cost (count + 1) }
+    requires counted { length blocks.old.items ≡ directory_cost (count + 1) }
+    requires places { HasPlaces (vec_len blocks.old) (vec_capacity blocks.old) }
     ensures blocks { blocks.old.items ≡ blocks.new.items ++ option_to_list result }
     ensures counted { length blocks.new.items ≡ directory_cost count }
+    ensures places { HasPlaces (vec_len blocks.new) (vec_capacity blocks.new) }
 {
     if count == 0 || count % BLOCK_ENTRIES != 0 {
         return None;
@@ -190,36 +168,6 @@ fn put_hole<E: Entry>(blocks: &[u32], entries: &[E], k: usize, set: &mut ChangeS
         put_block(blocks, entries, k, set);
     }
     put_block(blocks, entries, last, set);
-}
-
-/// Adds an entry, and a block where one is given. Both lists have room before either changes.
-///
-/// # Errors
-///
-/// `NoMemory` where one of them finds none; nothing changes then.
-pub(crate) fn push_entry<E: Entry>(
-    blocks: &mut Vec<u32>,
-    entries: &mut Vec<E>,
-    block: Option<u32>,
-    entry: E,
-) -> Result<(), DirectoryError>
-    ensures err { IfErr result (λ error. error ≡ NoMemory) }
-    ensures entries { OnOk result (entries.new.items ≡ entries.old.items ++ entry ∷ []) }
-    ensures blocks { OnOk result (blocks.new.items ≡ blocks.old.items ++ option_to_list block) }
-    ensures same_entries { OnErr result (entries.new.items ≡ entries.old.items) }
-    ensures same_blocks { OnErr result (blocks.new.items ≡ blocks.old.items) }
-{
-    entries.reserve(1)?;
-    if let Some(n) = block {
-        match blocks.push(n) {
-            Ok(()) => {}
-            Err(_) => return Err(DirectoryError::NoMemory),
-        }
-    }
-    match entries.push(entry) {
-        Ok(()) => Ok(()),
-        Err(_) => unreachable!(), // it has room since the first line
-    }
 }
 
 /// Puts the last block of a chain, and before it the block that has come to name it, where it is new.

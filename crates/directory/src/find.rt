@@ -15,12 +15,7 @@ impl<E: Entry> Chain<E> {
         ensures none { IfNone result (find E.order key.now (map E.view self.now.entries) ≡ None) }
         ensures sound { IsChain E.order E.IsEntry (viewed E.view self.now) }
     {
-        for (i, entry) in self.entries.iter().enumerate() {
-            if entry.cmp_key(key).is_eq() {
-                return Some(i);
-            }
-        }
-        None
+        self.entries.find(key)
     }
 
     /// Whether the last block is full, so that an entry with a new key takes one block more.

@@ -27,6 +27,7 @@
 
 mod chain;
 mod edit;
+mod entries;
 mod entry;
 mod error;
 mod file;
@@ -36,8 +37,10 @@ mod laws;
 mod list;
 mod load;
 mod master;
+mod order;
 mod parse;
 mod reserve;
+mod room;
 
 pub use chain::Chain;
 pub use entry::{Entry, EntryFault};

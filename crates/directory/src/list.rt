@@ -15,13 +15,14 @@ impl<E: Entry> Chain<E> {
         ensures { IfOk result (λ list. map E.view list.items
             ≡ entries (from_entries {R = E.order} (map E.view self.now.entries))) }
     {
-        let mut list = Vec::new(alloc);
-        list.extend_from_slice(self.entries())?;
-        list.sort_unstable_by(
-            |entry, other|
-                ensures { result ≡ E.order (E.view entry.now).0 (E.view other.now).0 }
-            { entry.cmp_key(&other.key()) },
-        );
+        let entries = self.entries();
+        let mut list = Vec::with_capacity(alloc, entries.len())?;
+        for place in self.entries.places() {
+            match list.push(entries[*place]) {
+                Ok(()) => {}
+                Err(_) => return Err(NoMemory),
+            }
+        }
         Ok(list)
     }
 }

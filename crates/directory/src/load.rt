@@ -8,11 +8,15 @@ ghost use Rattle.meaning.specs.Regions.{IsVolumeSize};
 ghost use Rattle.meaning.specs.Faults.{InSpace};
 ghost use Rattle.changeset.specs.Reads.{OnlyReads};
 ghost use Rattle.alloctab.specs.Lists.{flag_at};
+ghost use Rattle.std.specs.Vec.{vec_len, vec_capacity};
+ghost use Rattle.directory.specs.Rooms.{HasPlaces};
 ghost use Rattle.directory.specs.Loading.{SpellsBlock, AreGood, IsBadWords, IsBadAt, Adds, ReadsOn};
 ghost use Rattle.directory.specs.declared.error.DirectoryError.TheVariants.{BadDirectory, BlockTwice, Device, NoMemory};
 ghost use Rattle.directory.specs.declared.load.AddError.TheVariants.{Outside, Again};
 
+use crate::entries::Entries;
 use crate::parse::{entry_words, is_directory_block};
+use crate::room::push;
 use crate::{Chain, DirectoryError, Entry};
 use alloctab::Reached;
 use blockdisk::{Disk, Fault};
@@ -31,29 +35,21 @@ enum AddError {
     NoMemory,
 }
 
-/// Whether none of the entries has the key.
-fn is_new<E: Entry>(entries: &[E], key: &E::Key) -> bool
-    ensures { IsTrue result ↔ (find E.order key.now (map E.view entries.now) ≡ None) }
-{
-    for entry in entries {
-        if entry.cmp_key(key).is_eq() {
-            return false;
-        }
-    }
-    true
-}
-
 /// Adds the entry that has these words.
-fn push_entry<E: Entry>(words: [Word; 3], size: u32, entries: &mut Vec<E>) -> Result<(), AddError>
+fn push_entry<E: Entry>(
+    words: [Word; 3],
+    size: u32,
+    entries: &mut Entries<E>,
+) -> Result<(), AddError>
     requires volume { IsVolumeSize size }
-    requires good { AreGood E.order E.IsEntry E.target size (map E.view entries.old.items) }
+    requires good { AreGood E.order E.IsEntry E.target size (map E.view entries.old) }
     ensures ok { OnOk result ((e : E.Key × E.Stored) → E.words_of e ≡ words
-        → map E.view entries.new.items ≡ map E.view entries.old.items ++ e ∷ []) }
-    ensures good { OnOk result (AreGood E.order E.IsEntry E.target size (map E.view entries.new.items)) }
+        → map E.view entries.new ≡ map E.view entries.old ++ e ∷ []) }
+    ensures good { OnOk result (AreGood E.order E.IsEntry E.target size (map E.view entries.new)) }
     ensures outside { IsErrOf result Outside → (e : E.Key × E.Stored) → E.IsEntry e → E.words_of e ≡ words
         → InSpace size (E.target e) → ⊥ }
     ensures again { IsErrOf result Again → (e : E.Key × E.Stored) → E.words_of e ≡ words
-        → find E.order e.0 (map E.view entries.old.items) ≡ None → ⊥ }
+        → find E.order e.0 (map E.view entries.old) ≡ None → ⊥ }
 {
     let Ok(entry) = E::parse(words) else {
         return Err(AddError::Outside);
@@ -61,7 +57,7 @@ fn push_entry<E: Entry>(words: [Word; 3], size: u32, entries: &mut Vec<E>) -> Re
     if !is_in_space(size, u64::from(entry.target())) {
         return Err(AddError::Outside);
     }
-    if !is_new(entries, &entry.key()) {
+    if entries.find(&entry.key()).is_some() {
         return Err(AddError::Again);
     }
     match entries.push(entry) {
@@ -75,21 +71,21 @@ fn push_entries<E: Entry>(
     block: &Block,
     count: usize,
     size: u32,
-    entries: &mut Vec<E>,
+    entries: &mut Entries<E>,
 ) -> Result<(), AddError>
     requires volume { IsVolumeSize size }
     requires few { count ≤ 42 }
-    requires good { AreGood E.order E.IsEntry E.target size (map E.view entries.old.items) }
+    requires good { AreGood E.order E.IsEntry E.target size (map E.view entries.old) }
     ensures ok { OnOk result ((next : ℕ) (es : List (E.Key × E.Stored))
         → SpellsBlock E.words_of E.IsEntry block.now next es → length es ≡ count
-        → map E.view entries.new.items ≡ map E.view entries.old.items ++ es) }
-    ensures good { OnOk result (AreGood E.order E.IsEntry E.target size (map E.view entries.new.items)) }
+        → map E.view entries.new ≡ map E.view entries.old ++ es) }
+    ensures good { OnOk result (AreGood E.order E.IsEntry E.target size (map E.view entries.new)) }
     ensures outside { IsErrOf result Outside → (next : ℕ) (es : List (E.Key × E.Stored))
         → SpellsBlock E.words_of E.IsEntry block.now next es → length es ≡ count
         → AllByRecursion (λ e. InSpace size (E.target e)) es → ⊥ }
     ensures again { IsErrOf result Again → (next : ℕ) (es : List (E.Key × E.Stored))
         → SpellsBlock E.words_of E.IsEntry block.now next es → length es ≡ count
-        → EachOnce E.order (map E.view entries.old.items ++ es) → ⊥ }
+        → EachOnce E.order (map E.view entries.old ++ es) → ⊥ }
 {
     for i in 0..count {
         push_entry(entry_words(block, i), size, entries)?;
@@ -102,14 +98,14 @@ fn add_block<E: Entry>(
     block: &Block,
     n: u32,
     size: u32,
-    entries: &mut Vec<E>,
+    entries: &mut Entries<E>,
 ) -> Result<u32, DirectoryError>
     requires volume { IsVolumeSize size }
-    requires good { AreGood E.order E.IsEntry E.target size (map E.view entries.old.items) }
+    requires good { AreGood E.order E.IsEntry E.target size (map E.view entries.old) }
     ensures ok { IfOk result (λ next. Adds E.order E.words_of E.IsEntry E.target size block.now next
-        (map E.view entries.old.items) (map E.view entries.new.items)) }
+        (map E.view entries.old) (map E.view entries.new)) }
     ensures bad { (k : ℕ) → IsErrOf result (BadDirectory k)
-        → (k ≡ n) × IsBadWords E.order E.words_of E.IsEntry E.target size block.now (map E.view entries.old.items) }
+        → (k ≡ n) × IsBadWords E.order E.words_of E.IsEntry E.target size block.now (map E.view entries.old) }
     ensures twice { (k : ℕ) → IsErrOf result (BlockTwice k) → ⊥ }
     ensures device { IsErrOf result Device → ⊥ }
 {
@@ -162,24 +158,26 @@ fn read_on<E: Entry, D: Disk>(
     size: u32,
     reached: &mut Reached,
     blocks: &mut Vec<u32>,
-    entries: &mut Vec<E>,
+    entries: &mut Entries<E>,
 ) -> Result<u32, DirectoryError>
     // What the caller sees to.
     requires size { size ≡ (D.state disk.old).size }
     requires volume { IsVolumeSize size }
     requires inside { n < size }
     requires marks { length reached.old ≡ size }
-    requires good { AreGood E.order E.IsEntry E.target size (map E.view entries.old.items) }
+    requires good { AreGood E.order E.IsEntry E.target size (map E.view entries.old) }
+    requires places { HasPlaces (vec_len blocks.old) (vec_capacity blocks.old) }
     // What was read of the block, and its mark.
     ensures ok { IfOk result (λ next. ReadsOn E.order E.words_of E.IsEntry E.target size (D.state disk.new).honest
-        (D.state disk.old).contents n next (map E.view entries.old.items) (map E.view entries.new.items)) }
+        (D.state disk.old).contents n next (map E.view entries.old) (map E.view entries.new)) }
     ensures blocks { IfOk result (λ next. blocks.new.items ≡ blocks.old.items ++ n ∷ []) }
+    ensures places { HasPlaces (vec_len blocks.new) (vec_capacity blocks.new) }
     ensures fresh { IfOk result (λ next. flag_at reached.old n ≡ false) }
     ensures marked { reached.new ≡ slice_set reached.old n true }
     // Which refusal comes when.
     ensures bad { (D.state disk.new).honest → (k : ℕ) → IsErrOf result (BadDirectory k)
         → (k ≡ n) × IsBadAt E.order E.words_of E.IsEntry E.target size (D.state disk.old).contents n
-        (map E.view entries.old.items) }
+        (map E.view entries.old) }
     ensures named { (k : ℕ) → IsErrOf result (BadDirectory k) → k ≡ n }
     ensures twice { (k : ℕ) → IsErrOf result (BlockTwice k) → (k ≡ n) × (flag_at reached.old n ≡ true) }
     // The device: what failed, and how often.
@@ -192,7 +190,7 @@ fn read_on<E: Entry, D: Disk>(
         return Err(DirectoryError::BlockTwice(n));
     }
     let block = read_block(disk, n)?;
-    match blocks.push(n) {
+    match push(blocks, n) {
         Ok(()) => add_block(&block, n, size, entries),
         Err(_) => Err(DirectoryError::NoMemory),
     }
@@ -269,7 +267,7 @@ impl<E: Entry> Chain<E> {
     {
         let size = disk.blocks();
         let mut blocks = Vec::new(alloc);
-        let mut entries = Vec::new(alloc);
+        let mut entries = Entries::new(alloc);
         let mut next = first;
         while next != 0 {
             next = read_on(disk, next, size, reached, &mut blocks, &mut entries)?;

@@ -1,56 +1,47 @@
 ghost use Rattle.std.specs.Prelude.{◌≡◌, ◌+◌, ◌*◌, ◌-◌, ◌<◌, ◌≤◌, ◌++◌, ◌∷◌, [], ℕ, length, map, slice_set};
-ghost use Rattle.std.specs.Prelude.{option_to_list, MatchOption, Some, None, IfSome, IfNone, IfOk, IfErr};
+ghost use Rattle.std.specs.Prelude.{option_to_list, MatchOption, Some, None, IfSome, IsSome, IfOk, IsOk, IfErr};
 ghost use Rattle.std.specs.FinMap.Entries.{find};
 ghost use Rattle.changeset.specs.Puts.{most_puts};
 ghost use Rattle.meaning.specs.Maps.{times, from_entries, insert};
 ghost use Rattle.directory.specs.Chains.{viewed};
+ghost use Rattle.std.specs.Vec.{vec_len, vec_capacity};
 ghost use Rattle.directory.specs.Edits.{TakesBlock, IsReserve, PutsChain, inserted};
+ghost use Rattle.directory.specs.Rooms.{HasPlaces, IsRoomFor};
 ghost use Rattle.directory.specs.declared.error.DirectoryError.TheVariants.{NoMemory};
 
-use crate::edit::{push_entry, put_end};
+use crate::edit::put_end;
+use crate::room::{Room, find_room, push_into};
 use crate::{Chain, DirectoryError, Entry};
 use changeset::ChangeSet;
 use std::alloc::Global;
 use std::marker::Model;
 
-/// Memory for one entry more of a chain, found before the entry is known: copies of the chain's lists with a
-/// place behind for it, and for the block that it takes, or empty lists where its key is there already.
+/// Memory for one entry more of a chain, found before the entry is known: for the list of entries where its key is
+/// new, and for that of blocks where it takes one. Where a list has a place left for certain there is none.
 #[derive(Drop)]
 pub struct Reserve<E: Entry> {
-    blocks: Vec<u32>,
-    entries: Vec<E>,
+    blocks: Room<u32>,
+    entries: Room<E>,
+    order: Room<usize>,
 }
 
 impl<E: Entry> Model for Reserve<E> {
-    ghost use Rattle.directory.specs.Chains.{ChainState, chain_code};
+    ghost use Rattle.directory.specs.Edits.{Places};
 
-    ghost Value = { ChainState E };
+    ghost Value = { Places };
 
-    ghost coded = { chain_code E.code };
-
-    ghost view = { λ r. record { blocks = r.blocks.items; entries = r.entries.items } };
+    ghost view = { λ r. record { blocks = r.blocks; entries = r.entries; order = r.order } };
 }
 
-impl<E: Entry> Reserve<E> {
-    /// The lists of blocks and entries, with the entry in the last place of its list, and so a block that is given.
-    fn fill(self, entry: E, block: Option<u32>) -> (Vec<u32>, Vec<E>)
-        requires entry { 0 < length self.entries }
-        requires block { IfSome block (λ n. 0 < length self.blocks) }
-        ensures entries { result.1.items ≡ slice_set self.entries (length self.entries - 1) entry }
-        ensures kept { IfNone block (result.0.items ≡ self.blocks) }
-        ensures grown { IfSome block (λ n. result.0.items ≡ slice_set self.blocks (length self.blocks - 1) n) }
-    {
-        let Reserve {
-            mut blocks,
-            mut entries,
-        } = self;
-        let last = entries.len() - 1;
-        entries[last] = entry;
-        if let Some(n) = block {
-            let last = blocks.len() - 1;
-            blocks[last] = n;
-        }
-        (blocks, entries)
+/// Adds a block where one is given, in memory found before.
+fn push_block(blocks: &mut Vec<u32>, room: Room<u32>, block: Option<u32>)
+    requires places { HasPlaces (vec_len blocks.old) (vec_capacity blocks.old) }
+    requires room { IfSome block (λ n. IsRoomFor (vec_len blocks.old) room) }
+    ensures blocks { blocks.new.items ≡ blocks.old.items ++ option_to_list block }
+    ensures places { HasPlaces (vec_len blocks.new) (vec_capacity blocks.new) }
+{
+    if let Some(n) = block {
+        push_into(blocks, room, n);
     }
 }
 
@@ -60,26 +51,43 @@ impl<E: Entry> Chain<E> {
     ///
     /// # Errors
     ///
-    /// `NoMemory` where the copies find no memory.
+    /// `NoMemory` where there is none.
     pub fn reserve_for(&self, alloc: Global, entry: &E) -> Result<Reserve<E>, DirectoryError>
         ensures reserve { IfOk result (λ reserve. IsReserve E.order (viewed E.view self.now) (E.view entry.now).0
-            (viewed E.view reserve)) }
+            reserve) }
+        ensures there { IsSome (find E.order (E.view entry.now).0 (map E.view self.now.entries)) → IsOk result }
         ensures err { IfErr result (λ error. error ≡ NoMemory) }
     {
-        let mut blocks = Vec::new(alloc);
-        let mut entries = Vec::new(alloc);
         if self.find(&entry.key()).is_some() {
-            return Ok(Reserve { blocks, entries });
+            return Ok(Reserve {
+                blocks: Room::none(alloc),
+                entries: Room::none(alloc),
+                order: Room::none(alloc),
+            });
         }
-        blocks.extend_from_slice(self.blocks())?;
-        entries.extend_from_slice(self.entries())?;
-        let block = if self.needs_block() { Some(0) } else { None };
-        push_entry(&mut blocks, &mut entries, block, *entry)?;
-        Ok(Reserve { blocks, entries })
+        let entries = self.entries.find_room(alloc)?;
+        let order = self.entries.find_place_room(alloc)?;
+        let blocks = self.find_block_room(alloc)?;
+        Ok(Reserve {
+            blocks,
+            entries,
+            order,
+        })
+    }
+
+    /// Finds the memory for one block more, where the last one is full.
+    fn find_block_room(&self, alloc: Global) -> Result<Room<u32>, DirectoryError>
+        ensures room { IfOk result (λ room. length self.now.entries ≡ 42 * length self.now.blocks
+            → IsRoomFor (length self.now.blocks) room) }
+        ensures err { IfErr result (λ error. error ≡ NoMemory) }
+    {
+        if !self.needs_block() {
+            return Ok(Room::none(alloc));
+        }
+        Ok(find_room(alloc, self.blocks.len())?)
     }
 
     /// Gives a key its entry as `insert` does, in memory that `reserve_for` found before for this key: it can't fail.
-    /// The lists of `reserve` become the chain's where the key is new, with the entry and `fresh` in their last places.
     pub fn insert_into(
         &mut self,
         reserve: Reserve<E>,
@@ -87,7 +95,7 @@ impl<E: Entry> Chain<E> {
         fresh: Option<u32>,
         set: &mut ChangeSet,
     )
-        requires reserve { IsReserve E.order (viewed E.view self.old) (E.view entry).0 (viewed E.view reserve) }
+        requires reserve { IsReserve E.order (viewed E.view self.old) (E.view entry).0 reserve }
         requires fresh { TakesBlock E.order (viewed E.view self.old) (E.view entry).0 → (n : ℕ) × (fresh ≡ Some n)
             × (times n self.old.blocks ≡ 0) }
         requires puts { length set.old + 2 ≤ most_puts }
@@ -120,7 +128,7 @@ impl<E: Entry> Chain<E> {
         set: &mut ChangeSet,
     )
         requires absent { find E.order (E.view entry).0 (map E.view self.old.entries) ≡ None }
-        requires reserve { IsReserve E.order (viewed E.view self.old) (E.view entry).0 (viewed E.view reserve) }
+        requires reserve { IsReserve E.order (viewed E.view self.old) (E.view entry).0 reserve }
         requires block { MatchOption block (length self.old.entries ≡ 42 * length self.old.blocks
             → ⊥) (λ n. (length self.old.entries ≡ 42 * length self.old.blocks) × (times n self.old.blocks ≡ 0)) }
         requires puts { length set.old + 2 ≤ most_puts }
@@ -130,9 +138,13 @@ impl<E: Entry> Chain<E> {
         ensures few { length set.new ≤ length set.old + 2 }
     {
         let _words = entry.words(); // an entry that has words is as it should be
-        let (blocks, entries) = reserve.fill(entry, block);
-        self.blocks = blocks;
-        self.entries = entries;
-        put_end(&self.blocks, &self.entries, block.is_some(), set);
+        let Reserve {
+            blocks,
+            entries,
+            order,
+        } = reserve;
+        push_block(&mut self.blocks, blocks, block);
+        self.entries.push_into(entries, order, entry);
+        put_end(&self.blocks, self.entries.as_slice(), block.is_some(), set);
     }
 }

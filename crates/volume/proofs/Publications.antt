@@ -7,7 +7,7 @@ use Rattle.meaning.specs.Costs.{blocks_of}
 use Rattle.meaning.specs.Directories.{FileEntry}
 use Rattle.meaning.specs.Files.{File, Files}
 use Rattle.meaning.specs.Stands.{Stands, SettledStands}
-use Rattle.directory.specs.Chains.{ChainState}
+use Rattle.directory.specs.Edits.{Places}
 use Rattle.retrieval.specs.Versions.{VersionState}
 use Rattle.retrieval.specs.Writing.{rib_count}
 use Rattle.volume.specs.Beginning.{IsDirectoryOf}
@@ -54,7 +54,7 @@ module _ (c c' : VolumeCore) (known : c'.known ≡ record c.known { table = c'.k
     is_new = placed.is_new;
   }
 
-  pub supplied_on : c'.keys ≡ c.keys → (p : PendingVersion) (v : VersionState) (room : ChainState FileEntry)
+  pub supplied_on : c'.keys ≡ c.keys → (p : PendingVersion) (v : VersionState) (room : Places)
       (keys : List ℕ) → IsSupplied c p room keys → IsSupplied c' (record p { version = v }) room keys
   unfolding directory_back
   supplied_on same p v room keys supplied = record {

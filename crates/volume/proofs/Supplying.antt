@@ -7,8 +7,8 @@ use Rattle.std.specs.FinMap.Entries.{find}
 use Rattle.meaning.specs.Directories.{FileEntry}
 use Rattle.meaning.specs.Files.{name_cmp}
 use Rattle.meaning.proofs.MapLaws.{some_same, some_none}
-use Rattle.directory.specs.Chains.{ChainState, viewed}
-use Rattle.directory.specs.Edits.{StandsAt, IsReserve}
+use Rattle.directory.specs.Chains.{viewed}
+use Rattle.directory.specs.Edits.{StandsAt, Places, IsReserve}
 use Rattle.volume.specs.declared.live.LiveDirectory.{LiveDirectory}
 use Rattle.volume.specs.declared.live.LiveMap.{LiveMap}
 use Rattle.volume.specs.declared.pending.PendingVersion.{PendingVersion}
@@ -39,7 +39,7 @@ is_there c p placed none = some_none (sym placed.there.2.found ∙ none)
 
 -- lists for the directory at the place of its entry
 pub supplied : (size : ℕ) (m : LiveMap) (p : PendingVersion) (i : ℕ) (v : ℕ
-    × ℕ) (x : LiveDirectory) (room : ChainState FileEntry) (keys : List ℕ) → IsWholeCore size (core_of m)
+    × ℕ) (x : LiveDirectory) (room : Places) (keys : List ℕ) → IsWholeCore size (core_of m)
     → StandsAt nat_cmp (map master_view m.master.entries) p.prime.ppn v i → x ≡ get_or m.directories.items i x
     → IsReserve name_cmp (viewed file_view x.chain) p.prime.file room → keys ≡ x.keys.items ++ 0 ∷ []
     → IsSupplied (core_of m) p room keys

@@ -13,8 +13,8 @@ use Rattle.meaning.specs.Faults.{InSpace}
 use Rattle.meaning.specs.Files.{File, Files, Directory, name_cmp}
 use Rattle.meaning.specs.Maps.{get, insert, from_entries, total, times}
 use Rattle.alloctab.specs.TableState.{TableState, IsTable, IsChanged, IsFree, bit, holds}
-use Rattle.directory.specs.Chains.{ChainState, IsChain}
-use Rattle.directory.specs.Edits.{StandsAt, IsReserve, PutsChain}
+use Rattle.directory.specs.Chains.{IsChain}
+use Rattle.directory.specs.Edits.{StandsAt, Places, IsReserve, PutsChain}
 use Rattle.meaning.specs.Regions.{table_blocks}
 use Rattle.retrieval.specs.Modes.{mode_number}
 use Rattle.retrieval.specs.Versions.{VersionState}
@@ -212,7 +212,7 @@ pub record IsPlaced (c : VolumeCore) (p : PendingVersion) : Type 0 where
   pub is_new : is_creation p ≡ is_absent p.prime.file directory
 
 -- Lists with a place for its entry and its key, where its name is new.
-pub record IsSupplied (c : VolumeCore) (p : PendingVersion) (reserve : ChainState FileEntry)
+pub record IsSupplied (c : VolumeCore) (p : PendingVersion) (reserve : Places)
     (keys : List ℕ) : Type 0 where
   pub fits : (d : KnownDirectory) → IsDirectoryOf c p.prime.ppn d → IsReserve name_cmp d.chain p.prime.file reserve
   pub longer : (i : ℕ) (w : ℕ × ℕ) (d : KnownDirectory) (ks : List ℕ)

@@ -125,7 +125,7 @@ pub(crate) fn put_entry(
     grown: Option<u32>,
     set: &mut ChangeSet,
 ) -> Option<usize>
-    requires reserve { IsReserve name_cmp (viewed file_view directory.old.chain) entry.name (viewed file_view reserve) }
+    requires reserve { IsReserve name_cmp (viewed file_view directory.old.chain) entry.name reserve }
     requires keys { find name_cmp entry.name (map file_view directory.old.chain.entries) ≡ None
         → (k : ℕ) × (keys.items ≡ directory.old.keys.items ++ k ∷ []) }
     requires grown { TakesBlock name_cmp (viewed file_view directory.old.chain) entry.name
@@ -215,7 +215,7 @@ pub(crate) fn make_current(
     requires ribs { (p : PendingVersion) → pending_at (core_of core.old).pending key ≡ Some p
         → length supplies.ribs.items ≡ rib_count (length p.version.blocks) }
     requires supplied { (p : PendingVersion) → pending_at (core_of core.old).pending key ≡ Some p
-        → IsSupplied (core_of core.old) p (viewed file_view supplies.reserve) supplies.keys.items }
+        → IsSupplied (core_of core.old) p supplies.reserve supplies.keys.items }
     requires slot { HasRoomFor core.old.versions 1 }
     requires empty { set.old ≡ [] }
     ensures { (p : PendingVersion) → pending_at (core_of core.old).pending key ≡ Some p

@@ -96,7 +96,7 @@ fn publish_written<D: Disk>(
     requires ribs { (p : PendingVersion) → pending_at (core_of map.old).pending key ≡ Some p
         → length supplies.ribs.items ≡ rib_count (length p.version.blocks) }
     requires supplied { (p : PendingVersion) → pending_at (core_of map.old).pending key ≡ Some p
-        → IsSupplied (core_of map.old) p (viewed file_view supplies.reserve) supplies.keys.items }
+        → IsSupplied (core_of map.old) p supplies.reserve supplies.keys.items }
     requires slot { HasRoomFor map.old.versions 1 }
 
     // What it does to core and disk.

@@ -121,7 +121,7 @@ fn arrive(
     requires fits { (d : LiveDirectory) (place : ℕ) (v : ℕ × ℕ)
         → StandsAt nat_cmp (map master_view core.old.master.entries) ppn v place
         → slice_get core.old.directories.items place ≡ Some d
-        → IsReserve name_cmp (viewed file_view d.chain) name.now (viewed file_view supplies.reserve)
+        → IsReserve name_cmp (viewed file_view d.chain) name.now supplies.reserve
         × (supplies.keys.items ≡ d.keys.items ++ 0 ∷ []) }
     requires empty { set.old ≡ [] }
     ensures { Arrives core.old core.new ppn name.now key set.new }
@@ -195,7 +195,7 @@ fn move_to_directory(
     requires fits { (d : LiveDirectory) (place : ℕ) (v : ℕ × ℕ)
         → StandsAt nat_cmp (map master_view core.old.master.entries) to_ppn v place
         → slice_get core.old.directories.items place ≡ Some d
-        → IsReserve name_cmp (viewed file_view d.chain) to.now (viewed file_view supplies.reserve)
+        → IsReserve name_cmp (viewed file_view d.chain) to.now supplies.reserve
         × (supplies.keys.items ≡ d.keys.items ++ 0 ∷ []) }
     requires empty { set.old ≡ [] }
     ensures { (v : LiveVersion) × MovesAcross core.old.table.size (core_of core.old) (core_of core.new) ppn name.now
@@ -243,7 +243,7 @@ fn move_across<D: Disk>(
     requires fits { (d : LiveDirectory) (place : ℕ) (v : ℕ × ℕ)
         → StandsAt nat_cmp (map master_view core.old.master.entries) to_ppn v place
         → slice_get core.old.directories.items place ≡ Some d
-        → IsReserve name_cmp (viewed file_view d.chain) to.now (viewed file_view supplies.reserve)
+        → IsReserve name_cmp (viewed file_view d.chain) to.now supplies.reserve
         × (supplies.keys.items ≡ d.keys.items ++ 0 ∷ []) }
     requires unclaimed { claims (core_of core.old).pending (place_of ppn name.now) ≡ false }
 

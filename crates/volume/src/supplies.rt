@@ -65,7 +65,7 @@ pub(crate) fn find_entry_supplies(
     requires inside { place < length map.now.directories.items }
     requires named { 0 < name.name }
     ensures fits { IfOk result (λ supplies. (d : LiveDirectory) → slice_get map.now.directories.items place ≡ Some d
-        → IsReserve name_cmp (viewed file_view d.chain) name (viewed file_view supplies.reserve)) }
+        → IsReserve name_cmp (viewed file_view d.chain) name supplies.reserve) }
     ensures longer { IfOk result (λ supplies. (d : LiveDirectory) → slice_get map.now.directories.items place ≡ Some d
         → supplies.keys.items ≡ d.keys.items ++ 0 ∷ []) }
 {
@@ -98,7 +98,7 @@ pub(crate) fn find_supplies(
     ensures core { core_of map.new ≡ core_of map.old }
     ensures ribs { IfOk result (λ supplies. length supplies.ribs.items ≡ rib_count blocks) }
     ensures supplied { IfOk result (λ supplies. (p : PendingVersion) → pending_at (core_of map.old).pending key ≡ Some p
-        → IsSupplied (core_of map.old) p (viewed file_view supplies.reserve) supplies.keys.items) }
+        → IsSupplied (core_of map.old) p supplies.reserve supplies.keys.items) }
     ensures slot { IfOk result (λ supplies. HasRoomFor map.new.versions 1) }
 {
     let Some(version) = map.pending.get(key) else {

@@ -14,7 +14,7 @@ returns-in_default-clause-bad g c k is =
     ∙ count_of g.E.Entry.words_of g.met.E.Entry.apart g.E.Entry.IsEntry block next es c.index-block-1.result s in (
       cc,
       stuck g.E.Entry.order g.E.Entry.words_of g.E.Entry.IsEntry g.E.Entry.target c.args.size block
-          (map g.E.Entry.view c.args.entries.now.items) next es s c.bits.result
+          (map g.E.Entry.view c.args.entries.now) next es s c.bits.result
           (c.bits.ensures.value ∙ head_of g.E.Entry.words_of g.met.E.Entry.apart g.E.Entry.IsEntry block
           next es c.index-block-0.result s) c.in_default.ensures.named
           (λ full inside. c.in_default.ensures.none (eq-eqb c.bits-count.result 42 (count ∙ full)) inside),
@@ -28,28 +28,28 @@ returns-then-not-is_first-clause-bad g c k is =
     ∙ count_of g.E.Entry.words_of g.met.E.Entry.apart g.E.Entry.IsEntry block next es c.index-block-1.result s in (
       cc,
       empty_behind g.E.Entry.order g.E.Entry.words_of g.E.Entry.IsEntry g.E.Entry.target c.args.size block
-          (map g.E.Entry.view c.args.entries.now.items) next es s
+          (map g.E.Entry.view c.args.entries.now) next es s
           (sym count ∙ c.if-count-eq0.true)
-          (some_then g.E.Entry.view c.as_slice.result.now c.args.entries.now.items c.is_empty-is_first.result
-          c.as_slice.ensures.value c.is_empty-is_first.ensures c.if-not-is_first.true),
+          (some_then g.E.Entry.view c.as_slice.result.now c.args.entries.now c.is_empty-is_first.result
+          c.as_slice.ensures c.is_empty-is_first.ensures c.if-not-is_first.true),
     )
 
 pub returns-in-Ok-clause-ok : goal.returns-in-Ok-clause-ok
 returns-in-Ok-clause-ok g c =
     let block = c.args.block.now in
-    let old = map g.E.Entry.view c.args.entries.now.items in
+    let old = map g.E.Entry.view c.args.entries.now in
     let (next, es, s) = c.is_directory_block.ensures.yes c.if-not-is_directory_block.false in
     let count : c.bits-count.result ≡ length es = c.bits-count.ensures.value
     ∙ count_of g.E.Entry.words_of g.met.E.Entry.apart g.E.Entry.IsEntry block next es c.index-block-1.result s in
     adds g.E.Entry.order g.E.Entry.words_of g.E.Entry.IsEntry g.E.Entry.target c.args.size block old next
-    es s c.in-Some.next (map g.E.Entry.view c.push_entries.new.entries.items)
+    es s c.in-Some.next (map g.E.Entry.view c.push_entries.new.entries)
     (c.in-Some.ensures.some ∙ c.bits.ensures.value
     ∙ head_of g.E.Entry.words_of g.met.E.Entry.apart g.E.Entry.IsEntry block next es c.index-block-0.result s)
     (λ some. sym count ∙ same_number c.bits-count.result 42 (c.in-Some.ensures.full some)) c.in-Some.ensures.inside
     (λ some. elim c.else-count-eq0.branch [
       | else-count-eq0-via-then-count-eq0+else-not-is_first w ↦ absurd
-          (none_then g.E.Entry.view c.as_slice.result.now c.args.entries.now.items c.is_empty-is_first.result
-          c.as_slice.ensures.value c.is_empty-is_first.ensures w.if-not-is_first.false some)
+          (none_then g.E.Entry.view c.as_slice.result.now c.args.entries.now c.is_empty-is_first.result
+          c.as_slice.ensures c.is_empty-is_first.ensures w.if-not-is_first.false some)
       | else-count-eq0-via-else-count-eq0 w ↦ let e = w.if-count-eq0.false in omega arith
     ])
     (c.in-Ok.ensures.ok next es s (sym count)) c.in-Ok.ensures.good

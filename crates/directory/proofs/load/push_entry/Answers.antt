@@ -1,14 +1,15 @@
-use Rattle.std.proofs.Common.{map, sym, subst, ◌∙◌}
+use Rattle.std.proofs.Common.{◌≡◌, map, None, subst, ◌∙◌}
 use Rattle.std.specs.FinMap.Entries.{find}
 use Rattle.meaning.specs.Faults.{InSpace}
+use Rattle.directory.proofs.Finding.{if_none}
 use Rattle.directory.proofs.EntryReading.{good_push}
 use Rattle.directory.proofs.load.push_entry.Goals as goal
 
 pub returns-in-Ok-push-clause-good : goal.returns-in-Ok-push-clause-good
 returns-in-Ok-push-clause-good g c =
-    good_push g.met.E.Entry.total g.E.Entry.view g.E.Entry.IsEntry g.E.Entry.target c.args.size c.args.entries.now.items
-    c.push.new.self.items c.in-Ok.entry c.in-Ok-push.ensures.items c.requires.good c.in-Ok.ensures.good
+    good_push g.met.E.Entry.total g.E.Entry.view g.E.Entry.IsEntry g.E.Entry.target c.args.size c.args.entries.now
+    c.push.new.self c.in-Ok.entry c.in-Ok-push.ensures.more c.requires.good c.in-Ok.ensures.good
     (subst (InSpace c.args.size) (c.from.ensures
     ∙ c.target.ensures) (c.is_in_space.ensures.0 c.if-not-is_in_space.false))
-    ((λ j. find g.E.Entry.order (sym c.key.ensures j) (map g.E.Entry.view (sym c.deref.ensures.value j)))
-    ∙ c.is_new.ensures.0 c.if-not-is_new.false)
+    (subst (λ q. find g.E.Entry.order q (map g.E.Entry.view c.args.entries.now) ≡ None) c.key.ensures
+    (if_none c.find.result (c.if-is_some.ensures) c.find.ensures.none))

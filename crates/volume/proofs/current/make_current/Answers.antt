@@ -77,7 +77,7 @@ put_entry-old-requires-clause-reserve c =
     let d = c.index_mut.result.now in
     let at = index_is m.directories.items place d _
     (place_within m c.requires.whole p.prime.ppn place stands.0 stands.1) c.index_mut.ensures.value in
-    subst (λ name. IsReserve name_cmp (viewed file_view d.chain) name (viewed file_view c.args.supplies.reserve))
+    subst (λ name. IsReserve name_cmp (viewed file_view d.chain) name c.args.supplies.reserve)
     (sym c.file_entry-entry.ensures.name)
     ((c.requires.supplied p was).fits (live_directory m.versions.slots d)
     (is_directory m c.requires.whole c.args.key p was (c.requires.placed p was) place stands.0 stands.1 d at))

@@ -1,8 +1,6 @@
 use Rattle.std.proofs.Common.{refl, sym, subst, ◌∙◌}
 use Rattle.std.proofs.lemmas.Option.{get_or_from_slice_get}
-use Rattle.directory.specs.Chains.{viewed}
 use Rattle.meaning.proofs.MapLaws.{some_same}
-use Rattle.volume.specs.Cores.{file_view}
 use Rattle.volume.specs.LiveCores.{core_of}
 use Rattle.volume.specs.Publishing.{IsSupplied}
 use Rattle.volume.specs.declared.pending.PendingVersion.{PendingVersion}
@@ -32,7 +30,7 @@ returns-clause-supplied c p is =
     let stands = c.in-Ok.ensures.found in
     let within = place_within core c.requires.whole q.prime.ppn place stands.0 stands.1 in
     let e = element_at core.directories.items place within in
-    let room = viewed file_view c.in_ok-reserve.field-0.reserve in
+    let room = c.in_ok-reserve.field-0.reserve in
     let keys = c.in_ok-reserve.field-0.keys.items in
     let all = supplied core.table.size core q place stands.0 e.0 room keys c.requires.whole stands.1
     (sym (get_or_from_slice_get core.directories.items place e.0 e.0 e.1))

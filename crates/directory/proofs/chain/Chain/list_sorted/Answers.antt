@@ -1,18 +1,40 @@
-use Rattle.std.proofs.Common.{◌++◌, ap, subst, ◌∙◌}
-use Rattle.std.specs.Ordering.{is_lt}
-use Rattle.std.specs.List.Sorted.{IsPermutation}
-use Rattle.std.proofs.lemmas.List.Sorted.{answers_always, ranks_by}
-use Rattle.directory.proofs.Listing.{listed}
+use Rattle.std.proofs.Common.{◌<◌, length, map, get_or, sym, ap, subst, ◌∙◌, arith}
+use Rattle.directory.specs.Indexes.{IsIndex}
+use Rattle.directory.proofs.Listing.{listed_whole, listed_more, place_inside}
 use Rattle.directory.proofs.chain.Chain.list_sorted.Goals as goal
+
+pub bounds-entries-place : goal.bounds-entries-place
+bounds-entries-place g c =
+    place_inside g.E.Entry.order g.E.Entry.view c.entries-entries.result.now c.places-place-items.result.now
+    c.loop-place.place-index 0
+    (subst (λ es. IsIndex g.E.Entry.order (map g.E.Entry.view es) c.places-place-items.result.now)
+    (ap (λ s. s.entries) c.self.view_is ∙ sym c.entries-entries.ensures.value) c.places-place-items.ensures)
+    c.loop-place-test.true
+
+pub offset_bounds-entries-place : goal.offset_bounds-entries-place
+offset_bounds-entries-place g c =
+    let h = place_inside g.E.Entry.order g.E.Entry.view c.entries-entries.result.now c.places-place-items.result.now
+    c.loop-place.place-index 0
+    (subst (λ es. IsIndex g.E.Entry.order (map g.E.Entry.view es) c.places-place-items.result.now)
+    (ap (λ s. s.entries) c.self.view_is ∙ sym c.entries-entries.ensures.value) c.places-place-items.ensures)
+    c.loop-place-test.true in
+    omega arith
+
+pub loop-place-preserved : goal.loop-place-preserved
+loop-place-preserved g c =
+    listed_more c.entries-entries.result.now c.places-place-items.result.now c.loop-place.place-index
+    c.index-entries-place.result c.loop-place.list.items c.push.new.self.items c.loop-place-test.true
+    (place_inside g.E.Entry.order g.E.Entry.view c.entries-entries.result.now c.places-place-items.result.now
+    c.loop-place.place-index 0
+    (subst (λ es. IsIndex g.E.Entry.order (map g.E.Entry.view es) c.places-place-items.result.now)
+    (ap (λ s. s.entries) c.self.view_is ∙ sym c.entries-entries.ensures.value) c.places-place-items.ensures)
+    c.loop-place-test.true)
+    c.index-entries-place.is c.loop-place.invariant c.in-Ok.ensures.items
 
 pub returns : goal.returns
 returns g c =
-    let view = g.E.Entry.view in
-    let same = c.in_ok-extend_from_slice.ensures.items ∙ ap (λ es. es ++ c.entries.result.now) c.new-list.ensures.items
-    ∙ c.entries.ensures.value in
-    let moved = subst (λ es. IsPermutation es c.sort_unstable_by.new.self.items) same
-    c.sort_unstable_by.ensures.permutation in
-    let sorted = c.sort_unstable_by.ensures.sorted _ (ranks_by g.met.E.Entry.total (λ (e : g.row.E.Denot). (view e).0))
-    (answers_always _ _ _ (λ f a r f' k. ap is_lt k.met)) in
-    listed g.met.E.Entry.total g.met.E.Entry.exact view c.args.self.now.entries c.sort_unstable_by.new.self.items
-    c.entries.ensures.sound.each_once moved sorted
+    listed_whole g.met.E.Entry.total g.met.E.Entry.exact g.E.Entry.view c.args.self.now.entries
+    c.entries-entries.result.now c.places-place-items.result.now c.loop-place.place-index c.loop-place.list.items
+    (subst (λ es. IsIndex g.E.Entry.order (map g.E.Entry.view es) c.places-place-items.result.now)
+    (ap (λ s. s.entries) c.self.view_is) c.places-place-items.ensures)
+    c.entries-entries.ensures.value c.loop-place-test.false c.loop-place.invariant

@@ -8,6 +8,7 @@ use Rattle.directory.specs.Loading.{IsTwiceInChain}
 use Rattle.directory.proofs.ChainReading.{reads_start, loading_starts, loading_less, loading_on, fewer, bad_chain}
 use Rattle.directory.proofs.ChainReading.{twice_in_chain, reads_moved, bad_moved, bad_of, loaded_walk, loaded_on}
 use Rattle.directory.proofs.ChainReading.{whole_not_bad, whole_not_twice}
+use Rattle.directory.proofs.Growing.{none_needed}
 use Rattle.changeset.proofs.Reading.{only_reads_on, passed_on}
 use Rattle.directory.proofs.chain.Chain.load.Goals as goal
 
@@ -18,10 +19,11 @@ loop-next-init g c =
       same = same_disk_start s;
       served = refl;
       reads = λ h. reads_start s;
+      places = none_needed c.new-blocks.result.len c.new-blocks.result.cap c.new-blocks.ensures.len;
       loading = loading_starts g.E.Entry.order g.E.Entry.words_of g.E.Entry.IsEntry g.E.Entry.target
           c.blocks-size.result s.honest s.contents c.args.reached.now c.args.first c.new-blocks.result.items
-          (map g.E.Entry.view c.new-entries.result.items) c.new-blocks.ensures.items
-          (ap (map g.E.Entry.view) c.new-entries.ensures.items)
+          (map g.E.Entry.view c.new-entries.result) c.new-blocks.ensures.items
+          (ap (map g.E.Entry.view) c.new-entries.ensures)
           (subst (λ n. InSpace n c.args.first) (sym c.blocks-size.ensures) c.requires.first)
           (c.requires.marks ∙ sym c.blocks-size.ensures);
     }
@@ -31,7 +33,7 @@ returns-in_err-next-clause-bad g c h k is =
     let s = g.D.Disk.state c.args.disk.now in
     let now = g.D.Disk.state c.loop-next.disk in
     let next = c.loop-next.next in
-    let entries = map g.E.Entry.view c.loop-next.entries.items in
+    let entries = map g.E.Entry.view c.loop-next.entries in
     let some : 0 < next = let e = c.loop-next-test.true in omega arith in
     let p = err_from_is_err_and c.from_residual.result c.from_residual.ensures.1 in
     let e = c.read_on.ensures.bad h k (passed_on c.from_residual.result c.read_on.result p.0 c.in_err-next.field-0.0
@@ -49,7 +51,7 @@ pub returns-in_err-next-clause-twice : goal.returns-in_err-next-clause-twice
 returns-in_err-next-clause-twice g c h k is =
     let s = g.D.Disk.state c.args.disk.now in
     let next = c.loop-next.next in
-    let entries = map g.E.Entry.view c.loop-next.entries.items in
+    let entries = map g.E.Entry.view c.loop-next.entries in
     let some : 0 < next = let e = c.loop-next-test.true in omega arith in
     let p = err_from_is_err_and c.from_residual.result c.from_residual.ensures.1 in
     let e = c.read_on.ensures.twice k (passed_on c.from_residual.result c.read_on.result p.0 c.in_err-next.field-0.0
@@ -100,7 +102,7 @@ loop-next-smaller g c =
     fewer g.E.Entry.order g.E.Entry.words_of g.E.Entry.IsEntry g.E.Entry.target c.blocks-size.result
     (g.D.Disk.state c.loop-next.disk).honest s.contents c.args.reached.now c.args.first c.loop-next.reached
     c.loop-next.blocks.items
-    (map g.E.Entry.view c.loop-next.entries.items) c.loop-next.next c.loop-next.invariant.loading some
+    (map g.E.Entry.view c.loop-next.entries) c.loop-next.next c.loop-next.invariant.loading some
     c.read_on.new.reached c.read_on.ensures.marked c.in_ok-next.ensures.fresh
 
 pub loop-next-preserved : goal.loop-next-preserved
@@ -109,25 +111,26 @@ loop-next-preserved g c =
     let now = g.D.Disk.state c.loop-next.disk in
     let new = g.D.Disk.state c.read_on.new.disk in
     let next = c.loop-next.next in
-    let old = map g.E.Entry.view c.loop-next.entries.items in
+    let old = map g.E.Entry.view c.loop-next.entries in
     let some : 0 < next = let e = c.loop-next-test.true in omega arith in
     record {
       same = same_disk_on s now new c.loop-next.invariant.same c.read_on.ensures.same;
       served = c.in_ok-next.ensures.served (λ is. cc) ∙ c.loop-next.invariant.served;
       reads = λ h. only_reads_on s now new (c.loop-next.invariant.reads (c.read_on.ensures.same.was_honest h))
           (c.read_on.ensures.reads h);
+      places = c.read_on.ensures.places;
       loading = loading_on g.E.Entry.order g.E.Entry.words_of g.E.Entry.IsEntry g.E.Entry.target c.blocks-size.result
           new.honest s.contents c.args.reached.now c.args.first c.loop-next.reached c.loop-next.blocks.items old next
           (loading_less g.E.Entry.order g.E.Entry.words_of g.E.Entry.IsEntry g.E.Entry.target c.blocks-size.result
           now.honest new.honest c.read_on.ensures.same.was_honest s.contents c.args.reached.now c.loop-next.reached
           c.args.first
           c.loop-next.blocks.items old next c.loop-next.invariant.loading) some c.read_on.new.reached
-          c.read_on.new.blocks.items c.in_ok-next.next (map g.E.Entry.view c.read_on.new.entries.items)
+          c.read_on.new.blocks.items c.in_ok-next.next (map g.E.Entry.view c.read_on.new.entries)
           c.read_on.ensures.marked c.in_ok-next.ensures.blocks
           c.in_ok-next.ensures.fresh
           (reads_moved g.E.Entry.order g.E.Entry.words_of g.E.Entry.IsEntry g.E.Entry.target c.blocks-size.result
           new.honest new.honest s.contents now.contents next c.in_ok-next.next old
-          (map g.E.Entry.view c.read_on.new.entries.items) (λ h. h)
+          (map g.E.Entry.view c.read_on.new.entries) (λ h. h)
           (λ h. (c.loop-next.invariant.reads (c.read_on.ensures.same.was_honest h)).still.contents)
           c.in_ok-next.ensures.ok);
     }
@@ -138,7 +141,7 @@ returns-clause-on g c h =
     loaded_on g.E.Entry.order g.E.Entry.words_of g.E.Entry.IsEntry g.E.Entry.target c.blocks-size.result
     (g.D.Disk.state c.loop-next.disk).honest s.contents c.args.reached.now c.args.first c.loop-next.reached
     c.loop-next.blocks.items
-    (map g.E.Entry.view c.loop-next.entries.items) c.loop-next.next c.loop-next.invariant.loading c.loop-next-test.false
+    (map g.E.Entry.view c.loop-next.entries) c.loop-next.next c.loop-next.invariant.loading c.loop-next-test.false
     h
 
 pub returns-clause-walk : goal.returns-clause-walk
@@ -147,10 +150,10 @@ returns-clause-walk g c h =
     loaded_walk g.E.Entry.order g.E.Entry.words_of g.E.Entry.IsEntry g.E.Entry.target c.blocks-size.result
     (g.D.Disk.state c.loop-next.disk).honest s.contents c.args.reached.now c.args.first c.loop-next.reached
     c.loop-next.blocks.items
-    (map g.E.Entry.view c.loop-next.entries.items) c.loop-next.next c.loop-next.invariant.loading c.loop-next-test.false
+    (map g.E.Entry.view c.loop-next.entries) c.loop-next.next c.loop-next.invariant.loading c.loop-next-test.false
     h
 
 pub returns-clause-targets : goal.returns-clause-targets
 returns-clause-targets g c =
-    subst (λ n. AllByRecursion (λ e. InSpace n (g.E.Entry.target e)) (map g.E.Entry.view c.loop-next.entries.items))
+    subst (λ n. AllByRecursion (λ e. InSpace n (g.E.Entry.target e)) (map g.E.Entry.view c.loop-next.entries))
     c.blocks-size.ensures c.loop-next.invariant.loading.good.inside

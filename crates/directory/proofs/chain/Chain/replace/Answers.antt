@@ -1,18 +1,28 @@
+use Rattle.std.proofs.Common.{sym, subst, ◌∙◌}
+use Rattle.directory.specs.Chains.{IsChain, viewed}
+use Rattle.directory.specs.Edits.{PutsChain}
 use Rattle.directory.proofs.Steps.{replaced_sound, replaced_put}
 use Rattle.directory.proofs.chain.Chain.replace.Goals as goal
 
 pub invariant_of-self : goal.invariant_of-self
-invariant_of-self g c =
-    replaced_sound g.met.E.Entry.total g.E.Entry.IsEntry g.E.Entry.view
-    (record { blocks = c.self.inside.blocks.items; entries = c.self.inside.entries.items }) c.args.self.now
-    c.args.i c.args.entry
-    c.self.view_is c.self.invariant c.requires.within c.requires.alone c.words-words.ensures.good
+invariant_of-self g c = (
+  subst (λ es. IsChain g.E.Entry.order g.E.Entry.IsEntry
+      (viewed g.E.Entry.view (record { blocks = c.self.inside.blocks.items; entries = es }))) (sym c.set.ensures)
+      (replaced_sound g.met.E.Entry.total g.E.Entry.IsEntry g.E.Entry.view
+      (record { blocks = c.self.inside.blocks.items; entries = c.self.inside.entries }) c.args.self.now
+      c.args.i c.args.entry
+      c.self.view_is c.self.invariant.0 c.requires.within c.requires.alone c.words-words.ensures.good),
+  c.self.invariant.1,
+)
 
 pub returns-clause-put : goal.returns-clause-put
 returns-clause-put g c =
-    replaced_put g.met.E.Entry.total g.E.Entry.IsEntry g.E.Entry.view g.E.Entry.words_of
-    (record { blocks = c.self.inside.blocks.items; entries = c.self.inside.entries.items }) c.args.self.now
+    subst (λ es. PutsChain g.E.Entry.words_of (viewed g.E.Entry.view c.args.self.now)
+    (viewed g.E.Entry.view (record { blocks = c.self.inside.blocks.items; entries = es })) c.args.set.now
+    c.put_block.new.set) (sym c.set.ensures)
+    (replaced_put g.met.E.Entry.total g.E.Entry.IsEntry g.E.Entry.view g.E.Entry.words_of
+    (record { blocks = c.self.inside.blocks.items; entries = c.self.inside.entries }) c.args.self.now
     c.args.i c.args.entry
-    c.deref.result.now c.deref-2.result.now c.args.set.now c.put_block.new.set
-    c.self.view_is c.self.invariant c.requires.within c.deref.ensures.value c.deref-2.ensures.value
-    c.put_block.ensures.set
+    c.deref.result.now c.as_slice.result.now c.args.set.now c.put_block.new.set
+    c.self.view_is c.self.invariant.0 c.requires.within c.deref.ensures.value (c.as_slice.ensures ∙ c.set.ensures)
+    c.put_block.ensures.set)

@@ -1,33 +1,33 @@
-use Rattle.std.proofs.Common.{length, ap, sym, ◌∙◌}
+use Rattle.std.proofs.Common.{ap, ◌∙◌}
 use Rattle.meaning.specs.Costs.{directory_cost}
 use Rattle.directory.proofs.Steps.{removed_entries, removed_sound, removed_put}
 use Rattle.directory.proofs.chain.Chain.take_out.Goals as goal
 
 pub invariant_of-self : goal.invariant_of-self
-invariant_of-self g c =
-    removed_sound g.met.E.Entry.total g.E.Entry.IsEntry g.E.Entry.view
-    (record { blocks = c.self.inside.blocks.items; entries = c.self.inside.entries.items }) c.args.self.now
-    c.args.i c.swap_remove.result
-    c.pop_empty-freed.new.blocks.items c.pop_empty-freed.result c.swap_remove.new.self.items c.self.view_is
-    c.self.invariant c.requires.within c.pop_empty-freed.ensures.blocks c.swap_remove.ensures.items
-    (c.pop_empty-freed.ensures.counted ∙ ap directory_cost (c.len.ensures ∙ sym c.deref-2.ensures.len
-    ∙ ap length c.deref-2.ensures.value))
+invariant_of-self g c = (
+  removed_sound g.met.E.Entry.total g.E.Entry.IsEntry g.E.Entry.view
+      (record { blocks = c.self.inside.blocks.items; entries = c.self.inside.entries }) c.args.self.now
+      c.args.i c.swap_remove.result
+      c.pop_empty-freed.new.blocks.items c.pop_empty-freed.result c.swap_remove.new.self c.self.view_is
+      c.self.invariant.0 c.requires.within c.pop_empty-freed.ensures.blocks c.swap_remove.ensures
+      (c.pop_empty-freed.ensures.counted ∙ ap directory_cost c.len.ensures),
+  c.pop_empty-freed.ensures.places,
+)
 
 pub returns-clause-entries : goal.returns-clause-entries
 returns-clause-entries g c =
     removed_entries g.met.E.Entry.total g.E.Entry.IsEntry g.E.Entry.view
-    (record { blocks = c.self.inside.blocks.items; entries = c.self.inside.entries.items }) c.args.self.now
+    (record { blocks = c.self.inside.blocks.items; entries = c.self.inside.entries }) c.args.self.now
     c.args.i c.swap_remove.result
-    c.swap_remove.new.self.items c.self.view_is c.requires.within c.swap_remove.ensures.items
+    c.swap_remove.new.self c.self.view_is c.requires.within c.swap_remove.ensures
 
 pub returns-clause-put : goal.returns-clause-put
 returns-clause-put g c =
     removed_put g.met.E.Entry.total g.E.Entry.IsEntry g.E.Entry.view g.E.Entry.words_of
-    (record { blocks = c.self.inside.blocks.items; entries = c.self.inside.entries.items }) c.args.self.now
+    (record { blocks = c.self.inside.blocks.items; entries = c.self.inside.entries }) c.args.self.now
     c.args.i c.swap_remove.result
-    c.pop_empty-freed.new.blocks.items c.deref.result.now c.pop_empty-freed.result c.swap_remove.new.self.items
-    c.deref-2.result.now c.args.set.now c.put_hole.new.set
-    c.self.view_is c.self.invariant c.requires.within c.pop_empty-freed.ensures.blocks c.swap_remove.ensures.items
-    (c.pop_empty-freed.ensures.counted ∙ ap directory_cost (c.len.ensures ∙ sym c.deref-2.ensures.len
-    ∙ ap length c.deref-2.ensures.value))
-    c.deref.ensures.value c.deref-2.ensures.value c.put_hole.ensures.one c.put_hole.ensures.both
+    c.pop_empty-freed.new.blocks.items c.deref.result.now c.pop_empty-freed.result c.swap_remove.new.self
+    c.as_slice.result.now c.args.set.now c.put_hole.new.set
+    c.self.view_is c.self.invariant.0 c.requires.within c.pop_empty-freed.ensures.blocks c.swap_remove.ensures
+    (c.pop_empty-freed.ensures.counted ∙ ap directory_cost c.len.ensures)
+    c.deref.ensures.value c.as_slice.ensures c.put_hole.ensures.one c.put_hole.ensures.both

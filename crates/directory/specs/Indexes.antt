@@ -1,0 +1,54 @@
+-- The places of entries by rising keys, beside a list of entries in another order.
+use Rattle.std.specs.Prelude.{◌≡◌, ℕ, ◌<◌, ◌≤◌, ◌++◌, ◌∷◌, suc, List, [], length, slice_get, Option, Some, None, take, drop, ⊤}
+use Rattle.std.specs.List.{AllByRecursion}
+use Rattle.std.specs.declared.cmp.Ordering.{Ordering}
+use Rattle.std.specs.declared.cmp.Ordering.TheVariants.{Less, Greater}
+use Rattle.meaning.specs.Maps.{times}
+
+-- how the key of an entry stands to another; no entry stands below each key
+abbrev pub order_to : {K V : Type 0} → (K → K → Ordering) → K → Option (K × V) → Ordering
+order_to R k None = Less
+order_to R k (Some e) = R e.0 k
+
+module _ {K V : Type 0} (R : K → K → Ordering) (items : List (K × V)) where
+  -- An entry with this key stands at place p.
+  abbrev pub HasKeyAt : K → ℕ → Type 0
+  HasKeyAt k p = (v : V) × (slice_get items p ≡ Some (k, v))
+
+  -- The key at place p is below that at place q.
+  abbrev pub Precedes : ℕ → ℕ → Type 0
+  Precedes p q = (x y : K × V) → slice_get items p ≡ Some x → slice_get items q ≡ Some y → R x.0 y.0 ≡ Less
+
+  -- Places of entries, by rising keys.
+  abbrev pub AreRising : List ℕ → Type 0
+  AreRising [] = ⊤
+  AreRising (p ∷ ps) = (p < length items) × AllByRecursion (Precedes p) ps × AreRising ps
+
+  -- The key at a place stands so to this one.
+  abbrev pub Compares : K → Ordering → ℕ → Type 0
+  Compares k r p = (x : K × V) → slice_get items p ≡ Some x → R x.0 k ≡ r
+
+  -- Where a key would stand in the order, which none of the places has.
+  pub record IsGap (k : K) (order : List ℕ) (at : ℕ) : Type 0 where
+    pub within : at ≤ length order
+    pub low : AllByRecursion (Compares k Less) (take at order)
+    pub high : AllByRecursion (Compares k Greater) (drop at order)
+
+  -- A place came into the order, where its key belongs.
+  pub record IsEntered (k : K) (place : ℕ) (old new : List ℕ) : Type 0 where
+    pub at : ℕ
+    pub gap : IsGap k old at
+    pub is : new ≡ take at old ++ place ∷ drop at old
+
+  -- All places, each once, by rising keys.
+  pub record IsIndex (order : List ℕ) : Type 0 where
+    pub rising : AreRising order
+    pub inside : (p : ℕ) → p < length items → times p order ≡ 1
+    pub outside : (p : ℕ) → length items ≤ p → times p order ≡ 0
+    pub counted : length order ≡ length items
+
+-- A place left an order.
+pub record IsLeft (place : ℕ) (old new : List ℕ) : Type 0 where
+  pub at : ℕ
+  pub was : slice_get old at ≡ Some place
+  pub is : new ≡ take at old ++ drop (suc at) old

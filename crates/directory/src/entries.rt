@@ -1,0 +1,150 @@
+ghost use Rattle.std.specs.Prelude.{◌≡◌, ◌<◌, ◌++◌, ◌∷◌, [], IfOk, OnOk, OnErr, IfSome, IfNone, None, Some, suc};
+ghost use Rattle.std.specs.Prelude.{length, map, swap_remove, slice_get, slice_set, take, drop};
+ghost use Rattle.std.specs.FinMap.Entries.{find};
+ghost use Rattle.directory.specs.Edits.{StandsAt};
+ghost use Rattle.directory.specs.Indexes.{IsIndex};
+ghost use Rattle.directory.specs.Rooms.{IsRoomFor};
+
+use crate::Entry;
+use crate::order::{enter, find_place, rename_place, take_place};
+use crate::room::{Room, find_room, make_room, push_into};
+use blockdisk::NoMemory;
+use std::alloc::Global;
+use std::marker::Model;
+
+/// The entries of a directory in core, in the order of the disk, and beside them their places by rising keys, so that
+/// no search goes through the list. No key comes twice.
+#[derive(Drop)]
+pub struct Entries<E: Entry> {
+    list: Vec<E>,
+    order: Vec<usize>,
+}
+
+impl<E: Entry> Model for Entries<E> {
+    ghost use Rattle.std.specs.Prelude.{List, map};
+    ghost use Rattle.std.specs.Coded.{coded_list};
+    ghost use Rattle.std.specs.Vec.{vec_len, vec_capacity};
+    ghost use Rattle.directory.specs.Indexes.{IsIndex};
+    ghost use Rattle.directory.specs.Rooms.{HasPlaces};
+
+    ghost Value = { List E };
+
+    ghost coded = { coded_list E.code };
+
+    ghost view = { λ e. e.list.items };
+
+    ghost invariant = { λ e. IsIndex E.order (map E.view e.list.items) e.order.items
+        × HasPlaces (vec_len e.list) (vec_capacity e.list) × HasPlaces (vec_len e.order) (vec_capacity e.order) };
+}
+
+impl<E: Entry> Entries<E> {
+    /// No entries.
+    pub fn new(alloc: Global) -> Self
+        ensures { result ≡ [] }
+    {
+        Entries {
+            list: Vec::new(alloc),
+            order: Vec::new(alloc),
+        }
+    }
+
+    /// The entries as a slice.
+    pub fn as_slice(&self) -> &[E]
+        ensures { result.now ≡ self.now }
+    {
+        self.list.as_slice()
+    }
+
+    /// The places of the entries by rising keys.
+    pub fn places(&self) -> &[usize]
+        ensures { IsIndex E.order (map E.view self.now) result.now }
+    {
+        self.order.as_slice()
+    }
+
+    /// How many there are.
+    pub fn len(&self) -> usize
+        ensures { result ≡ length self.now }
+    {
+        self.list.len()
+    }
+
+    /// The place of the entry with this key, counted from 0, or `None` where there is no such entry.
+    pub fn find(&self, key: &E::Key) -> Option<usize>
+        ensures found { IfSome result (λ i. (v : E.Stored) × StandsAt E.order (map E.view self.now) key.now v i) }
+        ensures none { IfNone result (find E.order key.now (map E.view self.now) ≡ None) }
+    {
+        find_place(&self.order, &self.list, key)
+    }
+
+    /// Finds the memory that one entry more takes.
+    ///
+    /// # Errors
+    ///
+    /// `NoMemory` where there is none.
+    pub fn find_room(&self, alloc: Global) -> Result<Room<E>, NoMemory>
+        ensures { IfOk result (IsRoomFor (length self.now)) }
+    {
+        find_room(alloc, self.list.len())
+    }
+
+    /// Finds the memory that the place of one entry more takes.
+    ///
+    /// # Errors
+    ///
+    /// `NoMemory` where there is none.
+    pub fn find_place_room(&self, alloc: Global) -> Result<Room<usize>, NoMemory>
+        ensures { IfOk result (IsRoomFor (length self.now)) }
+    {
+        find_room(alloc, self.list.len())
+    }
+
+    /// Adds an entry with a new key behind the others, in memory found before.
+    pub fn push_into(&mut self, room: Room<E>, places: Room<usize>, entry: E)
+        requires absent { find E.order (E.view entry).0 (map E.view self.old) ≡ None }
+        requires room { IsRoomFor (length self.old) room }
+        requires places { IsRoomFor (length self.old) places }
+        ensures { self.new ≡ self.old ++ entry ∷ [] }
+    {
+        make_room(&mut self.order, places);
+        enter(&mut self.order, &self.list, &entry.key(), self.list.len());
+        push_into(&mut self.list, room, entry);
+    }
+
+    /// Adds an entry with a new key behind the others.
+    ///
+    /// # Errors
+    ///
+    /// `NoMemory` where there is none; nothing changes then.
+    pub fn push(&mut self, entry: E) -> Result<(), NoMemory>
+        requires { find E.order (E.view entry).0 (map E.view self.old) ≡ None }
+        ensures more { OnOk result (self.new ≡ self.old ++ entry ∷ []) }
+        ensures same { OnErr result (self.new ≡ self.old) }
+    {
+        let alloc = *self.list.allocator();
+        let room = self.find_room(alloc)?;
+        let places = self.find_place_room(alloc)?;
+        self.push_into(room, places, entry);
+        Ok(())
+    }
+
+    /// Puts an entry in the place of another. Its key stands in no other place.
+    pub fn set(&mut self, i: usize, entry: E)
+        requires within { i < length self.old }
+        requires alone { find E.order (E.view entry).0 (take i (map E.view self.old) ++ drop (suc i) (map E.view self.old))
+            ≡ None }
+        ensures { self.new ≡ slice_set self.old i entry }
+    {
+        rename_place(&mut self.order, &self.list, i, &entry);
+        self.list[i] = entry;
+    }
+
+    /// Takes out the entry at a place; the last one moves there.
+    pub fn swap_remove(&mut self, i: usize) -> E
+        requires { i < length self.old }
+        ensures { self.new ≡ swap_remove self.old i result }
+    {
+        take_place(&mut self.order, &self.list, i);
+        self.list.swap_remove(i)
+    }
+}

@@ -1,0 +1,108 @@
+ghost use Rattle.std.specs.Prelude.{◌≡◌, ◌+◌, ◌*◌, ◌<◌, ◌^◌, ◌++◌, ◌∷◌, [], ℕ, suc, IsTrue, IsFalse, IfOk, OnOk, OnErr};
+ghost use Rattle.std.specs.Vec.{vec_len, vec_capacity};
+ghost use Rattle.directory.specs.Rooms.{IsFull, HasPlaces, IsRoomFor};
+
+use blockdisk::NoMemory;
+use std::alloc::Global;
+use std::marker::Model;
+
+/// Memory for a list to grow by one element, found before the list changes: contracts see how many places it has.
+/// It has none where the list needs none.
+#[derive(Drop)]
+pub struct Room<T: Copy> {
+    places: Vec<T>,
+}
+
+impl<T: Copy> Model for Room<T> {
+    ghost Value = { ℕ };
+
+    ghost view = { λ r. vec_capacity r.places };
+
+    ghost invariant = { λ r. r.places.items ≡ [] };
+}
+
+impl<T: Copy> Room<T> {
+    /// No memory.
+    pub(crate) fn none(alloc: Global) -> Self {
+        Room {
+            places: Vec::new(alloc),
+        }
+    }
+}
+
+/// Whether a list of so many elements may have no place left.
+fn is_full(n: usize) -> bool
+    requires { n < 2 ^ 63 }
+    ensures yes { IsTrue result → IsFull n }
+    ensures no { IsFalse result → (k : ℕ) × (2 ^ k < n) × (n < 2 * 2 ^ k) }
+{
+    if n == 0 {
+        return true;
+    }
+    n == 2usize.pow(n.ilog2())
+}
+
+/// Finds the memory that a list of so many elements takes to grow by one: twice its places where it may be full.
+///
+/// # Errors
+///
+/// `NoMemory` where there is none.
+pub(crate) fn find_room<T: Copy>(alloc: Global, n: usize) -> Result<Room<T>, NoMemory>
+    requires { n < 2 ^ 63 }
+    ensures { IfOk result (IsRoomFor n) }
+{
+    if !is_full(n) {
+        return Ok(Room::none(alloc));
+    }
+    let mut places = Vec::new(alloc);
+    places.reserve((2 * n).max(4))?;
+    Ok(Room { places })
+}
+
+/// Sees to it that a list has a place for one element more, in this memory where it may have none.
+pub(crate) fn make_room<T: Copy>(list: &mut Vec<T>, room: Room<T>)
+    requires places { HasPlaces (vec_len list.old) (vec_capacity list.old) }
+    requires room { IsRoomFor (vec_len list.old) room }
+    ensures items { list.new.items ≡ list.old.items }
+    ensures places { HasPlaces (suc (vec_len list.old)) (vec_capacity list.new) }
+{
+    if !is_full(list.len()) {
+        return;
+    }
+    let Room { mut places } = room;
+    match places.extend_from_slice(list) {
+        Ok(()) => {}
+        Err(_) => unreachable!(), // it has twice the places
+    }
+    *list = places;
+}
+
+/// Adds an element in memory found before.
+pub(crate) fn push_into<T: Copy>(list: &mut Vec<T>, room: Room<T>, value: T)
+    requires places { HasPlaces (vec_len list.old) (vec_capacity list.old) }
+    requires room { IsRoomFor (vec_len list.old) room }
+    ensures items { list.new.items ≡ list.old.items ++ value ∷ [] }
+    ensures places { HasPlaces (vec_len list.new) (vec_capacity list.new) }
+{
+    make_room(list, room);
+    match list.push(value) {
+        Ok(()) => {}
+        Err(_) => unreachable!(), // it has a place
+    }
+}
+
+/// Adds an element.
+///
+/// # Errors
+///
+/// `NoMemory` where there is none; nothing changes then.
+pub(crate) fn push<T: Copy>(list: &mut Vec<T>, value: T) -> Result<(), NoMemory>
+    requires { HasPlaces (vec_len list.old) (vec_capacity list.old) }
+    ensures more { OnOk result (list.new.items ≡ list.old.items ++ value ∷ []) }
+    ensures same { OnErr result (list.new.items ≡ list.old.items) }
+    ensures places { HasPlaces (vec_len list.new) (vec_capacity list.new) }
+{
+    let room = find_room(*list.allocator(), list.len())?;
+    push_into(list, room, value);
+    Ok(())
+}
