@@ -119,6 +119,11 @@ fn write_and_read<D: Disk>(
     read_version(alloc, disk, at)
 }
 
+/// The longest runs of a version ask for no more ribs than a pointer for each block would.
+fn runs_ask_for_less(_version: &Version)
+    ensures { ribs_of _version.now.blocks ≤ rib_count (length _version.now.blocks) }
+{}
+
 /// A version of so many blocks, and a table with as many booked as it has with its prime block and its ribs.
 fn listed<D: Disk>(
     rt: &impl Abort,
@@ -143,6 +148,7 @@ fn listed<D: Disk>(
     let Ok(version) = version_of(alloc, count) else {
         return Err(TableError::NoMemory);
     };
+    runs_ask_for_less(&version);
     Ok((table, version))
 }
 

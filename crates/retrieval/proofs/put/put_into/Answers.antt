@@ -174,7 +174,6 @@ returns-in-Ok-clause-held g c n =
     held_again t t1 grown'.table xs xs1 grown'.held c.write_places.new.table c.write_places.new.blocks.blocks
     c.write_places.ensures.held n
 
-
 pub returns-in-Ok-clause-used : goal.returns-in-Ok-clause-used
 returns-in-Ok-clause-used g c =
     let s = g.D.Disk.state c.args.disk.now in
