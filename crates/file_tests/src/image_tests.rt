@@ -105,7 +105,12 @@ fn expect_word<D: Disk>(rt: &impl Abort, disk: &mut D, n: u32, place: usize, wor
 }
 
 /// What reading a block answers.
-pub(crate) fn expect_block<D: Disk>(rt: &impl Abort, disk: &mut D, n: u32, wanted: Result<Block, Fault>) {
+pub(crate) fn expect_block<D: Disk>(
+    rt: &impl Abort,
+    disk: &mut D,
+    n: u32,
+    wanted: Result<Block, Fault>,
+) {
     assert!(rt; n < disk.blocks());
     assert!(rt; disk.read(n) == wanted);
 }

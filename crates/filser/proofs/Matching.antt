@@ -17,7 +17,7 @@ use Rattle.meaning.specs.Lines.{upper}
 use Rattle.meaning.specs.Spellings.{IsPair}
 use Rattle.commands.specs.Files.{IsFileName}
 use Rattle.filser.specs.CommandLine.{command_line, serving, filing, looking, init_app, run_app, calls_app, put_app}
-use Rattle.filser.specs.CommandLine.{get_app, list_app, check_app, convert_app, converting, dated, filed, formed}
+use Rattle.filser.specs.CommandLine.{get_app, list_app, check_app, convert_app, converting, dated, filed, formed, sized}
 use Rattle.filser.specs.Requests.{Asks, IsAsked, IsTask, IsAt, IsNamed, IsPlace, HasForm, HasText, HasNumber}
 use Rattle.filser.specs.Requests.{Spells, task_name}
 use Rattle.filser.specs.declared.task.NamedFile.{NamedFile}
@@ -31,11 +31,11 @@ use Rattle.filser.specs.declared.asked.Request.TheVariants.{Fresh, Init, Work, C
 -- The command line is one of those whose matches `clap` computes.
 
 pub line-simple : is_simple command_line ≡ true
-unfolding clap_on_literals command_line serving filing looking init_app dated filed run_app calls_app put_app get_app list_app check_app convert_app converting formed
+unfolding clap_on_literals command_line serving filing looking init_app dated filed run_app calls_app put_app get_app list_app check_app convert_app converting formed sized
 line-simple = refl
 
 pub line-free : is_simple_and_free command_line ≡ true
-unfolding clap_on_literals command_line serving filing looking init_app dated filed run_app calls_app put_app get_app list_app check_app convert_app converting formed
+unfolding clap_on_literals command_line serving filing looking init_app dated filed run_app calls_app put_app get_app list_app check_app convert_app converting formed sized
 line-free = refl
 
 -- Texts and numbers.

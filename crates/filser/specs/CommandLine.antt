@@ -34,9 +34,12 @@ form_rule = record (new_rule (codes "form")) {
 unfoldable pub formed : App → App
 formed app = with_rule app form_rule
 
+-- with the number of blocks of a new image
+unfoldable pub sized : App → App
+sized app = with_rule app (numbered (codes "BLOCKS") 64 131072)
+
 unfoldable pub init_app : App
-init_app = formed (with_rule (with_rule (new_app (codes "init")) (wanted (codes "IMAGE")))
-    (numbered (codes "BLOCKS") 64 131072))
+init_app = formed (sized (with_rule (new_app (codes "init")) (wanted (codes "IMAGE"))))
 
 -- with the date and the minute of what is written
 unfoldable pub dated : App → App

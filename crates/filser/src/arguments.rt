@@ -2,7 +2,7 @@
 ghost use Rattle.std.specs.Prelude.{◌≡◌, IfOk, codes, false};
 ghost use Rattle.clap.specs.Words.{app_of, new_rule, rule_of, with_rule};
 ghost use Rattle.clap.specs.declared.builder.command.Command.TheViews.{out-Command as fields_of};
-ghost use Rattle.filser.specs.CommandLine.{dated, filed, flag, form_rule, formed, numbered, optional, wanted};
+ghost use Rattle.filser.specs.CommandLine.{dated, filed, flag, form_rule, formed, numbered, optional, sized, wanted};
 
 use clap::{Arg, ArgAction, Command};
 use std::alloc::{AllocError, Global};
@@ -16,7 +16,7 @@ pub(crate) fn wanted<'a>(alloc: Global, id: &'a str, help: &'a str) -> Arg<'a>
 }
 
 /// How many blocks a new image gets.
-pub(crate) fn blocks<'a>(alloc: Global) -> Arg<'a>
+fn blocks<'a>(alloc: Global) -> Arg<'a>
     ensures rule { rule_of result ≡ numbered (codes "BLOCKS") 64 131072 }
     ensures local { result.global ≡ false }
 {
@@ -78,6 +78,15 @@ pub(crate) fn dated<'a>(alloc: Global, command: Command<'a>) -> Result<Command<'
 {
     let command = with_argument(command, date(alloc))?;
     with_argument(command, minute(alloc))
+}
+
+/// A command with the number of blocks of a new image.
+#[tactic(auto, unfolding(crate::specs::CommandLine::sized))]
+pub(crate) fn sized<'a>(alloc: Global, command: Command<'a>) -> Result<Command<'a>, AllocError>
+    ensures app { IfOk result (λ c. app_of c ≡ sized (app_of command.entry)) }
+    ensures local { IfOk result (λ c. (fields_of c).has_globals ≡ (fields_of command.entry).has_globals) }
+{
+    with_argument(command, blocks(alloc))
 }
 
 /// The form of an image.

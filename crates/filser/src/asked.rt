@@ -19,9 +19,8 @@ impl<'a> Request<'a> {
     pub fn image(&self) -> Option<&'a str> {
         match self {
             Request::Fresh => None,
-            Request::Init(path, _, _) | Request::Work(path, _, _) | Request::Convert(path, _, _) => {
-                Some(*path)
-            }
+            Request::Init(path, _, _) | Request::Work(path, _, _) | Request::Convert(path, _, _) =>
+                { Some(*path) }
         }
     }
 }

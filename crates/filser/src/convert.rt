@@ -45,7 +45,16 @@ pub(crate) fn convert_image<F: Files<File = File>, W: Write, E: Write>(
         return refuse_image(fault, new, writer, errors);
     }
     match source_of(files, path, form, errors) {
-        Ok(source) => write_new(files, alloc, source, path, new, form.other(), writer, errors),
+        Ok(source) => write_new(
+            files,
+            alloc,
+            source,
+            path,
+            new,
+            form.other(),
+            writer,
+            errors,
+        ),
         Err(fault) => refuse_image(fault, path, writer, errors),
     }
 }

@@ -12,8 +12,8 @@ ghost use Rattle.filser.specs.declared.status.Status.{Status as Statuses};
 ghost use Rattle.filser.specs.declared.asked.Request.{Request as Asked};
 ghost use Rattle.filser.specs.declared.status.Status.TheVariants.{Done, BadArguments, Fault};
 
-use crate::fault::report;
 use crate::convert::convert_image;
+use crate::fault::report;
 use crate::image::{Image, open_file, tell_failure};
 use crate::lines::LineReader;
 use crate::serving::{say, serve_file, serve_fresh};

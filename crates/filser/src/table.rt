@@ -6,7 +6,7 @@ ghost use Rattle.clap.specs.declared.builder.command.Command.TheViews.{out-Comma
 ghost use Rattle.filser.specs.CommandLine.{calls_app, check_app, command_line, convert_app, converting};
 ghost use Rattle.filser.specs.CommandLine.{filing, get_app, init_app, list_app, looking, put_app, run_app, serving, versioned};
 
-use crate::arguments::{about, blocks, dated, filed, formed, place, shown, wanted, with_argument};
+use crate::arguments::{about, dated, filed, formed, place, shown, sized, wanted, with_argument};
 use clap::Command;
 use std::alloc::{AllocError, Global};
 
@@ -64,8 +64,7 @@ fn init_command<'a>(alloc: Global) -> Result<Command<'a>, AllocError>
     );
     let command = shown(command, "Example:\n  filser init DISK.IMG 4096");
     let command = with_argument(command, wanted(alloc, "IMAGE", "The file to make"))?;
-    let command = with_argument(command, blocks(alloc))?;
-    formed(alloc, command)
+    formed(alloc, sized(alloc, command)?)
 }
 
 #[tactic(auto, unfolding(crate::specs::CommandLine::run_app))]

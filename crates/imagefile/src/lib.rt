@@ -1,11 +1,12 @@
 //! A disk over a file. What the layer keeps:
 //!
 //! 1. Block n of the disk is the 1024 bytes from place 1024 * n on, eight to a word, the most
-//!    significant first; it is damaged exactly where one of its words has top bits set.
-//!    (`damage_is_by_the_format`)
+//!    significant first; it is damaged exactly where one of its words has top bits set. In form 2 it is
+//!    the 576 bytes from place 576 * n on, nine to two words, and never damaged by them.
+//!    (`damage_is_by_the_format`, `packed_bytes_are_words`)
 //! 2. `ImageDisk` over any `Durable` is a `Disk`: its contents, open blocks, clock, crashes and count of
 //!    failures are those that the file's bytes spell, and it is honest while the file is.
-//! 3. A file is refused exactly where its length is not a multiple of 1024 bytes or it has 2^32 blocks or
+//! 3. A file is refused exactly where its length is not a multiple of a block's or it has 2^32 blocks or
 //!    more, or where it fails; nothing is written, and the file is handed back. (`block_count`, `new`)
 //! 4. `MemFile` is a `Durable` with no assumption, and each of its calls leaves exactly what is stated.
 //! 5. `HostFile` is a `Durable` over any system's calls, and honest while they are: an answer may end that,

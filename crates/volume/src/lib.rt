@@ -46,6 +46,10 @@
 //!    grows, and its version stays under its key, for whoever reads it. (`crash`, `done`, `within`, `across`, `pending`,
 //!    `held`, `here`, `gone`, `primes`)
 //!
+//! 14. `copy_image` copies a volume to another disk of as many blocks: what `open` says of its disk holds of the one that
+//!    is copied, and at Ok the copy stands for the same files, with its gate closed and no block open. (`files`, `settled`,
+//!    `copied`, `crash`, `refused`)
+//!
 //! Between two calls the volume knows the map of its disk: the chains of its directories with their entries
 //! in the order of the disk, for each entry where its version lies, and the allocation table with what is
 //! booked. `specs/Known.antt` says how that and the contents meet, `specs/Rest.antt` what holds between two

@@ -17,11 +17,7 @@ fn damage(rt: &impl Abort, image: &mut [u8]) {
 }
 
 /// An image with one file of two words and a damaged block, with room to record so many writes and syncs.
-fn damaged_disk(
-    rt: &impl Abort,
-    alloc: Global,
-    calls: usize,
-) -> Result<ImageDisk<MemFile>, Fail> {
+fn damaged_disk(rt: &impl Abort, alloc: Global, calls: usize) -> Result<ImageDisk<MemFile>, Fail> {
     let mut image = v1(rt, alloc)?;
     damage(rt, image.as_mut_slice());
     let disk = image_disk(rt, alloc, image.as_slice(), calls);
